@@ -1,0 +1,8 @@
+pub mod AddrLaws
+mod Laying
+pub mod NumberLaws
+pub mod OctetLaws
+pub mod PrefixLaws
+pub mod SameLaws
+pub mod TextLaws
+pub mod PieceLaws

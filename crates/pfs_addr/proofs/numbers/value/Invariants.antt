@@ -1,0 +1,12 @@
+use Rattle.std.proofs.Common.{◌≡◌, ◌<◌, ◌^◌, true, drop}
+use Rattle.std.specs.List.{list_all}
+use Rattle.std.specs.Str.Parse.{digits_value, digits_value_after}
+use Rattle.pfs_addr.specs.Numbers.{is_digit}
+use Rattle.pfs_addr.proofs.numbers.value.Given as goal
+
+abbrev pub invariant-loop-b : goal.invariant-loop-b
+invariant-loop-b l = record {
+  value : digits_value_after 10 l.n (drop l.b-index l.text) ≡ digits_value 10 l.text;
+  digits : list_all is_digit (drop l.b-index l.text) ≡ true;
+  small : l.n < 10 ^ l.b-index;
+}

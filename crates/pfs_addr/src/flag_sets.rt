@@ -1,0 +1,58 @@
+// Sets of TCP flags.
+
+ghost use Rattle.std.specs.Prelude.{◌≡◌};
+ghost use Rattle.std.specs.List.{list_all};
+ghost use Rattle.pfs_addr.specs.FlagSets.{flags_of, is_flag_letter};
+
+/// A set of TCP flags, each by its letter. (pf.conf(5), PARAMETERS, "flags"; RFC 9293, section 3.1)
+#[derive(Debug, Clone, Copy, PartialEq, Eq, PartialOrd, Ord, Hash, Default)]
+pub struct Flags {
+    /// `F`: the sender has no more to send.
+    pub fin: bool,
+    /// `S`: the sequence numbers begin.
+    pub syn: bool,
+    /// `R`: the connection is reset.
+    pub rst: bool,
+    /// `P`: push.
+    pub psh: bool,
+    /// `A`: the acknowledgement counts.
+    pub ack: bool,
+    /// `U`: the urgent pointer counts.
+    pub urg: bool,
+    /// `E`: congestion was seen. (RFC 3168)
+    pub ece: bool,
+    /// `W`: the congestion window was reduced. (RFC 3168)
+    pub cwr: bool,
+}
+
+/// The flags that this text names: letters of `FSRPAUEW` in any order, each as often as one likes, possibly none. `None`
+/// for a text with any other byte. It takes no memory.
+pub fn parse_flags(text: &[u8]) -> Option<Flags>
+    ensures { result ≡ flags_of text.now }
+{
+    if !are_letters(text) {
+        return None;
+    }
+    Some(Flags {
+        fin: text.contains(&b'F'),
+        syn: text.contains(&b'S'),
+        rst: text.contains(&b'R'),
+        psh: text.contains(&b'P'),
+        ack: text.contains(&b'A'),
+        urg: text.contains(&b'U'),
+        ece: text.contains(&b'E'),
+        cwr: text.contains(&b'W'),
+    })
+}
+
+fn are_letters(text: &[u8]) -> bool
+    ensures { result ≡ list_all is_flag_letter text.now }
+{
+    text.iter().all(|b| is_letter(*b))
+}
+
+fn is_letter(b: u8) -> bool
+    ensures { result ≡ is_flag_letter b }
+{
+    matches!(b, b'F' | b'S' | b'R' | b'P' | b'A' | b'U' | b'E' | b'W')
+}

@@ -1,0 +1,183 @@
+// Prefixes: the first bits of an address, and the addresses that share them.
+
+ghost use Rattle.std.specs.Prelude.{◌≡◌, ◌≤◌, ◌<◌, ◌∷◌, ◌++◌, ◌==◌, ℕ, not, true, IfSome, MatchOption, Some, decimal, length, position};
+ghost use Rattle.std.specs.List.{list_all};
+ghost use Rattle.pfs_addr.specs.Texts.{prefix_of};
+ghost use Rattle.pfs_addr.specs.Addresses.{IsAddr, width_of};
+ghost use Rattle.pfs_addr.specs.PrefixParts.{PartsText, is_no_slash, is_padded, length_of};
+ghost use Rattle.pfs_addr.specs.Prefixes.{IsNetwork, Network, PrefixText, cleared, covers, first_bits, network_of};
+
+use crate::addresses::{Addr, parse_addr};
+use crate::numbers::parse_number;
+use std::marker::Model;
+
+/// The addresses whose first bits are those of one address: an address and a number of bits, at most its width. The
+/// bits of the address past that number are zero, so two prefixes of the same addresses are equal.
+///
+/// Clauses see it as a `Network`: the address, and the number of bits. (pf.conf(5), TABLES; RFC 4632, section 3.1)
+#[derive(Debug, Clone, Copy, PartialEq, Eq, PartialOrd, Ord, Hash)]
+pub struct Prefix {
+    addr: Addr,
+    bits: u8,
+}
+
+impl Model for Prefix {
+    ghost use Rattle.pfs_addr.specs.Prefixes.{Network, IsNetwork};
+
+    ghost Value = { Network };
+
+    ghost view = { λ p. record { addr = p.addr; bits = p.bits } };
+
+    ghost invariant = { λ p. IsNetwork (record { addr = p.addr; bits = p.bits }) };
+
+    ghost inverse = { λ p. record { addr = p.addr; bits = p.bits } };
+}
+
+impl Prefix {
+    /// The address, its bits past the prefix's length zero.
+    pub fn addr(&self) -> Addr
+        ensures value { result ≡ self.now.addr }
+        ensures network { IsNetwork self.now }
+    {
+        self.addr
+    }
+
+    /// The number of bits that count: 0 to the width of the address.
+    pub fn bits(&self) -> u8
+        ensures value { result ≡ self.now.bits }
+        ensures network { IsNetwork self.now }
+    {
+        self.bits
+    }
+
+    /// The prefix of one address alone: all its bits count.
+    pub fn host(addr: Addr) -> Prefix
+        ensures { result ≡ network_of addr (width_of addr) }
+    {
+        addr.prefix(addr.width())
+    }
+
+    /// Whether the prefix covers this address: the first bits of both agree, as many as the prefix has. (pf.conf(5),
+    /// TABLES)
+    #[tactic(auto, unfolding(crate::specs::Prefixes::covers))]
+    pub fn contains(&self, addr: Addr) -> bool
+        ensures { result ≡ covers self.now addr }
+    {
+        self.addr.first_bits(self.bits) == addr.first_bits(self.bits)
+    }
+}
+
+impl Addr {
+    /// The prefix of this address with so many bits, at most the address's width. The bits past them are cleared.
+    /// (RFC 4632, section 3.1)
+    pub fn prefix(self, bits: u8) -> Prefix
+        requires { bits ≤ width_of self }
+        ensures value { result ≡ network_of self bits }
+        ensures addr { IsAddr self }
+    {
+        Prefix {
+            addr: self.cleared(bits),
+            bits,
+        }
+    }
+
+    #[tactic(auto, unfolding(crate::specs::Prefixes::cleared))]
+    fn cleared(self, bits: u8) -> Addr
+        requires { bits ≤ width_of self }
+        ensures value { result ≡ cleared bits self }
+        ensures addr { IsAddr self }
+    {
+        match self {
+            Addr::V4(bytes) => {
+                let hidden = 32 - u32::from(bits);
+                let number = u64::from(u32::from_be_bytes(bytes));
+                let kept = number >> hidden << hidden;
+                Addr::V4((kept as u32).to_be_bytes())
+            }
+        }
+    }
+
+    fn first_bits(self, bits: u8) -> u64
+        requires { bits ≤ width_of self }
+        ensures { result ≡ first_bits bits self }
+    {
+        match self {
+            Addr::V4(bytes) => u64::from(u32::from_be_bytes(bytes)) >> (32 - u32::from(bits)),
+        }
+    }
+}
+
+/// The prefix that this text is, if it is one: an address alone, all of whose bits count, or an address, `/` and a
+/// number of bits from 0 to the address's width, in decimal without zeros in front. The bits of the address past them
+/// are cleared. `None` for every other text. It takes no memory. (pf.conf(5), TABLES; RFC 4632, section 3.1; that no
+/// short form of an address is read is own to this profile)
+pub fn parse_prefix(text: &[u8]) -> Option<Prefix>
+    ensures value { result ≡ prefix_of text.now }
+    ensures reads { IfSome result (λ p. PrefixText text.now p) }
+    ensures only { (p : Network) → PrefixText text.now p → result ≡ Some p }
+{
+    slashed(text)
+}
+
+fn slashed(text: &[u8]) -> Option<Prefix>
+    ensures reads { IfSome result (λ p. PrefixText text.now p) }
+    ensures only { (p : Network) → PrefixText text.now p → result ≡ Some p }
+{
+    match around_slash(text) {
+        Some((address, length)) => parse_parts(address, length),
+        None => Some(Prefix::host(parse_addr(text)?)),
+    }
+}
+
+fn parse_parts(address: &[u8], length: &[u8]) -> Option<Prefix>
+    ensures reads { IfSome result (λ p. PartsText address.now length.now p) }
+    ensures only { (p : Network) → PartsText address.now length.now p → result ≡ Some p }
+{
+    let addr = parse_addr(address)?;
+    let bits = parse_length(length)?;
+    if bits > addr.width() {
+        return None;
+    }
+    Some(addr.prefix(bits))
+}
+
+// What stands before and behind the first slash.
+fn around_slash(text: &[u8]) -> Option<(&[u8], &[u8])>
+    ensures { MatchOption result (list_all is_no_slash text.now ≡ true)
+        (λ parts. (list_all is_no_slash parts.0.now ≡ true) × (text.now ≡ parts.0.now ++ 47 ∷ parts.1.now)) }
+{
+    match slash_of(text) {
+        Some(place) => {
+            let (front, back) = text.split_at(place);
+            let (_, behind) = back.split_at(1);
+            Some((front, behind))
+        }
+        None => None,
+    }
+}
+
+fn slash_of(text: &[u8]) -> Option<usize>
+    ensures value { result ≡ position (λ b. b == 47) text.now }
+    ensures within { IfSome result (λ place. place < length text.now) }
+{
+    text.iter().position(|b| *b == b'/')
+}
+
+#[tactic(auto, unfolding(crate::specs::PrefixParts::length_of))]
+fn parse_length(text: &[u8]) -> Option<u8>
+    ensures { result ≡ length_of text.now }
+{
+    if is_padded(text) {
+        return None;
+    }
+    match parse_number(text) {
+        Some(n) if n < 256 => Some(n as u8),
+        _ => None,
+    }
+}
+
+fn is_padded(text: &[u8]) -> bool
+    ensures { result ≡ is_padded text.now }
+{
+    text.len() > 1 && text[0] == b'0'
+}
