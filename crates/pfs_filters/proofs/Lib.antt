@@ -1,0 +1,3 @@
+pub mod OnlineLaws
+pub mod PhraseLaws
+pub mod ReadLaws

@@ -1,0 +1,18 @@
+// The parts of a statement that say which packets a rule, or the rules of an anchor, are asked about.
+#![tactic(auto)]
+
+mod endpoints;
+mod flag_words;
+mod heads;
+mod phrases;
+mod questions;
+mod services;
+mod words;
+
+pub use endpoints::read_parameters;
+pub use flag_words::read_flags;
+pub use heads::read_verb;
+pub use phrases::{Head, Hosts, Marks, Parameters, Statement, Verb};
+
+#[cfg(test)]
+mod tests;

@@ -1,0 +1,3 @@
+pub mod OptionLaws
+pub mod PhraseLaws
+pub mod ReadLaws

@@ -1,0 +1,22 @@
+use Rattle.std.specs.Prelude.{Bool, ◌&&◌, ◌==◌, Option, List}
+use Rattle.std.specs.Str.{bytes_eq}
+use Rattle.std.specs.Map.{lookup}
+use Rattle.pfs_addr.specs.Prefixes.{Network}
+use Rattle.pfs_addr.specs.declared.addresses.Addr.{Addr}
+use Rattle.pfs_addr.specs.declared.addresses.Addr.TheVariants.{V4}
+
+-- an entry of a table: a prefix, and whether it is negated
+abbrev pub Entry : Type 0
+Entry = Network × Bool
+
+-- two addresses are the same
+abbrev pub same_addr : Addr → Addr → Bool
+same_addr (V4 a) (V4 b) = bytes_eq a b
+
+-- two prefixes are the same: their addresses, and how many bits count
+abbrev pub same_network : Network → Network → Bool
+same_network p q = same_addr p.addr q.addr && (p.bits == q.bits)
+
+-- whether the entry with this prefix is negated, if there is one
+abbrev pub sign_of : List Entry → Network → Option Bool
+sign_of entries p = lookup (same_network p) entries

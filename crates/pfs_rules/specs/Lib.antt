@@ -1,0 +1,9 @@
+pub mod Configs
+pub mod Depths
+pub mod Drafts
+pub mod Entries
+pub mod Limits
+pub mod LoadRules
+pub mod Namings
+pub mod Siblings
+pub mod Timeouts

@@ -1,0 +1,24 @@
+// The configuration that a rules text says: limits, timeouts, tables, and the tree of rules and anchors.
+#![tactic(auto)]
+
+mod actions;
+mod configs;
+mod drafts;
+mod filters;
+mod items;
+mod limits;
+mod named_tables;
+mod tables;
+mod timeouts;
+
+pub use actions::{Action, Overload, Rate, Scope, StateOptions};
+pub use configs::Config;
+pub use drafts::Draft;
+pub use filters::{Family, Filter, FlagTest, Host, Interface, Ports, Side, TableName, TableNo};
+pub use items::{Anchor, AnchorName, Item, Rule, RuleNo, What};
+pub use limits::{LimitName, Limits};
+pub use tables::{Entries, TableDef};
+pub use timeouts::{RuleTimeouts, TimeoutName, Timeouts};
+
+#[cfg(test)]
+mod tests;

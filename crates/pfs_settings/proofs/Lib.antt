@@ -1,0 +1,5 @@
+pub mod SettingLaws
+pub mod SettingPhrases
+mod Stopping
+pub mod TableLaws
+pub mod TablePhrases

@@ -1,0 +1,50 @@
+-- What a feed is, and when a read of it is a read of its reader. (own)
+use Rattle.std.specs.Prelude.{◌≡◌, ◌⊎◌, ◌<◌, ℕ, Bool, false, List, [], Option, Some, if◌then◌else◌}
+
+-- what a contract sees of a feed
+pub record FeedView (R : Type 0) : Type 0 where
+  pub reader : R
+  pub bound : ℕ
+  pub made : ℕ
+  pub failures : ℕ
+  pub ended : Bool
+
+-- the bytes that a feed will give: none after its end, else those of its reader
+abbrev pub unread : {R : Type 0} → (R → Option (List ℕ)) → FeedView R → Option (List ℕ)
+unread remaining f = if f.ended then Some [] else remaining f.reader
+
+-- the reader, with what was read of it taken off
+abbrev pub reader_of : {R : Type 0} → FeedView R → R
+reader_of f = f.reader
+
+-- the most reads that are made of the reader
+abbrev pub bound_of : {R : Type 0} → FeedView R → ℕ
+bound_of f = f.bound
+
+-- the reads that were made of the reader
+abbrev pub reads_of : {R : Type 0} → FeedView R → ℕ
+reads_of f = f.made
+
+-- the reads of the reader that failed
+abbrev pub failures_of : {R : Type 0} → FeedView R → ℕ
+failures_of f = f.failures
+
+-- whether a read of the reader, into a buffer with room, gave no byte
+abbrev pub has_ended : {R : Type 0} → FeedView R → Bool
+has_ended f = f.ended
+
+-- a feed that has read nothing
+abbrev pub IsFresh : {R : Type 0} → FeedView R → Type 0
+IsFresh f = (f.made ≡ 0) × (f.ended ≡ false) × (f.failures ≡ 0)
+
+-- all reads of the bound are made, and each gave a byte
+abbrev pub IsSpent : {R : Type 0} → FeedView R → Type 0
+IsSpent f = (f.made ≡ f.bound) × (f.ended ≡ false) × (f.failures ≡ 0)
+
+-- the next read into a buffer with room is one of the reader
+abbrev pub MayRead : {R : Type 0} → FeedView R → Type 0
+MayRead f = (f.made < f.bound) × (f.ended ≡ false) × (f.failures ≡ 0)
+
+-- the reader is not read again, though it did not end: it failed, or all reads are made
+abbrev pub IsClosed : {R : Type 0} → FeedView R → Type 0
+IsClosed f = (f.ended ≡ false) × ((0 < f.failures) ⊎ (f.made ≡ f.bound))

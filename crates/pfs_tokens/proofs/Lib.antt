@@ -1,0 +1,7 @@
+pub mod LexisLaws
+pub mod LineLaws
+pub mod NumberLaws
+pub mod Laws
+pub mod ReaderLaws
+pub mod ShownLaws
+pub mod WordKeys

@@ -1,0 +1,9 @@
+pub mod Keys
+pub mod Tokens
+pub mod Words
+pub mod Lexis
+pub mod Scanning
+pub mod Numbers
+pub mod Reading
+pub mod Giving
+pub mod Grammar

@@ -1,0 +1,19 @@
+// The tokens of a rules text and a cursor over them, on which the readers of statements are built.
+#![tactic(auto)]
+
+mod cursors;
+mod keys;
+mod lexer;
+mod numbers;
+mod pieces;
+mod refusals;
+mod words;
+
+pub use cursors::Cursor;
+pub use keys::Key;
+pub use numbers::{digits, number, skip_lines, split_at_byte};
+pub use refusals::{LoadRule, ReadError, Refusal, Why};
+pub use words::key_of;
+
+#[cfg(test)]
+mod tests;

@@ -1,0 +1,157 @@
+// Tokens, numbers and parts of texts, written out by hand.
+
+use crate::{
+    Cursor, Key, ReadError, Refusal, Why, digits, key_of, number, skip_lines, split_at_byte,
+};
+use std::alloc::AllocError;
+use std::test::Fail;
+
+#[test]
+fn tokens_and_lines_of_a_text(rt: HostRuntime) {
+    // A comment's backslash joins no lines; a backslash before a line feed does, and the line is that of the token.
+    let mut cursor = Cursor::new(b"pass \"a b\" # c \\\n\\\n\tin<t>, max 007");
+    let wanted = [
+        (Key::Pass, 1),
+        (Key::Quoted, 1),
+        (Key::LineEnd, 1),
+        (Key::In, 3),
+        (Key::OpenAngle, 3),
+        (Key::Name, 3),
+        (Key::CloseAngle, 3),
+        (Key::Comma, 3),
+        (Key::Max, 3),
+        (Key::Number, 3),
+        (Key::LineEnd, 3),
+        (Key::End, 3),
+    ];
+    for (key, line) in wanted {
+        assert_eq!(rt; cursor.key(), key);
+        assert_eq!(rt; cursor.line(), line);
+        cursor.advance();
+    }
+    assert!(rt; cursor.is_at_end());
+    assert_eq!(rt; cursor.line(), 0);
+}
+
+#[test]
+fn ends_of_texts(rt: HostRuntime) {
+    // A line without tokens is not ended by the end of the text, and a continued line is one.
+    let mut empty = Cursor::new(b" \t\r");
+    assert!(rt; empty.is_at_end());
+    assert!(rt; !empty.is_at_line_end());
+    empty.advance();
+    assert_eq!(rt; empty.text().len(), 0);
+    let mut joined = Cursor::new(b"all\\\n");
+    joined.advance();
+    assert!(rt; joined.is_at_line_end());
+    assert_eq!(rt; joined.line(), 2);
+    joined.advance();
+    assert!(rt; joined.is_at_end());
+    let mut comment = Cursor::new(b"# all");
+    assert!(rt; comment.is_at_end());
+    assert_eq!(rt; comment.take(Key::All), false);
+}
+
+#[test]
+fn what_nothing_accepts(rt: HostRuntime) {
+    for text in [
+        b"\"open\n\"".as_slice(),
+        b"\"a\\\nb\"".as_slice(),
+        b"\\ \n".as_slice(),
+        b"\xef\xbb\xbfpass".as_slice(),
+        b"\x7f".as_slice(),
+        b"\x00".as_slice(),
+    ] {
+        assert_eq!(rt; Cursor::new(text).key(), Key::Bad);
+    }
+    let mut quoted = Cursor::new(b"\"we#b {\"}");
+    assert_eq!(rt; quoted.text(), b"we#b {".as_slice());
+    quoted.advance();
+    assert!(rt; quoted.is_at_close_brace());
+}
+
+#[test]
+fn marks_part_words(rt: HostRuntime) {
+    let mut cursor = Cursor::new(b"!a=b{c}(d)#e");
+    let wanted = [
+        Key::Not,
+        Key::Name,
+        Key::Equals,
+        Key::Name,
+        Key::OpenBrace,
+        Key::Name,
+        Key::CloseBrace,
+        Key::OpenParen,
+        Key::Name,
+        Key::CloseParen,
+        Key::LineEnd,
+    ];
+    for key in wanted {
+        assert_eq!(rt; cursor.is_at_close_paren(), key == Key::CloseParen);
+        assert_eq!(rt; cursor.expect(key), Ok(()));
+    }
+    assert_eq!(rt; cursor.expect(Key::LineEnd), Err(Refusal::Stop(Why::Plain)));
+    assert!(rt; cursor.is_at_end());
+}
+
+#[test]
+fn keys_of_words(rt: HostRuntime) {
+    assert_eq!(rt; key_of(b"max-src-conn-rate"), Key::MaxSrcConnRate);
+    assert_eq!(rt; key_of(b"max-src-conn-rat"), Key::Name);
+    assert_eq!(rt; key_of(b"Pass"), Key::Name);
+    assert_eq!(rt; key_of(b"10.0.0.0/8"), Key::Number);
+    assert_eq!(rt; key_of(b"$ext_if"), Key::Name);
+    assert_eq!(rt; key_of(b"binat-to"), Key::Foreign);
+    assert_eq!(rt; key_of(b""), Key::Name);
+    assert!(rt; Key::Number.is_word());
+    assert!(rt; Key::Pass.is_word());
+    assert!(rt; !Key::Quoted.is_word());
+    assert!(rt; Key::Inet6.is_unsupported());
+    assert!(rt; !Key::Inet.is_unsupported());
+    assert_eq!(rt; key_of(b"src.track").timeout_place(), Some(12));
+    assert_eq!(rt; key_of(b"tcp.tsdiff").timeout_place(), None);
+}
+
+#[test]
+fn numbers_of_words(rt: HostRuntime) {
+    assert_eq!(rt; digits(b"0000000006"), Some(6));
+    assert_eq!(rt; digits(b"9999999999"), Some(9999999999));
+    assert_eq!(rt; digits(b"00000000006"), None);
+    assert_eq!(rt; digits(b""), None);
+    assert_eq!(rt; digits(b"6a"), None);
+    let mut cursor = Cursor::new(b"0 7");
+    assert_eq!(rt; number(&mut cursor, 1, 9), Err(Refusal::Stop(Why::Number)));
+    assert_eq!(rt; number(&mut cursor, 0, 9), Ok(0));
+    assert_eq!(rt; number(&mut cursor, 0, 6), Err(Refusal::Stop(Why::Number)));
+    assert_eq!(rt; number(&mut cursor, 0, 7), Ok(7));
+    assert_eq!(rt; number(&mut cursor, 0, 7), Err(Refusal::Stop(Why::Number)));
+}
+
+#[test]
+fn parts_of_words(rt: HostRuntime) -> Result<(), Fail> {
+    let (front, behind) = split_at_byte(b"80:http:", b':').ok_or("a colon")?;
+    assert_eq!(rt; front, b"80".as_slice());
+    assert_eq!(rt; behind, b"http:".as_slice());
+    assert!(rt; split_at_byte(b"80", b':').is_none());
+    Ok(())
+}
+
+#[test]
+fn line_ends_are_skipped(rt: HostRuntime) {
+    let mut cursor = Cursor::new(b"\n # a\n\n 1\n");
+    skip_lines(&mut cursor);
+    assert_eq!(rt; cursor.key(), Key::Number);
+    skip_lines(&mut cursor);
+    assert_eq!(rt; cursor.key(), Key::Number);
+    assert!(rt; cursor.take(Key::Number));
+    skip_lines(&mut cursor);
+    assert!(rt; cursor.is_at_end());
+}
+
+#[test]
+fn errors_are_told_apart(rt: HostRuntime) {
+    let memory = ReadError::from(AllocError);
+    let refused = ReadError::from(Refusal::Stop(Why::Host));
+    assert!(rt; matches!(memory, ReadError::Memory));
+    assert!(rt; matches!(refused, ReadError::Refused(Refusal::Stop(Why::Host))));
+}

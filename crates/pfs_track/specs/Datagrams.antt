@@ -1,0 +1,75 @@
+use Rattle.std.specs.Prelude.{ℕ, Bool, true, false, ◌≤◌}
+use Rattle.std.proofs.Common.{lit≤}
+use Rattle.pfs_rules.specs.declared.timeouts.TimeoutName.{TimeoutName}
+use Rattle.pfs_rules.specs.declared.timeouts.TimeoutName.TheVariants.{UdpFirst, UdpSingle, UdpMultiple, OtherFirst, OtherSingle, OtherMultiple}
+use Rattle.pfs_track.specs.declared.datagrams.DatagramPhase.{DatagramPhase}
+use Rattle.pfs_track.specs.declared.datagrams.Stage.{Stage}
+use Rattle.pfs_track.specs.declared.datagrams.Stage.TheVariants.{First as FirstStage, Single as SingleStage, Multiple as MultipleStage}
+use Rattle.pfs_track.specs.declared.datagrams.Traffic.{Traffic}
+use Rattle.pfs_track.specs.declared.datagrams.Traffic.TheVariants.{Silent, Single, Multiple}
+
+-- the ranks of a peer without a handshake, in their order (own)
+abbrev pub traffic_number : Traffic → ℕ
+traffic_number Silent = 0
+traffic_number Single = 1
+traffic_number Multiple = 2
+
+-- a sender at NONE becomes SINGLE
+abbrev pub once_sent : Traffic → Traffic
+once_sent Silent = Single
+once_sent Single = Single
+once_sent Multiple = Multiple
+
+-- a receiver at SINGLE becomes MULTIPLE
+abbrev pub once_answered : Traffic → Traffic
+once_answered Silent = Silent
+once_answered Single = Multiple
+once_answered Multiple = Multiple
+
+-- neither lowers it
+once_sent-rises : (t : Traffic) → traffic_number t ≤ traffic_number (once_sent t)
+once_sent-rises Silent = lit≤ tt
+once_sent-rises Single = lit≤ tt
+once_sent-rises Multiple = lit≤ tt
+
+once_answered-rises : (t : Traffic) → traffic_number t ≤ traffic_number (once_answered t)
+once_answered-rises Silent = lit≤ tt
+once_answered-rises Single = lit≤ tt
+once_answered-rises Multiple = lit≤ tt
+
+-- both at MULTIPLE is the stage `multiple`, and else a later packet leaves the stage `single`
+abbrev pub stage_of : Traffic → Traffic → Stage
+stage_of Multiple Multiple = MultipleStage
+stage_of Multiple Single = SingleStage
+stage_of Multiple Silent = SingleStage
+stage_of Single other = SingleStage
+stage_of Silent other = SingleStage
+
+-- a new state: the maker at SINGLE, the other at NONE, and the timeout is `first` (own)
+abbrev pub first_datagram : DatagramPhase
+first_datagram = record { maker = Single; other = Silent; stage = FirstStage }
+
+-- the phase after a later packet, whose sender is the maker where it goes forward
+abbrev pub udp_step : DatagramPhase → Bool → DatagramPhase
+udp_step p true = record { maker = once_sent p.maker; other = once_answered p.other; stage = stage_of (once_sent p.maker) (once_answered p.other) }
+udp_step p false = record { maker = once_answered p.maker; other = once_sent p.other; stage = stage_of (once_answered p.maker) (once_sent p.other) }
+
+-- no packet lowers what was seen of the maker, nor of the other
+pub udp_step-maker : (p : DatagramPhase) (forward : Bool) → traffic_number p.maker ≤ traffic_number (udp_step p forward).maker
+udp_step-maker p true = once_sent-rises p.maker
+udp_step-maker p false = once_answered-rises p.maker
+
+pub udp_step-other : (p : DatagramPhase) (forward : Bool) → traffic_number p.other ≤ traffic_number (udp_step p forward).other
+udp_step-other p true = once_answered-rises p.other
+udp_step-other p false = once_sent-rises p.other
+
+-- the timeouts of UDP and of the other protocols by their stages (pf.conf(5), OPTIONS, "set timeout")
+abbrev pub udp_slot : Stage → TimeoutName
+udp_slot FirstStage = UdpFirst
+udp_slot SingleStage = UdpSingle
+udp_slot MultipleStage = UdpMultiple
+
+abbrev pub other_slot : Stage → TimeoutName
+other_slot FirstStage = OtherFirst
+other_slot SingleStage = OtherSingle
+other_slot MultipleStage = OtherMultiple

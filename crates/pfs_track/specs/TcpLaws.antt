@@ -1,0 +1,123 @@
+use Rattle.std.specs.Prelude.{Bool, true, false, ◌≡◌, ◌≤◌, ◌||◌}
+use Rattle.std.proofs.Common.{arith, refl, lit≤}
+use Rattle.std.proofs.lemmas.Bool.{false≢true}
+use Rattle.pfs_addr.specs.declared.flag_sets.Flags.{Flags}
+use Rattle.pfs_track.specs.declared.tcp_ranks.Ends.{Ends}
+use Rattle.pfs_track.specs.declared.tcp_ranks.Peers.{Peers}
+use Rattle.pfs_track.specs.declared.tcp_ranks.TcpRank.{TcpRank}
+use Rattle.pfs_track.specs.declared.tcp_ranks.TcpRank.TheVariants.{Closed, SynSent, Closing, TimeWait}
+use Rattle.pfs_track.specs.TcpRanks.{rank_number, raised, IsEstablished, after_syn, after_fin, acknowledged, after_ack, after_rst, acted, peers_after}
+
+-- no rank of these ends is below what it was
+pub record IsRise (sender receiver : TcpRank) (after : Ends) : Type 0 where
+  pub from : rank_number sender ≤ rank_number after.sender
+  pub to : rank_number receiver ≤ rank_number after.receiver
+
+-- raising lowers no rank
+raised-rises : (rank least : TcpRank) → rank_number rank ≤ rank_number (raised rank least)
+raised-rises rank least = grind arith
+
+-- nor does any of the acts
+after_syn-rises : (syn : Bool) (rank : TcpRank) → rank_number rank ≤ rank_number (after_syn syn rank)
+after_syn-rises true rank = raised-rises rank SynSent
+after_syn-rises false rank = omega arith
+
+after_fin-rises : (fin : Bool) (rank : TcpRank) → rank_number rank ≤ rank_number (after_fin fin rank)
+after_fin-rises true rank = raised-rises rank Closing
+after_fin-rises false rank = omega arith
+
+acknowledged-rises : (forward : Bool) (s r : TcpRank) → IsRise s r (acknowledged forward s r)
+acknowledged-rises true s r = record { from = grind arith; to = grind arith }
+acknowledged-rises false s r = record { from = grind arith; to = grind arith }
+
+-- TIME_WAIT is the last rank
+rank-last : (rank : TcpRank) → rank_number rank ≤ rank_number TimeWait
+rank-last Closed = lit≤ tt
+rank-last _ = lit≤ tt
+
+after_ack-rises : (ack forward : Bool) (s r : TcpRank) → IsRise s r (after_ack ack forward s r)
+after_ack-rises true forward s r = acknowledged-rises forward s r
+after_ack-rises false forward s r = record { from = omega arith; to = omega arith }
+
+after_rst-rises : (rst : Bool) (s r : TcpRank) (e : Ends) → IsRise s r e → IsRise s r (after_rst rst e)
+after_rst-rises true s r e rise = record { from = rank-last s; to = rank-last r }
+after_rst-rises false s r e rise = rise
+
+-- no packet lowers a rank
+pub acted-rises : (forward : Bool) (flags : Flags) (s r : TcpRank) → IsRise s r (acted forward flags s r)
+acted-rises forward flags s r =
+    let syn = after_syn flags.syn s in
+    let fin = after_fin flags.fin syn in
+    let ack = after_ack-rises flags.ack forward fin r in
+    let first = after_syn-rises flags.syn s in
+    let second = after_fin-rises flags.fin syn in
+    let rise : IsRise s r (after_ack flags.ack forward fin r) = record { from = omega (arith, first, second, ack.from); to = ack.to } in
+    after_rst-rises flags.rst s r (after_ack flags.ack forward fin r) rise
+
+-- a handshake that completes leaves both ranks at least at ESTABLISHED, and before it one of them was not
+pub record IsCompletion (sender receiver : TcpRank) (after : Ends) : Type 0 where
+  pub from : IsEstablished after.sender
+  pub to : IsEstablished after.receiver
+  pub first : IsEstablished sender → IsEstablished receiver → ⊥
+
+acknowledged-completes : (forward : Bool) (s r : TcpRank) → (acknowledged forward s r).completes ≡ true
+    → IsCompletion s r (acknowledged forward s r)
+acknowledged-completes true s r done = record { from = grind arith; to = grind arith; first = λ a b. grind arith }
+acknowledged-completes false s r done = record { from = grind arith; to = grind arith; first = λ a b. grind arith }
+
+after_ack-completes : (ack forward : Bool) (s r : TcpRank) → (after_ack ack forward s r).completes ≡ true
+    → IsCompletion s r (after_ack ack forward s r)
+after_ack-completes true forward s r done = acknowledged-completes forward s r done
+after_ack-completes false forward s r done = absurd (false≢true done)
+
+after_rst-completes : (rst : Bool) (s r : TcpRank) (e : Ends) → (e.completes ≡ true → IsCompletion s r e)
+    → (after_rst rst e).completes ≡ true → IsCompletion s r (after_rst rst e)
+after_rst-completes true s r e completion done =
+    record { from = lit≤ tt; to = lit≤ tt; first = (completion done).first }
+after_rst-completes false s r e completion done = completion done
+
+-- where the handshake completes, both ranks are at least at ESTABLISHED, and before the packet one was below
+pub acted-completes : (forward : Bool) (flags : Flags) (s r : TcpRank) → (acted forward flags s r).completes ≡ true
+    → IsCompletion s r (acted forward flags s r)
+acted-completes forward flags s r done =
+    let syn = after_syn flags.syn s in
+    let fin = after_fin flags.fin syn in
+    let ack = after_ack flags.ack forward fin r in
+    let first = after_syn-rises flags.syn s in
+    let second = after_fin-rises flags.fin syn in
+    let completion : ack.completes ≡ true → IsCompletion s r ack =
+    λ h. let c = after_ack-completes flags.ack forward fin r h in
+    record { from = c.from; to = c.to; first = λ a b. c.first (omega (arith, first, second, a)) b } in
+    after_rst-completes flags.rst s r ack completion done
+
+-- no packet lowers a rank of a peer
+pub record AreRaised (maker other : TcpRank) (after : Peers) : Type 0 where
+  pub first : rank_number maker ≤ rank_number after.maker
+  pub second : rank_number other ≤ rank_number after.other
+
+pub peers-rise : (forward : Bool) (flags : Flags) (maker other : TcpRank) → AreRaised maker other (peers_after forward flags maker other)
+peers-rise true flags maker other = let rise = acted-rises true flags maker other in record { first = rise.from; second = rise.to }
+peers-rise false flags maker other = let rise = acted-rises false flags other maker in record { first = rise.to; second = rise.from }
+
+-- where the handshake completes, not both ranks were at least at ESTABLISHED, and now they are
+pub record AreIntroduced (maker other : TcpRank) (after : Peers) : Type 0 where
+  pub both : IsEstablished after.maker × IsEstablished after.other
+  pub first : IsEstablished maker × IsEstablished other → ⊥
+
+pub peers-complete : (forward : Bool) (flags : Flags) (maker other : TcpRank) → (peers_after forward flags maker other).completes ≡ true
+    → AreIntroduced maker other (peers_after forward flags maker other)
+peers-complete true flags maker other h =
+    let c = acted-completes true flags maker other h in record { both = (c.from, c.to); first = λ b. c.first b.0 b.1 }
+peers-complete false flags maker other h =
+    let c = acted-completes false flags other maker h in record { both = (c.to, c.from); first = λ b. c.first b.1 b.0 }
+
+-- after a handshake that completes now or has completed, both ranks are at least at ESTABLISHED
+pub peers_established : (complete forward : Bool) (flags : Flags) (maker other : TcpRank)
+    → (complete ≡ true → IsEstablished maker × IsEstablished other)
+    → (complete || (peers_after forward flags maker other).completes) ≡ true
+    → IsEstablished (peers_after forward flags maker other).maker × IsEstablished (peers_after forward flags maker other).other
+peers_established true forward flags maker other were h =
+    let rise = peers-rise forward flags maker other in
+    let before = were refl in
+    (omega (arith, rise.first, before.0), omega (arith, rise.second, before.1))
+peers_established false forward flags maker other were h = (peers-complete forward flags maker other h).both

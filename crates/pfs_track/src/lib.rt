@@ -1,0 +1,19 @@
+// How states age: the phase of a connection, how long it may stay quiet, and the score of a source's handshakes.
+#![tactic(auto)]
+
+mod datagrams;
+mod lifetimes;
+mod protocols;
+mod scores;
+mod state_phases;
+mod tcp_phases;
+mod tcp_ranks;
+#[cfg(test)]
+mod tests;
+
+pub use datagrams::DatagramPhase;
+pub use lifetimes::{is_expired, lifetime};
+pub use protocols::{Other, Phases, Tcp, Udp};
+pub use scores::Score;
+pub use state_phases::StatePhase;
+pub use tcp_phases::TcpPhase;

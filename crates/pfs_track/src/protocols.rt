@@ -1,0 +1,218 @@
+// What the three kinds of protocols have in common: phases, and the packets that lead from one to the next.
+
+ghost use Rattle.std.specs.Prelude.{◌≡◌, ℕ, Bool, false};
+ghost use Rattle.pfs_addr.specs.declared.flag_sets.Flags.{Flags};
+ghost use Rattle.pfs_rules.specs.declared.timeouts.TimeoutName.{TimeoutName};
+ghost use Rattle.pfs_track.specs.Protocols.{NeverFalls, CompletesOnce, StaysComplete};
+
+use crate::datagrams::{DatagramPhase, Stage};
+use crate::tcp_phases::TcpPhase;
+use pfs_addr::Flags;
+use pfs_rules::TimeoutName;
+
+/// A protocol whose connections go through phases.
+///
+/// A packet goes `forward` where its direction, in or out, is that of the packet that made the state; its sender is then
+/// the maker, else the other peer. Two laws are kept: no packet lowers a rank of a peer, and a handshake completes at
+/// most once.
+pub trait Phases {
+    /// What is kept of a connection: how far its two peers have come, its current timeout, and whether its handshake
+    /// has completed.
+    type Phase: Copy;
+
+    // the phase of a new connection
+    ghost first: { Self.Phase };
+
+    // the phase after a packet, and whether the handshake completes at it
+    ghost after: { Self.Phase → Bool → Flags → Self.Phase };
+
+    ghost completes: { Self.Phase → Bool → Flags → Bool };
+
+    // the current timeout
+    ghost timeout: { Self.Phase → TimeoutName };
+
+    // the ranks of the two peers, as numbers in their order
+    ghost maker_rank: { Self.Phase → ℕ };
+
+    ghost other_rank: { Self.Phase → ℕ };
+
+    // whether the handshake has completed
+    ghost is_complete: { Self.Phase → Bool };
+
+    /// The phase of a new connection. It takes no memory.
+    fn first() -> Self::Phase
+        ensures { result ≡ first };
+
+    /// The phase after a later packet, and whether the handshake completes at it. It takes no memory.
+    fn step(phase: Self::Phase, forward: bool, flags: Flags) -> (Self::Phase, bool)
+        ensures phase { result.0 ≡ after phase forward flags }
+        ensures completes { result.1 ≡ completes phase forward flags };
+
+    /// The timeout whose value is the connection's lifetime. It takes no memory.
+    fn slot(phase: Self::Phase) -> TimeoutName
+        ensures { result ≡ timeout phase };
+
+    // laws: no rank falls
+    ghost maker_never_falls: { NeverFalls maker_rank after };
+
+    ghost other_never_falls: { NeverFalls other_rank after };
+
+    // and a handshake that has not completed at first completes once at most
+    ghost begins_incomplete: { is_complete first ≡ false };
+
+    ghost completes_once: { CompletesOnce is_complete after completes };
+
+    ghost stays_complete: { StaysComplete is_complete after };
+}
+
+/// TCP, whose connections begin with a handshake.
+#[derive(Debug, Clone, Copy, PartialEq, Eq, Hash)]
+pub struct Tcp;
+
+/// UDP.
+#[derive(Debug, Clone, Copy, PartialEq, Eq, Hash)]
+pub struct Udp;
+
+/// Protocols other than TCP and UDP.
+#[derive(Debug, Clone, Copy, PartialEq, Eq, Hash)]
+pub struct Other;
+
+impl Phases for Tcp {
+    type Phase = TcpPhase;
+
+    ghost use Rattle.std.specs.Prelude.{refl};
+    ghost use Rattle.pfs_track.specs.TcpPhases.{first_tcp, tcp_step, tcp_completes, tcp_step-maker, tcp_step-other, tcp_completes-once, tcp_step-complete};
+    ghost use Rattle.pfs_track.specs.TcpRanks.{rank_number};
+
+    ghost first = { first_tcp };
+
+    ghost after = { tcp_step };
+
+    ghost completes = { tcp_completes };
+
+    ghost timeout = { λ p. p.timeout };
+
+    ghost maker_rank = { λ p. rank_number p.maker };
+
+    ghost other_rank = { λ p. rank_number p.other };
+
+    ghost is_complete = { λ p. p.complete };
+
+    fn first() -> TcpPhase {
+        TcpPhase::new()
+    }
+
+    fn step(phase: TcpPhase, forward: bool, flags: Flags) -> (TcpPhase, bool) {
+        phase.step(forward, flags)
+    }
+
+    fn slot(phase: TcpPhase) -> TimeoutName {
+        phase.timeout()
+    }
+
+    ghost maker_never_falls = { tcp_step-maker };
+
+    ghost other_never_falls = { tcp_step-other };
+
+    ghost begins_incomplete = { refl };
+
+    ghost completes_once = { tcp_completes-once };
+
+    ghost stays_complete = { tcp_step-complete };
+}
+
+impl Phases for Udp {
+    type Phase = DatagramPhase;
+
+    ghost use Rattle.std.specs.Prelude.{false, refl};
+    ghost use Rattle.std.proofs.lemmas.Bool.{false≢true};
+    ghost use Rattle.pfs_track.specs.Datagrams.{first_datagram, udp_step, udp_slot, traffic_number, udp_step-maker, udp_step-other};
+
+    ghost first = { first_datagram };
+
+    ghost after = { λ p forward flags. udp_step p forward };
+
+    ghost completes = { λ p forward flags. false };
+
+    ghost timeout = { λ p. udp_slot p.stage };
+
+    ghost maker_rank = { λ p. traffic_number p.maker };
+
+    ghost other_rank = { λ p. traffic_number p.other };
+
+    ghost is_complete = { λ p. false };
+
+    fn first() -> DatagramPhase {
+        DatagramPhase::new()
+    }
+
+    fn step(phase: DatagramPhase, forward: bool, _flags: Flags) -> (DatagramPhase, bool) {
+        (phase.step(forward), false)
+    }
+
+    fn slot(phase: DatagramPhase) -> TimeoutName {
+        match phase.stage() {
+            Stage::First => TimeoutName::UdpFirst,
+            Stage::Single => TimeoutName::UdpSingle,
+            Stage::Multiple => TimeoutName::UdpMultiple,
+        }
+    }
+
+    ghost maker_never_falls = { λ p forward flags. udp_step-maker p forward };
+
+    ghost other_never_falls = { λ p forward flags. udp_step-other p forward };
+
+    ghost begins_incomplete = { refl };
+
+    ghost completes_once = { λ p forward flags h. absurd (false≢true h) };
+
+    ghost stays_complete = { λ p forward flags h. h };
+}
+
+impl Phases for Other {
+    type Phase = DatagramPhase;
+
+    ghost use Rattle.std.specs.Prelude.{false, refl};
+    ghost use Rattle.std.proofs.lemmas.Bool.{false≢true};
+    ghost use Rattle.pfs_track.specs.Datagrams.{first_datagram, udp_step, other_slot, traffic_number, udp_step-maker, udp_step-other};
+
+    ghost first = { first_datagram };
+
+    ghost after = { λ p forward flags. udp_step p forward };
+
+    ghost completes = { λ p forward flags. false };
+
+    ghost timeout = { λ p. other_slot p.stage };
+
+    ghost maker_rank = { λ p. traffic_number p.maker };
+
+    ghost other_rank = { λ p. traffic_number p.other };
+
+    ghost is_complete = { λ p. false };
+
+    fn first() -> DatagramPhase {
+        DatagramPhase::new()
+    }
+
+    fn step(phase: DatagramPhase, forward: bool, _flags: Flags) -> (DatagramPhase, bool) {
+        (phase.step(forward), false)
+    }
+
+    fn slot(phase: DatagramPhase) -> TimeoutName {
+        match phase.stage() {
+            Stage::First => TimeoutName::OtherFirst,
+            Stage::Single => TimeoutName::OtherSingle,
+            Stage::Multiple => TimeoutName::OtherMultiple,
+        }
+    }
+
+    ghost maker_never_falls = { λ p forward flags. udp_step-maker p forward };
+
+    ghost other_never_falls = { λ p forward flags. udp_step-other p forward };
+
+    ghost begins_incomplete = { refl };
+
+    ghost completes_once = { λ p forward flags h. absurd (false≢true h) };
+
+    ghost stays_complete = { λ p forward flags h. h };
+}

@@ -1,0 +1,68 @@
+// The phase of a TCP connection.
+
+ghost use Rattle.std.specs.Prelude.{◌≡◌, true};
+ghost use Rattle.pfs_track.specs.TcpRanks.{IsEstablished};
+
+use crate::tcp_ranks::{TcpRank, meet, timeout_of};
+use pfs_addr::Flags;
+use pfs_rules::TimeoutName;
+
+/// How far a TCP connection has come: the ranks of its two peers, its current timeout, and whether its handshake has
+/// completed. Where it has, both ranks are at least `ESTABLISHED`.
+#[derive(Debug, Clone, Copy, PartialEq, Eq)]
+pub struct TcpPhase {
+    maker: TcpRank,
+    other: TcpRank,
+    timeout: TimeoutName,
+    complete: bool,
+    ghost established: { complete ≡ true → IsEstablished maker × IsEstablished other },
+}
+
+impl TcpPhase {
+    ghost use Rattle.pfs_track.specs.TcpPhases.{first_tcp, tcp_step, tcp_completes};
+
+    /// The phase of a new connection, whatever the flags of its packet.
+    pub(crate) fn new() -> TcpPhase
+        ensures { result ≡ first_tcp }
+    {
+        TcpPhase {
+            maker: TcpRank::SynSent,
+            other: TcpRank::Closed,
+            timeout: TimeoutName::TcpFirst,
+            complete: false,
+        }
+    }
+
+    /// The phase after a later packet, and whether the handshake completes at it. `forward` tells a packet in the
+    /// direction of the one that made the state.
+    pub(crate) fn step(self, forward: bool, flags: Flags) -> (TcpPhase, bool)
+        ensures phase { result.0 ≡ tcp_step self forward flags }
+        ensures completes { result.1 ≡ tcp_completes self forward flags }
+    {
+        let after = meet(forward, flags, self.maker, self.other);
+        let phase = TcpPhase {
+            maker: after.maker,
+            other: after.other,
+            timeout: timeout_of(after.maker, after.other),
+            complete: self.complete | after.completes,
+        };
+        (phase, after.completes)
+    }
+
+    /// The current timeout.
+    pub(crate) fn timeout(self) -> TimeoutName
+        ensures { result ≡ self.timeout }
+    {
+        self.timeout
+    }
+
+    /// Whether the handshake has completed.
+    pub(crate) fn is_complete(self) -> bool
+        ensures { result ≡ self.complete }
+    {
+        self.complete
+    }
+}
+
+#[cfg(test)]
+mod tests;

@@ -1,0 +1,184 @@
+// Walks every phase that a TCP connection can reach, and compares each step with a table that is written anew here.
+
+use super::TcpPhase;
+use pfs_addr::Flags;
+use pfs_rules::TimeoutName;
+
+/// A phase with its ranks as numbers: CLOSED 0, SYN_SENT 2, ESTABLISHED 4, CLOSING 7, FIN_WAIT_2 9, TIME_WAIT 10.
+#[derive(Debug, Clone, Copy, PartialEq, Eq)]
+struct Seen {
+    maker: u8,
+    other: u8,
+    timeout: TimeoutName,
+    complete: bool,
+}
+
+/// What an ACK does where the ranks of its sender and its receiver are from the first to the second number; a rank that
+/// is not given stays.
+struct Row {
+    sender: (u8, u8),
+    receiver: (u8, u8),
+    backward_too: bool,
+    gives: (Option<u8>, Option<u8>),
+    completes: bool,
+}
+
+const ACK: [Row; 5] = [
+    Row {
+        sender: (4, 4),
+        receiver: (2, 2),
+        backward_too: true,
+        gives: (None, Some(4)),
+        completes: true,
+    },
+    Row {
+        sender: (0, 10),
+        receiver: (2, 2),
+        backward_too: true,
+        gives: (None, Some(4)),
+        completes: false,
+    },
+    Row {
+        sender: (0, 10),
+        receiver: (7, 7),
+        backward_too: true,
+        gives: (None, Some(9)),
+        completes: false,
+    },
+    Row {
+        sender: (2, 2),
+        receiver: (0, 1),
+        backward_too: true,
+        gives: (Some(4), Some(4)),
+        completes: true,
+    },
+    Row {
+        sender: (7, 7),
+        receiver: (4, 4),
+        backward_too: false,
+        gives: (None, Some(7)),
+        completes: false,
+    },
+];
+
+/// The timeout by the ranges of the lower and of the higher rank; the first that fits.
+const TIMEOUTS: [((u8, u8), (u8, u8), TimeoutName); 5] = [
+    ((9, 10), (9, 10), TimeoutName::TcpClosed),
+    ((7, 10), (7, 10), TimeoutName::TcpFinwait),
+    ((0, 3), (0, 10), TimeoutName::TcpOpening),
+    ((4, 10), (7, 10), TimeoutName::TcpClosing),
+    ((4, 10), (4, 10), TimeoutName::TcpEstablished),
+];
+
+fn is_within(range: (u8, u8), rank: u8) -> bool {
+    range.0 <= rank && rank <= range.1
+}
+
+fn after_ack(forward: bool, sender: u8, receiver: u8) -> (u8, u8, bool) {
+    for row in &ACK {
+        if is_within(row.sender, sender)
+            && is_within(row.receiver, receiver)
+            && (forward || row.backward_too)
+        {
+            return (
+                row.gives.0.unwrap_or(sender),
+                row.gives.1.unwrap_or(receiver),
+                row.completes,
+            );
+        }
+    }
+    (sender, receiver, false)
+}
+
+fn timeout_of(maker: u8, other: u8) -> Option<TimeoutName> {
+    for (low, high, name) in &TIMEOUTS {
+        if is_within(*low, maker.min(other)) && is_within(*high, maker.max(other)) {
+            return Some(*name);
+        }
+    }
+    None
+}
+
+fn expected(seen: Seen, forward: bool, flags: Flags) -> Option<(Seen, bool)> {
+    let (mut sender, mut receiver) = if forward {
+        (seen.maker, seen.other)
+    } else {
+        (seen.other, seen.maker)
+    };
+    if flags.syn {
+        sender = sender.max(2);
+    }
+    if flags.fin {
+        sender = sender.max(7);
+    }
+    let mut completes = false;
+    if flags.ack {
+        (sender, receiver, completes) = after_ack(forward, sender, receiver);
+    }
+    if flags.rst {
+        sender = 10;
+        receiver = 10;
+    }
+    let (maker, other) = if forward {
+        (sender, receiver)
+    } else {
+        (receiver, sender)
+    };
+    let timeout = timeout_of(maker, other)?;
+    let complete = seen.complete || completes;
+    let after = Seen {
+        maker,
+        other,
+        timeout,
+        complete,
+    };
+    Some((after, completes))
+}
+
+fn described(phase: TcpPhase) -> Seen {
+    Seen {
+        maker: phase.maker as u8,
+        other: phase.other as u8,
+        timeout: phase.timeout,
+        complete: phase.complete,
+    }
+}
+
+/// Sixteen sets of SYN, FIN, ACK and RST; the flags that do not matter are set in half of them.
+fn flags_of(number: u8) -> Flags {
+    Flags {
+        syn: number & 1 != 0,
+        fin: number & 2 != 0,
+        ack: number & 4 != 0,
+        rst: number & 8 != 0,
+        psh: number & 5 != 0,
+        urg: number & 6 != 0,
+        ece: number & 9 != 0,
+        cwr: number & 3 != 0,
+    }
+}
+
+#[test]
+fn every_reachable_phase_steps_by_the_table(rt: HostRuntime) -> Result<(), std::test::Fail> {
+    let mut reached = Vec::new(rt.alloc());
+    reached.push(TcpPhase::new())?;
+    for place in 0..100 {
+        let Some(phase) = reached.get(place).copied() else {
+            break;
+        };
+        for number in 0..32u8 {
+            let forward = number < 16;
+            let flags = flags_of(number % 16);
+            let (after, completes) = phase.step(forward, flags);
+            assert_eq!(rt;
+                Some((described(after), completes)),
+                expected(described(phase), forward, flags)
+            );
+            if !reached.contains(&after) {
+                reached.push(after)?;
+            }
+        }
+    }
+    assert_eq!(rt; reached.len(), 31);
+    Ok(())
+}

@@ -1,0 +1,189 @@
+// The ranks of the two peers of a TCP connection, and what the flags of one packet make of them.
+
+ghost use Rattle.std.specs.Prelude.{◌≡◌};
+ghost use Rattle.pfs_track.specs.TcpRanks.{is_below, raised, acknowledged, acted, peers_after, tcp_timeout};
+
+use pfs_addr::Flags;
+use pfs_rules::TimeoutName;
+
+/// How far a peer of a TCP connection has come: the states of RFC 9293, section 3.3.2, from the least rank to the
+/// greatest. (the order is own to this profile)
+#[derive(Debug, Clone, Copy, PartialEq, Eq, PartialOrd, Ord, Hash)]
+pub(crate) enum TcpRank {
+    /// `CLOSED`: no packet of this peer was seen.
+    Closed,
+    /// `LISTEN`.
+    Listen,
+    /// `SYN_SENT`: it has sent a SYN.
+    SynSent,
+    /// `SYN_RECEIVED`.
+    SynReceived,
+    /// `ESTABLISHED`: the other peer has acknowledged its SYN.
+    Established,
+    /// `CLOSE_WAIT`.
+    CloseWait,
+    /// `FIN_WAIT_1`.
+    FinWait1,
+    /// `CLOSING`: it has sent a FIN.
+    Closing,
+    /// `LAST_ACK`.
+    LastAck,
+    /// `FIN_WAIT_2`: the other peer has acknowledged its FIN.
+    FinWait2,
+    /// `TIME_WAIT`: the connection was reset.
+    TimeWait,
+}
+
+/// The ranks of the two ends of a packet after it, and whether the handshake completes at it.
+#[derive(Debug, Clone, Copy, PartialEq, Eq)]
+pub(crate) struct Ends {
+    /// The rank of the peer that has sent the packet.
+    pub sender: TcpRank,
+    /// The rank of the peer to which it goes.
+    pub receiver: TcpRank,
+    /// Whether the handshake completes.
+    pub completes: bool,
+}
+
+/// The ranks of the maker of a state and of the other peer after a packet, and whether the handshake completes at it.
+#[derive(Debug, Clone, Copy, PartialEq, Eq)]
+pub(crate) struct Peers {
+    /// The rank of the peer that sent the packet that made the state.
+    pub maker: TcpRank,
+    /// The rank of the other peer.
+    pub other: TcpRank,
+    /// Whether the handshake completes.
+    pub completes: bool,
+}
+
+/// What a packet makes of the ranks of the maker and the other peer. `forward` tells a packet in the direction of the
+/// one that made the state: its sender is the maker.
+pub(crate) fn meet(forward: bool, flags: Flags, maker: TcpRank, other: TcpRank) -> Peers
+    ensures { result ≡ peers_after forward flags maker other }
+{
+    if forward {
+        let ends = act(forward, flags, maker, other);
+        Peers {
+            maker: ends.sender,
+            other: ends.receiver,
+            completes: ends.completes,
+        }
+    } else {
+        let ends = act(forward, flags, other, maker);
+        Peers {
+            maker: ends.receiver,
+            other: ends.sender,
+            completes: ends.completes,
+        }
+    }
+}
+
+/// What a packet makes of the ranks of its sender and its receiver: SYN acts first, then FIN, ACK and RST. `forward`
+/// tells a packet in the direction of the one that made the state. (own to this profile)
+fn act(forward: bool, flags: Flags, sender: TcpRank, receiver: TcpRank) -> Ends
+    ensures { result ≡ acted forward flags sender receiver }
+{
+    let sender = if flags.syn {
+        sender.raised(TcpRank::SynSent)
+    } else {
+        sender
+    };
+    let sender = if flags.fin {
+        sender.raised(TcpRank::Closing)
+    } else {
+        sender
+    };
+    let ends = if flags.ack {
+        acknowledge(forward, sender, receiver)
+    } else {
+        Ends {
+            sender,
+            receiver,
+            completes: false,
+        }
+    };
+    if flags.rst {
+        Ends {
+            sender: TcpRank::TimeWait,
+            receiver: TcpRank::TimeWait,
+            completes: ends.completes,
+        }
+    } else {
+        ends
+    }
+}
+
+/// What an ACK does: the first line that applies.
+fn acknowledge(forward: bool, sender: TcpRank, receiver: TcpRank) -> Ends
+    ensures { result ≡ acknowledged forward sender receiver }
+{
+    if receiver == TcpRank::SynSent {
+        Ends {
+            sender,
+            receiver: TcpRank::Established,
+            completes: sender == TcpRank::Established,
+        }
+    } else if receiver == TcpRank::Closing {
+        Ends {
+            sender,
+            receiver: TcpRank::FinWait2,
+            completes: false,
+        }
+    } else if sender == TcpRank::SynSent && receiver.is_below(TcpRank::SynSent) {
+        Ends {
+            sender: TcpRank::Established,
+            receiver: TcpRank::Established,
+            completes: true,
+        }
+    } else if sender == TcpRank::Closing && receiver == TcpRank::Established && forward {
+        Ends {
+            sender,
+            receiver: TcpRank::Closing,
+            completes: false,
+        }
+    } else {
+        Ends {
+            sender,
+            receiver,
+            completes: false,
+        }
+    }
+}
+
+/// The timeout of a connection whose peers have these ranks after its second packet or a later one.
+pub(crate) fn timeout_of(maker: TcpRank, other: TcpRank) -> TimeoutName
+    ensures { result ≡ tcp_timeout maker other }
+{
+    let (low, high) = if maker.is_below(other) {
+        (maker, other)
+    } else {
+        (other, maker)
+    };
+    if !low.is_below(TcpRank::FinWait2) {
+        TimeoutName::TcpClosed
+    } else if !low.is_below(TcpRank::Closing) {
+        TimeoutName::TcpFinwait
+    } else if low.is_below(TcpRank::Established) {
+        TimeoutName::TcpOpening
+    } else if !high.is_below(TcpRank::Closing) {
+        TimeoutName::TcpClosing
+    } else {
+        TimeoutName::TcpEstablished
+    }
+}
+
+impl TcpRank {
+    /// Whether the rank is below another.
+    fn is_below(self, limit: TcpRank) -> bool
+        ensures { result ≡ is_below self limit }
+    {
+        self < limit
+    }
+
+    /// The greater of the rank and another.
+    fn raised(self, least: TcpRank) -> TcpRank
+        ensures { result ≡ raised self least }
+    {
+        if self.is_below(least) { least } else { self }
+    }
+}
