@@ -1,0 +1,73 @@
+-- What is told of a rules text alone.
+use Rattle.std.proofs.Common.{Bool, true, false, ◌∙◌, ◌≡◌, ◌≢◌, ◌⊎◌, ◌≤◌, ◌<◌, ◌++◌, ℕ, List, [], length, Option, Result, Ok, Err, refl, sym, ap, subst, arith, inl, inr}
+use Rattle.std.specs.Prelude.{OnOk, OnErr, IfErr, nat_lt}
+use Rattle.std.specs.Io.KnownBytes.{Appends}
+use Rattle.std.proofs.lemmas.Bool.Decides.{nat_tests}
+use Rattle.pfs_rules.specs.Configs.{Conf}
+use Rattle.pfs_conf.specs.Kinds.{no_memory}
+use Rattle.pfs_conf.specs.Reads.{Reads, IsFault, memory, long, breaks, stops}
+use Rattle.pfs_conf.specs.declared.faults.LoadFault.{LoadFault}
+use Rattle.pfs_conf.specs.declared.kinds.Kind.{Kind}
+use Rattle.pfs_conf.specs.declared.kinds.Kind.TheVariants as kind
+use Rattle.pfs_cli.specs.declared.faults.ReplayFault.{ReplayFault}
+use Rattle.pfs_cli.specs.declared.faults.ReplayFault.TheVariants as fault
+use Rattle.pfs_cli.specs.Rules.{IsKept, IsRefused, rules_limit}
+use Rattle.pfs_cli.specs.Replays.{IsFeedFault}
+use Rattle.pfs_cli.specs.Checks.{Answers, RefusesText, fault_by, fault_of}
+use Rattle.pfs_cli.proofs.Replaying.{kept-short, kept-fault}
+
+-- the configuration of what is kept of a text is that of the text
+pub kept-reads : (kept text : List ℕ) (conf : Conf) → IsKept kept text → Reads kept conf → Reads text conf
+kept-reads kept text conf k reads =
+    let P : List ℕ → Type 0 = λ t. Reads t conf in
+    subst P (kept-short kept text k reads.short) reads
+
+-- what is told of a text without a configuration
+pub kept-refused : (kept text : List ℕ) (f : LoadFault) → IsKept kept text → IsFault kept f → ((conf : Conf) → Reads kept conf → f ≡ no_memory) → RefusesText text (fault_of f)
+kept-refused kept text f k h only = go f.kind refl
+  where
+    refused : (f ≡ no_memory → ⊥) → IsRefused text f
+    refused n = (λ conf reads. n (only conf (let P : List ℕ → Type 0 = λ t. Reads t conf in subst P (sym (k.0 reads.short)) reads)), kept-fault kept text f n k h)
+
+    go : (c : Kind) → f.kind ≡ c → RefusesText text (fault_by f c)
+    go kind.Memory e = tt
+    go c e = refused (λ m. let q : c ≡ kind.Memory = sym e ∙ ap (λ (x : LoadFault). x.kind) m in absurd cc)
+
+-- no fault of rules is one of writing
+pub refused-no_write : (f : LoadFault) → fault_of f ≢ fault.Write
+refused-no_write f = go f.kind
+  where
+    go : (c : Kind) → fault_by f c ≢ fault.Write
+    go kind.Memory e = absurd cc
+    go _ e = absurd cc
+
+-- and none of reading
+pub feed-no_write : (f : ReplayFault) → IsFeedFault f → f ≢ fault.Write
+feed-no_write f h e = elim h [ inl r ↦ absurd cc | inr s ↦ elim s [ inl r ↦ absurd cc | inr r ↦ absurd cc ] ]
+
+-- what reading stops with may be told of any text
+pub feed-refused : (text : List ℕ) (f : ReplayFault) → IsFeedFault f → RefusesText text f
+feed-refused text f h = elim h [
+  | inl r ↦ subst (RefusesText text) (sym r) tt
+  | inr s ↦ elim s [ inl r ↦ subst (RefusesText text) (sym r) tt | inr r ↦ subst (RefusesText text) (sym r) tt ]
+]
+
+-- nothing is written then
+pub nothing-written : (text_of : Conf → List ℕ) (text : List ℕ) (f : ReplayFault) → RefusesText text f → Answers text_of text [] (Err f)
+nothing-written text_of text (fault.Rules e) h = (h, refl)
+nothing-written text_of text fault.Read h = refl
+nothing-written text_of text fault.Endless h = refl
+nothing-written text_of text fault.Memory h = refl
+nothing-written text_of text (fault.Columns row) h = absurd h
+nothing-written text_of text (fault.Field row column) h = absurd h
+nothing-written text_of text (fault.TimeFell row) h = absurd h
+nothing-written text_of text fault.TooManyRows h = absurd h
+nothing-written text_of text fault.Write h = absurd h
+
+-- what is written of a text
+pub text-written : (text_of : Conf → List ℕ) (text : List ℕ) (conf : Conf) → Reads text conf → (bytes : List ℕ) → bytes ≡ text_of conf → (a b : Option (List ℕ)) (r : Result Unit ReplayFault)
+    → OnOk r (Appends a b bytes) → OnErr r ((t : List ℕ) × Appends a b t × ((rest : List ℕ) × (bytes ≡ t ++ rest))) → IfErr r (λ f. f ≡ fault.Write)
+    → (t : List ℕ) × Appends a b t × Answers text_of text t r
+text-written text_of text conf reads bytes same a b (Ok u) ok err kind = (bytes, ok, (conf, reads, same))
+text-written text_of text conf reads bytes same a b (Err f) ok err kind =
+    (err.0, err.1, subst (λ (x : ReplayFault). Answers text_of text err.0 (Err x)) (sym kind) (conf, reads, (err.2.0, sym same ∙ err.2.1)))

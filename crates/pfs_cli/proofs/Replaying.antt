@@ -1,0 +1,138 @@
+-- From the records of a trace to a replay, and what is kept of a rules text.
+use Rattle.std.proofs.Common.{◌≡◌, ◌≢◌, ◌⊎◌, ◌≤◌, ◌<◌, ◌+◌, ◌++◌, ◌∙◌, ℕ, List, [], length, take, drop, Option, Some, None, Bool, true, false, refl, sym, ap, subst, arith, inl, inr}
+use Rattle.std.proofs.Math.Seq.{drop-append_seam, drop-append-add}
+use Rattle.std.specs.Prelude.{IsErrAnd, Result, Ok, Err, nat_lt}
+use Rattle.std.proofs.lemmas.Bool.Decides.{nat_tests}
+use Rattle.std.proofs.lemmas.List.{append-nil, take-append-drop}
+use Rattle.pfs_cli.specs.declared.events.Event.{Event}
+use Rattle.pfs_cli.specs.Traces.{Trace}
+use Rattle.pfs_cli.proofs.Telling.{report-front}
+use Rattle.std.specs.Io.KnownBytes.{Appends, Keeps, Consumes}
+use Rattle.pfs_cli.specs.declared.faults.TraceFault.{TraceFault}
+use Rattle.pfs_cli.specs.declared.faults.TraceFault.TheVariants as trace
+use Rattle.pfs_cli.specs.declared.faults.ReplayFault.{ReplayFault}
+use Rattle.pfs_cli.specs.declared.faults.ReplayFault.TheVariants as fault
+use Rattle.pfs_conf.specs.declared.faults.LoadFault.{LoadFault}
+use Rattle.pfs_rules.specs.Configs.{Conf}
+use Rattle.pfs_conf.specs.Kinds.{no_memory}
+use Rattle.pfs_conf.specs.Reads.{Reads, IsFault, memory, long, breaks, stops}
+use Rattle.pfs_cli.specs.declared.records.Stop.TheVariants as stop
+use Rattle.pfs_cli.specs.declared.rulesets.Ruleset.{Ruleset}
+use Rattle.pfs_cli.specs.Faults.{replay_fault}
+use Rattle.pfs_cli.specs.Rules.{RulesOf, WaitsToRun, unsupported, IsRefused, IsRulesFault, IsKept, rules_limit}
+use Rattle.pfs_cli.specs.Reports.{report, AreFirstLines, BeginsReport, Tells}
+use Rattle.pfs_cli.specs.Replays.{Replays, RefusesRules, IsFeedFault, trace_of}
+
+pub Appends-kept : (a b c : Option (List ℕ)) (bs : List ℕ) → Appends a b bs → Keeps b c → Appends a c bs
+Appends-kept None b c bs p q = tt
+Appends-kept (Some xs) None c bs p q = absurd p
+Appends-kept (Some xs) (Some ys) None bs p q = absurd q
+Appends-kept (Some xs) (Some ys) (Some zs) bs p q = q ∙ p
+
+-- the lines of the first records begin the report
+first-lines-begin : (c : Ruleset) (trace : Trace) (text : List ℕ) → AreFirstLines c trace text → BeginsReport c trace text
+first-lines-begin c trace text (k, e) =
+    let whole : take k trace.0 ++ drop k trace.0 ≡ trace.0 = take-append-drop k trace.0 in
+    let (rest, begins) = report-front c (take k trace.0) (drop k trace.0) trace.1 in
+    (rest, ap (λ (es : List Event). report c (es, trace.1)) (sym whole) ∙ (begins ∙ ap (λ (t : List ℕ). t ++ rest) (sym e)))
+
+-- a faulty trace leaves its report
+pub run-fault : (c : Ruleset) (rs ts t : List ℕ) (f : TraceFault) → RulesOf rs c → Tells c (trace_of ts) t (Err (stop.Fault f)) → Replays rs ts t (Err (replay_fault f))
+run-fault c rs ts t (trace.Columns row) rules told = (c, rules, told.0, told.1)
+run-fault c rs ts t (trace.Field row column) rules told = (c, rules, told.0, told.1)
+run-fault c rs ts t (trace.TimeFell row) rules told = (c, rules, told.0, told.1)
+run-fault c rs ts t trace.TooManyRows rules told = (c, rules, told.0, told.1)
+
+-- a trace that is not read to its end leaves the lines of its first records
+pub run-cut : (c : Ruleset) (rs ts t : List ℕ) (f : ReplayFault) → IsFeedFault f → RulesOf rs c → AreFirstLines c (trace_of ts) t → Replays rs ts t (Err f)
+run-cut c rs ts t f kind rules lines = elim kind [
+  | inl e ↦ rw e (inr (c, rules, lines, first-lines-begin c (trace_of ts) t lines))
+  | inr m ↦ elim m [
+    | inl e ↦ rw e (inr (c, rules, lines, first-lines-begin c (trace_of ts) t lines))
+    | inr e ↦ rw e (inr (c, rules, lines, first-lines-begin c (trace_of ts) t lines))
+  ]
+]
+
+pub run-write : (c : Ruleset) (rs ts t : List ℕ) → RulesOf rs c → BeginsReport c (trace_of ts) t → Replays rs ts t (Err fault.Write)
+run-write c rs ts t rules front = (c, rules, front)
+
+pub run-done : (c : Ruleset) (rs ts t : List ℕ) → RulesOf rs c → Tells c (trace_of ts) t (Ok tt) → Replays rs ts t (Ok tt)
+run-done c rs ts t rules told = (c, rules, told.0, told.1)
+
+pub run-unflushed : (c : Ruleset) (rs ts t : List ℕ) → RulesOf rs c → Tells c (trace_of ts) t (Ok tt) → Replays rs ts t (Err fault.Write)
+run-unflushed c rs ts t rules told = (c, rules, ([], sym (append-nil t ∙ told.1)))
+
+-- a feed of rules that gives no more leaves nothing
+pub rules-cut : (rs ts : List ℕ) (f : ReplayFault) → IsFeedFault f → Replays rs ts [] (Err f)
+rules-cut rs ts f kind = elim kind [
+  | inl e ↦ rw e (inl refl)
+  | inr m ↦ elim m [ inl e ↦ rw e (inl refl) | inr e ↦ rw e (inl refl) ]
+]
+
+-- what a read took is off the front of what was left
+pub left-after : (old new : Option (List ℕ)) (rs text bs ys : List ℕ) → old ≡ Some ys → rs ≡ text ++ ys → Consumes old new bs → new ≡ Some (drop (length text + length bs) rs)
+left-after None new rs text bs ys e all took = cc
+left-after (Some xs) None rs text bs ys e all took = absurd took
+left-after (Some xs) (Some zs) rs text bs ys e all took =
+    let same : xs ≡ ys = cc in
+    let rest : drop (length text + length bs) (text ++ (bs ++ zs)) ≡ zs = drop-append-add text (bs ++ zs) (length bs) ∙ drop-append_seam bs zs in
+    rw (all, ← same, took, rest) refl
+
+-- a text that is no longer than it may be is kept whole
+pub kept-short : (kept text : List ℕ) → IsKept kept text → length kept ≤ rules_limit → kept ≡ text
+kept-short kept text k short = let few : length text ≤ rules_limit = grind (arith, k.1) in k.0 few
+
+kept-long : (kept text : List ℕ) → IsKept kept text → rules_limit < length kept → (b : Bool) → nat_lt rules_limit (length text) ≡ b → rules_limit < length text
+kept-long kept text k many true test = grind (arith, nat_tests, test)
+kept-long kept text k many false test =
+    let few : length text ≤ rules_limit = grind (arith, nat_tests, test) in
+    let same : length kept ≡ length text = ap length (k.0 few) in
+    absurd (omega arith)
+
+-- a fault of what is kept of a text may be told of the text
+pub kept-fault : (kept text : List ℕ) (f : LoadFault) → f ≢ no_memory → IsKept kept text → IsFault kept f → IsFault text f
+kept-fault kept text f other k (memory e) = absurd (other e)
+kept-fault kept text f other k (long many e) = long (kept-long kept text k many (nat_lt rules_limit (length text)) refl) e
+kept-fault kept text f other k (breaks short broken e) =
+    let P : List ℕ → Type 0 = λ t. IsFault t f in
+    subst P (kept-short kept text k short) (breaks short broken e)
+kept-fault kept text f other k (stops w t behind short at e) =
+    let P : List ℕ → Type 0 = λ t. IsFault t f in
+    subst P (kept-short kept text k short) (stops w t behind short at e)
+
+-- what is told of what is kept of a text may be told of the text
+kept-told : (kept text : List ℕ) (f : LoadFault) → IsKept kept text → IsRulesFault kept f → IsRulesFault text f
+kept-told kept text f k (other, told) = (
+  other,
+  elim told as (λ _. IsRefused text f ⊎ (WaitsToRun text × (f ≡ unsupported))) [
+    | inl is ↦
+        let none : (conf : Conf) → Reads text conf → ⊥ = λ conf reads. is.0 conf (let P : List ℕ → Type 0 = λ t. Reads t conf in subst P (sym (k.0 reads.short)) reads) in
+        inl (none, kept-fault kept text f other k is.1)
+    | inr waits ↦
+        let P : List ℕ → Type 0 = λ t. WaitsToRun t in
+        inr (subst P (kept-short kept text k waits.0.1.short) waits.0, waits.1)
+  ],
+)
+
+-- rules that are not accepted leave nothing
+pub rules-refused : (kept text ts : List ℕ) (f : ReplayFault) → IsKept kept text → RefusesRules kept f → Replays text ts [] (Err f)
+rules-refused kept text ts (fault.Rules f) k told = (kept-told kept text f k told, refl)
+rules-refused kept text ts (fault.Columns row) k told = absurd told
+rules-refused kept text ts (fault.Field row column) k told = absurd told
+rules-refused kept text ts (fault.TimeFell row) k told = absurd told
+rules-refused kept text ts fault.TooManyRows k told = absurd told
+rules-refused kept text ts fault.Read k told = absurd told
+rules-refused kept text ts fault.Write k told = absurd told
+rules-refused kept text ts fault.Memory k told = inl refl
+rules-refused kept text ts fault.Endless k told = absurd told
+
+-- the rules of what is kept of a text are those of the text
+pub kept-rules : (kept text : List ℕ) (c : Ruleset) → IsKept kept text → RulesOf kept c → RulesOf text c
+kept-rules kept text c k rules =
+    let P : List ℕ → Type 0 = λ t. RulesOf t c in
+    subst P (kept-short kept text k rules.1.short) rules
+
+-- a fault that is handed on as it is
+pub handed-on : (rs ts t : List ℕ) (f : ReplayFault) (r : Result Unit ReplayFault) → IsErrAnd r (λ e. e ≡ f) → Replays rs ts t (Err f) → Replays rs ts t r
+handed-on rs ts t f (Ok u) is told = absurd is
+handed-on rs ts t f (Err e) is told = rw is told

@@ -1,0 +1,11 @@
+use Rattle.pfs_cli.proofs.Replaying.{run-done, run-unflushed}
+use Rattle.pfs_cli.proofs.replays.finish.Goals as goal
+
+pub returns-then-is_err-clause-told : goal.returns-then-is_err-clause-told
+returns-then-is_err-clause-told g c d rs ts t rules told = run-unflushed d rs ts t rules (rw c.in-Ok.is at told)
+
+pub returns-else-is_err-clause-told : goal.returns-else-is_err-clause-told
+returns-else-is_err-clause-told g c d rs ts t rules told = run-done d rs ts t rules (rw c.in-Ok.is at told)
+
+pub returns-in-Err-clause-told : goal.returns-in-Err-clause-told
+returns-in-Err-clause-told g c d rs ts t rules told = c.fault_at.ensures.told d rs ts t rules (rw c.in-Err.is at told)

@@ -1,0 +1,124 @@
+-- The event that one record of a trace tells, or what is wrong with it. (own)
+use Rattle.std.specs.Prelude.{ℕ, ◌-◌, Bool, false, List, [], codes, length, Option, Some, None, Result, Ok, Err, ◌&&◌, ◌==◌, nat_le, nat_lt, if◌then◌else◌, unwrap_or}
+use Rattle.std.specs.Str.{bytes_eq}
+use Rattle.csv.specs.Records.{field_at}
+use Rattle.pfs_addr.specs.Numbers.{number_of}
+use Rattle.pfs_addr.specs.Names.{name_of}
+use Rattle.pfs_addr.specs.FlagSets.{flags_of}
+use Rattle.pfs_addr.specs.Texts.{addr_of}
+use Rattle.pfs_addr.specs.Protocols.{proto_in, has_ports, is_icmp}
+use Rattle.pfs_addr.specs.declared.flag_sets.Flags.{Flags}
+use Rattle.pfs_addr.specs.declared.packets.Dir.{Dir}
+use Rattle.pfs_addr.specs.declared.packets.Dir.TheVariants.{In, Out}
+use Rattle.pfs_addr.specs.declared.packets.Endpoint.{Endpoint}
+use Rattle.pfs_addr.specs.declared.protocols.Proto.{Proto}
+use Rattle.pfs_addr.specs.declared.protocols.Proto.TheVariants.{Tcp, Udp, Other}
+use Rattle.pfs_cli.specs.declared.events.What.{What}
+use Rattle.pfs_cli.specs.declared.events.What.TheVariants as what
+use Rattle.pfs_cli.specs.declared.events.Event.{Event}
+use Rattle.pfs_cli.specs.declared.faults.TraceFault.{TraceFault}
+use Rattle.pfs_cli.specs.declared.faults.TraceFault.TheVariants as fault
+
+-- the field of a column, which count from 1; nothing where there is none
+abbrev pub column_of : List (List ℕ) → ℕ → List ℕ
+column_of fields number = unwrap_or (field_at fields (number - 1)) []
+
+-- a trace begins with the names of its nine columns
+abbrev pub is_header : List (List ℕ) → Bool
+is_header fields =
+    (length fields == 9)
+    && bytes_eq (column_of fields 1) (codes "time")
+    && bytes_eq (column_of fields 2) (codes "dir")
+    && bytes_eq (column_of fields 3) (codes "if")
+    && bytes_eq (column_of fields 4) (codes "proto")
+    && bytes_eq (column_of fields 5) (codes "src")
+    && bytes_eq (column_of fields 6) (codes "sport")
+    && bytes_eq (column_of fields 7) (codes "dst")
+    && bytes_eq (column_of fields 8) (codes "dport")
+    && bytes_eq (column_of fields 9) (codes "flags")
+
+-- there is no text
+abbrev pub is_empty : List ℕ → Bool
+is_empty text = length text == 0
+
+-- a value that is at most this
+abbrev pub at_most : ℕ → Option ℕ → Option ℕ
+at_most most None = None
+at_most most (Some n) = if nat_le n most then Some n else None
+
+-- a number that is at most this
+abbrev pub number_to : ℕ → List ℕ → Option ℕ
+number_to most text = at_most most (number_of text)
+
+-- a packet comes in or goes out
+abbrev pub dir_of : List ℕ → Option Dir
+dir_of text = if bytes_eq text (codes "in") then Some In else (if bytes_eq text (codes "out") then Some Out else None)
+
+-- of the protocols UDP alone runs yet
+abbrev pub runs_yet : Option Proto → Option Proto
+runs_yet None = None
+runs_yet (Some Tcp) = None
+runs_yet (Some Udp) = Some Udp
+runs_yet (Some (Other n)) = None
+
+-- the protocol of a packet, by its name or its number
+abbrev pub traced_proto : List ℕ → Option Proto
+traced_proto text = runs_yet (proto_in text)
+
+-- a port is given for a protocol that has ports, and for no other
+abbrev pub port_of : Proto → List ℕ → Option ℕ
+port_of proto text = if has_ports proto then number_to 65535 text else (if is_empty text then Some 0 else None)
+
+-- no flag is set
+abbrev pub no_flags : Flags
+no_flags = record { fin = false; syn = false; rst = false; psh = false; ack = false; urg = false; ece = false; cwr = false }
+
+-- flags are given for TCP, and for no other protocol
+abbrev pub flags_for : Proto → List ℕ → Option Flags
+flags_for Tcp text = flags_of text
+flags_for Udp text = if is_empty text then Some no_flags else None
+flags_for (Other n) text = if is_empty text then Some no_flags else None
+
+-- what the field of a column is read as, and what follows from it; or else the fault of that field
+abbrev pub in_column : {A B : Type 0} → ℕ → ℕ → Option A → (A → Result B TraceFault) → Result B TraceFault
+in_column row column None more = Err (fault.Field row column)
+in_column row column (Some x) more = more x
+
+-- what follows from a part of a record that is read, or else its fault
+abbrev pub and_then : {A B : Type 0} → Result A TraceFault → (A → Result B TraceFault) → Result B TraceFault
+and_then (Ok x) more = more x
+and_then (Err f) more = Err f
+
+-- the source and the destination
+abbrev pub ends_at : ℕ → Proto → List (List ℕ) → Result (Endpoint × Endpoint) TraceFault
+ends_at row proto fields =
+    in_column row 5 (addr_of (column_of fields 5)) (λ src.
+    in_column row 6 (port_of proto (column_of fields 6)) (λ sport.
+    in_column row 7 (addr_of (column_of fields 7)) (λ dst.
+    in_column row 8 (port_of proto (column_of fields 8)) (λ dport.
+    Ok (record { addr = src; port = sport }, record { addr = dst; port = dport })))))
+
+-- what comes, in the fields behind the first: of ICMP a trace does not tell enough
+abbrev pub what_at : ℕ → List (List ℕ) → Result What TraceFault
+what_at row fields =
+    in_column row 2 (dir_of (column_of fields 2)) (λ dir.
+    in_column row 3 (name_of 15 (column_of fields 3)) (λ ifname.
+    in_column row 4 (traced_proto (column_of fields 4)) (λ proto.
+    and_then (ends_at row proto fields) (λ ends.
+    in_column row 9 (flags_for proto (column_of fields 9)) (λ flags.
+    Ok (if is_icmp proto then what.Skip else what.Packet (record { dir = dir; ifname = ifname; proto = proto; source = ends.0; destination = ends.1; flags = flags })))))))
+
+-- a moment is before the last one
+abbrev pub falls : Option ℕ → ℕ → Bool
+falls None time = false
+falls (Some last) time = nat_lt time last
+
+-- the event of a record in this row after this moment, or the first that is wrong with it: it has not nine fields, a
+-- field is not accepted, from left to right, or its moment is before the last one
+abbrev pub event_at : ℕ → Option ℕ → List (List ℕ) → Result Event TraceFault
+event_at row last fields =
+    if length fields == 9
+    then in_column row 1 (number_to 4294967295 (column_of fields 1)) (λ time.
+    and_then (what_at row fields) (λ what.
+    if falls last time then Err (fault.TimeFell row) else Ok (record { time = time; what = what })))
+    else Err (fault.Columns row)

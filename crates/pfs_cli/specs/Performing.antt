@@ -1,0 +1,22 @@
+-- What a job writes when it ends, by what it is. (own)
+use Rattle.std.specs.Prelude.{ℕ, List, Result}
+use Rattle.pfs_jobs.specs.declared.tasks.Job.{Job}
+use Rattle.pfs_jobs.specs.declared.tasks.Job.TheVariants as job
+use Rattle.pfs_show.specs.Texts.{text_of}
+use Rattle.pfs_cli.specs.declared.faults.ReplayFault.{ReplayFault}
+use Rattle.pfs_cli.specs.Checks.{Answers, counts_text}
+use Rattle.pfs_cli.specs.Joined.{split_joined}
+use Rattle.pfs_cli.specs.Replays.{Replays}
+
+-- without words rules and trace stand in the one text that is read; `check` tells the counts of the rules, `show` their
+-- canonical text; `replay` takes a text of each
+abbrev pub Performs : Job → List ℕ → List ℕ → List ℕ → Result Unit ReplayFault → Type 0
+Performs job.Joined rules trace text result = Replays (split_joined rules).0 (split_joined rules).1 text result
+Performs (job.Check name) rules trace text result = Answers counts_text rules text result
+Performs (job.Show name) rules trace text result = Answers text_of rules text result
+Performs (job.Replay name other) rules trace text result = Replays rules trace text result
+
+-- a fact of all jobs but a replay of two files
+abbrev pub ReadsRulesAlone : Job → Type 0 → Type 0
+ReadsRulesAlone (job.Replay name other) P = Unit {0}
+ReadsRulesAlone _ P = P

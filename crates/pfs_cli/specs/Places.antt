@@ -1,0 +1,56 @@
+-- Where in a line the reading of a joined text stands. (own)
+use Rattle.std.specs.Prelude.{◌++◌, ◌==◌, ℕ, Bool, true, false, List, [], ◌∷◌, if◌then◌else◌}
+use Rattle.pfs_cli.specs.declared.joined.Place.{Place}
+use Rattle.pfs_cli.specs.declared.joined.Place.TheVariants as place
+use Rattle.pfs_cli.specs.Joined.{Parts, split_from}
+
+-- the most bytes that are kept of the rules: when the two bytes of a split line are taken off, there is still one more
+-- than a rules text may have
+abbrev pub kept_limit : ℕ
+kept_limit = 1048579
+
+-- the bytes of the line so far, where it may still be the split line
+abbrev pub pending : Place → List ℕ
+pending place.Start = []
+pending place.Percent = 37 ∷ []
+pending place.Percents = 37 ∷ 37 ∷ []
+pending place.Inside = []
+
+-- whether the line may still be the split line
+abbrev pub may_split : Place → Bool
+may_split place.Start = true
+may_split place.Percent = true
+may_split place.Percents = true
+may_split place.Inside = false
+
+-- the place after a byte that does not end a split line
+abbrev pub place_after : Place → ℕ → Place
+place_after place.Start c = if c == 10 then place.Start else if c == 37 then place.Percent else place.Inside
+place_after place.Percent c = if c == 10 then place.Start else if c == 37 then place.Percents else place.Inside
+place_after place.Percents c = if c == 10 then place.Start else place.Inside
+place_after place.Inside c = if c == 10 then place.Start else place.Inside
+
+-- the split of the bytes that are left, from a place
+abbrev pub split_at : Place → List ℕ → Parts
+split_at p xs = split_from (may_split p) (pending p ++ xs)
+
+-- the bytes so far of a line that is the split line, if it ends here
+abbrev pub split_mark : Place → List ℕ
+split_mark place.Start = []
+split_mark place.Percent = []
+split_mark place.Percents = 37 ∷ 37 ∷ []
+split_mark place.Inside = []
+
+-- the bytes so far of the line that are the rules', if the text ends here
+abbrev pub settled : Place → List ℕ
+settled place.Start = []
+settled place.Percent = 37 ∷ []
+settled place.Percents = []
+settled place.Inside = []
+
+-- whether a byte ends the split line
+abbrev pub ends_split : Place → ℕ → Bool
+ends_split place.Start c = false
+ends_split place.Percent c = false
+ends_split place.Percents c = c == 10
+ends_split place.Inside c = false

@@ -1,0 +1,47 @@
+-- The events of a trace, up to its first faulty record. (own)
+use Rattle.std.specs.Prelude.{◌+◌, ℕ, List, [], ◌∷◌, length, Option, Some, None, Result, Ok, Err, if◌then◌else◌, nat_lt}
+use Rattle.csv.specs.Reading.{records, records_from, default_config, strip_bom}
+use Rattle.csv.specs.declared.parser.Config.{Config}
+use Rattle.csv.specs.declared.parser.State.{State}
+use Rattle.pfs_cli.specs.declared.events.Event.{Event}
+use Rattle.pfs_cli.specs.declared.faults.TraceFault.{TraceFault}
+use Rattle.pfs_cli.specs.declared.faults.TraceFault.TheVariants as fault
+use Rattle.pfs_cli.specs.Events.{event_at, is_header}
+
+-- the fields of a record
+abbrev pub Fields : Type 0
+Fields = List (List ℕ)
+
+-- the records of a trace are those that the `csv` crate gives, a byte order mark at the start left out
+abbrev pub records_of : List ℕ → List Fields
+records_of bytes = records default_config (strip_bom bytes)
+
+-- the records that are left of a text, from a state of the `csv` crate's machine
+abbrev pub records_left : Config → State → List ℕ → List Fields
+records_left cfg s xs = records_from cfg (length xs + 1) s xs
+
+-- the most records that a trace may have after its header
+abbrev pub row_limit : ℕ
+row_limit = 1000000000
+
+-- the events before the first faulty record, and what is wrong with that one, if there is one
+abbrev pub Trace : Type 0
+Trace = List Event × Option TraceFault
+
+-- an event, and then those after it
+abbrev pub and_then : Result Event TraceFault → (Event → Trace) → Trace
+and_then (Ok e) more = (e ∷ (more e).0, (more e).1)
+and_then (Err f) more = ([], Some f)
+
+-- the events of the records after so many rows, the last of them at this moment
+unfoldable pub events_from : ℕ → Option ℕ → List Fields → Trace
+events_from rows last [] = ([], None)
+events_from rows last (r ∷ rs) =
+    if nat_lt rows row_limit
+    then and_then (event_at (rows + 1) last r) (λ e. events_from (rows + 1) (Some e.time) rs)
+    else ([], Some fault.TooManyRows)
+
+-- the events of a trace: its first record is the header
+unfoldable pub events_of : List Fields → Trace
+events_of [] = ([], Some (fault.Columns 0))
+events_of (r ∷ rs) = if is_header r then events_from 0 None rs else ([], Some (fault.Columns 0))

@@ -1,0 +1,151 @@
+//! A replay of rules and a trace that stand in one text.
+
+ghost use Rattle.std.specs.Prelude.{◌≡◌, ◌⊎◌, Some, Ok, Err, ◌<◌, ◌≤◌, ◌+◌, ◌-◌, ◌++◌, ℕ, List, true, IfOk, IfErr, OnOk, ◌∷◌, [], length, take, drop};
+ghost use Rattle.std.specs.Io.KnownBytes.{Appends};
+ghost use Rattle.pfs_streams.specs.Feeds.{unread, IsSpent, failures_of as read_failures};
+ghost use Rattle.pfs_streams.specs.Sinks.{held, failures_of};
+ghost use Rattle.pfs_cli.specs.Rules.{RulesOf, IsKept, rules_limit};
+ghost use Rattle.pfs_cli.specs.Replays.{Replays, trace_of};
+ghost use Rattle.pfs_cli.specs.Joined.{split_joined};
+ghost use Rattle.pfs_cli.specs.Places.{ends_split, place_after, split_mark, kept_limit};
+
+use crate::faults::ReplayFault;
+use crate::machine::Machine;
+use crate::records::tell_records;
+use crate::replays::{feed_fault, finish};
+use crate::rules::{RULES_LIMIT, load_rules};
+use pfs_streams::{Feed, Sink};
+use std::alloc::Global;
+use std::io::{BufReader, Read, Write};
+
+/// The most bytes that are kept of the rules: enough to show that they are too long when the
+/// split line's two bytes are taken off.
+const KEPT_LIMIT: usize = RULES_LIMIT + 3;
+
+/// Where in a line a reader stands.
+#[derive(Clone, Copy, Debug, PartialEq, Eq)]
+enum Place {
+    /// At its start.
+    Start,
+    /// Behind one `%`, which is all so far.
+    Percent,
+    /// Behind `%%`, which is all so far.
+    Percents,
+    /// In a line that is not the split line.
+    Inside,
+}
+
+impl Place {
+    // Whether this byte ends the split line.
+    fn splits(self, byte: u8) -> bool
+        ensures { result ≡ ends_split self byte }
+    {
+        matches!((self, byte), (Place::Percents, b'\n'))
+    }
+
+    // The place after one byte more, which does not end the split line.
+    fn after(self, byte: u8) -> Place
+        ensures { result ≡ place_after self byte }
+    {
+        match (self, byte) {
+            (_, b'\n') => Place::Start,
+            (Place::Start, b'%') => Place::Percent,
+            (Place::Percent, b'%') => Place::Percents,
+            _ => Place::Inside,
+        }
+    }
+}
+
+/// Why the rules of a joined text were not read.
+#[derive(Clone, Copy, Debug, PartialEq, Eq)]
+enum JoinStop {
+    /// The reader gave no more.
+    Source,
+    /// Memory was refused.
+    Memory,
+}
+
+// Keeps a byte where there is room for it.
+fn keep(kept: &mut Vec<u8>, byte: u8) -> Result<(), JoinStop>
+    ensures room { OnOk result (length kept.old.items < kept_limit → kept.new.items ≡ kept.old.items ++ byte ∷ []) }
+    ensures full { OnOk result (kept_limit ≤ length kept.old.items → kept.new.items ≡ kept.old.items) }
+{
+    if kept.len() < KEPT_LIMIT && kept.push(byte).is_err() {
+        return Err(JoinStop::Memory);
+    }
+    Ok(())
+}
+
+// The bytes without those of a split line that ends here.
+fn without_mark(kept: Vec<u8>, place: Place) -> Vec<u8>
+    requires { length (split_mark place) ≤ length kept.items }
+    ensures { result.items ≡ take (length kept.items - length (split_mark place)) kept.items }
+{
+    let mut kept = kept;
+    if let Place::Percents = place {
+        kept.truncate(kept.len() - 2);
+    }
+    kept
+}
+
+// Reads the rules of a joined text, and leaves `input` at the trace. Of rules that are too long a
+// front is kept, and the rest is read on, so that memory is bounded.
+fn read_joined<B: Read>(alloc: Global, input: &mut B) -> Result<Vec<u8>, JoinStop>
+    ensures rules { IfOk result (λ v. (xs : List ℕ) → B.remaining input.old ≡ Some xs → IsKept v.items (split_joined xs).0) }
+    ensures trace { IfOk result (λ v. (xs : List ℕ) → B.remaining input.old ≡ Some xs → length v.items ≤ rules_limit → B.remaining input.new ≡ Some (split_joined xs).1) }
+{
+    let mut kept = Vec::new(alloc);
+    let mut place = Place::Start;
+    let mut byte = [0];
+    'bytes: for _ in 0..u64::MAX {
+        match input.read(&mut byte) {
+            Ok(0) => return Ok(without_mark(kept, place)),
+            Ok(_) => {}
+            Err(_) => return Err(JoinStop::Source),
+        }
+        if place.splits(byte[0]) {
+            return Ok(without_mark(kept, place));
+        }
+        if let Err(stop) = keep(&mut kept, byte[0]) {
+            return Err(stop);
+        }
+        place = place.after(byte[0]);
+    }
+    Ok(without_mark(kept, place))
+}
+
+/// Replays the trace that follows the rules in one text, and writes its report.
+///
+/// The rules are the bytes before the first line that is exactly `%%`, and the trace is what follows
+/// that line; without such a line the rules are all, and the trace is empty. `%%` as the last bytes
+/// is such a line. Rules that are too long are read on to the split line or the end before that is
+/// told, in bounded memory.
+///
+/// What is written, each fault, and the memory are as `replay` says of the two parts.
+pub fn replay_joined<R: Read, W: Write>(
+    alloc: Global,
+    input: &mut Feed<R>,
+    out: &mut Sink<W>,
+) -> Result<(), ReplayFault>
+    ensures reports { (xs : List ℕ) → unread R.remaining input.old ≡ Some xs →
+        ((t : List ℕ) × Appends (held W.contents out.old) (held W.contents out.new) t × Replays (split_joined xs).0 (split_joined xs).1 t result) }
+    ensures read { result ≡ Err ReplayFault.Read → 0 < read_failures input.new }
+    ensures endless { result ≡ Err ReplayFault.Endless → IsSpent input.new }
+    ensures write { result ≡ Err ReplayFault.Write → 0 < failures_of out.new }
+{
+    let Ok(mut reader) = BufReader::new(alloc, &mut *input) else {
+        return Err(ReplayFault::Memory);
+    };
+    let text = match read_joined(alloc, &mut reader) {
+        Ok(text) => text,
+        Err(JoinStop::Memory) => return Err(ReplayFault::Memory),
+        Err(JoinStop::Source) => {
+            drop(reader);
+            return Err(feed_fault(input));
+        }
+    };
+    let ruleset = load_rules(alloc, text)?;
+    let mut machine = Machine::new(alloc, ruleset);
+    let outcome = tell_records(alloc, reader, &mut machine, out);
+    finish(outcome, input, out)
+}

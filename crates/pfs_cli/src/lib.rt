@@ -1,0 +1,27 @@
+//! A replay of a packet trace under rules, and the report that it writes: what the machine does with
+//! each record, and what is held at the end.
+#![tactic(auto)]
+
+mod checks;
+mod events;
+mod faults;
+mod joined;
+mod lines;
+mod machine;
+mod outcomes;
+mod performing;
+mod records;
+mod replays;
+mod rules;
+mod rulesets;
+mod subset;
+#[cfg(test)]
+mod tests;
+
+pub use checks::{check, print};
+pub use faults::{ReplayFault, status};
+pub use joined::replay_joined;
+pub use performing::perform;
+pub use pfs_conf::{Kind, LoadFault};
+pub use pfs_jobs::{Job, job};
+pub use replays::replay;

@@ -1,0 +1,42 @@
+//! One job of the command line.
+
+ghost use Rattle.std.specs.Prelude.{◌≡◌, ◌⊎◌, Some, Err, ◌<◌, ℕ, List};
+ghost use Rattle.std.specs.Io.KnownBytes.{Appends};
+ghost use Rattle.pfs_streams.specs.Feeds.{unread, IsFresh, IsSpent, failures_of as read_failures};
+ghost use Rattle.pfs_streams.specs.Sinks.{held, failures_of};
+ghost use Rattle.pfs_cli.specs.Performing.{Performs, ReadsRulesAlone};
+
+use crate::checks::{check, print};
+use crate::faults::ReplayFault;
+use crate::joined::replay_joined;
+use crate::replays::replay;
+use pfs_jobs::Job;
+use pfs_streams::{Feed, Sink};
+use std::alloc::Global;
+use std::io::{Read, Write};
+
+/// Does a job over the feeds that it needs: `replay_joined` of the rules' feed for `Joined`, and `check`, `print` or
+/// `replay` for the others. A feed that the job does not need is not read. What is written and answered is what that call
+/// writes and answers.
+pub fn perform<R: Read, T: Read, W: Write>(
+    alloc: Global,
+    job: &Job,
+    rules: &mut Feed<R>,
+    trace: &mut Feed<T>,
+    out: &mut Sink<W>,
+) -> Result<(), ReplayFault>
+    requires { IsFresh rules.old }
+    ensures performs { (rs : List ℕ) (ts : List ℕ) → unread R.remaining rules.old ≡ Some rs → unread T.remaining trace.old ≡ Some ts →
+        ((t : List ℕ) × Appends (held W.contents out.old) (held W.contents out.new) t × Performs job.now rs ts t result) }
+    ensures untouched { ReadsRulesAlone job.now (trace.new ≡ trace.old) }
+    ensures read { result ≡ Err ReplayFault.Read → (0 < read_failures rules.new) ⊎ (0 < read_failures trace.new) }
+    ensures endless { result ≡ Err ReplayFault.Endless → IsSpent rules.new ⊎ IsSpent trace.new }
+    ensures write { result ≡ Err ReplayFault.Write → 0 < failures_of out.new }
+{
+    match job {
+        Job::Joined => replay_joined(alloc, rules, out),
+        Job::Check(_) => check(alloc, rules, out),
+        Job::Show(_) => print(alloc, rules, out),
+        Job::Replay(_, _) => replay(alloc, rules, trace, out),
+    }
+}

@@ -1,0 +1,147 @@
+//! A replay of a trace under rules, each from a reader of its own.
+
+ghost use Rattle.std.specs.Prelude.{◌≡◌, ◌⊎◌, Some, Ok, Err, ◌<◌, ◌≤◌, ◌+◌, ℕ, List, true, IfOk, IfErr, length, drop};
+ghost use Rattle.std.specs.Io.KnownBytes.{Appends, Keeps};
+ghost use Rattle.pfs_streams.specs.Feeds.{unread, has_ended, IsFresh, IsSpent, failures_of as read_failures};
+ghost use Rattle.pfs_streams.specs.Sinks.{held, failures_of};
+ghost use Rattle.pfs_cli.specs.declared.rulesets.Ruleset.{Ruleset};
+ghost use Rattle.pfs_cli.specs.Reports.{Tells};
+ghost use Rattle.pfs_cli.specs.Rules.{RulesOf, IsKept, rules_limit};
+ghost use Rattle.pfs_cli.specs.Replays.{Replays, IsFeedFault, trace_of};
+
+use crate::faults::ReplayFault;
+use crate::machine::Machine;
+use crate::records::{Stop, tell_records};
+use crate::rules::{RULES_LIMIT, load_rules};
+use pfs_streams::{Feed, Sink};
+use std::alloc::Global;
+use std::io::{Read, Write};
+
+// Why a call over this feed failed, where no fault of its own is at hand.
+pub(crate) fn feed_fault<R>(feed: &Feed<R>) -> ReplayFault
+    ensures kinds { IsFeedFault result }
+    ensures read { result ≡ ReplayFault.Read → 0 < read_failures feed.now }
+    ensures endless { result ≡ ReplayFault.Endless → IsSpent feed.now }
+{
+    if feed.failures() > 0 {
+        ReplayFault::Read
+    } else if feed.spent() {
+        ReplayFault::Endless
+    } else {
+        ReplayFault::Memory
+    }
+}
+
+// The fault of a run over this feed that stopped.
+pub(crate) fn fault_at<R>(stop: Stop, feed: &Feed<R>) -> ReplayFault
+    ensures told { (c : Ruleset) (rs : List ℕ) (ts : List ℕ) (t : List ℕ) → RulesOf rs c → Tells c (trace_of ts) t (Err stop) → Replays rs ts t (Err result) }
+    ensures read { result ≡ ReplayFault.Read → 0 < read_failures feed.now }
+    ensures endless { result ≡ ReplayFault.Endless → IsSpent feed.now }
+    ensures write { result ≡ ReplayFault.Write → stop ≡ Stop.Write }
+{
+    match stop {
+        Stop::Fault(fault) => fault.of_replay(),
+        Stop::Source => feed_fault(feed),
+        Stop::Memory => ReplayFault::Memory,
+        Stop::Write => ReplayFault::Write,
+    }
+}
+
+// The bytes of a rules text, of which no more is read than shows that it is too long.
+pub(crate) fn read_text<R: Read>(alloc: Global, rules: &mut Feed<R>) -> Result<Vec<u8>, ReplayFault>
+    requires { read_failures rules.old ≡ 0 }
+    ensures text { IfOk result (λ v. (rs : List ℕ) → unread R.remaining rules.old ≡ Some rs → IsKept v.items rs) }
+    ensures ended { IfOk result (λ v. length v.items ≤ rules_limit → has_ended rules.new ≡ true) }
+    ensures sound { IfOk result (λ v. read_failures rules.new ≡ 0) }
+    ensures few { (rs : List ℕ) → unread R.remaining rules.old ≡ Some rs → (k : ℕ) × (k ≤ rules_limit + 1) × (unread R.remaining rules.new ≡ Some (drop k rs)) }
+    ensures kinds { IfErr result (λ f. IsFeedFault f) }
+    ensures read { result ≡ Err ReplayFault.Read → 0 < read_failures rules.new }
+    ensures endless { result ≡ Err ReplayFault.Endless → IsSpent rules.new }
+{
+    let mut text = Vec::new(alloc);
+    let mut chunk = [0; 4096];
+    'chunks: while text.len() <= RULES_LIMIT {
+        let room = chunk.len().min(RULES_LIMIT + 1 - text.len());
+        match rules.read(&mut chunk[..room]) {
+            Ok(0) => return Ok(text),
+            Ok(n) => {
+                if text.extend_from_slice(&chunk[..n]).is_err() {
+                    return Err(ReplayFault::Memory);
+                }
+            }
+            Err(_) => return Err(feed_fault(rules)),
+        }
+    }
+    Ok(text)
+}
+
+// Flushes a report that is written whole, or tells why it is not.
+pub(crate) fn finish<R, W: Write>(
+    outcome: Result<(), Stop>,
+    feed: &Feed<R>,
+    out: &mut Sink<W>,
+) -> Result<(), ReplayFault>
+    requires { outcome ≡ Err (Stop.Write) → 0 < failures_of out.old }
+    ensures kept { Keeps (held W.contents out.old) (held W.contents out.new) }
+    ensures told { (c : Ruleset) (rs : List ℕ) (ts : List ℕ) (t : List ℕ) → RulesOf rs c → Tells c (trace_of ts) t outcome → Replays rs ts t result }
+    ensures read { result ≡ Err ReplayFault.Read → 0 < read_failures feed.now }
+    ensures endless { result ≡ Err ReplayFault.Endless → IsSpent feed.now }
+    ensures write { result ≡ Err ReplayFault.Write → 0 < failures_of out.new }
+{
+    match outcome {
+        Ok(()) => {
+            if out.flush().is_err() {
+                return Err(ReplayFault::Write);
+            }
+            Ok(())
+        }
+        Err(stop) => Err(fault_at(stop, feed)),
+    }
+}
+
+/// Replays the trace under the rules, and writes its report: a line for each record, and a last line
+/// with what is held. Each line is written before the next record is read, and the whole is flushed
+/// once, at its end. `rules` and `out` are as `new` gives them.
+///
+/// The rules are told before anything of the trace. Nothing is written before they are read to
+/// their end, and of rules that are too long no more than 1,048,577 bytes are read.
+///
+/// At a fault there is no flush. What is written then:
+///
+/// - `Rules`: nothing.
+/// - `Columns`, `Field`, `TimeFell`, `TooManyRows`, asked of each record in this order but for the
+///   last, which is asked first: the lines of the records before, which is the report of such a
+///   trace.
+/// - `Read`, `Endless`, `Memory`: in the rules nothing, in the trace the lines of the first records.
+/// - `Write`: a front of the report.
+///
+/// `Read` is told only where a reader failed, `Endless` only where a feed is spent, and `Write` only
+/// where the writer failed. Memory is taken for the rules, for the states that are held, and for one
+/// record and one line, however long the trace is.
+pub fn replay<R: Read, T: Read, W: Write>(
+    alloc: Global,
+    rules: &mut Feed<R>,
+    trace: &mut Feed<T>,
+    out: &mut Sink<W>,
+) -> Result<(), ReplayFault>
+    requires { IsFresh rules.old }
+
+    // The report of the bytes that the two readers hold, as far as the result says.
+    ensures reports { (rs : List ℕ) (ts : List ℕ) → unread R.remaining rules.old ≡ Some rs → unread T.remaining trace.old ≡ Some ts →
+        ((t : List ℕ) × Appends (held W.contents out.old) (held W.contents out.new) t × Replays rs ts t result) }
+
+    // The rules come first, and no more of them than is needed.
+    ensures rules_first { (out.new ≡ out.old) ⊎ ((has_ended rules.new ≡ true) × (read_failures rules.new ≡ 0)) }
+    ensures few { (rs : List ℕ) → unread R.remaining rules.old ≡ Some rs → (k : ℕ) × (k ≤ rules_limit + 1) × (unread R.remaining rules.new ≡ Some (drop k rs)) }
+
+    // No fault is told of a reader or a writer that did not have it.
+    ensures read { result ≡ Err ReplayFault.Read → (0 < read_failures rules.new) ⊎ (0 < read_failures trace.new) }
+    ensures endless { result ≡ Err ReplayFault.Endless → IsSpent rules.new ⊎ IsSpent trace.new }
+    ensures write { result ≡ Err ReplayFault.Write → 0 < failures_of out.new }
+{
+    let text = read_text(alloc, rules)?;
+    let ruleset = load_rules(alloc, text)?;
+    let mut machine = Machine::new(alloc, ruleset);
+    let outcome = tell_records(alloc, &mut *trace, &mut machine, out);
+    finish(outcome, trace, out)
+}

@@ -1,0 +1,122 @@
+-- Texts, and what is answered of them.
+use Rattle.std.proofs.Common.{◌≡◌, ◌≤◌, ◌<◌, ℕ, Bool, true, false, List, [], ◌∷◌, ◌++◌, length, Option, Some, None, Result, Ok, Err, refl, sym, ap, subst, ◌∙◌, arith, inl, inr, ◌⊎◌}
+use Rattle.std.specs.Prelude.{IfOk, IfErr, MatchResult}
+use Rattle.pfs_tokens.specs.Tokens.{Tok, head, rest}
+use Rattle.pfs_tokens.specs.Keys.{ends_text}
+use Rattle.pfs_tokens.specs.Lexis.{tokens_of}
+use Rattle.pfs_tokens.specs.Reading.{Refused, stop, broken, up_to_all}
+use Rattle.pfs_tokens.specs.Giving.{refused, GivesOrMemory}
+use Rattle.pfs_tokens.specs.declared.refusals.LoadRule.{LoadRule}
+use Rattle.pfs_tokens.specs.declared.refusals.Why.{Why}
+use Rattle.pfs_tokens.specs.declared.refusals.Refusal.TheVariants as refusal
+use Rattle.pfs_tokens.specs.declared.refusals.ReadError.{ReadError}
+use Rattle.pfs_tokens.specs.declared.refusals.ReadError.TheVariants as error
+use Rattle.pfs_tokens.proofs.Laws.{across, ok_parts, up_to_fails, up_to_goes_on, stops_at, no_text}
+use Rattle.pfs_tokens.proofs.ReaderLaws.{word_head}
+use Rattle.pfs_tokens.proofs.ShownLaws.{tokens_have_end}
+use Rattle.pfs_rules.specs.Configs.{Conf}
+use Rattle.pfs_conf.specs.declared.faults.LoadFault.{LoadFault}
+use Rattle.pfs_conf.specs.declared.progress.Progress.{Progress}
+use Rattle.pfs_conf.specs.Kinds.{no_memory, fault, fault_of, kind_of, kind_of_rule}
+use Rattle.pfs_conf.specs.Grammar.{TextOf, Statements, none, before, Breaks, at_rule, at_anchor, at_end}
+use Rattle.pfs_conf.specs.Giving.{Comes}
+use Rattle.pfs_conf.specs.Statements.{nothing}
+use Rattle.pfs_conf.specs.Reading.{statement_at, statements_at, text_at}
+use Rattle.pfs_conf.specs.Reads.{Reads, most_bytes, StopsAt, IsFault, IsTold}
+use Rattle.pfs_conf.specs.Reads as faults
+use Rattle.pfs_conf.specs.Loads.{IsFaultRead, long, memory, breaks, stops, IsConfRead, IsLoad}
+use Rattle.pfs_conf.proofs.OnlineLaws.{online_text, statement_shrinks}
+use Rattle.pfs_conf.proofs.PhraseLaws.{text_is}
+use Rattle.pfs_conf.proofs.ReadLaws.{verb_key, rule_told, rule_statement, anchor_told, anchor_statement, statement_reads, statement_begins, statements_read, text_told, text_reads}
+
+-- where a statement is refused, so are the statements
+pub statements_fail : (e : ReadError) (p q : Progress) (left ts : List Tok) (total : Result (Progress × List Tok) Refused)
+    → ends_text (head ts).key ≡ false → Comes (Err e) left q (statement_at p ts) → up_to_all ends_text statement_at p ts ≡ total → GivesOrMemory {X = Progress} (Err e) left total
+statements_fail error.Memory p q left ts total n h e = tt
+statements_fail (error.Refused r) p q left ts total n h e = sym e ∙ up_to_fails ends_text statement_at p ts (refused r left) n h
+
+-- a text reads as one configuration alone
+pub one_text : {ts : List Tok} (a b : Conf) → TextOf ts a → TextOf ts b → a ≡ b
+one_text a b s t = (ok_parts a b s.left t.left (sym (text_reads s) ∙ text_reads t)).0
+
+pub found : (text : List ℕ) (r : Result Conf LoadFault) → IsLoad r text → IfOk r (λ c. Reads text c)
+found text (Ok c) h = record { short = h.short; whole = text_is (tokens_of text) c h.left h.reads }
+found text (Err e) h = tt
+
+never_read : (text : List ℕ) (c : Conf) (e : LoadFault) → Reads text c → IsFaultRead text e → e ≡ no_memory
+never_read text c e r (long l k) = let s = r.short in absurd (omega arith)
+never_read text c e r (memory s k) = k
+never_read text c e r (breaks s h k) = let b = sym h ∙ text_reads r.whole in absurd cc
+never_read text c e r (stops s h k) = let b = sym h ∙ text_reads r.whole in absurd cc
+
+pub only : (text : List ℕ) (r : Result Conf LoadFault) (c : Conf) → IsLoad r text → Reads text c → MatchResult r (λ d. d ≡ c) (λ e. e ≡ no_memory)
+only text (Ok d) c h r = (ok_parts d c h.left r.whole.left (sym h.reads ∙ text_reads r.whole)).0
+only text (Err e) c h r = never_read text c e r h
+
+pub not_some : {A : Type 0} (o : Option A) → ((x : A) → o ≡ Some x → ⊥) → o ≡ None
+not_some None h = refl
+not_some (Some x) h = absurd (h x refl)
+
+pub fault_read : (text : List ℕ) (ts left : List Tok) (e : ReadError) → length text ≤ most_bytes → ts ≡ tokens_of text → GivesOrMemory {X = Conf} (Err e) left (text_at ts) → IsFaultRead text (fault_of e left)
+fault_read text ts left error.Memory s t h = memory s refl
+fault_read text ts left (error.Refused (refusal.Stop w)) s t h = stops s (ap text_at (sym t) ∙ h) refl
+fault_read text ts left (error.Refused (refusal.Broken rule line)) s t h = breaks s (ap text_at (sym t) ∙ h) refl
+
+-- ---- the first load rule that is broken
+
+goes_to : {p q : Progress} {ts mid : List Tok} → Statements p ts q mid → up_to_all ends_text statement_at p ts ≡ up_to_all ends_text statement_at q mid
+goes_to none = refl
+goes_to {p = p} {ts = ts} (before {q = q} {mid = mid} s u) = up_to_goes_on ends_text statement_at p q ts mid statement_shrinks (statement_begins s).0 (statement_reads s) ∙ goes_to u
+
+breaks_at : (ts : List Tok) (p : Progress) (mid : List Tok) (b : LoadRule) (n : ℕ) → Statements nothing ts p mid → ends_text (head mid).key ≡ false → statement_at p mid ≡ Err (broken b n) → text_at ts ≡ Err (broken b n)
+unfolding text_at statements_at
+breaks_at ts p mid b n s k e = let f = goes_to s ∙ up_to_fails ends_text statement_at p mid (broken b n) k e in rw f refl
+
+pub breaks_told : {ts : List Tok} {b : LoadRule} {n : ℕ} → Breaks ts b n → text_at ts ≡ Err (broken b n)
+breaks_told {ts = ts} {b = b} (at_rule {p = p} {mid = mid} r s q e) =
+    breaks_at ts p mid b (head mid).line s (verb_key q.verb (λ k. ends_text k ≡ false) refl refl) (rule_statement p q.verb (Err (broken b (head mid).line)) (rule_told (head mid).line p r b q e))
+breaks_told {ts = ts} {b = b} (at_anchor {p = p} {mid = mid} a s q e) =
+    breaks_at ts p mid b (head mid).line s (rw (word_head q.word).0 refl) (anchor_statement p q.word (Err (broken b (head mid).line)) (anchor_told (head mid).line p b q e))
+breaks_told {ts = ts} {b = b} {n = n} (at_end {p = p} {left = left} u z e) = text_told ts p left b n (statements_read u) z e
+
+told_fault : (text : List ℕ) (e : LoadFault) (b : LoadRule) (n : ℕ) → length text ≤ most_bytes → text_at (tokens_of text) ≡ Err (broken b n) → IsFaultRead text e → (e ≡ fault n (kind_of_rule b)) ⊎ (e ≡ no_memory)
+told_fault text e b n s h (long l k) = absurd (omega arith)
+told_fault text e b n s h (memory l k) = inr k
+told_fault text e b n s h (breaks {rule = rule} {line = line} l g k) =
+    let same = sym g ∙ h in
+    let r : rule ≡ b = cc in
+    let m : line ≡ n = cc in
+    inl (k ∙ (ap (λ (z : ℕ). fault z (kind_of_rule rule)) m ∙ ap (λ (z : LoadRule). fault n (kind_of_rule z)) r))
+told_fault text e b n s h (stops l g k) = let same = sym g ∙ h in absurd cc
+
+pub told_broken : (text : List ℕ) (r : Result Conf LoadFault) (b : LoadRule) (n : ℕ) → IsLoad r text → length text ≤ most_bytes → Breaks (tokens_of text) b n → IsTold r (fault n (kind_of_rule b))
+told_broken text (Ok c) b n h s k = let same = sym h.reads ∙ breaks_told k in absurd cc
+told_broken text (Err e) b n h s k = told_fault text e b n s (breaks_told k) h
+
+-- ---- where reading stops
+
+hopeless_at : (text : List ℕ) (left : List Tok) (w : Why) → text_at (tokens_of text) ≡ Err (stop left w) → (t : Tok) × (m : List Tok) × (left ≡ t ∷ m) × StopsAt text t m
+hopeless_at text left w e =
+    let s = stops_at across text_at online_text (tokens_of text) left w e (tokens_have_end text) in
+    let here : text_at (s.0 ++ s.1 ∷ s.2) ≡ Err (stop (s.1 ∷ s.2) w) = ap text_at (sym s.4) ∙ e ∙ ap (λ (z : List Tok). Err (stop z w)) s.3 in (
+      s.1,
+      s.2,
+      s.3,
+      record {
+        before = s.0;
+        splits = s.4;
+        hopeless = λ other others conf p r. no_text across text_at online_text s.0 s.1 s.2 others w conf r.whole.left here (ap text_at (sym p) ∙ text_reads r.whole);
+      },
+    )
+
+told_as : (text : List ℕ) (e : LoadFault) → IsFaultRead text e → IsFault text e
+told_as text e (long l k) = faults.long l k
+told_as text e (memory l k) = faults.memory k
+told_as text e (breaks l g k) = faults.breaks l g k
+told_as text e (stops {w = w} {left = left} l g k) =
+    let s = hopeless_at text left w g in
+    faults.stops w s.0 s.1 l s.3 (k ∙ ap (λ (z : List Tok). fault (head z).line (kind_of w z)) s.2)
+
+pub is_fault : (text : List ℕ) (r : Result Conf LoadFault) → IsLoad r text → IfErr r (λ e. IsFault text e)
+is_fault text (Ok c) h = tt
+is_fault text (Err e) h = told_as text e h

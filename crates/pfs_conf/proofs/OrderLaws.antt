@@ -1,0 +1,8 @@
+-- Where the next item may stand.
+use Rattle.std.proofs.Common.{◌≡◌, ◌≤◌, ◌<◌, ℕ, arith}
+use Rattle.pfs_conf.specs.declared.progress.Progress.{Progress}
+use Rattle.pfs_conf.specs.Giving.{IsInOrder}
+
+-- outside of all anchors it may always stand
+pub outside_in_order : (p : Progress) → p.depth ≡ 0 → IsInOrder p
+outside_in_order p e = record { order = omega (arith, e); shallow = omega (arith, e) }

@@ -1,0 +1,14 @@
+use Rattle.std.proofs.Common.{◌≡◌, length}
+use Rattle.pfs_tokens.specs.Keys.{ends_text}
+use Rattle.pfs_tokens.specs.Reading.{up_to_all}
+use Rattle.pfs_conf.specs.Statements.{nothing}
+use Rattle.pfs_conf.specs.Reading.{statement_at}
+use Rattle.pfs_conf.specs.Giving.{IsInOrder}
+use Rattle.pfs_conf.specs.Within.{AreLexed}
+use Rattle.pfs_conf.proofs.statements.statements.Given as goal
+
+abbrev pub invariant-loop-alloc : goal.invariant-loop-alloc
+invariant-loop-alloc l = (up_to_all ends_text statement_at l.progress l.cursor ≡ up_to_all ends_text statement_at nothing l.fn.cursor) × IsInOrder l.progress × AreLexed l.cursor
+
+abbrev pub decreases-loop-alloc : goal.decreases-loop-alloc
+decreases-loop-alloc l = length l.cursor

@@ -1,0 +1,183 @@
+-- Reading statements from left to right: one definition for each reader of the code, made of the parts of pfs_tokens, so that
+-- each looks no further than the token in front of what it leaves. (own)
+use Rattle.std.specs.Prelude.{ℕ, ◌==◌, ◌||◌, Bool, true, false, if◌then◌else◌, Option, Some, None, is_some, List, [], ◌∷◌, Result, Ok, Err}
+use Rattle.pfs_tokens.specs.Tokens.{Tok, head}
+use Rattle.pfs_tokens.specs.Keys.{is_word_key, ends_line, ends_text}
+use Rattle.pfs_tokens.specs.Reading.{Refused, stop, broken, Reader, Act, take, stay, refuse, on_front, done, chain, perhaps, once, until_all, up_to_all, ended}
+use Rattle.pfs_tokens.specs.declared.keys.Key.{Key}
+use Rattle.pfs_tokens.specs.declared.keys.Key.TheVariants as key
+use Rattle.pfs_tokens.specs.declared.refusals.LoadRule.{LoadRule}
+use Rattle.pfs_tokens.specs.declared.refusals.Why.{Why}
+use Rattle.pfs_tokens.specs.declared.refusals.Why.TheVariants as why
+use Rattle.pfs_addr.specs.Names.{name_of}
+use Rattle.pfs_rules.specs.Configs.{Conf}
+use Rattle.pfs_rules.specs.Drafts.{Drafted, finished, is_defined}
+use Rattle.pfs_rules.specs.Siblings.{has_sibling}
+use Rattle.pfs_rules.specs.declared.filters.FlagTest.{FlagTest}
+use Rattle.pfs_filters.specs.Reading.{verb_at, parameters_at, flags_at, begins_flags}
+use Rattle.pfs_filters.specs.Sides.{repeats, repeats_policy}
+use Rattle.pfs_filters.specs.declared.phrases.Parameters.{Parameters}
+use Rattle.pfs_filters.specs.declared.phrases.Statement.TheVariants as statement
+use Rattle.pfs_filters.specs.declared.phrases.Verb.{Verb}
+use Rattle.pfs_options.specs.Reading.{state_at}
+use Rattle.pfs_settings.specs.Settings.{settings_at}
+use Rattle.pfs_settings.specs.Tables.{parts_at}
+use Rattle.pfs_conf.specs.declared.phrases.Clauses.{Clauses}
+use Rattle.pfs_conf.specs.declared.phrases.RuleText.{RuleText}
+use Rattle.pfs_conf.specs.declared.phrases.AnchorText.{AnchorText}
+use Rattle.pfs_conf.specs.declared.progress.Progress.{Progress}
+use Rattle.pfs_conf.specs.Grammar.{names_anchor}
+use Rattle.pfs_conf.specs.Statements.{nothing, with_draft, closed, no_clauses, with_rule, with_anchor, with_definition, rule_breaks, anchor_breaks, text_breaks}
+
+-- a broken load rule is told at a line
+abbrev pub told : Option LoadRule → ℕ → Reader (Unit {0})
+told None line ts = Ok (tt, ts)
+told (Some rule) line ts = Err (broken rule line)
+
+-- a word that no statement goes on with: one that begins what is there already is told so
+abbrev pub repeated : Bool → Why
+repeated true = why.Again
+repeated false = why.Plain
+
+-- ---- rules
+
+-- `flags` and a state clause, in any order, each at most once
+abbrev pub clause_by : Verb → Parameters → Clauses → Key → Act Clauses
+clause_by v p c key.Flags = once c.flags (stay (chain flags_at (λ f. done (record c { flags = Some f }))))
+clause_by v p c key.No = once c.state (stay (chain state_at (λ s. done (record c { state = Some s }))))
+clause_by v p c key.Keep = once c.state (stay (chain state_at (λ s. done (record c { state = Some s }))))
+clause_by v p c k = refuse (repeated (repeats_policy v k || repeats p k))
+
+unfoldable pub clause_at : Verb → Parameters → Clauses → Reader Clauses
+clause_at v p c ts = on_front (λ t. clause_by v p c t.key) ts
+
+unfoldable pub rule_text_at : Reader RuleText
+rule_text_at ts = chain verb_at (λ v. chain (parameters_at statement.Rule) (λ p. chain (until_all ends_line (clause_at v p) no_clauses) (λ c.
+    done (record { verb = v; parameters = p; clauses = c })))) ts
+
+-- a rule that begins on a line; its load rules are asked when its line end has been read
+unfoldable pub rule_at : ℕ → Progress → Reader Progress
+rule_at line p ts = chain rule_text_at (λ r. chain (told (rule_breaks p.draft r) line) (λ u. done (with_rule line r p))) ts
+
+-- ---- anchors
+
+-- a name that no anchor of the same body has yet
+abbrev pub new_anchor : Progress → List ℕ → Act (Option (List ℕ))
+new_anchor p name = if has_sibling p.depth name p.draft.items then refuse why.Again else take (done (Some name))
+
+abbrev pub anchor_named : Progress → Option (List ℕ) → Act (Option (List ℕ))
+anchor_named p None = refuse why.AnchorName
+anchor_named p (Some name) = new_anchor p name
+
+abbrev pub anchor_name_by : Progress → Tok → Act (Option (List ℕ))
+anchor_name_by p t = if names_anchor t.key then anchor_named p (name_of 63 t.text) else stay (done None)
+
+unfoldable pub anchor_name_at : Progress → Reader (Option (List ℕ))
+anchor_name_at p ts = on_front (λ t. anchor_name_by p t) ts
+
+-- whether a word begins what the head of an anchor has already
+abbrev pub repeats_head : Parameters → Option FlagTest → Key → Bool
+repeats_head p f key.Flags = is_some f
+repeats_head p f k = repeats p k
+
+abbrev pub head_repeated : Bool → Why
+head_repeated true = why.Again
+head_repeated false = why.AnchorHead
+
+abbrev pub brace_by : Parameters → Option FlagTest → Key → Act (Unit {0})
+brace_by p f key.OpenBrace = take (done tt)
+brace_by p f k = refuse (head_repeated (repeats_head p f k))
+
+unfoldable pub brace_at : Parameters → Option FlagTest → Reader (Unit {0})
+brace_at p f ts = on_front (λ t. brace_by p f t.key) ts
+
+-- what stands behind the word `anchor`, up to the brace
+unfoldable pub anchor_parts_at : Progress → Reader AnchorText
+anchor_parts_at p ts = chain (anchor_name_at p) (λ n. chain (parameters_at statement.Anchor) (λ q. chain (perhaps begins_flags flags_at) (λ f. chain (brace_at q f) (λ u.
+    done (record { name = n; parameters = q; flags = f }))))) ts
+
+-- wherever the line ends before the brace, the brace was wanted
+abbrev pub why_in_head : Why → Key → Why
+why_in_head w key.LineEnd = why.AnchorHead
+why_in_head w _ = w
+
+abbrev pub in_head : {A : Type 0} → Result (A × List Tok) Refused → Result (A × List Tok) Refused
+in_head (Ok x) = Ok x
+in_head (Err (stop ts w)) = Err (stop ts (why_in_head w (head ts).key))
+in_head (Err (broken rule line)) = Err (broken rule line)
+
+unfoldable pub anchor_text_at : Progress → Reader AnchorText
+anchor_text_at p ts = in_head (anchor_parts_at p ts)
+
+-- an anchor that begins on a line, behind that word; its load rules are asked when its brace has been read
+unfoldable pub anchor_at : ℕ → Progress → Reader Progress
+anchor_at line p ts = chain (anchor_text_at p) (λ a. chain (told (anchor_breaks p.depth p.draft a) line) (λ u. ended (with_anchor line a p))) ts
+
+-- ---- options and tables
+
+unfoldable pub set_at : Progress → Reader Progress
+set_at p ts = chain (settings_at p.draft) (λ d. ended (with_draft d p)) ts
+
+abbrev pub open_by : Key → Act (Unit {0})
+open_by key.OpenAngle = take (done tt)
+open_by _ = refuse why.Plain
+
+abbrev pub close_by : Key → Act (Unit {0})
+close_by key.CloseAngle = take (done tt)
+close_by _ = refuse why.Plain
+
+-- a name that no definition has yet
+abbrev pub new_table : Drafted → List ℕ → Act (List ℕ)
+new_table d name = if is_defined name d then refuse why.Again else take (done name)
+
+abbrev pub table_named : Drafted → Option (List ℕ) → Act (List ℕ)
+table_named d None = refuse why.Plain
+table_named d (Some name) = new_table d name
+
+abbrev pub table_name_by : Drafted → Tok → Act (List ℕ)
+table_name_by d t = if is_word_key t.key then table_named d (name_of 31 t.text) else refuse why.Plain
+
+-- a name in angle brackets
+unfoldable pub table_name_at : Drafted → Reader (List ℕ)
+table_name_at d ts = chain (on_front (λ t. open_by t.key)) (λ u. chain (on_front (λ t. table_name_by d t)) (λ n. chain (on_front (λ t. close_by t.key)) (λ v. done n))) ts
+
+unfoldable pub table_at : Progress → Reader Progress
+table_at p ts = chain (table_name_at p.draft) (λ n. chain parts_at (λ parts. ended (with_definition n parts p))) ts
+
+-- ---- statements and texts
+
+-- what stands outside of anchors alone
+abbrev pub outside : {A : Type 0} → ℕ → Act A → Act A
+outside depth a = if depth == 0 then a else refuse why.Inner
+
+-- and inside of one
+abbrev pub inside_anchor : {A : Type 0} → ℕ → Act A → Act A
+inside_anchor depth a = if depth == 0 then refuse why.Statement else a
+
+abbrev pub statement_by : Progress → ℕ → Key → Act Progress
+statement_by p line key.LineEnd = take (done p)
+statement_by p line key.Set = outside p.depth (take (set_at p))
+statement_by p line key.Table = outside p.depth (take (table_at p))
+statement_by p line key.Pass = stay (rule_at line p)
+statement_by p line key.Block = stay (rule_at line p)
+statement_by p line key.Anchor = take (anchor_at line p)
+statement_by p line key.CloseBrace = inside_anchor p.depth (take (ended (closed p)))
+statement_by p line _ = refuse why.Statement
+
+unfoldable pub statement_at : Progress → Reader Progress
+statement_at p ts = on_front (λ t. statement_by p t.line t.key) ts
+
+-- at the end of the text no anchor is open
+abbrev pub all_closed : ℕ → Reader (Unit {0})
+all_closed depth ts = on_front (λ t. if depth == 0 then stay (done tt) else refuse why.Plain) ts
+
+-- a load rule that the text breaks is told at its line
+abbrev pub told_of : Option (LoadRule × ℕ) → Reader (Unit {0})
+told_of None ts = Ok (tt, ts)
+told_of (Some r) ts = Err (broken r.0 r.1)
+
+unfoldable pub statements_at : Reader Progress
+statements_at ts = up_to_all ends_text statement_at nothing ts
+
+unfoldable pub text_at : Reader Conf
+text_at ts = chain statements_at (λ p. chain (all_closed p.depth) (λ u. chain (told_of (text_breaks p)) (λ v. done (finished p.draft)))) ts

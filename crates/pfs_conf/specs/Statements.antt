@@ -1,0 +1,233 @@
+-- What statements say, and which load rules they break. (pf.conf(5), PACKET FILTERING, ANCHORS and TABLES)
+use Rattle.std.specs.Prelude.{ℕ, ◌+◌, ◌-◌, Bool, true, false, if◌then◌else◌, nat_le, Option, Some, None, List, [], ◌∷◌, ◌++◌, length, slice_index_or}
+use Rattle.std.specs.Option.{option_map}
+use Rattle.pfs_tokens.specs.declared.refusals.LoadRule.{LoadRule}
+use Rattle.pfs_tokens.specs.declared.refusals.LoadRule.TheVariants as load_rule
+use Rattle.pfs_addr.specs.declared.flag_sets.Flags.{Flags}
+use Rattle.pfs_rules.specs.Drafts.{Drafted, empty_draft, number_of, with_name, with_table, with_item, const_overload, has_broken_pair, has_too_many_tables, has_too_many_entries}
+use Rattle.pfs_rules.specs.declared.actions.Action.{Action}
+use Rattle.pfs_rules.specs.declared.actions.Action.TheVariants as action
+use Rattle.pfs_rules.specs.declared.filters.Filter.{Filter}
+use Rattle.pfs_rules.specs.declared.filters.FlagTest.{FlagTest}
+use Rattle.pfs_rules.specs.declared.filters.FlagTest.TheVariants as flag_test
+use Rattle.pfs_rules.specs.declared.filters.Host.{Host}
+use Rattle.pfs_rules.specs.declared.filters.Host.TheVariants as host
+use Rattle.pfs_rules.specs.declared.filters.Side.{Side}
+use Rattle.pfs_rules.specs.declared.filters.TableNo.{TableNo}
+use Rattle.pfs_rules.specs.declared.items.Anchor.{Anchor}
+use Rattle.pfs_rules.specs.declared.items.Item.{Item}
+use Rattle.pfs_rules.specs.declared.items.Rule.{Rule}
+use Rattle.pfs_rules.specs.declared.items.What.TheVariants as what
+use Rattle.pfs_filters.specs.declared.phrases.Verb.{Verb}
+use Rattle.pfs_filters.specs.declared.phrases.Verb.TheVariants as verb
+use Rattle.pfs_filters.specs.declared.phrases.Hosts.{Hosts}
+use Rattle.pfs_filters.specs.declared.phrases.Parameters.{Parameters}
+use Rattle.pfs_filters.specs.Sides.{lacks_proto, source_of, destination_of}
+use Rattle.pfs_options.specs.declared.clauses.Options.{Options}
+use Rattle.pfs_options.specs.declared.clauses.OverloadText.{OverloadText}
+use Rattle.pfs_options.specs.declared.clauses.StateClause.{StateClause}
+use Rattle.pfs_options.specs.declared.clauses.StateClause.TheVariants as clause
+use Rattle.pfs_options.specs.Options.{no_options, options_of, has_overload_alone, has_global_connections, has_global_retention, has_broken_pair as rule_has_broken_pair, resolved}
+use Rattle.pfs_rules.specs.Entries.{Entry}
+use Rattle.pfs_settings.specs.declared.tables.Parts.{Parts}
+use Rattle.pfs_conf.specs.declared.phrases.Clauses.{Clauses}
+use Rattle.pfs_conf.specs.declared.phrases.RuleText.{RuleText}
+use Rattle.pfs_conf.specs.declared.phrases.AnchorText.{AnchorText}
+use Rattle.pfs_conf.specs.declared.progress.Progress.{Progress}
+
+-- ---- how far reading has come
+
+-- nothing is read
+abbrev pub nothing : Progress
+nothing = record { draft = empty_draft; depth = 0; lines = [] }
+
+-- what the statements say is this
+abbrev pub with_draft : Drafted → Progress → Progress
+with_draft d p = record { draft = d; depth = p.depth; lines = p.lines }
+
+-- an anchor is closed
+abbrev pub closed : Progress → Progress
+closed p = record { draft = p.draft; depth = p.depth - 1; lines = p.lines }
+
+-- ---- tables by their numbers: they are numbered by the first place in the text that names them
+
+-- a host's table is used
+abbrev pub name_host : Host (List ℕ) → Drafted → Drafted
+name_host host.Any d = d
+name_host (host.Prefix p b) d = d
+name_host (host.Table n b) d = with_name n d
+
+-- a host, with its table's number
+abbrev pub number_host : Host (List ℕ) → Drafted → Host TableNo
+number_host host.Any d = host.Any
+number_host (host.Prefix p b) d = host.Prefix p b
+number_host (host.Table n b) d = host.Table (record { 0 = number_of n d }) b
+
+abbrev pub number_side : Side (List ℕ) → Drafted → Side TableNo
+number_side s d = record { host = number_host s.host d; ports = s.ports }
+
+-- the table of `overload` is used
+abbrev pub name_overload : Option OverloadText → Drafted → Drafted
+name_overload None d = d
+name_overload (Some v) d = with_name v.table d
+
+abbrev pub number_overload : Option OverloadText → Drafted → Option TableNo
+number_overload None d = None
+number_overload (Some v) d = Some (record { 0 = number_of v.table d })
+
+-- what the parameters and the flags ask of a packet; the source's table is named before the destination's
+abbrev pub filter_of : Parameters → FlagTest → Drafted → Filter
+filter_of p f d = record {
+  dir = p.head.dir;
+  on = p.head.on;
+  family = p.head.family;
+  proto = p.head.proto;
+  from = number_side (source_of p.hosts) d;
+  to = number_side (destination_of p.hosts) (name_host (source_of p.hosts).host d);
+  flags = f;
+}
+
+-- the tables of both hosts are used
+abbrev pub name_hosts : Hosts → Drafted → Drafted
+name_hosts h d = name_host (destination_of h).host (name_host (source_of h).host d)
+
+-- ---- rules (pf.conf(5), PACKET FILTERING and STATEFUL FILTERING)
+
+abbrev pub no_clauses : Clauses
+no_clauses = record { flags = None; state = None }
+
+-- the options of a state clause; none without one
+abbrev pub state_options : Option StateClause → Options
+state_options None = no_options
+state_options (Some s) = options_of s
+
+-- what a rule does: a pass rule keeps state unless it says `no state`
+abbrev pub passing : Option StateClause → Option TableNo → Action
+passing None table = action.Keep (resolved no_options table)
+passing (Some clause.No) table = action.Pass
+passing (Some (clause.Keep o)) table = action.Keep (resolved o table)
+
+abbrev pub action_of : Verb → Option StateClause → Option TableNo → Action
+action_of verb.Pass s table = passing s table
+action_of (verb.Block has_policy) s table = action.Block
+
+-- S/SA: of SYN and ACK, SYN alone
+abbrev pub opening_flags : FlagTest
+opening_flags = flag_test.Exactly
+    (record { fin = false; syn = true; rst = false; psh = false; ack = false; urg = false; ece = false; cwr = false })
+    (record { fin = false; syn = true; rst = false; psh = false; ack = true; urg = false; ece = false; cwr = false })
+
+-- the flags that a rule asks for where none are given: S/SA if it keeps state, else any
+abbrev pub default_flags : Action → FlagTest
+default_flags action.Block = flag_test.Any
+default_flags action.Pass = flag_test.Any
+default_flags (action.Keep o) = opening_flags
+
+abbrev pub flags_or : FlagTest → Option FlagTest → FlagTest
+flags_or f None = f
+flags_or f (Some given) = given
+
+-- the draft in which a rule's tables are used: from, to, overload
+abbrev pub name_rule : RuleText → Drafted → Drafted
+name_rule r d = name_overload (state_options r.clauses.state).overload (name_hosts r.parameters.hosts d)
+
+-- what a rule does, with its overload table's number
+abbrev pub rule_action : RuleText → Drafted → Action
+rule_action r d = action_of r.verb r.clauses.state (number_overload (state_options r.clauses.state).overload (name_hosts r.parameters.hosts d))
+
+-- what a rule says
+abbrev pub rule_said : RuleText → Drafted → Rule
+rule_said r d = record {
+  quick = r.parameters.head.marks.quick;
+  filter = filter_of r.parameters (flags_or (default_flags (rule_action r d)) r.clauses.flags) d;
+  action = rule_action r d;
+}
+
+-- a rule that begins on a line is put behind the other items
+abbrev pub with_rule : ℕ → RuleText → Progress → Progress
+with_rule line r p = record {
+  draft = with_item (record { depth = p.depth; what = what.Rule (rule_said r p.draft) }) (name_rule r p.draft);
+  depth = p.depth;
+  lines = p.lines ++ line ∷ [];
+}
+
+-- ---- anchors (pf.conf(5), ANCHORS)
+
+-- what the head of an anchor says; without `flags` it asks for none
+abbrev pub anchor_said : AnchorText → Drafted → Anchor
+anchor_said a d = record {
+  name = a.name;
+  quick = a.parameters.head.marks.quick;
+  filter = filter_of a.parameters (flags_or flag_test.Any a.flags) d;
+}
+
+-- an anchor that begins on a line is put behind the other items, and what follows stands in it
+abbrev pub with_anchor : ℕ → AnchorText → Progress → Progress
+with_anchor line a p = record {
+  draft = with_item (record { depth = p.depth; what = what.Anchor (anchor_said a p.draft) }) (name_hosts a.parameters.hosts p.draft);
+  depth = p.depth + 1;
+  lines = p.lines ++ line ∷ [];
+}
+
+-- ---- tables (pf.conf(5), TABLES)
+
+-- a table without braces has no entries
+abbrev pub entries_or_none : Option (List Entry) → List Entry
+entries_or_none None = []
+entries_or_none (Some entries) = entries
+
+-- a table is defined; `persist` and `counters` are read without effect
+abbrev pub with_definition : List ℕ → Parts → Progress → Progress
+with_definition name parts p = with_draft (with_table (record { name = name; is_const = parts.is_const; entries = entries_or_none parts.entries }) p.draft) p
+
+-- ---- load rules (own)
+
+-- the first of some load rules that is broken
+abbrev pub first_broken : List (LoadRule × Bool) → Option LoadRule
+first_broken [] = None
+first_broken (r ∷ more) = if r.1 then Some r.0 else first_broken more
+
+-- `keep state` on a block rule
+abbrev pub keeps_on_block : Verb → Option StateClause → Bool
+keeps_on_block (verb.Block has_policy) (Some (clause.Keep o)) = true
+keeps_on_block _ _ = false
+
+-- 10,000 rules and anchors are read already
+abbrev pub is_full : Drafted → Bool
+is_full d = nat_le 10000 (length d.items)
+
+-- the load rules of a rule, in the order in which they are asked
+abbrev pub rule_breaks : Drafted → RuleText → Option LoadRule
+rule_breaks d r = first_broken (
+    (load_rule.PortWithoutProto, lacks_proto r.parameters)
+    ∷ (load_rule.StateOnBlock, keeps_on_block r.verb r.clauses.state)
+    ∷ (load_rule.OverloadAlone, has_overload_alone (state_options r.clauses.state))
+    ∷ (load_rule.GlobalConn, has_global_connections (state_options r.clauses.state))
+    ∷ (load_rule.GlobalRetention, has_global_retention (state_options r.clauses.state))
+    ∷ (load_rule.AdaptivePair, rule_has_broken_pair (state_options r.clauses.state))
+    ∷ (load_rule.TooManyRules, is_full d)
+    ∷ [])
+
+-- the load rules of an anchor's head: anchors stand in at most 16 others
+abbrev pub anchor_breaks : ℕ → Drafted → AnchorText → Option LoadRule
+anchor_breaks depth d a = first_broken (
+    (load_rule.PortWithoutProto, lacks_proto a.parameters)
+    ∷ (load_rule.TooDeep, nat_le 16 depth)
+    ∷ (load_rule.TooManyRules, is_full d)
+    ∷ [])
+
+-- a load rule of the text as a whole, which is told at line 0
+abbrev pub at_no_line : LoadRule → LoadRule × ℕ
+at_no_line r = (r, 0)
+
+-- the load rules of a text, with the line at which they are told: an `overload` into a `const` table at the first such rule
+abbrev pub text_breaks_by : Progress → Option ℕ → Option (LoadRule × ℕ)
+text_breaks_by p (Some n) = Some (load_rule.ConstOverload, slice_index_or p.lines n 0)
+text_breaks_by p None = option_map at_no_line (first_broken (
+    (load_rule.AdaptivePair, has_broken_pair p.draft)
+    ∷ (load_rule.TooManyTables, has_too_many_tables p.draft)
+    ∷ (load_rule.TooManyEntries, has_too_many_entries p.draft)
+    ∷ []))
+
+abbrev pub text_breaks : Progress → Option (LoadRule × ℕ)
+text_breaks p = text_breaks_by p (const_overload p.draft)

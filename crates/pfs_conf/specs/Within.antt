@@ -1,0 +1,41 @@
+-- What every phrase that is read keeps: names are names, ports are in order, numbers are within their bounds.
+use Rattle.std.specs.Prelude.{◌≡◌, ℕ, Bool, true, IfSome, List, [], ◌∷◌, Option}
+use Rattle.pfs_tokens.specs.Tokens.{Tok}
+use Rattle.pfs_tokens.specs.Keys.{is_word_key}
+use Rattle.pfs_tokens.specs.Words.{key_of}
+use Rattle.pfs_addr.specs.Names.{is_name}
+use Rattle.pfs_rules.specs.LoadRules.{IsInterface, IsProto, IsSide, IsFlagTest}
+use Rattle.pfs_filters.specs.declared.phrases.Parameters.{Parameters}
+use Rattle.pfs_filters.specs.Sides.{source_of, destination_of}
+use Rattle.pfs_options.specs.Options.{AreRead}
+use Rattle.pfs_conf.specs.declared.phrases.RuleText.{RuleText}
+use Rattle.pfs_conf.specs.declared.phrases.AnchorText.{AnchorText}
+use Rattle.pfs_conf.specs.Statements.{state_options}
+
+-- the key of a word is that of its text: so it is of every token of a text
+abbrev pub IsLexed : Tok → Type 0
+IsLexed t = is_word_key t.key ≡ true → t.key ≡ key_of t.text
+
+pub data AreLexed : List Tok → Type 0 where
+  none : AreLexed []
+  more : {t : Tok} {ts : List Tok} → IsLexed t → AreLexed ts → AreLexed (t ∷ ts)
+
+-- the name of a table
+abbrev pub IsTableName : List ℕ → Type 0
+IsTableName name = is_name 31 name ≡ true
+
+pub record AreParameters (p : Parameters) : Type 0 where
+  pub on : IfSome p.head.on IsInterface
+  pub proto : IfSome p.head.proto IsProto
+  pub source : IsSide IsTableName (source_of p.hosts)
+  pub destination : IsSide IsTableName (destination_of p.hosts)
+
+pub record IsRuleText (r : RuleText) : Type 0 where
+  pub parameters : AreParameters r.parameters
+  pub flags : IfSome r.clauses.flags IsFlagTest
+  pub options : AreRead (state_options r.clauses.state)
+
+pub record IsAnchorText (a : AnchorText) : Type 0 where
+  pub name : IfSome a.name (λ name. is_name 63 name ≡ true)
+  pub parameters : AreParameters a.parameters
+  pub flags : IfSome a.flags IsFlagTest

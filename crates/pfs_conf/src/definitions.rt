@@ -1,0 +1,94 @@
+//! Definitions of tables, and the statements that set options, to the end of the line.
+
+ghost use Rattle.std.specs.Prelude.{◌≡◌, IfOk, OnOk, true};
+ghost use Rattle.pfs_tokens.specs.Giving.{Gives};
+ghost use Rattle.pfs_addr.specs.Names.{is_name};
+ghost use Rattle.pfs_conf.specs.Statements.{with_definition};
+ghost use Rattle.pfs_conf.specs.Reading.{set_at, table_at, table_name_at};
+ghost use Rattle.pfs_conf.specs.Giving.{Comes, IsInOrder};
+
+use crate::progress::Progress;
+use pfs_addr::{Name, NoMemory};
+use pfs_rules::{Draft, Entries, TableDef, TableName};
+use pfs_settings::{Parts, read_parts, read_settings};
+use pfs_tokens::{Cursor, Key, ReadError, Refusal, Why};
+use std::alloc::Global;
+
+/// Reads what stands behind `set`, with the line end. (pf.conf(5), OPTIONS)
+#[tactic(auto, using(crate::proofs::OrderLaws::outside_in_order), unfolding(crate::specs::Reading::set_at))]
+pub fn set(cursor: &mut Cursor, progress: &mut Progress) -> Result<(), ReadError>
+    requires outside { progress.old.depth ≡ 0 }
+    ensures order { IsInOrder progress.new }
+    ensures value { Comes result cursor.new progress.new (set_at progress.old cursor.old) }
+{
+    read_settings(cursor, &mut progress.draft)?;
+    cursor.expect(Key::LineEnd)?;
+    Ok(())
+}
+
+/// Reads what stands behind `table`, with the line end. (pf.conf(5), TABLES)
+#[tactic(auto, using(crate::proofs::OrderLaws::outside_in_order), unfolding(crate::specs::Reading::table_at))]
+pub fn table(alloc: Global, cursor: &mut Cursor, progress: &mut Progress) -> Result<(), ReadError>
+    requires outside { progress.old.depth ≡ 0 }
+    ensures order { IsInOrder progress.new }
+    ensures value { Comes result cursor.new progress.new (table_at progress.old cursor.old) }
+{
+    let name = table_name(cursor, &progress.draft)?;
+    let parts = read_parts(alloc, cursor)?;
+    cursor.expect(Key::LineEnd)?;
+    match define(alloc, progress, name, parts) {
+        Ok(()) => Ok(()),
+        Err(NoMemory) => Err(ReadError::Memory),
+    }
+}
+
+/// A name in angle brackets, of a table that is not defined yet.
+fn table_name(cursor: &mut Cursor, draft: &Draft) -> Result<TableName, Refusal>
+    ensures value { Gives result cursor.new (table_name_at draft.now cursor.old) }
+    ensures within { IfOk result (λ name. is_name 31 name ≡ true) }
+{
+    read_name(cursor, draft)
+}
+
+#[tactic(auto, unfolding(crate::specs::Reading::table_name_at))]
+fn read_name(cursor: &mut Cursor, draft: &Draft) -> Result<TableName, Refusal>
+    ensures { Gives result cursor.new (table_name_at draft.now cursor.old) }
+{
+    cursor.expect(Key::OpenAngle)?;
+    if !cursor.key().is_word() {
+        return Err(Refusal::Stop(Why::Plain));
+    }
+    let Some(name) = Name::parse(cursor.text()) else {
+        return Err(Refusal::Stop(Why::Plain));
+    };
+    if draft.is_defined(&name) {
+        return Err(Refusal::Stop(Why::Again));
+    }
+    cursor.advance();
+    cursor.expect(Key::CloseAngle)?;
+    Ok(name)
+}
+
+/// Defines a table. `persist` and `counters` have no effect.
+fn define(
+    alloc: Global,
+    progress: &mut Progress,
+    name: TableName,
+    parts: Parts,
+) -> Result<(), NoMemory>
+    requires { is_name 31 name ≡ true }
+    ensures ok { OnOk result (progress.new ≡ with_definition name parts progress.old) }
+    ensures depth { progress.new.depth ≡ progress.old.depth }
+{
+    let Parts {
+        is_const,
+        entries,
+        ..
+    } = parts;
+    let entries = entries.unwrap_or(Entries::new(alloc));
+    progress.draft.define(TableDef {
+        name,
+        is_const,
+        entries,
+    })
+}

@@ -1,0 +1,27 @@
+//! The configuration that a rules text says: `load` reads the text, statement by statement.
+#![tactic(auto)]
+
+mod anchors;
+mod breaking;
+mod definitions;
+mod faults;
+mod kinds;
+mod loading;
+mod numbering;
+mod phrases;
+mod progress;
+mod rules;
+mod statements;
+mod stopping;
+
+pub use faults::LoadFault;
+pub use kinds::Kind;
+pub use loading::load;
+pub use pfs_rules::{
+    Action, Anchor, AnchorName, Config, Draft, Entries, Family, Filter, FlagTest, Host, Interface,
+    Item, LimitName, Limits, Overload, Ports, Rate, Rule, RuleNo, RuleTimeouts, Scope, Side,
+    StateOptions, TableDef, TableName, TableNo, TimeoutName, Timeouts, What,
+};
+
+#[cfg(test)]
+mod tests;

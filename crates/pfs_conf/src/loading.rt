@@ -1,0 +1,57 @@
+//! A configuration from a rules text.
+
+ghost use Rattle.std.specs.Prelude.{◌≡◌, ◌<◌, ◌≤◌, ℕ, length, IfOk, IfErr, MatchResult};
+ghost use Rattle.pfs_tokens.specs.Lexis.{tokens_of};
+ghost use Rattle.pfs_tokens.specs.declared.refusals.LoadRule.{LoadRule};
+ghost use Rattle.pfs_rules.specs.Configs.{Conf};
+ghost use Rattle.pfs_conf.specs.Kinds.{fault, kind_of_rule, no_memory};
+ghost use Rattle.pfs_conf.specs.Grammar.{Breaks};
+ghost use Rattle.pfs_conf.specs.Loads.{IsLoad};
+ghost use Rattle.pfs_conf.specs.Reads.{Reads, IsFault, IsTold, IsTooLong, most_bytes};
+
+use crate::faults::LoadFault;
+use crate::kinds::Kind;
+use crate::statements::read_text;
+use crate::stopping::fault_of;
+use pfs_rules::Config;
+use pfs_tokens::Cursor;
+use std::alloc::Global;
+
+/// The configuration that a rules text says. (pf.conf(5); the subset, its limits and the load rules are own to this profile)
+///
+/// A text has at most 1,048,576 bytes; a longer one is `TooLong`, at line 0, before all else. Statements are read in order, and
+/// the first fault is told. Where a statement cannot go on with a token, the kind is `Duplicate`, `Number`, `Unsupported` or
+/// `Syntax`, the first that applies, at the line of that token. A load rule that a rule or an anchor breaks is told at the
+/// line of its first token; one that the whole text breaks at line 0, but for an `overload` into a `const` table, which is
+/// told at the line of the first such rule. The configuration takes memory, and where that is refused `Memory` is told, at
+/// line 0.
+pub fn load(alloc: Global, text: &[u8]) -> Result<Config, LoadFault>
+    // What is answered is what the text reads as.
+    ensures found { IfOk result (λ c. Reads text.now c) }
+    // What the text reads as is answered, unless memory runs out.
+    ensures only { (c : Conf) → Reads text.now c → MatchResult result (λ d. d ≡ c) (λ e. e ≡ no_memory) }
+    // A text that is too long is told so, and nothing else of it.
+    ensures long { most_bytes < length text.now → IsTooLong result }
+    // The load rule that is the first to be broken is told, unless memory runs out.
+    ensures broken { (r : LoadRule) (n : ℕ) → length text.now ≤ most_bytes → Breaks (tokens_of text.now) r n → IsTold result (fault n (kind_of_rule r)) }
+    // And whatever is told is so.
+    ensures fault { IfErr result (λ e. IsFault text.now e) }
+{
+    read(alloc, text)
+}
+
+fn read(alloc: Global, text: &[u8]) -> Result<Config, LoadFault>
+    ensures { IsLoad result text.now }
+{
+    if text.len() > 1_048_576 {
+        return Err(LoadFault {
+            line: 0,
+            kind: Kind::TooLong,
+        });
+    }
+    let mut cursor = Cursor::new(text);
+    match read_text(alloc, &mut cursor) {
+        Ok(config) => Ok(config),
+        Err(error) => Err(fault_of(error, &mut cursor)),
+    }
+}

@@ -1,0 +1,132 @@
+//! Rules, from their first word to the end of the line.
+
+ghost use Rattle.std.specs.Prelude.{◌≡◌, IfOk, OnOk, None};
+ghost use Rattle.pfs_tokens.specs.Keys.{ends_line};
+ghost use Rattle.pfs_tokens.specs.Reading.{until_all};
+ghost use Rattle.pfs_tokens.specs.Giving.{Gives};
+ghost use Rattle.pfs_conf.specs.Statements.{no_clauses, rule_breaks, with_rule};
+ghost use Rattle.pfs_conf.specs.Reading.{clause_at, rule_text_at, rule_at};
+ghost use Rattle.pfs_conf.specs.Giving.{Comes, IsInOrder};
+ghost use Rattle.pfs_conf.specs.Within.{AreLexed, IsRuleText};
+
+use crate::breaking::rule_breaks;
+use crate::numbering::number_rule;
+use crate::phrases::{Clauses, RuleText};
+use crate::progress::Progress;
+use pfs_addr::NoMemory;
+use pfs_filters::{Parameters, Statement, Verb, read_flags, read_parameters, read_verb};
+use pfs_options::state_clause;
+use pfs_tokens::{Cursor, Key, ReadError, Refusal, Why};
+
+/// Reads a rule that begins on this line. Its load rules are asked when its line end has been read. (pf.conf(5), PACKET FILTERING)
+#[tactic(auto, unfolding(crate::specs::Reading::rule_at))]
+pub fn rule(cursor: &mut Cursor, progress: &mut Progress, line: u64) -> Result<(), ReadError>
+    requires lexed { AreLexed cursor.old }
+    requires order { IsInOrder progress.old }
+    ensures value { Comes result cursor.new progress.new (rule_at line progress.old cursor.old) }
+    ensures order { OnOk result (IsInOrder progress.new) }
+{
+    let text = match rule_text(cursor) {
+        Ok(text) => text,
+        Err(refusal) => return Err(ReadError::Refused(refusal)),
+    };
+    if let Some(broken) = rule_breaks(&progress.draft, &text) {
+        return Err(ReadError::Refused(Refusal::Broken(broken, line)));
+    }
+    match push_rule(progress, line, &text) {
+        Ok(()) => Ok(()),
+        Err(NoMemory) => Err(ReadError::Memory),
+    }
+}
+
+/// Puts a rule behind the other items.
+fn push_rule(progress: &mut Progress, line: u64, text: &RuleText) -> Result<(), NoMemory>
+    requires text { IsRuleText text.now }
+    requires order { IsInOrder progress.old }
+    requires keeps { rule_breaks progress.old.draft text.now ≡ None }
+    ensures ok { OnOk result (progress.new ≡ with_rule line text.now progress.old) }
+    ensures order { OnOk result (IsInOrder progress.new) }
+{
+    match number_rule(&mut progress.draft, text) {
+        Ok(rule) => progress.draft.push_rule(progress.depth, rule)?,
+        Err(error) => return Err(error),
+    }
+    progress.lines.push(line)
+}
+
+/// A rule as it is written, with its line end.
+fn rule_text(cursor: &mut Cursor) -> Result<RuleText, Refusal>
+    requires { AreLexed cursor.old }
+    ensures value { Gives result cursor.new (rule_text_at cursor.old) }
+    ensures within { IfOk result (λ r. IsRuleText r) }
+{
+    read_rule(cursor)
+}
+
+#[tactic(auto, unfolding(crate::specs::Reading::rule_text_at))]
+fn read_rule(cursor: &mut Cursor) -> Result<RuleText, Refusal>
+    ensures { Gives result cursor.new (rule_text_at cursor.old) }
+{
+    let verb = read_verb(cursor)?;
+    let parameters = read_parameters(cursor, Statement::Rule)?;
+    let clauses = clauses(cursor, verb, &parameters)?;
+    Ok(RuleText {
+        verb,
+        parameters,
+        clauses,
+    })
+}
+
+fn clauses(cursor: &mut Cursor, verb: Verb, parameters: &Parameters) -> Result<Clauses, Refusal>
+    ensures { Gives result cursor.new (until_all ends_line (clause_at verb parameters.now) no_clauses cursor.old) }
+{
+    let mut clauses = Clauses {
+        flags: None,
+        state: None,
+    };
+    while !cursor.is_at_line_end() {
+        clauses = clause(cursor, verb, parameters, clauses)?;
+    }
+    cursor.advance();
+    Ok(clauses)
+}
+
+#[tactic(auto, unfolding(crate::specs::Reading::clause_at))]
+fn clause(
+    cursor: &mut Cursor,
+    verb: Verb,
+    parameters: &Parameters,
+    clauses: Clauses,
+) -> Result<Clauses, Refusal>
+    ensures { Gives result cursor.new (clause_at verb parameters.now clauses cursor.old) }
+{
+    match cursor.key() {
+        Key::Flags => {
+            if clauses.flags.is_some() {
+                return Err(Refusal::Stop(Why::Again));
+            }
+            let flags = read_flags(cursor)?;
+            Ok(Clauses {
+                flags: Some(flags),
+                ..clauses
+            })
+        }
+        Key::No | Key::Keep => {
+            if clauses.state.is_some() {
+                return Err(Refusal::Stop(Why::Again));
+            }
+            let state = state_clause(cursor)?;
+            Ok(Clauses {
+                state: Some(state),
+                ..clauses
+            })
+        }
+        key => {
+            if verb.has(key) || parameters.have(key) {
+                Err(Refusal::Stop(Why::Again))
+            } else {
+                Err(Refusal::Stop(Why::Plain))
+            }
+        }
+    }
+}

@@ -1,0 +1,94 @@
+//! Statements, one behind another to the end of the text.
+
+ghost use Rattle.std.specs.Prelude.{◌≡◌, ◌≤◌, OnOk};
+ghost use Rattle.pfs_tokens.specs.Giving.{GivesOrMemory};
+ghost use Rattle.pfs_tokens.specs.Reading.{ended};
+ghost use Rattle.pfs_conf.specs.Statements.{closed};
+ghost use Rattle.pfs_conf.specs.Reading.{statement_at, statements_at, text_at};
+ghost use Rattle.pfs_conf.specs.Giving.{Comes, IsInOrder};
+ghost use Rattle.pfs_conf.specs.Within.{AreLexed};
+
+use crate::anchors::anchor;
+use crate::breaking::text_breaks;
+use crate::definitions::{set, table};
+use crate::progress::Progress;
+use crate::rules::rule;
+use pfs_rules::Config;
+use pfs_tokens::{Cursor, Key, ReadError, Refusal, Why};
+use std::alloc::Global;
+
+/// Reads a text up to its end, which stays, and gives what it says.
+#[tactic(auto, unfolding(crate::specs::Reading::text_at))]
+pub fn read_text(alloc: Global, cursor: &mut Cursor) -> Result<Config, ReadError>
+    requires { AreLexed cursor.old }
+    ensures { GivesOrMemory result cursor.new (text_at cursor.old) }
+{
+    let progress = statements(alloc, cursor)?;
+    if progress.depth > 0 {
+        return Err(ReadError::Refused(Refusal::Stop(Why::Plain)));
+    }
+    if let Some((rule, line)) = text_breaks(&progress) {
+        return Err(ReadError::Refused(Refusal::Broken(rule, line)));
+    }
+    let Progress { draft, .. } = progress;
+    Ok(draft.finish())
+}
+
+fn statements(alloc: Global, cursor: &mut Cursor) -> Result<Progress, ReadError>
+    requires { AreLexed cursor.old }
+    ensures { GivesOrMemory result cursor.new (statements_at cursor.old) }
+{
+    let mut progress = Progress::new(alloc);
+    while !cursor.is_at_end() {
+        statement(alloc, cursor, &mut progress)?;
+    }
+    Ok(progress)
+}
+
+/// Reads a statement. A blank line says nothing; `set` and `table` stand outside of anchors.
+#[tactic(auto, unfolding(crate::specs::Reading::statement_at))]
+fn statement(alloc: Global, cursor: &mut Cursor, progress: &mut Progress) -> Result<(), ReadError>
+    requires lexed { AreLexed cursor.old }
+    requires order { IsInOrder progress.old }
+    ensures value { Comes result cursor.new progress.new (statement_at progress.old cursor.old) }
+    ensures order { OnOk result (IsInOrder progress.new) }
+{
+    let line = cursor.line();
+    match cursor.key() {
+        Key::LineEnd => {
+            cursor.advance();
+            Ok(())
+        }
+        Key::Set | Key::Table if progress.depth > 0 => Err(ReadError::Refused(Refusal::Stop(
+            Why::Inner,
+        ))),
+        Key::Set => {
+            cursor.advance();
+            set(cursor, progress)
+        }
+        Key::Table => {
+            cursor.advance();
+            table(alloc, cursor, progress)
+        }
+        Key::Pass | Key::Block => rule(cursor, progress, line),
+        Key::Anchor => {
+            cursor.advance();
+            anchor(cursor, progress, line)
+        }
+        Key::CloseBrace if progress.depth > 0 => {
+            cursor.advance();
+            close(cursor, progress)
+        }
+        _ => Err(ReadError::Refused(Refusal::Stop(Why::Statement))),
+    }
+}
+
+/// The line end behind the brace that closes an anchor.
+fn close(cursor: &mut Cursor, progress: &mut Progress) -> Result<(), ReadError>
+    requires open { 1 ≤ progress.old.depth }
+    ensures { Comes result cursor.new progress.new (ended (closed progress.old) cursor.old) }
+{
+    cursor.expect(Key::LineEnd)?;
+    progress.depth -= 1;
+    Ok(())
+}

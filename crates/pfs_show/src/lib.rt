@@ -1,0 +1,14 @@
+// The canonical text of a configuration: one text for each, that reads as the same configuration again.
+#![tactic(auto)]
+
+mod filters;
+mod items;
+mod options;
+mod pieces;
+mod settings;
+mod tables;
+
+pub use items::show;
+
+#[cfg(test)]
+mod tests;
