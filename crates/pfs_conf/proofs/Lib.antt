@@ -6,3 +6,6 @@ pub mod PhraseLaws
 pub mod KeepLaws
 pub mod LoadLaws
 pub mod ReadLaws
+pub mod UnbrokenLaws
+pub mod UnbrokenPhrases
+pub mod BreakLaws

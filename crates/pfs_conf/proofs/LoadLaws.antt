@@ -26,6 +26,7 @@ use Rattle.pfs_conf.specs.Reads.{Reads, most_bytes, StopsAt, IsFault, IsTold}
 use Rattle.pfs_conf.specs.Reads as faults
 use Rattle.pfs_conf.specs.Loads.{IsFaultRead, long, memory, breaks, stops, IsConfRead, IsLoad}
 use Rattle.pfs_conf.proofs.OnlineLaws.{online_text, statement_shrinks}
+use Rattle.pfs_conf.proofs.BreakLaws.{text_breaks_is}
 use Rattle.pfs_conf.proofs.PhraseLaws.{text_is}
 use Rattle.pfs_conf.proofs.ReadLaws.{verb_key, rule_told, rule_statement, anchor_told, anchor_statement, statement_reads, statement_begins, statements_read, text_told, text_reads}
 
@@ -112,7 +113,7 @@ hopeless_at text left w e =
 told_as : (text : List ℕ) (e : LoadFault) → IsFaultRead text e → IsFault text e
 told_as text e (long l k) = faults.long l k
 told_as text e (memory l k) = faults.memory k
-told_as text e (breaks l g k) = faults.breaks l g k
+told_as text e (breaks l g k) = faults.breaks l (text_breaks_is g) k
 told_as text e (stops {w = w} {left = left} l g k) =
     let s = hopeless_at text left w g in
     faults.stops w s.0 s.1 l s.3 (k ∙ ap (λ (z : List Tok). fault (head z).line (kind_of w z)) s.2)

@@ -360,7 +360,7 @@ statement_is p ts q left e = by_key (head ts).key refl e
     by_key key.CloseBrace g h = close_case g (p.depth == 0) refl h
     by_key _ g h = absurd cc
 
-closed_ok : (depth : ℕ) (ts : List Tok) (u : Unit {0}) (left : List Tok) → all_closed depth ts ≡ Ok (u, left) → (depth ≡ 0) × (ts ≡ left)
+pub closed_ok : (depth : ℕ) (ts : List Tok) (u : Unit {0}) (left : List Tok) → all_closed depth ts ≡ Ok (u, left) → (depth ≡ 0) × (ts ≡ left)
 closed_ok depth ts u left e = choose (depth == 0) refl e
   where
     choose : (b : Bool) → (depth == 0) ≡ b → act (cond b (stay (done tt)) (refuse why.Plain)) ts ≡ Ok (u, left) → (depth ≡ 0) × (ts ≡ left)

@@ -8,9 +8,7 @@ use Rattle.pfs_rules.specs.Configs.{Conf}
 use Rattle.pfs_conf.specs.declared.kinds.Kind.{Kind}
 use Rattle.pfs_conf.specs.declared.faults.LoadFault.{LoadFault}
 use Rattle.pfs_conf.specs.Kinds.{fault, too_long, no_memory, kind_of, kind_of_rule}
-use Rattle.pfs_tokens.specs.Reading.{broken}
 use Rattle.pfs_conf.specs.Grammar.{TextOf, Breaks}
-use Rattle.pfs_conf.specs.Reading.{text_at}
 
 -- a rules text has at most 1,048,576 bytes
 abbrev pub most_bytes : ℕ
@@ -34,7 +32,7 @@ pub record StopsAt (text : List ℕ) (t : Tok) (behind : List Tok) : Type 0 wher
 pub data IsFault (text : List ℕ) (e : LoadFault) : Type 0 where
   memory : e ≡ no_memory → IsFault text e
   long : most_bytes < length text → e ≡ too_long → IsFault text e
-  breaks : {rule : LoadRule} {line : ℕ} → length text ≤ most_bytes → text_at (tokens_of text) ≡ Err (broken rule line) → e ≡ fault line (kind_of_rule rule) → IsFault text e
+  breaks : {rule : LoadRule} {line : ℕ} → length text ≤ most_bytes → Breaks (tokens_of text) rule line → e ≡ fault line (kind_of_rule rule) → IsFault text e
   stops : (w : Why) (t : Tok) (behind : List Tok) → length text ≤ most_bytes → StopsAt text t behind → e ≡ fault t.line (kind_of w (t ∷ behind)) → IsFault text e
 
 -- the fault of a text that is too long

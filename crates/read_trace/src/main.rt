@@ -1,9 +1,8 @@
 // Reads a trace as the program does, and nothing more: the measure beside which a replay is timed.
 #![tactic(auto)]
 
-use std::io;
-
 use csv::{ByteRecord, ReaderBuilder};
+use std::io;
 
 fn main(rt: HostRuntime) -> io::Result<()> {
     let mut reader = ReaderBuilder::new()

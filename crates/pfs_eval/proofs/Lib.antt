@@ -1,0 +1,9 @@
+pub mod Paths
+pub mod Cuts
+pub mod Bounds
+pub mod Narrowest
+pub mod Deciding
+pub mod LinesMade
+pub mod Rooms
+pub mod TextTables
+pub mod Visiting

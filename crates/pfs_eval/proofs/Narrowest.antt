@@ -1,0 +1,295 @@
+use Rattle.std.proofs.Common.{◌≡◌, ◌≢◌, ℕ, ◌+◌, ◌-◌, ◌<◌, ◌≤◌, ◌==◌, suc, Bool, true, false, not, ◌&&◌, ◌||◌, cond, nat_le, List, [], ◌∷◌, ◌++◌, length, Option, Some, None, refl, ap, sym, ◌∙◌, arith, subst, eq-eqb}
+use Rattle.std.specs.Prelude.{All, is_some, slice_index_or}
+use Rattle.std.specs.Map.{lookup}
+use Rattle.indexmap.specs.IndexMap.{insert_entry}
+use Rattle.std.proofs.lemmas.List.Elements.{All-append, All-cons, All-head, All-nil, All-tail}
+use Rattle.std.proofs.Math.ListN.{length-set, set}
+use Rattle.std.proofs.lemmas.List.{get_or-set_other, get_or-set_same}
+use Rattle.std.proofs.lemmas.Bool.Decides.{nat_tests}
+use Rattle.std.proofs.lemmas.Bool.{cond-true, cond-false, false≢true}
+use Rattle.pfs_addr.specs.declared.addresses.Addr.{Addr}
+use Rattle.pfs_addr.specs.declared.addresses.Addr.TheVariants.{V4}
+use Rattle.pfs_addr.specs.Addresses.{IsAddr, width_of}
+use Rattle.pfs_addr.specs.Prefixes.{Network, IsNetwork, cleared, covers, first_bits, network_of}
+use Rattle.pfs_addr.proofs.PrefixLaws.{cleared_first, cleared_same, network_of_is_network}
+use Rattle.pfs_eval.specs.Entries.{Entry, narrower, narrowest, says_yes, answer_of, is_prefix_of, mark_at, holds_prefix}
+use Rattle.pfs_eval.specs.Holdings.{AreKept}
+use Rattle.pfs_eval.specs.declared.entries.Mark.{Mark}
+
+-- ---- the test of one prefix
+
+-- a test that tells exactly this prefix
+pub record TellsOnly (test : Network → Bool) (p : Network) : Type 0 where
+  pub same : (q : Network) → test q ≡ true → p ≡ q
+  pub self : test p ≡ true
+
+-- the prefix of an address covers it
+own_cover : (n : ℕ) (a : Addr) → IsAddr a → covers (network_of a n) a ≡ true
+unfolding covers
+own_cover n a h = eq-eqb (first_bits n (cleared n a)) (first_bits n a) (cleared_first n a h)
+
+-- a prefix that covers an address is that address's prefix of its length
+pub own_prefix : (n : ℕ) (a : Addr) (q : Network) → IsNetwork q → is_prefix_of a n q ≡ true → network_of a n ≡ q
+unfolding covers
+own_prefix n a q h e =
+    let bits : q.bits ≡ n = grind (arith, nat_tests) in
+    let agree : first_bits q.bits q.addr ≡ first_bits q.bits a = grind (arith, nat_tests) in
+    let addr : cleared n a ≡ q.addr = sym (ap (λ k. cleared k a) bits) ∙ sym (cleared_same q.bits q.addr a agree)
+    ∙ h.zeros in
+    λ i. record { addr = addr i; bits = sym bits i }
+
+same_bool : (b c : Bool) → (b ≡ true → c ≡ true) → (c ≡ true → b ≡ true) → b ≡ c
+same_bool true c f g = sym (f refl)
+same_bool false true f g = g refl
+same_bool false false f g = refl
+
+-- at prefixes, such a test asks for the length and whether the address is covered
+pub tells-prefix : (test : Network → Bool) (a : Addr) (n : ℕ) (q : Network) → IsAddr a → IsNetwork q
+    → TellsOnly test (network_of a n) → test q ≡ is_prefix_of a n q
+tells-prefix test a n q h k t =
+    same_bool (test q) (is_prefix_of a n q)
+    (λ e. subst (λ r. is_prefix_of a n r ≡ true) (t.same q e)
+    (let own = own_cover n a h in let same : (n == n) ≡ true = eq-eqb n n refl in grind arith))
+    (λ e. subst (λ r. test r ≡ true) (own_prefix n a q k e) t.self)
+
+same_choice : {X : Type 0} (b c : Bool) (x y z : X) → b ≡ c → y ≡ z → cond b x y ≡ cond c x z
+same_choice b c x y z e f = rw (e, f) refl
+
+-- so a look-up by it gives the mark of that entry
+pub lookup-mark_at : (test : Network → Bool) (a : Addr) (n : ℕ) (es : List Entry) → IsAddr a
+    → All (λ (x : Entry). IsNetwork x.0) es → TellsOnly test (network_of a n) → lookup test es ≡ mark_at es a n
+lookup-mark_at test a n [] h k t = refl
+lookup-mark_at test a n (x ∷ es) h k t =
+    same_choice (test x.0) (is_prefix_of a n x.0) (Some x.1) (lookup test es) (mark_at es a n)
+    (tells-prefix test a n x.0 h (All-head (λ (y : Entry). IsNetwork y.0) x es k) t)
+    (lookup-mark_at test a n es h (All-tail (λ (y : Entry). IsNetwork y.0) x es k) t)
+
+held_step : (b c : Bool) (o : Option Mark) (t : Bool) (m : Mark) → b ≡ c → is_some o ≡ t
+    → is_some (cond b (Some m) o) ≡ (c || t)
+held_step true true o t m e h = refl
+held_step false false o t m e h = h
+held_step true false o t m e h = cc
+held_step false true o t m e h = cc
+
+-- and finds one where there is one
+pub lookup-holds_prefix : (test : Network → Bool) (a : Addr) (n : ℕ) (es : List Entry) → IsAddr a
+    → All (λ (x : Entry). IsNetwork x.0) es → TellsOnly test (network_of a n)
+    → is_some (lookup test es) ≡ holds_prefix es a n
+lookup-holds_prefix test a n [] h k t = refl
+lookup-holds_prefix test a n (x ∷ es) h k t =
+    held_step (test x.0) (is_prefix_of a n x.0) (lookup test es) (holds_prefix es a n) x.1
+    (tells-prefix test a n x.0 h (All-head (λ (y : Entry). IsNetwork y.0) x es k) t)
+    (lookup-holds_prefix test a n es h (All-tail (λ (y : Entry). IsNetwork y.0) x es k) t)
+
+-- ---- the narrowest entry, from the longest prefix on
+
+-- the entries that cover the address have fewer bits than this
+unfoldable pub AreBelow : ℕ → Addr → List Entry → Type 0
+AreBelow n a [] = Unit {0}
+AreBelow n a (e ∷ es) = (covers e.0 a ≡ true → e.0.bits < n) × AreBelow n a es
+
+some_same : {X : Type 0} {x y : X} → Some x ≡ Some y → x ≡ y
+some_same h = cc
+
+narrower-below : (x : Entry) (o : Option Entry) (n : ℕ) → x.0.bits < n → ((g : Entry) → o ≡ Some g → g.0.bits < n)
+    → (narrower x o).0.bits < n
+narrower-below x None n h k = h
+narrower-below x (Some g) n h k = by (nat_le g.0.bits x.0.bits)
+  where
+    by : (b : Bool) → (cond b x g).0.bits < n
+    by true = h
+    by false = k g refl
+
+-- the entry itself, where no other is longer
+narrower-first : (x : Entry) (o : Option Entry) → ((g : Entry) → o ≡ Some g → g.0.bits ≤ x.0.bits) → narrower x o ≡ x
+narrower-first x None k = refl
+narrower-first x (Some g) k = let h = k g refl in cond-true (nat_le g.0.bits x.0.bits) x g (grind (arith, nat_tests))
+
+narrower-other : (x g : Entry) → x.0.bits < g.0.bits → narrower x (Some g) ≡ g
+narrower-other x g h = cond-false (nat_le g.0.bits x.0.bits) x g (grind (arith, nat_tests))
+
+below_step : (x f : Entry) (n : ℕ) (b : Bool) (o : Option Entry) → (b ≡ true → x.0.bits < n)
+    → ((g : Entry) → o ≡ Some g → g.0.bits < n) → cond b (Some (narrower x o)) o ≡ Some f → f.0.bits < n
+below_step x f n true o h k e = let s = some_same e in rw (← s) (narrower-below x o n (h refl) k)
+below_step x f n false o h k e = k f e
+
+-- the narrowest is one of those
+below-narrowest : (a : Addr) (n : ℕ) (es : List Entry) → AreBelow n a es → (f : Entry) → narrowest es a ≡ Some f
+    → f.0.bits < n
+unfolding AreBelow
+below-narrowest a n [] h f e = cc
+below-narrowest a n (x ∷ es) h f e = below_step x f n (covers x.0 a) (narrowest es a) h.0 (below-narrowest a n es h.1) e
+
+not_here : (t : Bool) (m : Mark) (o : Option Mark) → cond t (Some m) o ≡ None → (t ≡ false) × (o ≡ None)
+not_here true m o e = cc
+not_here false m o e = (refl, e)
+
+-- no entry has the prefix of length n, so those that cover are shorter
+pub below-less : (a : Addr) (n : ℕ) (es : List Entry) → AreBelow (suc n) a es → mark_at es a n ≡ None → AreBelow n a es
+unfolding AreBelow
+below-less a n [] h e = tt
+below-less a n (x ∷ es) h e =
+    let k = not_here (is_prefix_of a n x.0) x.1 (mark_at es a n) e in
+    (λ c. let other : x.0.bits ≢ n = (λ s. let t : (x.0.bits == n) ≡ true = eq-eqb x.0.bits n s in grind arith) in let less = h.0 c in omega arith, below-less a n es h.1 k.1)
+
+-- an option holds an entry of so many bits with this mark
+pub record IsEntryAt (o : Option Entry) (n : ℕ) (mark : Mark) : Type 0 where
+  pub entry : Entry
+  pub is : o ≡ Some entry
+  pub bits : entry.0.bits ≡ n
+  pub marked : entry.1 ≡ mark
+
+found_step : (n : ℕ) (x : Entry) (mark : Mark) (o : Option Mark) (e : Option Entry) (t b c : Bool) → (x.0.bits == n) ≡ t
+    → t && c ≡ b → (c ≡ true → x.0.bits < suc n) → ((g : Entry) → e ≡ Some g → g.0.bits < suc n)
+    → (o ≡ Some mark → IsEntryAt e n mark) → cond b (Some x.1) o ≡ Some mark
+    → IsEntryAt (cond c (Some (narrower x e)) e) n mark
+found_step n x mark o e true b false s t h k i f = i (rw (← t) at f)
+found_step n x mark o e false b false s t h k i f = i (rw (← t) at f)
+found_step n x mark o e true b true s t h k i f =
+    let bits : x.0.bits ≡ n = grind (arith, nat_tests) in
+    record {
+      entry = x;
+      is = ap (λ y. Some y)
+          (narrower-first x e (λ g p. let l = k g p in omega arith));
+      bits = bits;
+      marked = some_same (rw (← t) at f);
+    }
+found_step n x mark o e false b true s t h k i f =
+    let w = i (rw (← t) at f) in
+    let other : x.0.bits ≢ n = (λ r. false≢true (sym s ∙ eq-eqb x.0.bits n r)) in
+    let less : x.0.bits < w.entry.0.bits = let l = h refl in let m = w.bits in omega arith in
+    record {
+      entry = w.entry;
+      is = ap (λ y. Some y)
+          (ap (narrower x) w.is ∙ narrower-other x w.entry less);
+      bits = w.bits;
+      marked = w.marked;
+    }
+
+-- the entry with the prefix of length n is the narrowest
+pub found-narrowest : (a : Addr) (n : ℕ) (es : List Entry) (mark : Mark) → AreBelow (suc n) a es
+    → mark_at es a n ≡ Some mark → IsEntryAt (narrowest es a) n mark
+unfolding AreBelow
+found-narrowest a n [] mark h e = cc
+found-narrowest a n (x ∷ es) mark h e =
+    found_step n x mark (mark_at es a n) (narrowest es a) (x.0.bits == n) (is_prefix_of a n x.0)
+    (covers x.0 a) refl refl h.0 (below-narrowest a (suc n) es h.1) (found-narrowest a n es mark h.1) e
+
+none_step : (b : Bool) (x : Entry) (o : Option Entry) → (b ≡ true → x.0.bits < 0) → o ≡ None
+    → cond b (Some (narrower x o)) o ≡ None
+none_step true x o h e = absurd (omega (arith, h refl))
+none_step false x o h e = e
+
+-- no entry covers the address
+below-none : (a : Addr) (es : List Entry) → AreBelow 0 a es → narrowest es a ≡ None
+unfolding AreBelow
+below-none a [] h = refl
+below-none a (x ∷ es) h = none_step (covers x.0 a) x (narrowest es a) h.0 (below-none a es h.1)
+
+-- a prefix covers addresses of its own family
+same_width : (p b : Addr) → width_of p ≡ width_of b
+same_width (V4 x) (V4 y) = refl
+
+-- all prefixes have at most as many bits as the address
+pub below-all : (a : Addr) (es : List Entry) → All (λ (x : Entry). IsNetwork x.0) es → AreBelow (width_of a + 1) a es
+unfolding AreBelow
+below-all a [] h = tt
+below-all a (x ∷ es) h =
+    let short = (All-head (λ (y : Entry). IsNetwork y.0) x es h).short in
+    (λ c. let w = same_width x.0.addr a in omega arith, below-all a es (All-tail (λ (y : Entry). IsNetwork y.0) x es h))
+
+suc_less : (b : ℕ) → 0 < b → b ≡ suc (b - 1)
+suc_less b h = omega arith
+
+-- ---- the look-up by one length after another
+
+pub answer-found : (a : Addr) (b : ℕ) (es : List Entry) (mark : Mark) → 0 < b → AreBelow b a es
+    → mark_at es a (b - 1) ≡ Some mark → not mark.negated ≡ answer_of es a
+answer-found a b es mark h k e =
+    let f = found-narrowest a (b - 1) es mark (subst (λ n. AreBelow n a es) (suc_less b h) k) e in
+    sym (ap says_yes f.is ∙ ap (λ (m : Mark). not m.negated) f.marked)
+
+pub answer-less : (a : Addr) (b : ℕ) (es : List Entry) → 0 < b → AreBelow b a es → mark_at es a (b - 1) ≡ None
+    → AreBelow (b - 1) a es
+answer-less a b es h k e = below-less a (b - 1) es (subst (λ n. AreBelow n a es) (suc_less b h) k) e
+
+pub answer-none : (a : Addr) (b : ℕ) (es : List Entry) → b ≤ 0 → AreBelow b a es → false ≡ answer_of es a
+answer-none a b es h k =
+    let z : b ≡ 0 = omega arith in
+    sym (ap says_yes (below-none a es (subst (λ n. AreBelow n a es) z k)))
+
+-- ---- one more entry
+
+-- an entry that is not there goes last
+pub inserted-last : (eq : Network → Network → Bool) (p : Network) (a : Addr) (n : ℕ) (mark : Mark) (es : List Entry)
+    → p ≡ network_of a n → IsAddr a → All (λ (x : Entry). IsNetwork x.0) es → TellsOnly (eq p) p
+    → holds_prefix es a n ≡ false
+    → insert_entry eq es p mark ≡ es ++ (network_of a n, mark) ∷ []
+inserted-last eq p a n mark [] is h k t e = ap (λ (q : Network). (q, mark) ∷ []) is
+inserted-last eq p a n mark (x ∷ es) is h k t e =
+    let here : eq p x.0 ≡ is_prefix_of a n x.0 = tells-prefix (eq p) a n x.0 h (All-head (λ (y : Entry). IsNetwork y.0) x es k) (subst (TellsOnly (eq p)) is t) in
+    let other : eq p x.0 ≡ false = grind arith in
+    let rest : holds_prefix es a n ≡ false = grind arith in
+    cond-false (eq p x.0) _ _ other
+    ∙ ap (λ xs. x ∷ xs)
+    (inserted-last eq p a n mark es is h (All-tail (λ (y : Entry). IsNetwork y.0) x es k) t rest)
+
+-- all entries are prefixes, as before
+pub all-added : (es : List Entry) (a : Addr) (n : ℕ) (mark : Mark) → All (λ (x : Entry). IsNetwork x.0) es → IsAddr a
+    → n ≤ width_of a → All (λ (x : Entry). IsNetwork x.0) (es ++ (network_of a n, mark) ∷ [])
+all-added es a n mark h k short =
+    let P : Entry → Type 0 = λ x. IsNetwork x.0 in
+    All-append P es ((network_of a n, mark) ∷ []) h (All-cons P (network_of a n, mark) [] (network_of_is_network a n k short) (All-nil P))
+
+-- ---- the lengths that entries have
+
+and_false : (b c : Bool) → b ≡ false → (b && c) ≡ false
+and_false b c e = grind arith
+
+-- an address has at most as many bits as there are lengths, but for one
+pub width_small : (a : Addr) → width_of a < 129
+width_small (V4 bytes) = omega arith
+
+-- a length that is not marked is that of no entry
+pub unmarked-none : (lengths : List Bool) (a : Addr) (n : ℕ) (es : List Entry)
+    → All (λ (x : Entry). slice_index_or lengths x.0.bits false ≡ true) es
+    → slice_index_or lengths n false ≡ false → mark_at es a n ≡ None
+unmarked-none lengths a n [] h e = refl
+unmarked-none lengths a n (x ∷ es) h e =
+    let P : Entry → Type 0 = λ y. slice_index_or lengths y.0.bits false ≡ true in
+    let other : (x.0.bits == n) ≡ false = by (x.0.bits == n) refl in
+    cond-false (is_prefix_of a n x.0) _ _ (and_false (x.0.bits == n) (covers x.0 a) other) ∙ unmarked-none lengths a n es (All-tail P x es h) e
+  where
+    by : (b : Bool) → (x.0.bits == n) ≡ b → b ≡ false
+    by true s =
+        let P : Entry → Type 0 = λ y. slice_index_or lengths y.0.bits false ≡ true in
+        let bits : x.0.bits ≡ n = grind (arith, nat_tests) in
+        absurd (false≢true (sym e ∙ sym (ap (λ k. slice_index_or lengths k false) bits) ∙ All-head P x es h))
+    by false s = refl
+
+-- marking a length keeps the marks
+still_marked : (lengths : List Bool) (n k : ℕ) → n < length lengths → slice_index_or lengths k false ≡ true
+    → slice_index_or (set lengths n true) k false ≡ true
+still_marked lengths n k within h = by (k == n) refl
+  where
+    by : (b : Bool) → (k == n) ≡ b → slice_index_or (set lengths n true) k false ≡ true
+    by true e =
+        let same : k ≡ n = grind (arith, nat_tests) in
+        ap (λ i. slice_index_or (set lengths n true) i false) same ∙ get_or-set_same lengths n true false within
+    by false e =
+        let other : k ≢ n = (λ same. false≢true (sym e ∙ eq-eqb k n same)) in
+        get_or-set_other lengths n k true false other ∙ h
+
+-- one more entry, with its length marked
+pub kept-added : (es : List Entry) (lengths : List Bool) (a : Addr) (n : ℕ) (mark : Mark) → AreKept es lengths → IsAddr a
+    → n ≤ width_of a → AreKept (es ++ (network_of a n, mark) ∷ []) (set lengths n true)
+kept-added es lengths a n mark h k short =
+    let P : Entry → Type 0 = λ x. slice_index_or (set lengths n true) x.0.bits false ≡ true in
+    let within : n < length lengths = let w = width_small a in let l = h.long in omega arith in
+    record {
+      networks = all-added es a n mark h.networks k short;
+      long = length-set lengths n true ∙ h.long;
+      marked =
+          All-append P es ((network_of a n, mark) ∷ []) (λ i d l. still_marked lengths n _ within (h.marked i d l))
+          (All-cons P (network_of a n, mark) [] (get_or-set_same lengths n true false within) (All-nil P));
+    }

@@ -1,0 +1,14 @@
+use Rattle.std.proofs.Common.{◌∙◌, rules, ap, subst}
+use Rattle.pfs_addr.specs.Addresses.{width_of}
+use Rattle.pfs_addr.specs.Prefixes.{network_of}
+use Rattle.pfs_eval.specs.Entries.{holds_host}
+use Rattle.pfs_eval.proofs.Narrowest.{TellsOnly, lookup-holds_prefix}
+use Rattle.pfs_eval.proofs.entries.Table.holds.Goals as goal
+
+pub returns : goal.returns
+returns c =
+    c.contains_key.ensures
+    ∙ lookup-holds_prefix _ c.args.host (width_of c.args.host) c.self.inside.map.entries c.prefix.ensures.addr c.self.invariant.networks
+    (subst (TellsOnly _) (c.prefix.ensures.value ∙ ap (network_of c.args.host) c.width.ensures)
+    (record { same = λ q h. search rules; self = search rules }))
+    ∙ ap (λ s. holds_host s.entries c.args.host) c.self.view_is

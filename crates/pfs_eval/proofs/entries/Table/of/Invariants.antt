@@ -1,0 +1,6 @@
+use Rattle.std.proofs.Common.{◌≡◌, map, take}
+use Rattle.pfs_eval.specs.Entries.{entry_of}
+use Rattle.pfs_eval.proofs.entries.Table.of.Given as goal
+
+abbrev pub invariant-loop-place : goal.invariant-loop-place
+invariant-loop-place l = l.table.entries ≡ map entry_of (take l.place l.entries)

@@ -1,0 +1,50 @@
+use Rattle.std.proofs.Common.{◌+◌, ◌++◌, [], ◌∷◌, false, ap, sym, ◌∙◌}
+use Rattle.pfs_addr.specs.Prefixes.{network_of}
+use Rattle.pfs_eval.specs.Holdings.{Holdings}
+use Rattle.pfs_eval.specs.Tables.{entry_count, host_entry, entries_after}
+use Rattle.pfs_eval.specs.declared.tables.Added.TheVariants.{New}
+use Rattle.pfs_eval.proofs.Rooms.{added-new, count-added, entries-added, entries-same, on_err, within-held}
+use Rattle.pfs_eval.proofs.tables.Tables.add_host.Goals as goal
+
+pub invariant_of-self : goal.invariant_of-self
+invariant_of-self c =
+    let same = entries-same c.self.inside.tables.items c.args.table.0 c.index_mut.result.now c.add.new.self c.index_mut.ensures.value c.in_err-add.ensures.err in
+    (c.self.invariant.0 ∙ ap entry_count (sym same), c.self.invariant.1)
+
+pub returns-in_err-add-clause-err : goal.returns-in_err-add-clause-err
+returns-in_err-add-clause-err c =
+    on_err c.from_residual.result
+    (entries-same c.self.inside.tables.items c.args.table.0 c.index_mut.result.now c.add.new.self c.index_mut.ensures.value c.in_err-add.ensures.err ∙ ap (λ (h : Holdings). h.entries) c.self.view_is)
+
+pub returns-in_err-add-clause-only_new : goal.returns-in_err-add-clause-only_new
+returns-in_err-add-clause-only_new c =
+    on_err c.from_residual.result (
+    added-new c.self.inside.tables.items c.self.inside.limit c.args.table.0 c.args.host c.index.result.now c.args.self.now
+    c.self.view_is c.requires c.index.ensures (sym c.holds.ensures ∙ c.if-holds.false)
+    (sym c.is_full.ensures ∙ c.if-is_full.false))
+
+pub invariant_of-self-2 : goal.invariant_of-self-2
+invariant_of-self-2 c =
+    let within = within-held c.self.inside.tables.items c.args.self.now.entries c.args.table.0 (ap (λ (h : Holdings). h.entries) c.self.view_is) c.requires in
+    let added = c.in_ok-add.ensures.ok
+    ∙ ap (λ n. c.index_mut.result.now.entries ++ (network_of c.args.host n, record { negated = false }) ∷ []) c.width.ensures in (
+      ap (λ n. n + 1) c.self.invariant.0
+          ∙ sym (count-added c.self.inside.tables.items c.args.table.0 c.index_mut.result.now c.add.new.self (host_entry c.args.host) within c.index_mut.ensures.value added),
+      c.self.invariant.1,
+    )
+
+pub returns-clause-answer : goal.returns-clause-answer
+returns-clause-answer c =
+    sym (
+    added-new c.self.inside.tables.items c.self.inside.limit c.args.table.0 c.args.host c.index.result.now c.args.self.now
+    c.self.view_is c.requires c.index.ensures (sym c.holds.ensures ∙ c.if-holds.false)
+    (sym c.is_full.ensures ∙ c.if-is_full.false))
+
+pub returns-clause-ok : goal.returns-clause-ok
+returns-clause-ok c =
+    let view = ap (λ (h : Holdings). h.entries) c.self.view_is in
+    let within = within-held c.self.inside.tables.items c.args.self.now.entries c.args.table.0 view c.requires in
+    let added = c.in_ok-add.ensures.ok
+    ∙ ap (λ n. c.index_mut.result.now.entries ++ (network_of c.args.host n, record { negated = false }) ∷ []) c.width.ensures in
+    entries-added c.self.inside.tables.items c.args.table.0 c.index_mut.result.now c.add.new.self (host_entry c.args.host) within c.index_mut.ensures.value added
+    ∙ ap (λ es. entries_after es c.args.table.0 c.args.host New) view

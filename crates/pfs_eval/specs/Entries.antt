@@ -1,0 +1,51 @@
+use Rattle.std.specs.Prelude.{ℕ, Bool, false, not, ◌&&◌, ◌==◌, nat_le, if◌then◌else◌, Option, Some, None, List, [], ◌∷◌}
+use Rattle.std.specs.List.{list_any}
+use Rattle.std.specs.Map.{lookup}
+use Rattle.pfs_addr.specs.declared.addresses.Addr.{Addr}
+use Rattle.pfs_addr.specs.Addresses.{width_of}
+use Rattle.pfs_addr.specs.Prefixes.{Network, covers}
+use Rattle.pfs_rules.specs.Entries.{Entry as TextEntry}
+use Rattle.pfs_eval.specs.declared.entries.Mark.{Mark}
+
+-- an entry of a table: a prefix, and what is kept beside it
+abbrev pub Entry : Type 0
+Entry = Network × Mark
+
+-- the entry that a rules text says
+abbrev pub entry_of : TextEntry → Entry
+entry_of e = (e.0, record { negated = e.1 })
+
+-- of an entry and one that stands behind it, the one with more bits
+abbrev pub narrower : Entry → Option Entry → Entry
+narrower e None = e
+narrower e (Some f) = if nat_le f.0.bits e.0.bits then e else f
+
+-- of the entries that cover an address, the one with most bits
+abbrev pub narrowest : List Entry → Addr → Option Entry
+narrowest [] a = None
+narrowest (e ∷ es) a = if covers e.0 a then Some (narrower e (narrowest es a)) else narrowest es a
+
+-- yes if there is an entry, and it is not negated
+abbrev pub says_yes : Option Entry → Bool
+says_yes None = false
+says_yes (Some e) = not e.1.negated
+
+-- the answer of a table for an address: the narrowest entry that covers it says so (pf.conf(5), TABLES)
+abbrev pub answer_of : List Entry → Addr → Bool
+answer_of entries a = says_yes (narrowest entries a)
+
+-- whether this is the prefix of an address that has so many bits
+abbrev pub is_prefix_of : Addr → ℕ → Network → Bool
+is_prefix_of a bits p = (p.bits == bits) && covers p a
+
+-- the mark of the entry that is the prefix of an address with so many bits
+abbrev pub mark_at : List Entry → Addr → ℕ → Option Mark
+mark_at entries a bits = lookup (is_prefix_of a bits) entries
+
+-- whether a table has an entry, negated or not, for the prefix of an address with so many bits
+abbrev pub holds_prefix : List Entry → Addr → ℕ → Bool
+holds_prefix entries a bits = list_any (λ (e : Entry). is_prefix_of a bits e.0) entries
+
+-- whether a table has an entry for exactly this host, negated or not
+abbrev pub holds_host : List Entry → Addr → Bool
+holds_host entries a = holds_prefix entries a (width_of a)

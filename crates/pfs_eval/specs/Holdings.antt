@@ -1,0 +1,29 @@
+use Rattle.std.specs.Prelude.{ℕ, ◌≡◌, Bool, true, false, All, List, length, map, slice_index_or}
+use Rattle.pfs_addr.specs.Prefixes.{IsNetwork}
+use Rattle.pfs_eval.specs.Entries.{Entry}
+
+-- what a table holds: its entries in order, and how many more fit without memory
+pub record Held : Type 0 where
+  pub entries : List Entry
+  pub spare : ℕ
+
+-- what all tables hold, by their numbers: the entries of each in order, how many more fit into each without memory, and the
+-- limit on all entries together
+pub record Holdings : Type 0 where
+  pub entries : List (List Entry)
+  pub room : List ℕ
+  pub limit : ℕ
+
+-- the same, from the tables one by one
+abbrev pub holdings : List Held → ℕ → Holdings
+holdings tables limit = record {
+  entries = map (λ (t : Held). t.entries) tables;
+  room = map (λ (t : Held). t.spare) tables;
+  limit = limit;
+}
+
+-- what the entries of a table keep: each is a prefix, and its length is marked. lengths: whether a length is marked
+pub record AreKept (entries : List Entry) (lengths : List Bool) : Type 0 where
+  pub networks : All (λ (x : Entry). IsNetwork x.0) entries
+  pub long : length lengths ≡ 129
+  pub marked : All (λ (x : Entry). slice_index_or lengths x.0.bits false ≡ true) entries

@@ -1,0 +1,51 @@
+use Rattle.std.specs.Prelude.{ℕ, Bool, false, nat_le, nat_lt, if◌then◌else◌, List, [], ◌∷◌, ◌++◌, length, map, unwrap_or, slice_get, slice_set, slice_index}
+use Rattle.std.specs.List.{sum_by}
+use Rattle.pfs_addr.specs.declared.addresses.Addr.{Addr}
+use Rattle.pfs_addr.specs.Addresses.{width_of}
+use Rattle.pfs_addr.specs.Prefixes.{network_of}
+use Rattle.pfs_rules.specs.Configs.{Conf}
+use Rattle.pfs_rules.specs.declared.tables.TableDef.{TableDef}
+use Rattle.pfs_eval.specs.Entries.{Entry, answer_of, entry_of, holds_host}
+use Rattle.pfs_eval.specs.declared.tables.Added.{Added}
+use Rattle.pfs_eval.specs.declared.tables.Added.TheVariants.{New, Held, Full}
+
+-- the entries of the tables of a configuration
+abbrev pub config_entries : Conf → List (List Entry)
+config_entries conf = map (λ (t : TableDef). map entry_of t.entries) conf.tables
+
+-- ---- the answer of a table
+
+-- the entries of a table in order; none where there is no such table
+abbrev pub entries_at : List (List Entry) → ℕ → List Entry
+entries_at tables t = unwrap_or (slice_get tables t) []
+
+-- the answer of a table for an address: of its entries that cover the address, the one with most bits says; yes if there
+-- is one and it is not negated (pf.conf(5), TABLES)
+unfoldable pub table_answer : List (List Entry) → ℕ → Addr → Bool
+table_answer tables t a = answer_of (entries_at tables t) a
+
+-- how many entries the tables have together
+abbrev pub entry_count : List (List Entry) → ℕ
+entry_count tables = sum_by (λ (es : List Entry). length es) tables
+
+-- ---- a host is added (own)
+
+-- the entry of a single host
+abbrev pub host_entry : Addr → Entry
+host_entry a = (network_of a (width_of a), record { negated = false })
+
+-- what becomes of a host: held where the table has an entry for exactly that host, negated or not; else full where the
+-- tables together have as many entries as the limit; else new
+abbrev pub added_to : List (List Entry) → ℕ → ℕ → Addr → Added
+added_to tables limit t a =
+    if holds_host (entries_at tables t) a then Held else (if nat_le limit (entry_count tables) then Full else New)
+
+-- the entries after that: a new host stands last in its table, and else nothing changes
+abbrev pub entries_after : List (List Entry) → ℕ → Addr → Added → List (List Entry)
+entries_after tables t a New = slice_set tables t (entries_at tables t ++ host_entry a ∷ [])
+entries_after tables t a Held = tables
+entries_after tables t a Full = tables
+
+-- whether one more entry fits into a table without memory. room: how many fit into each
+abbrev pub has_room : List ℕ → ℕ → Bool
+has_room room t = nat_lt 0 (slice_index room t)

@@ -1,0 +1,142 @@
+// The entries of one table: prefixes in the order in which they came, each with its mark.
+
+ghost use Rattle.std.specs.Prelude.{◌≡◌, ◌<◌, ◌≤◌, ◌++◌, [], ◌∷◌, IfOk, IsOk, OnErr, OnOk, map, nat_lt, false};
+ghost use Rattle.pfs_addr.specs.Addresses.{width_of};
+ghost use Rattle.pfs_addr.specs.Prefixes.{network_of};
+ghost use Rattle.pfs_eval.specs.Holdings.{AreKept};
+ghost use Rattle.pfs_eval.specs.Entries.{answer_of, entry_of, holds_host, holds_prefix, mark_at};
+
+use indexmap::IndexMap;
+use pfs_addr::{Addr, Prefix};
+use pfs_rules::Entries;
+use std::alloc::{AllocError, Global};
+use std::marker::Model;
+
+/// What a table keeps beside a prefix.
+#[derive(Debug, Clone, Copy, PartialEq, Eq)]
+pub struct Mark {
+    /// Whether a `!` stands before the prefix.
+    pub negated: bool,
+}
+
+/// The lengths that a prefix of any family may have: 0 to 128.
+const LENGTHS: usize = 129;
+
+/// One table. Clauses see `Held`: its entries in order, and how many more fit without memory.
+#[derive(Drop)]
+pub struct Table {
+    map: IndexMap<Prefix, Mark>,
+    /// For each length of a prefix, whether an entry has it. Other lengths are not looked up.
+    lengths: [bool; LENGTHS],
+}
+
+impl Model for Table {
+    ghost use Rattle.std.specs.HashMap.{spare};
+    ghost use Rattle.pfs_eval.specs.Holdings.{AreKept, Held};
+
+    ghost Value = { Held };
+
+    ghost view = { λ e. record { entries = e.map.entries; spare = spare e.map } };
+
+    ghost invariant = { λ e. AreKept e.map.entries e.lengths };
+}
+
+impl Table {
+    /// No entries. It takes no memory.
+    pub fn new(alloc: Global) -> Table
+        ensures { result.entries ≡ [] }
+    {
+        Table {
+            map: IndexMap::new(alloc),
+            lengths: [false; LENGTHS],
+        }
+    }
+
+    /// The entries that a rules text says for a table, in their order.
+    pub fn of(alloc: Global, entries: &Entries) -> Result<Table, AllocError>
+        ensures { IfOk result (λ t. t.entries ≡ map entry_of entries.now) }
+    {
+        let mut table = Table::new(alloc);
+        for place in 0..entries.len() {
+            let (prefix, negated) = entries.at(place).unwrap();
+            table.add(prefix.addr(), prefix.bits(), Mark { negated })?;
+        }
+        Ok(table)
+    }
+
+    /// Whether the narrowest entry that covers the address is there and not negated. One look-up is made for each length
+    /// that an entry has.
+    pub fn matches(&self, addr: Addr) -> bool
+        ensures { result ≡ answer_of self.now.entries addr }
+    {
+        answer(&self.map, &self.lengths, addr)
+    }
+
+    /// Whether there is an entry for exactly this host, negated or not.
+    pub fn holds(&self, host: Addr) -> bool
+        ensures { result ≡ holds_host self.now.entries host }
+    {
+        self.map.contains_key(&host.prefix(host.width()))
+    }
+
+    /// Whether one more entry fits without memory.
+    pub fn has_room(&self) -> bool
+        ensures { result ≡ nat_lt 0 self.now.spare }
+    {
+        self.map.capacity() > self.map.len()
+    }
+
+    /// Takes memory for one more entry, if it does not fit already.
+    pub fn reserve(&mut self) -> Result<(), AllocError>
+        ensures entries { self.new.entries ≡ self.old.entries }
+        ensures ok { OnOk result (0 < self.new.spare) }
+        ensures no_memory { 0 < self.old.spare → IsOk result }
+    {
+        self.map.reserve(1)
+    }
+
+    /// Adds, at the end, the prefix of this address with so many bits. On an error nothing changes.
+    pub fn add(&mut self, addr: Addr, bits: u8, mark: Mark) -> Result<(), AllocError>
+        requires bits { bits ≤ width_of addr }
+        requires absent { holds_prefix self.old.entries addr bits ≡ false }
+        ensures ok { OnOk result (self.new.entries ≡ self.old.entries ++ (network_of addr bits, mark) ∷ []) }
+        ensures err { OnErr result (self.new.entries ≡ self.old.entries) }
+        ensures no_memory { 0 < self.old.spare → IsOk result }
+    {
+        self.map.insert(addr.prefix(bits), mark)?;
+        self.lengths[usize::from(bits)] = true;
+        Ok(())
+    }
+}
+
+/// The answer for an address: of its prefixes, from the longest on, the first that is an entry says.
+fn answer(map: &IndexMap<Prefix, Mark>, lengths: &[bool; LENGTHS], addr: Addr) -> bool
+    requires { AreKept map.now.entries lengths.now }
+    ensures { result ≡ answer_of map.now.entries addr }
+{
+    let mut bits = addr.width() + 1;
+    while bits > 0 {
+        bits -= 1;
+        if let Some(mark) = mark_at(map, lengths, addr, bits) {
+            return !mark.negated;
+        }
+    }
+    false
+}
+
+/// The mark of the entry that is the prefix of this address with so many bits, if there is one.
+fn mark_at(
+    map: &IndexMap<Prefix, Mark>,
+    lengths: &[bool; LENGTHS],
+    addr: Addr,
+    bits: u8,
+) -> Option<Mark>
+    requires bits { bits ≤ width_of addr }
+    requires kept { AreKept map.now.entries lengths.now }
+    ensures { result ≡ mark_at map.now.entries addr bits }
+{
+    if !lengths[usize::from(bits)] {
+        return None;
+    }
+    map.get(&addr.prefix(bits)).copied()
+}

@@ -1,0 +1,16 @@
+// The tables of a configuration, and the verdict of its rules on a packet.
+#![tactic(auto)]
+
+mod books;
+mod entries;
+mod lines;
+mod matching;
+mod tables;
+mod walks;
+
+pub use books::Book;
+pub use entries::Mark;
+pub use tables::{Added, Tables};
+
+#[cfg(test)]
+mod tests;

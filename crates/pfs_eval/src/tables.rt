@@ -1,0 +1,152 @@
+// All tables of a configuration, and the limit on their entries.
+
+ghost use Rattle.std.specs.Prelude.{◌≡◌, ◌<◌, ◌≤◌, ◌⊎◌, IfOk, IsOk, OnErr, OnOk, Some, length, nat_le, option_map, slice_get, true};
+ghost use Rattle.pfs_rules.specs.Configs.{limit_of};
+ghost use Rattle.pfs_eval.specs.Tables.{added_to, config_entries, entries_after, entry_count, has_room, table_answer};
+
+use crate::entries::{Mark, Table};
+use pfs_addr::{Addr, NoMemory};
+use pfs_rules::{Config, Entries, LimitName, TableNo};
+use std::alloc::Global;
+use std::marker::Model;
+
+/// What became of a host that was to be added to a table. (own to this profile)
+#[derive(Debug, Clone, Copy, PartialEq, Eq, Hash)]
+pub enum Added {
+    /// It is now an entry.
+    New,
+    /// The table has an entry for exactly that host already, negated or not.
+    Held,
+    /// All tables together have as many entries as `set limit table-entries` allows.
+    Full,
+}
+
+/// The entries of all tables of a configuration, as they are now. (pf.conf(5), TABLES)
+///
+/// Clauses see `Holdings`: of each table its entries in order and how many more fit without memory, and the limit on all
+/// entries together.
+#[derive(Drop)]
+pub struct Tables {
+    tables: Vec<Table>,
+    limit: u64,
+    count: u64,
+}
+
+impl Model for Tables {
+    ghost use Rattle.std.specs.Prelude.{◌≡◌, ◌<◌, ◌^◌};
+    ghost use Rattle.pfs_eval.specs.Holdings.{Holdings, holdings};
+    ghost use Rattle.pfs_eval.specs.Tables.{entry_count};
+
+    ghost Value = { Holdings };
+
+    ghost view = { λ t. holdings t.tables.items t.limit };
+
+    ghost invariant = { λ t. (t.count ≡ entry_count (holdings t.tables.items t.limit).entries) × (t.limit < 2 ^ 32) };
+}
+
+#[tactic(auto, unfolding(crate::specs::Tables::table_answer))]
+impl Tables {
+    /// The tables of a configuration, with the entries that its text says. The error says that memory was refused.
+    pub fn new(alloc: Global, config: &Config) -> Result<Tables, NoMemory>
+        ensures entries { IfOk result (λ t. t.entries ≡ config_entries config.now) }
+        ensures limit { IfOk result (λ t. t.limit ≡ limit_of config.now LimitName.TableEntries) }
+    {
+        let count = config.table_count();
+        let mut tables = Vec::with_capacity(alloc, count as usize)?;
+        for number in 0..count {
+            tables.push(Table::of(alloc, entries_of(config, number))?)?;
+        }
+        Ok(Tables {
+            tables,
+            limit: config.limit(LimitName::TableEntries),
+            count: config.entry_count(),
+        })
+    }
+
+    /// The answer of a table for an address: of its entries that cover the address the one with most bits says; yes if
+    /// there is one and it is not negated. A table that is not there answers no. It takes no memory, and makes
+    /// one look-up at most for each length that an entry of the table has. (pf.conf(5), TABLES)
+    pub fn matches(&self, table: TableNo, addr: Addr) -> bool
+        ensures { result ≡ table_answer self.now.entries table.0 addr }
+    {
+        match self.tables.get(table.0 as usize) {
+            Some(table) => table.matches(addr),
+            None => false,
+        }
+    }
+
+    /// How many entries all tables have together. It takes no memory.
+    pub fn entries(&self) -> u64
+        ensures { result ≡ entry_count self.now.entries }
+    {
+        self.count
+    }
+
+    /// Whether one more entry fits into a table without memory. It takes no memory.
+    pub fn has_room(&self, table: TableNo) -> bool
+        requires { table.0 < length self.now.entries }
+        ensures { result ≡ has_room self.now.room table.0 }
+    {
+        self.tables[table.0 as usize].has_room()
+    }
+
+    /// Takes memory for one more entry of a table, where that does not fit already and the entries are not at their
+    /// limit; after `Ok` the next `add_host` to that table is no error. No entry changes. The error says that the memory
+    /// was refused.
+    pub fn make_room(&mut self, table: TableNo) -> Result<(), NoMemory>
+        requires { table.0 < length self.old.entries }
+        ensures entries { self.new.entries ≡ self.old.entries }
+        ensures limit { self.new.limit ≡ self.old.limit }
+        ensures ok { OnOk result ((has_room self.new.room table.0 ≡ true) ⊎ (self.new.limit ≤ entry_count self.new.entries)) }
+        ensures has_room { has_room self.old.room table.0 ≡ true → IsOk result }
+        ensures at_limit { self.old.limit ≤ entry_count self.old.entries → IsOk result }
+    {
+        if self.is_full() {
+            return Ok(());
+        }
+        self.tables[table.0 as usize].reserve()?;
+        Ok(())
+    }
+
+    /// Adds a single host to a table: not if the table has an entry for exactly that host, negated or not, and not if all
+    /// tables together have as many entries as the limit allows. The error says that memory was refused; it comes only
+    /// where the host is new and does not fit without memory. On an error, and where the host is not new, nothing changes.
+    /// (own to this profile)
+    pub fn add_host(&mut self, table: TableNo, host: Addr) -> Result<Added, NoMemory>
+        requires { table.0 < length self.old.entries }
+        ensures answer { IfOk result (λ a. a ≡ added_to self.old.entries self.old.limit table.0 host) }
+        ensures ok { IfOk result (λ a. self.new.entries ≡ entries_after self.old.entries table.0 host a) }
+        ensures err { OnErr result (self.new.entries ≡ self.old.entries) }
+        ensures tables { length self.new.entries ≡ length self.old.entries }
+        ensures only_new { OnErr result (added_to self.old.entries self.old.limit table.0 host ≡ Added.New) }
+        ensures limit { self.new.limit ≡ self.old.limit }
+        ensures has_room { has_room self.old.room table.0 ≡ true → IsOk result }
+        ensures at_limit { self.old.limit ≤ entry_count self.old.entries → IsOk result }
+    {
+        let place = table.0 as usize;
+        if self.tables[place].holds(host) {
+            return Ok(Added::Held);
+        }
+        if self.is_full() {
+            return Ok(Added::Full);
+        }
+        self.tables[place].add(host, host.width(), Mark { negated: false })?;
+        self.count += 1;
+        Ok(Added::New)
+    }
+
+    /// Whether all tables together have as many entries as the limit allows.
+    fn is_full(&self) -> bool
+        ensures { result ≡ nat_le self.now.limit (entry_count self.now.entries) }
+    {
+        self.count >= self.limit
+    }
+}
+
+/// The entries of a table of a configuration.
+fn entries_of(config: &Config, number: u32) -> &Entries
+    requires { number < length config.now.tables }
+    ensures { option_map (λ t. t.entries) (slice_get config.now.tables number) ≡ Some result.now }
+{
+    &config.table(TableNo(number)).unwrap().entries
+}

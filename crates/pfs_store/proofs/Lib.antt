@@ -1,0 +1,4 @@
+mod IdleLaws
+pub mod MomentLaws
+mod SliceLaws
+mod Worked
