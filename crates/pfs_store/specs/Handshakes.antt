@@ -1,12 +1,13 @@
 -- What a completed handshake hits, and which states are killed then. (pf.conf(5), STATEFUL TRACKING OPTIONS, "max-src-conn",
 -- "max-src-conn-rate" and "overload"; that the state itself is killed in any case is own)
-use Rattle.std.specs.Prelude.{ℕ, ◌*◌, ◌==◌, ◌&&◌, ◌||◌, nat_lt, Bool, false, Option, Some, None}
+use Rattle.std.specs.Prelude.{ℕ, ◌*◌, ◌==◌, nat_lt, Bool, false, Option, Some, None}
 use Rattle.pfs_rules.specs.declared.actions.Overload.{Overload}
 use Rattle.pfs_rules.specs.declared.actions.Rate.{Rate}
 use Rattle.pfs_rules.specs.declared.actions.Scope.{Scope}
 use Rattle.pfs_rules.specs.declared.actions.Scope.TheVariants as scope
 use Rattle.pfs_rules.specs.declared.actions.StateOptions.{StateOptions}
-use Rattle.pfs_store.specs.Counts.{exceeded, is_of_rule, is_of_source}
+use Rattle.pfs_store.specs.Counts.{exceeded}
+use Rattle.pfs_store.specs.Leaving.{is_flushed}
 use Rattle.pfs_store.specs.declared.records.State.{State}
 use Rattle.pfs_store.specs.declared.records.Touched.{Touched}
 
@@ -27,9 +28,9 @@ abbrev pub flush_of : Option Overload → Option Scope
 flush_of None = None
 flush_of (Some o) = o.flush
 
--- a state is killed with another one: itself; with `flush` those of its source and rule; with `flush global` those of its
--- source
-abbrev pub goes_with : Option Scope → State → State → Bool
-goes_with None s t = t.number == s.number
-goes_with (Some scope.Rule) s t = (t.number == s.number) || (is_of_rule s.rule.0 t && is_of_source s.source t)
-goes_with (Some scope.Global) s t = (t.number == s.number) || is_of_source s.source t
+-- a state is killed with the one of this number that a packet touched: that one itself; with `flush` those of its source and
+-- rule; with `flush global` those of its source (itself is one of them)
+abbrev pub goes_with : Option Scope → ℕ → Touched → State → Bool
+goes_with None number t s = s.number == number
+goes_with (Some scope.Rule) number t s = is_flushed t.source (Some t.rule) s
+goes_with (Some scope.Global) number t s = is_flushed t.source None s

@@ -1,0 +1,16 @@
+mod Said
+mod Pieces
+mod Names
+mod Letters
+mod Numbers
+mod FilterPhrases
+mod Lists
+mod OptionPhrases
+mod SettingPhrases
+mod TablePhrases
+mod Numbering
+mod StatementsSaid
+mod RulesAgain
+mod ItemPhrases
+mod Statements
+mod WholeText
