@@ -14,24 +14,15 @@ use Rattle.pfs_cli.specs.declared.faults.ReplayFault.TheVariants as fault
 use Rattle.pfs_cli.specs.Rules.{IsKept, IsRefused, rules_limit}
 use Rattle.pfs_cli.specs.Replays.{IsFeedFault}
 use Rattle.pfs_cli.specs.Checks.{Answers, RefusesText, fault_by, fault_of}
-use Rattle.pfs_cli.proofs.Replaying.{kept-short, kept-fault}
-
--- the configuration of what is kept of a text is that of the text
-pub kept-reads : (kept text : List ℕ) (conf : Conf) → IsKept kept text → Reads kept conf → Reads text conf
-kept-reads kept text conf k reads =
-    let P : List ℕ → Type 0 = λ t. Reads t conf in
-    subst P (kept-short kept text k reads.short) reads
+use Rattle.pfs_cli.proofs.Replaying.{kept-refused}
 
 -- what is told of a text without a configuration
-pub kept-refused : (kept text : List ℕ) (f : LoadFault) → IsKept kept text → IsFault kept f → ((conf : Conf) → Reads kept conf → f ≡ no_memory) → RefusesText text (fault_of f)
-kept-refused kept text f k h only = go f.kind refl
+pub kept-told : (kept text : List ℕ) (f : LoadFault) → IsKept kept text → IsFault kept f → ((conf : Conf) → Reads kept conf → f ≡ no_memory) → RefusesText text (fault_of f)
+kept-told kept text f k h only = go f.kind refl
   where
-    refused : (f ≡ no_memory → ⊥) → IsRefused text f
-    refused n = (λ conf reads. n (only conf (let P : List ℕ → Type 0 = λ t. Reads t conf in subst P (sym (k.0 reads.short)) reads)), kept-fault kept text f n k h)
-
     go : (c : Kind) → f.kind ≡ c → RefusesText text (fault_by f c)
     go kind.Memory e = tt
-    go c e = refused (λ m. let q : c ≡ kind.Memory = sym e ∙ ap (λ (x : LoadFault). x.kind) m in absurd cc)
+    go c e = kept-refused kept text f k (λ m. let q : c ≡ kind.Memory = sym e ∙ ap (λ (x : LoadFault). x.kind) m in absurd cc, λ conf reads. let q : c ≡ kind.Memory = sym e ∙ ap (λ (x : LoadFault). x.kind) (only conf reads) in absurd cc, h)
 
 -- no fault of rules is one of writing
 pub refused-no_write : (f : LoadFault) → fault_of f ≢ fault.Write

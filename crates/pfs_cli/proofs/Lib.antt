@@ -5,5 +5,4 @@ pub mod Rest
 pub mod Ruling
 pub mod Runs
 pub mod Stepping
-pub mod Subsetting
 pub mod Telling

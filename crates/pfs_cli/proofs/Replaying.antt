@@ -4,7 +4,7 @@ use Rattle.std.proofs.Math.Seq.{drop-append_seam, drop-append-add}
 use Rattle.std.specs.Prelude.{IsErrAnd, Result, Ok, Err, nat_lt}
 use Rattle.std.proofs.lemmas.Bool.Decides.{nat_tests}
 use Rattle.std.proofs.lemmas.List.{append-nil, take-append-drop}
-use Rattle.pfs_cli.specs.declared.events.Event.{Event}
+use Rattle.pfs_engine.specs.declared.events.Event.{Event}
 use Rattle.pfs_cli.specs.Traces.{Trace}
 use Rattle.pfs_cli.proofs.Telling.{report-front}
 use Rattle.std.specs.Io.KnownBytes.{Appends, Keeps, Consumes}
@@ -17,9 +17,8 @@ use Rattle.pfs_rules.specs.Configs.{Conf}
 use Rattle.pfs_conf.specs.Kinds.{no_memory}
 use Rattle.pfs_conf.specs.Reads.{Reads, IsFault, memory, long, breaks, stops}
 use Rattle.pfs_cli.specs.declared.records.Stop.TheVariants as stop
-use Rattle.pfs_cli.specs.declared.rulesets.Ruleset.{Ruleset}
 use Rattle.pfs_cli.specs.Faults.{replay_fault}
-use Rattle.pfs_cli.specs.Rules.{RulesOf, WaitsToRun, unsupported, IsRefused, IsRulesFault, IsKept, rules_limit}
+use Rattle.pfs_cli.specs.Rules.{IsRefused, IsKept, rules_limit}
 use Rattle.pfs_cli.specs.Reports.{report, AreFirstLines, BeginsReport, Tells}
 use Rattle.pfs_cli.specs.Replays.{Replays, RefusesRules, IsFeedFault, trace_of}
 
@@ -30,37 +29,37 @@ Appends-kept (Some xs) (Some ys) None bs p q = absurd q
 Appends-kept (Some xs) (Some ys) (Some zs) bs p q = q ∙ p
 
 -- the lines of the first records begin the report
-first-lines-begin : (c : Ruleset) (trace : Trace) (text : List ℕ) → AreFirstLines c trace text → BeginsReport c trace text
-first-lines-begin c trace text (k, e) =
+first-lines-begin : (conf : Conf) (trace : Trace) (text : List ℕ) → AreFirstLines conf trace text → BeginsReport conf trace text
+first-lines-begin conf trace text (k, e) =
     let whole : take k trace.0 ++ drop k trace.0 ≡ trace.0 = take-append-drop k trace.0 in
-    let (rest, begins) = report-front c (take k trace.0) (drop k trace.0) trace.1 in
-    (rest, ap (λ (es : List Event). report c (es, trace.1)) (sym whole) ∙ (begins ∙ ap (λ (t : List ℕ). t ++ rest) (sym e)))
+    let (rest, begins) = report-front conf (take k trace.0) (drop k trace.0) trace.1 in
+    (rest, ap (λ (es : List Event). report conf (es, trace.1)) (sym whole) ∙ (begins ∙ ap (λ (t : List ℕ). t ++ rest) (sym e)))
 
 -- a faulty trace leaves its report
-pub run-fault : (c : Ruleset) (rs ts t : List ℕ) (f : TraceFault) → RulesOf rs c → Tells c (trace_of ts) t (Err (stop.Fault f)) → Replays rs ts t (Err (replay_fault f))
-run-fault c rs ts t (trace.Columns row) rules told = (c, rules, told.0, told.1)
-run-fault c rs ts t (trace.Field row column) rules told = (c, rules, told.0, told.1)
-run-fault c rs ts t (trace.TimeFell row) rules told = (c, rules, told.0, told.1)
-run-fault c rs ts t trace.TooManyRows rules told = (c, rules, told.0, told.1)
+pub run-fault : (conf : Conf) (rs ts t : List ℕ) (f : TraceFault) → Reads rs conf → Tells conf (trace_of ts) t (Err (stop.Fault f)) → Replays rs ts t (Err (replay_fault f))
+run-fault conf rs ts t (trace.Columns row) reads told = (conf, reads, told.0, told.1)
+run-fault conf rs ts t (trace.Field row column) reads told = (conf, reads, told.0, told.1)
+run-fault conf rs ts t (trace.TimeFell row) reads told = (conf, reads, told.0, told.1)
+run-fault conf rs ts t trace.TooManyRows reads told = (conf, reads, told.0, told.1)
 
 -- a trace that is not read to its end leaves the lines of its first records
-pub run-cut : (c : Ruleset) (rs ts t : List ℕ) (f : ReplayFault) → IsFeedFault f → RulesOf rs c → AreFirstLines c (trace_of ts) t → Replays rs ts t (Err f)
-run-cut c rs ts t f kind rules lines = elim kind [
-  | inl e ↦ rw e (inr (c, rules, lines, first-lines-begin c (trace_of ts) t lines))
+pub run-cut : (conf : Conf) (rs ts t : List ℕ) (f : ReplayFault) → IsFeedFault f → Reads rs conf → AreFirstLines conf (trace_of ts) t → Replays rs ts t (Err f)
+run-cut conf rs ts t f kind reads lines = elim kind [
+  | inl e ↦ rw e (inr (conf, reads, lines, first-lines-begin conf (trace_of ts) t lines))
   | inr m ↦ elim m [
-    | inl e ↦ rw e (inr (c, rules, lines, first-lines-begin c (trace_of ts) t lines))
-    | inr e ↦ rw e (inr (c, rules, lines, first-lines-begin c (trace_of ts) t lines))
+    | inl e ↦ rw e (inr (conf, reads, lines, first-lines-begin conf (trace_of ts) t lines))
+    | inr e ↦ rw e (inr (conf, reads, lines, first-lines-begin conf (trace_of ts) t lines))
   ]
 ]
 
-pub run-write : (c : Ruleset) (rs ts t : List ℕ) → RulesOf rs c → BeginsReport c (trace_of ts) t → Replays rs ts t (Err fault.Write)
-run-write c rs ts t rules front = (c, rules, front)
+pub run-write : (conf : Conf) (rs ts t : List ℕ) → Reads rs conf → BeginsReport conf (trace_of ts) t → Replays rs ts t (Err fault.Write)
+run-write conf rs ts t reads front = (conf, reads, front)
 
-pub run-done : (c : Ruleset) (rs ts t : List ℕ) → RulesOf rs c → Tells c (trace_of ts) t (Ok tt) → Replays rs ts t (Ok tt)
-run-done c rs ts t rules told = (c, rules, told.0, told.1)
+pub run-done : (conf : Conf) (rs ts t : List ℕ) → Reads rs conf → Tells conf (trace_of ts) t (Ok tt) → Replays rs ts t (Ok tt)
+run-done conf rs ts t reads told = (conf, reads, told.0, told.1)
 
-pub run-unflushed : (c : Ruleset) (rs ts t : List ℕ) → RulesOf rs c → Tells c (trace_of ts) t (Ok tt) → Replays rs ts t (Err fault.Write)
-run-unflushed c rs ts t rules told = (c, rules, ([], sym (append-nil t ∙ told.1)))
+pub run-unflushed : (conf : Conf) (rs ts t : List ℕ) → Reads rs conf → Tells conf (trace_of ts) t (Ok tt) → Replays rs ts t (Err fault.Write)
+run-unflushed conf rs ts t reads told = (conf, reads, ([], sym (append-nil t ∙ told.1)))
 
 -- a feed of rules that gives no more leaves nothing
 pub rules-cut : (rs ts : List ℕ) (f : ReplayFault) → IsFeedFault f → Replays rs ts [] (Err f)
@@ -100,23 +99,23 @@ kept-fault kept text f other k (stops w t behind short at e) =
     let P : List ℕ → Type 0 = λ t. IsFault t f in
     subst P (kept-short kept text k short) (stops w t behind short at e)
 
--- what is told of what is kept of a text may be told of the text
-kept-told : (kept text : List ℕ) (f : LoadFault) → IsKept kept text → IsRulesFault kept f → IsRulesFault text f
-kept-told kept text f k (other, told) = (
+-- the configuration of what is kept of a text is that of the text
+pub kept-reads : (kept text : List ℕ) (conf : Conf) → IsKept kept text → Reads kept conf → Reads text conf
+kept-reads kept text conf k reads =
+    let P : List ℕ → Type 0 = λ t. Reads t conf in
+    subst P (kept-short kept text k reads.short) reads
+
+-- a text is refused as what is kept of it is
+pub kept-refused : (kept text : List ℕ) (f : LoadFault) → IsKept kept text → IsRefused kept f → IsRefused text f
+kept-refused kept text f k (other, none, is) = (
   other,
-  elim told as (λ _. IsRefused text f ⊎ (WaitsToRun text × (f ≡ unsupported))) [
-    | inl is ↦
-        let none : (conf : Conf) → Reads text conf → ⊥ = λ conf reads. is.0 conf (let P : List ℕ → Type 0 = λ t. Reads t conf in subst P (sym (k.0 reads.short)) reads) in
-        inl (none, kept-fault kept text f other k is.1)
-    | inr waits ↦
-        let P : List ℕ → Type 0 = λ t. WaitsToRun t in
-        inr (subst P (kept-short kept text k waits.0.1.short) waits.0, waits.1)
-  ],
+  λ conf reads. none conf (let P : List ℕ → Type 0 = λ t. Reads t conf in subst P (sym (k.0 reads.short)) reads),
+  kept-fault kept text f other k is,
 )
 
 -- rules that are not accepted leave nothing
 pub rules-refused : (kept text ts : List ℕ) (f : ReplayFault) → IsKept kept text → RefusesRules kept f → Replays text ts [] (Err f)
-rules-refused kept text ts (fault.Rules f) k told = (kept-told kept text f k told, refl)
+rules-refused kept text ts (fault.Rules f) k told = (kept-refused kept text f k told, refl)
 rules-refused kept text ts (fault.Columns row) k told = absurd told
 rules-refused kept text ts (fault.Field row column) k told = absurd told
 rules-refused kept text ts (fault.TimeFell row) k told = absurd told
@@ -125,12 +124,6 @@ rules-refused kept text ts fault.Read k told = absurd told
 rules-refused kept text ts fault.Write k told = absurd told
 rules-refused kept text ts fault.Memory k told = inl refl
 rules-refused kept text ts fault.Endless k told = absurd told
-
--- the rules of what is kept of a text are those of the text
-pub kept-rules : (kept text : List ℕ) (c : Ruleset) → IsKept kept text → RulesOf kept c → RulesOf text c
-kept-rules kept text c k rules =
-    let P : List ℕ → Type 0 = λ t. RulesOf t c in
-    subst P (kept-short kept text k rules.1.short) rules
 
 -- a fault that is handed on as it is
 pub handed-on : (rs ts t : List ℕ) (f : ReplayFault) (r : Result Unit ReplayFault) → IsErrAnd r (λ e. e ≡ f) → Replays rs ts t (Err f) → Replays rs ts t r

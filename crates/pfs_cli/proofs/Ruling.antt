@@ -1,5 +1,5 @@
 -- What is told of a text whose rules are refused.
-use Rattle.std.proofs.Common.{◌≡◌, ◌∙◌, ℕ, List, refl, sym, ap, inl}
+use Rattle.std.proofs.Common.{◌≡◌, ◌∙◌, ℕ, List, refl, sym, ap}
 use Rattle.pfs_rules.specs.Configs.{Conf}
 use Rattle.pfs_conf.specs.Kinds.{no_memory}
 use Rattle.pfs_conf.specs.Reads.{Reads, IsFault}
@@ -17,5 +17,6 @@ refuses text f is only = go f.kind refl
     go kind.Memory e = tt
     go c e = (
       λ m. let q : c ≡ kind.Memory = sym e ∙ ap (λ (x : LoadFault). x.kind) m in absurd cc,
-      inl (λ conf reads. (let q : c ≡ kind.Memory = sym e ∙ ap (λ (x : LoadFault). x.kind) (only conf reads) in absurd cc), is),
+      λ conf reads. let q : c ≡ kind.Memory = sym e ∙ ap (λ (x : LoadFault). x.kind) (only conf reads) in absurd cc,
+      is,
     )

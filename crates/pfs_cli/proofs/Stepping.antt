@@ -1,86 +1,121 @@
--- The moment of the machine is that of its last event, and what the rules decide.
-use Rattle.std.proofs.Common.{◌≡◌, ◌+◌, ◌<◌, ◌≤◌, ◌∙◌, ℕ, List, [], ◌∷◌, length, drop, get_or, add-one, Bool, true, false, Option, Some, None, refl, sym, ap}
-use Rattle.std.specs.Prelude.{if◌then◌else◌, nat_le}
-use Rattle.std.proofs.Math.Seq.{drop-cons}
-use Rattle.std.proofs.lemmas.List.{drop_all}
-use Rattle.pfs_addr.specs.Packets.{Header}
+-- The moment of the machine is that of its last event, and what a record says of its own moment.
+use Rattle.std.proofs.Common.{◌≡◌, ◌<◌, ◌≤◌, ℕ, List, Bool, true, false, Option, Some, None, refl, sym, ap, ◌∙◌, arith}
+use Rattle.std.specs.Prelude.{Result, Ok, Err, IfOk, ◌^◌, ◌==◌, ◌||◌, if◌then◌else◌, length, nat_lt, nat_le}
+use Rattle.std.specs.Option.{ForSome}
+use Rattle.std.proofs.lemmas.Bool.Decides.{nat_tests}
 use Rattle.pfs_addr.specs.Keys.{key_of}
-use Rattle.pfs_addr.specs.declared.packets.FlowKey.{FlowKey}
-use Rattle.pfs_cli.specs.declared.events.Event.{Event}
-use Rattle.pfs_cli.specs.declared.events.What.{What}
-use Rattle.pfs_cli.specs.declared.events.What.TheVariants as what
-use Rattle.pfs_rules.specs.declared.items.RuleNo.{RuleNo}
-use Rattle.pfs_cli.specs.declared.rulesets.Running.{Running}
-use Rattle.pfs_cli.specs.declared.rulesets.Running.TheVariants as running
-use Rattle.pfs_cli.specs.declared.rulesets.Ruleset.{Ruleset}
-use Rattle.pfs_cli.specs.Machine.{World, first_world, step, last_of, what_step, held_or, decided, admitted, verdict, rule_held, reaches, states_of, matches, or_else}
+use Rattle.pfs_addr.specs.Numbers.{number_of}
+use Rattle.pfs_addr.specs.Packets.{Header}
+use Rattle.pfs_rules.specs.Configs.{Conf, options_of, rule_of}
+use Rattle.pfs_rules.specs.declared.actions.Action.{Action}
+use Rattle.pfs_rules.specs.declared.actions.Action.TheVariants as action
+use Rattle.pfs_rules.specs.declared.actions.Overload.{Overload}
+use Rattle.pfs_store.specs.Admission.{limit_at}
+use Rattle.pfs_store.specs.Handshakes.{hits_connections, hits_rate}
+use Rattle.pfs_store.specs.Touching.{completes_at, touch_of, touched}
+use Rattle.pfs_store.specs.Worlds.{state_with}
+use Rattle.pfs_store.specs.declared.records.Limit.{Limit}
+use Rattle.pfs_store.specs.declared.records.State.{State}
+use Rattle.pfs_store.specs.declared.records.Touched.{Touched}
+use Rattle.pfs_engine.specs.Machine.{Machine, machine_of, start, step, advanced, acted, answered, by_state, by_rule, by_action, by_limit, by_touch, by_hit, decided}
+use Rattle.pfs_engine.specs.declared.events.Event.{Event}
+use Rattle.pfs_engine.specs.Kept.{moment_of}
+use Rattle.pfs_engine.specs.declared.events.Outcome.{Outcome}
+use Rattle.pfs_engine.specs.declared.events.Outcome.TheVariants as outcome
+use Rattle.pfs_engine.specs.declared.events.What.{What}
+use Rattle.pfs_engine.specs.declared.events.What.TheVariants as what
+use Rattle.pfs_cli.specs.declared.faults.TraceFault.{TraceFault}
+use Rattle.pfs_cli.specs.declared.faults.TraceFault.TheVariants as fault
+use Rattle.pfs_cli.specs.Events.{at_most, column_of, number_to, what_at, falls, event_at, in_column, and_then}
 
-pub last_of-first : (c : Ruleset) → last_of (first_world c) ≡ None
-unfolding first_world
-last_of-first c = refl
+last-hit : (conf : Conf) (m : Machine) (number now : ℕ) (t : Touched) (overload : Option Overload) (conn rate hit : Bool) → (by_hit conf m number now t overload conn rate hit).1.last ≡ m.last
+last-hit conf m number now t overload conn rate false = refl
+last-hit conf m number now t overload conn rate true = refl
 
-last-admitted : (a b : Bool) (c : Ruleset) (w : World) (key : FlowKey) (r : RuleNo) (max : Option ℕ) → reaches max (states_of w.states r) ≡ a → nat_le c.states (length w.states) ≡ b
-    → last_of (admitted c w key r max).1 ≡ last_of w
-last-admitted true b c w key r max s t = rw s refl
-last-admitted false true c w key r max s t = rw (s, t) refl
-last-admitted false false c w key r max s t = rw (s, t) refl
+last-touch : (conf : Conf) (m : Machine) (number now : ℕ) (t : Touched) (completes : Bool) → (by_touch conf m number now t completes).1.last ≡ m.last
+last-touch conf m number now t false = refl
+last-touch conf m number now t true =
+    let o = options_of conf t.rule.0 in
+    last-hit conf m number now t o.overload (hits_connections o t) (hits_rate o t) (hits_connections o t || hits_rate o t)
 
-last-decided : (c : Ruleset) (w : World) (key : FlowKey) (v : Option (RuleNo × Running)) → last_of (decided c w key v).1 ≡ last_of w
-last-decided c w key None = refl
-last-decided c w key (Some (r, running.Block)) = refl
-last-decided c w key (Some (r, running.Pass max)) = last-admitted (reaches max (states_of w.states r)) (nat_le c.states (length w.states)) c w key r max refl refl
+last-limit : (conf : Conf) (m : Machine) (p : Header) (now rule : ℕ) (l : Option Limit) → (by_limit conf m p now rule l).1.last ≡ m.last
+last-limit conf m p now rule None = refl
+last-limit conf m p now rule (Some l) = refl
 
-last-held : (c : Ruleset) (w : World) (key : FlowKey) (v : Option (RuleNo × Running)) (h : Option RuleNo) → last_of (held_or h w (decided c w key v)).1 ≡ last_of w
-last-held c w key v None = last-decided c w key v
-last-held c w key v (Some r) = refl
+last-action : (conf : Conf) (m : Machine) (p : Header) (now rule : ℕ) (a : Action) → (by_action conf m p now rule a).1.last ≡ m.last
+last-action conf m p now rule action.Block = refl
+last-action conf m p now rule action.Pass = refl
+last-action conf m p now rule (action.Keep o) = last-limit conf m p now rule (limit_at conf m.world p rule)
 
-last-what : (c : Ruleset) (w : World) (x : What) → last_of (what_step c w x).1 ≡ last_of w
-last-what c w (what.Packet p) = last-held c w (key_of p) (verdict 0 c.rules.items p) (rule_held w.states (key_of p))
-last-what c w what.Skip = refl
+last-rule : (conf : Conf) (m : Machine) (p : Header) (now : ℕ) (r : Option ℕ) → (by_rule conf m p now r).1.last ≡ m.last
+last-rule conf m p now None = refl
+last-rule conf m p now (Some rule) = last-action conf m p now rule (rule_of conf rule).action
 
-pub last_of-step : (c : Ruleset) (w : World) (e : Event) → last_of (step c w e).1 ≡ Some e.time
+last-state : (conf : Conf) (m : Machine) (p : Header) (now : ℕ) (s : Option State) → (by_state conf m p now s).1.last ≡ m.last
+last-state conf m p now None = last-rule conf m p now (decided conf m p)
+last-state conf m p now (Some s) =
+    last-touch conf (machine_of (touched conf m.world s p now) m.tables m.last) s.number now (touch_of conf m.world p now s) (completes_at p s)
+
+last-acted : (conf : Conf) (m : Machine) (now : ℕ) (w : What) → (acted conf m now w).1.last ≡ m.last
+last-acted conf m now what.Skip = refl
+last-acted conf m now (what.Packet p) = last-state conf m p now (state_with (key_of p) m.world)
+
+pub last-step : (conf : Conf) (m : Machine) (e : Event) → (step conf m e).1.last ≡ Some e.time
 unfolding step
-last_of-step c w e = last-what c (record w { last = Some e.time }) e.what
+last-step conf m e = last-acted conf (advanced conf m e.time) e.time e.what
 
-or_else-none : (v : Option (RuleNo × Running)) → or_else v None ≡ v
-or_else-none None = refl
-or_else-none (Some v) = refl
+-- ---- the moment of a record
 
-or_else-or_else : (a b v : Option (RuleNo × Running)) → or_else (or_else a b) v ≡ or_else a (or_else b v)
-or_else-or_else None b v = refl
-or_else-or_else (Some a) b v = refl
+at_most-bound : (most : ℕ) (o : Option ℕ) (n : ℕ) → at_most most o ≡ Some n → n ≤ most
+at_most-bound most None n q = cc
+at_most-bound most (Some x) n q = by (nat_le x most) refl q
+  where
+    by : (b : Bool) → nat_le x most ≡ b → (if b then Some x else None) ≡ Some n → n ≤ most
+    by true test e = let same : x ≡ n = cc in rw (← same) (grind (arith, nat_tests, test))
+    by false test e = cc
 
--- before the first rule none has matched
-pub verdict-start : (rules : List Running) (p : Header) → verdict 0 rules p ≡ or_else (verdict 0 rules p) None
-verdict-start rules p = sym (or_else-none (verdict 0 rules p))
+order-kept : (last : Option ℕ) (time : ℕ) → falls last time ≡ false → ForSome last (λ m. m ≤ time)
+order-kept None time q x e = cc
+order-kept (Some m) time q x e = let same : m ≡ x = cc in rw (← same) (grind (arith, nat_tests, q))
 
-verdict-cons : (n : ℕ) (r : Running) (rs : List Running) (p : Header) → verdict n (r ∷ rs) p ≡ or_else (verdict (n + 1) rs p) (if matches r p then Some (record { 0 = n }, r) else None)
-unfolding verdict
-verdict-cons n r rs p = refl
+-- what a record tells, by its moment
+abbrev event_with : ℕ → Option ℕ → ℕ → Result What TraceFault → Result Event TraceFault
+event_with row last time w = and_then w (λ what. if falls last time then Err (fault.TimeFell row) else Ok (record { time = time; what = what }))
 
--- one rule more: it is the last that matches so far, or the last before it still is
-pub verdict-more : (rules : List Running) (p : Header) (n : ℕ) (d : Running) (last next : Option (RuleNo × Running)) → n < length rules
-    → verdict 0 rules p ≡ or_else (verdict n (drop n rules) p) last
-    → next ≡ or_else (if matches (get_or rules n d) p then Some (record { 0 = n }, get_or rules n d) else None) last
-    → verdict 0 rules p ≡ or_else (verdict (n + 1) (drop (n + 1) rules) p) next
-verdict-more rules p n d last next h so_far e =
-    let front : drop n rules ≡ get_or rules n d ∷ drop (n + 1) rules = rw add-one (drop-cons rules n d h) in
-    so_far ∙ (ap (λ (rs : List Running). or_else (verdict n rs p) last) front
-    ∙ (ap (λ (v : Option (RuleNo × Running)). or_else v last) (verdict-cons n (get_or rules n d) (drop (n + 1) rules) p)
-    ∙ (or_else-or_else (verdict (n + 1) (drop (n + 1) rules) p) (if matches (get_or rules n d) p then Some (record { 0 = n }, get_or rules n d) else None) last
-    ∙ ap (or_else (verdict (n + 1) (drop (n + 1) rules) p)) (sym e))))
+time-kept : (row : ℕ) (last : Option ℕ) (time : ℕ) (w : Result What TraceFault) (e : Event) → event_with row last time w ≡ Ok e → (falls last time ≡ false) × (e.time ≡ time)
+time-kept row last time (Err f) e q = cc
+time-kept row last time (Ok w) e q = by (falls last time) refl q
+  where
+    by : (b : Bool) → falls last time ≡ b → (if b then Err (fault.TimeFell row) else Ok (record { time = time; what = w })) ≡ Ok e → (falls last time ≡ false) × (e.time ≡ time)
+    by true test h = cc
+    by false test h = let same : record { time = time; what = w } ≡ e = cc in (test, sym (ap (λ (d : Event). d.time) same))
 
--- behind the last rule the verdict stands
-pub verdict-all : (rules : List Running) (p : Header) (n : ℕ) (last : Option (RuleNo × Running)) → length rules ≤ n → verdict 0 rules p ≡ or_else (verdict n (drop n rules) p) last → last ≡ verdict 0 rules p
-unfolding verdict
-verdict-all rules p n last h so_far = let none : drop n rules ≡ [] = drop_all n rules h in sym (so_far ∙ rw none refl)
+-- the moment of a record is not before the last one, and is small
+pub event-moment : (row : ℕ) (last : Option ℕ) (fields : List (List ℕ)) (e : Event) → event_at row last fields ≡ Ok e → ForSome last (λ m. m ≤ e.time) × (e.time < 2 ^ 32)
+event-moment row last fields e q = by_length (length fields == 9) q
+  where
+    by_time : (o : Option ℕ) → number_to 4294967295 (column_of fields 1) ≡ o → in_column row 1 o (λ time. event_with row last time (what_at row fields)) ≡ Ok e → ForSome last (λ m. m ≤ e.time) × (e.time < 2 ^ 32)
+    by_time None test h = cc
+    by_time (Some time) test h =
+        let kept = time-kept row last time (what_at row fields) e h in
+        let small : time ≤ 4294967295 = at_most-bound 4294967295 (number_of (column_of fields 1)) time test in
+        rw kept.1 (order-kept last time kept.0, omega (arith, small))
 
-pub verdict-yes : (rules : List Running) (p : Header) (n : ℕ) (d : Running) (last next : Option (RuleNo × Running)) → n < length rules
-    → verdict 0 rules p ≡ or_else (verdict n (drop n rules) p) last → matches (get_or rules n d) p ≡ true → next ≡ Some (record { 0 = n }, get_or rules n d)
-    → verdict 0 rules p ≡ or_else (verdict (n + 1) (drop (n + 1) rules) p) next
-verdict-yes rules p n d last next h so_far test e = verdict-more rules p n d last next h so_far (rw test e)
+    by_length : (b : Bool) → (if b then in_column row 1 (number_to 4294967295 (column_of fields 1)) (λ time. event_with row last time (what_at row fields)) else Err (fault.Columns row)) ≡ Ok e
+        → ForSome last (λ m. m ≤ e.time) × (e.time < 2 ^ 32)
+    by_length true h = by_time (number_to 4294967295 (column_of fields 1)) refl h
+    by_length false h = cc
 
-pub verdict-no : (rules : List Running) (p : Header) (n : ℕ) (d : Running) (last next : Option (RuleNo × Running)) → n < length rules
-    → verdict 0 rules p ≡ or_else (verdict n (drop n rules) p) last → matches (get_or rules n d) p ≡ false → next ≡ last
-    → verdict 0 rules p ≡ or_else (verdict (n + 1) (drop (n + 1) rules) p) next
-verdict-no rules p n d last next h so_far test e = verdict-more rules p n d last next h so_far (rw test e)
+-- ---- one event is its moment, and then what comes
+
+pub step-skip : (conf : Conf) (m new : Machine) (e : Event) → new ≡ advanced conf m e.time → e.what ≡ what.Skip → (outcome.Skip, new) ≡ step conf m e
+unfolding step
+step-skip conf m new e at_moment comes = ap (λ (a : Machine). (outcome.Skip, a)) at_moment ∙ ap (acted conf (advanced conf m e.time) e.time) (sym comes)
+
+pub step-packet : {E : Type 0} (conf after : Conf) (m now new : Machine) (e : Event) (p : Header) (r : Result Outcome E) → after ≡ conf → now ≡ advanced conf m e.time → e.what ≡ what.Packet p
+    → IfOk r (λ o. (o, new) ≡ answered after now p (moment_of now.last)) → IfOk r (λ o. (o, new) ≡ step conf m e)
+unfolding step
+step-packet conf after m now new e p (Err f) same at_moment comes h = tt
+step-packet conf after m now new e p (Ok o) same at_moment comes h =
+    let is : (o, new) ≡ answered conf (advanced conf m e.time) p e.time = rw (same, at_moment) at h in
+    is ∙ ap (acted conf (advanced conf m e.time) e.time) (sym comes)

@@ -11,23 +11,23 @@ use Rattle.csv.specs.declared.parser.State.{State}
 use Rattle.csv.specs.declared.reader.Reader.{Reader}
 use Rattle.csv.specs.declared.reader.Trim.TheVariants as trim
 use Rattle.csv.proofs.ReadFacts.{rows-more, rows-end}
-use Rattle.pfs_cli.specs.declared.events.Event.{Event}
-use Rattle.pfs_cli.specs.declared.rulesets.Ruleset.{Ruleset}
-use Rattle.pfs_cli.specs.declared.machine.Machine.{Machine}
+use Rattle.pfs_rules.specs.Configs.{Conf}
+use Rattle.pfs_engine.specs.declared.events.Event.{Event}
+use Rattle.pfs_engine.specs.Machine.{Machine, start, step}
+use Rattle.pfs_engine.specs.Runs.{outcomes_of, machine_after}
+use Rattle.pfs_engine.specs.Views.{View}
 use Rattle.pfs_cli.specs.declared.faults.TraceFault.{TraceFault}
 use Rattle.pfs_cli.specs.declared.faults.TraceFault.TheVariants as fault
 use Rattle.pfs_cli.specs.declared.records.Stop.{Stop}
 use Rattle.pfs_cli.specs.declared.records.Stop.TheVariants as stop
 use Rattle.pfs_cli.specs.Events.{event_at, is_header}
 use Rattle.pfs_cli.specs.Lines.{row_text}
-use Rattle.pfs_cli.specs.Machine.{World, first_world, step, last_of, rules_of, world_of}
-use Rattle.pfs_cli.specs.Runs.{outcomes_of, world_after}
 use Rattle.pfs_cli.specs.Traces.{Fields, Trace, row_limit, events_from, events_of, records_left}
 use Rattle.pfs_cli.specs.Reports.{lines_from, lines_of, end_of, end_line, report, AreFirstLines, Tells}
 use Rattle.pfs_cli.specs.Turns.{WritesLine, TakesEvent, TakesRecord}
 use Rattle.pfs_cli.proofs.Rest.{records_left-more, records_left-end}
-use Rattle.pfs_cli.proofs.Runs.{world_after-more, lines_of-more, lines_of-none, outcomes-front, lines_from-front}
-use Rattle.pfs_cli.proofs.Stepping.{last_of-first, last_of-step}
+use Rattle.pfs_cli.proofs.Runs.{machine_after-more, lines_of-more, lines_of-none, outcomes-front, lines_from-front}
+use Rattle.pfs_cli.proofs.Stepping.{last-step}
 
 -- known bytes that did not grow
 pub Appends-nothing : (a : Option (List ℕ)) → Appends a a []
@@ -56,10 +56,10 @@ events_from-more : (rows : ℕ) (last : Option ℕ) (f : Fields) (fs : List Fiel
 unfolding events_from
 events_from-more rows last f fs e h q = rw (below-limit rows h, q) refl
 
-events_from-fault : (rows : ℕ) (last : Option ℕ) (f : Fields) (fs : List Fields) (w : TraceFault) → rows < 1000000000 → event_at (rows + 1) last f ≡ Err w
-    → events_from rows last (f ∷ fs) ≡ ([], Some w)
+events_from-fault : (rows : ℕ) (last : Option ℕ) (f : Fields) (fs : List Fields) (m : TraceFault) → rows < 1000000000 → event_at (rows + 1) last f ≡ Err m
+    → events_from rows last (f ∷ fs) ≡ ([], Some m)
 unfolding events_from
-events_from-fault rows last f fs w h q = rw (below-limit rows h, q) refl
+events_from-fault rows last f fs m h q = rw (below-limit rows h, q) refl
 
 events_from-limit : (rows : ℕ) (last : Option ℕ) (f : Fields) (fs : List Fields) → 1000000000 ≤ rows → events_from rows last (f ∷ fs) ≡ ([], Some fault.TooManyRows)
 unfolding events_from
@@ -87,175 +87,176 @@ pub read-end : {S : Type 0} (rem : S → Option (List ℕ)) (a b : Reader S) (f 
 read-end rem a b f left config source r = records_left-end default_config a.state left (rows-end rem a b f default_config left config source r)
 
 -- what was read and written so far of a trace that begins with these records
-pub record ToldSoFar {S : Type 0} (rem : S → Option (List ℕ)) (c : Ruleset) (trace : Trace) (before now : Option (List ℕ)) (rows : ℕ) (w : World) (rdr : Reader S) : Type 0 where
+pub record ToldSoFar {S : Type 0} (rem : S → Option (List ℕ)) (conf : Conf) (trace : Trace) (before now : Option (List ℕ)) (rows : ℕ) (m : Machine) (rdr : Reader S) : Type 0 where
   pub seen : List Event
   pub left : List ℕ
   pub source : source_of rem rdr ≡ Some left
-  pub appended : Appends before now (lines_of c seen)
+  pub appended : Appends before now (lines_of conf seen)
   pub count : length seen ≡ rows
-  pub holds : w ≡ world_after c (first_world c) seen
-  pub split : trace ≡ behind seen (events_from rows (last_of w) (records_left default_config rdr.state left))
+  pub holds : m ≡ machine_after conf (start conf) seen
+  pub split : trace ≡ behind seen (events_from rows m.last (records_left default_config rdr.state left))
 
-pub so_far-start : {S : Type 0} (rem : S → Option (List ℕ)) (c : Ruleset) (before : Option (List ℕ)) (rdr : Reader S) (xs : List ℕ) → source_of rem rdr ≡ Some xs
-    → ToldSoFar rem c (events_from 0 None (records_left default_config rdr.state xs)) before before 0 (first_world c) rdr
-unfolding world_after
-so_far-start rem c before rdr xs source = record {
+pub so_far-start : {S : Type 0} (rem : S → Option (List ℕ)) (conf : Conf) (before : Option (List ℕ)) (rdr : Reader S) (xs : List ℕ) → source_of rem rdr ≡ Some xs
+    → ToldSoFar rem conf (events_from 0 None (records_left default_config rdr.state xs)) before before 0 (start conf) rdr
+unfolding machine_after
+so_far-start rem conf before rdr xs source = record {
   seen = [];
   left = xs;
   source = source;
-  appended = rw (lines_of-none c) (Appends-nothing before);
+  appended = rw (lines_of-none conf) (Appends-nothing before);
   count = refl;
   holds = refl;
-  split = rw (last_of-first c) refl;
+  split = refl;
 }
 
 -- the text of events and a line more
-lines-more : (c : Ruleset) (seen : List Event) (rows : ℕ) (w : World) (e : Event) → length seen ≡ rows → w ≡ world_after c (first_world c) seen
-    → lines_of c (seen ++ e ∷ []) ≡ lines_of c seen ++ row_text (rows + 1) (step c w e).0
-lines-more c seen rows w e n h = lines_of-more c seen e ∙ rw (n, ← h) refl
+lines-more : (conf : Conf) (seen : List Event) (rows : ℕ) (m : Machine) (e : Event) → length seen ≡ rows → m ≡ machine_after conf (start conf) seen
+    → lines_of conf (seen ++ e ∷ []) ≡ lines_of conf seen ++ row_text (rows + 1) (step conf m e).0
+lines-more conf seen rows m e n h = lines_of-more conf seen e ∙ rw (n, ← h) refl
 
-pub so_far-more : {S : Type 0} (rem : S → Option (List ℕ)) (c : Ruleset) (trace : Trace) (before now after : Option (List ℕ)) (rows : ℕ) (w v : World) (a b : Reader S) (f : Fields) (e : Event) (t : List ℕ)
-    → ToldSoFar rem c trace before now rows w a → a.config ≡ default_config → rows < 1000000000 → ReadRecord rem a b true f
-    → event_at (rows + 1) (last_of w) f ≡ Ok e → Appends now after t → TakesEvent c (rows + 1) w e t (Ok tt) v
-    → ToldSoFar rem c trace before after (rows + 1) v b
-so_far-more rem c trace before now after rows w v a b f e t h config few r judged grown (text, held) =
+pub so_far-more : {S : Type 0} (rem : S → Option (List ℕ)) (conf : Conf) (trace : Trace) (before now after : Option (List ℕ)) (rows : ℕ) (m v : Machine) (a b : Reader S) (f : Fields) (e : Event) (t : List ℕ)
+    → ToldSoFar rem conf trace before now rows m a → a.config ≡ default_config → rows < 1000000000 → ReadRecord rem a b true f
+    → event_at (rows + 1) m.last f ≡ Ok e → Appends now after t → TakesEvent conf (rows + 1) m e t (Ok tt) v
+    → ToldSoFar rem conf trace before after (rows + 1) v b
+so_far-more rem conf trace before now after rows m v a b f e t h config few r judged grown (text, held) =
     let (z, at_z, next) = read-more rem a b f h.left config h.source r in
-    let new : v ≡ (step c w e).1 = held refl in
+    let new : v ≡ (step conf m e).1 = held refl in
     record {
       seen = h.seen ++ e ∷ [];
       left = z;
       source = at_z;
-      appended = rw (lines-more c h.seen rows w e h.count h.holds, ← text) (Appends-more before now after (lines_of c h.seen) t h.appended grown);
+      appended = rw (lines-more conf h.seen rows m e h.count h.holds, ← text) (Appends-more before now after (lines_of conf h.seen) t h.appended grown);
       count = simp length-append (omega (arith, h.count));
-      holds = new ∙ (ap (λ (u : World). (step c u e).1) h.holds ∙ sym (world_after-more c (first_world c) h.seen e));
-      split = h.split ∙ rw (next, events_from-more rows (last_of w) f (records_left default_config b.state z) e few judged, new, last_of-step c w e)
+      holds = new ∙ (ap (λ (u : Machine). (step conf u e).1) h.holds ∙ sym (machine_after-more conf (start conf) h.seen e));
+      split = h.split ∙ rw (next, events_from-more rows m.last f (records_left default_config b.state z) e few judged, new, last-step conf m e)
           (ap (λ (es : List Event). (es, (events_from (rows + 1) (Some e.time) (records_left default_config b.state z)).1))
           (sym (append_assoc h.seen (e ∷ []) (events_from (rows + 1) (Some e.time) (records_left default_config b.state z)).0)));
     }
 
 -- how a run may end
-abbrev pub Ends : Ruleset → Trace → Option (List ℕ) → Option (List ℕ) → Result Unit Stop → Type 0
-Ends c trace before after result = (t : List ℕ) × Appends before after t × Tells c trace t result
+abbrev pub Ends : Conf → Trace → Option (List ℕ) → Option (List ℕ) → Result Unit Stop → Type 0
+Ends conf trace before after result = (t : List ℕ) × Appends before after t × Tells conf trace t result
 
-first-lines : {S : Type 0} (rem : S → Option (List ℕ)) (c : Ruleset) (trace : Trace) (before now : Option (List ℕ)) (rows : ℕ) (w : World) (a : Reader S) (h : ToldSoFar rem c trace before now rows w a)
-    → AreFirstLines c trace (lines_of c h.seen)
-first-lines rem c trace before now rows w a h =
-    let front : take (length h.seen) trace.0 ≡ h.seen = ap (λ (q : Trace). take (length h.seen) q.0) h.split ∙ take-append_seam h.seen (events_from rows (last_of w) (records_left default_config a.state h.left)).0 in
-    (length h.seen, sym (ap (lines_of c) front))
+first-lines : {S : Type 0} (rem : S → Option (List ℕ)) (conf : Conf) (trace : Trace) (before now : Option (List ℕ)) (rows : ℕ) (m : Machine) (a : Reader S) (h : ToldSoFar rem conf trace before now rows m a)
+    → AreFirstLines conf trace (lines_of conf h.seen)
+first-lines rem conf trace before now rows m a h =
+    let front : take (length h.seen) trace.0 ≡ h.seen = ap (λ (q : Trace). take (length h.seen) q.0) h.split ∙ take-append_seam h.seen (events_from rows m.last (records_left default_config a.state h.left)).0 in
+    (length h.seen, sym (ap (lines_of conf) front))
 
-pub ends-source : {S : Type 0} (rem : S → Option (List ℕ)) (c : Ruleset) (trace : Trace) (before now : Option (List ℕ)) (rows : ℕ) (w : World) (a : Reader S) → ToldSoFar rem c trace before now rows w a
-    → Ends c trace before now (Err stop.Source)
-ends-source rem c trace before now rows w a h = (lines_of c h.seen, h.appended, first-lines rem c trace before now rows w a h)
+pub ends-source : {S : Type 0} (rem : S → Option (List ℕ)) (conf : Conf) (trace : Trace) (before now : Option (List ℕ)) (rows : ℕ) (m : Machine) (a : Reader S) → ToldSoFar rem conf trace before now rows m a
+    → Ends conf trace before now (Err stop.Source)
+ends-source rem conf trace before now rows m a h = (lines_of conf h.seen, h.appended, first-lines rem conf trace before now rows m a h)
 
 -- the report, where no record is left
-told-all : {S : Type 0} (rem : S → Option (List ℕ)) (c : Ruleset) (trace : Trace) (before now : Option (List ℕ)) (rows : ℕ) (w : World) (a b : Reader S) (f : Fields) (h : ToldSoFar rem c trace before now rows w a)
+told-all : {S : Type 0} (rem : S → Option (List ℕ)) (conf : Conf) (trace : Trace) (before now : Option (List ℕ)) (rows : ℕ) (m : Machine) (a b : Reader S) (f : Fields) (h : ToldSoFar rem conf trace before now rows m a)
     → a.config ≡ default_config → ReadRecord rem a b false f → trace ≡ (h.seen, None)
-told-all rem c trace before now rows w a b f h config r =
-    h.split ∙ rw (read-end rem a b f h.left config h.source r, events_from-end rows (last_of w)) (ap (λ (es : List Event). (es, None)) (append-nil h.seen))
+told-all rem conf trace before now rows m a b f h config r =
+    h.split ∙ rw (read-end rem a b f h.left config h.source r, events_from-end rows m.last) (ap (λ (es : List Event). (es, None)) (append-nil h.seen))
 
 -- the last line, where these are all events
-last-line : (c : Ruleset) (seen : List Event) (rows : ℕ) (w : World) → length seen ≡ rows → w ≡ world_after c (first_world c) seen → end_of rows w ≡ end_line c seen
-last-line c seen rows w n h = rw (n, ← h) refl
+last-line : (conf : Conf) (seen : List Event) (rows : ℕ) (m : Machine) → length seen ≡ rows → m ≡ machine_after conf (start conf) seen → end_of rows m ≡ end_line conf seen
+last-line conf seen rows m n h = rw (n, ← h) refl
 
 cut-end : (text t line : List ℕ) (k : ℕ) → t ≡ take k line → text ++ line ≡ (text ++ t) ++ drop k line
 cut-end text t line k e =
-    let w : take k line ++ drop k line ≡ line = take-append-drop k line in
-    ap (λ (l : List ℕ). text ++ l) (sym w) ∙ rw (← e) (simp append_assoc)
+    let m : take k line ++ drop k line ≡ line = take-append-drop k line in
+    ap (λ (l : List ℕ). text ++ l) (sym m) ∙ rw (← e) (simp append_assoc)
 
-pub ends-end : {S : Type 0} (rem : S → Option (List ℕ)) (c : Ruleset) (trace : Trace) (before now after : Option (List ℕ)) (rows : ℕ) (w : World) (a b : Reader S) (f : Fields) (result : Result Unit Stop) (t : List ℕ)
-    → ToldSoFar rem c trace before now rows w a → a.config ≡ default_config → ReadRecord rem a b false f
-    → Appends now after t → WritesLine (end_of rows w) t result → Ends c trace before after result
-ends-end rem c trace before now after rows w a b f (Ok u) t h config r grown how =
-    let all = told-all rem c trace before now rows w a b f h config r in (
-      lines_of c h.seen ++ t,
-      Appends-more before now after (lines_of c h.seen) t h.appended grown,
-      (ap (λ (q : Trace). q.1) all, rw (all, how, last-line c h.seen rows w h.count h.holds) refl),
+pub ends-end : {S : Type 0} (rem : S → Option (List ℕ)) (conf : Conf) (trace : Trace) (before now after : Option (List ℕ)) (rows : ℕ) (m : Machine) (a b : Reader S) (f : Fields) (result : Result Unit Stop) (t : List ℕ)
+    → ToldSoFar rem conf trace before now rows m a → a.config ≡ default_config → ReadRecord rem a b false f
+    → Appends now after t → WritesLine (end_of rows m) t result → Ends conf trace before after result
+ends-end rem conf trace before now after rows m a b f (Ok u) t h config r grown how =
+    let all = told-all rem conf trace before now rows m a b f h config r in (
+      lines_of conf h.seen ++ t,
+      Appends-more before now after (lines_of conf h.seen) t h.appended grown,
+      (ap (λ (q : Trace). q.1) all, rw (all, how, last-line conf h.seen rows m h.count h.holds) refl),
     )
-ends-end rem c trace before now after rows w a b f (Err (stop.Fault v)) t h config r grown how = absurd how
-ends-end rem c trace before now after rows w a b f (Err stop.Source) t h config r grown how = absurd how
-ends-end rem c trace before now after rows w a b f (Err stop.Memory) t h config r grown how =
-    (lines_of c h.seen, rw (how, append-nil) at (Appends-more before now after (lines_of c h.seen) t h.appended grown), first-lines rem c trace before now rows w a h)
-ends-end rem c trace before now after rows w a b f (Err stop.Write) t h config r grown how =
+ends-end rem conf trace before now after rows m a b f (Err (stop.Fault v)) t h config r grown how = absurd how
+ends-end rem conf trace before now after rows m a b f (Err stop.Source) t h config r grown how = absurd how
+ends-end rem conf trace before now after rows m a b f (Err stop.Memory) t h config r grown how =
+    (lines_of conf h.seen, rw (how, append-nil) at (Appends-more before now after (lines_of conf h.seen) t h.appended grown), first-lines rem conf trace before now rows m a h)
+ends-end rem conf trace before now after rows m a b f (Err stop.Write) t h config r grown how =
     let (k, cut) = how in
-    let all = told-all rem c trace before now rows w a b f h config r in
-    let line = end_line c h.seen in
-    let cut_line : t ≡ take k line = cut ∙ ap (take k) (last-line c h.seen rows w h.count h.holds) in (
-      lines_of c h.seen ++ t,
-      Appends-more before now after (lines_of c h.seen) t h.appended grown,
-      (drop k line, rw all (cut-end (lines_of c h.seen) t line k cut_line)),
+    let all = told-all rem conf trace before now rows m a b f h config r in
+    let line = end_line conf h.seen in
+    let cut_line : t ≡ take k line = cut ∙ ap (take k) (last-line conf h.seen rows m h.count h.holds) in (
+      lines_of conf h.seen ++ t,
+      Appends-more before now after (lines_of conf h.seen) t h.appended grown,
+      (drop k line, rw all (cut-end (lines_of conf h.seen) t line k cut_line)),
     )
 
-pub ends-limit : {S : Type 0} (rem : S → Option (List ℕ)) (c : Ruleset) (trace : Trace) (before now : Option (List ℕ)) (rows : ℕ) (w : World) (a b : Reader S) (f : Fields) → ToldSoFar rem c trace before now rows w a
-    → a.config ≡ default_config → ReadRecord rem a b true f → 1000000000 ≤ rows → Ends c trace before now (Err (stop.Fault fault.TooManyRows))
-ends-limit rem c trace before now rows w a b f h config r many =
+pub ends-limit : {S : Type 0} (rem : S → Option (List ℕ)) (conf : Conf) (trace : Trace) (before now : Option (List ℕ)) (rows : ℕ) (m : Machine) (a b : Reader S) (f : Fields) → ToldSoFar rem conf trace before now rows m a
+    → a.config ≡ default_config → ReadRecord rem a b true f → 1000000000 ≤ rows → Ends conf trace before now (Err (stop.Fault fault.TooManyRows))
+ends-limit rem conf trace before now rows m a b f h config r many =
     let (z, at_z, next) = read-more rem a b f h.left config h.source r in
     let all : trace ≡ (h.seen, Some fault.TooManyRows) =
-    h.split ∙ rw (next, events_from-limit rows (last_of w) f (records_left default_config b.state z) many) (ap (λ (es : List Event). (es, Some fault.TooManyRows)) (append-nil h.seen)) in
-    (lines_of c h.seen, h.appended, (ap (λ (q : Trace). q.1) all, rw all refl))
+    h.split ∙ rw (next, events_from-limit rows m.last f (records_left default_config b.state z) many) (ap (λ (es : List Event). (es, Some fault.TooManyRows)) (append-nil h.seen)) in
+    (lines_of conf h.seen, h.appended, (ap (λ (q : Trace). q.1) all, rw all refl))
 
 -- the lines of the first events begin those of all
-lines-front : (c : Ruleset) (es fs : List Event) → (rest : List ℕ) × (lines_of c (es ++ fs) ≡ lines_of c es ++ rest)
-lines-front c es fs =
-    let (rest, e) = outcomes-front c (first_world c) es fs in
-    let (more, begins) = lines_from-front 1 (outcomes_of c (first_world c) es) rest in
+lines-front : (conf : Conf) (es fs : List Event) → (rest : List ℕ) × (lines_of conf (es ++ fs) ≡ lines_of conf es ++ rest)
+lines-front conf es fs =
+    let (rest, e) = outcomes-front conf (start conf) es fs in
+    let (more, begins) = lines_from-front 1 (outcomes_of conf (start conf) es) rest in
     (more, ap (lines_from 1) e ∙ begins)
 
 -- and the report
-pub report-front : (c : Ruleset) (es fs : List Event) (o : Option TraceFault) → (rest : List ℕ) × (report c (es ++ fs, o) ≡ lines_of c es ++ rest)
-report-front c es fs None =
-    let (rest, e) = lines-front c es fs in
-    (rest ++ end_line c (es ++ fs), ap (λ (t : List ℕ). t ++ end_line c (es ++ fs)) e ∙ append_assoc (lines_of c es) rest (end_line c (es ++ fs)))
-report-front c es fs (Some f) = lines-front c es fs
+pub report-front : (conf : Conf) (es fs : List Event) (o : Option TraceFault) → (rest : List ℕ) × (report conf (es ++ fs, o) ≡ lines_of conf es ++ rest)
+report-front conf es fs None =
+    let (rest, e) = lines-front conf es fs in
+    (rest ++ end_line conf (es ++ fs), ap (λ (t : List ℕ). t ++ end_line conf (es ++ fs)) e ∙ append_assoc (lines_of conf es) rest (end_line conf (es ++ fs)))
+report-front conf es fs (Some f) = lines-front conf es fs
 
-report-begins : (c : Ruleset) (seen : List Event) (e : Event) (more : Trace) → (rest : List ℕ) × (report c (seen ++ (e ∷ more.0), more.1) ≡ lines_of c (seen ++ e ∷ []) ++ rest)
-report-begins c seen e more =
+report-begins : (conf : Conf) (seen : List Event) (e : Event) (more : Trace) → (rest : List ℕ) × (report conf (seen ++ (e ∷ more.0), more.1) ≡ lines_of conf (seen ++ e ∷ []) ++ rest)
+report-begins conf seen e more =
     let q : (seen ++ e ∷ []) ++ more.0 ≡ seen ++ (e ∷ more.0) = append_assoc seen (e ∷ []) more.0 in
-    let P : List Event → Type 0 = λ es. (rest : List ℕ) × (report c (es, more.1) ≡ lines_of c (seen ++ e ∷ []) ++ rest) in
-    subst P q (report-front c (seen ++ e ∷ []) more.0 more.1)
+    let P : List Event → Type 0 = λ es. (rest : List ℕ) × (report conf (es, more.1) ≡ lines_of conf (seen ++ e ∷ []) ++ rest) in
+    subst P q (report-front conf (seen ++ e ∷ []) more.0 more.1)
 
 cut-line : (text t line more : List ℕ) (k : ℕ) → t ≡ take k line → (text ++ line) ++ more ≡ (text ++ t) ++ (drop k line ++ more)
 cut-line text t line more k e =
-    let w : take k line ++ drop k line ≡ line = take-append-drop k line in
-    ap (λ (l : List ℕ). (text ++ l) ++ more) (sym w) ∙ rw (← e) (simp append_assoc)
+    let m : take k line ++ drop k line ≡ line = take-append-drop k line in
+    ap (λ (l : List ℕ). (text ++ l) ++ more) (sym m) ∙ rw (← e) (simp append_assoc)
 
 -- the turn of a record that does not come to its end
-pub ends-record : {S : Type 0} (rem : S → Option (List ℕ)) (c : Ruleset) (trace : Trace) (before now after : Option (List ℕ)) (rows : ℕ) (w v : World) (a b : Reader S) (f : Fields) (stopped : Stop) (t : List ℕ)
-    → ToldSoFar rem c trace before now rows w a → a.config ≡ default_config → ReadRecord rem a b true f → rows < 1000000000
-    → Appends now after t → TakesRecord c (rows + 1) w f t (Err stopped) v → Ends c trace before after (Err stopped)
-ends-record rem c trace before now after rows w v a b f (stop.Fault u) t h config r few grown how =
+pub ends-record : {S : Type 0} (rem : S → Option (List ℕ)) (conf : Conf) (trace : Trace) (before now after : Option (List ℕ)) (rows : ℕ) (m v : Machine) (a b : Reader S) (f : Fields) (stopped : Stop) (t : List ℕ)
+    → ToldSoFar rem conf trace before now rows m a → a.config ≡ default_config → ReadRecord rem a b true f → rows < 1000000000
+    → Appends now after t → TakesRecord conf (rows + 1) m f t (Err stopped) v → Ends conf trace before after (Err stopped)
+ends-record rem conf trace before now after rows m v a b f (stop.Fault u) t h config r few grown how =
     let (z, at_z, next) = read-more rem a b f h.left config h.source r in
     let all : trace ≡ (h.seen, Some u) =
-    h.split ∙ rw (next, events_from-fault rows (last_of w) f (records_left default_config b.state z) u few how.0) (ap (λ (es : List Event). (es, Some u)) (append-nil h.seen)) in
-    (lines_of c h.seen, rw (how.1, append-nil) at (Appends-more before now after (lines_of c h.seen) t h.appended grown), (ap (λ (q : Trace). q.1) all, rw all refl))
-ends-record rem c trace before now after rows w v a b f stop.Source t h config r few grown (e, judged, (how, held)) = absurd how
-ends-record rem c trace before now after rows w v a b f stop.Memory t h config r few grown (e, judged, (how, held)) =
-    (lines_of c h.seen, rw (how, append-nil) at (Appends-more before now after (lines_of c h.seen) t h.appended grown), first-lines rem c trace before now rows w a h)
-ends-record rem c trace before now after rows w v a b f stop.Write t h config r few grown (e, judged, ((k, cut), held)) =
+    h.split ∙ rw (next, events_from-fault rows m.last f (records_left default_config b.state z) u few how.0) (ap (λ (es : List Event). (es, Some u)) (append-nil h.seen)) in
+    (lines_of conf h.seen, rw (how.1, append-nil) at (Appends-more before now after (lines_of conf h.seen) t h.appended grown), (ap (λ (q : Trace). q.1) all, rw all refl))
+ends-record rem conf trace before now after rows m v a b f stop.Source t h config r few grown (e, judged, (how, held)) = absurd how
+ends-record rem conf trace before now after rows m v a b f stop.Memory t h config r few grown (e, judged, (how, held)) =
+    (lines_of conf h.seen, rw (how, append-nil) at (Appends-more before now after (lines_of conf h.seen) t h.appended grown), first-lines rem conf trace before now rows m a h)
+ends-record rem conf trace before now after rows m v a b f stop.Write t h config r few grown (e, judged, ((k, cut), held)) =
     let (z, at_z, next) = read-more rem a b f h.left config h.source r in
-    let line = row_text (rows + 1) (step c w e).0 in
+    let line = row_text (rows + 1) (step conf m e).0 in
     let more : Trace = events_from (rows + 1) (Some e.time) (records_left default_config b.state z) in
     let all : trace ≡ (h.seen ++ (e ∷ more.0), more.1) =
-    h.split ∙ rw (next, events_from-more rows (last_of w) f (records_left default_config b.state z) e few judged) refl in
-    let (rest, begins) = report-begins c h.seen e more in (
-      lines_of c h.seen ++ t,
-      Appends-more before now after (lines_of c h.seen) t h.appended grown,
-      (drop k line ++ rest, rw all (begins ∙ rw (lines-more c h.seen rows w e h.count h.holds) (cut-line (lines_of c h.seen) t line rest k cut))),
+    h.split ∙ rw (next, events_from-more rows m.last f (records_left default_config b.state z) e few judged) refl in
+    let (rest, begins) = report-begins conf h.seen e more in (
+      lines_of conf h.seen ++ t,
+      Appends-more before now after (lines_of conf h.seen) t h.appended grown,
+      (drop k line ++ rest, rw all (begins ∙ rw (lines-more conf h.seen rows m e h.count h.holds) (cut-line (lines_of conf h.seen) t line rest k cut))),
     )
 
 -- the loop's invariant
-pub record Running {S : Type 0} (rem : S → Option (List ℕ)) (start : Reader S) (first : Machine) (before now : Option (List ℕ)) (rows : ℕ) (m : Machine) (rdr : Reader S) : Type 0 where
+pub record Running {S : Type 0} (rem : S → Option (List ℕ)) (begun : Reader S) (first : View) (before now : Option (List ℕ)) (rows : ℕ) (v : View) (rdr : Reader S) : Type 0 where
   pub plain : rdr.trim ≡ trim.None
   pub ready : Ready rdr
   pub config : rdr.config ≡ default_config
-  pub rules : rules_of m ≡ rules_of first
+  pub rules : v.config ≡ first.config
   pub within : rows ≤ 1000000000
-  pub so_far : (xs : List ℕ) → source_of rem start ≡ Some xs
-      → ToldSoFar rem (rules_of first) (events_from 0 None (records_left default_config start.state xs)) before now rows (world_of m) rdr
+  pub taken : v.taken ≤ rows
+  pub so_far : (xs : List ℕ) → source_of rem begun ≡ Some xs
+      → ToldSoFar rem first.config (events_from 0 None (records_left default_config begun.state xs)) before now rows v.machine rdr
 
 -- a turn under rules that are these
-pub TakesRecord-rules : (c d : Ruleset) (row : ℕ) (w : World) (f : Fields) (t : List ℕ) (r : Result Unit Stop) (v : World) → d ≡ c → TakesRecord d row w f t r v → TakesRecord c row w f t r v
-TakesRecord-rules c d row w f t r v same takes =
-    let P : Ruleset → Type 0 = λ x. TakesRecord x row w f t r v in
+pub TakesRecord-rules : (conf d : Conf) (row : ℕ) (m : Machine) (f : Fields) (t : List ℕ) (r : Result Unit Stop) (v : Machine) → d ≡ conf → TakesRecord d row m f t r v → TakesRecord conf row m f t r v
+TakesRecord-rules conf d row m f t r v same takes =
+    let P : Conf → Type 0 = λ x. TakesRecord x row m f t r v in
     subst P same takes
 
 events_of-header : (f : Fields) (fs : List Fields) → is_header f ≡ true → events_of (f ∷ fs) ≡ events_from 0 None fs
@@ -279,20 +280,20 @@ trace-rest rem a b f xs config source r header =
     (z, at_z, rw next (events_of-header f (records_left default_config b.state z) header))
 
 -- a run of a trace whose header is not as it must be writes nothing
-no-header : (c : Ruleset) (trace : Trace) (before : Option (List ℕ)) → trace ≡ ([], Some (fault.Columns 0)) → Ends c trace before before (Err (stop.Fault (fault.Columns 0)))
-no-header c trace before all = ([], Appends-nothing before, (ap (λ (q : Trace). q.1) all, rw (all, lines_of-none c) refl))
+no-header : (conf : Conf) (trace : Trace) (before : Option (List ℕ)) → trace ≡ ([], Some (fault.Columns 0)) → Ends conf trace before before (Err (stop.Fault (fault.Columns 0)))
+no-header conf trace before all = ([], Appends-nothing before, (ap (λ (q : Trace). q.1) all, rw (all, lines_of-none conf) refl))
 
-pub ends-other : {S : Type 0} (rem : S → Option (List ℕ)) (c : Ruleset) (before : Option (List ℕ)) (a b : Reader S) (f : Fields) (xs : List ℕ) → a.config ≡ default_config → source_of rem a ≡ Some xs → ReadRecord rem a b true f
-    → is_header f ≡ false → Ends c (events_of (records_left default_config a.state xs)) before before (Err (stop.Fault (fault.Columns 0)))
-ends-other rem c before a b f xs config source r header =
+pub ends-other : {S : Type 0} (rem : S → Option (List ℕ)) (conf : Conf) (before : Option (List ℕ)) (a b : Reader S) (f : Fields) (xs : List ℕ) → a.config ≡ default_config → source_of rem a ≡ Some xs → ReadRecord rem a b true f
+    → is_header f ≡ false → Ends conf (events_of (records_left default_config a.state xs)) before before (Err (stop.Fault (fault.Columns 0)))
+ends-other rem conf before a b f xs config source r header =
     let (z, at_z, next) = read-more rem a b f xs config source r in
-    no-header c _ before (rw next (events_of-other f (records_left default_config b.state z) header))
+    no-header conf _ before (rw next (events_of-other f (records_left default_config b.state z) header))
 
-pub ends-empty : {S : Type 0} (rem : S → Option (List ℕ)) (c : Ruleset) (before : Option (List ℕ)) (a b : Reader S) (f : Fields) (xs : List ℕ) → a.config ≡ default_config → source_of rem a ≡ Some xs → ReadRecord rem a b false f
-    → Ends c (events_of (records_left default_config a.state xs)) before before (Err (stop.Fault (fault.Columns 0)))
-ends-empty rem c before a b f xs config source r =
-    no-header c _ before (rw (read-end rem a b f xs config source r) events_of-none)
+pub ends-empty : {S : Type 0} (rem : S → Option (List ℕ)) (conf : Conf) (before : Option (List ℕ)) (a b : Reader S) (f : Fields) (xs : List ℕ) → a.config ≡ default_config → source_of rem a ≡ Some xs → ReadRecord rem a b false f
+    → Ends conf (events_of (records_left default_config a.state xs)) before before (Err (stop.Fault (fault.Columns 0)))
+ends-empty rem conf before a b f xs config source r =
+    no-header conf _ before (rw (read-end rem a b f xs config source r) events_of-none)
 
 -- a run that stopped before the first record
-pub no-lines : (c : Ruleset) (trace : Trace) → AreFirstLines c trace []
-no-lines c trace = (0, sym (lines_of-none c))
+pub no-lines : (conf : Conf) (trace : Trace) → AreFirstLines conf trace []
+no-lines conf trace = (0, sym (lines_of-none conf))

@@ -13,9 +13,9 @@ use Rattle.pfs_addr.specs.declared.packets.Dir.TheVariants.{In, Out}
 use Rattle.pfs_addr.specs.declared.packets.Endpoint.{Endpoint}
 use Rattle.pfs_addr.specs.declared.protocols.Proto.{Proto}
 use Rattle.pfs_addr.specs.declared.protocols.Proto.TheVariants.{Tcp, Udp, Other}
-use Rattle.pfs_cli.specs.declared.events.What.{What}
-use Rattle.pfs_cli.specs.declared.events.What.TheVariants as what
-use Rattle.pfs_cli.specs.declared.events.Event.{Event}
+use Rattle.pfs_engine.specs.declared.events.What.{What}
+use Rattle.pfs_engine.specs.declared.events.What.TheVariants as what
+use Rattle.pfs_engine.specs.declared.events.Event.{Event}
 use Rattle.pfs_cli.specs.declared.faults.TraceFault.{TraceFault}
 use Rattle.pfs_cli.specs.declared.faults.TraceFault.TheVariants as fault
 
@@ -53,17 +53,6 @@ number_to most text = at_most most (number_of text)
 -- a packet comes in or goes out
 abbrev pub dir_of : List ℕ → Option Dir
 dir_of text = if bytes_eq text (codes "in") then Some In else (if bytes_eq text (codes "out") then Some Out else None)
-
--- of the protocols UDP alone runs yet
-abbrev pub runs_yet : Option Proto → Option Proto
-runs_yet None = None
-runs_yet (Some Tcp) = None
-runs_yet (Some Udp) = Some Udp
-runs_yet (Some (Other n)) = None
-
--- the protocol of a packet, by its name or its number
-abbrev pub traced_proto : List ℕ → Option Proto
-traced_proto text = runs_yet (proto_in text)
 
 -- a port is given for a protocol that has ports, and for no other
 abbrev pub port_of : Proto → List ℕ → Option ℕ
@@ -103,7 +92,7 @@ abbrev pub what_at : ℕ → List (List ℕ) → Result What TraceFault
 what_at row fields =
     in_column row 2 (dir_of (column_of fields 2)) (λ dir.
     in_column row 3 (name_of 15 (column_of fields 3)) (λ ifname.
-    in_column row 4 (traced_proto (column_of fields 4)) (λ proto.
+    in_column row 4 (proto_in (column_of fields 4)) (λ proto.
     and_then (ends_at row proto fields) (λ ends.
     in_column row 9 (flags_for proto (column_of fields 9)) (λ flags.
     Ok (if is_icmp proto then what.Skip else what.Packet (record { dir = dir; ifname = ifname; proto = proto; source = ends.0; destination = ends.1; flags = flags })))))))

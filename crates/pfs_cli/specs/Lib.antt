@@ -3,13 +3,10 @@ pub mod Events
 pub mod Faults
 pub mod Joined
 pub mod Lines
-pub mod Machine
 pub mod Performing
 pub mod Places
 pub mod Replays
 pub mod Reports
 pub mod Rules
-pub mod Runs
-pub mod Subset
 pub mod Traces
 pub mod Turns

@@ -2,12 +2,12 @@
 use Rattle.std.specs.Prelude.{◌++◌, ℕ, Bool, true, false, List, [], codes, Option, Some, None}
 use Rattle.std.specs.Fmt.{decimal}
 use Rattle.pfs_rules.specs.declared.items.RuleNo.{RuleNo}
-use Rattle.pfs_cli.specs.declared.outcomes.Limit.{Limit}
-use Rattle.pfs_cli.specs.declared.outcomes.Limit.TheVariants as limit
-use Rattle.pfs_cli.specs.declared.outcomes.Added.{Added}
-use Rattle.pfs_cli.specs.declared.outcomes.Added.TheVariants as added
-use Rattle.pfs_cli.specs.declared.outcomes.Outcome.{Outcome}
-use Rattle.pfs_cli.specs.declared.outcomes.Outcome.TheVariants as outcome
+use Rattle.pfs_store.specs.declared.records.Limit.{Limit}
+use Rattle.pfs_store.specs.declared.records.Limit.TheVariants as limit
+use Rattle.pfs_eval.specs.declared.tables.Added.{Added}
+use Rattle.pfs_eval.specs.declared.tables.Added.TheVariants as added
+use Rattle.pfs_engine.specs.declared.events.Outcome.{Outcome}
+use Rattle.pfs_engine.specs.declared.events.Outcome.TheVariants as outcome
 
 -- a refused state is told by the limit that it met, in pf.conf(5)'s word for it
 abbrev pub limit_word : Limit → List ℕ

@@ -4,8 +4,9 @@ use Rattle.pfs_cli.specs.declared.faults.TraceFault.{TraceFault}
 use Rattle.pfs_cli.specs.declared.faults.TraceFault.TheVariants as trace
 use Rattle.pfs_cli.specs.declared.faults.ReplayFault.{ReplayFault}
 use Rattle.pfs_cli.specs.declared.faults.ReplayFault.TheVariants as fault
-use Rattle.pfs_cli.specs.declared.rulesets.Ruleset.{Ruleset}
-use Rattle.pfs_cli.specs.Rules.{RulesOf, IsRulesFault}
+use Rattle.pfs_rules.specs.Configs.{Conf}
+use Rattle.pfs_conf.specs.Reads.{Reads}
+use Rattle.pfs_cli.specs.Rules.{IsRefused}
 use Rattle.pfs_cli.specs.Traces.{Trace, events_of, records_of}
 use Rattle.pfs_cli.specs.Reports.{report, AreFirstLines, BeginsReport}
 
@@ -15,22 +16,22 @@ trace_of bytes = events_of (records_of bytes)
 
 -- the whole report of a trace with this fault, or with none
 abbrev pub WritesReport : List ℕ → Trace → List ℕ → Option TraceFault → Type 0
-WritesReport rules trace text f = (c : Ruleset) × RulesOf rules c × (trace.1 ≡ f) × (text ≡ report c trace)
+WritesReport rules trace text f = (conf : Conf) × Reads rules conf × (trace.1 ≡ f) × (text ≡ report conf trace)
 
 -- nothing, or the lines of the first records of the trace, which begin its report
 abbrev pub WritesLines : List ℕ → Trace → List ℕ → Type 0
-WritesLines rules trace text = (text ≡ []) ⊎ ((c : Ruleset) × RulesOf rules c × AreFirstLines c trace text × BeginsReport c trace text)
+WritesLines rules trace text = (text ≡ []) ⊎ ((conf : Conf) × Reads rules conf × AreFirstLines conf trace text × BeginsReport conf trace text)
 
 -- a front of the report
 abbrev pub WritesFront : List ℕ → Trace → List ℕ → Type 0
-WritesFront rules trace text = (c : Ruleset) × RulesOf rules c × BeginsReport c trace text
+WritesFront rules trace text = (conf : Conf) × Reads rules conf × BeginsReport conf trace text
 
 -- what is written, by how the replay ends. A rules text that is not accepted leaves nothing; a faulty trace, and one
 -- without a fault, its report; a failed read, an endless reader or refused memory the lines of the first records; a
 -- failed write a front of the report.
 abbrev pub Replays : List ℕ → List ℕ → List ℕ → Result Unit ReplayFault → Type 0
 Replays rules bytes text (Ok u) = WritesReport rules (trace_of bytes) text None
-Replays rules bytes text (Err (fault.Rules f)) = IsRulesFault rules f × (text ≡ [])
+Replays rules bytes text (Err (fault.Rules f)) = IsRefused rules f × (text ≡ [])
 Replays rules bytes text (Err (fault.Columns row)) = WritesReport rules (trace_of bytes) text (Some (trace.Columns row))
 Replays rules bytes text (Err (fault.Field row column)) = WritesReport rules (trace_of bytes) text (Some (trace.Field row column))
 Replays rules bytes text (Err (fault.TimeFell row)) = WritesReport rules (trace_of bytes) text (Some (trace.TimeFell row))
@@ -40,9 +41,9 @@ Replays rules bytes text (Err fault.Memory) = WritesLines rules (trace_of bytes)
 Replays rules bytes text (Err fault.Endless) = WritesLines rules (trace_of bytes) text
 Replays rules bytes text (Err fault.Write) = WritesFront rules (trace_of bytes) text
 
--- what may be told of a rules text for which there are no rules: a fault of it, or that memory was refused
+-- what may be told of a rules text in place of its machine: a fault of it, or that memory was refused
 abbrev pub RefusesRules : List ℕ → ReplayFault → Type 0
-RefusesRules rules (fault.Rules f) = IsRulesFault rules f
+RefusesRules rules (fault.Rules f) = IsRefused rules f
 RefusesRules rules fault.Memory = Unit {0}
 RefusesRules rules _ = ⊥
 

@@ -1,13 +1,13 @@
--- The report of a trace under rules, and what a run has written of it when it stops. (own)
+-- The report of a trace under a configuration, and what a run has written of it when it stops. (own)
 use Rattle.std.specs.Prelude.{◌≡◌, ◌+◌, ◌++◌, ℕ, List, [], ◌∷◌, length, take, Some, None, Result, Ok, Err}
-use Rattle.pfs_cli.specs.declared.events.Event.{Event}
-use Rattle.pfs_cli.specs.declared.outcomes.Outcome.{Outcome}
-use Rattle.pfs_cli.specs.declared.rulesets.Ruleset.{Ruleset}
+use Rattle.pfs_rules.specs.Configs.{Conf}
+use Rattle.pfs_engine.specs.declared.events.Event.{Event}
+use Rattle.pfs_engine.specs.declared.events.Outcome.{Outcome}
+use Rattle.pfs_engine.specs.Machine.{Machine, start, states_held, nodes_held, entries_held}
+use Rattle.pfs_engine.specs.Runs.{outcomes_of, machine_after}
 use Rattle.pfs_cli.specs.declared.records.Stop.{Stop}
 use Rattle.pfs_cli.specs.declared.records.Stop.TheVariants as stop
 use Rattle.pfs_cli.specs.Lines.{row_text, end_text}
-use Rattle.pfs_cli.specs.Machine.{World, first_world, state_count, node_count, entry_count}
-use Rattle.pfs_cli.specs.Runs.{outcomes_of, world_after}
 use Rattle.pfs_cli.specs.Traces.{Trace}
 
 -- one line for each outcome, the first in this row
@@ -16,34 +16,34 @@ lines_from row [] = []
 lines_from row (o ∷ os) = row_text row o ++ lines_from (row + 1) os
 
 -- the lines of the machine's outcomes for these events, which are the first of a trace
-abbrev pub lines_of : Ruleset → List Event → List ℕ
-lines_of c es = lines_from 1 (outcomes_of c (first_world c) es)
+abbrev pub lines_of : Conf → List Event → List ℕ
+lines_of conf es = lines_from 1 (outcomes_of conf (start conf) es)
 
 -- the last line, with what is held
-abbrev pub end_of : ℕ → World → List ℕ
-end_of rows w = end_text rows (state_count w) (node_count w) (entry_count w)
+abbrev pub end_of : ℕ → Machine → List ℕ
+end_of rows m = end_text rows (states_held m) (nodes_held m) (entries_held m)
 
 -- the last line of a report whose records are these events
-abbrev pub end_line : Ruleset → List Event → List ℕ
-end_line c es = end_of (length es) (world_after c (first_world c) es)
+abbrev pub end_line : Conf → List Event → List ℕ
+end_line conf es = end_of (length es) (machine_after conf (start conf) es)
 
 -- the report of a trace: a line for each record before the first faulty one, and if there is none, the last line
-abbrev pub report : Ruleset → Trace → List ℕ
-report c (es, None) = lines_of c es ++ end_line c es
-report c (es, Some f) = lines_of c es
+abbrev pub report : Conf → Trace → List ℕ
+report conf (es, None) = lines_of conf es ++ end_line conf es
+report conf (es, Some f) = lines_of conf es
 
 -- this text is the lines of the first records of a trace, none of them faulty
-abbrev pub AreFirstLines : Ruleset → Trace → List ℕ → Type 0
-AreFirstLines c trace text = (k : ℕ) × (text ≡ lines_of c (take k trace.0))
+abbrev pub AreFirstLines : Conf → Trace → List ℕ → Type 0
+AreFirstLines conf trace text = (k : ℕ) × (text ≡ lines_of conf (take k trace.0))
 
 -- this text begins the report
-abbrev pub BeginsReport : Ruleset → Trace → List ℕ → Type 0
-BeginsReport c trace text = (rest : List ℕ) × (report c trace ≡ text ++ rest)
+abbrev pub BeginsReport : Conf → Trace → List ℕ → Type 0
+BeginsReport conf trace text = (rest : List ℕ) × (report conf trace ≡ text ++ rest)
 
 -- what is written of the report, by how the run ends
-abbrev pub Tells : Ruleset → Trace → List ℕ → Result Unit Stop → Type 0
-Tells c trace text (Ok u) = (trace.1 ≡ None) × (text ≡ report c trace)
-Tells c trace text (Err (stop.Fault f)) = (trace.1 ≡ Some f) × (text ≡ report c trace)
-Tells c trace text (Err stop.Source) = AreFirstLines c trace text
-Tells c trace text (Err stop.Memory) = AreFirstLines c trace text
-Tells c trace text (Err stop.Write) = BeginsReport c trace text
+abbrev pub Tells : Conf → Trace → List ℕ → Result Unit Stop → Type 0
+Tells conf trace text (Ok u) = (trace.1 ≡ None) × (text ≡ report conf trace)
+Tells conf trace text (Err (stop.Fault f)) = (trace.1 ≡ Some f) × (text ≡ report conf trace)
+Tells conf trace text (Err stop.Source) = AreFirstLines conf trace text
+Tells conf trace text (Err stop.Memory) = AreFirstLines conf trace text
+Tells conf trace text (Err stop.Write) = BeginsReport conf trace text

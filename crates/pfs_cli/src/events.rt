@@ -3,7 +3,7 @@
 ghost use Rattle.std.specs.Prelude.{◌≡◌, ◌≤◌};
 ghost use Rattle.csv.specs.Records.{fields_of};
 ghost use Rattle.pfs_addr.specs.Protocols.{is_icmp};
-ghost use Rattle.pfs_cli.specs.Events.{column_of, number_to, dir_of, traced_proto, port_of, flags_for, ends_at, what_at, is_header, falls, event_at};
+ghost use Rattle.pfs_cli.specs.Events.{column_of, number_to, dir_of, port_of, flags_for, ends_at, what_at, is_header, falls, event_at};
 
 use crate::faults::TraceFault;
 use csv::ByteRecord;
@@ -11,24 +11,7 @@ use pfs_addr::{
     Dir, Endpoint, Flags, Packet, Proto, parse_addr, parse_flags, parse_ifname, parse_number,
     parse_proto,
 };
-
-/// What comes at a moment.
-#[derive(Clone, Copy, Debug, PartialEq, Eq)]
-pub enum What {
-    /// A packet.
-    Packet(Packet),
-    /// A record that no state is made of: ICMP or ICMPv6, of which a trace does not tell enough.
-    Skip,
-}
-
-/// What comes, and when.
-#[derive(Clone, Copy, Debug, PartialEq, Eq)]
-pub struct Event {
-    /// The moment, in whole seconds: 0 to 4294967295.
-    pub time: u64,
-    /// What comes.
-    pub what: What,
-}
+use pfs_engine::{Event, What};
 
 /// Whether a record is the header that a trace begins with.
 pub(crate) fn has_columns(fields: &ByteRecord) -> bool
@@ -81,7 +64,7 @@ fn read_what(row: u64, fields: &ByteRecord) -> Result<What, TraceFault>
 {
     let dir = read_dir(column(fields, 2)).ok_or(TraceFault::Field(row, 2))?;
     let ifname = parse_ifname(column(fields, 3)).ok_or(TraceFault::Field(row, 3))?;
-    let proto = read_proto(column(fields, 4)).ok_or(TraceFault::Field(row, 4))?;
+    let proto = parse_proto(column(fields, 4)).ok_or(TraceFault::Field(row, 4))?;
     let (source, destination) = read_ends(row, &proto, fields)?;
     let flags = read_flags(&proto, column(fields, 9)).ok_or(TraceFault::Field(row, 9))?;
     if is_skipped(&proto) {
@@ -143,15 +126,6 @@ fn read_dir(text: &[u8]) -> Option<Dir>
         Some(Dir::Out)
     } else {
         None
-    }
-}
-
-fn read_proto(text: &[u8]) -> Option<Proto>
-    ensures { result ≡ traced_proto text.now }
-{
-    match parse_proto(text) {
-        Some(Proto::Udp) => Some(Proto::Udp),
-        _ => None,
     }
 }
 

@@ -9,7 +9,7 @@ use std::{error, fmt};
 /// Why a report is not whole. Rows count from 1 after the header, columns from 1.
 #[derive(Clone, Copy, Debug, PartialEq, Eq)]
 pub enum ReplayFault {
-    /// The rules text is not accepted, or does not run yet.
+    /// The rules text is not accepted.
     Rules(LoadFault),
     /// The record of this row has not nine fields; row 0 is the header, which is not as it must be
     /// or is not there.

@@ -4,16 +4,15 @@ ghost use Rattle.std.specs.Prelude.{◌≡◌, ◌⊎◌, Some, Ok, Err, ◌<◌
 ghost use Rattle.std.specs.Io.KnownBytes.{Appends};
 ghost use Rattle.pfs_streams.specs.Feeds.{unread, IsSpent, failures_of as read_failures};
 ghost use Rattle.pfs_streams.specs.Sinks.{held, failures_of};
-ghost use Rattle.pfs_cli.specs.Rules.{RulesOf, IsKept, rules_limit};
+ghost use Rattle.pfs_cli.specs.Rules.{IsKept, rules_limit};
 ghost use Rattle.pfs_cli.specs.Replays.{Replays, trace_of};
 ghost use Rattle.pfs_cli.specs.Joined.{split_joined};
 ghost use Rattle.pfs_cli.specs.Places.{ends_split, place_after, split_mark, kept_limit};
 
 use crate::faults::ReplayFault;
-use crate::machine::Machine;
 use crate::records::tell_records;
 use crate::replays::{feed_fault, finish};
-use crate::rules::{RULES_LIMIT, load_rules};
+use crate::rules::{RULES_LIMIT, load_machine};
 use pfs_streams::{Feed, Sink};
 use std::alloc::Global;
 use std::io::{BufReader, Read, Write};
@@ -144,8 +143,7 @@ pub fn replay_joined<R: Read, W: Write>(
             return Err(feed_fault(input));
         }
     };
-    let ruleset = load_rules(alloc, text)?;
-    let mut machine = Machine::new(alloc, ruleset);
-    let outcome = tell_records(alloc, reader, &mut machine, out);
+    let mut engine = load_machine(alloc, text)?;
+    let outcome = tell_records(alloc, reader, &mut engine, out);
     finish(outcome, input, out)
 }

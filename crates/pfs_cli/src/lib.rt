@@ -8,13 +8,10 @@ mod faults;
 mod joined;
 mod lines;
 mod machine;
-mod outcomes;
 mod performing;
 mod records;
 mod replays;
 mod rules;
-mod rulesets;
-mod subset;
 #[cfg(test)]
 mod tests;
 

@@ -3,7 +3,7 @@
 ghost use Rattle.std.specs.Prelude.{◌≡◌, Some};
 ghost use Rattle.pfs_cli.specs.Lines.{row_text, end_text, word_of, mark_text, rule_of, note_text, overload_word};
 
-use crate::outcomes::{Added, Limit, Outcome};
+use pfs_engine::{Added, Limit, Outcome};
 use pfs_rules::RuleNo;
 use std::fmt;
 

@@ -1,22 +1,25 @@
 //! The records of a trace, and a line for each, written before the next record is read.
 
-ghost use Rattle.std.specs.Prelude.{◌≡◌, Some, None, Ok, Err, ◌<◌, ◌≤◌, ◌+◌, ℕ, List, true, false};
+ghost use Rattle.std.specs.Prelude.{◌≡◌, Some, None, Ok, Err, ◌<◌, ◌≤◌, ◌+◌, ◌^◌, ℕ, List, true, false};
 ghost use Rattle.std.specs.Io.KnownBytes.{Appends};
 ghost use Rattle.csv.specs.Reading.{Ready, source_of, reader_trim, reader_config, reader_state, default_config};
 ghost use Rattle.csv.specs.declared.reader.Trim.TheVariants as trim;
 ghost use Rattle.csv.specs.Records.{fields_of};
 ghost use Rattle.pfs_streams.specs.Sinks.{held, failures_of};
-ghost use Rattle.pfs_cli.specs.Lines.{row_text};
-ghost use Rattle.pfs_cli.specs.Machine.{rules_of, world_of, first_world, step};
+ghost use Rattle.pfs_cli.specs.Lines.{row_text, end_text};
+ghost use Rattle.std.specs.Option.{ForSome};
+ghost use Rattle.pfs_engine.specs.Machine.{start, step};
 ghost use Rattle.pfs_cli.specs.Reports.{Tells, end_of};
 ghost use Rattle.pfs_cli.specs.Turns.{WritesLine, TakesEvent, TakesRecord};
 ghost use Rattle.pfs_cli.specs.Traces.{events_of, events_from, records_of, records_left};
 
-use crate::events::{Event, has_columns, read_event};
+use crate::events::{has_columns, read_event};
 use crate::faults::TraceFault;
 use crate::lines::{EndLine, Line};
-use crate::machine::Machine;
+use crate::machine::take;
 use csv::{ByteRecord, Reader, ReaderBuilder};
+use pfs_engine::{Engine, Event};
+use pfs_store::PlainStore;
 use pfs_streams::{Sink, write_whole};
 use std::alloc::Global;
 use std::io::{Read, Write};
@@ -60,22 +63,24 @@ fn write_row<W: Write>(row: Line, line: &mut String, out: &mut Sink<W>) -> Resul
     send(line.as_str(), out)
 }
 
+// The last line, with what is held.
+fn end_line(rows: u64, engine: &Engine<PlainStore>) -> EndLine
+    ensures { end_text result.rows result.states result.nodes result.entries ≡ end_of rows engine.now.machine }
+{
+    EndLine {
+        rows,
+        states: engine.states(),
+        nodes: engine.nodes(),
+        entries: engine.entries(),
+    }
+}
+
 // Writes the last line.
-fn write_end<W: Write>(
-    rows: u64,
-    machine: &Machine,
-    room: &mut String,
-    out: &mut Sink<W>,
-) -> Result<(), Stop>
-    ensures writes { (t : List ℕ) × Appends (held W.contents out.old) (held W.contents out.new) t × WritesLine (end_of rows (world_of machine.now)) t result }
+fn write_end<W: Write>(end: EndLine, room: &mut String, out: &mut Sink<W>) -> Result<(), Stop>
+    ensures writes { (t : List ℕ) × Appends (held W.contents out.old) (held W.contents out.new) t
+        × WritesLine (end_text end.rows end.states end.nodes end.entries) t result }
     ensures fails { result ≡ Err (Stop.Write) → 0 < failures_of out.new }
 {
-    let end = EndLine {
-        rows,
-        states: machine.states(),
-        nodes: machine.nodes(),
-        entries: machine.entries(),
-    };
     room.clear();
     if write!(room, "{end}").is_err() {
         return Err(Stop::Memory);
@@ -83,20 +88,24 @@ fn write_end<W: Write>(
     send(room.as_str(), out)
 }
 
-// Lets the machine take one event, and writes its line.
+// Lets the engine take one event, and writes its line.
 fn take_event<W: Write>(
     row: u64,
-    event: Event,
-    machine: &mut Machine,
+    event: &Event,
+    engine: &mut Engine<PlainStore>,
     line: &mut String,
     out: &mut Sink<W>,
 ) -> Result<(), Stop>
-    ensures rules { rules_of machine.new ≡ rules_of machine.old }
+    requires order { ForSome engine.old.machine.last (λ m. m ≤ event.now.time) }
+    requires moment { event.now.time < 2 ^ 32 }
+    requires room { engine.old.taken < 1000000000 }
+    ensures config { engine.new.config ≡ engine.old.config }
+    ensures taken { engine.new.taken ≤ engine.old.taken + 1 }
     ensures takes { (t : List ℕ) × Appends (held W.contents out.old) (held W.contents out.new) t
-        × TakesEvent (rules_of machine.old) row (world_of machine.old) event t result (world_of machine.new) }
+        × TakesEvent engine.old.config row engine.old.machine event.now t result engine.new.machine }
     ensures fails { result ≡ Err (Stop.Write) → 0 < failures_of out.new }
 {
-    let Ok(outcome) = machine.take(event) else {
+    let Ok(outcome) = take(engine, event) else {
         return Err(Stop::Memory);
     };
     write_row(Line { row, outcome }, line, out)
@@ -106,17 +115,19 @@ fn take_event<W: Write>(
 fn take_record<W: Write>(
     row: u64,
     fields: &ByteRecord,
-    machine: &mut Machine,
+    engine: &mut Engine<PlainStore>,
     line: &mut String,
     out: &mut Sink<W>,
 ) -> Result<(), Stop>
-    ensures rules { rules_of machine.new ≡ rules_of machine.old }
+    requires room { engine.old.taken < 1000000000 }
+    ensures config { engine.new.config ≡ engine.old.config }
+    ensures taken { engine.new.taken ≤ engine.old.taken + 1 }
     ensures takes { (t : List ℕ) × Appends (held W.contents out.old) (held W.contents out.new) t
-        × TakesRecord (rules_of machine.old) row (world_of machine.old) (fields_of fields.now) t result (world_of machine.new) }
+        × TakesRecord engine.old.config row engine.old.machine (fields_of fields.now) t result engine.new.machine }
     ensures fails { result ≡ Err (Stop.Write) → 0 < failures_of out.new }
 {
-    match read_event(row, machine.last(), fields) {
-        Ok(event) => take_event(row, event, machine, line, out),
+    match read_event(row, engine.last(), fields) {
+        Ok(event) => take_event(row, &event, engine, line, out),
         Err(fault) => Err(Stop::Fault(fault)),
     }
 }
@@ -125,29 +136,30 @@ fn take_record<W: Write>(
 fn tell_rows<S: Read, W: Write>(
     reader: &mut Reader<S>,
     fields: &mut ByteRecord,
-    machine: &mut Machine,
+    engine: &mut Engine<PlainStore>,
     line: &mut String,
     out: &mut Sink<W>,
 ) -> Result<(), Stop>
     requires plain { reader_trim reader.old ≡ trim.None }
     requires ready { Ready reader.old }
     requires config { reader_config reader.old ≡ default_config }
-    requires first { world_of machine.old ≡ first_world (rules_of machine.old) }
+    requires first { engine.old.machine ≡ start engine.old.config }
+    requires taken { engine.old.taken ≡ 0 }
     ensures tells { (xs : List ℕ) → source_of S.remaining reader.old ≡ Some xs →
         ((t : List ℕ) × Appends (held W.contents out.old) (held W.contents out.new) t
-        × Tells (rules_of machine.old) (events_from 0 None (records_left default_config (reader_state reader.old) xs)) t result) }
+        × Tells engine.old.config (events_from 0 None (records_left default_config (reader_state reader.old) xs)) t result) }
     ensures fails { result ≡ Err (Stop.Write) → 0 < failures_of out.new }
 {
     for rows in 0..=ROW_LIMIT {
         match reader.read_byte_record(fields) {
             Ok(true) => {}
-            Ok(false) => return write_end(rows, machine, line, out),
+            Ok(false) => return write_end(end_line(rows, engine), line, out),
             Err(_) => return Err(Stop::Source),
         }
         if rows == ROW_LIMIT {
             return Err(Stop::Fault(TraceFault::TooManyRows));
         }
-        match take_record(rows + 1, fields, machine, line, out) {
+        match take_record(rows + 1, fields, engine, line, out) {
             Ok(()) => {}
             Err(stop) => return Err(stop),
         }
@@ -159,17 +171,18 @@ fn tell_rows<S: Read, W: Write>(
 fn tell_trace<S: Read, W: Write>(
     reader: &mut Reader<S>,
     fields: &mut ByteRecord,
-    machine: &mut Machine,
+    engine: &mut Engine<PlainStore>,
     line: &mut String,
     out: &mut Sink<W>,
 ) -> Result<(), Stop>
     requires plain { reader_trim reader.old ≡ trim.None }
     requires ready { Ready reader.old }
     requires config { reader_config reader.old ≡ default_config }
-    requires first { world_of machine.old ≡ first_world (rules_of machine.old) }
+    requires first { engine.old.machine ≡ start engine.old.config }
+    requires taken { engine.old.taken ≡ 0 }
     ensures tells { (xs : List ℕ) → source_of S.remaining reader.old ≡ Some xs →
         ((t : List ℕ) × Appends (held W.contents out.old) (held W.contents out.new) t
-        × Tells (rules_of machine.old) (events_of (records_left default_config (reader_state reader.old) xs)) t result) }
+        × Tells engine.old.config (events_of (records_left default_config (reader_state reader.old) xs)) t result) }
     ensures fails { result ≡ Err (Stop.Write) → 0 < failures_of out.new }
 {
     match reader.read_byte_record(fields) {
@@ -180,7 +193,7 @@ fn tell_trace<S: Read, W: Write>(
     if !has_columns(fields) {
         return Err(Stop::Fault(TraceFault::Columns(0)));
     }
-    tell_rows(reader, fields, machine, line, out)
+    tell_rows(reader, fields, engine, line, out)
 }
 
 /// Reads the trace of `source`, and writes the line of each record before it reads the next, and
@@ -188,13 +201,14 @@ fn tell_trace<S: Read, W: Write>(
 pub(crate) fn tell_records<S: Read + Drop, W: Write>(
     alloc: Global,
     source: S,
-    machine: &mut Machine,
+    engine: &mut Engine<PlainStore>,
     out: &mut Sink<W>,
 ) -> Result<(), Stop>
-    requires first { world_of machine.old ≡ first_world (rules_of machine.old) }
+    requires first { engine.old.machine ≡ start engine.old.config }
+    requires taken { engine.old.taken ≡ 0 }
     ensures tells { (xs : List ℕ) → S.remaining source ≡ Some xs →
         ((t : List ℕ) × Appends (held W.contents out.old) (held W.contents out.new) t
-        × Tells (rules_of machine.old) (events_of (records_of xs)) t result) }
+        × Tells engine.old.config (events_of (records_of xs)) t result) }
     ensures fails { result ≡ Err (Stop.Write) → 0 < failures_of out.new }
 {
     let mut reader = ReaderBuilder::new()
@@ -203,5 +217,5 @@ pub(crate) fn tell_records<S: Read + Drop, W: Write>(
         .from_reader(alloc, source);
     let mut fields = ByteRecord::new(alloc);
     let mut line = String::new(alloc);
-    tell_trace(&mut reader, &mut fields, machine, &mut line, out)
+    tell_trace(&mut reader, &mut fields, engine, &mut line, out)
 }

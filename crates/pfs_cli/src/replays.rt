@@ -4,15 +4,15 @@ ghost use Rattle.std.specs.Prelude.{◌≡◌, ◌⊎◌, Some, Ok, Err, ◌<◌
 ghost use Rattle.std.specs.Io.KnownBytes.{Appends, Keeps};
 ghost use Rattle.pfs_streams.specs.Feeds.{unread, has_ended, IsFresh, IsSpent, failures_of as read_failures};
 ghost use Rattle.pfs_streams.specs.Sinks.{held, failures_of};
-ghost use Rattle.pfs_cli.specs.declared.rulesets.Ruleset.{Ruleset};
+ghost use Rattle.pfs_rules.specs.Configs.{Conf};
+ghost use Rattle.pfs_conf.specs.Reads.{Reads};
 ghost use Rattle.pfs_cli.specs.Reports.{Tells};
-ghost use Rattle.pfs_cli.specs.Rules.{RulesOf, IsKept, rules_limit};
+ghost use Rattle.pfs_cli.specs.Rules.{IsKept, rules_limit};
 ghost use Rattle.pfs_cli.specs.Replays.{Replays, IsFeedFault, trace_of};
 
 use crate::faults::ReplayFault;
-use crate::machine::Machine;
 use crate::records::{Stop, tell_records};
-use crate::rules::{RULES_LIMIT, load_rules};
+use crate::rules::{RULES_LIMIT, load_machine};
 use pfs_streams::{Feed, Sink};
 use std::alloc::Global;
 use std::io::{Read, Write};
@@ -34,7 +34,7 @@ pub(crate) fn feed_fault<R>(feed: &Feed<R>) -> ReplayFault
 
 // The fault of a run over this feed that stopped.
 pub(crate) fn fault_at<R>(stop: Stop, feed: &Feed<R>) -> ReplayFault
-    ensures told { (c : Ruleset) (rs : List ℕ) (ts : List ℕ) (t : List ℕ) → RulesOf rs c → Tells c (trace_of ts) t (Err stop) → Replays rs ts t (Err result) }
+    ensures told { (conf : Conf) (rs : List ℕ) (ts : List ℕ) (t : List ℕ) → Reads rs conf → Tells conf (trace_of ts) t (Err stop) → Replays rs ts t (Err result) }
     ensures read { result ≡ ReplayFault.Read → 0 < read_failures feed.now }
     ensures endless { result ≡ ReplayFault.Endless → IsSpent feed.now }
     ensures write { result ≡ ReplayFault.Write → stop ≡ Stop.Write }
@@ -83,7 +83,7 @@ pub(crate) fn finish<R, W: Write>(
 ) -> Result<(), ReplayFault>
     requires { outcome ≡ Err (Stop.Write) → 0 < failures_of out.old }
     ensures kept { Keeps (held W.contents out.old) (held W.contents out.new) }
-    ensures told { (c : Ruleset) (rs : List ℕ) (ts : List ℕ) (t : List ℕ) → RulesOf rs c → Tells c (trace_of ts) t outcome → Replays rs ts t result }
+    ensures told { (conf : Conf) (rs : List ℕ) (ts : List ℕ) (t : List ℕ) → Reads rs conf → Tells conf (trace_of ts) t outcome → Replays rs ts t result }
     ensures read { result ≡ Err ReplayFault.Read → 0 < read_failures feed.now }
     ensures endless { result ≡ Err ReplayFault.Endless → IsSpent feed.now }
     ensures write { result ≡ Err ReplayFault.Write → 0 < failures_of out.new }
@@ -99,8 +99,8 @@ pub(crate) fn finish<R, W: Write>(
     }
 }
 
-/// Replays the trace under the rules, and writes its report: a line for each record, and a last line
-/// with what is held. Each line is written before the next record is read, and the whole is flushed
+/// Replays the trace under the rules, every accepted rules text and every record that can be read, and
+/// writes the report: a line for each record, and a last line with what is held. Each line is written before the next record is read, and the whole is flushed
 /// once, at its end. `rules` and `out` are as `new` gives them.
 ///
 /// The rules are told before anything of the trace. Nothing is written before they are read to
@@ -116,8 +116,8 @@ pub(crate) fn finish<R, W: Write>(
 /// - `Write`: a front of the report.
 ///
 /// `Read` is told only where a reader failed, `Endless` only where a feed is spent, and `Write` only
-/// where the writer failed. Memory is taken for the rules, for the states that are held, and for one
-/// record and one line, however long the trace is.
+/// where the writer failed. Memory is taken for the rules, for the states, the source nodes and the
+/// table entries that are held, and for one record and one line, however long the trace is.
 pub fn replay<R: Read, T: Read, W: Write>(
     alloc: Global,
     rules: &mut Feed<R>,
@@ -140,8 +140,7 @@ pub fn replay<R: Read, T: Read, W: Write>(
     ensures write { result ≡ Err ReplayFault.Write → 0 < failures_of out.new }
 {
     let text = read_text(alloc, rules)?;
-    let ruleset = load_rules(alloc, text)?;
-    let mut machine = Machine::new(alloc, ruleset);
-    let outcome = tell_records(alloc, &mut *trace, &mut machine, out);
+    let mut engine = load_machine(alloc, text)?;
+    let outcome = tell_records(alloc, &mut *trace, &mut engine, out);
     finish(outcome, trace, out)
 }

@@ -1,34 +1,34 @@
-//! From a rules text to the rules that run.
+//! From a rules text to the machine that runs its rules.
 
 ghost use Rattle.std.specs.Prelude.{◌≡◌, IfOk, IfErr};
-ghost use Rattle.pfs_cli.specs.Rules.{RulesOf};
+ghost use Rattle.pfs_conf.specs.Reads.{Reads};
+ghost use Rattle.pfs_engine.specs.Machine.{start};
 ghost use Rattle.pfs_cli.specs.Checks.{fault_of};
 ghost use Rattle.pfs_cli.specs.Replays.{RefusesRules};
 
 use crate::faults::ReplayFault;
-use crate::rulesets::Ruleset;
-use crate::subset::running_part;
+use crate::machine::first_machine;
 use pfs_conf::{Kind, LoadFault, load};
+use pfs_engine::Engine;
+use pfs_store::PlainStore;
 use std::alloc::Global;
 
 /// The most bytes of a rules text.
 pub(crate) const RULES_LIMIT: usize = 1_048_576;
 
-/// The rules of a text. An accepted text that does not run yet is `Unsupported`, at line 0.
-pub(crate) fn load_rules(alloc: Global, text: Vec<u8>) -> Result<Ruleset, ReplayFault>
-    ensures ok { IfOk result (λ c. RulesOf text.items c) }
+/// The machine of a rules text, before the first event.
+pub(crate) fn load_machine(alloc: Global, text: Vec<u8>) -> Result<Engine<PlainStore>, ReplayFault>
+    ensures ok { IfOk result (λ e. Reads text.items e.config) }
+    ensures first { IfOk result (λ e. e.machine ≡ start e.config) }
+    ensures taken { IfOk result (λ e. e.taken ≡ 0) }
     ensures err { IfErr result (λ f. RefusesRules text.items f) }
 {
     let config = match load(alloc, text.as_slice()) {
         Ok(config) => config,
         Err(fault) => return Err(told(fault)),
     };
-    match running_part(alloc, &config) {
-        Ok(Some(rules)) => Ok(rules),
-        Ok(None) => Err(ReplayFault::Rules(LoadFault {
-            line: 0,
-            kind: Kind::Unsupported,
-        })),
+    match first_machine(alloc, config) {
+        Ok(engine) => Ok(engine),
         Err(_) => Err(ReplayFault::Memory),
     }
 }

@@ -1,7 +1,12 @@
-//! Runs over readers and writers in memory: the worked rows, and each place where a reader, a
-//! writer or a text can end early.
+//! Runs over readers and writers in memory: reports, and each place where a reader, a writer or a
+//! text can end early.
 
+mod handshakes;
 mod jobs;
+mod limits;
+mod purges;
+mod traces;
+mod verdicts;
 
 use crate::{Kind, LoadFault, ReplayFault, replay, replay_joined, status};
 use pfs_streams::{Feed, Sink};
@@ -20,7 +25,7 @@ struct Row {
     outcome: Result<(), ReplayFault>,
 }
 
-// One packet of 198.51.100.1 by no rule and by `pass`, the run with a refused third state, a
+// One packet of 198.51.100.1 by no rule, the run with a refused third state, a
 // maximum that is asked before the limit, the last rule that matches, and a faulty trace.
 fn rows() -> [Row; 9] {
     [
@@ -402,7 +407,7 @@ fn fields_that_are_refused(rt: HostRuntime) -> Result<(), Fail> {
             3,
         ),
         (
-            b"5,in,em0,tcp,198.51.100.1,1,192.0.2.1,53,S\n".as_slice(),
+            b"5,in,em0,sctp,198.51.100.1,1,192.0.2.1,53,\n".as_slice(),
             4,
         ),
         (

@@ -79,6 +79,9 @@ fn each_job_is_done(rt: HostRuntime) -> Result<(), Fail> {
     let report = b"1 new @0\nend rows=1 states=1 nodes=0 entries=0\n";
     let outcome = done(&rt, &replay, b"pass in proto udp all\n", report)?;
     assert_eq!(rt; outcome, Ok(()));
+    let report = b"1 pass -\nend rows=1 states=0 nodes=0 entries=2\n";
+    let outcome = done(&rt, &replay, RULES, report)?;
+    assert_eq!(rt; outcome, Ok(()));
     let header = b"%%\ntime,dir,if,proto,src,sport,dst,dport,flags\n";
     let report = b"end rows=0 states=0 nodes=0 entries=0\n";
     let outcome = done(&rt, &Job::Joined, header, report)?;
@@ -97,12 +100,8 @@ fn refused_rules_leave_nothing_written(rt: HostRuntime) -> Result<(), Fail> {
     assert_eq!(rt; outcome, Err(fault));
     let outcome = done(&rt, &Job::Show("r"), rules, b"")?;
     assert_eq!(rt; outcome, Err(fault));
-    let waits = ReplayFault::Rules(LoadFault {
-        line: 0,
-        kind: Kind::Unsupported,
-    });
     let replay = Job::Replay("r", "r");
-    let outcome = done(&rt, &replay, RULES, b"")?;
-    assert_eq!(rt; outcome, Err(waits));
+    let outcome = done(&rt, &replay, rules, b"")?;
+    assert_eq!(rt; outcome, Err(fault));
     Ok(())
 }

@@ -3,7 +3,8 @@ use Rattle.pfs_rules.specs.Configs.{Conf}
 use Rattle.pfs_conf.specs.Reads.{Reads, IsFault}
 use Rattle.pfs_cli.specs.declared.faults.ReplayFault.{ReplayFault}
 use Rattle.pfs_cli.specs.Checks.{RefusesText}
-use Rattle.pfs_cli.proofs.Checking.{kept-reads, kept-refused, refused-no_write, feed-no_write, feed-refused}
+use Rattle.pfs_cli.proofs.Checking.{kept-told, refused-no_write, feed-no_write, feed-refused}
+use Rattle.pfs_cli.proofs.Replaying.{kept-reads}
 use Rattle.pfs_cli.proofs.checks.read_config.Goals as goal
 
 pub returns-in-Ok-load-clause-ok : goal.returns-in-Ok-load-clause-ok
@@ -14,6 +15,6 @@ returns-in-Ok-load-clause-ok g c rs er =
 pub returns-clause-err : goal.returns-clause-err
 returns-clause-err g c rs er =
     subst (RefusesText rs) (sym c.told.ensures)
-    (kept-refused c.in-Ok.text.items rs c.in-Err-load.fault (c.in-Ok.ensures.text rs er)
+    (kept-told c.in-Ok.text.items rs c.in-Err-load.fault (c.in-Ok.ensures.text rs er)
     (subst (λ (t : List ℕ). IsFault t c.in-Err-load.fault) c.as_slice.ensures.value c.in-Err-load.ensures.fault)
     (λ conf reads. c.in-Err-load.ensures.only conf (subst (λ (t : List ℕ). Reads t conf) (sym c.as_slice.ensures.value) reads)))

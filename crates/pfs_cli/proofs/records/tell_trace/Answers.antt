@@ -3,23 +3,22 @@ use Rattle.csv.specs.Reading.{default_config, reader_state}
 use Rattle.csv.specs.Records.{fields_of}
 use Rattle.pfs_cli.specs.Traces.{events_of, records_left}
 use Rattle.pfs_cli.specs.Events.{is_header}
-use Rattle.pfs_cli.specs.Machine.{rules_of}
 use Rattle.pfs_cli.proofs.Telling.{Appends-nothing, ends-other, ends-empty, no-lines, trace-rest}
 use Rattle.pfs_cli.proofs.records.tell_trace.Goals as goal
 
 pub returns-in-Ok-false-clause-tells : goal.returns-in-Ok-false-clause-tells
 returns-in-Ok-false-clause-tells g c xs s =
     let r = rw c.in-Ok-false.field-0-test at (c.in-Ok-false.ensures.reads c.requires.plain c.requires.ready) in
-    ends-empty g.S.Read.remaining (rules_of c.args.machine.now) _ c.args.reader.now c.read_byte_record.new.self (fields_of c.read_byte_record.new.row) xs c.requires.config s r
+    ends-empty g.S.Read.remaining c.args.engine.now.config _ c.args.reader.now c.read_byte_record.new.self (fields_of c.read_byte_record.new.row) xs c.requires.config s r
 
 pub returns-in-Err-clause-tells : goal.returns-in-Err-clause-tells
-returns-in-Err-clause-tells g c xs s = ([], Appends-nothing _, no-lines (rules_of c.args.machine.now) (events_of (records_left default_config (reader_state c.args.reader.now) xs)))
+returns-in-Err-clause-tells g c xs s = ([], Appends-nothing _, no-lines c.args.engine.now.config (events_of (records_left default_config (reader_state c.args.reader.now) xs)))
 
 pub returns-then-not-has_columns-clause-tells : goal.returns-then-not-has_columns-clause-tells
 returns-then-not-has_columns-clause-tells g c xs s =
     let r = rw c.in-Ok-true.field-0-test at (c.in-Ok-true.ensures.reads c.requires.plain c.requires.ready) in
     let other : is_header (fields_of c.read_byte_record.new.row) ≡ false = sym c.has_columns.ensures ∙ c.if-not-has_columns.true in
-    ends-other g.S.Read.remaining (rules_of c.args.machine.now) _ c.args.reader.now c.read_byte_record.new.self (fields_of c.read_byte_record.new.row) xs c.requires.config s r other
+    ends-other g.S.Read.remaining c.args.engine.now.config _ c.args.reader.now c.read_byte_record.new.self (fields_of c.read_byte_record.new.row) xs c.requires.config s r other
 
 pub returns-clause-tells : goal.returns-clause-tells
 returns-clause-tells g c xs s =

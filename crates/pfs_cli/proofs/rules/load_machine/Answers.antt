@@ -1,0 +1,12 @@
+use Rattle.std.proofs.Common.{subst, sym, List, ℕ}
+use Rattle.pfs_conf.specs.Reads.{IsFault, Reads}
+use Rattle.pfs_cli.specs.Replays.{RefusesRules}
+use Rattle.pfs_cli.proofs.Ruling.{refuses}
+use Rattle.pfs_cli.proofs.rules.load_machine.Goals as goal
+
+pub returns-in-Err-clause-err : goal.returns-in-Err-clause-err
+returns-in-Err-clause-err c =
+    subst (RefusesRules c.args.text.items) (sym c.told.ensures)
+    (refuses c.args.text.items c.in-Err.fault
+    (subst (λ (t : List ℕ). IsFault t c.in-Err.fault) c.as_slice.ensures.value c.in-Err.ensures.fault)
+    (λ conf reads. c.in-Err.ensures.only conf (subst (λ (t : List ℕ). Reads t conf) (sym c.as_slice.ensures.value) reads)))

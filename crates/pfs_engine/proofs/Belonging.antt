@@ -1,0 +1,45 @@
+-- A packet of a held state: the state is held after it, and there is room in the overload table where it completes a handshake.
+use Rattle.std.proofs.Common.{◌≡◌, ℕ, true, Option, None, Some, ap, ◌∙◌, sym, subst, refl}
+use Rattle.std.specs.Prelude.{option_map}
+use Rattle.pfs_addr.specs.Keys.{key_of}
+use Rattle.pfs_addr.specs.Packets.{Header}
+use Rattle.pfs_eval.specs.Holdings.{Holdings}
+use Rattle.pfs_rules.specs.Configs.{Conf, options_of}
+use Rattle.pfs_rules.specs.declared.items.RuleNo.{RuleNo}
+use Rattle.pfs_store.specs.Touching.{completes_at, touch_of, touched, world_touched}
+use Rattle.pfs_store.specs.Worlds.{World, holds_number, number_of, rule_in, state_with}
+use Rattle.pfs_store.specs.declared.records.State.{State}
+use Rattle.pfs_store.specs.declared.records.StateNo.{StateNo}
+use Rattle.pfs_store.specs.declared.records.Touched.{Touched}
+use Rattle.pfs_engine.specs.Kept.{IsKept}
+use Rattle.pfs_engine.specs.Machine.{Machine}
+use Rattle.pfs_engine.specs.Rooms.{HasRoomFor, is_tcp, overload_at}
+use Rattle.pfs_engine.proofs.KeptHandshakes.{held_touched, proto_of_completed}
+
+-- the state that was found
+pub found_state : (o : Option State) (number : StateNo) → option_map number_of o ≡ Some number → (s : State) × (o ≡ Some s) × (s.number ≡ number.0)
+found_state None number e = cc
+found_state (Some s) number e = let same : number_of s ≡ number = cc in (s, refl, ap (λ (n : StateNo). n.0) same)
+
+pub held_after : (conf : Conf) (w after : World) (p : Header) (now : ℕ) (number : StateNo) → option_map number_of (state_with (key_of p) w) ≡ Some number
+    → after ≡ world_touched conf w p now (state_with (key_of p) w) → holds_number after.states number.0 ≡ true
+held_after conf w after p now number e is =
+    let (s, found, same) = found_state (state_with (key_of p) w) number e in
+    let after_is : after ≡ touched conf w s p now = is ∙ ap (world_touched conf w p now) found in
+    ap (λ (v : World). holds_number v.states number.0) after_is
+    ∙ (ap (λ (n : ℕ). holds_number (touched conf w s p now).states n) (sym same) ∙ held_touched conf w p now s found)
+
+pub room_after : (conf store_conf : Conf) (m : Machine) (p : Header) (now : ℕ) (number : StateNo) (t : Touched) (rule : Option RuleNo) (tables : Holdings)
+    → IsKept conf m → option_map number_of (state_with (key_of p) m.world) ≡ Some number
+    → rule ≡ option_map rule_in (state_with (key_of p) m.world)
+    → Some t ≡ option_map (touch_of store_conf m.world p now) (state_with (key_of p) m.world)
+    → (is_tcp p.proto ≡ true → HasRoomFor tables (overload_at conf rule))
+    → t.completed ≡ true → HasRoomFor tables (options_of conf t.rule.0).overload
+room_after conf store_conf m p now number t rule tables kept e rule_is touch_is room done =
+    let (s, found, same) = found_state (state_with (key_of p) m.world) number e in
+    let told : Some t ≡ Some (touch_of store_conf m.world p now s) = touch_is ∙ ap (option_map (touch_of store_conf m.world p now)) found in
+    let t_is : t ≡ touch_of store_conf m.world p now s = cc in
+    let completes : completes_at p s ≡ true = sym (ap (λ (x : Touched). x.completed) t_is) ∙ done in
+    let at : rule ≡ Some s.rule = rule_is ∙ ap (option_map rule_in) found in
+    let here = subst (λ (r : Option RuleNo). HasRoomFor tables (overload_at conf r)) at (room (proto_of_completed conf m p s kept found completes)) in
+    subst (λ (r : RuleNo). HasRoomFor tables (options_of conf r.0).overload) (sym (ap (λ (x : Touched). x.rule) t_is)) here

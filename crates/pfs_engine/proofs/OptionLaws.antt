@@ -1,0 +1,21 @@
+-- What follows where an option is there.
+use Rattle.std.proofs.Common.{◌≡◌, ℕ, Option, None, Some, Err, IfSome, ap, subst, unwrap_or}
+use Rattle.std.specs.Option.{ForSome}
+use Rattle.pfs_rules.specs.Configs.{Conf, no_options, options_at, options_of}
+use Rattle.pfs_rules.specs.declared.actions.StateOptions.{StateOptions}
+use Rattle.pfs_store.specs.Admission.{answer_at}
+use Rattle.pfs_store.specs.Worlds.{World}
+use Rattle.pfs_store.specs.declared.records.Limit.{Limit}
+
+pub some_of : {A : Type 0} (P : A → Type 0) (o : Option A) → IfSome o P → ForSome o P
+some_of P None h = λ x e. cc
+some_of P (Some y) h = λ x e. let same : y ≡ x = cc in subst P same h
+
+-- the options of a rule that has them
+pub options_there : (conf : Conf) (rule : ℕ) (o : StateOptions) → options_at conf rule ≡ Some o → options_of conf rule ≡ o
+options_there conf rule o e = ap (λ (x : Option StateOptions). unwrap_or x no_options) e
+
+-- a refusal tells its limit
+pub refused_at : (w : World) (limit : Option Limit) (l : Limit) → Err l ≡ answer_at w limit → limit ≡ Some l
+refused_at w None l e = cc
+refused_at w (Some m) l e = cc

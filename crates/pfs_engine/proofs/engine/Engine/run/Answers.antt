@@ -1,0 +1,45 @@
+use Rattle.std.proofs.Common.{◌<◌, ◌+◌, List, [], ◌∷◌, ◌++◌, Some, length, arith, length-drop, ◌∙◌, ap, sym, inr, refl}
+use Rattle.std.proofs.lemmas.Option.{slice_get-get_or}
+use Rattle.pfs_engine.specs.declared.events.Event.{Event}
+use Rattle.pfs_engine.specs.declared.events.Outcome.{Outcome}
+use Rattle.pfs_engine.proofs.Running.{machine_next, machine_none, order_next, outcomes_next, outcomes_none}
+use Rattle.pfs_engine.proofs.engine.Engine.run.Goals as goal
+
+pub loop-event-init : goal.loop-event-init
+loop-event-init g c =
+    let conf = c.args.self.now.config in
+    let first = c.args.self.now.machine in
+    record {
+      outcomes = outcomes_none conf first c.args.outcomes.now.items;
+      machine = machine_none conf first;
+      config = refl;
+      order = c.requires.order;
+      room = c.requires.room;
+    }
+
+pub returns-in-Err-clause-err : goal.returns-in-Err-clause-err
+returns-in-Err-clause-err g c =
+    let i = c.loop-event.invariant in
+    let at = c.loop-event.event-index in
+    let es = c.args.events.now in
+    let within : at < length es = omega arith in
+    let refused = rw (i.config, i.machine) at c.in-Err.ensures.err in
+    (at, within, c.reserve.ensures.items ∙ i.outcomes, inr (c.event-item.result, slice_get-get_or es at _ within ∙ ap (λ (e : Event). Some e) (sym c.event-item.is), refused))
+
+pub loop-event-preserved : goal.loop-event-preserved
+loop-event-preserved g c =
+    let i = c.loop-event.invariant in
+    let k = c.in-Ok.ensures in
+    let at = c.loop-event.event-index in
+    let es = c.args.events.now in
+    let conf = c.args.self.now.config in
+    let first = c.args.self.now.machine in
+    let within : at < length es = omega arith in
+    let stepped = rw (i.config, c.event-item.is) at k.ok in
+    record {
+      outcomes = c.push_reserved.ensures.items ∙ (ap (λ (os : List Outcome). os ++ c.in-Ok.outcome ∷ []) c.reserve.ensures.items ∙ outcomes_next conf first c.loop-event.self.machine c.event.new.self.machine c.args.outcomes.now.items c.loop-event.outcomes.items c.in-Ok.outcome es at _ within stepped i.machine i.outcomes);
+      machine = machine_next conf first c.loop-event.self.machine _ c.in-Ok.outcome es at _ within stepped i.machine;
+      config = c.event.ensures.config ∙ i.config;
+      order = rw (c.event.ensures.last, c.event-item.is) (order_next c.loop-event.self.machine.last es at _ within i.order);
+      room = omega (arith, length-drop at es, length-drop (at + 1) es, i.room, c.event.ensures.taken);
+    }

@@ -1,0 +1,17 @@
+use Rattle.std.proofs.Common.{◌≡◌, ◌≤◌, ◌+◌, ◌++◌, length, take, drop}
+use Rattle.pfs_engine.specs.Runs.{outcomes_of, machine_after}
+use Rattle.pfs_engine.specs.Runs.{IsInOrder}
+use Rattle.pfs_engine.proofs.engine.Engine.run.Given as goal
+
+-- the events so far were taken, and the others are in order
+abbrev pub invariant-loop-event : goal.invariant-loop-event
+invariant-loop-event g l =
+    let conf = l.fn.self.config in
+    let first = l.fn.self.machine in
+    record {
+      outcomes : l.outcomes.items ≡ l.fn.outcomes.items ++ outcomes_of conf first (take l.event-index l.events);
+      machine : l.self.machine ≡ machine_after conf first (take l.event-index l.events);
+      config : l.self.config ≡ conf;
+      order : IsInOrder l.self.machine.last (drop l.event-index l.events);
+      room : l.self.taken + length (drop l.event-index l.events) ≤ 1000000000;
+    }

@@ -1,0 +1,6 @@
+use Rattle.std.proofs.Common.{refl}
+use Rattle.pfs_engine.proofs.OptionLaws.{some_of}
+use Rattle.pfs_engine.proofs.handshakes.overload.Goals as goal
+
+pub returns-clause-known : goal.returns-clause-known
+returns-clause-known c = some_of _ _ (c.in_ok-options.ensures.kept _ refl).overload

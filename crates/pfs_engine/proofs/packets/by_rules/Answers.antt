@@ -1,0 +1,20 @@
+use Rattle.std.proofs.Common.{◌≡◌, ◌∙◌, ℕ, List, Option, Some, ap, subst, sym}
+use Rattle.std.specs.Prelude.{option_map}
+use Rattle.pfs_eval.specs.Matching.{matches_item}
+use Rattle.pfs_eval.specs.Verdict.{verdict}
+use Rattle.pfs_rules.specs.declared.items.Item.{Item}
+use Rattle.pfs_rules.specs.declared.items.RuleNo.{RuleNo}
+use Rattle.pfs_engine.specs.Machine.{decided, machine_of}
+use Rattle.pfs_engine.specs.Refusals.{IsFreeBy}
+use Rattle.pfs_engine.proofs.packets.by_rules.Goals as goal
+
+pub returns-in-Some-clause-free : goal.returns-in-Some-clause-free
+returns-in-Some-clause-free g c =
+    let conf = c.args.config.now in
+    let entries = c.args.tables.now.entries in
+    let m = machine_of (g.S.Store.world c.args.store.now) entries (Some c.args.now) in
+    let p = c.args.packet.now in
+    let decides : decided conf m p ≡ Some c.in-Some.rule.0 =
+    ap (λ (items : List Item). verdict (matches_item entries p) items) (sym c.requires.book)
+    ∙ (sym c.decide.ensures.verdict ∙ ap (option_map (λ (r : RuleNo). r.0)) c.in-Some.is) in
+    λ free. c.by_action.ensures.free entries (subst (λ (r : Option ℕ). IsFreeBy conf m p r) decides free)

@@ -1,0 +1,35 @@
+-- When a new state is refused, and which packets need no memory.
+use Rattle.std.specs.Prelude.{ℕ, ◌≡◌, ◌⊎◌, false, Option, Some, None, IsSome}
+use Rattle.pfs_addr.specs.Keys.{key_of}
+use Rattle.pfs_addr.specs.Packets.{Header}
+use Rattle.pfs_rules.specs.Configs.{Conf, options_at, options_of, rule_of}
+use Rattle.pfs_rules.specs.declared.actions.Action.{Action}
+use Rattle.pfs_rules.specs.declared.actions.Action.TheVariants as action
+use Rattle.pfs_store.specs.Admission.{limit_at}
+use Rattle.pfs_store.specs.Worlds.{state_with}
+use Rattle.pfs_store.specs.declared.records.Limit.{Limit}
+use Rattle.pfs_store.specs.declared.records.State.{State}
+use Rattle.pfs_engine.specs.Machine.{Machine, decided}
+use Rattle.pfs_engine.specs.Rooms.{is_tcp}
+
+-- no held state has the packet's key, this rule decides on it and keeps state, and this is the first limit that the state meets
+pub record IsRefused (conf : Conf) (m : Machine) (p : Header) (rule : ℕ) (limit : Limit) : Type 0 where
+  pub fresh : state_with (key_of p) m.world ≡ None
+  pub rule_is : decided conf m p ≡ Some rule
+  pub keeps : IsSome (options_at conf rule)
+  pub met : limit_at conf m.world p rule ≡ Some limit
+
+-- a rule makes no state, or the state is refused
+abbrev pub IsFreeAt : Conf → Machine → Header → ℕ → Action → Type 0
+IsFreeAt conf m p rule action.Block = Unit {0}
+IsFreeAt conf m p rule action.Pass = Unit {0}
+IsFreeAt conf m p rule (action.Keep o) = IsSome (limit_at conf m.world p rule)
+
+abbrev pub IsFreeBy : Conf → Machine → Header → Option ℕ → Type 0
+IsFreeBy conf m p None = Unit {0}
+IsFreeBy conf m p (Some rule) = IsFreeAt conf m p rule (rule_of conf rule).action
+
+-- a packet needs no memory: of a held state, where it is not TCP or the rule has no `overload`; else where it makes no state
+abbrev pub IsFree : Conf → Machine → Header → Option State → Type 0
+IsFree conf m p None = IsFreeBy conf m p (decided conf m p)
+IsFree conf m p (Some s) = (is_tcp p.proto ≡ false) ⊎ ((options_of conf s.rule.0).overload ≡ None)

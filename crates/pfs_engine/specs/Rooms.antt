@@ -1,0 +1,29 @@
+-- Room in a rule's overload table, made before a packet changes anything.
+use Rattle.std.specs.Prelude.{ℕ, ◌≡◌, ◌≤◌, ◌<◌, ◌⊎◌, Bool, true, false, Option, Some, None, length}
+use Rattle.std.specs.Option.{ForSome}
+use Rattle.pfs_addr.specs.declared.protocols.Proto.{Proto}
+use Rattle.pfs_addr.specs.declared.protocols.Proto.TheVariants as proto
+use Rattle.pfs_eval.specs.Holdings.{Holdings}
+use Rattle.pfs_eval.specs.Tables.{entry_count, has_room}
+use Rattle.pfs_rules.specs.Configs.{Conf, options_of}
+use Rattle.pfs_rules.specs.declared.actions.Overload.{Overload}
+use Rattle.pfs_rules.specs.declared.items.RuleNo.{RuleNo}
+
+-- only TCP has handshakes
+abbrev pub is_tcp : Proto → Bool
+is_tcp proto.Tcp = true
+is_tcp proto.Udp = false
+is_tcp (proto.Other n) = false
+
+-- the `overload` of the rule of a held state
+abbrev pub overload_at : Conf → Option RuleNo → Option Overload
+overload_at conf None = None
+overload_at conf (Some rule) = (options_of conf rule.0).overload
+
+-- one more entry fits into a table without memory, or the entries are at their limit
+abbrev pub Fits : Holdings → ℕ → Type 0
+Fits held table = (has_room held.room table ≡ true) ⊎ (held.limit ≤ entry_count held.entries)
+
+-- a source can be added to the overload table, if there is one, without memory
+abbrev pub HasRoomFor : Holdings → Option Overload → Type 0
+HasRoomFor held overload = ForSome overload (λ (v : Overload). (v.table.0 < length held.entries) × Fits held v.table.0)

@@ -1,0 +1,26 @@
+-- What an engine is to its callers, and what it keeps.
+use Rattle.std.specs.Prelude.{ℕ, ◌≡◌, ◌≤◌, List}
+use Rattle.pfs_eval.specs.Holdings.{Holdings}
+use Rattle.pfs_rules.specs.Configs.{Conf, IsConfig, limit_of}
+use Rattle.pfs_rules.specs.declared.items.Item.{Item}
+use Rattle.pfs_rules.specs.declared.limits.LimitName.TheVariants as limit_name
+use Rattle.pfs_engine.specs.Kept.{IsKept}
+use Rattle.pfs_engine.specs.Machine.{Machine}
+use Rattle.pfs_engine.specs.declared.events.Work.{Work}
+
+-- the configuration, the machine, how many packets were answered, and the work of the latest call
+pub record View : Type 0 where
+  pub config : Conf
+  pub machine : Machine
+  pub taken : ℕ
+  pub work : Work
+
+-- the store, the book and the tables are for the configuration, and the machine keeps what it is to keep
+pub record IsWhole (conf store : Conf) (book : List Item) (tables : Holdings) (machine : Machine) (taken : ℕ) : Type 0 where
+  pub made_for : store ≡ conf
+  pub items : book ≡ conf.items
+  pub limit : tables.limit ≡ limit_of conf limit_name.TableEntries
+  pub kept : IsKept conf machine
+  pub made : machine.world.made ≤ taken
+  pub few : taken ≤ 1000000000
+  pub config : IsConfig conf

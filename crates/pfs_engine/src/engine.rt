@@ -1,0 +1,254 @@
+//! The engine: a machine over any store, with the rules made ready.
+
+ghost use Rattle.std.specs.Prelude.{◌≡◌, ◌+◌, ◌*◌, ◌<◌, ◌≤◌, ◌^◌, ◌++◌, true, false, length, None, Some, Ok, IfOk, IsOk, IsSome, OnErr, OnOk, unwrap_or};
+ghost use Rattle.std.specs.Option.{ForSome};
+ghost use Rattle.pfs_addr.specs.Keys.{key_of};
+ghost use Rattle.pfs_store.specs.Worlds.{empty_world, state_with};
+ghost use Rattle.pfs_rules.specs.Configs.{scope_of};
+ghost use Rattle.pfs_rules.specs.declared.actions.Scope.TheVariants as Scope;
+ghost use Rattle.pfs_rules.specs.declared.items.RuleNo.{RuleNo};
+ghost use Rattle.pfs_store.specs.declared.records.Limit.{Limit};
+ghost use Rattle.pfs_engine.specs.Kept.{IsWithinLimits, IsWithinShared, moment_of};
+ghost use Rattle.pfs_engine.specs.Refusals.{IsFree, IsRefused};
+ghost use Rattle.pfs_engine.specs.Machine.{advanced, answered, due, entries_held, most_nodes, most_states, nodes_held, start, states_held, step};
+ghost use Rattle.pfs_engine.specs.Runs.{IsInOrder, IsStopped, machine_after, outcomes_of};
+ghost use Rattle.pfs_engine.specs.Visits.{AreVisits};
+
+use crate::events::{Event, Outcome, What, Work};
+use crate::packets::{Meters, answer};
+use crate::purges::purge_due;
+use pfs_addr::{Meter, NoMemory, Packet};
+use pfs_eval::{Book, Tables};
+use pfs_rules::{Config, LimitName};
+use pfs_store::Store;
+use std::alloc::Global;
+use std::marker::Model;
+
+/// A machine that runs events under a configuration, over any store.
+///
+/// Clauses see a `View`: the configuration, the machine (what the store holds, the entries of the tables, and the
+/// last moment), how many packets were answered, and the work of the latest call. What is held is at all times within
+/// the limits, which `states` tells to callers.
+#[derive(Drop)]
+pub struct Engine<S: Store> {
+    config: Config,
+    book: Book,
+    tables: Tables,
+    store: S,
+    last: Option<u64>,
+    taken: u64,
+    work: Work,
+}
+
+impl<S: Store> Model for Engine<S> {
+    ghost use Rattle.pfs_engine.specs.Machine.{machine_of};
+    ghost use Rattle.pfs_engine.specs.Views.{IsWhole, View};
+
+    ghost Value = { View };
+
+    ghost view = { λ e. record {
+      config = e.config;
+      machine = machine_of (S.world e.store) e.tables.entries e.last;
+      taken = e.taken;
+      work = e.work;
+    } };
+
+    ghost invariant = { λ e. IsWhole e.config (S.config e.store) e.book e.tables (machine_of (S.world e.store) e.tables.entries e.last) e.taken };
+}
+
+impl<S: Store + Drop> Engine<S> {
+    /// The engine of a configuration over an empty store that was made for it, before the first event. `NoMemory` where
+    /// memory for the rules or the tables was refused; both are given up then.
+    pub fn new(alloc: Global, config: Config, store: S) -> Result<Engine<S>, NoMemory>
+        requires empty { S.world store ≡ empty_world }
+        requires made_for { S.config store ≡ config }
+        ensures config { IfOk result (λ e. e.config ≡ config) }
+        ensures machine { IfOk result (λ e. e.machine ≡ start config) }
+        ensures taken { IfOk result (λ e. e.taken ≡ 0) }
+        ensures work { IfOk result (λ e. e.work ≡ record { visits = 0; looks = 0; slices = 0; most_states = 0; most_nodes = 0 }) }
+    {
+        let _limit = config.limit(LimitName::States);
+        let book = Book::new(alloc, &config)?;
+        let tables = Tables::new(alloc, &config)?;
+        Ok(Engine {
+            config,
+            book,
+            tables,
+            store,
+            last: None,
+            taken: 0,
+            work: Work::none(),
+        })
+    }
+}
+
+impl<S: Store> Engine<S> {
+    /// The moment of the last event, in seconds; none before the first.
+    pub fn last(&self) -> Option<u64>
+        ensures { result ≡ self.now.machine.last }
+    {
+        self.last
+    }
+
+    /// How many packets were answered, at most 1,000,000,000.
+    pub fn taken(&self) -> u64
+        ensures { result ≡ self.now.taken }
+    {
+        self.taken
+    }
+
+    /// How many states are held.
+    pub fn states(&self) -> u64
+        ensures value { result ≡ states_held self.now.machine }
+        ensures limits { IsWithinLimits self.now.config self.now.machine }
+    {
+        self.store.state_count()
+    }
+
+    /// How many source nodes are held, those without states too.
+    pub fn nodes(&self) -> u64
+        ensures { result ≡ nodes_held self.now.machine }
+    {
+        self.store.node_count()
+    }
+
+    /// How many entries all tables have.
+    pub fn entries(&self) -> u64
+        ensures { result ≡ entries_held self.now.machine }
+    {
+        self.tables.entries()
+    }
+
+    /// The work of the latest `advance` or `packet`; none before the first.
+    pub fn work(&self) -> Work
+        ensures { result ≡ self.now.work }
+    {
+        self.work
+    }
+
+    /// Lets time pass to a moment: does all purges due, one slice of the states and one of the source nodes for each
+    /// whole second after the last moment; none before the first event. It takes no memory. (pf.conf(5), OPTIONS,
+    /// "interval"; the slices are own to this profile)
+    pub fn advance(&mut self, now: u64)
+        requires order { ForSome self.old.machine.last (λ last. last ≤ now) }
+        requires moment { now < 2 ^ 32 }
+        ensures machine { self.new.machine ≡ advanced self.old.config self.old.machine now }
+        ensures slices { self.new.work.slices ≡ 2 * length (due self.old.machine.last now) }
+        ensures most_states { self.new.work.most_states ≡ most_states self.old.config self.old.machine.world (due self.old.machine.last now) }
+        ensures most_nodes { self.new.work.most_nodes ≡ most_nodes self.old.config self.old.machine.world (due self.old.machine.last now) }
+        ensures visits { self.new.work.visits ≡ 0 }
+        ensures looks { S.counts ≡ true → self.new.work.looks ≡ self.new.work.most_states }
+        ensures uncounted { S.counts ≡ false → self.new.work.looks ≡ 0 }
+        ensures config { self.new.config ≡ self.old.config }
+        ensures taken { self.new.taken ≡ self.old.taken }
+    {
+        self.work = purge_due(&mut self.store, self.last, now);
+        self.last = Some(now);
+    }
+
+    /// Takes a packet at the last moment, whatever its protocol: it is one of a held state, or the rules decide on it.
+    /// Fewer than 1,000,000,000 packets were taken before. `NoMemory` where memory was refused for a new state, or for
+    /// the entry of an overload table; then nothing that is held has changed.
+    /// (pf.conf(5), STATEFUL FILTERING and STATEFUL TRACKING OPTIONS)
+    pub fn packet(&mut self, packet: &Packet) -> Result<Outcome, NoMemory>
+        requires started { IsSome self.old.machine.last }
+        requires room { self.old.taken < 1000000000 }
+        ensures ok { IfOk result (λ o. (o, self.new.machine) ≡ answered self.old.config self.old.machine packet.now (moment_of self.old.machine.last)) }
+        ensures err { OnErr result (self.new.machine ≡ self.old.machine) }
+        ensures last { self.new.machine.last ≡ self.old.machine.last }
+        ensures config { self.new.config ≡ self.old.config }
+        ensures taken { OnOk result (self.new.taken ≡ self.old.taken + 1) }
+        ensures not_taken { OnErr result (self.new.taken ≡ self.old.taken) }
+
+        // A state is refused exactly where a limit is met; then nothing has changed.
+        ensures refused { (rule : RuleNo) (limit : Limit) →
+            IsRefused self.old.config self.old.machine packet.now rule.0 limit → result ≡ Ok (Outcome.Drop rule limit) }
+        ensures refused_only { (rule : RuleNo) (limit : Limit) → result ≡ Ok (Outcome.Drop rule limit) →
+            IsRefused self.old.config self.old.machine packet.now rule.0 limit × (self.new.machine ≡ self.old.machine) }
+
+        // Of a new state of a rule with shared source nodes, directly after it.
+        ensures shared { (rule : RuleNo) → result ≡ Ok (Outcome.New rule) → scope_of self.old.config rule.0 ≡ Some Scope.Global →
+            IsWithinShared self.old.config rule.0 packet.now.source.addr self.old.machine.world self.new.machine.world }
+
+        // Memory is asked for only where a state is made, or a TCP packet is one of a rule with `overload`.
+        ensures free { IsFree self.old.config self.old.machine packet.now (state_with (key_of packet.now) self.old.machine.world) → IsOk result }
+
+        ensures visits { AreVisits self.old.config self.old.machine packet.now (state_with (key_of packet.now) self.old.machine.world) self.new.work.visits }
+        ensures slices { self.new.work.slices ≡ 0 }
+        ensures most_states { self.new.work.most_states ≡ 0 }
+        ensures most_nodes { self.new.work.most_nodes ≡ 0 }
+        ensures uncounted { S.counts ≡ false → self.new.work.looks ≡ 0 }
+    {
+        let mut meters = Meters {
+            visits: Meter::new(),
+            looks: Meter::new(),
+        };
+        let now = self.last.unwrap_or(0);
+        let outcome = answer(
+            &self.config,
+            &self.book,
+            &mut self.tables,
+            &mut self.store,
+            packet,
+            now,
+            &mut meters,
+        );
+        self.work = Work::of_packet(meters.visits.count(), meters.looks.count());
+        self.taken = taken_after(self.taken, &outcome);
+        outcome
+    }
+
+    /// Takes events in turn, and appends the outcome of each. Moments do not fall, from the last one on, and all events
+    /// together fit into the 1,000,000,000 packets. `NoMemory` where memory was refused, for the outcome or by `packet`:
+    /// then the outcomes are those of the first events, and the engine stands after these, or at the moment of the next.
+    pub fn run(&mut self, events: &[Event], outcomes: &mut Vec<Outcome>) -> Result<(), NoMemory>
+        requires order { IsInOrder self.old.machine.last events.now }
+        requires room { self.old.taken + length events.now ≤ 1000000000 }
+        ensures outcomes { OnOk result (outcomes.new.items ≡ outcomes.old.items ++ outcomes_of self.old.config self.old.machine events.now) }
+        ensures machine { OnOk result (self.new.machine ≡ machine_after self.old.config self.old.machine events.now) }
+        ensures err { OnErr result (IsStopped self.old.config self.old.machine events.now outcomes.old.items outcomes.new.items self.new.machine) }
+        ensures config { self.new.config ≡ self.old.config }
+    {
+        for event in events {
+            if outcomes.reserve(1).is_err() {
+                return Err(NoMemory);
+            }
+            match self.event(event) {
+                Ok(outcome) => outcomes.push_reserved(outcome),
+                Err(refused) => return Err(refused),
+            }
+        }
+        Ok(())
+    }
+
+    // One event.
+    #[tactic(auto, unfolding(crate::specs::Machine::step))]
+    fn event(&mut self, event: &Event) -> Result<Outcome, NoMemory>
+        requires order { ForSome self.old.machine.last (λ m. m ≤ event.now.time) }
+        requires moment { event.now.time < 2 ^ 32 }
+        requires room { self.old.taken < 1000000000 }
+        ensures ok { IfOk result (λ o. (o, self.new.machine) ≡ step self.old.config self.old.machine event.now) }
+        ensures err { OnErr result (self.new.machine ≡ advanced self.old.config self.old.machine event.now.time) }
+        ensures config { self.new.config ≡ self.old.config }
+        ensures taken { self.new.taken ≤ self.old.taken + 1 }
+        ensures last { self.new.machine.last ≡ Some event.now.time }
+    {
+        self.advance(event.time);
+        match &event.what {
+            What::Packet(packet) => self.packet(packet),
+            What::Skip => Ok(Outcome::Skip),
+        }
+    }
+}
+
+// How many packets were answered after this one: one more, unless memory was refused.
+fn taken_after(taken: u64, outcome: &Result<Outcome, NoMemory>) -> u64
+    requires { taken < 1000000000 }
+    ensures ok { IfOk outcome.now (λ o. result ≡ taken + 1) }
+    ensures err { OnErr outcome.now (result ≡ taken) }
+{
+    match outcome {
+        Ok(_) => taken + 1,
+        Err(_) => taken,
+    }
+}

@@ -1,0 +1,216 @@
+//! A packet of a held state: what its handshake hits, the overload table, and the states that are killed.
+
+ghost use Rattle.std.specs.Prelude.{◌≡◌, ◌≤◌, ◌<◌, ◌+◌, ◌^◌, ◌||◌, true, false, None, Some, length, option_map, IfOk, IsOk, OnErr, OnOk};
+ghost use Rattle.std.specs.Option.{ForSome, option_copied};
+ghost use Rattle.pfs_addr.specs.Keys.{key_of};
+ghost use Rattle.pfs_rules.specs.Configs.{Conf, limit_of, options_at, options_of};
+ghost use Rattle.pfs_rules.specs.LoadRules.{AreOptions, IsRate};
+ghost use Rattle.pfs_store.specs.Counts.{exceeded};
+ghost use Rattle.pfs_store.specs.Handshakes.{flush_of, over_rate};
+ghost use Rattle.pfs_store.specs.Leaving.{without};
+ghost use Rattle.pfs_store.specs.Worlds.{holds_number, number_of, state_with};
+ghost use Rattle.pfs_engine.specs.Kept.{IsKept};
+ghost use Rattle.pfs_engine.specs.Machine.{added_by, by_options, by_state, by_touch, killed_count, machine_of, stays_at_kill, tables_by};
+ghost use Rattle.pfs_store.specs.declared.records.State.{State};
+ghost use Rattle.pfs_engine.specs.Refusals.{IsFree};
+ghost use Rattle.pfs_engine.specs.Rooms.{HasRoomFor, is_tcp, overload_at};
+
+use crate::events::Outcome;
+use pfs_addr::{Addr, FlowKey, Meter, NoMemory, Packet, Proto};
+use pfs_eval::{Added, Tables};
+use pfs_rules::{Config, LimitName, Overload, Rate, RuleNo, Scope, StateOptions};
+use pfs_store::{StateNo, Store, Touched};
+use pfs_track::Score;
+
+/// What a packet does that has the key of a held state: the state is renewed, and where its handshake
+/// completes past a limit of its rule, its source is added to the rule's overload table and states are
+/// killed.
+///
+/// Memory is taken for the overload table alone, for a TCP packet, before anything changes; `NoMemory`
+/// where it is refused, and then nothing has changed. (pf.conf(5), STATEFUL TRACKING OPTIONS,
+/// "max-src-conn", "max-src-conn-rate" and "overload")
+pub(crate) fn belongs<S: Store>(
+    config: &Config,
+    tables: &mut Tables,
+    store: &mut S,
+    number: StateNo,
+    packet: &Packet,
+    now: u64,
+    looks: &mut Meter,
+) -> Result<Outcome, NoMemory>
+    requires made_for { S.config store.old ≡ config.now }
+    requires limit { tables.old.limit ≡ limit_of config.now LimitName.TableEntries }
+    requires kept { IsKept config.now (machine_of (S.world store.old) tables.old.entries (Some now)) }
+    requires held { option_map number_of (state_with (key_of packet.now) (S.world store.old)) ≡ Some number }
+    requires looks { looks.old ≡ 0 }
+    ensures ok { IfOk result (λ o. (o, machine_of (S.world store.new) tables.new.entries (Some now))
+        ≡ by_state config.now (machine_of (S.world store.old) tables.old.entries (Some now)) packet.now now (state_with (key_of packet.now) (S.world store.old))) }
+    ensures world { OnErr result (S.world store.new ≡ S.world store.old) }
+    ensures entries { OnErr result (tables.new.entries ≡ tables.old.entries) }
+    ensures config { S.config store.new ≡ S.config store.old }
+    ensures limit { tables.new.limit ≡ tables.old.limit }
+    ensures free { (s : State) → state_with (key_of packet.now) (S.world store.old) ≡ Some s →
+        IsFree config.now (machine_of (S.world store.old) tables.old.entries (Some now)) packet.now (Some s) → IsOk result }
+    ensures uncounted { S.counts ≡ false → looks.new ≡ 0 }
+{
+    let rule = store.rule_at(&FlowKey::of(packet));
+    make_room(config, tables, rule, packet)?;
+    let touched = store.touch(number, packet, now, looks);
+    Ok(outcome_of(config, tables, store, number, &touched, now, looks))
+}
+
+// Room for one more entry in the overload table of a rule, where a packet may complete a handshake.
+fn make_room(
+    config: &Config,
+    tables: &mut Tables,
+    rule: Option<RuleNo>,
+    packet: &Packet,
+) -> Result<(), NoMemory>
+    requires tables { length tables.old.entries ≡ length config.now.tables }
+    ensures entries { tables.new.entries ≡ tables.old.entries }
+    ensures limit { tables.new.limit ≡ tables.old.limit }
+    ensures room { OnOk result (is_tcp packet.now.proto ≡ true → HasRoomFor tables.new (overload_at config.now rule)) }
+    ensures other { is_tcp packet.now.proto ≡ false → IsOk result }
+    ensures none { overload_at config.now rule ≡ None → IsOk result }
+{
+    if packet.proto() != Proto::Tcp {
+        return Ok(());
+    }
+    match overload(config, rule) {
+        Some(overload) => tables.make_room(overload.table),
+        None => Ok(()),
+    }
+}
+
+// The overload of a rule that keeps state, if it has one: of a table that there is.
+fn overload(config: &Config, rule: Option<RuleNo>) -> Option<Overload>
+    ensures value { result ≡ overload_at config.now rule }
+    ensures known { ForSome result (λ v. v.table.0 < length config.now.tables) }
+{
+    options(config, rule?)?.overload
+}
+
+// The options of a rule that keeps state: they keep the load rules.
+fn options(config: &Config, rule: RuleNo) -> Option<&StateOptions>
+    ensures value { option_copied result ≡ options_at config.now rule.0 }
+    ensures kept { ForSome result (λ o. AreOptions (length config.now.tables) o.now) }
+{
+    let _limit = config.limit(LimitName::States);
+    config.options(rule)
+}
+
+// What comes of a packet of the state of this number, which it touched.
+fn outcome_of<S: Store>(
+    config: &Config,
+    tables: &mut Tables,
+    store: &mut S,
+    number: StateNo,
+    touched: &Touched,
+    now: u64,
+    looks: &mut Meter,
+) -> Outcome
+    requires made_for { S.config store.old ≡ config.now }
+    requires limit { tables.old.limit ≡ limit_of config.now LimitName.TableEntries }
+    requires held { holds_number (S.world store.old).states number.0 ≡ true }
+    requires looks { looks.old ≤ 1000000000 }
+    requires room { touched.now.completed ≡ true → HasRoomFor tables.old (options_of config.now touched.now.rule.0).overload }
+    ensures answer { (result, machine_of (S.world store.new) tables.new.entries (Some now))
+        ≡ by_touch config.now (machine_of (S.world store.old) tables.old.entries (Some now)) number.0 now touched.now touched.now.completed }
+    ensures config { S.config store.new ≡ S.config store.old }
+    ensures limit { tables.new.limit ≡ tables.old.limit }
+    ensures uncounted { S.counts ≡ false → looks.new ≡ looks.old }
+{
+    if !touched.completed {
+        return Outcome::State(touched.rule);
+    }
+    let Some(options) = options(config, touched.rule) else {
+        return Outcome::State(touched.rule);
+    };
+    let conn = exceeds(options.max_src_conn, touched.connections);
+    let rate = is_over(options.max_src_conn_rate, touched.score);
+    if !conn && !rate {
+        return Outcome::State(touched.rule);
+    }
+    let added = add_source(tables, options.overload, touched.source);
+    let killed = kill_with(
+        store,
+        number,
+        touched,
+        flush_of(options.overload),
+        now,
+        looks,
+    );
+    Outcome::Kill {
+        rule: touched.rule,
+        conn,
+        rate,
+        overload: added,
+        killed,
+    }
+}
+
+fn exceeds(most: Option<u32>, count: u64) -> bool
+    ensures { result ≡ exceeded most count }
+{
+    match most {
+        Some(most) => count > u64::from(most),
+        None => false,
+    }
+}
+
+fn is_over(rate: Option<Rate>, score: Score) -> bool
+    requires { ForSome rate IsRate }
+    ensures { result ≡ over_rate rate score.value }
+{
+    match rate {
+        Some(rate) => score.over(u64::from(rate.limit)),
+        None => false,
+    }
+}
+
+fn flush_of(overload: Option<Overload>) -> Option<Scope>
+    ensures { result ≡ flush_of overload }
+{
+    overload?.flush
+}
+
+// Adds a source to an overload table, if there is one, where there is room for it.
+fn add_source(tables: &mut Tables, overload: Option<Overload>, source: Addr) -> Option<Added>
+    requires { HasRoomFor tables.old overload }
+    ensures answer { (conf : Conf) → tables.old.limit ≡ limit_of conf LimitName.TableEntries → result ≡ added_by conf tables.old.entries source overload }
+    ensures entries { (conf : Conf) → tables.old.limit ≡ limit_of conf LimitName.TableEntries → tables.new.entries ≡ tables_by conf tables.old.entries source overload }
+    ensures limit { tables.new.limit ≡ tables.old.limit }
+{
+    let overload = overload?;
+    match tables.add_host(overload.table, source) {
+        Ok(added) => Some(added),
+        Err(_) => unreachable!(),
+    }
+}
+
+// Kills the state of this number, and those that are flushed with it. It answers how many they are.
+fn kill_with<S: Store>(
+    store: &mut S,
+    number: StateNo,
+    touched: &Touched,
+    flush: Option<Scope>,
+    now: u64,
+    looks: &mut Meter,
+) -> u64
+    requires held { holds_number (S.world store.old).states number.0 ≡ true }
+    requires looks { looks.old ≤ 2 ^ 63 }
+    ensures answer { result ≡ killed_count (S.world store.old) flush number.0 touched.now }
+    ensures world { S.world store.new ≡ without (S.config store.old) (S.world store.old) (stays_at_kill flush number.0 touched.now) now }
+    ensures config { S.config store.new ≡ S.config store.old }
+    ensures uncounted { S.counts ≡ false → looks.new ≡ looks.old }
+{
+    match flush {
+        None => {
+            let before = store.state_count();
+            store.kill(number, now, looks);
+            before - store.state_count()
+        }
+        Some(Scope::Rule) => store.flush(touched.source, Some(touched.rule), now, looks),
+        Some(Scope::Global) => store.flush(touched.source, None, now, looks),
+    }
+}

@@ -1,0 +1,132 @@
+//! What one packet does.
+
+ghost use Rattle.std.specs.Prelude.{List, ◌≡◌, ◌≤◌, ◌<◌, ◌+◌, false, None, Some, IfOk, IsOk, IsSome, OnErr};
+ghost use Rattle.pfs_addr.specs.Keys.{key_of};
+ghost use Rattle.pfs_eval.specs.Entries.{Entry};
+ghost use Rattle.pfs_rules.specs.Configs.{limit_of, options_at};
+ghost use Rattle.pfs_store.specs.Admission.{limit_at};
+ghost use Rattle.pfs_store.specs.Worlds.{state_with};
+ghost use Rattle.pfs_engine.specs.Kept.{IsKept};
+ghost use Rattle.pfs_engine.specs.Machine.{answered, by_action, by_limit, by_rule, decided, machine_of};
+ghost use Rattle.pfs_engine.specs.Refusals.{IsFree, IsFreeBy};
+ghost use Rattle.pfs_engine.specs.Visits.{AreVisits};
+
+use crate::events::Outcome;
+use crate::handshakes::belongs;
+use pfs_addr::{FlowKey, Meter, NoMemory, Packet};
+use pfs_eval::{Book, Tables};
+use pfs_rules::{Action, Config, LimitName, RuleNo};
+use pfs_store::Store;
+
+/// The meters of one packet.
+#[derive(Drop)]
+pub(crate) struct Meters {
+    /// The items that it is compared with.
+    pub(crate) visits: Meter,
+    /// The records of states that the store looks at.
+    pub(crate) looks: Meter,
+}
+
+/// What a packet does: it is one of a held state, or the rules decide on it. On an error nothing that is
+/// held has changed. (pf.conf(5), STATEFUL FILTERING)
+pub(crate) fn answer<S: Store>(
+    config: &Config,
+    book: &Book,
+    tables: &mut Tables,
+    store: &mut S,
+    packet: &Packet,
+    now: u64,
+    meters: &mut Meters,
+) -> Result<Outcome, NoMemory>
+    requires made_for { S.config store.old ≡ config.now }
+    requires book { book.now ≡ config.now.items }
+    requires limit { tables.old.limit ≡ limit_of config.now LimitName.TableEntries }
+    requires kept { IsKept config.now (machine_of (S.world store.old) tables.old.entries (Some now)) }
+    requires room { (S.world store.old).made < 1000000000 }
+    requires visits { meters.old.visits ≡ 0 }
+    requires looks { meters.old.looks ≡ 0 }
+    ensures ok { IfOk result (λ o. (o, machine_of (S.world store.new) tables.new.entries (Some now))
+        ≡ answered config.now (machine_of (S.world store.old) tables.old.entries (Some now)) packet.now now) }
+    ensures world { OnErr result (S.world store.new ≡ S.world store.old) }
+    ensures entries { OnErr result (tables.new.entries ≡ tables.old.entries) }
+    ensures config { S.config store.new ≡ S.config store.old }
+    ensures limit { tables.new.limit ≡ tables.old.limit }
+    ensures visits { AreVisits config.now (machine_of (S.world store.old) tables.old.entries (Some now)) packet.now
+        (state_with (key_of packet.now) (S.world store.old)) meters.new.visits }
+    ensures free { IsFree config.now (machine_of (S.world store.old) tables.old.entries (Some now)) packet.now
+        (state_with (key_of packet.now) (S.world store.old)) → IsOk result }
+    ensures uncounted { S.counts ≡ false → meters.new.looks ≡ 0 }
+{
+    match store.find(&FlowKey::of(packet)) {
+        Some(number) => belongs(
+            config,
+            tables,
+            store,
+            number,
+            packet,
+            now,
+            &mut meters.looks,
+        ),
+        None => by_rules(config, book, tables, store, packet, now, &mut meters.visits),
+    }
+}
+
+// What the rules make of a packet that no held state has.
+fn by_rules<S: Store>(
+    config: &Config,
+    book: &Book,
+    tables: &Tables,
+    store: &mut S,
+    packet: &Packet,
+    now: u64,
+    visits: &mut Meter,
+) -> Result<Outcome, NoMemory>
+    requires made_for { S.config store.old ≡ config.now }
+    requires book { book.now ≡ config.now.items }
+    requires fresh { state_with (key_of packet.now) (S.world store.old) ≡ None }
+    requires room { (S.world store.old).made < 1000000000 }
+    requires visits { visits.old ≡ 0 }
+    ensures ok { IfOk result (λ o. (o, machine_of (S.world store.new) tables.now.entries (Some now))
+        ≡ by_rule config.now (machine_of (S.world store.old) tables.now.entries (Some now)) packet.now now
+        (decided config.now (machine_of (S.world store.old) tables.now.entries (Some now)) packet.now)) }
+    ensures world { OnErr result (S.world store.new ≡ S.world store.old) }
+    ensures config { S.config store.new ≡ S.config store.old }
+    ensures visits { AreVisits config.now (machine_of (S.world store.old) tables.now.entries (Some now)) packet.now None visits.new }
+    ensures free { IsFree config.now (machine_of (S.world store.old) tables.now.entries (Some now)) packet.now None → IsOk result }
+{
+    match book.decide(tables, packet, visits) {
+        Some(rule) => by_action(config, store, packet, rule, now),
+        None => Ok(Outcome::Pass(None)),
+    }
+}
+
+// What the rule that decides makes of it.
+fn by_action<S: Store>(
+    config: &Config,
+    store: &mut S,
+    packet: &Packet,
+    rule: RuleNo,
+    now: u64,
+) -> Result<Outcome, NoMemory>
+    requires made_for { S.config store.old ≡ config.now }
+    requires fresh { state_with (key_of packet.now) (S.world store.old) ≡ None }
+    requires room { (S.world store.old).made < 1000000000 }
+    ensures ok { IfOk result (λ o. (tables : List (List Entry)) → (o, machine_of (S.world store.new) tables (Some now))
+        ≡ by_rule config.now (machine_of (S.world store.old) tables (Some now)) packet.now now (Some rule.0)) }
+    ensures world { OnErr result (S.world store.new ≡ S.world store.old) }
+    ensures config { S.config store.new ≡ S.config store.old }
+    ensures free { (tables : List (List Entry)) →
+        IsFreeBy config.now (machine_of (S.world store.old) tables (Some now)) packet.now (Some rule.0) → IsOk result }
+{
+    let Some(found) = config.rule(rule) else {
+        return Ok(Outcome::Block(rule));
+    };
+    match &found.action {
+        Action::Block => Ok(Outcome::Block(rule)),
+        Action::Pass => Ok(Outcome::Pass(Some(rule))),
+        Action::Keep(_) => match store.admit(packet, rule, now)? {
+            Ok(_) => Ok(Outcome::New(rule)),
+            Err(limit) => Ok(Outcome::Drop(rule, limit)),
+        },
+    }
+}
