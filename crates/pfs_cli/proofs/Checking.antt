@@ -1,17 +1,16 @@
 -- What is told of a rules text alone.
-use Rattle.std.proofs.Common.{Bool, true, false, ◌∙◌, ◌≡◌, ◌≢◌, ◌⊎◌, ◌≤◌, ◌<◌, ◌++◌, ℕ, List, [], length, Option, Result, Ok, Err, refl, sym, ap, subst, arith, inl, inr}
-use Rattle.std.specs.Prelude.{OnOk, OnErr, IfErr, nat_lt}
+use Rattle.std.proofs.Common.{◌∙◌, ◌≡◌, ◌≢◌, ◌++◌, ℕ, List, [], Option, Result, Ok, Err, refl, sym, ap, subst, inl, inr}
+use Rattle.std.specs.Prelude.{OnOk, OnErr, IfErr}
 use Rattle.std.specs.Io.KnownBytes.{Appends}
-use Rattle.std.proofs.lemmas.Bool.Decides.{nat_tests}
 use Rattle.pfs_rules.specs.Configs.{Conf}
 use Rattle.pfs_conf.specs.Kinds.{no_memory}
-use Rattle.pfs_conf.specs.Reads.{Reads, IsFault, memory, long, breaks, stops}
+use Rattle.pfs_conf.specs.Reads.{Reads, IsFault}
 use Rattle.pfs_conf.specs.declared.faults.LoadFault.{LoadFault}
 use Rattle.pfs_conf.specs.declared.kinds.Kind.{Kind}
 use Rattle.pfs_conf.specs.declared.kinds.Kind.TheVariants as kind
 use Rattle.pfs_cli.specs.declared.faults.ReplayFault.{ReplayFault}
 use Rattle.pfs_cli.specs.declared.faults.ReplayFault.TheVariants as fault
-use Rattle.pfs_cli.specs.Rules.{IsKept, IsRefused, rules_limit}
+use Rattle.pfs_cli.specs.Rules.{IsKept}
 use Rattle.pfs_cli.specs.Replays.{IsFeedFault}
 use Rattle.pfs_cli.specs.Checks.{Answers, RefusesText, fault_by, fault_of}
 use Rattle.pfs_cli.proofs.Replaying.{kept-refused}

@@ -1,6 +1,6 @@
 -- The moment of the machine is that of its last event, and what a record says of its own moment.
 use Rattle.std.proofs.Common.{◌≡◌, ◌<◌, ◌≤◌, ℕ, List, Bool, true, false, Option, Some, None, refl, sym, ap, ◌∙◌, arith}
-use Rattle.std.specs.Prelude.{Result, Ok, Err, IfOk, ◌^◌, ◌==◌, ◌||◌, if◌then◌else◌, length, nat_lt, nat_le}
+use Rattle.std.specs.Prelude.{Result, Ok, Err, IfOk, ◌^◌, ◌==◌, ◌||◌, if◌then◌else◌, length, nat_le}
 use Rattle.std.specs.Option.{ForSome}
 use Rattle.std.proofs.lemmas.Bool.Decides.{nat_tests}
 use Rattle.pfs_addr.specs.Keys.{key_of}
@@ -17,7 +17,7 @@ use Rattle.pfs_store.specs.Worlds.{state_with}
 use Rattle.pfs_store.specs.declared.records.Limit.{Limit}
 use Rattle.pfs_store.specs.declared.records.State.{State}
 use Rattle.pfs_store.specs.declared.records.Touched.{Touched}
-use Rattle.pfs_engine.specs.Machine.{Machine, machine_of, start, step, advanced, acted, answered, by_state, by_rule, by_action, by_limit, by_touch, by_hit, decided}
+use Rattle.pfs_engine.specs.Machine.{Machine, machine_of, step, advanced, acted, answered, by_state, by_rule, by_action, by_limit, by_touch, by_hit, decided}
 use Rattle.pfs_engine.specs.declared.events.Event.{Event}
 use Rattle.pfs_engine.specs.Kept.{moment_of}
 use Rattle.pfs_engine.specs.declared.events.Outcome.{Outcome}

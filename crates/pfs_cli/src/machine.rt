@@ -1,4 +1,4 @@
-//! The machine of a replay: an engine over plain lists, made of a rules text, that takes the events of a trace.
+//! The machine of a replay: an engine over plain lists, that takes the events of a trace.
 
 ghost use Rattle.std.specs.Prelude.{◌≡◌, ◌<◌, ◌≤◌, ◌+◌, ◌^◌, IfOk};
 ghost use Rattle.std.specs.Option.{ForSome};
@@ -20,8 +20,8 @@ pub(crate) fn first_machine(alloc: Global, config: Config) -> Result<Engine<Plai
     Engine::new(alloc, config, store)
 }
 
-/// Takes one event, at its moment: the purges due are done, and then what comes. After `NoMemory` no state is made and none
-/// is killed.
+/// Takes one event, at its moment: the purges due are done, and then what comes. After `NoMemory` the purges are done, and
+/// nothing else has changed.
 pub(crate) fn take(engine: &mut Engine<PlainStore>, event: &Event) -> Result<Outcome, NoMemory>
     requires order { ForSome engine.old.machine.last (λ m. m ≤ event.now.time) }
     requires moment { event.now.time < 2 ^ 32 }

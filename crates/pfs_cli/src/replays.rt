@@ -99,8 +99,9 @@ pub(crate) fn finish<R, W: Write>(
     }
 }
 
-/// Replays the trace under the rules, every accepted rules text and every record that can be read, and
-/// writes the report: a line for each record, and a last line with what is held. Each line is written before the next record is read, and the whole is flushed
+/// Replays the trace under the rules, and writes its report: a line for each record, and a last line
+/// with what is held. Every accepted rules text runs, and a record of every protocol is taken; those of
+/// ICMP are skipped. Each line is written before the next record is read, and the whole is flushed
 /// once, at its end. `rules` and `out` are as `new` gives them.
 ///
 /// The rules are told before anything of the trace. Nothing is written before they are read to

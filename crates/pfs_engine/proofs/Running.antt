@@ -1,11 +1,11 @@
 -- A run with one event more.
-use Rattle.std.proofs.Common.{◌≡◌, ℕ, ◌+◌, ◌<◌, List, [], ◌∷◌, ◌++◌, length, take, drop, get_or, Option, Some, refl, ap, ◌∙◌, sym, append_assoc, add-one, drop-cons, subst}
+use Rattle.std.proofs.Common.{arith, ◌≡◌, ℕ, ◌+◌, ◌<◌, List, [], ◌∷◌, ◌++◌, length, take, drop, get_or, Option, Some, refl, ap, ◌∙◌, sym, append_assoc, add-one, drop-cons, subst}
 use Rattle.std.proofs.lemmas.List.{append-nil, take_more}
 use Rattle.pfs_rules.specs.Configs.{Conf}
 use Rattle.pfs_engine.specs.declared.events.Event.{Event}
 use Rattle.pfs_engine.specs.declared.events.Outcome.{Outcome}
 use Rattle.pfs_engine.specs.Machine.{Machine, step}
-use Rattle.pfs_engine.specs.Runs.{IsInOrder, machine_after, outcomes_of}
+use Rattle.pfs_engine.specs.Runs.{IsInOrder, machine_after, outcomes_of, packets_in, taken_by}
 
 -- one event more
 pub machine_after-push : (conf : Conf) (m : Machine) (xs : List Event) (e : Event) → machine_after conf m (xs ++ e ∷ []) ≡ (step conf (machine_after conf m xs) e).1
@@ -38,3 +38,20 @@ machine_none conf m = refl
 pub outcomes_none : (conf : Conf) (m : Machine) (before : List Outcome) → before ≡ before ++ outcomes_of conf m []
 unfolding outcomes_of
 outcomes_none conf m before = sym (append-nil before)
+
+-- ---- how many packets were taken
+
+packets_in-push : (xs : List Event) (e : Event) → packets_in (xs ++ e ∷ []) ≡ packets_in xs + taken_by e.what
+unfolding packets_in
+packets_in-push [] e = omega arith
+packets_in-push (x ∷ xs) e = omega (arith, packets_in-push xs e)
+
+pub taken_next : (before taken more : ℕ) (es : List Event) (i : ℕ) (d : Event) → i < length es → taken ≡ before + packets_in (take i es)
+    → more ≡ taken + taken_by (get_or es i d).what → more ≡ before + packets_in (take (i + 1) es)
+taken_next before taken more es i d h e m =
+    let next = ap packets_in (take_more es i d h) ∙ packets_in-push (take i es) (get_or es i d) in
+    omega (arith, next, e, m)
+
+pub taken_none : (taken : ℕ) → taken ≡ taken + packets_in []
+unfolding packets_in
+taken_none taken = omega arith

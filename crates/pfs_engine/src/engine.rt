@@ -11,7 +11,7 @@ ghost use Rattle.pfs_store.specs.declared.records.Limit.{Limit};
 ghost use Rattle.pfs_engine.specs.Kept.{IsWithinLimits, IsWithinShared, moment_of};
 ghost use Rattle.pfs_engine.specs.Refusals.{IsFree, IsRefused};
 ghost use Rattle.pfs_engine.specs.Machine.{advanced, answered, due, entries_held, most_nodes, most_states, nodes_held, start, states_held, step};
-ghost use Rattle.pfs_engine.specs.Runs.{IsInOrder, IsStopped, machine_after, outcomes_of};
+ghost use Rattle.pfs_engine.specs.Runs.{IsInOrder, IsStopped, machine_after, outcomes_of, packets_in, taken_by};
 ghost use Rattle.pfs_engine.specs.Visits.{AreVisits};
 
 use crate::events::{Event, Outcome, What, Work};
@@ -206,7 +206,8 @@ impl<S: Store> Engine<S> {
         requires room { self.old.taken + length events.now ≤ 1000000000 }
         ensures outcomes { OnOk result (outcomes.new.items ≡ outcomes.old.items ++ outcomes_of self.old.config self.old.machine events.now) }
         ensures machine { OnOk result (self.new.machine ≡ machine_after self.old.config self.old.machine events.now) }
-        ensures err { OnErr result (IsStopped self.old.config self.old.machine events.now outcomes.old.items outcomes.new.items self.new.machine) }
+        ensures err { OnErr result (IsStopped self.old.config self.old.machine events.now outcomes.old.items outcomes.new.items self.new.machine self.old.taken self.new.taken) }
+        ensures taken { OnOk result (self.new.taken ≡ self.old.taken + packets_in events.now) }
         ensures config { self.new.config ≡ self.old.config }
     {
         for event in events {
@@ -230,7 +231,9 @@ impl<S: Store> Engine<S> {
         ensures ok { IfOk result (λ o. (o, self.new.machine) ≡ step self.old.config self.old.machine event.now) }
         ensures err { OnErr result (self.new.machine ≡ advanced self.old.config self.old.machine event.now.time) }
         ensures config { self.new.config ≡ self.old.config }
-        ensures taken { self.new.taken ≤ self.old.taken + 1 }
+        ensures taken { OnOk result (self.new.taken ≡ self.old.taken + taken_by event.now.what) }
+        ensures not_taken { OnErr result (self.new.taken ≡ self.old.taken) }
+        ensures few { self.new.taken ≤ self.old.taken + 1 }
         ensures last { self.new.machine.last ≡ Some event.now.time }
     {
         self.advance(event.time);

@@ -6,6 +6,8 @@ mod events;
 mod handshakes;
 mod packets;
 mod purges;
+#[cfg(test)]
+mod tests;
 
 pub use engine::Engine;
 pub use events::{Event, Outcome, What, Work};

@@ -1,5 +1,4 @@
-use Rattle.std.proofs.Common.{◌≡◌, ℕ, List, [], Err, sym, ◌∙◌}
-use Rattle.pfs_cli.specs.Checks.{counts_text}
+use Rattle.std.proofs.Common.{◌≡◌, [], ◌∙◌}
 use Rattle.pfs_show.specs.Texts.{text_of}
 use Rattle.pfs_cli.specs.declared.faults.ReplayFault.TheVariants as fault
 use Rattle.pfs_cli.proofs.Checking.{nothing-written, text-written}

@@ -1,9 +1,7 @@
-use Rattle.std.proofs.Common.{◌≡◌, ℕ, List, subst, sym}
-use Rattle.pfs_rules.specs.Configs.{Conf}
+use Rattle.std.proofs.Common.{ℕ, List, subst, sym}
 use Rattle.pfs_conf.specs.Reads.{Reads, IsFault}
-use Rattle.pfs_cli.specs.declared.faults.ReplayFault.{ReplayFault}
 use Rattle.pfs_cli.specs.Checks.{RefusesText}
-use Rattle.pfs_cli.proofs.Checking.{kept-told, refused-no_write, feed-no_write, feed-refused}
+use Rattle.pfs_cli.proofs.Checking.{kept-told}
 use Rattle.pfs_cli.proofs.Replaying.{kept-reads}
 use Rattle.pfs_cli.proofs.checks.read_config.Goals as goal
 

@@ -2,7 +2,7 @@ use Rattle.std.proofs.Common.{◌<◌, ◌+◌, List, [], ◌∷◌, ◌++◌, S
 use Rattle.std.proofs.lemmas.Option.{slice_get-get_or}
 use Rattle.pfs_engine.specs.declared.events.Event.{Event}
 use Rattle.pfs_engine.specs.declared.events.Outcome.{Outcome}
-use Rattle.pfs_engine.proofs.Running.{machine_next, machine_none, order_next, outcomes_next, outcomes_none}
+use Rattle.pfs_engine.proofs.Running.{machine_next, machine_none, order_next, outcomes_next, outcomes_none, taken_next, taken_none}
 use Rattle.pfs_engine.proofs.engine.Engine.run.Goals as goal
 
 pub loop-event-init : goal.loop-event-init
@@ -14,6 +14,7 @@ loop-event-init g c =
       machine = machine_none conf first;
       config = refl;
       order = c.requires.order;
+      taken = taken_none c.args.self.now.taken;
       room = c.requires.room;
     }
 
@@ -24,7 +25,7 @@ returns-in-Err-clause-err g c =
     let es = c.args.events.now in
     let within : at < length es = omega arith in
     let refused = rw (i.config, i.machine) at c.in-Err.ensures.err in
-    (at, within, c.reserve.ensures.items ∙ i.outcomes, inr (c.event-item.result, slice_get-get_or es at _ within ∙ ap (λ (e : Event). Some e) (sym c.event-item.is), refused))
+    (at, within, c.reserve.ensures.items ∙ i.outcomes, c.in-Err.ensures.not_taken ∙ i.taken, inr (c.event-item.result, slice_get-get_or es at _ within ∙ ap (λ (e : Event). Some e) (sym c.event-item.is), refused))
 
 pub loop-event-preserved : goal.loop-event-preserved
 loop-event-preserved g c =
@@ -41,5 +42,6 @@ loop-event-preserved g c =
       machine = machine_next conf first c.loop-event.self.machine _ c.in-Ok.outcome es at _ within stepped i.machine;
       config = c.event.ensures.config ∙ i.config;
       order = rw (c.event.ensures.last, c.event-item.is) (order_next c.loop-event.self.machine.last es at _ within i.order);
-      room = omega (arith, length-drop at es, length-drop (at + 1) es, i.room, c.event.ensures.taken);
+      taken = taken_next c.args.self.now.taken c.loop-event.self.taken c.event.new.self.taken es at _ within i.taken (rw c.event-item.is at k.taken);
+      room = omega (arith, length-drop at es, length-drop (at + 1) es, i.room, c.event.ensures.few);
     }

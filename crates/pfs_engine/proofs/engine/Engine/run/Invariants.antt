@@ -1,5 +1,5 @@
 use Rattle.std.proofs.Common.{◌≡◌, ◌≤◌, ◌+◌, ◌++◌, length, take, drop}
-use Rattle.pfs_engine.specs.Runs.{outcomes_of, machine_after}
+use Rattle.pfs_engine.specs.Runs.{outcomes_of, machine_after, packets_in}
 use Rattle.pfs_engine.specs.Runs.{IsInOrder}
 use Rattle.pfs_engine.proofs.engine.Engine.run.Given as goal
 
@@ -13,5 +13,6 @@ invariant-loop-event g l =
       machine : l.self.machine ≡ machine_after conf first (take l.event-index l.events);
       config : l.self.config ≡ conf;
       order : IsInOrder l.self.machine.last (drop l.event-index l.events);
+      taken : l.self.taken ≡ l.fn.self.taken + packets_in (take l.event-index l.events);
       room : l.self.taken + length (drop l.event-index l.events) ≤ 1000000000;
     }

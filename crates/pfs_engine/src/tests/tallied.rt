@@ -1,0 +1,97 @@
+// Any store, with a count of the calls that change it.
+
+ghost use Rattle.std.specs.Prelude.{◌≡◌};
+
+use crate::Limit;
+use pfs_addr::{Addr, FlowKey, Meter, NoMemory, Packet};
+use pfs_rules::RuleNo;
+use pfs_store::{Slice, StateNo, Store, Touched};
+
+/// Any store, with a count of the calls that change it.
+#[derive(Drop)]
+pub struct Tallied<S: Store> {
+    inner: S,
+    calls: u64,
+}
+
+impl<S: Store> Tallied<S> {
+    /// A store without calls yet.
+    pub fn new(inner: S) -> Tallied<S>
+        ensures { result.inner ≡ inner }
+    {
+        Tallied { inner, calls: 0 }
+    }
+
+    fn tick(&mut self)
+        ensures { self.new.inner ≡ self.old.inner }
+    {
+        self.calls = self.calls.saturating_add(1);
+    }
+}
+
+impl<S: Store> Store for Tallied<S> {
+    ghost world = { λ t. S.world t.inner };
+
+    ghost config = { λ t. S.config t.inner };
+
+    ghost counts = { S.counts };
+
+    fn find(&self, key: &FlowKey) -> Option<StateNo> {
+        self.inner.find(key)
+    }
+
+    fn rule_at(&self, key: &FlowKey) -> Option<RuleNo> {
+        self.inner.rule_at(key)
+    }
+
+    fn holds(&self, number: StateNo) -> bool {
+        self.inner.holds(number)
+    }
+
+    fn state_count(&self) -> u64 {
+        self.inner.state_count()
+    }
+
+    fn node_count(&self) -> u64 {
+        self.inner.node_count()
+    }
+
+    fn made(&self) -> u64 {
+        self.inner.made()
+    }
+
+    fn admit(
+        &mut self,
+        packet: &Packet,
+        rule: RuleNo,
+        now: u64,
+    ) -> Result<Result<StateNo, Limit>, NoMemory> {
+        self.tick();
+        self.inner.admit(packet, rule, now)
+    }
+
+    fn touch(&mut self, number: StateNo, packet: &Packet, now: u64, meter: &mut Meter) -> Touched {
+        self.tick();
+        self.inner.touch(number, packet, now, meter)
+    }
+
+    fn kill(&mut self, number: StateNo, now: u64, meter: &mut Meter) {
+        self.tick();
+        self.inner.kill(number, now, meter)
+    }
+
+    fn flush(&mut self, source: Addr, rule: Option<RuleNo>, now: u64, meter: &mut Meter) -> u64 {
+        self.tick();
+        self.inner.flush(source, rule, now, meter)
+    }
+
+    fn purge_states(&mut self, now: u64, meter: &mut Meter) -> Slice {
+        self.tick();
+        self.inner.purge_states(now, meter)
+    }
+
+    fn purge_nodes(&mut self, now: u64) -> Slice {
+        self.tick();
+        self.inner.purge_nodes(now)
+    }
+}
