@@ -32,6 +32,7 @@ use Rattle.pfs_engine.proofs.Alike.{AreAlike, idled_all-alike, nodes_touched-ali
 use Rattle.pfs_engine.proofs.Changes.{find-all, find-any, find-passes}
 use Rattle.pfs_engine.proofs.Connections.{IsAlone, connections-killed, connections-same, connections-within}
 use Rattle.pfs_engine.proofs.Counts.{any-map, count-filter_le, count-map, count_le}
+use Rattle.pfs_engine.proofs.KeptTime.{within_less}
 use Rattle.pfs_engine.proofs.Numbers.{Rise-alone, Rise-filter, Rise-map}
 use Rattle.pfs_engine.proofs.Renewals.{is_tcp-completes, renewed-phase, renewed-same}
 
@@ -71,10 +72,6 @@ kept_whole conf m k few = record {
   tables = k.tables;
   moments = k.moments;
 }
-
--- a count that is no greater is within the maximum too
-within_fewer : (most : Option ℕ) (a b : ℕ) → a ≤ b → IsWithin most b → IsWithin most a
-within_fewer most a b le h = λ n is. omega (arith, le, h n is)
 
 -- ---- the state's packet
 
@@ -163,10 +160,10 @@ kept_but_without conf m stays at k =
       states = omega (arith, count_le stays w.states, k.states);
       nodes = omega (arith, alike.size, k.nodes);
       entries = k.entries;
-      of_rules = λ rule. within_fewer (options_of conf rule).max _ _ (count-filter_le (is_of_rule rule) stays w.states) (k.of_rules rule);
+      of_rules = λ rule. within_less (options_of conf rule).max _ _ (count-filter_le (is_of_rule rule) stays w.states) (k.of_rules rule);
       source_nodes = λ rule tracks n is. omega (arith, alike.counts (own_scope rule), k.source_nodes rule tracks n is);
       source_states = λ rule source tracks.
-          within_fewer (options_of conf rule).max_src_states _ _ (count-filter_le (is_of_node conf (own_scope rule) source) stays w.states) (k.source_states rule source tracks);
+          within_less (options_of conf rule).max_src_states _ _ (count-filter_le (is_of_node conf (own_scope rule) source) stays w.states) (k.source_states rule source tracks);
       numbers = Rise-filter stays 0 w.made w.states k.numbers;
       noded = All-filter stays (HasNode conf nodes) w.states (All-weaker (HasNode conf w.nodes) (HasNode conf nodes) (HasNode-alike conf w.nodes nodes alike) w.states k.noded);
       phases = All-filter stays (λ (t : State). IsPhaseOf t.key.proto t.phase) w.states k.phases;
@@ -206,7 +203,7 @@ few_killed : (conf : Conf) (m : Machine) (p : Header) (now : ℕ) (s : State) (o
     → IsKept conf m
     → AreFew conf (filter (stays_at_kill (flush_of overload) s.number (touch_of conf m.world p now s)) (touched conf m.world s p now).states)
 few_killed conf m p now s overload found k rule source tracks =
-    within_fewer (options_of conf rule).max_src_conn _ _ (connections-killed conf m.world p now s (flush_of overload) (own_scope rule) source (alone_of conf m p s found k)) (k.limits.source_connections rule source tracks)
+    within_less (options_of conf rule).max_src_conn _ _ (connections-killed conf m.world p now s (flush_of overload) (own_scope rule) source (alone_of conf m p s found k)) (k.limits.source_connections rule source tracks)
 
 pub kept_killed : (conf : Conf) (m : Machine) (p : Header) (now : ℕ) (s : State) (overload : Option Overload) (conn rate : Bool)
     → m.last ≡ Some now → state_with (key_of p) m.world ≡ Some s → IsKept conf m

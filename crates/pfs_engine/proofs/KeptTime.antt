@@ -1,5 +1,5 @@
 -- The empty machine keeps what every machine keeps, and so does time that passes.
-use Rattle.std.proofs.Common.{◌≡◌, ◌∙◌, ◌<◌, ◌≤◌, ◌==◌, ◌&&◌, not, nat_le, ◌+◌, ℕ, Bool, true, false, Option, Some, None, List, [], ◌∷◌, All, filter, map, take, refl, cond, arith}
+use Rattle.std.proofs.Common.{◌≡◌, ◌∙◌, ◌<◌, ◌≤◌, ◌==◌, ◌&&◌, not, nat_le, ◌+◌, ℕ, Bool, true, Option, Some, None, List, [], ◌∷◌, All, filter, map, take, refl, arith}
 use Rattle.std.specs.Option.{ForSome}
 use Rattle.std.specs.Prelude.{slice_index_or}
 use Rattle.std.proofs.lemmas.Bool.Decides.{nat_tests}
@@ -20,9 +20,10 @@ use Rattle.pfs_store.specs.Worlds.{World}
 use Rattle.pfs_store.specs.declared.records.Node.{Node}
 use Rattle.pfs_store.specs.declared.records.NodeScope.{NodeScope}
 use Rattle.pfs_store.specs.declared.records.State.{State}
+use Rattle.pfs_engine.proofs.Numbers.{Rise-filter}
 use Rattle.pfs_engine.proofs.Counts.{any-filter, any-map, count-at, count-filter_le, count-map, count_le}
 use Rattle.pfs_engine.proofs.Scopes.{and_left, and_right, is_of_node-own, same_scope_true}
-use Rattle.pfs_engine.specs.Kept.{HasNode, IsKept, IsPhaseOf, IsWithin, Rise, moment_of, own_scope}
+use Rattle.pfs_engine.specs.Kept.{HasNode, IsKept, IsPhaseOf, IsWithin, moment_of, own_scope}
 use Rattle.pfs_engine.specs.Machine.{Machine, advanced, due, machine_of, purged, start}
 
 -- ---- the start
@@ -50,19 +51,6 @@ kept_start conf sound = record {
 -- a smaller count is within the maximum too
 pub within_less : (most : Option ℕ) (a b : ℕ) → a ≤ b → IsWithin most b → IsWithin most a
 within_less most a b le h n is = omega (arith, le, h n is)
-
-pub rise_lower : (low above high : ℕ) (states : List State) → low ≤ above → Rise above states high → Rise low states high
-rise_lower low above high [] le h = omega (arith, le, h)
-rise_lower low above high (s ∷ states) le h = (omega (arith, le, h.0), h.1)
-
--- numbers that rise still rise where some left
-pub rise_filter : (p : State → Bool) (low high : ℕ) (states : List State) → Rise low states high → Rise low (filter p states) high
-rise_filter p low high [] h = h
-rise_filter p low high (s ∷ states) h = by (p s) (rise_filter p s.number high states h.1)
-  where
-    by : (b : Bool) → Rise s.number (filter p states) high → Rise low (cond b (s ∷ filter p states) (filter p states)) high
-    by true rest = (h.0, rest)
-    by false rest = rise_lower low s.number high (filter p states) (omega (arith, h.0)) rest
 
 -- an idle moment changes neither the scope nor the source of a node
 idled-is_node : (conf : Conf) (before after : List State) (now : ℕ) (scope : NodeScope) (source : Addr) (n : Node)
@@ -92,7 +80,7 @@ kept_left conf m p pending at k =
         source_connections = λ rule source alone.
             within_less (options_of conf rule).max_src_conn _ _ (count-filter_le (is_connection conf (own_scope rule) source) p w.states) (k.limits.source_connections rule source alone);
       };
-      numbers = rise_filter p 0 w.made w.states k.numbers;
+      numbers = Rise-filter p 0 w.made w.states k.numbers;
       noded = All-weaker (HasNode conf w.nodes) (HasNode conf (map change w.nodes))
           (λ s h scope is. any-map (is_node scope s.source) change (idled-is_node conf w.states (filter p w.states) at scope s.source) w.nodes ∙ h scope is)
           (filter p w.states) (All-filter p (HasNode conf w.nodes) w.states k.noded);
