@@ -13,7 +13,7 @@ use Rattle.pfs_cli.specs.declared.faults.TraceFault.TheVariants as trace
 use Rattle.pfs_cli.specs.declared.faults.ReplayFault.{ReplayFault}
 use Rattle.pfs_cli.specs.declared.faults.ReplayFault.TheVariants as fault
 use Rattle.pfs_conf.specs.declared.faults.LoadFault.{LoadFault}
-use Rattle.pfs_rules.specs.Configs.{Conf}
+use Rattle.pfs_conf_rules.specs.Configs.{Conf}
 use Rattle.pfs_conf.specs.Kinds.{no_memory}
 use Rattle.pfs_conf.specs.Reads.{Reads, IsFault, memory, long, breaks, stops}
 use Rattle.pfs_cli.specs.declared.records.Stop.TheVariants as stop

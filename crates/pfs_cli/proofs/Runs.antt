@@ -1,7 +1,7 @@
 -- A run of one event more.
 use Rattle.std.proofs.Common.{◌≡◌, ◌+◌, ◌++◌, ◌∙◌, ℕ, suc, List, [], ◌∷◌, length, refl, sym, ap, append_assoc, arith}
 use Rattle.std.proofs.lemmas.List.{append-nil}
-use Rattle.pfs_rules.specs.Configs.{Conf}
+use Rattle.pfs_conf_rules.specs.Configs.{Conf}
 use Rattle.pfs_engine.specs.declared.events.Event.{Event}
 use Rattle.pfs_engine.specs.declared.events.Outcome.{Outcome}
 use Rattle.pfs_engine.specs.Machine.{Machine, start, step}

@@ -6,10 +6,10 @@ use Rattle.std.proofs.lemmas.Bool.Decides.{nat_tests}
 use Rattle.pfs_addr.specs.Keys.{key_of}
 use Rattle.pfs_addr.specs.Numbers.{number_of}
 use Rattle.pfs_addr.specs.Packets.{Header}
-use Rattle.pfs_rules.specs.Configs.{Conf, options_of, rule_of}
-use Rattle.pfs_rules.specs.declared.actions.Action.{Action}
-use Rattle.pfs_rules.specs.declared.actions.Action.TheVariants as action
-use Rattle.pfs_rules.specs.declared.actions.Overload.{Overload}
+use Rattle.pfs_conf_rules.specs.Configs.{Conf, options_of, rule_of}
+use Rattle.pfs_conf_rules.specs.declared.actions.Action.{Action}
+use Rattle.pfs_conf_rules.specs.declared.actions.Action.TheVariants as action
+use Rattle.pfs_conf_rules.specs.declared.actions.Overload.{Overload}
 use Rattle.pfs_store.specs.Admission.{limit_at}
 use Rattle.pfs_store.specs.Handshakes.{hits_connections, hits_rate}
 use Rattle.pfs_store.specs.Touching.{completes_at, touch_of, touched}

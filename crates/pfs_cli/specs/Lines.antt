@@ -1,7 +1,7 @@
 -- The lines of a report: `ROW WORD @RULE`, and `end rows=R states=S nodes=N entries=E`. (own)
 use Rattle.std.specs.Prelude.{◌++◌, ℕ, Bool, true, false, List, [], codes, Option, Some, None}
 use Rattle.std.specs.Fmt.{decimal}
-use Rattle.pfs_rules.specs.declared.items.RuleNo.{RuleNo}
+use Rattle.pfs_conf_rules.specs.declared.items.RuleNo.{RuleNo}
 use Rattle.pfs_store.specs.declared.records.Limit.{Limit}
 use Rattle.pfs_store.specs.declared.records.Limit.TheVariants as limit
 use Rattle.pfs_eval.specs.declared.tables.Added.{Added}

@@ -1,6 +1,6 @@
 -- The report of a trace under a configuration, and what a run has written of it when it stops. (own)
 use Rattle.std.specs.Prelude.{◌≡◌, ◌+◌, ◌++◌, ℕ, List, [], ◌∷◌, length, take, Some, None, Result, Ok, Err}
-use Rattle.pfs_rules.specs.Configs.{Conf}
+use Rattle.pfs_conf_rules.specs.Configs.{Conf}
 use Rattle.pfs_engine.specs.declared.events.Event.{Event}
 use Rattle.pfs_engine.specs.declared.events.Outcome.{Outcome}
 use Rattle.pfs_engine.specs.Machine.{Machine, start, states_held, nodes_held, entries_held}

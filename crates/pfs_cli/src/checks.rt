@@ -2,19 +2,19 @@
 
 ghost use Rattle.std.specs.Prelude.{◌≡◌, ◌≢◌, ◌⊎◌, ◌++◌, Some, Ok, Err, ◌<◌, ◌≤◌, ◌+◌, ℕ, List, IfOk, IfErr, OnOk, OnErr, length, drop, string_bytes};
 ghost use Rattle.std.specs.Io.KnownBytes.{Appends, Keeps};
-ghost use Rattle.pfs_streams.specs.Feeds.{unread, IsFresh, IsSpent, failures_of as read_failures};
-ghost use Rattle.pfs_streams.specs.Sinks.{held, failures_of};
+ghost use Rattle.pfs_cli_streams.specs.Feeds.{unread, IsFresh, IsSpent, failures_of as read_failures};
+ghost use Rattle.pfs_cli_streams.specs.Sinks.{held, failures_of};
 ghost use Rattle.pfs_conf.specs.Reads.{Reads};
-ghost use Rattle.pfs_show.specs.Texts.{text_of};
+ghost use Rattle.pfs_conf_show.specs.Texts.{text_of};
 ghost use Rattle.pfs_cli.specs.Rules.{rules_limit};
 ghost use Rattle.pfs_cli.specs.Checks.{Answers, RefusesText, counts_text};
 
 use crate::faults::ReplayFault;
 use crate::replays::read_text;
 use crate::rules::told;
+use pfs_cli_streams::{Feed, Sink, write_whole};
 use pfs_conf::{Config, load};
-use pfs_show::show;
-use pfs_streams::{Feed, Sink, write_whole};
+use pfs_conf_show::show;
 use std::alloc::{AllocError, Global};
 use std::io::{Read, Write};
 

@@ -2,8 +2,8 @@
 
 ghost use Rattle.std.specs.Prelude.{◌≡◌, ◌⊎◌, Some, Ok, Err, ◌<◌, ◌≤◌, ◌+◌, ◌-◌, ◌++◌, ℕ, List, true, IfOk, IfErr, OnOk, ◌∷◌, [], length, take, drop};
 ghost use Rattle.std.specs.Io.KnownBytes.{Appends};
-ghost use Rattle.pfs_streams.specs.Feeds.{unread, IsSpent, failures_of as read_failures};
-ghost use Rattle.pfs_streams.specs.Sinks.{held, failures_of};
+ghost use Rattle.pfs_cli_streams.specs.Feeds.{unread, IsSpent, failures_of as read_failures};
+ghost use Rattle.pfs_cli_streams.specs.Sinks.{held, failures_of};
 ghost use Rattle.pfs_cli.specs.Rules.{IsKept, rules_limit};
 ghost use Rattle.pfs_cli.specs.Replays.{Replays, trace_of};
 ghost use Rattle.pfs_cli.specs.Joined.{split_joined};
@@ -13,7 +13,7 @@ use crate::faults::ReplayFault;
 use crate::records::tell_records;
 use crate::replays::{feed_fault, finish};
 use crate::rules::{RULES_LIMIT, load_machine};
-use pfs_streams::{Feed, Sink};
+use pfs_cli_streams::{Feed, Sink};
 use std::alloc::Global;
 use std::io::{BufReader, Read, Write};
 

@@ -19,6 +19,6 @@ pub use checks::{check, print};
 pub use faults::{ReplayFault, status};
 pub use joined::replay_joined;
 pub use performing::perform;
+pub use pfs_cli_jobs::{Job, job};
 pub use pfs_conf::{Kind, LoadFault};
-pub use pfs_jobs::{Job, job};
 pub use replays::replay;

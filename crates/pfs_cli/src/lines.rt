@@ -3,8 +3,8 @@
 ghost use Rattle.std.specs.Prelude.{◌≡◌, Some};
 ghost use Rattle.pfs_cli.specs.Lines.{row_text, end_text, word_of, mark_text, rule_of, note_text, overload_word};
 
+use pfs_conf_rules::RuleNo;
 use pfs_engine::{Added, Limit, Outcome};
-use pfs_rules::RuleNo;
 use std::fmt;
 
 /// The line of a record: its row, what the machine did with it, and by which rule.

@@ -5,8 +5,8 @@ ghost use Rattle.std.specs.Option.{ForSome};
 ghost use Rattle.pfs_engine.specs.Machine.{start, step};
 
 use pfs_addr::NoMemory;
+use pfs_conf_rules::Config;
 use pfs_engine::{Engine, Event, Outcome, What};
-use pfs_rules::Config;
 use pfs_store::PlainStore;
 use std::alloc::Global;
 

@@ -2,16 +2,16 @@
 
 ghost use Rattle.std.specs.Prelude.{◌≡◌, ◌⊎◌, Some, Err, ◌<◌, ℕ, List};
 ghost use Rattle.std.specs.Io.KnownBytes.{Appends};
-ghost use Rattle.pfs_streams.specs.Feeds.{unread, IsFresh, IsSpent, failures_of as read_failures};
-ghost use Rattle.pfs_streams.specs.Sinks.{held, failures_of};
+ghost use Rattle.pfs_cli_streams.specs.Feeds.{unread, IsFresh, IsSpent, failures_of as read_failures};
+ghost use Rattle.pfs_cli_streams.specs.Sinks.{held, failures_of};
 ghost use Rattle.pfs_cli.specs.Performing.{Performs, ReadsRulesAlone};
 
 use crate::checks::{check, print};
 use crate::faults::ReplayFault;
 use crate::joined::replay_joined;
 use crate::replays::replay;
-use pfs_jobs::Job;
-use pfs_streams::{Feed, Sink};
+use pfs_cli_jobs::Job;
+use pfs_cli_streams::{Feed, Sink};
 use std::alloc::Global;
 use std::io::{Read, Write};
 

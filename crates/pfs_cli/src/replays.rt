@@ -2,9 +2,9 @@
 
 ghost use Rattle.std.specs.Prelude.{◌≡◌, ◌⊎◌, Some, Ok, Err, ◌<◌, ◌≤◌, ◌+◌, ℕ, List, true, IfOk, IfErr, length, drop};
 ghost use Rattle.std.specs.Io.KnownBytes.{Appends, Keeps};
-ghost use Rattle.pfs_streams.specs.Feeds.{unread, has_ended, IsFresh, IsSpent, failures_of as read_failures};
-ghost use Rattle.pfs_streams.specs.Sinks.{held, failures_of};
-ghost use Rattle.pfs_rules.specs.Configs.{Conf};
+ghost use Rattle.pfs_cli_streams.specs.Feeds.{unread, has_ended, IsFresh, IsSpent, failures_of as read_failures};
+ghost use Rattle.pfs_cli_streams.specs.Sinks.{held, failures_of};
+ghost use Rattle.pfs_conf_rules.specs.Configs.{Conf};
 ghost use Rattle.pfs_conf.specs.Reads.{Reads};
 ghost use Rattle.pfs_cli.specs.Reports.{Tells};
 ghost use Rattle.pfs_cli.specs.Rules.{IsKept, rules_limit};
@@ -13,7 +13,7 @@ ghost use Rattle.pfs_cli.specs.Replays.{Replays, IsFeedFault, trace_of};
 use crate::faults::ReplayFault;
 use crate::records::{Stop, tell_records};
 use crate::rules::{RULES_LIMIT, load_machine};
-use pfs_streams::{Feed, Sink};
+use pfs_cli_streams::{Feed, Sink};
 use std::alloc::Global;
 use std::io::{Read, Write};
 

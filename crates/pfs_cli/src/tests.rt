@@ -9,7 +9,7 @@ mod traces;
 mod verdicts;
 
 use crate::{Kind, LoadFault, ReplayFault, replay, replay_joined, status};
-use pfs_streams::{Feed, Sink};
+use pfs_cli_streams::{Feed, Sink};
 use std::io;
 use std::io::{Error, ErrorKind, Read, Write};
 use std::test::Fail;

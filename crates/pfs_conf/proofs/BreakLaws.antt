@@ -1,26 +1,26 @@
 -- Where reading tells that a load rule is broken, the text breaks it, and breaks none before.
 use Rattle.std.proofs.Common.{◌≡◌, ℕ, zero, suc, ◌==◌, Bool, true, false, cond, List, [], ◌∷◌, length, Option, Some, None, Result, Ok, Err, refl, sym, ap, subst, ◌∙◌, inl, inr, ◌⊎◌}
-use Rattle.pfs_tokens.specs.Tokens.{Tok, head, rest}
-use Rattle.pfs_tokens.specs.declared.keys.Key.{Key}
-use Rattle.pfs_tokens.specs.declared.keys.Key.TheVariants as key
-use Rattle.pfs_tokens.specs.declared.refusals.LoadRule.{LoadRule}
-use Rattle.pfs_tokens.specs.declared.refusals.Why.TheVariants as why
-use Rattle.pfs_tokens.specs.Keys.{ends_line, ends_text, is_word_key}
-use Rattle.pfs_tokens.specs.Grammar.{Word}
-use Rattle.pfs_tokens.specs.Reading.{Refused, stop, broken, Reader, Act, take, stay, refuse, act, on_front, done, chain, perhaps, turns, left_there, until_all, ended}
-use Rattle.pfs_tokens.proofs.Laws.{bind_err}
-use Rattle.pfs_tokens.proofs.ReaderLaws.{word_is}
+use Rattle.pfs_conf_tokens.specs.Tokens.{Tok, head, rest}
+use Rattle.pfs_conf_tokens.specs.declared.keys.Key.{Key}
+use Rattle.pfs_conf_tokens.specs.declared.keys.Key.TheVariants as key
+use Rattle.pfs_conf_tokens.specs.declared.refusals.LoadRule.{LoadRule}
+use Rattle.pfs_conf_tokens.specs.declared.refusals.Why.TheVariants as why
+use Rattle.pfs_conf_tokens.specs.Keys.{ends_line, ends_text, is_word_key}
+use Rattle.pfs_conf_tokens.specs.Grammar.{Word}
+use Rattle.pfs_conf_tokens.specs.Reading.{Refused, stop, broken, Reader, Act, take, stay, refuse, act, on_front, done, chain, perhaps, turns, left_there, until_all, ended}
+use Rattle.pfs_conf_tokens.proofs.Laws.{bind_err}
+use Rattle.pfs_conf_tokens.proofs.ReaderLaws.{word_is}
 use Rattle.pfs_addr.specs.Names.{name_of}
-use Rattle.pfs_rules.specs.Drafts.{Drafted, finished, is_defined}
-use Rattle.pfs_rules.specs.Siblings.{has_sibling}
-use Rattle.pfs_rules.specs.declared.filters.FlagTest.{FlagTest}
-use Rattle.pfs_filters.specs.Reading.{verb_at, parameters_at, flags_at, begins_flags}
-use Rattle.pfs_filters.specs.declared.phrases.Parameters.{Parameters}
-use Rattle.pfs_filters.specs.declared.phrases.Statement.TheVariants as statement
-use Rattle.pfs_filters.specs.declared.phrases.Verb.{Verb}
-use Rattle.pfs_options.specs.Reading.{state_at}
-use Rattle.pfs_settings.specs.Settings.{settings_at}
-use Rattle.pfs_settings.specs.Tables.{parts_at}
+use Rattle.pfs_conf_rules.specs.Drafts.{Drafted, finished, is_defined}
+use Rattle.pfs_conf_rules.specs.Siblings.{has_sibling}
+use Rattle.pfs_conf_rules.specs.declared.filters.FlagTest.{FlagTest}
+use Rattle.pfs_conf_filters.specs.Reading.{verb_at, parameters_at, flags_at, begins_flags}
+use Rattle.pfs_conf_filters.specs.declared.phrases.Parameters.{Parameters}
+use Rattle.pfs_conf_filters.specs.declared.phrases.Statement.TheVariants as statement
+use Rattle.pfs_conf_filters.specs.declared.phrases.Verb.{Verb}
+use Rattle.pfs_conf_options.specs.Reading.{state_at}
+use Rattle.pfs_conf_settings.specs.Settings.{settings_at}
+use Rattle.pfs_conf_settings.specs.Tables.{parts_at}
 use Rattle.pfs_conf.specs.declared.phrases.Clauses.{Clauses}
 use Rattle.pfs_conf.specs.declared.phrases.RuleText.{RuleText}
 use Rattle.pfs_conf.specs.declared.phrases.AnchorText.{AnchorText}

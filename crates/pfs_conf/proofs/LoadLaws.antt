@@ -1,20 +1,20 @@
 -- Texts, and what is answered of them.
 use Rattle.std.proofs.Common.{◌≡◌, ◌≤◌, ◌<◌, ℕ, Bool, true, false, List, [], ◌∷◌, ◌++◌, length, Option, Some, None, Result, Ok, Err, refl, sym, ap, subst, ◌∙◌, arith, inl, inr, ◌⊎◌}
 use Rattle.std.specs.Prelude.{IfOk, IfErr, MatchResult}
-use Rattle.pfs_tokens.specs.Tokens.{Tok, head, rest}
-use Rattle.pfs_tokens.specs.Keys.{ends_text}
-use Rattle.pfs_tokens.specs.Lexis.{tokens_of}
-use Rattle.pfs_tokens.specs.Reading.{Refused, stop, broken, up_to_all}
-use Rattle.pfs_tokens.specs.Giving.{refused, GivesOrMemory}
-use Rattle.pfs_tokens.specs.declared.refusals.LoadRule.{LoadRule}
-use Rattle.pfs_tokens.specs.declared.refusals.Why.{Why}
-use Rattle.pfs_tokens.specs.declared.refusals.Refusal.TheVariants as refusal
-use Rattle.pfs_tokens.specs.declared.refusals.ReadError.{ReadError}
-use Rattle.pfs_tokens.specs.declared.refusals.ReadError.TheVariants as error
-use Rattle.pfs_tokens.proofs.Laws.{across, ok_parts, up_to_fails, up_to_goes_on, stops_at, no_text}
-use Rattle.pfs_tokens.proofs.ReaderLaws.{word_head}
-use Rattle.pfs_tokens.proofs.ShownLaws.{tokens_have_end}
-use Rattle.pfs_rules.specs.Configs.{Conf}
+use Rattle.pfs_conf_tokens.specs.Tokens.{Tok, head, rest}
+use Rattle.pfs_conf_tokens.specs.Keys.{ends_text}
+use Rattle.pfs_conf_tokens.specs.Lexis.{tokens_of}
+use Rattle.pfs_conf_tokens.specs.Reading.{Refused, stop, broken, up_to_all}
+use Rattle.pfs_conf_tokens.specs.Giving.{refused, GivesOrMemory}
+use Rattle.pfs_conf_tokens.specs.declared.refusals.LoadRule.{LoadRule}
+use Rattle.pfs_conf_tokens.specs.declared.refusals.Why.{Why}
+use Rattle.pfs_conf_tokens.specs.declared.refusals.Refusal.TheVariants as refusal
+use Rattle.pfs_conf_tokens.specs.declared.refusals.ReadError.{ReadError}
+use Rattle.pfs_conf_tokens.specs.declared.refusals.ReadError.TheVariants as error
+use Rattle.pfs_conf_tokens.proofs.Laws.{across, ok_parts, up_to_fails, up_to_goes_on, stops_at, no_text}
+use Rattle.pfs_conf_tokens.proofs.ReaderLaws.{word_head}
+use Rattle.pfs_conf_tokens.proofs.ShownLaws.{tokens_have_end}
+use Rattle.pfs_conf_rules.specs.Configs.{Conf}
 use Rattle.pfs_conf.specs.declared.faults.LoadFault.{LoadFault}
 use Rattle.pfs_conf.specs.declared.progress.Progress.{Progress}
 use Rattle.pfs_conf.specs.Kinds.{no_memory, fault, fault_of, kind_of, kind_of_rule}

@@ -1,31 +1,31 @@
 -- The readers of statements look no further than the token in front of what they leave.
 use Rattle.std.proofs.Common.{◌≡◌, ℕ, ◌<◌, ◌==◌, ◌||◌, Bool, true, false, cond, List, [], ◌∷◌, length, Option, Some, None, Result, Ok, Err, refl, sym, ap, subst, ◌∙◌, arith}
-use Rattle.pfs_tokens.specs.Tokens.{Tok, head}
-use Rattle.pfs_tokens.specs.declared.keys.Key.{Key}
-use Rattle.pfs_tokens.specs.declared.keys.Key.TheVariants as key
-use Rattle.pfs_tokens.specs.declared.refusals.LoadRule.{LoadRule}
-use Rattle.pfs_tokens.specs.declared.refusals.Why.{Why}
-use Rattle.pfs_tokens.specs.declared.refusals.Why.TheVariants as why
-use Rattle.pfs_tokens.specs.Keys.{in_line, before_end, ends_line, ends_text, is_word_key}
-use Rattle.pfs_tokens.specs.Grammar.{Passes}
-use Rattle.pfs_tokens.specs.Reading.{Refused, stop, broken, Reader, Act, take, stay, refuse, act, on_front, done, chain, perhaps, once, until_all, up_to_all, ended}
-use Rattle.pfs_tokens.proofs.Laws.{Reach, inside, line, across, stopping, taking, first, passes_more, Share, here, Online, online_across, online_done, online_chain, OnlineAct, Taking, taking_online, online_front, online_taking, once_taking, Shrinks, front_shrinks, chain_shrinks, online_perhaps, online_until_all, online_up_to_all, online_ended}
-use Rattle.pfs_tokens.proofs.ReaderLaws.{line_end_before_end, word_in_line}
+use Rattle.pfs_conf_tokens.specs.Tokens.{Tok, head}
+use Rattle.pfs_conf_tokens.specs.declared.keys.Key.{Key}
+use Rattle.pfs_conf_tokens.specs.declared.keys.Key.TheVariants as key
+use Rattle.pfs_conf_tokens.specs.declared.refusals.LoadRule.{LoadRule}
+use Rattle.pfs_conf_tokens.specs.declared.refusals.Why.{Why}
+use Rattle.pfs_conf_tokens.specs.declared.refusals.Why.TheVariants as why
+use Rattle.pfs_conf_tokens.specs.Keys.{in_line, before_end, ends_line, ends_text, is_word_key}
+use Rattle.pfs_conf_tokens.specs.Grammar.{Passes}
+use Rattle.pfs_conf_tokens.specs.Reading.{Refused, stop, broken, Reader, Act, take, stay, refuse, act, on_front, done, chain, perhaps, once, until_all, up_to_all, ended}
+use Rattle.pfs_conf_tokens.proofs.Laws.{Reach, inside, line, across, stopping, taking, first, passes_more, Share, here, Online, online_across, online_done, online_chain, OnlineAct, Taking, taking_online, online_front, online_taking, once_taking, Shrinks, front_shrinks, chain_shrinks, online_perhaps, online_until_all, online_up_to_all, online_ended}
+use Rattle.pfs_conf_tokens.proofs.ReaderLaws.{line_end_before_end, word_in_line}
 use Rattle.pfs_addr.specs.Names.{name_of}
-use Rattle.pfs_rules.specs.Drafts.{Drafted, finished, is_defined}
-use Rattle.pfs_rules.specs.Siblings.{has_sibling}
-use Rattle.pfs_rules.specs.declared.filters.FlagTest.{FlagTest}
-use Rattle.pfs_filters.specs.Reading.{verb_at, parameters_at, flags_at, begins_flags}
-use Rattle.pfs_filters.specs.declared.phrases.Parameters.{Parameters}
-use Rattle.pfs_filters.specs.declared.phrases.Statement.TheVariants as statement
-use Rattle.pfs_filters.specs.declared.phrases.Verb.{Verb}
-use Rattle.pfs_filters.proofs.OnlineLaws.{online_verb, verb_shrinks, online_parameters, online_flags, flags_shrinks}
-use Rattle.pfs_options.specs.Reading.{state_at}
-use Rattle.pfs_options.proofs.OptionLaws.{online_state, state_shrinks}
-use Rattle.pfs_settings.specs.Settings.{settings_at}
-use Rattle.pfs_settings.specs.Tables.{parts_at}
-use Rattle.pfs_settings.proofs.SettingLaws.{online_settings}
-use Rattle.pfs_settings.proofs.TableLaws.{online_parts}
+use Rattle.pfs_conf_rules.specs.Drafts.{Drafted, finished, is_defined}
+use Rattle.pfs_conf_rules.specs.Siblings.{has_sibling}
+use Rattle.pfs_conf_rules.specs.declared.filters.FlagTest.{FlagTest}
+use Rattle.pfs_conf_filters.specs.Reading.{verb_at, parameters_at, flags_at, begins_flags}
+use Rattle.pfs_conf_filters.specs.declared.phrases.Parameters.{Parameters}
+use Rattle.pfs_conf_filters.specs.declared.phrases.Statement.TheVariants as statement
+use Rattle.pfs_conf_filters.specs.declared.phrases.Verb.{Verb}
+use Rattle.pfs_conf_filters.proofs.OnlineLaws.{online_verb, verb_shrinks, online_parameters, online_flags, flags_shrinks}
+use Rattle.pfs_conf_options.specs.Reading.{state_at}
+use Rattle.pfs_conf_options.proofs.OptionLaws.{online_state, state_shrinks}
+use Rattle.pfs_conf_settings.specs.Settings.{settings_at}
+use Rattle.pfs_conf_settings.specs.Tables.{parts_at}
+use Rattle.pfs_conf_settings.proofs.SettingLaws.{online_settings}
+use Rattle.pfs_conf_settings.proofs.TableLaws.{online_parts}
 use Rattle.pfs_conf.specs.declared.phrases.Clauses.{Clauses}
 use Rattle.pfs_conf.specs.declared.phrases.RuleText.{RuleText}
 use Rattle.pfs_conf.specs.declared.phrases.AnchorText.{AnchorText}

@@ -1,45 +1,45 @@
 -- What is read of a statement is one of the grammar.
 use Rattle.std.proofs.Common.{◌≡◌, ℕ, ◌≤◌, ◌==◌, ◌||◌, Bool, true, false, cond, List, [], ◌∷◌, length, Option, Some, None, IfSome, IfOk, Result, Ok, Err, refl, sym, ap, subst, ◌∙◌, arith, codes}
 use Rattle.std.proofs.lemmas.Bool.{eqb-true, eqb-false}
-use Rattle.pfs_tokens.specs.Tokens.{Tok, token, head, rest}
-use Rattle.pfs_tokens.specs.declared.keys.Key.{Key}
-use Rattle.pfs_tokens.specs.declared.keys.Key.TheVariants as key
-use Rattle.pfs_tokens.specs.declared.refusals.LoadRule.{LoadRule}
-use Rattle.pfs_tokens.specs.declared.refusals.Refusal.{Refusal}
-use Rattle.pfs_tokens.specs.declared.refusals.Why.{Why}
-use Rattle.pfs_tokens.specs.declared.refusals.Why.TheVariants as why
-use Rattle.pfs_tokens.specs.Keys.{in_line, ends_line, ends_text, is_word_key}
-use Rattle.pfs_tokens.specs.Grammar.{Word, Perhaps, absent, present, Until, ends, goes, UpTo}
-use Rattle.pfs_tokens.specs.Reading.{Refused, stop, broken, Reader, Act, take, stay, refuse, act, on_front, done, chain, perhaps, once, until_all, up_to_all, ended}
-use Rattle.pfs_tokens.specs.Giving.{Gives}
-use Rattle.pfs_tokens.proofs.Laws.{chain_ok, ok_parts}
-use Rattle.pfs_tokens.proofs.ReaderLaws.{line_end_key, ends_text_key, word_in_line, word_is, word_head, ended_is, perhaps_is, until_is, up_to_is}
-use Rattle.pfs_tokens.proofs.WordKeys.{key_of-Anchor}
+use Rattle.pfs_conf_tokens.specs.Tokens.{Tok, token, head, rest}
+use Rattle.pfs_conf_tokens.specs.declared.keys.Key.{Key}
+use Rattle.pfs_conf_tokens.specs.declared.keys.Key.TheVariants as key
+use Rattle.pfs_conf_tokens.specs.declared.refusals.LoadRule.{LoadRule}
+use Rattle.pfs_conf_tokens.specs.declared.refusals.Refusal.{Refusal}
+use Rattle.pfs_conf_tokens.specs.declared.refusals.Why.{Why}
+use Rattle.pfs_conf_tokens.specs.declared.refusals.Why.TheVariants as why
+use Rattle.pfs_conf_tokens.specs.Keys.{in_line, ends_line, ends_text, is_word_key}
+use Rattle.pfs_conf_tokens.specs.Grammar.{Word, Perhaps, absent, present, Until, ends, goes, UpTo}
+use Rattle.pfs_conf_tokens.specs.Reading.{Refused, stop, broken, Reader, Act, take, stay, refuse, act, on_front, done, chain, perhaps, once, until_all, up_to_all, ended}
+use Rattle.pfs_conf_tokens.specs.Giving.{Gives}
+use Rattle.pfs_conf_tokens.proofs.Laws.{chain_ok, ok_parts}
+use Rattle.pfs_conf_tokens.proofs.ReaderLaws.{line_end_key, ends_text_key, word_in_line, word_is, word_head, ended_is, perhaps_is, until_is, up_to_is}
+use Rattle.pfs_conf_tokens.proofs.WordKeys.{key_of-Anchor}
 use Rattle.pfs_addr.specs.Names.{is_name, name_of}
-use Rattle.pfs_rules.specs.Configs.{Conf}
-use Rattle.pfs_rules.specs.Drafts.{Drafted, finished, is_defined}
-use Rattle.pfs_rules.specs.LoadRules.{IsFlagTest}
-use Rattle.pfs_rules.specs.Siblings.{has_sibling, repeats_by}
-use Rattle.pfs_rules.specs.declared.filters.FlagTest.{FlagTest}
-use Rattle.pfs_filters.specs.Grammar.{PolicyOf, none, drop, return, return_rst, return_icmp, return_icmp6, VerbOf, pass, block, ParametersOf, FlagsOf}
-use Rattle.pfs_filters.specs.Reading.{verb_at, parameters_at, flags_at, begins_flags}
-use Rattle.pfs_filters.specs.declared.phrases.Parameters.{Parameters}
-use Rattle.pfs_filters.specs.declared.phrases.Statement.TheVariants as statement
-use Rattle.pfs_filters.specs.declared.phrases.Verb.{Verb}
-use Rattle.pfs_filters.proofs.PhraseLaws.{verb_is, parameters_are, flags_are}
-use Rattle.pfs_options.specs.Grammar.{StateOf, no, keep}
-use Rattle.pfs_options.specs.Options.{no_options, AreRead}
-use Rattle.pfs_options.specs.Reading.{state_at}
-use Rattle.pfs_options.specs.declared.clauses.StateClause.{StateClause}
-use Rattle.pfs_options.proofs.PhraseLaws.{state_is}
-use Rattle.pfs_options.proofs.ReadLaws.{state_within}
-use Rattle.pfs_settings.specs.SettingGrammar.{SettingOf}
-use Rattle.pfs_settings.specs.Settings.{settings_at}
-use Rattle.pfs_settings.specs.TableGrammar.{PartsOf}
-use Rattle.pfs_settings.specs.Tables.{parts_at}
-use Rattle.pfs_settings.specs.declared.tables.Parts.{Parts}
-use Rattle.pfs_settings.proofs.SettingPhrases.{settings_are}
-use Rattle.pfs_settings.proofs.TablePhrases.{parts_are}
+use Rattle.pfs_conf_rules.specs.Configs.{Conf}
+use Rattle.pfs_conf_rules.specs.Drafts.{Drafted, finished, is_defined}
+use Rattle.pfs_conf_rules.specs.LoadRules.{IsFlagTest}
+use Rattle.pfs_conf_rules.specs.Siblings.{has_sibling, repeats_by}
+use Rattle.pfs_conf_rules.specs.declared.filters.FlagTest.{FlagTest}
+use Rattle.pfs_conf_filters.specs.Grammar.{PolicyOf, none, drop, return, return_rst, return_icmp, return_icmp6, VerbOf, pass, block, ParametersOf, FlagsOf}
+use Rattle.pfs_conf_filters.specs.Reading.{verb_at, parameters_at, flags_at, begins_flags}
+use Rattle.pfs_conf_filters.specs.declared.phrases.Parameters.{Parameters}
+use Rattle.pfs_conf_filters.specs.declared.phrases.Statement.TheVariants as statement
+use Rattle.pfs_conf_filters.specs.declared.phrases.Verb.{Verb}
+use Rattle.pfs_conf_filters.proofs.PhraseLaws.{verb_is, parameters_are, flags_are}
+use Rattle.pfs_conf_options.specs.Grammar.{StateOf, no, keep}
+use Rattle.pfs_conf_options.specs.Options.{no_options, AreRead}
+use Rattle.pfs_conf_options.specs.Reading.{state_at}
+use Rattle.pfs_conf_options.specs.declared.clauses.StateClause.{StateClause}
+use Rattle.pfs_conf_options.proofs.PhraseLaws.{state_is}
+use Rattle.pfs_conf_options.proofs.ReadLaws.{state_within}
+use Rattle.pfs_conf_settings.specs.SettingGrammar.{SettingOf}
+use Rattle.pfs_conf_settings.specs.Settings.{settings_at}
+use Rattle.pfs_conf_settings.specs.TableGrammar.{PartsOf}
+use Rattle.pfs_conf_settings.specs.Tables.{parts_at}
+use Rattle.pfs_conf_settings.specs.declared.tables.Parts.{Parts}
+use Rattle.pfs_conf_settings.proofs.SettingPhrases.{settings_are}
+use Rattle.pfs_conf_settings.proofs.TablePhrases.{parts_are}
 use Rattle.pfs_conf.specs.declared.phrases.Clauses.{Clauses}
 use Rattle.pfs_conf.specs.declared.phrases.RuleText.{RuleText}
 use Rattle.pfs_conf.specs.declared.phrases.AnchorText.{AnchorText}

@@ -1,39 +1,39 @@
 -- Each statement of the grammar is read.
 use Rattle.std.proofs.Common.{◌≡◌, ℕ, ◌≤◌, ◌==◌, Bool, true, false, cond, not, List, [], ◌∷◌, length, Option, Some, None, Result, Ok, Err, refl, sym, ap, subst, ◌∙◌, arith}
 use Rattle.std.proofs.lemmas.Bool.{ne_eqb}
-use Rattle.pfs_tokens.specs.Tokens.{Tok, head, rest}
-use Rattle.pfs_tokens.specs.declared.keys.Key.{Key}
-use Rattle.pfs_tokens.specs.declared.keys.Key.TheVariants as key
-use Rattle.pfs_tokens.specs.declared.refusals.LoadRule.{LoadRule}
-use Rattle.pfs_tokens.specs.Keys.{ends_line, ends_text, is_word_key}
-use Rattle.pfs_tokens.specs.Grammar.{Word, Perhaps, absent, present, Until, ends, goes, UpTo}
-use Rattle.pfs_tokens.specs.Reading.{Refused, broken, Reader, on_front, done, chain, perhaps, until_all, up_to_all, ended}
-use Rattle.pfs_tokens.proofs.Laws.{ok_parts}
-use Rattle.pfs_tokens.proofs.ReaderLaws.{word_head, ended_reads, perhaps_reads, Reads, until_reads, up_to_reads}
+use Rattle.pfs_conf_tokens.specs.Tokens.{Tok, head, rest}
+use Rattle.pfs_conf_tokens.specs.declared.keys.Key.{Key}
+use Rattle.pfs_conf_tokens.specs.declared.keys.Key.TheVariants as key
+use Rattle.pfs_conf_tokens.specs.declared.refusals.LoadRule.{LoadRule}
+use Rattle.pfs_conf_tokens.specs.Keys.{ends_line, ends_text, is_word_key}
+use Rattle.pfs_conf_tokens.specs.Grammar.{Word, Perhaps, absent, present, Until, ends, goes, UpTo}
+use Rattle.pfs_conf_tokens.specs.Reading.{Refused, broken, Reader, on_front, done, chain, perhaps, until_all, up_to_all, ended}
+use Rattle.pfs_conf_tokens.proofs.Laws.{ok_parts}
+use Rattle.pfs_conf_tokens.proofs.ReaderLaws.{word_head, ended_reads, perhaps_reads, Reads, until_reads, up_to_reads}
 use Rattle.pfs_addr.specs.Names.{name_of}
-use Rattle.pfs_rules.specs.Configs.{Conf}
-use Rattle.pfs_rules.specs.Drafts.{Drafted, finished}
-use Rattle.pfs_rules.specs.declared.filters.FlagTest.{FlagTest}
-use Rattle.pfs_filters.specs.Grammar.{Says, Behind, VerbOf, pass, block, DirOf, inward, outward, QuickOf, slow, quick, MarksOf, of_anchor, HeadOf, HostsOf, every, sides, ParametersOf, FlagsOf}
-use Rattle.pfs_filters.specs.Reading.{verb_at, parameters_at, flags_at, begins_flags}
+use Rattle.pfs_conf_rules.specs.Configs.{Conf}
+use Rattle.pfs_conf_rules.specs.Drafts.{Drafted, finished}
+use Rattle.pfs_conf_rules.specs.declared.filters.FlagTest.{FlagTest}
+use Rattle.pfs_conf_filters.specs.Grammar.{Says, Behind, VerbOf, pass, block, DirOf, inward, outward, QuickOf, slow, quick, MarksOf, of_anchor, HeadOf, HostsOf, every, sides, ParametersOf, FlagsOf}
+use Rattle.pfs_conf_filters.specs.Reading.{verb_at, parameters_at, flags_at, begins_flags}
 use Rattle.pfs_addr.specs.declared.packets.Dir.{Dir}
-use Rattle.pfs_filters.specs.declared.phrases.Hosts.{Hosts}
-use Rattle.pfs_filters.specs.declared.phrases.Parameters.{Parameters}
-use Rattle.pfs_filters.specs.declared.phrases.Statement.TheVariants as statement
-use Rattle.pfs_filters.specs.declared.phrases.Verb.{Verb}
-use Rattle.pfs_filters.specs.declared.phrases.Marks.{Marks}
-use Rattle.pfs_filters.proofs.ReadLaws.{no_policy, ends_parameters, verb_reads, parameters_read, flags_read, parameters_head, flags_head}
-use Rattle.pfs_options.specs.Grammar.{StateOf, no, keep}
-use Rattle.pfs_options.specs.Reading.{state_at}
-use Rattle.pfs_options.specs.declared.clauses.StateClause.{StateClause}
-use Rattle.pfs_options.proofs.PhraseLaws.{ends_state, state_reads}
-use Rattle.pfs_settings.specs.Settings.{settings_at}
-use Rattle.pfs_settings.specs.Tables.{parts_at}
-use Rattle.pfs_settings.specs.SettingGrammar.{SettingOf}
-use Rattle.pfs_settings.specs.TableGrammar.{PartsOf}
-use Rattle.pfs_settings.specs.declared.tables.Parts.{Parts}
-use Rattle.pfs_settings.proofs.SettingPhrases.{settings_read}
-use Rattle.pfs_settings.proofs.TablePhrases.{parts_read}
+use Rattle.pfs_conf_filters.specs.declared.phrases.Hosts.{Hosts}
+use Rattle.pfs_conf_filters.specs.declared.phrases.Parameters.{Parameters}
+use Rattle.pfs_conf_filters.specs.declared.phrases.Statement.TheVariants as statement
+use Rattle.pfs_conf_filters.specs.declared.phrases.Verb.{Verb}
+use Rattle.pfs_conf_filters.specs.declared.phrases.Marks.{Marks}
+use Rattle.pfs_conf_filters.proofs.ReadLaws.{no_policy, ends_parameters, verb_reads, parameters_read, flags_read, parameters_head, flags_head}
+use Rattle.pfs_conf_options.specs.Grammar.{StateOf, no, keep}
+use Rattle.pfs_conf_options.specs.Reading.{state_at}
+use Rattle.pfs_conf_options.specs.declared.clauses.StateClause.{StateClause}
+use Rattle.pfs_conf_options.proofs.PhraseLaws.{ends_state, state_reads}
+use Rattle.pfs_conf_settings.specs.Settings.{settings_at}
+use Rattle.pfs_conf_settings.specs.Tables.{parts_at}
+use Rattle.pfs_conf_settings.specs.SettingGrammar.{SettingOf}
+use Rattle.pfs_conf_settings.specs.TableGrammar.{PartsOf}
+use Rattle.pfs_conf_settings.specs.declared.tables.Parts.{Parts}
+use Rattle.pfs_conf_settings.proofs.SettingPhrases.{settings_read}
+use Rattle.pfs_conf_settings.proofs.TablePhrases.{parts_read}
 use Rattle.pfs_conf.specs.declared.phrases.Clauses.{Clauses}
 use Rattle.pfs_conf.specs.declared.phrases.RuleText.{RuleText}
 use Rattle.pfs_conf.specs.declared.phrases.AnchorText.{AnchorText}

@@ -1,44 +1,44 @@
 -- The readers of parameters, of state clauses, of options and of tables ask no load rule.
 use Rattle.std.proofs.Common.{◌≡◌, ℕ, Bool, true, false, cond, List, [], ◌∷◌, Option, Some, None, refl, slice_index_or, slice_set}
-use Rattle.pfs_tokens.specs.Tokens.{Tok}
-use Rattle.pfs_tokens.specs.declared.keys.Key.{Key}
-use Rattle.pfs_tokens.specs.declared.keys.Key.TheVariants as key
-use Rattle.pfs_tokens.specs.declared.refusals.Why.{Why}
-use Rattle.pfs_tokens.specs.declared.refusals.Why.TheVariants as why
-use Rattle.pfs_tokens.specs.Keys.{is_word_key, closes_parens, closes_braces, ends_line}
-use Rattle.pfs_tokens.specs.Reading.{Reader, Act, take, stay, refuse, on_front, done, chain, perhaps, next_of, list_all, skipping, number_at}
+use Rattle.pfs_conf_tokens.specs.Tokens.{Tok}
+use Rattle.pfs_conf_tokens.specs.declared.keys.Key.{Key}
+use Rattle.pfs_conf_tokens.specs.declared.keys.Key.TheVariants as key
+use Rattle.pfs_conf_tokens.specs.declared.refusals.Why.{Why}
+use Rattle.pfs_conf_tokens.specs.declared.refusals.Why.TheVariants as why
+use Rattle.pfs_conf_tokens.specs.Keys.{is_word_key, closes_parens, closes_braces, ends_line}
+use Rattle.pfs_conf_tokens.specs.Reading.{Reader, Act, take, stay, refuse, on_front, done, chain, perhaps, next_of, list_all, skipping, number_at}
 use Rattle.pfs_addr.specs.Names.{name_of}
 use Rattle.pfs_addr.specs.Prefixes.{Network}
 use Rattle.pfs_addr.specs.Protocols.{proto_in}
 use Rattle.pfs_addr.specs.Texts.{prefix_of}
 use Rattle.pfs_addr.specs.declared.packets.Dir.TheVariants as dir
-use Rattle.pfs_rules.specs.Entries.{Entry, sign_of}
-use Rattle.pfs_rules.specs.Drafts.{Drafted, with_limit, with_timeout}
-use Rattle.pfs_rules.specs.LoadRules.{greatest_timeout}
-use Rattle.pfs_rules.specs.declared.actions.Rate.{Rate}
-use Rattle.pfs_rules.specs.declared.actions.Scope.TheVariants as scope
-use Rattle.pfs_rules.specs.declared.filters.Family.TheVariants as family
-use Rattle.pfs_rules.specs.declared.filters.Host.TheVariants as host
-use Rattle.pfs_rules.specs.declared.limits.LimitName.{LimitName}
-use Rattle.pfs_rules.specs.declared.limits.LimitName.TheVariants as limit
-use Rattle.pfs_rules.specs.declared.timeouts.TimeoutName.{TimeoutName}
-use Rattle.pfs_filters.specs.declared.phrases.Statement.{Statement}
-use Rattle.pfs_filters.specs.declared.phrases.Statement.TheVariants as statement
-use Rattle.pfs_filters.specs.declared.phrases.Verb.TheVariants as verb
-use Rattle.pfs_filters.specs.Values.{in_word, in_plain_word, interface_name, table_name, ports_of, flag_test}
-use Rattle.pfs_filters.specs.Reading.{valued, value_at, behind, clause, part, begins_dir, begins_on, begins_family, begins_proto, begins_from, begins_to, begins_port, begins_flags, interface_at, table_name_at, policy_by, policy_at, verb_by, verb_at, dir_by, dir_at, log_item_by, log_item_at, log_list_by, log_list_at, log_by, log_at, quick_by, quick_at, marked, marks_by, marks_at, negation_by, negation_at, interface, on_at, on_part_at, family_part_at, proto_at, proto_part_at, head_at, close_by, close_at, place_by, place_at, host_by, host_at, equals_by, equals_at, ports_at, ports_part_at, side_host_by, side_host_at, side, side_at, from_part_at, to_part_at, all_hosts, given_hosts, hosts_by, hosts_at, parameters_at, flags_at}
-use Rattle.pfs_options.specs.Options.{no_options, rule_place}
-use Rattle.pfs_options.specs.Reading as option_reading
-use Rattle.pfs_options.specs.Reading.{track_by, track_at, rate_of, rate_found, rate_by, rate_at, name_found, table_name_by, closed_by, closed, table_by, table_at, flushed_by, flush_by, flush_at, overload_at, mark_once, timeout_by, mark_by, connection_by, option_by, option_at, options_at, kept_by, kept_at, kept_clause, behind_state, state_word, state_by, state_at}
-use Rattle.pfs_options.specs.declared.clauses.Track.TheVariants as track
-use Rattle.pfs_options.specs.declared.clauses.Options.{Options}
-use Rattle.pfs_options.specs.declared.clauses.StateClause.{StateClause}
-use Rattle.pfs_options.specs.declared.clauses.StateClause.TheVariants as state_clause
-use Rattle.pfs_settings.specs.Settings as setting
-use Rattle.pfs_settings.specs.Settings.{timeout_named, limited, limit_by, limit_at, least_value, greatest_value, unkept, timed, time_by, time_at, lined_limit_at, lined_time_at, limits_by, limits_at, times_by, times_at, settings_by, settings_at}
-use Rattle.pfs_settings.specs.Tables as tables
-use Rattle.pfs_settings.specs.Tables.{again, joined, entered, entry_by, entry_at, lined_entry_at, entries_by, entries_at, unless, part_by, part_at, no_parts, parts_at}
-use Rattle.pfs_settings.specs.declared.tables.Parts.{Parts}
+use Rattle.pfs_conf_rules.specs.Entries.{Entry, sign_of}
+use Rattle.pfs_conf_rules.specs.Drafts.{Drafted, with_limit, with_timeout}
+use Rattle.pfs_conf_rules.specs.LoadRules.{greatest_timeout}
+use Rattle.pfs_conf_rules.specs.declared.actions.Rate.{Rate}
+use Rattle.pfs_conf_rules.specs.declared.actions.Scope.TheVariants as scope
+use Rattle.pfs_conf_rules.specs.declared.filters.Family.TheVariants as family
+use Rattle.pfs_conf_rules.specs.declared.filters.Host.TheVariants as host
+use Rattle.pfs_conf_rules.specs.declared.limits.LimitName.{LimitName}
+use Rattle.pfs_conf_rules.specs.declared.limits.LimitName.TheVariants as limit
+use Rattle.pfs_conf_rules.specs.declared.timeouts.TimeoutName.{TimeoutName}
+use Rattle.pfs_conf_filters.specs.declared.phrases.Statement.{Statement}
+use Rattle.pfs_conf_filters.specs.declared.phrases.Statement.TheVariants as statement
+use Rattle.pfs_conf_filters.specs.declared.phrases.Verb.TheVariants as verb
+use Rattle.pfs_conf_filters.specs.Values.{in_word, in_plain_word, interface_name, table_name, ports_of, flag_test}
+use Rattle.pfs_conf_filters.specs.Reading.{valued, value_at, behind, clause, part, begins_dir, begins_on, begins_family, begins_proto, begins_from, begins_to, begins_port, begins_flags, interface_at, table_name_at, policy_by, policy_at, verb_by, verb_at, dir_by, dir_at, log_item_by, log_item_at, log_list_by, log_list_at, log_by, log_at, quick_by, quick_at, marked, marks_by, marks_at, negation_by, negation_at, interface, on_at, on_part_at, family_part_at, proto_at, proto_part_at, head_at, close_by, close_at, place_by, place_at, host_by, host_at, equals_by, equals_at, ports_at, ports_part_at, side_host_by, side_host_at, side, side_at, from_part_at, to_part_at, all_hosts, given_hosts, hosts_by, hosts_at, parameters_at, flags_at}
+use Rattle.pfs_conf_options.specs.Options.{no_options, rule_place}
+use Rattle.pfs_conf_options.specs.Reading as option_reading
+use Rattle.pfs_conf_options.specs.Reading.{track_by, track_at, rate_of, rate_found, rate_by, rate_at, name_found, table_name_by, closed_by, closed, table_by, table_at, flushed_by, flush_by, flush_at, overload_at, mark_once, timeout_by, mark_by, connection_by, option_by, option_at, options_at, kept_by, kept_at, kept_clause, behind_state, state_word, state_by, state_at}
+use Rattle.pfs_conf_options.specs.declared.clauses.Track.TheVariants as track
+use Rattle.pfs_conf_options.specs.declared.clauses.Options.{Options}
+use Rattle.pfs_conf_options.specs.declared.clauses.StateClause.{StateClause}
+use Rattle.pfs_conf_options.specs.declared.clauses.StateClause.TheVariants as state_clause
+use Rattle.pfs_conf_settings.specs.Settings as setting
+use Rattle.pfs_conf_settings.specs.Settings.{timeout_named, limited, limit_by, limit_at, least_value, greatest_value, unkept, timed, time_by, time_at, lined_limit_at, lined_time_at, limits_by, limits_at, times_by, times_at, settings_by, settings_at}
+use Rattle.pfs_conf_settings.specs.Tables as tables
+use Rattle.pfs_conf_settings.specs.Tables.{again, joined, entered, entry_by, entry_at, lined_entry_at, entries_by, entries_at, unless, part_by, part_at, no_parts, parts_at}
+use Rattle.pfs_conf_settings.specs.declared.tables.Parts.{Parts}
 use Rattle.pfs_conf.proofs.UnbrokenLaws.{Unbroken, UnbrokenAct, unbroken_done, unbroken_chain, unbroken_front, unbroken_if, unbroken_once, unbroken_perhaps, unbroken_until, unbroken_up_to, unbroken_list, unbroken_skipping, unbroken_number}
 
 -- ---- parameters

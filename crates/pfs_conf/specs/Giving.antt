@@ -1,11 +1,11 @@
 -- What a function of the code returned, and how far it came, against what the definition of its reader gives.
 use Rattle.std.specs.Prelude.{◌≡◌, ◌≤◌, List, Result, Ok, Err}
-use Rattle.pfs_tokens.specs.Tokens.{Tok}
-use Rattle.pfs_tokens.specs.Reading.{Refused}
-use Rattle.pfs_tokens.specs.Giving.{refused}
-use Rattle.pfs_tokens.specs.declared.refusals.ReadError.{ReadError}
-use Rattle.pfs_tokens.specs.declared.refusals.ReadError.TheVariants as error
-use Rattle.pfs_rules.specs.Depths.{depth_after}
+use Rattle.pfs_conf_tokens.specs.Tokens.{Tok}
+use Rattle.pfs_conf_tokens.specs.Reading.{Refused}
+use Rattle.pfs_conf_tokens.specs.Giving.{refused}
+use Rattle.pfs_conf_tokens.specs.declared.refusals.ReadError.{ReadError}
+use Rattle.pfs_conf_tokens.specs.declared.refusals.ReadError.TheVariants as error
+use Rattle.pfs_conf_rules.specs.Depths.{depth_after}
 use Rattle.pfs_conf.specs.declared.progress.Progress.{Progress}
 
 -- the same progress with the cursor behind what was read, or the same refusal, unless memory was refused

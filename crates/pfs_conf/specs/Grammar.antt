@@ -1,24 +1,24 @@
 -- The grammar of statements: which tokens write them, what they add to what the statements before them say, and which tokens
 -- they leave. (pf.conf(5), GRAMMAR)
 use Rattle.std.specs.Prelude.{◌≡◌, ℕ, ◌≤◌, Bool, true, false, Option, Some, None, List, [], ◌∷◌}
-use Rattle.pfs_tokens.specs.Tokens.{Tok, head}
-use Rattle.pfs_tokens.specs.Keys.{is_word_key}
-use Rattle.pfs_tokens.specs.Grammar.{Word, Perhaps, Until, UpTo}
-use Rattle.pfs_tokens.specs.declared.keys.Key.{Key}
-use Rattle.pfs_tokens.specs.declared.keys.Key.TheVariants as key
-use Rattle.pfs_tokens.specs.declared.refusals.LoadRule.{LoadRule}
+use Rattle.pfs_conf_tokens.specs.Tokens.{Tok, head}
+use Rattle.pfs_conf_tokens.specs.Keys.{is_word_key}
+use Rattle.pfs_conf_tokens.specs.Grammar.{Word, Perhaps, Until, UpTo}
+use Rattle.pfs_conf_tokens.specs.declared.keys.Key.{Key}
+use Rattle.pfs_conf_tokens.specs.declared.keys.Key.TheVariants as key
+use Rattle.pfs_conf_tokens.specs.declared.refusals.LoadRule.{LoadRule}
 use Rattle.pfs_addr.specs.Names.{name_of}
-use Rattle.pfs_rules.specs.Configs.{Conf}
-use Rattle.pfs_rules.specs.Drafts.{Drafted, finished, is_defined}
-use Rattle.pfs_rules.specs.Siblings.{has_sibling}
-use Rattle.pfs_rules.specs.declared.filters.FlagTest.{FlagTest}
-use Rattle.pfs_filters.specs.declared.phrases.Statement.TheVariants as statement
-use Rattle.pfs_filters.specs.Grammar.{VerbOf, ParametersOf, FlagsOf}
-use Rattle.pfs_options.specs.Grammar.{StateOf}
-use Rattle.pfs_options.specs.declared.clauses.StateClause.{StateClause}
-use Rattle.pfs_settings.specs.SettingGrammar.{SettingOf}
-use Rattle.pfs_settings.specs.TableGrammar.{PartsOf}
-use Rattle.pfs_settings.specs.declared.tables.Parts.{Parts}
+use Rattle.pfs_conf_rules.specs.Configs.{Conf}
+use Rattle.pfs_conf_rules.specs.Drafts.{Drafted, finished, is_defined}
+use Rattle.pfs_conf_rules.specs.Siblings.{has_sibling}
+use Rattle.pfs_conf_rules.specs.declared.filters.FlagTest.{FlagTest}
+use Rattle.pfs_conf_filters.specs.declared.phrases.Statement.TheVariants as statement
+use Rattle.pfs_conf_filters.specs.Grammar.{VerbOf, ParametersOf, FlagsOf}
+use Rattle.pfs_conf_options.specs.Grammar.{StateOf}
+use Rattle.pfs_conf_options.specs.declared.clauses.StateClause.{StateClause}
+use Rattle.pfs_conf_settings.specs.SettingGrammar.{SettingOf}
+use Rattle.pfs_conf_settings.specs.TableGrammar.{PartsOf}
+use Rattle.pfs_conf_settings.specs.declared.tables.Parts.{Parts}
 use Rattle.pfs_conf.specs.declared.phrases.Clauses.{Clauses}
 use Rattle.pfs_conf.specs.declared.phrases.RuleText.{RuleText}
 use Rattle.pfs_conf.specs.declared.phrases.AnchorText.{AnchorText}

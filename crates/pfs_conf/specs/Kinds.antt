@@ -1,17 +1,17 @@
 -- The kinds of faults: by the load rule that is broken, or by the token at which reading stops. (own)
 use Rattle.std.specs.Prelude.{ℕ, Bool, true, false, ◌&&◌, ◌||◌, ◌==◌, nat_le, if◌then◌else◌, List, [], ◌∷◌, codes}
 use Rattle.std.specs.List.{list_any}
-use Rattle.pfs_tokens.specs.Tokens.{Tok, head, rest}
-use Rattle.pfs_tokens.specs.Keys.{is_word_key, is_unsupported_key, ends_line}
-use Rattle.pfs_tokens.specs.declared.keys.Key.{Key}
-use Rattle.pfs_tokens.specs.declared.keys.Key.TheVariants as key
-use Rattle.pfs_tokens.specs.declared.refusals.Why.{Why}
-use Rattle.pfs_tokens.specs.declared.refusals.Why.TheVariants as why
-use Rattle.pfs_tokens.specs.declared.refusals.ReadError.{ReadError}
-use Rattle.pfs_tokens.specs.declared.refusals.ReadError.TheVariants as error
-use Rattle.pfs_tokens.specs.declared.refusals.Refusal.TheVariants as refusal
-use Rattle.pfs_tokens.specs.declared.refusals.LoadRule.{LoadRule}
-use Rattle.pfs_tokens.specs.declared.refusals.LoadRule.TheVariants as load_rule
+use Rattle.pfs_conf_tokens.specs.Tokens.{Tok, head, rest}
+use Rattle.pfs_conf_tokens.specs.Keys.{is_word_key, is_unsupported_key, ends_line}
+use Rattle.pfs_conf_tokens.specs.declared.keys.Key.{Key}
+use Rattle.pfs_conf_tokens.specs.declared.keys.Key.TheVariants as key
+use Rattle.pfs_conf_tokens.specs.declared.refusals.Why.{Why}
+use Rattle.pfs_conf_tokens.specs.declared.refusals.Why.TheVariants as why
+use Rattle.pfs_conf_tokens.specs.declared.refusals.ReadError.{ReadError}
+use Rattle.pfs_conf_tokens.specs.declared.refusals.ReadError.TheVariants as error
+use Rattle.pfs_conf_tokens.specs.declared.refusals.Refusal.TheVariants as refusal
+use Rattle.pfs_conf_tokens.specs.declared.refusals.LoadRule.{LoadRule}
+use Rattle.pfs_conf_tokens.specs.declared.refusals.LoadRule.TheVariants as load_rule
 use Rattle.pfs_conf.specs.declared.kinds.Kind.{Kind}
 use Rattle.pfs_conf.specs.declared.kinds.Kind.TheVariants as kind
 use Rattle.pfs_conf.specs.declared.faults.LoadFault.{LoadFault}

@@ -1,27 +1,27 @@
--- Reading statements from left to right: one definition for each reader of the code, made of the parts of pfs_tokens, so that
+-- Reading statements from left to right: one definition for each reader of the code, made of the parts of pfs_conf_tokens, so that
 -- each looks no further than the token in front of what it leaves. (own)
 use Rattle.std.specs.Prelude.{ℕ, ◌==◌, ◌||◌, Bool, true, false, if◌then◌else◌, Option, Some, None, is_some, List, [], ◌∷◌, Result, Ok, Err}
-use Rattle.pfs_tokens.specs.Tokens.{Tok, head}
-use Rattle.pfs_tokens.specs.Keys.{is_word_key, ends_line, ends_text}
-use Rattle.pfs_tokens.specs.Reading.{Refused, stop, broken, Reader, Act, take, stay, refuse, on_front, done, chain, perhaps, once, until_all, up_to_all, ended}
-use Rattle.pfs_tokens.specs.declared.keys.Key.{Key}
-use Rattle.pfs_tokens.specs.declared.keys.Key.TheVariants as key
-use Rattle.pfs_tokens.specs.declared.refusals.LoadRule.{LoadRule}
-use Rattle.pfs_tokens.specs.declared.refusals.Why.{Why}
-use Rattle.pfs_tokens.specs.declared.refusals.Why.TheVariants as why
+use Rattle.pfs_conf_tokens.specs.Tokens.{Tok, head}
+use Rattle.pfs_conf_tokens.specs.Keys.{is_word_key, ends_line, ends_text}
+use Rattle.pfs_conf_tokens.specs.Reading.{Refused, stop, broken, Reader, Act, take, stay, refuse, on_front, done, chain, perhaps, once, until_all, up_to_all, ended}
+use Rattle.pfs_conf_tokens.specs.declared.keys.Key.{Key}
+use Rattle.pfs_conf_tokens.specs.declared.keys.Key.TheVariants as key
+use Rattle.pfs_conf_tokens.specs.declared.refusals.LoadRule.{LoadRule}
+use Rattle.pfs_conf_tokens.specs.declared.refusals.Why.{Why}
+use Rattle.pfs_conf_tokens.specs.declared.refusals.Why.TheVariants as why
 use Rattle.pfs_addr.specs.Names.{name_of}
-use Rattle.pfs_rules.specs.Configs.{Conf}
-use Rattle.pfs_rules.specs.Drafts.{Drafted, finished, is_defined}
-use Rattle.pfs_rules.specs.Siblings.{has_sibling}
-use Rattle.pfs_rules.specs.declared.filters.FlagTest.{FlagTest}
-use Rattle.pfs_filters.specs.Reading.{verb_at, parameters_at, flags_at, begins_flags}
-use Rattle.pfs_filters.specs.Sides.{repeats, repeats_policy}
-use Rattle.pfs_filters.specs.declared.phrases.Parameters.{Parameters}
-use Rattle.pfs_filters.specs.declared.phrases.Statement.TheVariants as statement
-use Rattle.pfs_filters.specs.declared.phrases.Verb.{Verb}
-use Rattle.pfs_options.specs.Reading.{state_at}
-use Rattle.pfs_settings.specs.Settings.{settings_at}
-use Rattle.pfs_settings.specs.Tables.{parts_at}
+use Rattle.pfs_conf_rules.specs.Configs.{Conf}
+use Rattle.pfs_conf_rules.specs.Drafts.{Drafted, finished, is_defined}
+use Rattle.pfs_conf_rules.specs.Siblings.{has_sibling}
+use Rattle.pfs_conf_rules.specs.declared.filters.FlagTest.{FlagTest}
+use Rattle.pfs_conf_filters.specs.Reading.{verb_at, parameters_at, flags_at, begins_flags}
+use Rattle.pfs_conf_filters.specs.Sides.{repeats, repeats_policy}
+use Rattle.pfs_conf_filters.specs.declared.phrases.Parameters.{Parameters}
+use Rattle.pfs_conf_filters.specs.declared.phrases.Statement.TheVariants as statement
+use Rattle.pfs_conf_filters.specs.declared.phrases.Verb.{Verb}
+use Rattle.pfs_conf_options.specs.Reading.{state_at}
+use Rattle.pfs_conf_settings.specs.Settings.{settings_at}
+use Rattle.pfs_conf_settings.specs.Tables.{parts_at}
 use Rattle.pfs_conf.specs.declared.phrases.Clauses.{Clauses}
 use Rattle.pfs_conf.specs.declared.phrases.RuleText.{RuleText}
 use Rattle.pfs_conf.specs.declared.phrases.AnchorText.{AnchorText}

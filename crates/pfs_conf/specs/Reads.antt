@@ -1,10 +1,10 @@
 -- What it is that a rules text reads as a configuration, and what the fault of one that does not may be. (own)
 use Rattle.std.specs.Prelude.{◌≡◌, ◌≤◌, ◌<◌, ℕ, Bool, true, false, ◌++◌, ◌⊎◌, List, [], ◌∷◌, length, Result, Ok, Err}
-use Rattle.pfs_tokens.specs.Tokens.{Tok}
-use Rattle.pfs_tokens.specs.Lexis.{tokens_of}
-use Rattle.pfs_tokens.specs.declared.refusals.LoadRule.{LoadRule}
-use Rattle.pfs_tokens.specs.declared.refusals.Why.{Why}
-use Rattle.pfs_rules.specs.Configs.{Conf}
+use Rattle.pfs_conf_tokens.specs.Tokens.{Tok}
+use Rattle.pfs_conf_tokens.specs.Lexis.{tokens_of}
+use Rattle.pfs_conf_tokens.specs.declared.refusals.LoadRule.{LoadRule}
+use Rattle.pfs_conf_tokens.specs.declared.refusals.Why.{Why}
+use Rattle.pfs_conf_rules.specs.Configs.{Conf}
 use Rattle.pfs_conf.specs.declared.kinds.Kind.{Kind}
 use Rattle.pfs_conf.specs.declared.faults.LoadFault.{LoadFault}
 use Rattle.pfs_conf.specs.Kinds.{fault, too_long, no_memory, kind_of, kind_of_rule}

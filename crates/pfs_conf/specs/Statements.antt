@@ -1,35 +1,35 @@
 -- What statements say, and which load rules they break. (pf.conf(5), PACKET FILTERING, ANCHORS and TABLES)
 use Rattle.std.specs.Prelude.{ℕ, ◌+◌, ◌-◌, Bool, true, false, if◌then◌else◌, nat_le, Option, Some, None, List, [], ◌∷◌, ◌++◌, length, slice_index_or}
 use Rattle.std.specs.Option.{option_map}
-use Rattle.pfs_tokens.specs.declared.refusals.LoadRule.{LoadRule}
-use Rattle.pfs_tokens.specs.declared.refusals.LoadRule.TheVariants as load_rule
+use Rattle.pfs_conf_tokens.specs.declared.refusals.LoadRule.{LoadRule}
+use Rattle.pfs_conf_tokens.specs.declared.refusals.LoadRule.TheVariants as load_rule
 use Rattle.pfs_addr.specs.declared.flag_sets.Flags.{Flags}
-use Rattle.pfs_rules.specs.Drafts.{Drafted, empty_draft, number_of, with_name, with_table, with_item, const_overload, has_broken_pair, has_too_many_tables, has_too_many_entries}
-use Rattle.pfs_rules.specs.declared.actions.Action.{Action}
-use Rattle.pfs_rules.specs.declared.actions.Action.TheVariants as action
-use Rattle.pfs_rules.specs.declared.filters.Filter.{Filter}
-use Rattle.pfs_rules.specs.declared.filters.FlagTest.{FlagTest}
-use Rattle.pfs_rules.specs.declared.filters.FlagTest.TheVariants as flag_test
-use Rattle.pfs_rules.specs.declared.filters.Host.{Host}
-use Rattle.pfs_rules.specs.declared.filters.Host.TheVariants as host
-use Rattle.pfs_rules.specs.declared.filters.Side.{Side}
-use Rattle.pfs_rules.specs.declared.filters.TableNo.{TableNo}
-use Rattle.pfs_rules.specs.declared.items.Anchor.{Anchor}
-use Rattle.pfs_rules.specs.declared.items.Item.{Item}
-use Rattle.pfs_rules.specs.declared.items.Rule.{Rule}
-use Rattle.pfs_rules.specs.declared.items.What.TheVariants as what
-use Rattle.pfs_filters.specs.declared.phrases.Verb.{Verb}
-use Rattle.pfs_filters.specs.declared.phrases.Verb.TheVariants as verb
-use Rattle.pfs_filters.specs.declared.phrases.Hosts.{Hosts}
-use Rattle.pfs_filters.specs.declared.phrases.Parameters.{Parameters}
-use Rattle.pfs_filters.specs.Sides.{lacks_proto, source_of, destination_of}
-use Rattle.pfs_options.specs.declared.clauses.Options.{Options}
-use Rattle.pfs_options.specs.declared.clauses.OverloadText.{OverloadText}
-use Rattle.pfs_options.specs.declared.clauses.StateClause.{StateClause}
-use Rattle.pfs_options.specs.declared.clauses.StateClause.TheVariants as clause
-use Rattle.pfs_options.specs.Options.{no_options, options_of, has_overload_alone, has_global_connections, has_global_retention, has_broken_pair as rule_has_broken_pair, resolved}
-use Rattle.pfs_rules.specs.Entries.{Entry}
-use Rattle.pfs_settings.specs.declared.tables.Parts.{Parts}
+use Rattle.pfs_conf_rules.specs.Drafts.{Drafted, empty_draft, number_of, with_name, with_table, with_item, const_overload, has_broken_pair, has_too_many_tables, has_too_many_entries}
+use Rattle.pfs_conf_rules.specs.declared.actions.Action.{Action}
+use Rattle.pfs_conf_rules.specs.declared.actions.Action.TheVariants as action
+use Rattle.pfs_conf_rules.specs.declared.filters.Filter.{Filter}
+use Rattle.pfs_conf_rules.specs.declared.filters.FlagTest.{FlagTest}
+use Rattle.pfs_conf_rules.specs.declared.filters.FlagTest.TheVariants as flag_test
+use Rattle.pfs_conf_rules.specs.declared.filters.Host.{Host}
+use Rattle.pfs_conf_rules.specs.declared.filters.Host.TheVariants as host
+use Rattle.pfs_conf_rules.specs.declared.filters.Side.{Side}
+use Rattle.pfs_conf_rules.specs.declared.filters.TableNo.{TableNo}
+use Rattle.pfs_conf_rules.specs.declared.items.Anchor.{Anchor}
+use Rattle.pfs_conf_rules.specs.declared.items.Item.{Item}
+use Rattle.pfs_conf_rules.specs.declared.items.Rule.{Rule}
+use Rattle.pfs_conf_rules.specs.declared.items.What.TheVariants as what
+use Rattle.pfs_conf_filters.specs.declared.phrases.Verb.{Verb}
+use Rattle.pfs_conf_filters.specs.declared.phrases.Verb.TheVariants as verb
+use Rattle.pfs_conf_filters.specs.declared.phrases.Hosts.{Hosts}
+use Rattle.pfs_conf_filters.specs.declared.phrases.Parameters.{Parameters}
+use Rattle.pfs_conf_filters.specs.Sides.{lacks_proto, source_of, destination_of}
+use Rattle.pfs_conf_options.specs.declared.clauses.Options.{Options}
+use Rattle.pfs_conf_options.specs.declared.clauses.OverloadText.{OverloadText}
+use Rattle.pfs_conf_options.specs.declared.clauses.StateClause.{StateClause}
+use Rattle.pfs_conf_options.specs.declared.clauses.StateClause.TheVariants as clause
+use Rattle.pfs_conf_options.specs.Options.{no_options, options_of, has_overload_alone, has_global_connections, has_global_retention, has_broken_pair as rule_has_broken_pair, resolved}
+use Rattle.pfs_conf_rules.specs.Entries.{Entry}
+use Rattle.pfs_conf_settings.specs.declared.tables.Parts.{Parts}
 use Rattle.pfs_conf.specs.declared.phrases.Clauses.{Clauses}
 use Rattle.pfs_conf.specs.declared.phrases.RuleText.{RuleText}
 use Rattle.pfs_conf.specs.declared.phrases.AnchorText.{AnchorText}

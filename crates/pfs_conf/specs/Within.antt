@@ -1,13 +1,13 @@
 -- What every phrase that is read keeps: names are names, ports are in order, numbers are within their bounds.
 use Rattle.std.specs.Prelude.{◌≡◌, ℕ, Bool, true, IfSome, List, [], ◌∷◌, Option}
-use Rattle.pfs_tokens.specs.Tokens.{Tok}
-use Rattle.pfs_tokens.specs.Keys.{is_word_key}
-use Rattle.pfs_tokens.specs.Words.{key_of}
+use Rattle.pfs_conf_tokens.specs.Tokens.{Tok}
+use Rattle.pfs_conf_tokens.specs.Keys.{is_word_key}
+use Rattle.pfs_conf_tokens.specs.Words.{key_of}
 use Rattle.pfs_addr.specs.Names.{is_name}
-use Rattle.pfs_rules.specs.LoadRules.{IsInterface, IsProto, IsSide, IsFlagTest}
-use Rattle.pfs_filters.specs.declared.phrases.Parameters.{Parameters}
-use Rattle.pfs_filters.specs.Sides.{source_of, destination_of}
-use Rattle.pfs_options.specs.Options.{AreRead}
+use Rattle.pfs_conf_rules.specs.LoadRules.{IsInterface, IsProto, IsSide, IsFlagTest}
+use Rattle.pfs_conf_filters.specs.declared.phrases.Parameters.{Parameters}
+use Rattle.pfs_conf_filters.specs.Sides.{source_of, destination_of}
+use Rattle.pfs_conf_options.specs.Options.{AreRead}
 use Rattle.pfs_conf.specs.declared.phrases.RuleText.{RuleText}
 use Rattle.pfs_conf.specs.declared.phrases.AnchorText.{AnchorText}
 use Rattle.pfs_conf.specs.Statements.{state_options}

@@ -1,8 +1,8 @@
 //! Anchors, from their word to the end of the line.
 
 ghost use Rattle.std.specs.Prelude.{◌≡◌, IfOk, OnOk, None, false};
-ghost use Rattle.pfs_tokens.specs.Giving.{Gives};
-ghost use Rattle.pfs_rules.specs.Siblings.{repeats_by};
+ghost use Rattle.pfs_conf_tokens.specs.Giving.{Gives};
+ghost use Rattle.pfs_conf_rules.specs.Siblings.{repeats_by};
 ghost use Rattle.pfs_conf.specs.Grammar.{names_anchor};
 ghost use Rattle.pfs_conf.specs.Statements.{anchor_breaks, with_anchor};
 ghost use Rattle.pfs_conf.specs.Reading.{anchor_at, anchor_name_at, anchor_parts_at, anchor_text_at, brace_at, repeats_head};
@@ -14,9 +14,9 @@ use crate::numbering::number_anchor;
 use crate::phrases::AnchorText;
 use crate::progress::Progress;
 use pfs_addr::{Name, NoMemory};
-use pfs_filters::{Parameters, Statement, read_flags, read_parameters};
-use pfs_rules::{AnchorName, FlagTest};
-use pfs_tokens::{Cursor, Key, ReadError, Refusal, Why};
+use pfs_conf_filters::{Parameters, Statement, read_flags, read_parameters};
+use pfs_conf_rules::{AnchorName, FlagTest};
+use pfs_conf_tokens::{Cursor, Key, ReadError, Refusal, Why};
 
 /// Reads an anchor that begins on this line, behind its word: its head, and the line end behind the brace. Its load rules are
 /// asked when the brace has been read. (pf.conf(5), ANCHORS)

@@ -7,10 +7,10 @@ ghost use Rattle.pfs_conf.specs.Statements.{anchor_breaks, is_full, keeps_on_blo
 use crate::numbering::state_options;
 use crate::phrases::{AnchorText, RuleText};
 use crate::progress::Progress;
-use pfs_filters::Verb;
-use pfs_options::StateClause;
-use pfs_rules::Draft;
-use pfs_tokens::LoadRule;
+use pfs_conf_filters::Verb;
+use pfs_conf_options::StateClause;
+use pfs_conf_rules::Draft;
+use pfs_conf_tokens::LoadRule;
 
 /// The first load rule that a rule breaks. (own to this profile)
 pub fn rule_breaks(draft: &Draft, text: &RuleText) -> Option<LoadRule>

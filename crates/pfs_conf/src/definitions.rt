@@ -1,7 +1,7 @@
 //! Definitions of tables, and the statements that set options, to the end of the line.
 
 ghost use Rattle.std.specs.Prelude.{◌≡◌, IfOk, OnOk, true};
-ghost use Rattle.pfs_tokens.specs.Giving.{Gives};
+ghost use Rattle.pfs_conf_tokens.specs.Giving.{Gives};
 ghost use Rattle.pfs_addr.specs.Names.{is_name};
 ghost use Rattle.pfs_conf.specs.Statements.{with_definition};
 ghost use Rattle.pfs_conf.specs.Reading.{set_at, table_at, table_name_at};
@@ -9,9 +9,9 @@ ghost use Rattle.pfs_conf.specs.Giving.{Comes, IsInOrder};
 
 use crate::progress::Progress;
 use pfs_addr::{Name, NoMemory};
-use pfs_rules::{Draft, Entries, TableDef, TableName};
-use pfs_settings::{Parts, read_parts, read_settings};
-use pfs_tokens::{Cursor, Key, ReadError, Refusal, Why};
+use pfs_conf_rules::{Draft, Entries, TableDef, TableName};
+use pfs_conf_settings::{Parts, read_parts, read_settings};
+use pfs_conf_tokens::{Cursor, Key, ReadError, Refusal, Why};
 use std::alloc::Global;
 
 /// Reads what stands behind `set`, with the line end. (pf.conf(5), OPTIONS)

@@ -3,7 +3,7 @@
 ghost use Rattle.std.specs.Prelude.{◌≡◌, Some};
 ghost use Rattle.pfs_conf.specs.Kinds.{kind_name, kind_of_rule};
 
-use pfs_tokens::LoadRule;
+use pfs_conf_tokens::LoadRule;
 use std::fmt;
 
 /// What is wrong with a rules text. Its `Display` is the kind's name. (own to this profile)

@@ -17,7 +17,7 @@ mod stopping;
 pub use faults::LoadFault;
 pub use kinds::Kind;
 pub use loading::load;
-pub use pfs_rules::{
+pub use pfs_conf_rules::{
     Action, Anchor, AnchorName, Config, Draft, Entries, Family, Filter, FlagTest, Host, Interface,
     Item, LimitName, Limits, Overload, Ports, Rate, Rule, RuleNo, RuleTimeouts, Scope, Side,
     StateOptions, TableDef, TableName, TableNo, TimeoutName, Timeouts, What,

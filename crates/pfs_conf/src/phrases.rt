@@ -1,8 +1,8 @@
 //! Statements as they are written: tables by their names, and each part with whether it is given.
 
-use pfs_filters::{Parameters, Verb};
-use pfs_options::StateClause;
-use pfs_rules::{AnchorName, FlagTest};
+use pfs_conf_filters::{Parameters, Verb};
+use pfs_conf_options::StateClause;
+use pfs_conf_rules::{AnchorName, FlagTest};
 
 /// What stands behind the parameters of a rule, in any order. (pf.conf(5), GRAMMAR)
 #[derive(Debug, Clone, Copy, PartialEq, Eq)]

@@ -1,9 +1,9 @@
 //! Rules, from their first word to the end of the line.
 
 ghost use Rattle.std.specs.Prelude.{◌≡◌, IfOk, OnOk, None};
-ghost use Rattle.pfs_tokens.specs.Keys.{ends_line};
-ghost use Rattle.pfs_tokens.specs.Reading.{until_all};
-ghost use Rattle.pfs_tokens.specs.Giving.{Gives};
+ghost use Rattle.pfs_conf_tokens.specs.Keys.{ends_line};
+ghost use Rattle.pfs_conf_tokens.specs.Reading.{until_all};
+ghost use Rattle.pfs_conf_tokens.specs.Giving.{Gives};
 ghost use Rattle.pfs_conf.specs.Statements.{no_clauses, rule_breaks, with_rule};
 ghost use Rattle.pfs_conf.specs.Reading.{clause_at, rule_text_at, rule_at};
 ghost use Rattle.pfs_conf.specs.Giving.{Comes, IsInOrder};
@@ -14,9 +14,9 @@ use crate::numbering::number_rule;
 use crate::phrases::{Clauses, RuleText};
 use crate::progress::Progress;
 use pfs_addr::NoMemory;
-use pfs_filters::{Parameters, Statement, Verb, read_flags, read_parameters, read_verb};
-use pfs_options::state_clause;
-use pfs_tokens::{Cursor, Key, ReadError, Refusal, Why};
+use pfs_conf_filters::{Parameters, Statement, Verb, read_flags, read_parameters, read_verb};
+use pfs_conf_options::state_clause;
+use pfs_conf_tokens::{Cursor, Key, ReadError, Refusal, Why};
 
 /// Reads a rule that begins on this line. Its load rules are asked when its line end has been read. (pf.conf(5), PACKET FILTERING)
 #[tactic(auto, unfolding(crate::specs::Reading::rule_at))]

@@ -1,8 +1,8 @@
 //! Statements, one behind another to the end of the text.
 
 ghost use Rattle.std.specs.Prelude.{◌≡◌, ◌≤◌, OnOk};
-ghost use Rattle.pfs_tokens.specs.Giving.{GivesOrMemory};
-ghost use Rattle.pfs_tokens.specs.Reading.{ended};
+ghost use Rattle.pfs_conf_tokens.specs.Giving.{GivesOrMemory};
+ghost use Rattle.pfs_conf_tokens.specs.Reading.{ended};
 ghost use Rattle.pfs_conf.specs.Statements.{closed};
 ghost use Rattle.pfs_conf.specs.Reading.{statement_at, statements_at, text_at};
 ghost use Rattle.pfs_conf.specs.Giving.{Comes, IsInOrder};
@@ -13,8 +13,8 @@ use crate::breaking::text_breaks;
 use crate::definitions::{set, table};
 use crate::progress::Progress;
 use crate::rules::rule;
-use pfs_rules::Config;
-use pfs_tokens::{Cursor, Key, ReadError, Refusal, Why};
+use pfs_conf_rules::Config;
+use pfs_conf_tokens::{Cursor, Key, ReadError, Refusal, Why};
 use std::alloc::Global;
 
 /// Reads a text up to its end, which stays, and gives what it says.

@@ -1,12 +1,12 @@
 //! The fault at the token at which reading stops, and its kind.
 
 ghost use Rattle.std.specs.Prelude.{◌≡◌};
-ghost use Rattle.pfs_tokens.specs.Tokens.{head, rest};
+ghost use Rattle.pfs_conf_tokens.specs.Tokens.{head, rest};
 ghost use Rattle.pfs_conf.specs.Kinds.{begins_with_letter, fault_of, has_byte, has_dollar, is_equals, is_foreign, is_left_out, is_named_value, is_number_key, kind_of, opens, wants_number};
 
 use crate::faults::LoadFault;
 use crate::kinds::Kind;
-use pfs_tokens::{Cursor, Key, ReadError, Refusal, Why};
+use pfs_conf_tokens::{Cursor, Key, ReadError, Refusal, Why};
 
 /// The fault that a refusal tells, where reading stopped at the cursor.
 pub fn fault_of(error: ReadError, cursor: &mut Cursor) -> LoadFault

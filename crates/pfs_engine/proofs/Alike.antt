@@ -3,8 +3,8 @@ use Rattle.std.proofs.Common.{◌≡◌, ◌&&◌, ◌==◌, ℕ, Bool, true, fa
 use Rattle.std.proofs.lemmas.List.{length-map}
 use Rattle.pfs_addr.specs.Sameness.{same_addr}
 use Rattle.pfs_addr.specs.declared.addresses.Addr.{Addr}
-use Rattle.pfs_rules.specs.Configs.{Conf, options_of}
-use Rattle.pfs_rules.specs.declared.actions.Rate.{Rate}
+use Rattle.pfs_conf_rules.specs.Configs.{Conf, options_of}
+use Rattle.pfs_conf_rules.specs.declared.actions.Rate.{Rate}
 use Rattle.pfs_track.specs.Scores.{score_after}
 use Rattle.pfs_store.specs.Counts.{has_node, is_node, node_scope_of, node_states, same_scope, scope_nodes}
 use Rattle.pfs_store.specs.Leaving.{idled}

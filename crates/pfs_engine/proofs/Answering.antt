@@ -4,14 +4,14 @@ use Rattle.std.proofs.lemmas.Bool.{false≢true}
 use Rattle.std.specs.Option.{option_and_then}
 use Rattle.pfs_addr.specs.Keys.{key_of}
 use Rattle.pfs_addr.specs.Packets.{Header}
-use Rattle.pfs_rules.specs.Configs.{Conf, IsConfig, no_rule, options_at, options_in, rule_at, rule_of, scope_of}
-use Rattle.pfs_rules.specs.declared.actions.Action.{Action}
-use Rattle.pfs_rules.specs.declared.actions.Action.TheVariants as action
-use Rattle.pfs_rules.specs.declared.actions.Overload.{Overload}
-use Rattle.pfs_rules.specs.declared.actions.Scope.TheVariants as scope
-use Rattle.pfs_rules.specs.declared.actions.StateOptions.{StateOptions}
-use Rattle.pfs_rules.specs.declared.items.Rule.{Rule}
-use Rattle.pfs_rules.specs.declared.items.RuleNo.{RuleNo}
+use Rattle.pfs_conf_rules.specs.Configs.{Conf, IsConfig, no_rule, options_at, options_in, rule_at, rule_of, scope_of}
+use Rattle.pfs_conf_rules.specs.declared.actions.Action.{Action}
+use Rattle.pfs_conf_rules.specs.declared.actions.Action.TheVariants as action
+use Rattle.pfs_conf_rules.specs.declared.actions.Overload.{Overload}
+use Rattle.pfs_conf_rules.specs.declared.actions.Scope.TheVariants as scope
+use Rattle.pfs_conf_rules.specs.declared.actions.StateOptions.{StateOptions}
+use Rattle.pfs_conf_rules.specs.declared.items.Rule.{Rule}
+use Rattle.pfs_conf_rules.specs.declared.items.RuleNo.{RuleNo}
 use Rattle.pfs_store.specs.Admission.{admitted, limit_at}
 use Rattle.pfs_store.specs.Worlds.{state_with}
 use Rattle.pfs_store.specs.declared.records.Limit.{Limit}

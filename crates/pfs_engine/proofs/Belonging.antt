@@ -4,8 +4,8 @@ use Rattle.std.specs.Prelude.{option_map}
 use Rattle.pfs_addr.specs.Keys.{key_of}
 use Rattle.pfs_addr.specs.Packets.{Header}
 use Rattle.pfs_eval.specs.Holdings.{Holdings}
-use Rattle.pfs_rules.specs.Configs.{Conf, options_of}
-use Rattle.pfs_rules.specs.declared.items.RuleNo.{RuleNo}
+use Rattle.pfs_conf_rules.specs.Configs.{Conf, options_of}
+use Rattle.pfs_conf_rules.specs.declared.items.RuleNo.{RuleNo}
 use Rattle.pfs_store.specs.Touching.{completes_at, touch_of, touched, world_touched}
 use Rattle.pfs_store.specs.Worlds.{World, holds_number, number_of, rule_in, state_with}
 use Rattle.pfs_store.specs.declared.records.State.{State}

@@ -6,9 +6,9 @@ use Rattle.pfs_addr.proofs.SameLaws.{same_addr_self, same_addr_true}
 use Rattle.pfs_addr.specs.Packets.{Header}
 use Rattle.pfs_addr.specs.Sameness.{same_addr}
 use Rattle.pfs_addr.specs.declared.addresses.Addr.{Addr}
-use Rattle.pfs_rules.specs.Configs.{Conf, options_of, scope_of}
-use Rattle.pfs_rules.specs.declared.actions.Scope.{Scope}
-use Rattle.pfs_rules.specs.declared.actions.Scope.TheVariants as scope
+use Rattle.pfs_conf_rules.specs.Configs.{Conf, options_of, scope_of}
+use Rattle.pfs_conf_rules.specs.declared.actions.Scope.{Scope}
+use Rattle.pfs_conf_rules.specs.declared.actions.Scope.TheVariants as scope
 use Rattle.pfs_store.specs.Counts.{exceeded, is_connection, is_of_node, node_connections, node_scope_by}
 use Rattle.pfs_store.specs.Handshakes.{goes_with, hits_connections}
 use Rattle.pfs_store.specs.Touching.{completes_at, connections_in, goes_forward, renewed, stepped, touch_of}

@@ -8,13 +8,13 @@ use Rattle.pfs_addr.specs.Sameness.{same_addr}
 use Rattle.pfs_addr.specs.declared.addresses.Addr.{Addr}
 use Rattle.pfs_addr.specs.declared.protocols.Proto.{Proto}
 use Rattle.pfs_addr.specs.declared.protocols.Proto.TheVariants as proto
-use Rattle.pfs_rules.proofs.RuleLaws.{options_of-AreOptions}
-use Rattle.pfs_rules.specs.Configs.{Conf, IsConfig, limit_of, options_of, scope_of}
-use Rattle.pfs_rules.specs.LoadRules.{IsCount}
-use Rattle.pfs_rules.specs.declared.actions.Scope.{Scope}
-use Rattle.pfs_rules.specs.declared.actions.Scope.TheVariants as scope
-use Rattle.pfs_rules.specs.declared.actions.StateOptions.{StateOptions}
-use Rattle.pfs_rules.specs.declared.limits.LimitName.TheVariants as limit_name
+use Rattle.pfs_conf_rules.proofs.RuleLaws.{options_of-AreOptions}
+use Rattle.pfs_conf_rules.specs.Configs.{Conf, IsConfig, limit_of, options_of, scope_of}
+use Rattle.pfs_conf_rules.specs.LoadRules.{IsCount}
+use Rattle.pfs_conf_rules.specs.declared.actions.Scope.{Scope}
+use Rattle.pfs_conf_rules.specs.declared.actions.Scope.TheVariants as scope
+use Rattle.pfs_conf_rules.specs.declared.actions.StateOptions.{StateOptions}
+use Rattle.pfs_conf_rules.specs.declared.limits.LimitName.TheVariants as limit_name
 use Rattle.pfs_store.proofs.MomentLaws.{world_at-up_to_now}
 use Rattle.pfs_store.specs.Admission.{admitted, first_of, held_node_limit, limit_at, limit_met, new_node, new_node_limit, new_state, nodes_with, source_limit}
 use Rattle.pfs_store.specs.Counts.{has_node, is_connection, is_node, is_of_node, is_of_rule, node_connections, node_scope_by, node_scope_of, node_states, reached, rule_states, same_scope, scope_nodes}

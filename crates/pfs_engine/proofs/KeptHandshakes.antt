@@ -10,10 +10,10 @@ use Rattle.pfs_addr.specs.declared.addresses.Addr.{Addr}
 use Rattle.pfs_addr.specs.declared.packets.FlowKey.{FlowKey}
 use Rattle.pfs_eval.specs.Entries.{Entry}
 use Rattle.pfs_eval.specs.Tables.{added_to, entry_count}
-use Rattle.pfs_rules.specs.Configs.{Conf, limit_of, options_of}
-use Rattle.pfs_rules.specs.declared.actions.Overload.{Overload}
-use Rattle.pfs_rules.specs.declared.items.RuleNo.{RuleNo}
-use Rattle.pfs_rules.specs.declared.limits.LimitName.TheVariants as limit_name
+use Rattle.pfs_conf_rules.specs.Configs.{Conf, limit_of, options_of}
+use Rattle.pfs_conf_rules.specs.declared.actions.Overload.{Overload}
+use Rattle.pfs_conf_rules.specs.declared.items.RuleNo.{RuleNo}
+use Rattle.pfs_conf_rules.specs.declared.limits.LimitName.TheVariants as limit_name
 use Rattle.pfs_store.proofs.MomentLaws.{left-up_to_now, world_touched-up_to_now}
 use Rattle.pfs_store.specs.Counts.{has_node, is_of_node, is_of_rule, node_connections, node_scope_of, node_states, rule_states, scope_nodes}
 use Rattle.pfs_store.specs.Handshakes.{flush_of, hits_connections, hits_rate}

@@ -3,9 +3,9 @@ use Rattle.std.proofs.Common.{◌≡◌, ◌≤◌, ◌<◌, ◌+◌, ℕ, Optio
 use Rattle.pfs_addr.specs.Keys.{key_of}
 use Rattle.pfs_addr.specs.Packets.{Header}
 use Rattle.pfs_eval.specs.Entries.{Entry}
-use Rattle.pfs_rules.specs.Configs.{Conf, IsConfig, rule_of}
-use Rattle.pfs_rules.specs.declared.actions.Action.{Action}
-use Rattle.pfs_rules.specs.declared.actions.Action.TheVariants as action
+use Rattle.pfs_conf_rules.specs.Configs.{Conf, IsConfig, rule_of}
+use Rattle.pfs_conf_rules.specs.declared.actions.Action.{Action}
+use Rattle.pfs_conf_rules.specs.declared.actions.Action.TheVariants as action
 use Rattle.pfs_store.specs.Admission.{limit_at}
 use Rattle.pfs_store.specs.Worlds.{World, state_with}
 use Rattle.pfs_store.specs.declared.records.Limit.{Limit}

@@ -1,8 +1,8 @@
 -- What follows where an option is there.
 use Rattle.std.proofs.Common.{◌≡◌, ℕ, Option, None, Some, Err, IfSome, ap, subst, unwrap_or}
 use Rattle.std.specs.Option.{ForSome}
-use Rattle.pfs_rules.specs.Configs.{Conf, no_options, options_at, options_of}
-use Rattle.pfs_rules.specs.declared.actions.StateOptions.{StateOptions}
+use Rattle.pfs_conf_rules.specs.Configs.{Conf, no_options, options_at, options_of}
+use Rattle.pfs_conf_rules.specs.declared.actions.StateOptions.{StateOptions}
 use Rattle.pfs_store.specs.Admission.{answer_at}
 use Rattle.pfs_store.specs.Worlds.{World}
 use Rattle.pfs_store.specs.declared.records.Limit.{Limit}

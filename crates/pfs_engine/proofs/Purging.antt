@@ -2,7 +2,7 @@
 use Rattle.std.proofs.Common.{◌≡◌, ◌≤◌, ◌<◌, ◌+◌, ◌-◌, ℕ, zero, suc, List, [], ◌∷◌, length, take, map, max, refl, ap, ◌∙◌, sym, arith}
 use Rattle.std.specs.List.{range_with_len}
 use Rattle.std.proofs.Math.Seq.{take-nil, drop-nil}
-use Rattle.pfs_rules.specs.Configs.{Conf}
+use Rattle.pfs_conf_rules.specs.Configs.{Conf}
 use Rattle.pfs_store.specs.Leaving.{idled}
 use Rattle.pfs_store.specs.Purging.{node_numbers, node_share, node_slice, node_slice_of, purge, round, state_numbers, state_share, state_slice, state_slice_of}
 use Rattle.pfs_store.specs.Worlds.{World, lists}

@@ -6,9 +6,9 @@ use Rattle.std.proofs.lemmas.List.Elements.{All-head, All-tail}
 use Rattle.pfs_addr.proofs.SameLaws.{same_addr_self, same_addr_true}
 use Rattle.pfs_addr.specs.Sameness.{same_addr}
 use Rattle.pfs_addr.specs.declared.addresses.Addr.{Addr}
-use Rattle.pfs_rules.specs.Configs.{Conf, scope_of}
-use Rattle.pfs_rules.specs.declared.actions.Scope.{Scope}
-use Rattle.pfs_rules.specs.declared.actions.Scope.TheVariants as scope
+use Rattle.pfs_conf_rules.specs.Configs.{Conf, scope_of}
+use Rattle.pfs_conf_rules.specs.declared.actions.Scope.{Scope}
+use Rattle.pfs_conf_rules.specs.declared.actions.Scope.TheVariants as scope
 use Rattle.pfs_store.specs.Counts.{has_node, in_scope, is_global, is_of_node, node_scope_by, node_scope_of, node_states, same_scope}
 use Rattle.pfs_store.specs.declared.records.Node.{Node}
 use Rattle.pfs_store.specs.declared.records.NodeScope.{NodeScope}

@@ -13,17 +13,17 @@ use Rattle.pfs_eval.specs.Matching.{matches_item}
 use Rattle.pfs_eval.specs.Tables.{table_answer}
 use Rattle.pfs_eval.specs.Verdict.{verdict}
 use Rattle.pfs_eval.specs.declared.tables.Added.TheVariants as added
-use Rattle.pfs_rules.specs.Configs.{Conf, any_packet, any_side, no_options}
-use Rattle.pfs_rules.specs.declared.actions.Action.{Action}
-use Rattle.pfs_rules.specs.declared.actions.Action.TheVariants as action
-use Rattle.pfs_rules.specs.declared.actions.Overload.{Overload}
-use Rattle.pfs_rules.specs.declared.actions.Scope.TheVariants as scope
-use Rattle.pfs_rules.specs.declared.filters.Filter.{Filter}
-use Rattle.pfs_rules.specs.declared.filters.Host.TheVariants as host
-use Rattle.pfs_rules.specs.declared.items.Item.{Item}
-use Rattle.pfs_rules.specs.declared.items.RuleNo.{RuleNo}
-use Rattle.pfs_rules.specs.declared.items.What.TheVariants as item
-use Rattle.pfs_rules.specs.declared.tables.TableDef.{TableDef}
+use Rattle.pfs_conf_rules.specs.Configs.{Conf, any_packet, any_side, no_options}
+use Rattle.pfs_conf_rules.specs.declared.actions.Action.{Action}
+use Rattle.pfs_conf_rules.specs.declared.actions.Action.TheVariants as action
+use Rattle.pfs_conf_rules.specs.declared.actions.Overload.{Overload}
+use Rattle.pfs_conf_rules.specs.declared.actions.Scope.TheVariants as scope
+use Rattle.pfs_conf_rules.specs.declared.filters.Filter.{Filter}
+use Rattle.pfs_conf_rules.specs.declared.filters.Host.TheVariants as host
+use Rattle.pfs_conf_rules.specs.declared.items.Item.{Item}
+use Rattle.pfs_conf_rules.specs.declared.items.RuleNo.{RuleNo}
+use Rattle.pfs_conf_rules.specs.declared.items.What.TheVariants as item
+use Rattle.pfs_conf_rules.specs.declared.tables.TableDef.{TableDef}
 use Rattle.pfs_store.specs.declared.records.Limit.{Limit}
 use Rattle.pfs_store.specs.declared.records.Limit.TheVariants as limit
 use Rattle.pfs_engine.specs.Machine.{Machine, entries_held, nodes_held, start, states_held, step}

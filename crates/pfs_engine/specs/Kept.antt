@@ -6,9 +6,9 @@ use Rattle.pfs_addr.specs.declared.addresses.Addr.{Addr}
 use Rattle.pfs_addr.specs.declared.protocols.Proto.{Proto}
 use Rattle.pfs_addr.specs.declared.protocols.Proto.TheVariants as proto
 use Rattle.pfs_eval.specs.Tables.{entry_count}
-use Rattle.pfs_rules.specs.Configs.{Conf, limit_of, options_of, scope_of}
-use Rattle.pfs_rules.specs.declared.actions.Scope.TheVariants as scope
-use Rattle.pfs_rules.specs.declared.limits.LimitName.TheVariants as limit_name
+use Rattle.pfs_conf_rules.specs.Configs.{Conf, limit_of, options_of, scope_of}
+use Rattle.pfs_conf_rules.specs.declared.actions.Scope.TheVariants as scope
+use Rattle.pfs_conf_rules.specs.declared.limits.LimitName.TheVariants as limit_name
 use Rattle.pfs_store.specs.Counts.{has_node, has_node, node_connections, node_scope_of, node_states, rule_states, scope_nodes}
 use Rattle.pfs_store.specs.Worlds.{IsUpToNow, World}
 use Rattle.pfs_store.specs.declared.records.Node.{Node}

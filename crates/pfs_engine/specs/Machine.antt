@@ -9,13 +9,13 @@ use Rattle.pfs_eval.specs.Matching.{matches_item}
 use Rattle.pfs_eval.specs.Tables.{added_to, config_entries, entries_after, entry_count}
 use Rattle.pfs_eval.specs.Verdict.{verdict}
 use Rattle.pfs_eval.specs.declared.tables.Added.{Added}
-use Rattle.pfs_rules.specs.Configs.{Conf, limit_of, options_of, rule_of}
-use Rattle.pfs_rules.specs.declared.actions.Action.{Action}
-use Rattle.pfs_rules.specs.declared.actions.Action.TheVariants as action
-use Rattle.pfs_rules.specs.declared.actions.Overload.{Overload}
-use Rattle.pfs_rules.specs.declared.actions.Scope.{Scope}
-use Rattle.pfs_rules.specs.declared.actions.StateOptions.{StateOptions}
-use Rattle.pfs_rules.specs.declared.limits.LimitName.TheVariants as limit_name
+use Rattle.pfs_conf_rules.specs.Configs.{Conf, limit_of, options_of, rule_of}
+use Rattle.pfs_conf_rules.specs.declared.actions.Action.{Action}
+use Rattle.pfs_conf_rules.specs.declared.actions.Action.TheVariants as action
+use Rattle.pfs_conf_rules.specs.declared.actions.Overload.{Overload}
+use Rattle.pfs_conf_rules.specs.declared.actions.Scope.{Scope}
+use Rattle.pfs_conf_rules.specs.declared.actions.StateOptions.{StateOptions}
+use Rattle.pfs_conf_rules.specs.declared.limits.LimitName.TheVariants as limit_name
 use Rattle.pfs_store.specs.Admission.{admitted, limit_at}
 use Rattle.pfs_store.specs.Handshakes.{flush_of, goes_with, hits_connections, hits_rate}
 use Rattle.pfs_store.specs.Leaving.{without}

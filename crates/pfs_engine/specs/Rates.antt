@@ -5,7 +5,7 @@ use Rattle.pfs_addr.specs.Keys.{key_of}
 use Rattle.pfs_addr.specs.Packets.{Header}
 use Rattle.pfs_addr.specs.Sameness.{same_addr}
 use Rattle.pfs_addr.specs.declared.addresses.Addr.{Addr}
-use Rattle.pfs_rules.specs.Configs.{Conf, options_of, rate_seconds}
+use Rattle.pfs_conf_rules.specs.Configs.{Conf, options_of, rate_seconds}
 use Rattle.pfs_store.specs.Touching.{completes_at}
 use Rattle.pfs_store.specs.Worlds.{World, state_with}
 use Rattle.pfs_store.specs.declared.records.State.{State}

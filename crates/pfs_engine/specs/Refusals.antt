@@ -2,9 +2,9 @@
 use Rattle.std.specs.Prelude.{ℕ, ◌≡◌, ◌⊎◌, false, Option, Some, None, IsSome}
 use Rattle.pfs_addr.specs.Keys.{key_of}
 use Rattle.pfs_addr.specs.Packets.{Header}
-use Rattle.pfs_rules.specs.Configs.{Conf, options_at, options_of, rule_of}
-use Rattle.pfs_rules.specs.declared.actions.Action.{Action}
-use Rattle.pfs_rules.specs.declared.actions.Action.TheVariants as action
+use Rattle.pfs_conf_rules.specs.Configs.{Conf, options_at, options_of, rule_of}
+use Rattle.pfs_conf_rules.specs.declared.actions.Action.{Action}
+use Rattle.pfs_conf_rules.specs.declared.actions.Action.TheVariants as action
 use Rattle.pfs_store.specs.Admission.{limit_at}
 use Rattle.pfs_store.specs.Worlds.{state_with}
 use Rattle.pfs_store.specs.declared.records.Limit.{Limit}

@@ -5,9 +5,9 @@ use Rattle.pfs_addr.specs.declared.protocols.Proto.{Proto}
 use Rattle.pfs_addr.specs.declared.protocols.Proto.TheVariants as proto
 use Rattle.pfs_eval.specs.Holdings.{Holdings}
 use Rattle.pfs_eval.specs.Tables.{entry_count, has_room}
-use Rattle.pfs_rules.specs.Configs.{Conf, options_of}
-use Rattle.pfs_rules.specs.declared.actions.Overload.{Overload}
-use Rattle.pfs_rules.specs.declared.items.RuleNo.{RuleNo}
+use Rattle.pfs_conf_rules.specs.Configs.{Conf, options_of}
+use Rattle.pfs_conf_rules.specs.declared.actions.Overload.{Overload}
+use Rattle.pfs_conf_rules.specs.declared.items.RuleNo.{RuleNo}
 
 -- only TCP has handshakes
 abbrev pub is_tcp : Proto → Bool

@@ -1,7 +1,7 @@
 -- A run of the machine through a list of events.
 use Rattle.std.specs.Prelude.{ℕ, ◌+◌, ◌≡◌, ◌≤◌, ◌<◌, ◌^◌, ◌⊎◌, Option, Some, List, [], ◌∷◌, ◌++◌, length, take, slice_get}
 use Rattle.std.specs.Option.{ForSome}
-use Rattle.pfs_rules.specs.Configs.{Conf}
+use Rattle.pfs_conf_rules.specs.Configs.{Conf}
 use Rattle.pfs_engine.specs.declared.events.Event.{Event}
 use Rattle.pfs_engine.specs.declared.events.Outcome.{Outcome}
 use Rattle.pfs_engine.specs.declared.events.What.{What}

@@ -1,9 +1,9 @@
 -- What an engine is to its callers, and what it keeps.
 use Rattle.std.specs.Prelude.{ℕ, ◌≡◌, ◌≤◌, List}
 use Rattle.pfs_eval.specs.Holdings.{Holdings}
-use Rattle.pfs_rules.specs.Configs.{Conf, IsConfig, limit_of}
-use Rattle.pfs_rules.specs.declared.items.Item.{Item}
-use Rattle.pfs_rules.specs.declared.limits.LimitName.TheVariants as limit_name
+use Rattle.pfs_conf_rules.specs.Configs.{Conf, IsConfig, limit_of}
+use Rattle.pfs_conf_rules.specs.declared.items.Item.{Item}
+use Rattle.pfs_conf_rules.specs.declared.limits.LimitName.TheVariants as limit_name
 use Rattle.pfs_engine.specs.Kept.{IsKept}
 use Rattle.pfs_engine.specs.Machine.{Machine}
 use Rattle.pfs_engine.specs.declared.events.Work.{Work}

@@ -3,7 +3,7 @@ use Rattle.std.specs.Prelude.{ℕ, ◌≡◌, ◌≤◌, Option, Some, None}
 use Rattle.pfs_addr.specs.Packets.{Header}
 use Rattle.pfs_eval.specs.Matching.{matches_item}
 use Rattle.pfs_eval.specs.Visits.{visit_bound, visit_floor}
-use Rattle.pfs_rules.specs.Configs.{Conf}
+use Rattle.pfs_conf_rules.specs.Configs.{Conf}
 use Rattle.pfs_store.specs.declared.records.State.{State}
 use Rattle.pfs_engine.specs.Machine.{Machine}
 

@@ -3,8 +3,8 @@
 ghost use Rattle.std.specs.Prelude.{◌≡◌};
 
 use pfs_addr::Packet;
+use pfs_conf_rules::RuleNo;
 use pfs_eval::Added;
-use pfs_rules::RuleNo;
 use pfs_store::Limit;
 
 /// What comes at a moment.

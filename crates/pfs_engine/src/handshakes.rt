@@ -3,8 +3,8 @@
 ghost use Rattle.std.specs.Prelude.{◌≡◌, ◌≤◌, ◌<◌, ◌+◌, ◌^◌, ◌||◌, true, false, None, Some, length, option_map, IfOk, IsOk, OnErr, OnOk};
 ghost use Rattle.std.specs.Option.{ForSome, option_copied};
 ghost use Rattle.pfs_addr.specs.Keys.{key_of};
-ghost use Rattle.pfs_rules.specs.Configs.{Conf, limit_of, options_at, options_of};
-ghost use Rattle.pfs_rules.specs.LoadRules.{AreOptions, IsRate};
+ghost use Rattle.pfs_conf_rules.specs.Configs.{Conf, limit_of, options_at, options_of};
+ghost use Rattle.pfs_conf_rules.specs.LoadRules.{AreOptions, IsRate};
 ghost use Rattle.pfs_store.specs.Counts.{exceeded};
 ghost use Rattle.pfs_store.specs.Handshakes.{flush_of, over_rate};
 ghost use Rattle.pfs_store.specs.Leaving.{without};
@@ -17,8 +17,8 @@ ghost use Rattle.pfs_engine.specs.Rooms.{HasRoomFor, is_tcp, overload_at};
 
 use crate::events::Outcome;
 use pfs_addr::{Addr, FlowKey, Meter, NoMemory, Packet, Proto};
+use pfs_conf_rules::{Config, LimitName, Overload, Rate, RuleNo, Scope, StateOptions};
 use pfs_eval::{Added, Tables};
-use pfs_rules::{Config, LimitName, Overload, Rate, RuleNo, Scope, StateOptions};
 use pfs_store::{StateNo, Store, Touched};
 use pfs_track::Score;
 

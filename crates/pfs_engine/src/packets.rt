@@ -3,7 +3,7 @@
 ghost use Rattle.std.specs.Prelude.{List, ◌≡◌, ◌≤◌, ◌<◌, ◌+◌, false, None, Some, IfOk, IsOk, IsSome, OnErr};
 ghost use Rattle.pfs_addr.specs.Keys.{key_of};
 ghost use Rattle.pfs_eval.specs.Entries.{Entry};
-ghost use Rattle.pfs_rules.specs.Configs.{limit_of, options_at};
+ghost use Rattle.pfs_conf_rules.specs.Configs.{limit_of, options_at};
 ghost use Rattle.pfs_store.specs.Admission.{limit_at};
 ghost use Rattle.pfs_store.specs.Worlds.{state_with};
 ghost use Rattle.pfs_engine.specs.Kept.{IsKept};
@@ -14,8 +14,8 @@ ghost use Rattle.pfs_engine.specs.Visits.{AreVisits};
 use crate::events::Outcome;
 use crate::handshakes::belongs;
 use pfs_addr::{FlowKey, Meter, NoMemory, Packet};
+use pfs_conf_rules::{Action, Config, LimitName, RuleNo};
 use pfs_eval::{Book, Tables};
-use pfs_rules::{Action, Config, LimitName, RuleNo};
 use pfs_store::Store;
 
 /// The meters of one packet.

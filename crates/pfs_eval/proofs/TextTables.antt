@@ -10,9 +10,9 @@ use Rattle.std.proofs.lemmas.Option.{slice_get_within, get_or_from_slice_get}
 use Rattle.pfs_addr.specs.declared.addresses.Addr.{Addr}
 use Rattle.pfs_addr.specs.declared.addresses.Addr.TheVariants.{V4}
 use Rattle.pfs_addr.specs.Prefixes.{Network, IsNetwork, network_of}
-use Rattle.pfs_rules.specs.Configs.{Conf, entry_count_of}
-use Rattle.pfs_rules.specs.Entries.{same_addr, same_network, Entry as TextEntry}
-use Rattle.pfs_rules.specs.declared.tables.TableDef.{TableDef}
+use Rattle.pfs_conf_rules.specs.Configs.{Conf, entry_count_of}
+use Rattle.pfs_conf_rules.specs.Entries.{same_addr, same_network, Entry as TextEntry}
+use Rattle.pfs_conf_rules.specs.declared.tables.TableDef.{TableDef}
 use Rattle.pfs_eval.specs.Entries.{Entry, entry_of, holds_prefix, is_prefix_of}
 use Rattle.pfs_eval.specs.Holdings.{Held}
 use Rattle.pfs_eval.specs.Tables.{config_entries, entry_count}

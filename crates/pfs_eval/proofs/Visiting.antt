@@ -2,8 +2,8 @@ use Rattle.std.proofs.Common.{◌≡◌, ℕ, ◌+◌, ◌<◌, ◌≤◌, suc, 
 use Rattle.std.proofs.lemmas.Option.{slice_get_within}
 use Rattle.std.proofs.lemmas.List.{length-map}
 use Rattle.std.proofs.lemmas.Bool.{cond-true, cond-false}
-use Rattle.pfs_rules.specs.Depths.{is_rule}
-use Rattle.pfs_rules.specs.declared.items.Item.{Item}
+use Rattle.pfs_conf_rules.specs.Depths.{is_rule}
+use Rattle.pfs_conf_rules.specs.declared.items.Item.{Item}
 use Rattle.pfs_eval.specs.Verdict.{Place, enclosing, is_quick, is_hit, cut, verdict}
 use Rattle.pfs_eval.specs.Visits.{visit_floor}
 use Rattle.pfs_eval.specs.Lines.{body_length, stop_depth_of, lines_from, items_of, AreLines, walk_after}

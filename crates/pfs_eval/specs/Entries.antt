@@ -4,7 +4,7 @@ use Rattle.std.specs.Map.{lookup}
 use Rattle.pfs_addr.specs.declared.addresses.Addr.{Addr}
 use Rattle.pfs_addr.specs.Addresses.{width_of}
 use Rattle.pfs_addr.specs.Prefixes.{Network, covers}
-use Rattle.pfs_rules.specs.Entries.{Entry as TextEntry}
+use Rattle.pfs_conf_rules.specs.Entries.{Entry as TextEntry}
 use Rattle.pfs_eval.specs.declared.entries.Mark.{Mark}
 
 -- an entry of a table: a prefix, and what is kept beside it

@@ -1,7 +1,7 @@
 use Rattle.std.specs.Prelude.{ℕ, ◌≡◌, ◌≤◌, ◌+◌, Bool, max, nat_lt, if◌then◌else◌, Some, List, [], ◌∷◌, length, map}
 use Rattle.std.specs.List.{prefix_len}
-use Rattle.pfs_rules.specs.Depths.{is_rule, IsPreorder}
-use Rattle.pfs_rules.specs.declared.items.Item.{Item}
+use Rattle.pfs_conf_rules.specs.Depths.{is_rule, IsPreorder}
+use Rattle.pfs_conf_rules.specs.declared.items.Item.{Item}
 use Rattle.pfs_eval.specs.Verdict.{enclosing, is_quick}
 use Rattle.pfs_eval.specs.declared.lines.Line.{Line}
 use Rattle.pfs_eval.specs.declared.walks.Walk.{Walk}

@@ -10,19 +10,19 @@ use Rattle.pfs_addr.specs.declared.protocols.Proto.{Proto}
 use Rattle.pfs_addr.specs.declared.protocols.Proto.TheVariants as proto
 use Rattle.pfs_addr.specs.Packets.{Header}
 use Rattle.pfs_addr.specs.Prefixes.{covers}
-use Rattle.pfs_rules.specs.declared.filters.Family.{Family}
-use Rattle.pfs_rules.specs.declared.filters.Family.TheVariants.{Inet}
-use Rattle.pfs_rules.specs.declared.filters.Filter.{Filter}
-use Rattle.pfs_rules.specs.declared.filters.FlagTest.{FlagTest}
-use Rattle.pfs_rules.specs.declared.filters.FlagTest.TheVariants as flag_test
-use Rattle.pfs_rules.specs.declared.filters.Host.{Host}
-use Rattle.pfs_rules.specs.declared.filters.Host.TheVariants as host
-use Rattle.pfs_rules.specs.declared.filters.Interface.{Interface}
-use Rattle.pfs_rules.specs.declared.filters.Ports.{Ports}
-use Rattle.pfs_rules.specs.declared.filters.TableNo.{TableNo}
-use Rattle.pfs_rules.specs.declared.items.Item.{Item}
-use Rattle.pfs_rules.specs.declared.items.What.{What}
-use Rattle.pfs_rules.specs.declared.items.What.TheVariants.{Rule, Anchor}
+use Rattle.pfs_conf_rules.specs.declared.filters.Family.{Family}
+use Rattle.pfs_conf_rules.specs.declared.filters.Family.TheVariants.{Inet}
+use Rattle.pfs_conf_rules.specs.declared.filters.Filter.{Filter}
+use Rattle.pfs_conf_rules.specs.declared.filters.FlagTest.{FlagTest}
+use Rattle.pfs_conf_rules.specs.declared.filters.FlagTest.TheVariants as flag_test
+use Rattle.pfs_conf_rules.specs.declared.filters.Host.{Host}
+use Rattle.pfs_conf_rules.specs.declared.filters.Host.TheVariants as host
+use Rattle.pfs_conf_rules.specs.declared.filters.Interface.{Interface}
+use Rattle.pfs_conf_rules.specs.declared.filters.Ports.{Ports}
+use Rattle.pfs_conf_rules.specs.declared.filters.TableNo.{TableNo}
+use Rattle.pfs_conf_rules.specs.declared.items.Item.{Item}
+use Rattle.pfs_conf_rules.specs.declared.items.What.{What}
+use Rattle.pfs_conf_rules.specs.declared.items.What.TheVariants.{Rule, Anchor}
 use Rattle.pfs_eval.specs.Entries.{Entry}
 use Rattle.pfs_eval.specs.Tables.{table_answer}
 

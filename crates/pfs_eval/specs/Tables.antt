@@ -3,8 +3,8 @@ use Rattle.std.specs.List.{sum_by}
 use Rattle.pfs_addr.specs.declared.addresses.Addr.{Addr}
 use Rattle.pfs_addr.specs.Addresses.{width_of}
 use Rattle.pfs_addr.specs.Prefixes.{network_of}
-use Rattle.pfs_rules.specs.Configs.{Conf}
-use Rattle.pfs_rules.specs.declared.tables.TableDef.{TableDef}
+use Rattle.pfs_conf_rules.specs.Configs.{Conf}
+use Rattle.pfs_conf_rules.specs.declared.tables.TableDef.{TableDef}
 use Rattle.pfs_eval.specs.Entries.{Entry, answer_of, entry_of, holds_host}
 use Rattle.pfs_eval.specs.declared.tables.Added.{Added}
 use Rattle.pfs_eval.specs.declared.tables.Added.TheVariants.{New, Held, Full}

@@ -1,8 +1,8 @@
 // The book of a configuration's rules, and their verdict on a packet.
 
 ghost use Rattle.std.specs.Prelude.{◌≡◌, ◌+◌, ◌-◌, ◌≤◌, ◌<◌, ◌^◌, All, IfOk, IfSome, length, option_map};
-ghost use Rattle.pfs_rules.specs.Depths.{IsPreorder};
-ghost use Rattle.pfs_rules.specs.declared.items.Item.{Item};
+ghost use Rattle.pfs_conf_rules.specs.Depths.{IsPreorder};
+ghost use Rattle.pfs_conf_rules.specs.declared.items.Item.{Item};
 ghost use Rattle.pfs_eval.specs.Matching.{matches_item};
 ghost use Rattle.pfs_eval.specs.Verdict.{IsRuleAt, cut, verdict};
 ghost use Rattle.pfs_eval.specs.Visits.{visit_bound, visit_floor};
@@ -12,7 +12,7 @@ use crate::matching::matches_item;
 use crate::tables::Tables;
 use crate::walks::Walk;
 use pfs_addr::{Meter, NoMemory, Packet};
-use pfs_rules::{Config, RuleNo};
+use pfs_conf_rules::{Config, RuleNo};
 use std::alloc::Global;
 use std::marker::Model;
 
@@ -25,7 +25,7 @@ pub struct Book {
 
 impl Model for Book {
     ghost use Rattle.std.specs.Prelude.{List};
-    ghost use Rattle.pfs_rules.specs.declared.items.Item.{Item};
+    ghost use Rattle.pfs_conf_rules.specs.declared.items.Item.{Item};
     ghost use Rattle.pfs_eval.specs.Lines.{AreLines, items_of};
 
     ghost Value = { List Item };

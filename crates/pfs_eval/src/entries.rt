@@ -8,7 +8,7 @@ ghost use Rattle.pfs_eval.specs.Entries.{answer_of, entry_of, holds_host, holds_
 
 use indexmap::IndexMap;
 use pfs_addr::{Addr, Prefix};
-use pfs_rules::Entries;
+use pfs_conf_rules::Entries;
 use std::alloc::{AllocError, Global};
 use std::marker::Model;
 

@@ -1,11 +1,11 @@
 // The items of a book, each with what a walk over them has to know of its surroundings.
 
 ghost use Rattle.std.specs.Prelude.{◌≡◌, ◌+◌, ◌<◌, ◌≤◌, ℕ, IfOk, Some, drop, if◌then◌else◌, length, max, nat_le, slice_get, slice_index};
-ghost use Rattle.pfs_rules.specs.Configs.{IsConfig};
+ghost use Rattle.pfs_conf_rules.specs.Configs.{IsConfig};
 ghost use Rattle.pfs_eval.specs.Lines.{body_length, lines_of};
 ghost use Rattle.pfs_eval.specs.Verdict.{is_quick};
 
-use pfs_rules::{Config, Item, What};
+use pfs_conf_rules::{Config, Item, What};
 use std::alloc::{AllocError, Global};
 
 /// An item, and where a walk goes on from it.

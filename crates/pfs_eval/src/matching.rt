@@ -5,7 +5,7 @@ ghost use Rattle.pfs_eval.specs.Matching.{common_flags, dir_holds, family_holds,
 
 use crate::tables::Tables;
 use pfs_addr::{Addr, Dir, Flags, IfName, Packet, Proto};
-use pfs_rules::{Family, Filter, FlagTest, Host, Interface, Item, Ports, TableNo, What};
+use pfs_conf_rules::{Family, Filter, FlagTest, Host, Interface, Item, Ports, TableNo, What};
 
 /// Whether the item matches the packet: every parameter that it gives holds. (pf.conf(5), PARAMETERS)
 #[tactic(auto, unfolding(crate::specs::Matching::matches_item))]

@@ -2,11 +2,11 @@
 
 ghost use Rattle.std.specs.Prelude.{◌≡◌, ◌≤◌, ℕ, IfOk, codes, true};
 ghost use Rattle.pfs_addr.specs.Protocols.{has_ports};
-ghost use Rattle.pfs_rules.specs.LoadRules.{IsFilter};
+ghost use Rattle.pfs_conf_rules.specs.LoadRules.{IsFilter};
 
 use crate::{Added, Book, Tables};
 use pfs_addr::{Addr, Dir, Flags, IfName, Meter, Packet, Proto, parse_ifname};
-use pfs_rules::{
+use pfs_conf_rules::{
     Draft, Family, Filter, FlagTest, Host, Interface, LimitName, Ports, RuleNo, Side, TableNo,
 };
 use std::process::Abort;

@@ -3,7 +3,7 @@
 ghost use Rattle.std.specs.Prelude.{◌≡◌, ◌-◌, ◌<◌, ◌^◌};
 
 use crate::lines::{Line, is_quick};
-use pfs_rules::What;
+use pfs_conf_rules::What;
 
 /// Where a walk stands.
 #[derive(Debug, Clone, Copy)]

@@ -2,7 +2,7 @@
 use Rattle.std.proofs.Common.{◌≡◌, ◌≤◌, ◌==◌, ◌&&◌, ◌∷◌, [], ℕ, suc, Bool, true, false, List, length, filter, map, nat_lt, if◌then◌else◌, refl, ap, sym, arith}
 use Rattle.std.proofs.lemmas.Bool.Decides.{nat_tests}
 use Rattle.std.proofs.lemmas.List.Sums.{count_by-le-length, length-filter}
-use Rattle.pfs_rules.specs.Configs.{Conf}
+use Rattle.pfs_conf_rules.specs.Configs.{Conf}
 use Rattle.pfs_store.specs.Counts.{node_states}
 use Rattle.pfs_store.specs.Leaving.{idled}
 use Rattle.pfs_store.specs.declared.records.Node.{Node}

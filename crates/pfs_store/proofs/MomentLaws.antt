@@ -3,9 +3,9 @@ use Rattle.std.proofs.Common.{◌≤◌, ◌++◌, ◌∷◌, [], ℕ, Bool, tru
 use Rattle.std.proofs.lemmas.List.Elements.{All-filter, All-map, All-nil, All-push, All-weaker}
 use Rattle.pfs_addr.specs.Packets.{Header}
 use Rattle.pfs_addr.specs.declared.addresses.Addr.{Addr}
-use Rattle.pfs_rules.specs.Configs.{Conf, options_of}
-use Rattle.pfs_rules.specs.declared.actions.Rate.{Rate}
-use Rattle.pfs_rules.specs.declared.items.RuleNo.{RuleNo}
+use Rattle.pfs_conf_rules.specs.Configs.{Conf, options_of}
+use Rattle.pfs_conf_rules.specs.declared.actions.Rate.{Rate}
+use Rattle.pfs_conf_rules.specs.declared.items.RuleNo.{RuleNo}
 use Rattle.pfs_track.specs.Scores.{score_after}
 use Rattle.pfs_store.specs.Admission.{new_node, nodes_with, world_at}
 use Rattle.pfs_store.specs.Counts.{has_node, is_node, node_scope_of, node_states}

@@ -6,11 +6,11 @@ use Rattle.std.proofs.lemmas.Bool.{cases_lt}
 use Rattle.std.proofs.lemmas.List.{drop_min, length-take, take_min}
 use Rattle.std.proofs.lemmas.List.Elements.{filter_agree}
 use Rattle.std.proofs.lemmas.Option.{slice_get_past}
-use Rattle.pfs_rules.specs.Configs.{Conf, given_timeout, options_in, rule_in, timeout_of}
-use Rattle.pfs_rules.specs.declared.actions.StateOptions.{StateOptions}
-use Rattle.pfs_rules.specs.declared.items.Item.{Item}
-use Rattle.pfs_rules.specs.declared.items.Rule.{Rule}
-use Rattle.pfs_rules.specs.declared.timeouts.TimeoutName.TheVariants.{AdaptiveStart, AdaptiveEnd}
+use Rattle.pfs_conf_rules.specs.Configs.{Conf, given_timeout, options_in, rule_in, timeout_of}
+use Rattle.pfs_conf_rules.specs.declared.actions.StateOptions.{StateOptions}
+use Rattle.pfs_conf_rules.specs.declared.items.Item.{Item}
+use Rattle.pfs_conf_rules.specs.declared.items.Rule.{Rule}
+use Rattle.pfs_conf_rules.specs.declared.timeouts.TimeoutName.TheVariants.{AdaptiveStart, AdaptiveEnd}
 use Rattle.pfs_track.specs.Lifetimes.{is_expired, scaled_by, scaled_lifetime}
 use Rattle.pfs_track.specs.StatePhases.{slot}
 use Rattle.pfs_track.specs.declared.state_phases.StatePhase.{StatePhase}

@@ -9,12 +9,12 @@ use Rattle.pfs_addr.specs.declared.flag_sets.Flags.{Flags}
 use Rattle.pfs_addr.specs.declared.packets.Dir.TheVariants.{In, Out}
 use Rattle.pfs_addr.specs.declared.packets.Endpoint.{Endpoint}
 use Rattle.pfs_addr.specs.declared.protocols.Proto.TheVariants.{Tcp, Udp}
-use Rattle.pfs_rules.specs.Configs.{Conf, any_packet, no_options}
-use Rattle.pfs_rules.specs.declared.actions.Action.TheVariants as action
-use Rattle.pfs_rules.specs.declared.actions.Scope.TheVariants as scope
-use Rattle.pfs_rules.specs.declared.actions.StateOptions.{StateOptions}
-use Rattle.pfs_rules.specs.declared.items.Item.{Item}
-use Rattle.pfs_rules.specs.declared.items.What.TheVariants as what
+use Rattle.pfs_conf_rules.specs.Configs.{Conf, any_packet, no_options}
+use Rattle.pfs_conf_rules.specs.declared.actions.Action.TheVariants as action
+use Rattle.pfs_conf_rules.specs.declared.actions.Scope.TheVariants as scope
+use Rattle.pfs_conf_rules.specs.declared.actions.StateOptions.{StateOptions}
+use Rattle.pfs_conf_rules.specs.declared.items.Item.{Item}
+use Rattle.pfs_conf_rules.specs.declared.items.What.TheVariants as what
 use Rattle.pfs_store.specs.Admission.{answer_at, limit_at, world_at}
 use Rattle.pfs_store.specs.Leaving.{killed}
 use Rattle.pfs_store.specs.Purging.{node_slice_of, purge, state_share, state_slice, state_slice_of}

@@ -3,9 +3,9 @@ use Rattle.std.specs.Prelude.{ℕ, ◌==◌, ◌&&◌, nat_le, nat_lt, Bool, tru
 use Rattle.std.specs.List.{list_any}
 use Rattle.pfs_addr.specs.Sameness.{same_addr}
 use Rattle.pfs_addr.specs.declared.addresses.Addr.{Addr}
-use Rattle.pfs_rules.specs.Configs.{Conf, scope_of}
-use Rattle.pfs_rules.specs.declared.actions.Scope.{Scope}
-use Rattle.pfs_rules.specs.declared.actions.Scope.TheVariants as scope
+use Rattle.pfs_conf_rules.specs.Configs.{Conf, scope_of}
+use Rattle.pfs_conf_rules.specs.declared.actions.Scope.{Scope}
+use Rattle.pfs_conf_rules.specs.declared.actions.Scope.TheVariants as scope
 use Rattle.pfs_track.specs.StatePhases.{is_done}
 use Rattle.pfs_store.specs.declared.records.State.{State}
 use Rattle.pfs_store.specs.declared.records.Node.{Node}

@@ -1,11 +1,11 @@
 -- What a completed handshake hits, and which states are killed then. (pf.conf(5), STATEFUL TRACKING OPTIONS, "max-src-conn",
 -- "max-src-conn-rate" and "overload"; that the state itself is killed in any case is own)
 use Rattle.std.specs.Prelude.{ℕ, ◌*◌, ◌==◌, nat_lt, Bool, false, Option, Some, None}
-use Rattle.pfs_rules.specs.declared.actions.Overload.{Overload}
-use Rattle.pfs_rules.specs.declared.actions.Rate.{Rate}
-use Rattle.pfs_rules.specs.declared.actions.Scope.{Scope}
-use Rattle.pfs_rules.specs.declared.actions.Scope.TheVariants as scope
-use Rattle.pfs_rules.specs.declared.actions.StateOptions.{StateOptions}
+use Rattle.pfs_conf_rules.specs.declared.actions.Overload.{Overload}
+use Rattle.pfs_conf_rules.specs.declared.actions.Rate.{Rate}
+use Rattle.pfs_conf_rules.specs.declared.actions.Scope.{Scope}
+use Rattle.pfs_conf_rules.specs.declared.actions.Scope.TheVariants as scope
+use Rattle.pfs_conf_rules.specs.declared.actions.StateOptions.{StateOptions}
 use Rattle.pfs_store.specs.Counts.{exceeded}
 use Rattle.pfs_store.specs.Leaving.{is_flushed}
 use Rattle.pfs_store.specs.declared.records.State.{State}

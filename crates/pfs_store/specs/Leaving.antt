@@ -2,8 +2,8 @@
 -- TRACKING OPTIONS; the idle moment is own)
 use Rattle.std.specs.Prelude.{ℕ, ◌==◌, ◌&&◌, not, nat_lt, Bool, if◌then◌else◌, Option, Some, None, List, length, filter, map}
 use Rattle.pfs_addr.specs.declared.addresses.Addr.{Addr}
-use Rattle.pfs_rules.specs.Configs.{Conf}
-use Rattle.pfs_rules.specs.declared.items.RuleNo.{RuleNo}
+use Rattle.pfs_conf_rules.specs.Configs.{Conf}
+use Rattle.pfs_conf_rules.specs.declared.items.RuleNo.{RuleNo}
 use Rattle.pfs_store.specs.Worlds.{World, holds_number}
 use Rattle.pfs_store.specs.Counts.{node_states, is_of_rule, is_of_source}
 use Rattle.pfs_store.specs.declared.records.Node.{Node}

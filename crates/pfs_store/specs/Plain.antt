@@ -1,6 +1,6 @@
 -- What a store over plain lists is to its callers, and what it keeps to itself.
 use Rattle.std.specs.Prelude.{ℕ, ◌≡◌, ◌<◌, ◌≤◌, List, All, length, slice_index}
-use Rattle.pfs_rules.specs.Configs.{Conf}
+use Rattle.pfs_conf_rules.specs.Configs.{Conf}
 use Rattle.pfs_store.specs.Counts.{rule_states}
 use Rattle.pfs_store.specs.Worlds.{World}
 use Rattle.pfs_store.specs.declared.records.Node.{Node}

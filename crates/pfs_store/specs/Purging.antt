@@ -3,9 +3,9 @@
 -- "interval" for how often all are examined)
 use Rattle.std.specs.Prelude.{ℕ, ◌+◌, ◌-◌, ◌/◌, ◌==◌, ◌&&◌, not, nat_le, Bool, List, [], ◌∷◌, length, take, drop, filter, map}
 use Rattle.std.specs.List.{list_any}
-use Rattle.pfs_rules.specs.Configs.{Conf, limit_of, timeout_of, options_of, rule_retention}
-use Rattle.pfs_rules.specs.declared.limits.LimitName.TheVariants as limit_name
-use Rattle.pfs_rules.specs.declared.timeouts.TimeoutName.TheVariants as timeout
+use Rattle.pfs_conf_rules.specs.Configs.{Conf, limit_of, timeout_of, options_of, rule_retention}
+use Rattle.pfs_conf_rules.specs.declared.limits.LimitName.TheVariants as limit_name
+use Rattle.pfs_conf_rules.specs.declared.timeouts.TimeoutName.TheVariants as timeout
 use Rattle.pfs_track.specs.Lifetimes.{scaled_lifetime, is_expired}
 use Rattle.pfs_store.specs.Worlds.{World}
 use Rattle.pfs_store.specs.Counts.{rule_states, node_states}

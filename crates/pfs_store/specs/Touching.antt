@@ -6,8 +6,8 @@ use Rattle.pfs_addr.specs.Packets.{Header}
 use Rattle.pfs_addr.specs.declared.addresses.Addr.{Addr}
 use Rattle.pfs_addr.specs.declared.packets.Dir.{Dir}
 use Rattle.pfs_addr.specs.contracts.packets.DirPartialEq.TheImpl as dir_eq
-use Rattle.pfs_rules.specs.Configs.{Conf, options_of}
-use Rattle.pfs_rules.specs.declared.actions.Rate.{Rate}
+use Rattle.pfs_conf_rules.specs.Configs.{Conf, options_of}
+use Rattle.pfs_conf_rules.specs.declared.actions.Rate.{Rate}
 use Rattle.pfs_track.specs.Scores.{score_after, zero_score}
 use Rattle.pfs_track.specs.StatePhases.{phase_after, completes}
 use Rattle.pfs_track.specs.declared.scores.Score.{Score}

@@ -4,7 +4,7 @@ use Rattle.std.specs.Prelude.{ℕ, ◌≤◌, ◌==◌, Bool, Option, List, [], 
 use Rattle.std.specs.List.{find, list_any}
 use Rattle.pfs_addr.specs.Sameness.{same_key}
 use Rattle.pfs_addr.specs.declared.packets.FlowKey.{FlowKey}
-use Rattle.pfs_rules.specs.declared.items.RuleNo.{RuleNo}
+use Rattle.pfs_conf_rules.specs.declared.items.RuleNo.{RuleNo}
 use Rattle.pfs_store.specs.declared.records.State.{State}
 use Rattle.pfs_store.specs.declared.records.Node.{Node}
 use Rattle.pfs_store.specs.declared.records.StateNo.{StateNo}

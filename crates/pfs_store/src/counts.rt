@@ -6,7 +6,7 @@ ghost use Rattle.pfs_store.specs.declared.records.State.{State};
 
 use crate::records::{Node, NodeScope, State};
 use pfs_addr::Addr;
-use pfs_rules::{Config, RuleNo, Scope};
+use pfs_conf_rules::{Config, RuleNo, Scope};
 
 /// A test of states.
 pub(crate) trait Test {

@@ -9,7 +9,7 @@ ghost use Rattle.pfs_store.specs.Worlds.{holds_number, lists};
 use crate::counts::{OfNode, Test, count};
 use crate::records::{Node, State};
 use pfs_addr::Addr;
-use pfs_rules::{Config, RuleNo};
+use pfs_conf_rules::{Config, RuleNo};
 
 /// All states but that of a number.
 #[derive(Clone, Copy)]

@@ -1,14 +1,14 @@
 // The limits that a new state meets.
 
 ghost use Rattle.std.specs.Prelude.{◌≡◌, [], IsSome};
-ghost use Rattle.pfs_rules.specs.Configs.{options_at, options_of};
+ghost use Rattle.pfs_conf_rules.specs.Configs.{options_at, options_of};
 ghost use Rattle.pfs_store.specs.Admission.{held_node_limit, limit_met, new_node_limit, source_limit};
 ghost use Rattle.pfs_store.specs.Worlds.{lists};
 
 use crate::counts::{OfNode, OfRule, count, has_node, is_reached, node_scope, scope_nodes};
 use crate::records::{Limit, Node, NodeScope, State};
 use pfs_addr::Addr;
-use pfs_rules::{Config, LimitName, RuleNo, StateOptions};
+use pfs_conf_rules::{Config, LimitName, RuleNo, StateOptions};
 
 /// The first limit that a state of this rule and source would meet.
 pub(crate) fn limit_met(

@@ -13,7 +13,7 @@ use crate::records::{Limit, Node, NodeScope, Slice, State, StateNo, Touched};
 use crate::store::Store;
 use crate::touching::{self, state_with};
 use pfs_addr::{Addr, FlowKey, Meter, NoMemory, Packet};
-use pfs_rules::{Config, RuleNo};
+use pfs_conf_rules::{Config, RuleNo};
 use pfs_track::{Score, StatePhase};
 use std::alloc::{AllocError, Global};
 use std::marker::Model;

@@ -1,8 +1,8 @@
 // The slices of the purge, in lists of states and nodes.
 
 ghost use Rattle.std.specs.Prelude.{◌≡◌, ◌+◌, ◌-◌, ◌<◌, ◌≤◌, ◌==◌, ◌&&◌, ℕ, [], List, ◌^◌, not, drop, filter, length, map, min, replicate, slice_index, take, vec_capacity};
-ghost use Rattle.pfs_rules.specs.Configs.{rule_retention, timeout_of};
-ghost use Rattle.pfs_rules.specs.declared.timeouts.TimeoutName.TheVariants as timeout;
+ghost use Rattle.pfs_conf_rules.specs.Configs.{rule_retention, timeout_of};
+ghost use Rattle.pfs_conf_rules.specs.declared.timeouts.TimeoutName.TheVariants as timeout;
 ghost use Rattle.pfs_track.specs.Lifetimes.{is_expired, scaled_lifetime};
 ghost use Rattle.pfs_store.specs.Counts.{rule_states};
 ghost use Rattle.pfs_store.specs.Plain.{AreCounts, AreScores};
@@ -12,7 +12,7 @@ ghost use Rattle.pfs_store.specs.Worlds.{lists};
 use crate::counts::{OfNode, Test, count};
 use crate::leaving::{idle, keep};
 use crate::records::{Node, NodeScope, Slice, State};
-use pfs_rules::{Config, LimitName, StateOptions, TimeoutName};
+use pfs_conf_rules::{Config, LimitName, StateOptions, TimeoutName};
 use pfs_track::{is_expired, lifetime};
 
 /// What a round goes over: states, or source nodes.

@@ -1,7 +1,7 @@
 // What is held: states and source nodes, and what calls tell of them.
 
 use pfs_addr::{Addr, Dir, FlowKey};
-use pfs_rules::RuleNo;
+use pfs_conf_rules::RuleNo;
 use pfs_track::{Score, StatePhase};
 
 /// The number of a state: they count from 1 in the order of making, and none is used again.

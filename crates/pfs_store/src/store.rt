@@ -2,7 +2,7 @@
 
 ghost use Rattle.std.specs.Prelude.{◌≡◌, ◌+◌, ◌<◌, ◌≤◌, ◌^◌, Bool, false, true, None, Some, IfOk, IsOk, IsSome, OnErr, length, option_map};
 ghost use Rattle.pfs_addr.specs.Keys.{key_of};
-ghost use Rattle.pfs_rules.specs.Configs.{Conf, options_at};
+ghost use Rattle.pfs_conf_rules.specs.Configs.{Conf, options_at};
 ghost use Rattle.pfs_store.specs.Admission.{answer_at, limit_at, world_at};
 ghost use Rattle.pfs_store.specs.Counts.{source_states};
 ghost use Rattle.pfs_store.specs.Leaving.{flushed, flushed_count, killed};
@@ -12,7 +12,7 @@ ghost use Rattle.pfs_store.specs.Worlds.{IsUpToNow, World, holds_number, number_
 
 use crate::records::{Limit, Slice, StateNo, Touched};
 use pfs_addr::{Addr, FlowKey, Meter, NoMemory, Packet};
-use pfs_rules::RuleNo;
+use pfs_conf_rules::RuleNo;
 
 /// States and source nodes, however they are kept.
 ///

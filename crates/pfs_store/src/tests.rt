@@ -1,14 +1,14 @@
 // Limits, handshakes, kills, flushes and purges by worked examples, each over two kinds of store.
 
 ghost use Rattle.std.specs.Prelude.{◌≡◌, ◌≤◌, IfSome};
-ghost use Rattle.pfs_rules.specs.LoadRules.{AreOptions, IsCount, IsRule};
+ghost use Rattle.pfs_conf_rules.specs.LoadRules.{AreOptions, IsCount, IsRule};
 ghost use Rattle.pfs_store.specs.Worlds.{IsUpToNow};
 
 use crate::{Limit, PlainStore, Slice, StateNo, Store, Touched};
 use pfs_addr::{
     Addr, Dir, Endpoint, Flags, FlowKey, IfName, Meter, NoMemory, Packet, Proto, parse_ifname,
 };
-use pfs_rules::{
+use pfs_conf_rules::{
     Action, Config, Draft, Filter, FlagTest, Host, LimitName, Rate, Rule, RuleNo, RuleTimeouts,
     Scope, Side, StateOptions, TableNo, TimeoutName,
 };

@@ -2,8 +2,8 @@
 
 ghost use Rattle.std.specs.Prelude.{◌≡◌, ◌≤◌, ℕ, [], IfSome, IsSome, List, Some, map, option_map};
 ghost use Rattle.pfs_addr.specs.Keys.{key_of};
-ghost use Rattle.pfs_rules.specs.Configs.{options_of};
-ghost use Rattle.pfs_rules.specs.LoadRules.{IsRate};
+ghost use Rattle.pfs_conf_rules.specs.Configs.{options_of};
+ghost use Rattle.pfs_conf_rules.specs.LoadRules.{IsRate};
 ghost use Rattle.pfs_store.specs.Counts.{node_scope_of};
 ghost use Rattle.pfs_store.specs.Plain.{AreScores};
 ghost use Rattle.pfs_store.specs.Touching.{completes_at, connections_in, goes_forward, node_score, nodes_scored, nodes_touched, renewed, rescored, score_in, touch_of, world_touched};
@@ -12,7 +12,7 @@ ghost use Rattle.pfs_store.specs.Worlds.{IsUpToNow, lists, state_with};
 use crate::counts::{Connections, OfNode, count, node_scope};
 use crate::records::{Node, NodeScope, State, Touched};
 use pfs_addr::{Addr, FlowKey, Packet};
-use pfs_rules::{Config, Rate, RuleNo};
+use pfs_conf_rules::{Config, Rate, RuleNo};
 use pfs_track::Score;
 
 /// Takes a packet of the state that has its key.

@@ -1,7 +1,7 @@
 use Rattle.std.specs.Prelude.{ℕ, Bool, true, false, ◌≤◌}
 use Rattle.std.proofs.Common.{lit≤}
-use Rattle.pfs_rules.specs.declared.timeouts.TimeoutName.{TimeoutName}
-use Rattle.pfs_rules.specs.declared.timeouts.TimeoutName.TheVariants.{UdpFirst, UdpSingle, UdpMultiple, OtherFirst, OtherSingle, OtherMultiple}
+use Rattle.pfs_conf_rules.specs.declared.timeouts.TimeoutName.{TimeoutName}
+use Rattle.pfs_conf_rules.specs.declared.timeouts.TimeoutName.TheVariants.{UdpFirst, UdpSingle, UdpMultiple, OtherFirst, OtherSingle, OtherMultiple}
 use Rattle.pfs_track.specs.declared.datagrams.DatagramPhase.{DatagramPhase}
 use Rattle.pfs_track.specs.declared.datagrams.Stage.{Stage}
 use Rattle.pfs_track.specs.declared.datagrams.Stage.TheVariants.{First as FirstStage, Single as SingleStage, Multiple as MultipleStage}

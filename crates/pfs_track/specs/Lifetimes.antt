@@ -1,7 +1,7 @@
 use Rattle.std.specs.Prelude.{ℕ, Bool, Option, Some, None, unwrap_or, ◌+◌, ◌-◌, ◌*◌, ◌/◌, ◌&&◌, ◌||◌, ◌==◌, if◌then◌else◌, nat_le}
-use Rattle.pfs_rules.specs.Configs.{Conf, timeout_of, rule_timeout_of}
-use Rattle.pfs_rules.specs.declared.timeouts.TimeoutName.{TimeoutName}
-use Rattle.pfs_rules.specs.declared.timeouts.TimeoutName.TheVariants.{AdaptiveStart, AdaptiveEnd}
+use Rattle.pfs_conf_rules.specs.Configs.{Conf, timeout_of, rule_timeout_of}
+use Rattle.pfs_conf_rules.specs.declared.timeouts.TimeoutName.{TimeoutName}
+use Rattle.pfs_conf_rules.specs.declared.timeouts.TimeoutName.TheVariants.{AdaptiveStart, AdaptiveEnd}
 use Rattle.pfs_track.specs.StatePhases.{slot}
 use Rattle.pfs_track.specs.declared.state_phases.StatePhase.{StatePhase}
 

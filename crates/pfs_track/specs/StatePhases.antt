@@ -2,7 +2,7 @@ use Rattle.std.specs.Prelude.{Bool, false}
 use Rattle.pfs_addr.specs.declared.flag_sets.Flags.{Flags}
 use Rattle.pfs_addr.specs.declared.protocols.Proto.{Proto}
 use Rattle.pfs_addr.specs.declared.protocols.Proto.TheVariants.{Tcp as OverTcp, Udp as OverUdp, Other as OverOther}
-use Rattle.pfs_rules.specs.declared.timeouts.TimeoutName.{TimeoutName}
+use Rattle.pfs_conf_rules.specs.declared.timeouts.TimeoutName.{TimeoutName}
 use Rattle.pfs_track.specs.Datagrams.{first_datagram, udp_step, udp_slot, other_slot}
 use Rattle.pfs_track.specs.TcpPhases.{first_tcp, tcp_step, tcp_completes}
 use Rattle.pfs_track.specs.declared.state_phases.StatePhase.{StatePhase}

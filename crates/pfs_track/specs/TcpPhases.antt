@@ -1,7 +1,7 @@
 use Rattle.std.specs.Prelude.{Bool, true, false, ◌≡◌, ◌≤◌, ◌||◌, refl}
 use Rattle.std.proofs.lemmas.Bool.{false≢true}
 use Rattle.pfs_addr.specs.declared.flag_sets.Flags.{Flags}
-use Rattle.pfs_rules.specs.declared.timeouts.TimeoutName.TheVariants.{TcpFirst}
+use Rattle.pfs_conf_rules.specs.declared.timeouts.TimeoutName.TheVariants.{TcpFirst}
 use Rattle.pfs_track.specs.TcpLaws.{peers_established, peers-rise, peers-complete}
 use Rattle.pfs_track.specs.TcpRanks.{rank_number, peers_after, tcp_timeout}
 use Rattle.pfs_track.specs.declared.tcp_phases.TcpPhase.{TcpPhase}

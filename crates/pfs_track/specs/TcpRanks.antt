@@ -1,7 +1,7 @@
 use Rattle.std.specs.Prelude.{ℕ, Bool, true, false, not, if◌then◌else◌, ◌==◌, ◌&&◌, ◌||◌, ◌≤◌, nat_lt}
 use Rattle.pfs_addr.specs.declared.flag_sets.Flags.{Flags}
-use Rattle.pfs_rules.specs.declared.timeouts.TimeoutName.{TimeoutName}
-use Rattle.pfs_rules.specs.declared.timeouts.TimeoutName.TheVariants.{TcpOpening, TcpEstablished, TcpClosing, TcpFinwait, TcpClosed}
+use Rattle.pfs_conf_rules.specs.declared.timeouts.TimeoutName.{TimeoutName}
+use Rattle.pfs_conf_rules.specs.declared.timeouts.TimeoutName.TheVariants.{TcpOpening, TcpEstablished, TcpClosing, TcpFinwait, TcpClosed}
 use Rattle.pfs_track.specs.declared.tcp_ranks.Ends.{Ends}
 use Rattle.pfs_track.specs.declared.tcp_ranks.Peers.{Peers}
 use Rattle.pfs_track.specs.declared.tcp_ranks.TcpRank.{TcpRank}

@@ -7,7 +7,7 @@ use crate::datagrams::DatagramPhase;
 use crate::protocols::{Other, Phases, Tcp, Udp};
 use crate::tcp_phases::TcpPhase;
 use pfs_addr::{Flags, Proto};
-use pfs_rules::TimeoutName;
+use pfs_conf_rules::TimeoutName;
 
 /// The phase of a state: how far its connection has come, its current timeout, and whether its handshake has completed.
 #[derive(Debug, Clone, Copy, PartialEq, Eq)]

@@ -5,7 +5,7 @@ ghost use Rattle.pfs_track.specs.TcpRanks.{IsEstablished};
 
 use crate::tcp_ranks::{TcpRank, meet, timeout_of};
 use pfs_addr::Flags;
-use pfs_rules::TimeoutName;
+use pfs_conf_rules::TimeoutName;
 
 /// How far a TCP connection has come: the ranks of its two peers, its current timeout, and whether its handshake has
 /// completed. Where it has, both ranks are at least `ESTABLISHED`.

@@ -1,12 +1,12 @@
 // Phases, scores and lifetimes by worked examples.
 
 ghost use Rattle.std.specs.Prelude.{◌≡◌, Some, slice_set};
-ghost use Rattle.pfs_rules.specs.LoadRules.{IsRule};
-ghost use Rattle.pfs_rules.specs.Timeouts.{no_timeouts};
+ghost use Rattle.pfs_conf_rules.specs.LoadRules.{IsRule};
+ghost use Rattle.pfs_conf_rules.specs.Timeouts.{no_timeouts};
 
 use crate::{Other, Phases, Score, StatePhase, Tcp, Udp, is_expired, lifetime};
 use pfs_addr::{Flags, Proto};
-use pfs_rules::{
+use pfs_conf_rules::{
     Action, Draft, Filter, FlagTest, Host, LimitName, Rule, RuleNo, RuleTimeouts, Side,
     StateOptions, TableNo, TimeoutName,
 };

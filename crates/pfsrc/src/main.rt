@@ -5,7 +5,7 @@
 use clap::Error;
 use clap::error::ErrorKind;
 use pfs_cli::{Job, ReplayFault, job, perform, status};
-use pfs_streams::{Feed, Sink};
+use pfs_cli_streams::{Feed, Sink};
 use std::alloc::AllocError;
 use std::env;
 use std::fs::File;

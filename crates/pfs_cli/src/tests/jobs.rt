@@ -1,7 +1,7 @@
 // Checks, canonical texts and jobs over readers and writers in memory.
 
 use crate::{Job, Kind, LoadFault, ReplayFault, check, perform, print};
-use pfs_streams::{Feed, Sink};
+use pfs_cli_streams::{Feed, Sink};
 use std::process::Abort;
 use std::test::Fail;
 

@@ -1,7 +1,7 @@
 // Short records, and the reports of them.
 
 use crate::{replay, replay_joined};
-use pfs_streams::{Feed, Sink};
+use pfs_cli_streams::{Feed, Sink};
 use std::process::Abort;
 use std::test::Fail;
 

@@ -10,7 +10,7 @@ use super::scripts::{
 };
 use crate::{Limit, Outcome};
 use pfs_addr::Addr;
-use pfs_rules::{LimitName, RuleNo, Scope};
+use pfs_conf_rules::{LimitName, RuleNo, Scope};
 use std::test::Fail;
 
 const UDP: Sent = Sent::Udp(53);

@@ -9,7 +9,7 @@ use super::rulesets::{
 use super::scripts::{A1, Script, Sent, check, new, state};
 use crate::{Added, Outcome};
 use pfs_addr::Addr;
-use pfs_rules::{LimitName, Rate, RuleNo, Scope, TimeoutName};
+use pfs_conf_rules::{LimitName, Rate, RuleNo, Scope, TimeoutName};
 use std::test::Fail;
 
 const THREE_IN_TEN: Rate = Rate {

@@ -8,7 +8,7 @@ use super::rulesets::{
 use super::scripts::{A1, A2, Script, Sent, check, new, refused, state};
 use crate::{Limit, Outcome};
 use pfs_addr::Addr;
-use pfs_rules::{LimitName, Scope, TimeoutName};
+use pfs_conf_rules::{LimitName, Scope, TimeoutName};
 use std::test::Fail;
 
 const UDP: Sent = Sent::Udp(53);

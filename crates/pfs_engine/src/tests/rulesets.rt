@@ -2,11 +2,11 @@
 
 ghost use Rattle.std.specs.Prelude.{◌≡◌, ◌≤◌, ◌+◌, ℕ, IfOk, IfSome, OnOk, length, true};
 ghost use Rattle.pfs_addr.specs.Names.{is_name};
-ghost use Rattle.pfs_rules.specs.Depths.{depth_after};
-ghost use Rattle.pfs_rules.specs.LoadRules.{AreOptions, IsCount, IsFilter, IsRate, IsRule};
+ghost use Rattle.pfs_conf_rules.specs.Depths.{depth_after};
+ghost use Rattle.pfs_conf_rules.specs.LoadRules.{AreOptions, IsCount, IsFilter, IsRate, IsRule};
 
 use pfs_addr::{Addr, Dir, Flags, Name, Proto};
-use pfs_rules::{
+use pfs_conf_rules::{
     Action, Anchor, Config, Draft, Entries, Filter, FlagTest, Host, Overload, Ports, Rate, Rule,
     RuleTimeouts, Scope, Side, StateOptions, TableDef, TableName, TableNo, TimeoutName,
 };

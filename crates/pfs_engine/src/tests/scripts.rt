@@ -8,7 +8,7 @@ ghost use Rattle.pfs_engine.specs.Runs.{IsInOrder};
 use super::tallied::Tallied;
 use crate::{Engine, Event, Limit, Outcome, What};
 use pfs_addr::{Addr, Dir, Endpoint, Flags, Packet, Proto, parse_ifname};
-use pfs_rules::{Config, RuleNo};
+use pfs_conf_rules::{Config, RuleNo};
 use pfs_store::{PlainStore, Store};
 use std::alloc::{AllocGlobal, Global};
 use std::process::Abort;

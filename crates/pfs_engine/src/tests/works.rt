@@ -8,7 +8,7 @@ use super::rulesets::{
 use super::scripts::{A1, A2, SERVER, SYN, held, new, packet, pass_time, plain, state, take, udp};
 use crate::{Engine, Outcome, Work};
 use pfs_addr::{Dir, Endpoint, Proto};
-use pfs_rules::{Config, Filter, Host, LimitName, Ports, RuleNo, Scope, Side, TimeoutName};
+use pfs_conf_rules::{Config, Filter, Host, LimitName, Ports, RuleNo, Scope, Side, TimeoutName};
 use pfs_store::Store;
 use std::alloc::AllocGlobal;
 use std::process::Abort;

@@ -3,11 +3,11 @@
 ghost use Rattle.std.specs.Prelude.{◌≡◌, ◌<◌, ◌≤◌, ◌+◌, ℕ, IfOk, None, OnOk, Some, length, true};
 ghost use Rattle.pfs_addr.specs.Names.{is_name};
 ghost use Rattle.pfs_addr.specs.Protocols.{has_ports};
-ghost use Rattle.pfs_rules.specs.Depths.{depth_after};
-ghost use Rattle.pfs_rules.specs.LoadRules.{IsFilter};
+ghost use Rattle.pfs_conf_rules.specs.Depths.{depth_after};
+ghost use Rattle.pfs_conf_rules.specs.LoadRules.{IsFilter};
 
 use pfs_addr::{Addr, Dir, Endpoint, Flags, IfName, Name, Packet, Proto};
-use pfs_rules::{
+use pfs_conf_rules::{
     Action, Anchor, Config, Draft, Entries, Filter, FlagTest, Host, Ports, Rule, Side, TableDef,
     TableName, TableNo,
 };

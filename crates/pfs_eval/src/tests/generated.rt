@@ -1,14 +1,14 @@
 // Verdicts of generated rules, beside a second computation of them, by lists: the path, its cut, and the last match.
 
 ghost use Rattle.std.specs.Prelude.{◌≡◌, ◌≤◌, ◌<◌, ◌+◌, ℕ, IfOk, OnOk, length};
-ghost use Rattle.pfs_rules.specs.LoadRules.{IsFilter, IsHost, IsTableNo};
+ghost use Rattle.pfs_conf_rules.specs.LoadRules.{IsFilter, IsHost, IsTableNo};
 
 use super::drafting::{EVERY, SYN, drafted, finished, open, packet, port, push};
 use crate::lines::is_quick;
 use crate::matching::matches_item;
 use crate::{Book, Tables};
 use pfs_addr::{Addr, Dir, Meter, Packet, Proto};
-use pfs_rules::{Config, Filter, FlagTest, Host, Item, RuleNo, Side, TableNo, What};
+use pfs_conf_rules::{Config, Filter, FlagTest, Host, Item, RuleNo, Side, TableNo, What};
 use std::alloc::{AllocError, Global};
 use std::process::Abort;
 use std::test::Fail;

@@ -2,7 +2,7 @@
 
 use super::TcpPhase;
 use pfs_addr::Flags;
-use pfs_rules::TimeoutName;
+use pfs_conf_rules::TimeoutName;
 
 /// A phase with its ranks as numbers: CLOSED 0, SYN_SENT 2, ESTABLISHED 4, CLOSING 7, FIN_WAIT_2 9, TIME_WAIT 10.
 #[derive(Debug, Clone, Copy, PartialEq, Eq)]

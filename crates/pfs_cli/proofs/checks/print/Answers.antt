@@ -1,5 +1,5 @@
 use Rattle.std.proofs.Common.{◌≡◌, [], ◌∙◌}
-use Rattle.pfs_show.specs.Texts.{text_of}
+use Rattle.pfs_conf_show.specs.Texts.{text_of}
 use Rattle.pfs_cli.specs.declared.faults.ReplayFault.TheVariants as fault
 use Rattle.pfs_cli.proofs.Checking.{nothing-written, text-written}
 use Rattle.pfs_cli.proofs.Telling.{Appends-nothing}

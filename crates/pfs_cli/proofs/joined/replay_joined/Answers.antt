@@ -1,7 +1,7 @@
 use Rattle.std.proofs.Common.{refl, ◌≡◌, Some, ℕ, List, [], Option, MutBor}
 use Rattle.std.specs.Io.Buffered.{reader_remaining, reader_buffer, reader_inner, reader_capacity}
 use Rattle.std.specs.declared.io.buffered.BufReader.{BufReader}
-use Rattle.pfs_streams.specs.Feeds.{FeedView, unread}
+use Rattle.pfs_cli_streams.specs.Feeds.{FeedView, unread}
 use Rattle.pfs_cli.specs.Joined.{split_joined}
 use Rattle.pfs_cli.proofs.Telling.{Appends-nothing}
 use Rattle.pfs_cli.proofs.Replaying.{Appends-kept, kept-reads, rules-refused, handed-on}

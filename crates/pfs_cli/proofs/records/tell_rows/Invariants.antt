@@ -1,4 +1,4 @@
-use Rattle.pfs_streams.specs.Sinks.{held}
+use Rattle.pfs_cli_streams.specs.Sinks.{held}
 use Rattle.pfs_cli.proofs.Telling.{Running}
 use Rattle.pfs_cli.proofs.records.tell_rows.Given as goal
 

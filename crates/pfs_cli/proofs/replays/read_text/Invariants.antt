@@ -1,5 +1,5 @@
 use Rattle.std.proofs.Common.{◌≡◌, ◌≤◌, ◌-◌, ◌++◌, ℕ, List, Some, length}
-use Rattle.pfs_streams.specs.Feeds.{unread, failures_of}
+use Rattle.pfs_cli_streams.specs.Feeds.{unread, failures_of}
 use Rattle.pfs_cli.proofs.replays.read_text.Given as goal
 
 abbrev pub invariant-chunks : goal.invariant-chunks

@@ -1,6 +1,6 @@
 use Rattle.std.proofs.Common.{◌≡◌, length}
-use Rattle.pfs_tokens.specs.Keys.{ends_line}
-use Rattle.pfs_tokens.specs.Reading.{until_all}
+use Rattle.pfs_conf_tokens.specs.Keys.{ends_line}
+use Rattle.pfs_conf_tokens.specs.Reading.{until_all}
 use Rattle.pfs_conf.specs.Statements.{no_clauses}
 use Rattle.pfs_conf.specs.Reading.{clause_at}
 use Rattle.pfs_conf.proofs.rules.clauses.Given as goal

@@ -1,5 +1,5 @@
 use Rattle.std.proofs.Common.{◌≡◌, true, refl, subst, sym}
-use Rattle.pfs_rules.specs.declared.actions.StateOptions.{StateOptions}
+use Rattle.pfs_conf_rules.specs.declared.actions.StateOptions.{StateOptions}
 use Rattle.pfs_engine.specs.Rooms.{HasRoomFor}
 use Rattle.pfs_engine.proofs.OptionLaws.{options_there, some_of}
 use Rattle.pfs_engine.proofs.handshakes.outcome_of.Goals as goal

@@ -1,6 +1,6 @@
 use Rattle.std.proofs.Common.{◌≡◌, ℕ, zero, suc, ◌+◌, List, [], ◌∷◌, Option, Some, None, IfSome, slice_index_or, slice_set, subst, arith, refl, lit≤}
-use Rattle.pfs_rules.specs.LoadRules.{IsTimeout}
-use Rattle.pfs_rules.specs.Timeouts.{no_timeouts}
+use Rattle.pfs_conf_rules.specs.LoadRules.{IsTimeout}
+use Rattle.pfs_conf_rules.specs.Timeouts.{no_timeouts}
 use Rattle.pfs_track.proofs.tests.short_rule.Goals as goal
 
 -- what is given for the places from one on can be given for them

@@ -1,7 +1,7 @@
 use Rattle.std.proofs.Common.{◌≡◌, ◌++◌, [], ◌∷◌, Some, ap, sym, ◌∙◌, map, take}
 use Rattle.std.specs.Prelude.{option_map, slice_get}
 use Rattle.pfs_addr.specs.Prefixes.{network_of}
-use Rattle.pfs_rules.specs.Entries.{Entry as TextEntry}
+use Rattle.pfs_conf_rules.specs.Entries.{Entry as TextEntry}
 use Rattle.pfs_eval.specs.Entries.{entry_of}
 use Rattle.pfs_eval.proofs.TextTables.{not-held, own_network, taken-more}
 use Rattle.pfs_eval.proofs.entries.Table.of.Goals as goal

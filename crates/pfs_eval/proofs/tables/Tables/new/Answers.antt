@@ -1,6 +1,6 @@
 use Rattle.std.proofs.Common.{◌≡◌, ◌++◌, [], ◌∷◌, ap, sym, ◌∙◌, arith, map, take}
 use Rattle.std.proofs.lemmas.List.{take_all}
-use Rattle.pfs_rules.specs.declared.tables.TableDef.{TableDef}
+use Rattle.pfs_conf_rules.specs.declared.tables.TableDef.{TableDef}
 use Rattle.pfs_eval.specs.Entries.{entry_of}
 use Rattle.pfs_eval.specs.Tables.{config_entries, entry_count}
 use Rattle.pfs_eval.proofs.Rooms.{entries_of}

@@ -1,5 +1,5 @@
 use Rattle.std.proofs.Common.{◌≡◌, map, take}
-use Rattle.pfs_rules.specs.declared.tables.TableDef.{TableDef}
+use Rattle.pfs_conf_rules.specs.declared.tables.TableDef.{TableDef}
 use Rattle.pfs_eval.specs.Entries.{entry_of}
 use Rattle.pfs_eval.proofs.Rooms.{entries_of}
 use Rattle.pfs_eval.proofs.tables.Tables.new.Given as goal

@@ -1,5 +1,5 @@
 use Rattle.std.proofs.Common.{◌≤◌, length}
-use Rattle.pfs_rules.specs.Depths.{depth_after}
+use Rattle.pfs_conf_rules.specs.Depths.{depth_after}
 use Rattle.pfs_eval.proofs.tests.generated.generate.Given as goal
 
 abbrev pub invariant-loop : goal.invariant-loop

@@ -1,0 +1,28 @@
+-- The jobs of a command line, by what clap finds in its words.
+use Rattle.std.specs.Prelude.{◌≡◌, List, codes, true, Option, Some, None}
+use Rattle.clap.specs.Words.{App, Row, Rule, Text, first_of, new_app, new_rule, with_rule, with_subcommand}
+use Rattle.pfs_cli_jobs.specs.declared.tasks.Job.{Job}
+use Rattle.pfs_cli_jobs.specs.declared.tasks.Job.TheVariants as job
+
+-- a file's name, which has to be there
+abbrev pub file_rule : Text → Rule
+file_rule id = record (new_rule id) { required = true }
+
+-- the command line of the program
+abbrev pub pfsrc_app : App
+pfsrc_app =
+    let check = with_rule (new_app (codes "check")) (file_rule (codes "RULES")) in
+    let show = with_rule (new_app (codes "show")) (file_rule (codes "RULES")) in
+    let replay = with_rule (with_rule (new_app (codes "replay")) (file_rule (codes "RULES"))) (file_rule (codes "TRACE")) in
+    with_subcommand (with_subcommand (with_subcommand (new_app (codes "pfsrc")) check.top) show.top) replay.top
+
+-- a subcommand with its entries
+abbrev pub Found : Type 0
+Found = Option (Text × List Row)
+
+-- the job that a subcommand names
+abbrev pub JobIs : Found → Job → Type 0
+JobIs found job.Joined = found ≡ None
+JobIs found (job.Check rules) = (rows : List Row) × (found ≡ Some (codes "check", rows)) × (first_of (codes "RULES") rows ≡ Some rules.now)
+JobIs found (job.Show rules) = (rows : List Row) × (found ≡ Some (codes "show", rows)) × (first_of (codes "RULES") rows ≡ Some rules.now)
+JobIs found (job.Replay rules trace) = (rows : List Row) × (found ≡ Some (codes "replay", rows)) × (first_of (codes "RULES") rows ≡ Some rules.now) × (first_of (codes "TRACE") rows ≡ Some trace.now)

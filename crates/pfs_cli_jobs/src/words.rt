@@ -1,0 +1,125 @@
+// How the words of the command line are read, with `clap`.
+
+ghost use Rattle.std.specs.Prelude.{◌≡◌, IfOk, map, false, codes, Some};
+ghost use Rattle.clap.specs.Words.{app_of, subcommand_of, rule_of, new_app, with_rule, first_of, found_of, rows_of};
+ghost use Rattle.clap.specs.declared.builder.command.Command.TheViews.{out-Command};
+ghost use Rattle.pfs_cli_jobs.specs.Jobs.{JobIs, pfsrc_app, file_rule};
+
+use crate::tasks::Job;
+use clap::{Arg, ArgMatches, Command, Error};
+use std::alloc::{AllocError, Global};
+
+/// The job that the words of a command line ask for: the program's name, and then nothing, `check RULES`, `show RULES` or
+/// `replay RULES TRACE`.
+///
+/// The error is clap's, with its message: for a word that is none of these, for a file that is missing or too many, for
+/// `--help` and `help`, which are no mistakes, and for want of memory. It takes memory.
+pub fn job<'a>(alloc: Global, words: &'a [&'a str]) -> Result<Job<'a>, Error>
+    ensures { IfOk result (λ j. JobIs (subcommand_of pfsrc_app (map (λ w. w.now) words.entry.now)) j) }
+{
+    let matches = pfsrc(alloc)?.try_get_matches_from(words)?;
+    match matches.subcommand() {
+        Some((name, found)) => job_of(name, found),
+        None => Ok(Job::Joined),
+    }
+}
+
+/// The command line of the program.
+fn pfsrc<'a>(alloc: Global) -> Result<Command<'a>, AllocError>
+    ensures { IfOk result (λ c. app_of c ≡ pfsrc_app) }
+{
+    let check = check(alloc)?;
+    let show = show(alloc)?;
+    let replay = replay(alloc)?;
+    let first = program(alloc).subcommand(check)?;
+    let second = first.subcommand(show)?;
+    second.subcommand(replay)
+}
+
+fn program<'a>(alloc: Global) -> Command<'a>
+    ensures app { app_of result ≡ new_app (codes "pfsrc") }
+    ensures local { (out-Command result).has_globals ≡ false }
+{
+    Command::new(alloc, "pfsrc")
+        .about(
+            "Tells beforehand what pf's limits do to a packet trace: which packets make states, which limit drops them, and whose states are killed.",
+        )
+        .after_help(
+            "Without a command it reads rules and trace from standard input, with a line %% between them, and writes the report:\n  cat rules separator trace | pfsrc\nStatus: 0 done, 1 a fault in the trace, 2 words that are not understood, 3 a fault in the rules, 4 reading, writing or memory failed.",
+        )
+}
+
+fn check<'a>(alloc: Global) -> Result<Command<'a>, AllocError>
+    ensures app { IfOk result (λ c. app_of c ≡ with_rule (new_app (codes "check")) (file_rule (codes "RULES"))) }
+    ensures local { IfOk result (λ c. (out-Command c).has_globals ≡ false) }
+{
+    Command::new(alloc, "check")
+        .about(
+            "Reads a rules file and tells how many items, tables and entries it has, or the first fault and its line.",
+        )
+        .after_help("Example: pfsrc check /etc/pf.conf")
+        .arg(rules_file(alloc))
+}
+
+fn show<'a>(alloc: Global) -> Result<Command<'a>, AllocError>
+    ensures app { IfOk result (λ c. app_of c ≡ with_rule (new_app (codes "show")) (file_rule (codes "RULES"))) }
+    ensures local { IfOk result (λ c. (out-Command c).has_globals ≡ false) }
+{
+    Command::new(alloc, "show")
+        .about("Writes the rules of a file as one canonical text, with every default filled in.")
+        .after_help("Example: pfsrc show /etc/pf.conf")
+        .arg(rules_file(alloc))
+}
+
+fn replay<'a>(alloc: Global) -> Result<Command<'a>, AllocError>
+    ensures app { IfOk result (λ c. app_of c ≡ with_rule (with_rule (new_app (codes "replay")) (file_rule (codes "RULES"))) (file_rule (codes "TRACE"))) }
+    ensures local { IfOk result (λ c. (out-Command c).has_globals ≡ false) }
+{
+    let command = Command::new(alloc, "replay")
+        .about(
+            "Runs the packets of a trace file through the rules of a rules file and writes a line for each, and at last what is held.",
+        )
+        .after_help("Example: pfsrc replay pf.conf flood.csv")
+        .arg(rules_file(alloc))?;
+    command.arg(trace_file(alloc))
+}
+
+fn rules_file<'a>(alloc: Global) -> Arg<'a>
+    ensures rule { rule_of result ≡ file_rule (codes "RULES") }
+    ensures local { result.global ≡ false }
+{
+    Arg::new(alloc, "RULES")
+        .required(true)
+        .help("A file with rules in pf.conf's grammar.")
+}
+
+fn trace_file<'a>(alloc: Global) -> Arg<'a>
+    ensures rule { rule_of result ≡ file_rule (codes "TRACE") }
+    ensures local { result.global ≡ false }
+{
+    Arg::new(alloc, "TRACE").required(true).help(
+        "A CSV file with a packet in each record, headed time,dir,if,proto,src,sport,dst,dport,flags.",
+    )
+}
+
+/// The job of a subcommand.
+fn job_of<'a>(name: &str, found: &ArgMatches<'a>) -> Result<Job<'a>, Error>
+    ensures { IfOk result (JobIs (Some (name.now, rows_of (found_of found.now)))) }
+{
+    match name {
+        "check" => Ok(Job::Check(named(found, "RULES")?)),
+        "show" => Ok(Job::Show(named(found, "RULES")?)),
+        "replay" => Ok(Job::Replay(named(found, "RULES")?, named(found, "TRACE")?)),
+        _ => Err(Error::from(AllocError)),
+    }
+}
+
+/// The file that was given under this name. `clap` asks for it before.
+fn named<'a>(found: &ArgMatches<'a>, id: &str) -> Result<&'a str, Error>
+    ensures { IfOk result (λ r. first_of id.now (rows_of (found_of found.now)) ≡ Some r.now) }
+{
+    match found.get_str(id) {
+        Some(file) => Ok(file),
+        None => Err(Error::from(AllocError)),
+    }
+}

@@ -1,0 +1,42 @@
+//! Whole texts through a writer that may take a part at a time.
+
+ghost use Rattle.std.specs.Prelude.{◌≡◌, ◌≤◌, Some, OnOk, OnErr, take, length, codes, ℕ};
+ghost use Rattle.std.specs.Io.KnownBytes.{Appends};
+ghost use Rattle.pfs_cli_streams.specs.Sinks.{failures_of, held, one_more};
+
+use crate::sinks::Sink;
+use std::io::Write;
+use std::{error, fmt};
+
+/// A text was not written whole: a write failed, or took nothing.
+#[derive(Clone, Copy, Debug, PartialEq, Eq)]
+pub struct WriteFailed;
+
+impl fmt::Display for WriteFailed {
+    ghost output = { λ _. Some (codes "write failed") };
+
+    fn fmt<W: fmt::Write>(&self, f: &mut fmt::Formatter<W>) -> fmt::Result {
+        write!(f, "write failed")
+    }
+}
+
+impl error::Error for WriteFailed {}
+
+/// Writes all of `bytes`, by as many writes as it takes, and stops at the first that fails or
+/// takes 0 bytes. Then `out` holds a front of `bytes` behind what it held. Takes no memory of
+/// its own. There is no flush.
+pub fn write_whole<W: Write>(out: &mut Sink<W>, bytes: &[u8]) -> Result<(), WriteFailed>
+    ensures ok { OnOk result (Appends (held W.contents out.old) (held W.contents out.new) bytes.now) }
+    ensures still { OnOk result (failures_of out.new ≡ failures_of out.old) }
+    ensures err { OnErr result ((k : ℕ) × (k ≤ length bytes.now) × Appends (held W.contents out.old) (held W.contents out.new) (take k bytes.now)) }
+    ensures fails { OnErr result (failures_of out.new ≡ one_more (failures_of out.old)) }
+{
+    let mut at = 0;
+    while at < bytes.len() {
+        match out.write(&bytes[at..]) {
+            Ok(0) | Err(_) => return Err(WriteFailed),
+            Ok(n) => at += n,
+        }
+    }
+    Ok(())
+}

@@ -1,0 +1,86 @@
+// What is asked of parameters that have been read.
+
+ghost use Rattle.std.specs.Prelude.{◌≡◌};
+ghost use Rattle.pfs_conf_filters.specs.Sides.{source_of, destination_of, gives_ports, lacks_proto, repeats, repeats_policy};
+
+use crate::phrases::{Hosts, Parameters, Verb};
+use pfs_conf_rules::{Host, Side, TableName};
+use pfs_conf_tokens::Key;
+
+const ANY: Side<TableName> = Side {
+    host: Host::Any,
+    ports: None,
+};
+
+impl Hosts {
+    /// The side behind `from`: any host at any port where it is not given.
+    pub fn source(&self) -> Side<TableName>
+        ensures { result ≡ source_of self.now }
+    {
+        self.from.unwrap_or(ANY)
+    }
+
+    /// The side behind `to`: any host at any port where it is not given.
+    pub fn destination(&self) -> Side<TableName>
+        ensures { result ≡ destination_of self.now }
+    {
+        self.to.unwrap_or(ANY)
+    }
+
+    fn give_ports(&self) -> bool
+        ensures { result ≡ gives_ports self.now }
+    {
+        self.source().ports.is_some() || self.destination().ports.is_some()
+    }
+}
+
+impl Parameters {
+    /// Whether a port is given without `proto tcp` or `proto udp`, by name or by number, in the same statement: nothing
+    /// is taken over from an anchor around it. (pf.conf(5), PARAMETERS, "port")
+    pub fn lack_proto(&self) -> bool
+        ensures { result ≡ lacks_proto self.now }
+    {
+        let has_ports = match self.head.proto {
+            Some(proto) => proto.has_ports(),
+            None => false,
+        };
+        self.hosts.give_ports() && !has_ports
+    }
+
+    /// Whether this word begins a part that these parameters have already, so that it is told as a repeated one where no
+    /// statement goes on with it: `in` and `out` begin one part, and `port` repeats the ports of either side.
+    /// (own to this profile)
+    pub fn have(&self, key: Key) -> bool
+        ensures { result ≡ repeats self.now key }
+    {
+        match key {
+            Key::In | Key::Out => self.head.dir.is_some(),
+            Key::Log => self.head.marks.log,
+            Key::Quick => self.head.marks.quick,
+            Key::On => self.head.on.is_some(),
+            Key::Inet => self.head.family.is_some(),
+            Key::Proto => self.head.proto.is_some(),
+            Key::All => self.hosts.all,
+            Key::From => self.hosts.from.is_some(),
+            Key::To => self.hosts.to.is_some(),
+            Key::Port => self.hosts.give_ports(),
+            _ => false,
+        }
+    }
+}
+
+impl Verb {
+    /// Whether this word says once more how packets are blocked: `drop` or one of `return`, `return-rst`, `return-icmp`
+    /// and `return-icmp6` where one of them stands already. (own to this profile)
+    pub fn has(self, key: Key) -> bool
+        ensures { result ≡ repeats_policy self key }
+    {
+        match (self, key) {
+            (
+                Verb::Block { has_policy },
+                Key::Drop | Key::Return | Key::ReturnRst | Key::ReturnIcmp | Key::ReturnIcmp6,
+            ) => has_policy,
+            _ => false,
+        }
+    }
+}

@@ -1,0 +1,219 @@
+-- Words that begin with a number, as prefixes, ports, rates and protocols are: their bytes and keys, and what they are read as.
+use Rattle.std.proofs.Common.{◌≡◌, ◌≢◌, ◌≤◌, ◌<◌, ◌^◌, ◌+◌, ℕ, Bool, true, false, List, [], ◌∷◌, ◌++◌, length, get_or, Option, Some, None, inl, inr, refl, sym, ap, ◌∙◌, arith, append-nil, append_assoc}
+use Rattle.std.specs.Prelude.{◌⊎◌, codes, decimal, ◌==◌, not, nat_lt, nat_le, if◌then◌else◌}
+use Rattle.std.specs.List.{list_all, prefix_len}
+use Rattle.std.specs.Str.{bytes_eq}
+use Rattle.std.proofs.lemmas.Bool.{and_from, and_parts, cond-true, cond-false, ne_eqb, eqb-true, and_left, le-leb, lt-ltb, le-ltb}
+use Rattle.std.proofs.lemmas.Bool.Decides.{nat_tests}
+use Rattle.std.proofs.lemmas.List.Elements.{All-get_or}
+use Rattle.pfs_conf_tokens.specs.declared.keys.Key.TheVariants as key
+use Rattle.pfs_conf_tokens.specs.Lexis.{is_word_byte}
+use Rattle.pfs_conf_tokens.specs.Numbers.{parts_at, split_around}
+use Rattle.pfs_conf_tokens.specs.Words.{key_of}
+use Rattle.pfs_conf_tokens.proofs.ShownLaws.{decimal_text, is_word_text, key_of-decimal, number_of-decimal, split_around-append}
+use Rattle.pfs_addr.specs.Addresses.{IsAddr, addr_text, width_of}
+use Rattle.pfs_addr.specs.Numbers.{is_digit}
+use Rattle.pfs_addr.specs.Prefixes.{IsNetwork, Network}
+use Rattle.pfs_addr.specs.Protocols.{proto_in, proto_numbered, proto_of}
+use Rattle.pfs_addr.specs.Texts.{prefix_of}
+use Rattle.pfs_addr.specs.declared.addresses.Addr.{Addr}
+use Rattle.pfs_addr.specs.declared.addresses.Addr.TheVariants.{V4}
+use Rattle.pfs_addr.specs.declared.protocols.Proto.{Proto}
+use Rattle.pfs_addr.specs.declared.protocols.Proto.TheVariants as proto
+use Rattle.pfs_addr.proofs.NumberLaws.{decimal_digits, number_of-decimal as addr_number_of-decimal}
+use Rattle.pfs_addr.proofs.PieceLaws.{prefix_of-text}
+use Rattle.pfs_conf_rules.specs.LoadRules.{ArePorts}
+use Rattle.pfs_conf_rules.specs.declared.filters.Ports.{Ports}
+use Rattle.pfs_conf_filters.specs.Values.{one_port, port_by, port_of, port_numbered, port_range, ports_around, ports_of}
+use Rattle.pfs_conf_show.specs.Filters.{range_text}
+use Rattle.pfs_conf_show.specs.Pieces.{bits_text, prefix_text}
+use Rattle.pfs_conf_round_trip.proofs.Pieces.{all-append, decimal_all, text-append}
+
+-- ---- digits and other bytes
+
+-- digits are no bytes past them
+pub digits_avoid : (c : ℕ) (ds : List ℕ) → 57 < c → list_all is_digit ds ≡ true → list_all (λ b. not (b == c)) ds ≡ true
+digits_avoid c [] lt h = refl
+digits_avoid c (d ∷ ds) lt h =
+    let p = and_parts (is_digit d) (list_all is_digit ds) h in
+    let one : not (d == c) ≡ true = grind (arith, nat_tests) in
+    and_from (not (d == c)) (list_all (λ b. not (b == c)) ds) one (digits_avoid c ds lt p.1)
+
+-- bytes among which one does not stand are no word that begins with it
+pub no_word : (c : ℕ) (v w : List ℕ) → list_all (λ b. not (b == c)) w ≡ true → bytes_eq w (c ∷ v) ≡ false
+no_word c v [] h = refl
+no_word c v (b ∷ w) h =
+    let p = and_parts (not (b == c)) (list_all (λ x. not (x == c)) w) h in
+    and_left (b == c) (bytes_eq w v) (is_false (b == c) p.0)
+  where
+    is_false : (x : Bool) → not x ≡ true → x ≡ false
+    is_false true e = absurd (cc e)
+    is_false false e = refl
+
+decimal_no_word : (c : ℕ) (v : List ℕ) (n : ℕ) → 57 < c → n < 2 ^ 64 → bytes_eq (decimal n) (c ∷ v) ≡ false
+decimal_no_word c v n lt h = no_word c v (decimal n) (digits_avoid c (decimal n) lt (decimal_digits n h))
+
+prefix_whole : (p : ℕ → Bool) (w : List ℕ) → list_all p w ≡ true → prefix_len p w ≡ length w
+prefix_whole p [] h = refl
+prefix_whole p (b ∷ w) h =
+    let q = and_parts (p b) (list_all p w) h in
+    let rest = prefix_whole p w q.1 in
+    cond-true (p b) (1 + prefix_len p w) 0 q.0 ∙ omega (arith, rest)
+
+-- a word is not split at a byte that does not stand in it
+pub split_around-none : (byte : ℕ) (w : List ℕ) → list_all (λ b. not (b == byte)) w ≡ true → split_around byte w ≡ None
+unfolding split_around
+split_around-none byte w h =
+    let whole : prefix_len (λ b. not (b == byte)) w ≡ length w = prefix_whole (λ b. not (b == byte)) w h in
+    ap (parts_at w) (cond-false (nat_lt (prefix_len (λ b. not (b == byte)) w) (length w)) _ _ (le-ltb (prefix_len (λ b. not (b == byte)) w) (length w) (omega (arith, whole))))
+
+pub key_of_number : (n : ℕ) → n < 2 ^ 64 → key_of (decimal n) ≡ key.Number
+key_of_number n h = ap key_of (sym (append-nil (decimal n))) ∙ key_of-decimal n [] h
+
+-- ---- prefixes
+
+bits_all : (p : Network) → p.bits < 2 ^ 64 → list_all is_word_byte (bits_text p) ≡ true
+bits_all p h = go (p.bits == width_of p.addr)
+  where
+    go : (b : Bool) → list_all is_word_byte (if b then [] else codes "/" ++ decimal p.bits) ≡ true
+    go true = refl
+    go false = decimal_all p.bits h
+
+-- the text of an address: a word that begins with a number
+record IsNumbered (w : List ℕ) : Type 0 where
+  number : ℕ
+  behind : List ℕ
+  small : number < 2 ^ 64
+  spelled : w ≡ decimal number ++ behind
+  bytes : list_all is_word_byte behind ≡ true
+
+dot_all : (w : List ℕ) → list_all is_word_byte w ≡ true → list_all is_word_byte (46 ∷ w) ≡ true
+dot_all w h = h
+
+addr_numbered : (a : Addr) → IsAddr a → IsNumbered (addr_text a)
+addr_numbered (V4 (a ∷ b ∷ c ∷ d ∷ [])) h =
+    let at : (i : ℕ) → i < 4 → get_or (a ∷ b ∷ c ∷ d ∷ []) i 0 < 256 = λ i lt. All-get_or (λ x. x < 256) (a ∷ b ∷ c ∷ d ∷ []) i 0 lt h.1 in
+    let wide : (n : ℕ) → n < 256 → n < 2 ^ 64 = λ n lt. omega arith in
+    record {
+      number = a;
+      behind = 46 ∷ (decimal b ++ 46 ∷ (decimal c ++ 46 ∷ decimal d));
+      small = wide a (at 0 (omega arith));
+      spelled = refl;
+      bytes = all-append is_word_byte (decimal b) (46 ∷ (decimal c ++ 46 ∷ decimal d)) (decimal_all b (wide b (at 1 (omega arith))))
+          (dot_all (decimal c ++ 46 ∷ decimal d) (all-append is_word_byte (decimal c) (46 ∷ decimal d) (decimal_all c (wide c (at 2 (omega arith))))
+          (dot_all (decimal d) (decimal_all d (wide d (at 3 (omega arith)))))));
+    }
+addr_numbered (V4 _) h = absurd (omega arith)
+
+-- what begins with a number is a word with the key of numbers
+numbered_text : (w v : List ℕ) → IsNumbered w → list_all is_word_byte v ≡ true → is_word_text (w ++ v) ≡ true
+numbered_text w v h g =
+    ap (λ (z : List ℕ). is_word_text (z ++ v)) h.spelled
+    ∙ (ap is_word_text (append_assoc (decimal h.number) h.behind v)
+    ∙ text-append (decimal h.number) (h.behind ++ v) (decimal_text h.number h.small) (all-append is_word_byte h.behind v h.bytes g))
+
+numbered_key : (w v : List ℕ) → IsNumbered w → key_of (w ++ v) ≡ key.Number
+numbered_key w v h =
+    ap (λ (z : List ℕ). key_of (z ++ v)) h.spelled
+    ∙ (ap key_of (append_assoc (decimal h.number) h.behind v) ∙ key_of-decimal h.number (h.behind ++ v) h.small)
+
+bits_small : (a : Addr) (n : ℕ) → n ≤ width_of a → n < 2 ^ 64
+bits_small (V4 bytes) n h = omega arith
+
+pub prefix_word : (p : Network) → IsNetwork p → is_word_text (prefix_text p) ≡ true
+prefix_word p h = numbered_text (addr_text p.addr) (bits_text p) (addr_numbered p.addr h.addr) (bits_all p (bits_small p.addr p.bits h.short))
+
+pub prefix_key : (p : Network) → IsNetwork p → key_of (prefix_text p) ≡ key.Number
+prefix_key p h = numbered_key (addr_text p.addr) (bits_text p) (addr_numbered p.addr h.addr)
+
+-- the text of a prefix is read as that prefix
+pub prefix_again : (p : Network) → IsNetwork p → prefix_of (prefix_text p) ≡ Some p
+prefix_again p h = prefix_of-text (prefix_text p) p (record {
+  addr = p.addr;
+  is_addr = h.addr;
+  short = h.short;
+  of = sym (ap (λ (a : Addr). network_at a p.bits) h.zeros);
+  spelled = go (p.bits == width_of p.addr) refl;
+})
+  where
+    network_at : Addr → ℕ → Network
+    network_at a n = record { addr = a; bits = n }
+
+    go : (b : Bool) → (p.bits == width_of p.addr) ≡ b → ((prefix_text p ≡ addr_text p.addr) × (p.bits ≡ width_of p.addr)) ⊎ (prefix_text p ≡ addr_text p.addr ++ 47 ∷ decimal p.bits)
+    go true e = inl (ap (λ (z : Bool). addr_text p.addr ++ (if z then [] else codes "/" ++ decimal p.bits)) e ∙ append-nil (addr_text p.addr), eqb-true p.bits (width_of p.addr) e)
+    go false e = inr (ap (λ (z : Bool). addr_text p.addr ++ (if z then [] else codes "/" ++ decimal p.bits)) e)
+
+-- ---- ports
+
+range_all : (p : Ports) → p.high < 2 ^ 64 → list_all is_word_byte (range_text p) ≡ true
+range_all p h = go (p.low == p.high)
+  where
+    go : (b : Bool) → list_all is_word_byte (if b then [] else codes ":" ++ decimal p.high) ≡ true
+    go true = refl
+    go false = decimal_all p.high h
+
+pub ports_word : (p : Ports) → ArePorts p → is_word_text (decimal p.low ++ range_text p) ≡ true
+ports_word p h = text-append (decimal p.low) (range_text p) (decimal_text p.low (omega (arith, h.0, h.1))) (range_all p (omega (arith, h.1)))
+
+port_again : (n : ℕ) → n < 65536 → port_of (decimal n) ≡ Some n
+unfolding port_of
+port_again n h =
+    ap (port_by (decimal n)) (key_of_number n (omega arith))
+    ∙ (ap port_numbered (number_of-decimal n (omega arith)) ∙ cond-true (nat_lt n 65536) (Some n) None (lt-ltb n 65536 h))
+
+-- the text of ports is read as those ports
+pub ports_again : (p : Ports) → ArePorts p → ports_of (decimal p.low ++ range_text p) ≡ Some p
+unfolding ports_of
+ports_again p h = go (p.low == p.high) refl
+  where
+    low : p.low < 65536
+    low = omega (arith, h.0, h.1)
+
+    avoids : list_all (λ b. not (b == 58)) (decimal p.low) ≡ true
+    avoids = digits_avoid 58 (decimal p.low) (omega arith) (decimal_digits p.low (omega (arith, low)))
+
+    same : p.low ≡ p.high → ◌≡◌ {A = Ports} (record { low = p.low; high = p.low }) p
+    same e = ap (λ (n : ℕ). record { low = p.low; high = n }) e
+
+    one : p.low ≡ p.high → ports_around (decimal p.low) (split_around 58 (decimal p.low)) ≡ Some p
+    one e =
+        ap (ports_around (decimal p.low)) (split_around-none 58 (decimal p.low) avoids)
+        ∙ (ap one_port (port_again p.low low) ∙ ap (λ (x : Ports). Some x) (same e))
+
+    two : ports_around (decimal p.low ++ 58 ∷ decimal p.high) (split_around 58 (decimal p.low ++ 58 ∷ decimal p.high)) ≡ Some p
+    two =
+        ap (ports_around (decimal p.low ++ 58 ∷ decimal p.high)) (split_around-append 58 (decimal p.low) (decimal p.high) avoids)
+        ∙ (ap (λ (o : Option ℕ). port_range o (port_of (decimal p.high))) (port_again p.low low)
+        ∙ (ap (port_range (Some p.low)) (port_again p.high h.1)
+        ∙ cond-true (nat_le p.low p.high) _ None (le-leb p.low p.high h.0)))
+
+    go : (b : Bool) → (p.low == p.high) ≡ b
+        → ports_around (decimal p.low ++ (if b then [] else codes ":" ++ decimal p.high)) (split_around 58 (decimal p.low ++ (if b then [] else codes ":" ++ decimal p.high))) ≡ Some p
+    go true e = ap (λ (z : List ℕ). ports_around z (split_around 58 z)) (append-nil (decimal p.low)) ∙ one (eqb-true p.low p.high e)
+    go false e = two
+
+-- ---- protocols
+
+number_proto : (n : ℕ) → n ≢ 6 → n ≢ 17 → proto_of n ≡ proto.Other n
+number_proto n six seventeen = cond-false (n == 6) _ _ (ne_eqb n 6 six) ∙ cond-false (n == 17) _ _ (ne_eqb n 17 seventeen)
+
+-- the number of a protocol is read as that protocol
+pub proto_again : (n : ℕ) → n < 256 → n ≢ 6 → n ≢ 17 → proto_in (decimal n) ≡ Some (proto.Other n)
+unfolding proto_in
+proto_again n h six seventeen =
+    let wide : n < 2 ^ 64 = omega arith in
+    let no : (c : ℕ) (v : List ℕ) → 57 < c → bytes_eq (decimal n) (c ∷ v) ≡ false = λ c v lt. decimal_no_word c v n lt wide in
+    cond-false (bytes_eq (decimal n) (codes "tcp")) _ _ (no 116 (codes "cp") (omega arith))
+    ∙ (cond-false (bytes_eq (decimal n) (codes "udp")) _ _ (no 117 (codes "dp") (omega arith))
+    ∙ (cond-false (bytes_eq (decimal n) (codes "icmp")) _ _ (no 105 (codes "cmp") (omega arith))
+    ∙ (cond-false (bytes_eq (decimal n) (codes "icmp6")) _ _ (no 105 (codes "cmp6") (omega arith))
+    ∙ (cond-false (bytes_eq (decimal n) (codes "esp")) _ _ (no 101 (codes "sp") (omega arith))
+    ∙ (cond-false (bytes_eq (decimal n) (codes "ah")) _ _ (no 97 (codes "h") (omega arith))
+    ∙ (cond-false (bytes_eq (decimal n) (codes "gre")) _ _ (no 103 (codes "re") (omega arith))
+    ∙ (ap proto_numbered (addr_number_of-decimal n (omega arith))
+    ∙ (cond-true (nat_lt n 256) (Some (proto_of n)) None (lt-ltb n 256 h)
+    ∙ ap (λ (x : Proto). Some x) (number_proto n six seventeen)))))))))
+
+pub proto_known : (proto_in (codes "tcp") ≡ Some proto.Tcp) × (proto_in (codes "udp") ≡ Some proto.Udp)
+unfolding proto_in
+proto_known = (refl, refl)

@@ -1,0 +1,153 @@
+-- The canonical text of a configuration reads as that configuration.
+use Rattle.std.proofs.Common.{◌≡◌, ◌∙◌, ◌≤◌, ◌+◌, ℕ, Bool, true, false, List, [], ◌∷◌, ◌++◌, length, map, Option, Some, None, refl, sym, ap, subst, arith}
+use Rattle.std.specs.Prelude.{◌||◌, not, nat_lt, position}
+use Rattle.std.specs.List.{flat_map, list_any, position_or_len}
+use Rattle.std.specs.Option.{option_map}
+use Rattle.std.proofs.lemmas.Bool.{cond-true, cond-false, le-ltb}
+use Rattle.std.proofs.lemmas.Bool.Decides.{nat_tests}
+use Rattle.pfs_conf_tokens.specs.declared.refusals.LoadRule.TheVariants as load_rule
+use Rattle.pfs_conf_tokens.specs.Lexis.{tokens, tokens_of}
+use Rattle.pfs_conf_tokens.specs.Tokens.{Tok}
+use Rattle.pfs_conf_rules.specs.Configs.{Conf, IsConfig, conf_of, entries_in, is_adaptive, overloads_const, timeout_of}
+use Rattle.pfs_conf_rules.specs.Drafts.{Drafted, const_overload, empty_draft, finished, has_broken_pair, has_too_many_entries, has_too_many_tables}
+use Rattle.pfs_conf_rules.specs.Timeouts.{resolved_timeouts, timeout_names}
+use Rattle.pfs_conf_rules.specs.declared.items.Item.{Item}
+use Rattle.pfs_conf_rules.specs.declared.timeouts.TimeoutName.{TimeoutName}
+use Rattle.pfs_conf_rules.specs.declared.timeouts.TimeoutName.TheVariants as name
+use Rattle.pfs_conf_settings.specs.Settings.{greatest_value, least_value}
+use Rattle.pfs_conf.specs.Grammar.{StatementOf, set}
+use Rattle.pfs_conf.specs.Reads.{Reads}
+use Rattle.pfs_conf.specs.Statements.{at_no_line, first_broken, nothing, text_breaks, text_breaks_by}
+use Rattle.pfs_conf.specs.declared.progress.Progress.{Progress}
+use Rattle.pfs_conf.proofs.LoadLaws.{one_text}
+use Rattle.pfs_conf_show.specs.Settings.{timeouts_text}
+use Rattle.pfs_conf_show.specs.Tables.{table_text}
+use Rattle.pfs_conf_show.specs.Texts.{items_text, text_of}
+use Rattle.pfs_conf_round_trip.specs.Again.{CanBeSaid}
+use Rattle.pfs_conf_round_trip.proofs.Numbering.{drafted}
+use Rattle.pfs_conf_round_trip.proofs.SettingPhrases.{AreGiven, SettingLine, limits_line, set_all, timeouts_line, value_in}
+use Rattle.pfs_conf_round_trip.proofs.Statements.{Ends, EndsFrom, items_read, reached, stated, tables_read}
+
+-- ---- timeouts
+
+-- a pair of adaptive values is in order
+in_order : (start end : ℕ) → is_adaptive start end ≡ true → start ≤ end
+in_order start end h = grind (arith, nat_tests)
+
+least_given : (conf : Conf) → IsConfig conf → (n : TimeoutName) → least_value n ≤ value_in conf.timeouts n
+least_given conf h name.Interval = h.interval
+least_given conf h _ = omega arith
+
+greatest_given : (conf : Conf) → IsConfig conf → timeout_of conf name.AdaptiveEnd ≤ 4294967295 → (n : TimeoutName) → value_in conf.timeouts n ≤ greatest_value n
+greatest_given conf h end name.AdaptiveStart =
+    let order = in_order (timeout_of conf name.AdaptiveStart) (timeout_of conf name.AdaptiveEnd) h.adaptive in
+    omega (arith, order, end)
+greatest_given conf h end name.AdaptiveEnd = end
+greatest_given conf h end name.TcpFirst = h.seconds name.TcpFirst refl
+greatest_given conf h end name.TcpOpening = h.seconds name.TcpOpening refl
+greatest_given conf h end name.TcpEstablished = h.seconds name.TcpEstablished refl
+greatest_given conf h end name.TcpClosing = h.seconds name.TcpClosing refl
+greatest_given conf h end name.TcpFinwait = h.seconds name.TcpFinwait refl
+greatest_given conf h end name.TcpClosed = h.seconds name.TcpClosed refl
+greatest_given conf h end name.UdpFirst = h.seconds name.UdpFirst refl
+greatest_given conf h end name.UdpSingle = h.seconds name.UdpSingle refl
+greatest_given conf h end name.UdpMultiple = h.seconds name.UdpMultiple refl
+greatest_given conf h end name.OtherFirst = h.seconds name.OtherFirst refl
+greatest_given conf h end name.OtherSingle = h.seconds name.OtherSingle refl
+greatest_given conf h end name.OtherMultiple = h.seconds name.OtherMultiple refl
+greatest_given conf h end name.SrcTrack = h.seconds name.SrcTrack refl
+greatest_given conf h end name.Interval = h.seconds name.Interval refl
+
+are_given : (conf : Conf) → IsConfig conf → timeout_of conf name.AdaptiveEnd ≤ 4294967295 → AreGiven (value_in conf.timeouts)
+are_given conf h end = record { low = least_given conf h; high = greatest_given conf h end }
+
+-- all timeouts are set
+abbrev all_set : List ℕ → List (Option ℕ)
+all_set ts = map (λ (n : TimeoutName). Some (value_in ts n)) timeout_names
+
+-- what is set stays
+timeouts_again : (states : ℕ) (ts : List ℕ) → length ts ≡ 16 → resolved_timeouts states (all_set ts) ≡ ts
+timeouts_again states (t0 ∷ t1 ∷ t2 ∷ t3 ∷ t4 ∷ t5 ∷ t6 ∷ t7 ∷ t8 ∷ t9 ∷ t10 ∷ t11 ∷ t12 ∷ t13 ∷ t14 ∷ t15 ∷ []) h = refl
+timeouts_again states _ h = absurd (omega arith)
+
+-- ---- the load rules of the text as a whole
+
+none_found : (p : Item → Bool) (items : List Item) → list_any p items ≡ false → position_or_len p items ≡ length items
+none_found p [] h = refl
+none_found p (i ∷ items) h = go (p i) refl (none_found p items)
+  where
+    go : (b : Bool) → p i ≡ b → (list_any p items ≡ false → position_or_len p items ≡ length items) → position_or_len p (i ∷ items) ≡ length (i ∷ items)
+    go true e rest = absurd (let some = sym (ap (λ (b : Bool). b || list_any p items) e) ∙ h in cc)
+    go false e rest =
+        let at = rest (sym (ap (λ (b : Bool). b || list_any p items) e) ∙ h) in
+        cond-true (not (p i)) (1 + position_or_len p items) 0 (ap not e) ∙ omega (arith, at)
+
+no_position : (p : Item → Bool) (items : List Item) → list_any p items ≡ false → position p items ≡ None
+no_position p items h =
+    let at = none_found p items h in
+    cond-false (nat_lt (position_or_len p items) (length items)) _ _ (le-ltb (position_or_len p items) (length items) (omega (arith, at)))
+
+none_of_texts : (a b c : Bool) → a ≡ false → b ≡ false → c ≡ false
+    → option_map at_no_line (first_broken ((load_rule.AdaptivePair, a) ∷ (load_rule.TooManyTables, b) ∷ (load_rule.TooManyEntries, c) ∷ [])) ≡ None
+none_of_texts a b c h i j = rw (h, i, j) refl
+
+text_kept : (p : Progress) (d : Drafted) → p.draft ≡ d → const_overload d ≡ None → has_broken_pair d ≡ false → has_too_many_tables d ≡ false → has_too_many_entries d ≡ false
+    → text_breaks p ≡ None
+text_kept p d e overload pair tables entries =
+    ap (text_breaks_by p) (ap const_overload e ∙ overload)
+    ∙ none_of_texts _ _ _ (ap has_broken_pair e ∙ pair) (ap has_too_many_tables e ∙ tables) (ap has_too_many_entries e ∙ entries)
+
+-- ---- the text
+
+-- what the text says
+abbrev whole : Conf → Drafted
+whole conf = drafted conf.limits (all_set conf.timeouts) conf.tables conf.items
+
+-- what it says is the configuration
+whole_again : (conf : Conf) → IsConfig conf → finished (whole conf) ≡ conf
+whole_again conf h = ap (λ (ts : List ℕ). conf_of conf.limits ts conf.tables conf.items) (timeouts_again conf.limits.states conf.timeouts h.size)
+
+setting_read : (d e : Drafted) (lines : List ℕ) (ts left : List Tok) → SettingLine d ts e left → StatementOf (reached d 0 lines) ts (reached e 0 lines) left
+setting_read d e lines ts left s = set refl s.set s.setting s.ended
+
+-- behind `set limit`
+abbrev limited : Conf → Drafted
+limited conf = record empty_draft { limits = conf.limits }
+
+settings_set : (conf : Conf) → set_all timeout_names (value_in conf.timeouts) (limited conf) ≡ drafted conf.limits (all_set conf.timeouts) [] []
+settings_set conf = refl
+
+text_ends : (conf : Conf) → IsConfig conf → timeout_of conf name.AdaptiveEnd ≤ 4294967295 → Ends (whole conf) nothing (tokens_of (text_of conf))
+text_ends conf h end =
+    let items = items_text conf.tables 0 conf.items in
+    let tables = flat_map table_text conf.tables ++ items in
+    let timeouts = timeouts_text conf.timeouts ++ tables in
+    let d = drafted conf.limits (all_set conf.timeouts) [] [] in
+    let read : EndsFrom (whole conf) d 0 tables =
+    tables_read (whole conf) conf.limits (all_set conf.timeouts) [] conf.tables items h.tables h.names
+    (items_read conf.limits (all_set conf.timeouts) conf.tables [] conf.items 0 h.tables h.names h.items h.few_items h.preorder h.anchors) in
+    let E : Drafted → Type 0 = λ z. Ends (whole conf) (reached z 0 []) (tokens 0 false 3 tables) in
+    stated (setting_read empty_draft (limited conf) [] _ _ (limits_line empty_draft conf.limits 1 timeouts h.limits))
+    (stated (setting_read (limited conf) (set_all timeout_names (value_in conf.timeouts) (limited conf)) [] _ _ (timeouts_line (limited conf) conf.timeouts 2 tables (are_given conf h end)))
+    (subst E (sym (settings_set conf)) (read 3 [])))
+
+-- the text of a configuration reads as it
+pub text_again : (conf : Conf) → IsConfig conf → CanBeSaid conf → Reads (text_of conf) conf
+text_again conf h said =
+    let e = text_ends conf h said.end in
+    record {
+      short = said.short;
+      whole = record {
+        said = e.said;
+        left = e.left;
+        statements = e.statements;
+        all_closed = e.all_closed;
+        keeps = text_kept e.said (whole conf) e.says (no_position (overloads_const conf.tables) conf.items h.overloads) (ap not h.adaptive)
+            (le-ltb conf.limits.tables (length conf.tables) h.few_tables) (le-ltb conf.limits.table_entries (entries_in conf.tables) h.few_entries);
+        says = ap finished e.says ∙ whole_again conf h;
+      };
+    }
+
+-- and as no other
+pub text_alone : (conf : Conf) → IsConfig conf → (other : Conf) → CanBeSaid conf → Reads (text_of conf) other → other ≡ conf
+text_alone conf h other said reads = one_text other conf reads.whole (text_again conf h said).whole

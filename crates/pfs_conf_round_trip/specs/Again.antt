@@ -1,0 +1,12 @@
+-- Which configurations a rules text can say as they are shown. (own)
+use Rattle.std.specs.Prelude.{◌≤◌, length}
+use Rattle.pfs_conf_rules.specs.Configs.{Conf, timeout_of}
+use Rattle.pfs_conf_rules.specs.declared.timeouts.TimeoutName.TheVariants.{AdaptiveEnd}
+use Rattle.pfs_conf.specs.Reads.{most_bytes}
+use Rattle.pfs_conf_show.specs.Texts.{text_of}
+
+-- the canonical text is no longer than a rules text may be, and its `adaptive.end` is a value that can be given: twelve tenths
+-- of a large limit on states can pass that, and many short entries can pass the length
+pub record CanBeSaid (conf : Conf) : Type 0 where
+  pub short : length (text_of conf) ≤ most_bytes
+  pub end : timeout_of conf AdaptiveEnd ≤ 4294967295

@@ -1,0 +1,142 @@
+// Texts that are shown, and loaded again.
+
+use pfs_conf::{Config, LimitName, TableNo, TimeoutName, load};
+use pfs_conf_show::show;
+use std::process::Abort;
+use std::test::Fail;
+
+const LIMITS: [LimitName; 4] = [
+    LimitName::States,
+    LimitName::SrcNodes,
+    LimitName::Tables,
+    LimitName::TableEntries,
+];
+
+const TIMEOUTS: [TimeoutName; 16] = [
+    TimeoutName::TcpFirst,
+    TimeoutName::TcpOpening,
+    TimeoutName::TcpEstablished,
+    TimeoutName::TcpClosing,
+    TimeoutName::TcpFinwait,
+    TimeoutName::TcpClosed,
+    TimeoutName::UdpFirst,
+    TimeoutName::UdpSingle,
+    TimeoutName::UdpMultiple,
+    TimeoutName::OtherFirst,
+    TimeoutName::OtherSingle,
+    TimeoutName::OtherMultiple,
+    TimeoutName::SrcTrack,
+    TimeoutName::Interval,
+    TimeoutName::AdaptiveStart,
+    TimeoutName::AdaptiveEnd,
+];
+
+// Each part of a rules text, in usual and in unusual spellings.
+const TEXTS: [&[u8]; 36] = [
+    b"",
+    b"# a comment alone \\\n",
+    b"set limit states 1\nset limit src-nodes 4294967295\nset limit tables 2\nset limit table-entries 3",
+    b"set limit { states 50, src-nodes 7 tables\n6,\ntable-entries 00000005 frags 9 }",
+    b"set timeout { tcp.first 1, tcp.opening 2, tcp.established 3, tcp.closing 4, tcp.finwait 5, tcp.closed 6 }",
+    b"set timeout { udp.first 0 udp.single 2147483647 udp.multiple 9 other.first 10\n other.single 11,\n other.multiple 12\n}",
+    b"set timeout src.track 13\nset timeout interval 1\nset timeout { frag 5, tcp.tsdiff 6, icmp.first 7, icmp.error 8 }",
+    b"set timeout { adaptive.start 0, adaptive.end 4294967295 }",
+    b"set timeout { adaptive.start 0, adaptive.end 0 }\nset limit states 4294967295",
+    b"table <a>\ntable <b> const\ntable <c> persist counters\ntable <d> {\n}",
+    b"table <a> const { 0.0.0.0/0, !10.0.0.0/8 10.1.0.0/16, !10.1.2.0/23\n10.1.2.128/25, ! 10.1.2.3, 10.1.2.4/31 10.1.2.4/32 }",
+    b"table <quick> { 1.2.3.4 1.2.3.4/32, 255.255.255.255, 128.0.0.0/1 }\nblock in from <quick>",
+    b"pass\nblock drop all\nblock return-rst in all\nblock return out\nblock return-icmp6 quick",
+    b"pass in quick\npass out\npass quick inet\nblock on em0\nblock on !em1 inet proto tcp",
+    b"pass on quick\npass on !7\npass in on log proto 17 from any port 0:65535",
+    b"pass log\npass log quick\npass quick log\npass log (all, matches user to em0)\npass quick log (to em-0.1)",
+    b"pass proto tcp\npass proto udp\npass proto icmp\npass proto icmp6\npass proto esp\npass proto ah\npass proto gre",
+    b"pass proto 6\npass proto 017\npass proto 0\npass proto 255\npass proto 1",
+    b"pass proto tcp to port ssh\npass proto tcp from port = smtp:http to any port https\npass proto udp from any port domain to port 5:5",
+    b"pass from 10.0.0.1 to !10.0.0.0/8\npass from !<t> to <u>\npass to <t>\nblock from <v>\ntable <v> const { 1.1.1.1 }",
+    b"table <b> { !5.0.0.0/8 }\npass from <a> to <b>\ntable <a> { 6.0.0.0/7 }\npass from <c>",
+    b"pass flags any\npass flags S/SA\npass flags /SAFR\npass flags WEUAPRSF/FSRPAUEW\nblock flags A/A\npass no state\npass no state flags /E",
+    b"pass keep state\npass keep state (max 1)\npass keep state (sloppy, floating no-sync)\nblock no state",
+    b"pass keep state (source-track rule, max-src-nodes 3)\npass keep state (source-track global max-src-states 4294967295)\npass keep state (source-track)",
+    b"pass proto tcp keep state (max-src-conn 5)\npass keep state (max-src-states 9, max 8)\npass keep state (max-src-nodes 1 source-track)",
+    b"pass proto tcp keep state (max-src-conn-rate 4294967/2147483647, overload <bad>)\nblock in quick from <bad>",
+    b"pass keep state (max-src-conn 2, overload <x> flush)\npass keep state (max-src-conn 2 overload <y> flush global max-src-conn-rate 3/10)",
+    b"pass keep state (tcp.first 1, tcp.opening 2, tcp.established 3, tcp.closing 4, tcp.finwait 5, tcp.closed 6, udp.first 7, udp.single 8)",
+    b"pass keep state (udp.multiple 1, other.first 0 other.single 2147483647, other.multiple 3, adaptive.start 1, adaptive.end 2)",
+    b"pass keep state (source-track rule, max-src-states 2, src.track 7)\npass keep state (source-track rule src.track 0)",
+    b"anchor {\n}\nanchor {\n}\nanchor \"web\" in quick on em0 inet proto tcp from any to any port 80 flags S/SA {\n}",
+    b"anchor a {\n anchor b {\n  pass\n  anchor a {\n  }\n }\n block\n anchor {\n pass from <t>\n }\n}\npass\nanchor b {\n}",
+    b"anchor \"pass\" out flags any {\n\n# nothing\nblock quick\n}\nanchor \"in\" {\npass no state\n}\nanchor log from <a> to !<b> {\n}",
+    b"anchor {\nanchor {\nanchor {\nanchor {\nanchor {\nanchor {\nanchor {\nanchor {\npass\n}\n}\n}\n}\n}\n}\n}\nblock\n}",
+    b"pass \\\n  in \\\n on em0 # the \"rest\" of it\n\tblock\r\n\n  pass quick # \\\npass out",
+    b"set limit states 50\ntable <bad> { 10.0.0.0/8, !10.9.9.9 }\nblock in quick on !em1 from <bad>\nanchor web in on em0 proto tcp {\npass proto tcp to port www keep state (max 9, max-src-conn-rate 3/10, overload <worse> flush global)\n}",
+];
+
+// Limits and timeouts of two configurations are the same.
+fn same_settings(rt: &impl Abort, one: &Config, other: &Config) {
+    for name in LIMITS {
+        assert_eq!(rt; one.limit(name), other.limit(name));
+    }
+    for name in TIMEOUTS {
+        assert_eq!(rt; one.timeout(name), other.timeout(name));
+    }
+}
+
+// The table of a number is the same in two configurations: its name, whether it is const, and its entries in order.
+fn same_table(rt: &impl Abort, one: &Config, other: &Config, number: u32) {
+    let (Some(a), Some(b)) = (one.table(TableNo(number)), other.table(TableNo(number))) else {
+        assert!(rt; false, "no table {number}");
+        return;
+    };
+    assert!(rt; a.name == b.name, "the name of table {number}");
+    assert_eq!(rt; a.is_const, b.is_const);
+    assert_eq!(rt; a.entries.len(), b.entries.len());
+    for place in 0..a.entries.len() {
+        assert!(rt;
+            a.entries.at(place) == b.entries.at(place),
+            "entry {place} of table {number}"
+        );
+    }
+}
+
+// All that is read of two configurations is the same.
+fn same(rt: &impl Abort, one: &Config, other: &Config) {
+    same_settings(rt, one, other);
+    assert_eq!(rt; one.entry_count(), other.entry_count());
+    assert_eq!(rt; one.table_count(), other.table_count());
+    for number in 0..one.table_count() {
+        same_table(rt, one, other, number);
+    }
+    assert_eq!(rt; one.item_count(), other.item_count());
+    for number in 0..one.item_count() {
+        assert!(rt; one.item(number) == other.item(number), "item {number}");
+    }
+}
+
+#[test]
+fn texts_are_read_again_as_they_are_shown(rt: HostRuntime) -> Result<(), Fail> {
+    let alloc = rt.alloc();
+    for text in TEXTS {
+        let first = load(alloc, text)?;
+        let shown = show(alloc, &first)?;
+        let second = load(alloc, &shown)?;
+        let again = show(alloc, &second)?;
+        assert_eq!(rt; shown.as_slice(), again.as_slice());
+        same(&rt, &first, &second);
+    }
+    Ok(())
+}
+
+#[test]
+fn a_copy_shows_the_same_text(rt: HostRuntime) -> Result<(), Fail> {
+    let alloc = rt.alloc();
+    let text =
+        b"table <a> const { 10.0.0.0/8, !10.1.0.0/16 }\nanchor a {\nblock in from <a>\npass keep state (max 5)\n}";
+    let config = load(alloc, text)?;
+    let copy = config.copy()?;
+    same(&rt, &config, &copy);
+    assert_eq!(rt;
+        show(alloc, &config)?.as_slice(),
+        show(alloc, &copy)?.as_slice()
+    );
+    Ok(())
+}

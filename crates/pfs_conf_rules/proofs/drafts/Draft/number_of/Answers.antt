@@ -1,0 +1,18 @@
+use Rattle.std.proofs.Common.{◌≡◌, ◌<◌, ℕ, length, Ok, Err, IfOk, OnOk}
+use Rattle.std.specs.Prelude.{List, Result}
+use Rattle.pfs_conf_rules.specs.Namings.{Named, naming, number_in}
+use Rattle.pfs_conf_rules.specs.declared.filters.TableNo.{TableNo}
+use Rattle.pfs_conf_rules.proofs.DraftLaws.{IsDraft-with_tables}
+use Rattle.pfs_conf_rules.proofs.NamingLaws.{naming-IsPlaced}
+use Rattle.pfs_conf_rules.proofs.drafts.Draft.number_of.Goals as goal
+
+within : {E : Type 0} (r : Result TableNo E) (name : List ℕ) (old new : Named) → IfOk r (λ t. t.0 ≡ number_in name old.tables) → OnOk r (new ≡ naming name old)
+    → IfOk r (λ t. t.0 < length new.tables)
+within (Ok t) name old new at is = rw (at, is) (naming-IsPlaced name old).within
+within (Err e) name old new at is = is
+
+pub invariant_of-self : goal.invariant_of-self
+invariant_of-self c = IsDraft-with_tables _ c.number_of.new.self c.self.invariant c.number_of.ensures.more
+
+pub returns-clause-within : goal.returns-clause-within
+returns-clause-within c = within c.number_of.result c.args.name c.self.inside.tables c.number_of.new.self c.number_of.ensures.answer c.number_of.ensures.ok

@@ -1,0 +1,40 @@
+use Rattle.std.specs.Prelude.{ℕ, ◌≡◌, ◌==◌, ◌&&◌, ◌++◌, nat_le, Bool, false, Option, Some, None, List, [], ◌∷◌, reverse, take_while}
+use Rattle.std.specs.List.{list_any}
+use Rattle.std.specs.Str.{bytes_eq}
+use Rattle.pfs_conf_rules.specs.declared.items.Item.{Item}
+use Rattle.pfs_conf_rules.specs.declared.items.What.{What}
+use Rattle.pfs_conf_rules.specs.declared.items.What.TheVariants.{Rule, Anchor}
+
+-- the name of an anchor, if it has one
+abbrev pub name_of_item : What → Option (List ℕ)
+name_of_item (Rule r) = None
+name_of_item (Anchor a) = a.name
+
+-- whether a name is given and is this one
+abbrev pub has_name : List ℕ → Option (List ℕ) → Bool
+has_name name None = false
+has_name name (Some given) = bytes_eq given name
+
+-- whether an item is an anchor of this name, directly in a body of this depth
+abbrev pub is_anchor_named : ℕ → List ℕ → Item → Bool
+is_anchor_named depth name i = (i.depth == depth) && has_name name (name_of_item i.what)
+
+-- whether behind these items, in the body of this depth, an anchor of this name stands already: going back as far as the
+-- items are of this depth or deeper
+abbrev pub has_sibling : ℕ → List ℕ → List Item → Bool
+has_sibling depth name before =
+    list_any (is_anchor_named depth name) (take_while (λ (i : Item). nat_le depth i.depth) (reverse before))
+
+-- whether a name, if one is given, stands already in the body of this depth behind these items
+abbrev pub repeats_by : ℕ → Option (List ℕ) → List Item → Bool
+repeats_by depth None before = false
+repeats_by depth (Some name) before = has_sibling depth name before
+
+-- whether an item has a name that another anchor of its body, in front of it, has
+abbrev pub repeats_name : Item → List Item → Bool
+repeats_name i before = repeats_by i.depth (name_of_item i.what) before
+
+-- a name of an anchor is used once in each body. before: the items in front (pf.conf(5), ANCHORS)
+abbrev pub AreNamedOnce : List Item → List Item → Type 0
+AreNamedOnce before [] = Unit {0}
+AreNamedOnce before (i ∷ rest) = (repeats_name i before ≡ false) × AreNamedOnce (before ++ i ∷ []) rest

@@ -1,0 +1,124 @@
+// The tables of a configuration: their names and entries.
+
+ghost use Rattle.std.specs.Prelude.{◌≡◌, ◌<◌, ◌^◌, ◌++◌, [], ◌∷◌, All, IfOk, None, OnOk, OnErr, length, map, slice_get};
+ghost use Rattle.std.specs.List.{IsDistinct};
+ghost use Rattle.pfs_addr.specs.Prefixes.{IsNetwork};
+ghost use Rattle.pfs_conf_rules.specs.Entries.{Entry, same_network, sign_of};
+
+use crate::filters::TableName;
+use indexmap::IndexMap;
+use pfs_addr::{NoMemory, Prefix};
+use std::alloc::Global;
+use std::marker::Model;
+
+/// The entries of a table, in the order in which they stand first: prefixes, no two the same, each with whether a `!`
+/// stands before it.
+///
+/// Clauses see a list of pairs. (pf.conf(5), TABLES)
+#[derive(Debug, Drop)]
+pub struct Entries {
+    map: IndexMap<Prefix, bool>,
+}
+
+impl Model for Entries {
+    ghost use Rattle.std.specs.Prelude.{Bool, List, All};
+    ghost use Rattle.pfs_addr.specs.Prefixes.{Network, IsNetwork};
+
+    ghost Value = { List (Network × Bool) };
+
+    ghost view = { λ e. e.map.entries };
+
+    ghost invariant = { λ e. All (λ (x : Network × Bool). IsNetwork x.0) e.map.entries };
+}
+
+/// A table of a configuration. (pf.conf(5), TABLES)
+#[derive(Debug, Drop)]
+pub struct TableDef {
+    /// Its name.
+    pub name: TableName,
+    /// Whether it is `const`: no source is added to it.
+    pub is_const: bool,
+    /// Its entries. A table that is named and not defined has none.
+    pub entries: Entries,
+}
+
+impl Entries {
+    /// No entries. It takes no memory.
+    pub fn new(alloc: Global) -> Entries
+        ensures { result ≡ [] }
+    {
+        Entries {
+            map: IndexMap::new(alloc),
+        }
+    }
+
+    /// How many there are. It tells that their prefixes are prefixes, no two the same.
+    pub fn len(&self) -> usize
+        ensures value { result ≡ length self.now }
+        ensures small { result < 2 ^ 63 }
+        ensures networks { All (λ (e : Entry). IsNetwork e.0) self.now }
+        ensures distinct { IsDistinct same_network (map (λ (e : Entry). e.0) self.now) }
+    {
+        self.map.len()
+    }
+
+    /// Whether the entry with this prefix is negated, if there is one.
+    pub fn get(&self, prefix: Prefix) -> Option<bool>
+        ensures { result ≡ sign_of self.now prefix }
+    {
+        self.map.get(&prefix).copied()
+    }
+
+    /// The entry at this place, from 0: its prefix, and whether it is negated.
+    pub fn at(&self, place: usize) -> Option<(Prefix, bool)>
+        ensures { result ≡ slice_get self.now place }
+    {
+        let (prefix, negated) = self.map.get_index(place)?;
+        Some((*prefix, *negated))
+    }
+
+    /// Puts an entry behind the others, whose prefix none of them has. `NoMemory` is answered where the memory for it is
+    /// refused, and then they are as before.
+    pub fn add(&mut self, prefix: Prefix, negated: bool) -> Result<(), NoMemory>
+        requires { sign_of self.old prefix ≡ None }
+        ensures ok { OnOk result (self.new ≡ self.old ++ (prefix, negated) ∷ []) }
+        ensures err { OnErr result (self.new ≡ self.old) }
+    {
+        // That its bits past its length are zero is known of every prefix, and told here.
+        let _bits = prefix.bits();
+        self.map.insert(prefix, negated)?;
+        Ok(())
+    }
+
+    /// The same entries in memory of their own. `NoMemory` is answered where that memory is refused.
+    pub fn copy(&self) -> Result<Entries, NoMemory>
+        ensures { IfOk result (λ e. e ≡ self.now) }
+    {
+        let map = self.map.clone()?;
+        Ok(Entries { map })
+    }
+}
+
+impl TableDef {
+    /// The same table in memory of its own. `NoMemory` is answered where that memory is refused.
+    pub fn copy(&self) -> Result<TableDef, NoMemory>
+        ensures { IfOk result (λ t. t ≡ self.now) }
+    {
+        Ok(TableDef {
+            name: self.name,
+            is_const: self.is_const,
+            entries: self.entries.copy()?,
+        })
+    }
+}
+
+/// The same tables in memory of their own. `NoMemory` is answered where that memory is refused.
+pub fn copy_tables(alloc: Global, tables: &[TableDef]) -> Result<Vec<TableDef>, NoMemory>
+    ensures { IfOk result (λ v. v.items ≡ tables.now) }
+{
+    let mut copies = Vec::with_capacity(alloc, tables.len())?;
+    for table in tables {
+        copies.push(table.copy()?)?;
+    }
+    Ok(copies)
+}

@@ -1,0 +1,126 @@
+-- The readers of settings look no further than the token in front of what they leave.
+use Rattle.std.proofs.Common.{◌≡◌, ℕ, Bool, true, false, Option, Some, None, refl}
+use Rattle.pfs_conf_tokens.specs.declared.keys.Key.{Key}
+use Rattle.pfs_conf_tokens.specs.declared.keys.Key.TheVariants as key
+use Rattle.pfs_conf_tokens.specs.Keys.{closes_braces, before_end}
+use Rattle.pfs_conf_tokens.specs.Reading.{chain, done, next_of, skipping, number_at}
+use Rattle.pfs_conf_tokens.proofs.Laws.{Taking, OnlineAct, Online, across, online_done, online_chain, online_taking, online_front, front_shrinks, chain_shrinks, Shrinks, online_across}
+use Rattle.pfs_conf_tokens.proofs.ReaderLaws.{online_list, next_shrinks, online_skipping, skipping_shrinks, online_number}
+use Rattle.pfs_conf_rules.specs.declared.limits.LimitName.{LimitName}
+use Rattle.pfs_conf_rules.specs.declared.limits.LimitName.TheVariants as limit
+use Rattle.pfs_conf_rules.specs.declared.timeouts.TimeoutName.{TimeoutName}
+use Rattle.pfs_conf_rules.specs.Drafts.{Drafted, with_limit, with_timeout}
+use Rattle.pfs_conf_settings.specs.Settings.{timeout_named, value_at, limited, limit_by, limit_at, least_value, greatest_value, unkept, timed, time_by, time_at, lined_limit_at, lined_time_at, limits_by, limits_at, times_by, times_at, settings_by, settings_at}
+
+-- ---- a pair of a name and a number
+
+pub online_value : (lined : Bool) (low high : ℕ) → Online across (value_at lined low high)
+unfolding value_at
+online_value true low high = online_skipping (number_at low high) (online_across (number_at low high) (online_number low high))
+online_value false low high = online_across (number_at low high) (online_number low high)
+
+limited_taking : (lined : Bool) (name : LimitName) (d : Drafted) (k : Key) → before_end k ≡ true → Taking across k (limited lined name d)
+limited_taking lined name d k h = (h, online_chain (value_at lined 1 4294967295) _ (online_value lined 1 4294967295) (λ n. online_done (with_limit name n d)))
+
+limit_taking : (lined : Bool) (d : Drafted) (k : Key) → Taking across k (limit_by lined d k)
+limit_taking lined d key.States = limited_taking lined limit.States d key.States refl
+limit_taking lined d key.SrcNodes = limited_taking lined limit.SrcNodes d key.SrcNodes refl
+limit_taking lined d key.Tables = limited_taking lined limit.Tables d key.Tables refl
+limit_taking lined d key.TableEntries = limited_taking lined limit.TableEntries d key.TableEntries refl
+limit_taking lined d key.Frags = (refl, online_chain (value_at lined 1 4294967295) _ (online_value lined 1 4294967295) (λ n. online_done d))
+limit_taking lined d _ = tt
+
+pub online_limit : (lined : Bool) (d : Drafted) → Online across (limit_at lined d)
+unfolding limit_at
+online_limit lined d = online_taking (λ t. limit_by lined d t.key) (λ t. limit_taking lined d t.key)
+
+limit_shrinks : (lined : Bool) (d : Drafted) → Shrinks (limit_at lined d)
+unfolding limit_at
+limit_shrinks lined d = front_shrinks across (λ t. limit_by lined d t.key) (λ t. limit_taking lined d t.key)
+
+named_before_end : (k : Key) (name : TimeoutName) → timeout_named k ≡ Some name → before_end k ≡ true
+named_before_end key.End name e = absurd cc
+named_before_end _ name e = refl
+
+timed_taking : (lined : Bool) (d : Drafted) (k : Key) (o : Option TimeoutName) → timeout_named k ≡ o → Taking across k (timed lined d o)
+timed_taking lined d k None e = tt
+timed_taking lined d k (Some name) e =
+    (named_before_end k name e, online_chain (value_at lined (least_value name) (greatest_value name)) _ (online_value lined (least_value name) (greatest_value name)) (λ n. online_done (with_timeout name n d)))
+
+unkept_taking : (lined : Bool) (d : Drafted) (k : Key) → before_end k ≡ true → Taking across k (unkept lined d)
+unkept_taking lined d k h = (h, online_chain (value_at lined 0 2147483647) _ (online_value lined 0 2147483647) (λ n. online_done d))
+
+time_taking : (lined : Bool) (d : Drafted) (k : Key) → Taking across k (time_by lined d k)
+time_taking lined d key.Frag = unkept_taking lined d key.Frag refl
+time_taking lined d key.TcpTsdiff = unkept_taking lined d key.TcpTsdiff refl
+time_taking lined d key.IcmpFirst = unkept_taking lined d key.IcmpFirst refl
+time_taking lined d key.IcmpError = unkept_taking lined d key.IcmpError refl
+time_taking lined d k = timed_taking lined d k (timeout_named k) refl
+
+pub online_time : (lined : Bool) (d : Drafted) → Online across (time_at lined d)
+unfolding time_at
+online_time lined d = online_taking (λ t. time_by lined d t.key) (λ t. time_taking lined d t.key)
+
+time_shrinks : (lined : Bool) (d : Drafted) → Shrinks (time_at lined d)
+unfolding time_at
+time_shrinks lined d = front_shrinks across (λ t. time_by lined d t.key) (λ t. time_taking lined d t.key)
+
+-- ---- among line ends
+
+online_behind : (d : Drafted) → Online across (skipping (done d))
+online_behind d = online_skipping (done d) (online_done d)
+
+pub online_lined_limit : (d : Drafted) → Online across (lined_limit_at d)
+unfolding lined_limit_at
+online_lined_limit d = online_skipping (chain (limit_at true d) (λ e. skipping (done e))) (online_chain (limit_at true d) (λ e. skipping (done e)) (online_limit true d) online_behind)
+
+pub lined_limit_shrinks : (d : Drafted) → Shrinks (lined_limit_at d)
+unfolding lined_limit_at
+lined_limit_shrinks d =
+    skipping_shrinks (chain (limit_at true d) (λ e. skipping (done e))) (chain_shrinks across (limit_at true d) (λ e. skipping (done e)) (limit_shrinks true d) online_behind)
+
+pub next_limit_shrinks : (d : Drafted) → Shrinks (next_of lined_limit_at d)
+next_limit_shrinks d = next_shrinks lined_limit_at lined_limit_shrinks d
+
+pub online_lined_time : (d : Drafted) → Online across (lined_time_at d)
+unfolding lined_time_at
+online_lined_time d = online_skipping (chain (time_at true d) (λ e. skipping (done e))) (online_chain (time_at true d) (λ e. skipping (done e)) (online_time true d) online_behind)
+
+pub lined_time_shrinks : (d : Drafted) → Shrinks (lined_time_at d)
+unfolding lined_time_at
+lined_time_shrinks d =
+    skipping_shrinks (chain (time_at true d) (λ e. skipping (done e))) (chain_shrinks across (time_at true d) (λ e. skipping (done e)) (time_shrinks true d) online_behind)
+
+pub next_time_shrinks : (d : Drafted) → Shrinks (next_of lined_time_at d)
+next_time_shrinks d = next_shrinks lined_time_at lined_time_shrinks d
+
+-- ---- whole statements
+
+closing : (k : Key) → closes_braces k ≡ true → before_end k ≡ true
+closing key.CloseBrace e = refl
+closing _ e = absurd cc
+
+limits_act : (d : Drafted) (k : Key) → OnlineAct across k (limits_by d k)
+limits_act d key.OpenBrace = (refl, online_list closes_braces lined_limit_at closing lined_limit_shrinks online_lined_limit d)
+limits_act d _ = online_limit false d
+
+pub online_limits : (d : Drafted) → Online across (limits_at d)
+unfolding limits_at
+online_limits d = online_front (λ t. limits_by d t.key) (λ t. limits_act d t.key)
+
+times_act : (d : Drafted) (k : Key) → OnlineAct across k (times_by d k)
+times_act d key.OpenBrace = (refl, online_list closes_braces lined_time_at closing lined_time_shrinks online_lined_time d)
+times_act d _ = online_time false d
+
+pub online_times : (d : Drafted) → Online across (times_at d)
+unfolding times_at
+online_times d = online_front (λ t. times_by d t.key) (λ t. times_act d t.key)
+
+settings_act : (d : Drafted) (k : Key) → OnlineAct across k (settings_by d k)
+settings_act d key.Limit = (refl, online_limits d)
+settings_act d key.Timeout = (refl, online_times d)
+settings_act d _ = tt
+
+pub online_settings : (d : Drafted) → Online across (settings_at d)
+unfolding settings_at
+online_settings d = online_front (λ t. settings_by d t.key) (λ t. settings_act d t.key)

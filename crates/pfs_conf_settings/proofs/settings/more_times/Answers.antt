@@ -1,0 +1,27 @@
+use Rattle.std.proofs.Common.{sym, ◌∙◌}
+use Rattle.pfs_conf_tokens.specs.Keys.{closes_braces}
+use Rattle.pfs_conf_tokens.specs.Reading.{next_of}
+use Rattle.pfs_conf_tokens.specs.Giving.{refused}
+use Rattle.pfs_conf_tokens.proofs.Laws.{until_goes_on, until_stops, until_fails}
+use Rattle.pfs_conf_settings.specs.Settings.{lined_time_at}
+use Rattle.pfs_conf_settings.proofs.SettingLaws.{next_time_shrinks}
+use Rattle.pfs_conf_settings.proofs.settings.more_times.Goals as goal
+
+pub loop-cursor-preserved : goal.loop-cursor-preserved
+loop-cursor-preserved c =
+    sym (until_goes_on closes_braces (next_of lined_time_at) c.loop-cursor.draft c.next_time.new.draft c.loop-cursor.cursor c.next_time.new.cursor
+    next_time_shrinks (sym c.is_at_close_brace.ensures ∙ c.loop-cursor-test.true) c.in_default.ensures)
+    ∙ c.loop-cursor.invariant
+
+pub loop-cursor-smaller : goal.loop-cursor-smaller
+loop-cursor-smaller c = (next_time_shrinks c.loop-cursor.draft).less c.loop-cursor.cursor c.next_time.new.draft c.next_time.new.cursor c.in_default.ensures
+
+pub returns-in-Err : goal.returns-in-Err
+returns-in-Err c =
+    sym c.loop-cursor.invariant
+    ∙ until_fails closes_braces (next_of lined_time_at) c.loop-cursor.draft c.loop-cursor.cursor (refused c.in-Err.refusal c.next_time.new.cursor) (sym c.is_at_close_brace.ensures ∙ c.loop-cursor-test.true) c.in-Err.ensures
+
+pub returns : goal.returns
+returns c =
+    sym c.loop-cursor.invariant
+    ∙ rw c.advance.ensures (until_stops closes_braces (next_of lined_time_at) c.loop-cursor.draft c.loop-cursor.cursor (sym c.is_at_close_brace.ensures ∙ c.loop-cursor-test.false))

@@ -1,0 +1,112 @@
+-- How the statements that set limits and timeouts are read. Line ends are ignored between any two tokens in braces.
+use Rattle.std.specs.Prelude.{ℕ, Bool, true, false, Option, Some, None}
+use Rattle.pfs_conf_tokens.specs.declared.keys.Key.{Key}
+use Rattle.pfs_conf_tokens.specs.declared.keys.Key.TheVariants as key
+use Rattle.pfs_conf_tokens.specs.declared.refusals.Why.TheVariants as why
+use Rattle.pfs_conf_tokens.specs.Keys.{closes_braces}
+use Rattle.pfs_conf_tokens.specs.Reading.{Reader, Act, take, stay, refuse, on_front, done, chain, list_all, skipping, number_at}
+use Rattle.pfs_conf_rules.specs.declared.limits.LimitName.{LimitName}
+use Rattle.pfs_conf_rules.specs.declared.limits.LimitName.TheVariants as limit
+use Rattle.pfs_conf_rules.specs.declared.timeouts.TimeoutName.{TimeoutName}
+use Rattle.pfs_conf_rules.specs.declared.timeouts.TimeoutName.TheVariants as timeout
+use Rattle.pfs_conf_rules.specs.Drafts.{Drafted, with_limit, with_timeout}
+
+-- the timeout that a key names, if it is one of those that are kept
+abbrev pub timeout_named : Key → Option TimeoutName
+timeout_named key.TcpFirst = Some timeout.TcpFirst
+timeout_named key.TcpOpening = Some timeout.TcpOpening
+timeout_named key.TcpEstablished = Some timeout.TcpEstablished
+timeout_named key.TcpClosing = Some timeout.TcpClosing
+timeout_named key.TcpFinwait = Some timeout.TcpFinwait
+timeout_named key.TcpClosed = Some timeout.TcpClosed
+timeout_named key.UdpFirst = Some timeout.UdpFirst
+timeout_named key.UdpSingle = Some timeout.UdpSingle
+timeout_named key.UdpMultiple = Some timeout.UdpMultiple
+timeout_named key.OtherFirst = Some timeout.OtherFirst
+timeout_named key.OtherSingle = Some timeout.OtherSingle
+timeout_named key.OtherMultiple = Some timeout.OtherMultiple
+timeout_named key.SrcTrack = Some timeout.SrcTrack
+timeout_named key.Interval = Some timeout.Interval
+timeout_named key.AdaptiveStart = Some timeout.AdaptiveStart
+timeout_named key.AdaptiveEnd = Some timeout.AdaptiveEnd
+timeout_named _ = None
+
+-- a number, behind line ends where it stands in braces
+unfoldable pub value_at : Bool → ℕ → ℕ → Reader ℕ
+value_at true low high ts = skipping (number_at low high) ts
+value_at false low high ts = number_at low high ts
+
+-- a limit: a name and a number, 1 to 4294967295; `frags` is not kept
+abbrev pub limited : Bool → LimitName → Drafted → Act Drafted
+limited inside name d = take (chain (value_at inside 1 4294967295) (λ n. done (with_limit name n d)))
+
+abbrev pub limit_by : Bool → Drafted → Key → Act Drafted
+limit_by inside d key.States = limited inside limit.States d
+limit_by inside d key.SrcNodes = limited inside limit.SrcNodes d
+limit_by inside d key.Tables = limited inside limit.Tables d
+limit_by inside d key.TableEntries = limited inside limit.TableEntries d
+limit_by inside d key.Frags = take (chain (value_at inside 1 4294967295) (λ n. done d))
+limit_by inside d _ = refuse why.Plain
+
+unfoldable pub limit_at : Bool → Drafted → Reader Drafted
+limit_at inside d ts = on_front (λ t. limit_by inside d t.key) ts
+
+-- the least and the greatest value of a timeout: `interval` is at least 1, the adaptive ones count states
+abbrev pub least_value : TimeoutName → ℕ
+least_value timeout.Interval = 1
+least_value _ = 0
+
+abbrev pub greatest_value : TimeoutName → ℕ
+greatest_value timeout.AdaptiveStart = 4294967295
+greatest_value timeout.AdaptiveEnd = 4294967295
+greatest_value _ = 2147483647
+
+-- a timeout: a name and a number; those of fragments, of timestamps and of ICMP are not kept
+abbrev pub unkept : Bool → Drafted → Act Drafted
+unkept inside d = take (chain (value_at inside 0 2147483647) (λ n. done d))
+
+abbrev pub timed : Bool → Drafted → Option TimeoutName → Act Drafted
+timed inside d None = refuse why.Plain
+timed inside d (Some name) = take (chain (value_at inside (least_value name) (greatest_value name)) (λ n. done (with_timeout name n d)))
+
+abbrev pub time_by : Bool → Drafted → Key → Act Drafted
+time_by inside d key.Frag = unkept inside d
+time_by inside d key.TcpTsdiff = unkept inside d
+time_by inside d key.IcmpFirst = unkept inside d
+time_by inside d key.IcmpError = unkept inside d
+time_by inside d k = timed inside d (timeout_named k)
+
+unfoldable pub time_at : Bool → Drafted → Reader Drafted
+time_at inside d ts = on_front (λ t. time_by inside d t.key) ts
+
+-- one of them among line ends
+unfoldable pub lined_limit_at : Drafted → Reader Drafted
+lined_limit_at d ts = skipping (chain (limit_at true d) (λ e. skipping (done e))) ts
+
+unfoldable pub lined_time_at : Drafted → Reader Drafted
+lined_time_at d ts = skipping (chain (time_at true d) (λ e. skipping (done e))) ts
+
+-- limits: one, or a list in braces
+abbrev pub limits_by : Drafted → Key → Act Drafted
+limits_by d key.OpenBrace = take (list_all closes_braces lined_limit_at d)
+limits_by d _ = stay (limit_at false d)
+
+unfoldable pub limits_at : Drafted → Reader Drafted
+limits_at d ts = on_front (λ t. limits_by d t.key) ts
+
+-- timeouts: one, or a list in braces
+abbrev pub times_by : Drafted → Key → Act Drafted
+times_by d key.OpenBrace = take (list_all closes_braces lined_time_at d)
+times_by d _ = stay (time_at false d)
+
+unfoldable pub times_at : Drafted → Reader Drafted
+times_at d ts = on_front (λ t. times_by d t.key) ts
+
+-- what stands behind `set`
+abbrev pub settings_by : Drafted → Key → Act Drafted
+settings_by d key.Limit = take (limits_at d)
+settings_by d key.Timeout = take (times_at d)
+settings_by d _ = refuse why.Setting
+
+unfoldable pub settings_at : Drafted → Reader Drafted
+settings_at d ts = on_front (λ t. settings_by d t.key) ts

@@ -1,0 +1,57 @@
+-- The grammar of a table's parts. Line ends are ignored between any two tokens in the braces: a part of the grammar there
+-- stands behind the line ends in front of it. (pf.conf(5), GRAMMAR and TABLES)
+use Rattle.std.specs.Prelude.{◌≡◌, Bool, true, false, Some, None, List, [], ◌∷◌, ◌++◌}
+use Rattle.pfs_conf_tokens.specs.declared.keys.Key.TheVariants as key
+use Rattle.pfs_conf_tokens.specs.Tokens.{Tok}
+use Rattle.pfs_conf_tokens.specs.Keys.{is_word_key}
+use Rattle.pfs_conf_tokens.specs.Grammar.{Word, ListOf, UpTo}
+use Rattle.pfs_conf_tokens.specs.Reading.{skip_lines}
+use Rattle.pfs_addr.specs.Prefixes.{Network}
+use Rattle.pfs_addr.specs.Texts.{prefix_of}
+use Rattle.pfs_conf_rules.specs.Entries.{Entry, sign_of}
+use Rattle.pfs_conf_settings.specs.Tables.{no_parts}
+use Rattle.pfs_conf_settings.specs.declared.tables.Parts.{Parts}
+
+-- a sign: `!`, or none
+pub data SignOf : List Tok → Bool → List Tok → Type 0 where
+  plain : {ts : List Tok} → SignOf ts false ts
+  negated : {ts left : List Tok} → Word key.Not ts left → SignOf ts true left
+
+-- an entry is put behind the others, or stands there already with the same sign
+pub data Enters (entries : List Entry) (negated : Bool) (p : Network) : List Entry → Type 0 where
+  comes : sign_of entries p ≡ None → Enters entries negated p (entries ++ (p, negated) ∷ [])
+  stands : sign_of entries p ≡ Some negated → Enters entries negated p entries
+
+-- the word of a prefix
+pub record PrefixOf (ts : List Tok) (p : Network) (left : List Tok) : Type 0 where
+  pub t : Tok
+  pub front : ts ≡ t ∷ left
+  pub is_word : is_word_key t.key ≡ true
+  pub says : prefix_of t.text ≡ Some p
+
+-- entry := ["!"] PREFIX
+pub record EntryOf (entries : List Entry) (ts : List Tok) (more : List Entry) (left : List Tok) : Type 0 where
+  pub negated : Bool
+  pub p : Network
+  pub a : List Tok
+  pub b : List Tok
+  pub sign : SignOf (skip_lines ts) negated a
+  pub prefix : PrefixOf (skip_lines a) p b
+  pub enters : Enters entries negated p more
+  pub behind : left ≡ skip_lines b
+
+-- [list(entry)] "}"
+pub data EntriesOf : List Tok → List Entry → List Tok → Type 0 where
+  none : {ts left : List Tok} → Word key.CloseBrace (skip_lines ts) left → EntriesOf ts [] left
+  some : {ts left : List Tok} {entries : List Entry} → ListOf key.CloseBrace EntryOf [] (skip_lines ts) entries left → EntriesOf ts entries left
+
+-- part := "persist" | "const" | "counters" | "{" [list(entry)] "}", each at most once
+pub data PartOf : Parts → List Tok → Parts → List Tok → Type 0 where
+  persist : {p : Parts} {ts left : List Tok} → Word key.Persist ts left → p.persist ≡ false → PartOf p ts (record p { persist = true }) left
+  constant : {p : Parts} {ts left : List Tok} → Word key.Const ts left → p.is_const ≡ false → PartOf p ts (record p { is_const = true }) left
+  counters : {p : Parts} {ts left : List Tok} → Word key.Counters ts left → p.counters ≡ false → PartOf p ts (record p { counters = true }) left
+  entries : {p : Parts} {ts mid left : List Tok} {es : List Entry} → Word key.OpenBrace ts mid → p.entries ≡ None → EntriesOf mid es left → PartOf p ts (record p { entries = Some es }) left
+
+-- part*, up to the line end, which stays
+abbrev pub PartsOf : List Tok → Parts → List Tok → Type 0
+PartsOf ts p left = UpTo key.LineEnd PartOf no_parts ts p left

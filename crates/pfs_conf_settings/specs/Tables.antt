@@ -1,0 +1,75 @@
+-- How the parts of a table's definition are read. Line ends are ignored between any two tokens in its braces.
+use Rattle.std.specs.Prelude.{Bool, true, false, Option, Some, None, if◌then◌else◌, List, [], ◌∷◌, ◌++◌}
+use Rattle.pfs_conf_tokens.specs.declared.keys.Key.{Key}
+use Rattle.pfs_conf_tokens.specs.declared.keys.Key.TheVariants as key
+use Rattle.pfs_conf_tokens.specs.declared.refusals.Why.TheVariants as why
+use Rattle.pfs_conf_tokens.specs.Tokens.{Tok}
+use Rattle.pfs_conf_tokens.specs.Keys.{is_word_key, closes_braces, ends_line}
+use Rattle.pfs_conf_tokens.specs.Reading.{Reader, Act, take, stay, refuse, on_front, done, chain, once, list_all, up_to_all, skipping}
+use Rattle.pfs_addr.specs.Prefixes.{Network}
+use Rattle.pfs_addr.specs.Texts.{prefix_of}
+use Rattle.pfs_conf_rules.specs.Entries.{Entry, sign_of}
+use Rattle.pfs_conf_settings.specs.declared.tables.Parts.{Parts}
+
+-- whether a `!` stands in front
+abbrev pub negation_by : Key → Act Bool
+negation_by key.Not = take (done true)
+negation_by _ = stay (done false)
+
+unfoldable pub negation_at : Reader Bool
+negation_at ts = on_front (λ t. negation_by t.key) ts
+
+-- an entry that stands already is held once with the same sign, and is refused with the other
+abbrev pub again : List Entry → Bool → Bool → Act (List Entry)
+again entries true true = take (done entries)
+again entries false false = take (done entries)
+again entries _ _ = refuse why.Again
+
+abbrev pub joined : List Entry → Bool → Network → Option Bool → Act (List Entry)
+joined entries negated p None = take (done (entries ++ (p, negated) ∷ []))
+joined entries negated p (Some held) = again entries negated held
+
+abbrev pub entered : List Entry → Bool → Option Network → Act (List Entry)
+entered entries negated None = refuse why.Host
+entered entries negated (Some p) = joined entries negated p (sign_of entries p)
+
+abbrev pub entry_by : List Entry → Bool → Tok → Act (List Entry)
+entry_by entries negated t = if is_word_key t.key then entered entries negated (prefix_of t.text) else refuse why.Host
+
+unfoldable pub entry_at : List Entry → Bool → Reader (List Entry)
+entry_at entries negated ts = on_front (λ t. entry_by entries negated t) ts
+
+-- an entry among line ends
+unfoldable pub lined_entry_at : List Entry → Reader (List Entry)
+lined_entry_at entries ts = skipping (chain negation_at (λ negated. skipping (chain (entry_at entries negated) (λ more. skipping (done more))))) ts
+
+-- the entries in braces, behind the opening one
+abbrev pub entries_by : Key → Act (List Entry)
+entries_by key.CloseBrace = take (done [])
+entries_by _ = stay (list_all closes_braces lined_entry_at [])
+
+unfoldable pub entries_at : Reader (List Entry)
+entries_at ts = skipping (on_front (λ t. entries_by t.key)) ts
+
+-- a part of a definition, each at most once
+abbrev pub unless : {A : Type 0} → Bool → Act A → Act A
+unless true a = refuse why.Again
+unless false a = a
+
+abbrev pub part_by : Parts → Key → Act Parts
+part_by p key.Persist = unless p.persist (take (done (record p { persist = true })))
+part_by p key.Const = unless p.is_const (take (done (record p { is_const = true })))
+part_by p key.Counters = unless p.counters (take (done (record p { counters = true })))
+part_by p key.OpenBrace = once p.entries (take (chain entries_at (λ entries. done (record p { entries = Some entries }))))
+part_by p _ = refuse why.Plain
+
+unfoldable pub part_at : Parts → Reader Parts
+part_at p ts = on_front (λ t. part_by p t.key) ts
+
+-- no part
+abbrev pub no_parts : Parts
+no_parts = record { persist = false; is_const = false; counters = false; entries = None }
+
+-- the parts up to the line end, which stays
+unfoldable pub parts_at : Reader Parts
+parts_at ts = up_to_all ends_line part_at no_parts ts

@@ -1,0 +1,255 @@
+// What stands behind the word `set`.
+
+ghost use Rattle.std.specs.Prelude.{◌≡◌, ◌≤◌, Some, IfOk};
+ghost use Rattle.pfs_conf_tokens.specs.Keys.{closes_braces};
+ghost use Rattle.pfs_conf_tokens.specs.Reading.{act, number_at, until_all, next_of};
+ghost use Rattle.pfs_conf_tokens.specs.Giving.{Gives};
+ghost use Rattle.pfs_conf_settings.specs.Draws.{Draws};
+ghost use Rattle.pfs_conf_settings.specs.Settings.{timeout_named, value_at, least_value, greatest_value, limited, timed, limit_at, time_at, lined_limit_at, lined_time_at, limits_at, times_at, settings_at};
+
+use pfs_conf_rules::{Draft, LimitName, TimeoutName};
+use pfs_conf_tokens::{Cursor, Key, Refusal, Why, number, skip_lines};
+
+/// Reads what stands behind the word `set`, up to the line end, which stays, and sets it: a later value replaces an
+/// earlier one.
+///
+/// It refuses, with the cursor at that token, what goes on no `set` statement: behind `set` stands `limit` or `timeout`,
+/// and then one pair of a name and a number, or a list of them in braces, in which line ends are ignored. `frags`,
+/// `frag`, `tcp.tsdiff`, `icmp.first` and `icmp.error` are read without effect. Where it refuses, what was read before the
+/// refused token may have been set. It takes no memory. (pf.conf(5), OPTIONS, "set limit" and "set timeout")
+#[tactic(auto, unfolding(crate::specs::Settings::settings_at))]
+pub fn read_settings(cursor: &mut Cursor, draft: &mut Draft) -> Result<(), Refusal>
+    ensures { Draws result cursor.new draft.new (settings_at draft.old cursor.old) }
+{
+    match cursor.key() {
+        Key::Limit => {
+            cursor.advance();
+            limits(cursor, draft)
+        }
+        Key::Timeout => {
+            cursor.advance();
+            times(cursor, draft)
+        }
+        _ => Err(Refusal::Stop(Why::Setting)),
+    }
+}
+
+#[tactic(auto, unfolding(crate::specs::Settings::limits_at))]
+fn limits(cursor: &mut Cursor, draft: &mut Draft) -> Result<(), Refusal>
+    ensures { Draws result cursor.new draft.new (limits_at draft.old cursor.old) }
+{
+    match cursor.key() {
+        Key::OpenBrace => {
+            cursor.advance();
+            lined_limit(cursor, draft)?;
+            more_limits(cursor, draft)
+        }
+        _ => limit(cursor, draft, false),
+    }
+}
+
+#[tactic(auto, unfolding(crate::specs::Settings::times_at))]
+fn times(cursor: &mut Cursor, draft: &mut Draft) -> Result<(), Refusal>
+    ensures { Draws result cursor.new draft.new (times_at draft.old cursor.old) }
+{
+    match cursor.key() {
+        Key::OpenBrace => {
+            cursor.advance();
+            lined_time(cursor, draft)?;
+            more_times(cursor, draft)
+        }
+        _ => time(cursor, draft, false),
+    }
+}
+
+fn more_limits(cursor: &mut Cursor, draft: &mut Draft) -> Result<(), Refusal>
+    ensures { Draws result cursor.new draft.new (until_all closes_braces (next_of lined_limit_at) draft.old cursor.old) }
+{
+    while !cursor.is_at_close_brace() {
+        if let Err(refusal) = next_limit(cursor, draft) {
+            return Err(refusal);
+        }
+    }
+    cursor.advance();
+    Ok(())
+}
+
+fn more_times(cursor: &mut Cursor, draft: &mut Draft) -> Result<(), Refusal>
+    ensures { Draws result cursor.new draft.new (until_all closes_braces (next_of lined_time_at) draft.old cursor.old) }
+{
+    while !cursor.is_at_close_brace() {
+        if let Err(refusal) = next_time(cursor, draft) {
+            return Err(refusal);
+        }
+    }
+    cursor.advance();
+    Ok(())
+}
+
+fn next_limit(cursor: &mut Cursor, draft: &mut Draft) -> Result<(), Refusal>
+    ensures { Draws result cursor.new draft.new (next_of lined_limit_at draft.old cursor.old) }
+{
+    cursor.take(Key::Comma);
+    lined_limit(cursor, draft)
+}
+
+fn next_time(cursor: &mut Cursor, draft: &mut Draft) -> Result<(), Refusal>
+    ensures { Draws result cursor.new draft.new (next_of lined_time_at draft.old cursor.old) }
+{
+    cursor.take(Key::Comma);
+    lined_time(cursor, draft)
+}
+
+/// A limit among line ends.
+#[tactic(auto, unfolding(crate::specs::Settings::lined_limit_at))]
+fn lined_limit(cursor: &mut Cursor, draft: &mut Draft) -> Result<(), Refusal>
+    ensures { Draws result cursor.new draft.new (lined_limit_at draft.old cursor.old) }
+{
+    skip_lines(cursor);
+    limit(cursor, draft, true)?;
+    skip_lines(cursor);
+    Ok(())
+}
+
+/// A timeout among line ends.
+#[tactic(auto, unfolding(crate::specs::Settings::lined_time_at))]
+fn lined_time(cursor: &mut Cursor, draft: &mut Draft) -> Result<(), Refusal>
+    ensures { Draws result cursor.new draft.new (lined_time_at draft.old cursor.old) }
+{
+    skip_lines(cursor);
+    time(cursor, draft, true)?;
+    skip_lines(cursor);
+    Ok(())
+}
+
+/// A limit: its name and its value.
+#[tactic(auto, unfolding(crate::specs::Settings::limit_at))]
+fn limit(cursor: &mut Cursor, draft: &mut Draft, inside: bool) -> Result<(), Refusal>
+    ensures { Draws result cursor.new draft.new (limit_at inside draft.old cursor.old) }
+{
+    match cursor.key() {
+        Key::States => set_limit(cursor, draft, inside, LimitName::States),
+        Key::SrcNodes => set_limit(cursor, draft, inside, LimitName::SrcNodes),
+        Key::Tables => set_limit(cursor, draft, inside, LimitName::Tables),
+        Key::TableEntries => set_limit(cursor, draft, inside, LimitName::TableEntries),
+        Key::Frags => {
+            cursor.advance();
+            value(cursor, inside, 1, 4_294_967_295)?;
+            Ok(())
+        }
+        _ => Err(Refusal::Stop(Why::Plain)),
+    }
+}
+
+fn set_limit(
+    cursor: &mut Cursor,
+    draft: &mut Draft,
+    inside: bool,
+    name: LimitName,
+) -> Result<(), Refusal>
+    ensures { Draws result cursor.new draft.new (act (limited inside name draft.old) cursor.old) }
+{
+    cursor.advance();
+    let value = value(cursor, inside, 1, 4_294_967_295)?;
+    draft.set_limit(name, value);
+    Ok(())
+}
+
+/// A timeout: its name and its value.
+#[tactic(auto, unfolding(crate::specs::Settings::time_at))]
+fn time(cursor: &mut Cursor, draft: &mut Draft, inside: bool) -> Result<(), Refusal>
+    ensures { Draws result cursor.new draft.new (time_at inside draft.old cursor.old) }
+{
+    match cursor.key() {
+        Key::Frag | Key::TcpTsdiff | Key::IcmpFirst | Key::IcmpError => {
+            cursor.advance();
+            value(cursor, inside, 0, 2_147_483_647)?;
+            Ok(())
+        }
+        key => match timeout_of(key) {
+            Some(name) => set_timeout(cursor, draft, inside, name),
+            None => Err(Refusal::Stop(Why::Plain)),
+        },
+    }
+}
+
+fn set_timeout(
+    cursor: &mut Cursor,
+    draft: &mut Draft,
+    inside: bool,
+    name: TimeoutName,
+) -> Result<(), Refusal>
+    ensures { Draws result cursor.new draft.new (act (timed inside draft.old (Some name)) cursor.old) }
+{
+    cursor.advance();
+    let value = value(cursor, inside, least(name), greatest(name))?;
+    draft.set_timeout(name, value);
+    Ok(())
+}
+
+/// A number, behind line ends where it stands in braces.
+#[tactic(auto, unfolding(crate::specs::Settings::value_at))]
+fn value(cursor: &mut Cursor, inside: bool, low: u32, high: u32) -> Result<u32, Refusal>
+    ensures value { Gives result cursor.new (value_at inside low high cursor.old) }
+    ensures least { IfOk result (λ n. low ≤ n) }
+    ensures greatest { IfOk result (λ n. n ≤ high) }
+{
+    if inside {
+        skip_lines(cursor);
+    }
+    number_up_to(cursor, low, high)
+}
+
+fn number_up_to(cursor: &mut Cursor, low: u32, high: u32) -> Result<u32, Refusal>
+    ensures value { Gives result cursor.new (number_at low high cursor.old) }
+    ensures least { IfOk result (λ n. low ≤ n) }
+    ensures greatest { IfOk result (λ n. n ≤ high) }
+{
+    let value = number(cursor, u64::from(low), u64::from(high))?;
+    Ok(value as u32)
+}
+
+/// The timeout that a key names, if it is one of those that are kept.
+fn timeout_of(key: Key) -> Option<TimeoutName>
+    ensures { result ≡ timeout_named key }
+{
+    match key {
+        Key::TcpFirst => Some(TimeoutName::TcpFirst),
+        Key::TcpOpening => Some(TimeoutName::TcpOpening),
+        Key::TcpEstablished => Some(TimeoutName::TcpEstablished),
+        Key::TcpClosing => Some(TimeoutName::TcpClosing),
+        Key::TcpFinwait => Some(TimeoutName::TcpFinwait),
+        Key::TcpClosed => Some(TimeoutName::TcpClosed),
+        Key::UdpFirst => Some(TimeoutName::UdpFirst),
+        Key::UdpSingle => Some(TimeoutName::UdpSingle),
+        Key::UdpMultiple => Some(TimeoutName::UdpMultiple),
+        Key::OtherFirst => Some(TimeoutName::OtherFirst),
+        Key::OtherSingle => Some(TimeoutName::OtherSingle),
+        Key::OtherMultiple => Some(TimeoutName::OtherMultiple),
+        Key::SrcTrack => Some(TimeoutName::SrcTrack),
+        Key::Interval => Some(TimeoutName::Interval),
+        Key::AdaptiveStart => Some(TimeoutName::AdaptiveStart),
+        Key::AdaptiveEnd => Some(TimeoutName::AdaptiveEnd),
+        _ => None,
+    }
+}
+
+/// The least value of a timeout: `interval` is at least 1 second.
+fn least(name: TimeoutName) -> u32
+    ensures { result ≡ least_value name }
+{
+    match name {
+        TimeoutName::Interval => 1,
+        _ => 0,
+    }
+}
+
+/// The greatest value of a timeout, in seconds; the adaptive ones are numbers of states.
+fn greatest(name: TimeoutName) -> u32
+    ensures { result ≡ greatest_value name }
+{
+    match name {
+        TimeoutName::AdaptiveStart | TimeoutName::AdaptiveEnd => 4_294_967_295,
+        _ => 2_147_483_647,
+    }
+}

@@ -1,0 +1,170 @@
+// The parts of a table's definition.
+
+ghost use Rattle.std.specs.Prelude.{◌≡◌, []};
+ghost use Rattle.pfs_conf_tokens.specs.Keys.{closes_braces, ends_line};
+ghost use Rattle.pfs_conf_tokens.specs.Reading.{until_all, up_to_all, next_of};
+ghost use Rattle.pfs_conf_tokens.specs.Giving.{GivesOrMemory};
+ghost use Rattle.pfs_conf_settings.specs.Tables.{entry_at, lined_entry_at, entries_at, part_at, parts_at};
+ghost use Rattle.pfs_conf_settings.specs.Extending.{Extends};
+
+use pfs_addr::parse_prefix;
+use pfs_conf_rules::Entries;
+use pfs_conf_tokens::{Cursor, Key, ReadError, Refusal, Why, skip_lines};
+use std::alloc::Global;
+
+/// The parts of a table's definition that stand behind its name. (pf.conf(5), TABLES)
+#[derive(Debug, Drop)]
+pub struct Parts {
+    /// `persist`, which is read without effect.
+    pub persist: bool,
+    /// `const`.
+    pub is_const: bool,
+    /// `counters`, which is read without effect.
+    pub counters: bool,
+    /// The entries in braces, if there are braces.
+    pub entries: Option<Entries>,
+}
+
+/// Reads the parts of a table's definition, behind its name and up to the line end, which stays.
+///
+/// It refuses, with the cursor at that token, a part that stands already, what is no part, an entry that is no prefix, and
+/// an entry that stands already with the other sign. An entry that stands already with the same sign is held once. Line
+/// ends in the braces are ignored. It takes memory for the entries. (pf.conf(5), TABLES)
+#[tactic(auto, unfolding(crate::specs::Tables::parts_at))]
+pub fn read_parts(alloc: Global, cursor: &mut Cursor) -> Result<Parts, ReadError>
+    ensures { GivesOrMemory result cursor.new (parts_at cursor.old) }
+{
+    let none = Parts {
+        persist: false,
+        is_const: false,
+        counters: false,
+        entries: None,
+    };
+    more_parts(alloc, cursor, none)
+}
+
+fn more_parts(alloc: Global, cursor: &mut Cursor, first: Parts) -> Result<Parts, ReadError>
+    ensures { GivesOrMemory result cursor.new (up_to_all ends_line part_at first cursor.old) }
+{
+    let mut parts = first;
+    'parts: while !cursor.is_at_line_end() {
+        parts = match part(alloc, cursor, parts) {
+            Ok(more) => more,
+            Err(error) => return Err(error),
+        };
+    }
+    Ok(parts)
+}
+
+#[tactic(auto, unfolding(crate::specs::Tables::part_at))]
+fn part(alloc: Global, cursor: &mut Cursor, parts: Parts) -> Result<Parts, ReadError>
+    ensures { GivesOrMemory result cursor.new (part_at parts cursor.old) }
+{
+    match cursor.key() {
+        Key::Persist if !parts.persist => {
+            cursor.advance();
+            Ok(Parts {
+                persist: true,
+                ..parts
+            })
+        }
+        Key::Const if !parts.is_const => {
+            cursor.advance();
+            Ok(Parts {
+                is_const: true,
+                ..parts
+            })
+        }
+        Key::Counters if !parts.counters => {
+            cursor.advance();
+            Ok(Parts {
+                counters: true,
+                ..parts
+            })
+        }
+        Key::OpenBrace if parts.entries.is_none() => {
+            cursor.advance();
+            let entries = entries(alloc, cursor)?;
+            Ok(Parts {
+                entries: Some(entries),
+                ..parts
+            })
+        }
+        Key::Persist | Key::Const | Key::Counters | Key::OpenBrace => Err(ReadError::Refused(
+            Refusal::Stop(Why::Again),
+        )),
+        _ => Err(ReadError::Refused(Refusal::Stop(Why::Plain))),
+    }
+}
+
+/// The entries in braces, behind the opening one.
+#[tactic(auto, unfolding(crate::specs::Tables::entries_at))]
+fn entries(alloc: Global, cursor: &mut Cursor) -> Result<Entries, ReadError>
+    ensures { GivesOrMemory result cursor.new (entries_at cursor.old) }
+{
+    skip_lines(cursor);
+    let mut entries = Entries::new(alloc);
+    match cursor.key() {
+        Key::CloseBrace => cursor.advance(),
+        _ => {
+            lined_entry(cursor, &mut entries)?;
+            more_entries(cursor, &mut entries)?;
+        }
+    }
+    Ok(entries)
+}
+
+fn more_entries(cursor: &mut Cursor, entries: &mut Entries) -> Result<(), ReadError>
+    ensures { Extends result cursor.new entries.new (until_all closes_braces (next_of lined_entry_at) entries.old cursor.old) }
+{
+    while !cursor.is_at_close_brace() {
+        if let Err(error) = next_entry(cursor, entries) {
+            return Err(error);
+        }
+    }
+    cursor.advance();
+    Ok(())
+}
+
+fn next_entry(cursor: &mut Cursor, entries: &mut Entries) -> Result<(), ReadError>
+    ensures { Extends result cursor.new entries.new (next_of lined_entry_at entries.old cursor.old) }
+{
+    cursor.take(Key::Comma);
+    lined_entry(cursor, entries)
+}
+
+/// An entry among line ends.
+#[tactic(auto, unfolding(crate::specs::Tables::lined_entry_at, crate::specs::Tables::negation_at))]
+fn lined_entry(cursor: &mut Cursor, entries: &mut Entries) -> Result<(), ReadError>
+    ensures { Extends result cursor.new entries.new (lined_entry_at entries.old cursor.old) }
+{
+    skip_lines(cursor);
+    let negated = cursor.take(Key::Not);
+    skip_lines(cursor);
+    entry(cursor, entries, negated)?;
+    skip_lines(cursor);
+    Ok(())
+}
+
+#[tactic(auto, unfolding(crate::specs::Tables::entry_at))]
+fn entry(cursor: &mut Cursor, entries: &mut Entries, negated: bool) -> Result<(), ReadError>
+    ensures { Extends result cursor.new entries.new (entry_at entries.old negated cursor.old) }
+{
+    if !cursor.key().is_word() {
+        return Err(ReadError::Refused(Refusal::Stop(Why::Host)));
+    }
+    let Some(prefix) = parse_prefix(cursor.text()) else {
+        return Err(ReadError::Refused(Refusal::Stop(Why::Host)));
+    };
+    match entries.get(prefix) {
+        None => {
+            if entries.add(prefix, negated).is_err() {
+                return Err(ReadError::Memory);
+            }
+        }
+        Some(held) if held == negated => {}
+        Some(_) => return Err(ReadError::Refused(Refusal::Stop(Why::Again))),
+    }
+    cursor.advance();
+    Ok(())
+}

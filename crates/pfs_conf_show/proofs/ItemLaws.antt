@@ -1,0 +1,75 @@
+-- The text of the items that are left.
+use Rattle.std.proofs.Common.{◌≡◌, ℕ, zero, suc, ◌+◌, ◌-◌, ◌<◌, ◌≤◌, List, [], ◌∷◌, ◌++◌, All, length, drop, Some, None, refl, sym, ap, ◌∙◌, arith, subst, get_or, add-one, append_assoc}
+use Rattle.std.specs.Prelude.{codes, slice_get}
+use Rattle.std.proofs.lemmas.List.Elements.{All-get_or}
+use Rattle.std.proofs.lemmas.Option.{slice_get_within, get_or_from_slice_get}
+use Rattle.pfs_conf_rules.specs.Configs.{Conf, IsConfig}
+use Rattle.pfs_conf_rules.specs.Depths.{next_depth}
+use Rattle.pfs_conf_rules.specs.LoadRules.{IsItem}
+use Rattle.pfs_conf_rules.specs.declared.items.Item.{Item}
+use Rattle.pfs_conf_rules.specs.declared.items.What.{What}
+use Rattle.pfs_conf_rules.specs.declared.items.What.TheVariants.{Rule, Anchor}
+use Rattle.pfs_conf_rules.specs.declared.tables.TableDef.{TableDef}
+use Rattle.pfs_conf_show.specs.Texts.{braces_text, items_text, what_text}
+
+braces_behind : (n : ℕ) → braces_text (suc n) ≡ braces_text n ++ codes "}\n"
+braces_behind zero = refl
+braces_behind (suc n) = ap (λ (z : List ℕ). codes "}\n" ++ z) (braces_behind n)
+
+pub braces-more : (n : ℕ) → braces_text (n + 1) ≡ braces_text n ++ codes "}\n"
+braces-more n = rw add-one (braces_behind n)
+
+-- the next of the items that are left
+pub items-next : (tables : List TableDef) (depth n : ℕ) (items : List Item) (i : Item) → slice_get items n ≡ Some i
+    → items_text tables depth (drop n items) ≡ braces_text (depth - i.depth) ++ (what_text tables i.what ++ items_text tables (next_depth i) (drop (n + 1) items))
+items-next tables depth n [] i h = absurd (cc h)
+items-next tables depth zero (j ∷ items) i h =
+    let same : j ≡ i = cc h in
+    ap (λ (x : Item). braces_text (depth - x.depth) ++ (what_text tables x.what ++ items_text tables (next_depth x) items)) same
+items-next tables depth (suc n) (j ∷ items) i h =
+    items-next tables depth n items i h
+    ∙ ap (λ (k : ℕ). braces_text (depth - i.depth) ++ (what_text tables i.what ++ items_text tables (next_depth i) (drop k (j ∷ items)))) (up n)
+  where
+    up : (m : ℕ) → suc (m + 1) ≡ suc m + 1
+    up m = omega arith
+
+-- no item stands deeper than 16
+shallow : (tables depth : ℕ) (w : What) → IsItem tables (record { depth = depth; what = w }) → depth ≤ 16
+shallow tables depth (Rule r) h = h.0
+shallow tables depth (Anchor a) h = omega (arith, h.0)
+
+all_shallow : (tables : ℕ) (items : List Item) → All (IsItem tables) items → (n : ℕ) (i : Item) → slice_get items n ≡ Some i → i.depth ≤ 16
+all_shallow tables items h n i e =
+    let within : n < length items = slice_get_within items n i e in
+    let same : get_or items n i ≡ i = get_or_from_slice_get items n i i e in
+    let one : IsItem tables i = subst (IsItem tables) same (All-get_or (IsItem tables) items n i within h) in
+    shallow tables i.depth i.what one
+
+pub item_depth : (conf : Conf) → IsConfig conf → (n : ℕ) (i : Item) → slice_get conf.items n ≡ Some i → i.depth ≤ 16
+item_depth conf h n i e = all_shallow (length conf.tables) conf.items h.items n i e
+
+-- behind the last item only the open anchors are left
+pub items-end : (tables : List TableDef) (depth n : ℕ) (items : List Item) → length items ≤ n → items_text tables depth (drop n items) ≡ braces_text depth
+items-end tables depth zero [] h = refl
+items-end tables depth (suc n) [] h = refl
+items-end tables depth zero (i ∷ items) h = absurd (omega arith)
+items-end tables depth (suc n) (i ∷ items) h = items-end tables depth n items (omega arith)
+
+-- one item more is written
+pub item_step : (tables : List TableDef) (depth n : ℕ) (items : List Item) (i : Item) (d : ℕ) (o o1 all : List ℕ) → slice_get items n ≡ Some i
+    → o ++ items_text tables depth (drop n items) ≡ all → o1 ≡ o ++ (braces_text (depth - i.depth) ++ what_text tables i.what) → d ≡ next_depth i
+    → o1 ++ items_text tables d (drop (n + 1) items) ≡ all
+item_step tables depth n items i d o o1 all h e f g =
+    let braces = braces_text (depth - i.depth) in
+    let text = what_text tables i.what in
+    let left = items_text tables (next_depth i) (drop (n + 1) items) in
+    ap (λ (k : ℕ). o1 ++ items_text tables k (drop (n + 1) items)) g
+    ∙ (ap (λ (z : List ℕ). z ++ left) f
+    ∙ (append_assoc o (braces ++ text) left
+    ∙ (ap (λ (z : List ℕ). o ++ z) (append_assoc braces text left ∙ sym (items-next tables depth n items i h)) ∙ e)))
+
+-- what is not past the end is there
+pub is_there : {X : Type 0} (xs : List X) (n : ℕ) → n < length xs → slice_get xs n ≡ None → ⊥
+is_there [] n h e = omega arith
+is_there (x ∷ xs) zero h e = cc e
+is_there (x ∷ xs) (suc n) h e = is_there xs n (omega arith) e

@@ -1,0 +1,60 @@
+-- The state clause of a rule. (pf.conf(5), STATEFUL TRACKING OPTIONS; the order of the options is own)
+use Rattle.std.specs.Prelude.{ℕ, List, [], ◌++◌, Option, Some, None, codes, decimal, slice_index_or}
+use Rattle.std.specs.List.{flat_map}
+use Rattle.pfs_conf_rules.specs.Timeouts.{place_of, timeout_names}
+use Rattle.pfs_conf_rules.specs.declared.actions.Action.{Action}
+use Rattle.pfs_conf_rules.specs.declared.actions.Action.TheVariants as action
+use Rattle.pfs_conf_rules.specs.declared.actions.Overload.{Overload}
+use Rattle.pfs_conf_rules.specs.declared.actions.Rate.{Rate}
+use Rattle.pfs_conf_rules.specs.declared.actions.Scope.{Scope}
+use Rattle.pfs_conf_rules.specs.declared.actions.Scope.TheVariants as scope
+use Rattle.pfs_conf_rules.specs.declared.actions.StateOptions.{StateOptions}
+use Rattle.pfs_conf_rules.specs.declared.tables.TableDef.{TableDef}
+use Rattle.pfs_conf_rules.specs.declared.timeouts.TimeoutName.{TimeoutName}
+use Rattle.pfs_conf_show.specs.Pieces.{bracketed, given, worded}
+use Rattle.pfs_conf_show.specs.Settings.{timeout_word}
+use Rattle.pfs_conf_show.specs.Tables.{table_ref}
+
+-- the scope of source nodes, stated or not
+abbrev pub scope_text : Scope → List ℕ
+scope_text scope.Rule = codes "source-track rule"
+scope_text scope.Global = codes "source-track global"
+
+-- `max-src-conn-rate N/S`
+abbrev pub rate_text : Rate → List ℕ
+rate_text r = worded (codes "max-src-conn-rate") r.limit ++ (codes "/" ++ decimal r.seconds)
+
+abbrev pub flush_text : Option Scope → List ℕ
+flush_text None = []
+flush_text (Some scope.Rule) = codes " flush"
+flush_text (Some scope.Global) = codes " flush global"
+
+-- `overload <t>`, with what is flushed
+abbrev pub overload_text : List TableDef → Overload → List ℕ
+overload_text tables v = codes "overload " ++ (table_ref tables v.table ++ flush_text v.flush)
+
+-- the rule's own value of a timeout, if it gives one
+abbrev pub rule_timeout_text : List (Option ℕ) → TimeoutName → List (List ℕ)
+rule_timeout_text timeouts name = given (worded (timeout_word name)) (slice_index_or timeouts (place_of name) None)
+
+-- the texts of the options that are given, in their order
+abbrev pub option_texts : List TableDef → StateOptions → List (List ℕ)
+option_texts tables o =
+    given (worded (codes "max")) o.max
+    ++ (given scope_text o.scope
+    ++ (given (worded (codes "max-src-nodes")) o.max_src_nodes
+    ++ (given (worded (codes "max-src-states")) o.max_src_states
+    ++ (given (worded (codes "max-src-conn")) o.max_src_conn
+    ++ (given rate_text o.max_src_conn_rate
+    ++ (given (overload_text tables) o.overload
+    ++ flat_map (rule_timeout_text o.timeouts) timeout_names))))))
+
+-- ` (o, o, ..)`, or nothing
+abbrev pub options_text : List TableDef → StateOptions → List ℕ
+options_text tables o = bracketed (codes " (") (codes ")") (option_texts tables o)
+
+-- the state clause of a pass rule
+abbrev pub state_text : List TableDef → Action → List ℕ
+state_text tables action.Block = []
+state_text tables action.Pass = codes " no state"
+state_text tables (action.Keep o) = codes " keep state" ++ options_text tables o

@@ -1,0 +1,44 @@
+-- The lines of `set limit` and `set timeout`. (pf.conf(5), OPTIONS; their form is own)
+use Rattle.std.specs.Prelude.{ℕ, List, [], ◌∷◌, ◌++◌, codes, map, slice_index}
+use Rattle.pfs_conf_rules.specs.Timeouts.{place_of, timeout_names}
+use Rattle.pfs_conf_rules.specs.declared.limits.Limits.{Limits}
+use Rattle.pfs_conf_rules.specs.declared.timeouts.TimeoutName.{TimeoutName}
+use Rattle.pfs_conf_rules.specs.declared.timeouts.TimeoutName.TheVariants.{TcpFirst, TcpOpening, TcpEstablished, TcpClosing, TcpFinwait, TcpClosed, UdpFirst, UdpSingle, UdpMultiple, OtherFirst, OtherSingle, OtherMultiple, SrcTrack, Interval, AdaptiveStart, AdaptiveEnd}
+use Rattle.pfs_conf_show.specs.Pieces.{bracketed, worded}
+
+-- the limits, each with its value
+abbrev pub limit_texts : Limits → List (List ℕ)
+limit_texts l =
+    worded (codes "states") l.states ∷ worded (codes "src-nodes") l.src_nodes ∷ worded (codes "tables") l.tables
+    ∷ worded (codes "table-entries") l.table_entries ∷ []
+
+-- `set limit { states N, src-nodes N, tables N, table-entries N }`
+abbrev pub limits_text : Limits → List ℕ
+limits_text l = codes "set limit" ++ (bracketed (codes " { ") (codes " }") (limit_texts l) ++ codes "\n")
+
+-- the word of a timeout
+abbrev pub timeout_word : TimeoutName → List ℕ
+timeout_word TcpFirst = codes "tcp.first"
+timeout_word TcpOpening = codes "tcp.opening"
+timeout_word TcpEstablished = codes "tcp.established"
+timeout_word TcpClosing = codes "tcp.closing"
+timeout_word TcpFinwait = codes "tcp.finwait"
+timeout_word TcpClosed = codes "tcp.closed"
+timeout_word UdpFirst = codes "udp.first"
+timeout_word UdpSingle = codes "udp.single"
+timeout_word UdpMultiple = codes "udp.multiple"
+timeout_word OtherFirst = codes "other.first"
+timeout_word OtherSingle = codes "other.single"
+timeout_word OtherMultiple = codes "other.multiple"
+timeout_word SrcTrack = codes "src.track"
+timeout_word Interval = codes "interval"
+timeout_word AdaptiveStart = codes "adaptive.start"
+timeout_word AdaptiveEnd = codes "adaptive.end"
+
+-- a timeout with its value
+abbrev pub timeout_text : List ℕ → TimeoutName → List ℕ
+timeout_text timeouts name = worded (timeout_word name) (slice_index timeouts (place_of name))
+
+-- `set timeout { tcp.first N, .. }`: all timeouts, by their places
+abbrev pub timeouts_text : List ℕ → List ℕ
+timeouts_text timeouts = codes "set timeout" ++ (bracketed (codes " { ") (codes " }") (map (timeout_text timeouts) timeout_names) ++ codes "\n")

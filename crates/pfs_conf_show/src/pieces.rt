@@ -1,0 +1,67 @@
+// Numbers, prefixes and the marks of lists.
+
+ghost use Rattle.std.specs.Prelude.{◌≡◌, ◌++◌, OnOk, codes, decimal};
+ghost use Rattle.pfs_conf_show.specs.Pieces.{bits_text, closed_by, not_text, prefix_text, separator, worded};
+
+use itoa::Buffer;
+use pfs_addr::{NoMemory, Prefix, push_addr};
+
+pub fn push_number(out: &mut Vec<u8>, n: u64) -> Result<(), NoMemory>
+    ensures { OnOk result (out.new.items ≡ out.old.items ++ decimal n) }
+{
+    let mut buffer = Buffer::new();
+    out.extend_from_slice(buffer.format(n).as_bytes())?;
+    Ok(())
+}
+
+pub fn push_worded(out: &mut Vec<u8>, word: &[u8], n: u64) -> Result<(), NoMemory>
+    ensures { OnOk result (out.new.items ≡ out.old.items ++ worded word.now n) }
+{
+    out.extend_from_slice(word)?;
+    out.extend_from_slice(b" ")?;
+    push_number(out, n)
+}
+
+pub fn push_not(out: &mut Vec<u8>, negated: bool) -> Result<(), NoMemory>
+    ensures { OnOk result (out.new.items ≡ out.old.items ++ not_text negated) }
+{
+    if negated {
+        out.extend_from_slice(b"!")?;
+    }
+    Ok(())
+}
+
+pub fn push_prefix(out: &mut Vec<u8>, prefix: Prefix) -> Result<(), NoMemory>
+    ensures { OnOk result (out.new.items ≡ out.old.items ++ prefix_text prefix) }
+{
+    push_addr(out, prefix.addr())?;
+    push_bits(out, prefix)
+}
+
+fn push_bits(out: &mut Vec<u8>, prefix: Prefix) -> Result<(), NoMemory>
+    ensures { OnOk result (out.new.items ≡ out.old.items ++ bits_text prefix) }
+{
+    if prefix.bits() != prefix.addr().width() {
+        out.extend_from_slice(b"/")?;
+        push_number(out, u64::from(prefix.bits()))?;
+    }
+    Ok(())
+}
+
+// What stands before an item of a list that has begun or not.
+pub fn push_separator(out: &mut Vec<u8>, opening: &[u8], begun: bool) -> Result<(), NoMemory>
+    ensures { OnOk result (out.new.items ≡ out.old.items ++ separator opening.now begun) }
+{
+    out.extend_from_slice(if begun { b", " } else { opening })?;
+    Ok(())
+}
+
+// What stands behind the items of a list, if there are any.
+pub fn push_closing(out: &mut Vec<u8>, closing: &[u8], begun: bool) -> Result<(), NoMemory>
+    ensures { OnOk result (out.new.items ≡ out.old.items ++ closed_by closing.now begun) }
+{
+    if begun {
+        out.extend_from_slice(closing)?;
+    }
+    Ok(())
+}

@@ -1,5 +1,0 @@
-use Rattle.pfs_rules.proofs.DraftLaws.{IsDraft-with_tables}
-use Rattle.pfs_rules.proofs.drafts.Draft.define.Goals as goal
-
-pub invariant_of-self : goal.invariant_of-self
-invariant_of-self c = IsDraft-with_tables _ c.define.new.self c.self.invariant c.define.ensures.more

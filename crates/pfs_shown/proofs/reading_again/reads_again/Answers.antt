@@ -1,8 +1,0 @@
-use Rattle.pfs_shown.proofs.WholeText.{text_again, text_alone}
-use Rattle.pfs_shown.proofs.reading_again.reads_again.Goals as goal
-
-pub returns-clause-same : goal.returns-clause-same
-returns-clause-same c = text_again c.args.config.now c.item_count-count.ensures.sound
-
-pub returns-clause-only : goal.returns-clause-only
-returns-clause-only c = λ other said reads. text_alone c.args.config.now c.item_count-count.ensures.sound other said reads

@@ -1,6 +1,0 @@
-use Rattle.std.proofs.Common.{◌≡◌, ◌+◌, drop}
-use Rattle.pfs_tokens.specs.Lexis.{run_of}
-use Rattle.pfs_tokens.proofs.lexer.run_of.Given as goal
-
-abbrev pub invariant-loop-b : goal.invariant-loop-b
-invariant-loop-b l = record { value : l.n + run_of l.run (drop l.b-index l.bytes) ≡ run_of l.run l.bytes; index : l.n ≡ l.b-index }

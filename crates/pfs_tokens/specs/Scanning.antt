@@ -1,8 +1,0 @@
--- What a scan leaves: the token, and behind it, unless it is the last, those of the bytes that are left.
-use Rattle.std.specs.Prelude.{List, [], ◌∷◌, if◌then◌else◌}
-use Rattle.pfs_tokens.specs.Tokens.{Tok}
-use Rattle.pfs_tokens.specs.Lexis.{tokens}
-use Rattle.pfs_tokens.specs.declared.lexer.Scan.{Scan}
-
-abbrev pub scanned : Scan → List Tok
-scanned s = s.token ∷ (if s.is_last then [] else tokens 0 s.busy s.line s.rest.now)
