@@ -10,13 +10,13 @@ use Rattle.pfs_conf_rules.specs.Configs.{Conf, options_of, rule_of}
 use Rattle.pfs_conf_rules.specs.declared.actions.Action.{Action}
 use Rattle.pfs_conf_rules.specs.declared.actions.Action.TheVariants as action
 use Rattle.pfs_conf_rules.specs.declared.actions.Overload.{Overload}
-use Rattle.pfs_store.specs.Admission.{limit_at}
-use Rattle.pfs_store.specs.Handshakes.{hits_connections, hits_rate}
-use Rattle.pfs_store.specs.Touching.{completes_at, touch_of, touched}
-use Rattle.pfs_store.specs.Worlds.{state_with}
-use Rattle.pfs_store.specs.declared.records.Limit.{Limit}
-use Rattle.pfs_store.specs.declared.records.State.{State}
-use Rattle.pfs_store.specs.declared.records.Touched.{Touched}
+use Rattle.pfs_store_plain.specs.Admission.{limit_at}
+use Rattle.pfs_store_plain.specs.Handshakes.{hits_connections, hits_rate}
+use Rattle.pfs_store_plain.specs.Touching.{completes_at, touch_of, touched}
+use Rattle.pfs_store_plain.specs.Worlds.{state_with}
+use Rattle.pfs_store_plain.specs.declared.records.Limit.{Limit}
+use Rattle.pfs_store_plain.specs.declared.records.State.{State}
+use Rattle.pfs_store_plain.specs.declared.records.Touched.{Touched}
 use Rattle.pfs_engine.specs.Machine.{Machine, machine_of, step, advanced, acted, answered, by_state, by_rule, by_action, by_limit, by_touch, by_hit, decided}
 use Rattle.pfs_engine.specs.declared.events.Event.{Event}
 use Rattle.pfs_engine.specs.Kept.{moment_of}

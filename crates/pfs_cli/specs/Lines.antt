@@ -2,8 +2,8 @@
 use Rattle.std.specs.Prelude.{◌++◌, ℕ, Bool, true, false, List, [], codes, Option, Some, None}
 use Rattle.std.specs.Fmt.{decimal}
 use Rattle.pfs_conf_rules.specs.declared.items.RuleNo.{RuleNo}
-use Rattle.pfs_store.specs.declared.records.Limit.{Limit}
-use Rattle.pfs_store.specs.declared.records.Limit.TheVariants as limit
+use Rattle.pfs_store_plain.specs.declared.records.Limit.{Limit}
+use Rattle.pfs_store_plain.specs.declared.records.Limit.TheVariants as limit
 use Rattle.pfs_eval.specs.declared.tables.Added.{Added}
 use Rattle.pfs_eval.specs.declared.tables.Added.TheVariants as added
 use Rattle.pfs_engine.specs.declared.events.Outcome.{Outcome}

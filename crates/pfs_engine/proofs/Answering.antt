@@ -12,11 +12,11 @@ use Rattle.pfs_conf_rules.specs.declared.actions.Scope.TheVariants as scope
 use Rattle.pfs_conf_rules.specs.declared.actions.StateOptions.{StateOptions}
 use Rattle.pfs_conf_rules.specs.declared.items.Rule.{Rule}
 use Rattle.pfs_conf_rules.specs.declared.items.RuleNo.{RuleNo}
-use Rattle.pfs_store.specs.Admission.{admitted, limit_at}
-use Rattle.pfs_store.specs.Worlds.{state_with}
-use Rattle.pfs_store.specs.declared.records.Limit.{Limit}
-use Rattle.pfs_store.specs.declared.records.State.{State}
-use Rattle.pfs_store.specs.declared.records.Touched.{Touched}
+use Rattle.pfs_store_plain.specs.Admission.{admitted, limit_at}
+use Rattle.pfs_store_plain.specs.Worlds.{state_with}
+use Rattle.pfs_store_plain.specs.declared.records.Limit.{Limit}
+use Rattle.pfs_store_plain.specs.declared.records.State.{State}
+use Rattle.pfs_store_plain.specs.declared.records.Touched.{Touched}
 use Rattle.pfs_engine.specs.Kept.{IsKept, IsWithinShared}
 use Rattle.pfs_engine.specs.Machine.{Machine, answered, by_action, by_hit, by_limit, by_rule, by_state, by_touch, decided, machine_of}
 use Rattle.pfs_engine.specs.Refusals.{IsRefused}

@@ -6,11 +6,11 @@ use Rattle.pfs_addr.specs.Packets.{Header}
 use Rattle.pfs_eval.specs.Holdings.{Holdings}
 use Rattle.pfs_conf_rules.specs.Configs.{Conf, options_of}
 use Rattle.pfs_conf_rules.specs.declared.items.RuleNo.{RuleNo}
-use Rattle.pfs_store.specs.Touching.{completes_at, touch_of, touched, world_touched}
-use Rattle.pfs_store.specs.Worlds.{World, holds_number, number_of, rule_in, state_with}
-use Rattle.pfs_store.specs.declared.records.State.{State}
-use Rattle.pfs_store.specs.declared.records.StateNo.{StateNo}
-use Rattle.pfs_store.specs.declared.records.Touched.{Touched}
+use Rattle.pfs_store_plain.specs.Touching.{completes_at, touch_of, touched, world_touched}
+use Rattle.pfs_store_plain.specs.Worlds.{World, holds_number, number_of, rule_in, state_with}
+use Rattle.pfs_store_plain.specs.declared.records.State.{State}
+use Rattle.pfs_store_plain.specs.declared.records.StateNo.{StateNo}
+use Rattle.pfs_store_plain.specs.declared.records.Touched.{Touched}
 use Rattle.pfs_engine.specs.Kept.{IsKept}
 use Rattle.pfs_engine.specs.Machine.{Machine}
 use Rattle.pfs_engine.specs.Rooms.{HasRoomFor, is_tcp, overload_at}

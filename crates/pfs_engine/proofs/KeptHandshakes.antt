@@ -14,16 +14,16 @@ use Rattle.pfs_conf_rules.specs.Configs.{Conf, limit_of, options_of}
 use Rattle.pfs_conf_rules.specs.declared.actions.Overload.{Overload}
 use Rattle.pfs_conf_rules.specs.declared.items.RuleNo.{RuleNo}
 use Rattle.pfs_conf_rules.specs.declared.limits.LimitName.TheVariants as limit_name
-use Rattle.pfs_store.proofs.MomentLaws.{left-up_to_now, world_touched-up_to_now}
-use Rattle.pfs_store.specs.Counts.{has_node, is_of_node, is_of_rule, node_connections, node_scope_of, node_states, rule_states, scope_nodes}
-use Rattle.pfs_store.specs.Handshakes.{flush_of, hits_connections, hits_rate}
-use Rattle.pfs_store.specs.Leaving.{without}
-use Rattle.pfs_store.specs.Touching.{completes_at, goes_forward, nodes_touched, renewed, touch_of, touched}
-use Rattle.pfs_store.specs.Worlds.{IsUpToNow, World, holds_number, state_with}
-use Rattle.pfs_store.specs.declared.records.Node.{Node}
-use Rattle.pfs_store.specs.declared.records.NodeScope.{NodeScope}
-use Rattle.pfs_store.specs.declared.records.State.{State}
-use Rattle.pfs_store.specs.declared.records.Touched.{Touched}
+use Rattle.pfs_store_plain.proofs.MomentLaws.{left-up_to_now, world_touched-up_to_now}
+use Rattle.pfs_store_plain.specs.Counts.{has_node, is_of_node, is_of_rule, node_connections, node_scope_of, node_states, rule_states, scope_nodes}
+use Rattle.pfs_store_plain.specs.Handshakes.{flush_of, hits_connections, hits_rate}
+use Rattle.pfs_store_plain.specs.Leaving.{without}
+use Rattle.pfs_store_plain.specs.Touching.{completes_at, goes_forward, nodes_touched, renewed, touch_of, touched}
+use Rattle.pfs_store_plain.specs.Worlds.{IsUpToNow, World, holds_number, state_with}
+use Rattle.pfs_store_plain.specs.declared.records.Node.{Node}
+use Rattle.pfs_store_plain.specs.declared.records.NodeScope.{NodeScope}
+use Rattle.pfs_store_plain.specs.declared.records.State.{State}
+use Rattle.pfs_store_plain.specs.declared.records.Touched.{Touched}
 use Rattle.pfs_engine.specs.Kept.{HasNode, IsKept, IsPhaseOf, IsWithin, Rise, TracksAlone, moment_of, own_scope}
 use Rattle.pfs_engine.specs.Machine.{Machine, by_hit, by_state, by_touch, machine_of, stays_at_kill, tables_by}
 use Rattle.pfs_engine.specs.Rooms.{is_tcp}

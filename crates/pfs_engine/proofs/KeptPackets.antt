@@ -6,10 +6,10 @@ use Rattle.pfs_eval.specs.Entries.{Entry}
 use Rattle.pfs_conf_rules.specs.Configs.{Conf, IsConfig, rule_of}
 use Rattle.pfs_conf_rules.specs.declared.actions.Action.{Action}
 use Rattle.pfs_conf_rules.specs.declared.actions.Action.TheVariants as action
-use Rattle.pfs_store.specs.Admission.{limit_at}
-use Rattle.pfs_store.specs.Worlds.{World, state_with}
-use Rattle.pfs_store.specs.declared.records.Limit.{Limit}
-use Rattle.pfs_store.specs.declared.records.State.{State}
+use Rattle.pfs_store_plain.specs.Admission.{limit_at}
+use Rattle.pfs_store_plain.specs.Worlds.{World, state_with}
+use Rattle.pfs_store_plain.specs.declared.records.Limit.{Limit}
+use Rattle.pfs_store_plain.specs.declared.records.State.{State}
 use Rattle.pfs_engine.specs.Kept.{IsKept, moment_of}
 use Rattle.pfs_engine.specs.Machine.{Machine, answered, by_action, by_limit, by_rule, by_state, decided, machine_of}
 use Rattle.pfs_engine.specs.declared.events.Outcome.{Outcome}

@@ -3,9 +3,9 @@ use Rattle.std.proofs.Common.{◌≡◌, ℕ, Option, None, Some, Err, IfSome, a
 use Rattle.std.specs.Option.{ForSome}
 use Rattle.pfs_conf_rules.specs.Configs.{Conf, no_options, options_at, options_of}
 use Rattle.pfs_conf_rules.specs.declared.actions.StateOptions.{StateOptions}
-use Rattle.pfs_store.specs.Admission.{answer_at}
-use Rattle.pfs_store.specs.Worlds.{World}
-use Rattle.pfs_store.specs.declared.records.Limit.{Limit}
+use Rattle.pfs_store_plain.specs.Admission.{answer_at}
+use Rattle.pfs_store_plain.specs.Worlds.{World}
+use Rattle.pfs_store_plain.specs.declared.records.Limit.{Limit}
 
 pub some_of : {A : Type 0} (P : A → Type 0) (o : Option A) → IfSome o P → ForSome o P
 some_of P None h = λ x e. cc

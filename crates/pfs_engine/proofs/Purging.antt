@@ -3,12 +3,12 @@ use Rattle.std.proofs.Common.{◌≡◌, ◌≤◌, ◌<◌, ◌+◌, ◌-◌, �
 use Rattle.std.specs.List.{range_with_len}
 use Rattle.std.proofs.Math.Seq.{take-nil, drop-nil}
 use Rattle.pfs_conf_rules.specs.Configs.{Conf}
-use Rattle.pfs_store.specs.Leaving.{idled}
-use Rattle.pfs_store.specs.Purging.{node_numbers, node_share, node_slice, node_slice_of, purge, round, state_numbers, state_share, state_slice, state_slice_of}
-use Rattle.pfs_store.specs.Worlds.{World, lists}
-use Rattle.pfs_store.specs.declared.records.Node.{Node}
-use Rattle.pfs_store.specs.declared.records.Slice.{Slice}
-use Rattle.pfs_store.specs.declared.records.State.{State}
+use Rattle.pfs_store_plain.specs.Leaving.{idled}
+use Rattle.pfs_store_plain.specs.Purging.{node_numbers, node_share, node_slice, node_slice_of, purge, round, state_numbers, state_share, state_slice, state_slice_of}
+use Rattle.pfs_store_plain.specs.Worlds.{World, lists}
+use Rattle.pfs_store_plain.specs.declared.records.Node.{Node}
+use Rattle.pfs_store_plain.specs.declared.records.Slice.{Slice}
+use Rattle.pfs_store_plain.specs.declared.records.State.{State}
 use Rattle.pfs_engine.specs.Machine.{most_nodes, most_states, purged, seconds}
 
 -- the first second that is due

@@ -16,15 +16,15 @@ use Rattle.pfs_conf_rules.specs.declared.actions.Overload.{Overload}
 use Rattle.pfs_conf_rules.specs.declared.actions.Scope.{Scope}
 use Rattle.pfs_conf_rules.specs.declared.actions.StateOptions.{StateOptions}
 use Rattle.pfs_conf_rules.specs.declared.limits.LimitName.TheVariants as limit_name
-use Rattle.pfs_store.specs.Admission.{admitted, limit_at}
-use Rattle.pfs_store.specs.Handshakes.{flush_of, goes_with, hits_connections, hits_rate}
-use Rattle.pfs_store.specs.Leaving.{without}
-use Rattle.pfs_store.specs.Purging.{node_slice_of, purge, state_slice, state_slice_of}
-use Rattle.pfs_store.specs.Touching.{completes_at, touch_of, touched}
-use Rattle.pfs_store.specs.Worlds.{World, empty_world, state_with}
-use Rattle.pfs_store.specs.declared.records.Limit.{Limit}
-use Rattle.pfs_store.specs.declared.records.State.{State}
-use Rattle.pfs_store.specs.declared.records.Touched.{Touched}
+use Rattle.pfs_store_plain.specs.Admission.{admitted, limit_at}
+use Rattle.pfs_store_plain.specs.Handshakes.{flush_of, goes_with, hits_connections, hits_rate}
+use Rattle.pfs_store_plain.specs.Leaving.{without}
+use Rattle.pfs_store_plain.specs.Purging.{node_slice_of, purge, state_slice, state_slice_of}
+use Rattle.pfs_store_plain.specs.Touching.{completes_at, touch_of, touched}
+use Rattle.pfs_store_plain.specs.Worlds.{World, empty_world, state_with}
+use Rattle.pfs_store_plain.specs.declared.records.Limit.{Limit}
+use Rattle.pfs_store_plain.specs.declared.records.State.{State}
+use Rattle.pfs_store_plain.specs.declared.records.Touched.{Touched}
 use Rattle.pfs_engine.specs.declared.events.Event.{Event}
 use Rattle.pfs_engine.specs.declared.events.Outcome.{Outcome}
 use Rattle.pfs_engine.specs.declared.events.Outcome.TheVariants as outcome

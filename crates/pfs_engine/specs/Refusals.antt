@@ -5,10 +5,10 @@ use Rattle.pfs_addr.specs.Packets.{Header}
 use Rattle.pfs_conf_rules.specs.Configs.{Conf, options_at, options_of, rule_of}
 use Rattle.pfs_conf_rules.specs.declared.actions.Action.{Action}
 use Rattle.pfs_conf_rules.specs.declared.actions.Action.TheVariants as action
-use Rattle.pfs_store.specs.Admission.{limit_at}
-use Rattle.pfs_store.specs.Worlds.{state_with}
-use Rattle.pfs_store.specs.declared.records.Limit.{Limit}
-use Rattle.pfs_store.specs.declared.records.State.{State}
+use Rattle.pfs_store_plain.specs.Admission.{limit_at}
+use Rattle.pfs_store_plain.specs.Worlds.{state_with}
+use Rattle.pfs_store_plain.specs.declared.records.Limit.{Limit}
+use Rattle.pfs_store_plain.specs.declared.records.State.{State}
 use Rattle.pfs_engine.specs.Machine.{Machine, decided}
 use Rattle.pfs_engine.specs.Rooms.{is_tcp}
 

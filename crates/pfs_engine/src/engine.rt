@@ -3,11 +3,11 @@
 ghost use Rattle.std.specs.Prelude.{◌≡◌, ◌+◌, ◌*◌, ◌<◌, ◌≤◌, ◌^◌, ◌++◌, true, false, length, None, Some, Ok, IfOk, IsOk, IsSome, OnErr, OnOk, unwrap_or};
 ghost use Rattle.std.specs.Option.{ForSome};
 ghost use Rattle.pfs_addr.specs.Keys.{key_of};
-ghost use Rattle.pfs_store.specs.Worlds.{empty_world, state_with};
+ghost use Rattle.pfs_store_plain.specs.Worlds.{empty_world, state_with};
 ghost use Rattle.pfs_conf_rules.specs.Configs.{scope_of};
 ghost use Rattle.pfs_conf_rules.specs.declared.actions.Scope.TheVariants as Scope;
 ghost use Rattle.pfs_conf_rules.specs.declared.items.RuleNo.{RuleNo};
-ghost use Rattle.pfs_store.specs.declared.records.Limit.{Limit};
+ghost use Rattle.pfs_store_plain.specs.declared.records.Limit.{Limit};
 ghost use Rattle.pfs_engine.specs.Kept.{IsWithinLimits, IsWithinShared, moment_of};
 ghost use Rattle.pfs_engine.specs.Refusals.{IsFree, IsRefused};
 ghost use Rattle.pfs_engine.specs.Machine.{advanced, answered, due, entries_held, most_nodes, most_states, nodes_held, start, states_held, step};
@@ -20,7 +20,7 @@ use crate::purges::purge_due;
 use pfs_addr::{Meter, NoMemory, Packet};
 use pfs_conf_rules::{Config, LimitName};
 use pfs_eval::{Book, Tables};
-use pfs_store::Store;
+use pfs_store_plain::Store;
 use std::alloc::Global;
 use std::marker::Model;
 

@@ -5,7 +5,7 @@ ghost use Rattle.std.specs.Prelude.{◌≡◌};
 use pfs_addr::Packet;
 use pfs_conf_rules::RuleNo;
 use pfs_eval::Added;
-use pfs_store::Limit;
+use pfs_store_plain::Limit;
 
 /// What comes at a moment.
 #[derive(Clone, Copy, Debug, PartialEq, Eq)]

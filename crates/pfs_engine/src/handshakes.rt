@@ -5,13 +5,13 @@ ghost use Rattle.std.specs.Option.{ForSome, option_copied};
 ghost use Rattle.pfs_addr.specs.Keys.{key_of};
 ghost use Rattle.pfs_conf_rules.specs.Configs.{Conf, limit_of, options_at, options_of};
 ghost use Rattle.pfs_conf_rules.specs.LoadRules.{AreOptions, IsRate};
-ghost use Rattle.pfs_store.specs.Counts.{exceeded};
-ghost use Rattle.pfs_store.specs.Handshakes.{flush_of, over_rate};
-ghost use Rattle.pfs_store.specs.Leaving.{without};
-ghost use Rattle.pfs_store.specs.Worlds.{holds_number, number_of, state_with};
+ghost use Rattle.pfs_store_plain.specs.Counts.{exceeded};
+ghost use Rattle.pfs_store_plain.specs.Handshakes.{flush_of, over_rate};
+ghost use Rattle.pfs_store_plain.specs.Leaving.{without};
+ghost use Rattle.pfs_store_plain.specs.Worlds.{holds_number, number_of, state_with};
 ghost use Rattle.pfs_engine.specs.Kept.{IsKept};
 ghost use Rattle.pfs_engine.specs.Machine.{added_by, by_options, by_state, by_touch, killed_count, machine_of, stays_at_kill, tables_by};
-ghost use Rattle.pfs_store.specs.declared.records.State.{State};
+ghost use Rattle.pfs_store_plain.specs.declared.records.State.{State};
 ghost use Rattle.pfs_engine.specs.Refusals.{IsFree};
 ghost use Rattle.pfs_engine.specs.Rooms.{HasRoomFor, is_tcp, overload_at};
 
@@ -19,7 +19,7 @@ use crate::events::Outcome;
 use pfs_addr::{Addr, FlowKey, Meter, NoMemory, Packet, Proto};
 use pfs_conf_rules::{Config, LimitName, Overload, Rate, RuleNo, Scope, StateOptions};
 use pfs_eval::{Added, Tables};
-use pfs_store::{StateNo, Store, Touched};
+use pfs_store_plain::{StateNo, Store, Touched};
 use pfs_track::Score;
 
 /// What a packet does that has the key of a held state: the state is renewed, and where its handshake

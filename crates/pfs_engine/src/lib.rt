@@ -12,4 +12,4 @@ mod tests;
 pub use engine::Engine;
 pub use events::{Event, Outcome, What, Work};
 pub use pfs_eval::Added;
-pub use pfs_store::Limit;
+pub use pfs_store_plain::Limit;

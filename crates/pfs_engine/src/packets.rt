@@ -4,8 +4,8 @@ ghost use Rattle.std.specs.Prelude.{List, ◌≡◌, ◌≤◌, ◌<◌, ◌+◌
 ghost use Rattle.pfs_addr.specs.Keys.{key_of};
 ghost use Rattle.pfs_eval.specs.Entries.{Entry};
 ghost use Rattle.pfs_conf_rules.specs.Configs.{limit_of, options_at};
-ghost use Rattle.pfs_store.specs.Admission.{limit_at};
-ghost use Rattle.pfs_store.specs.Worlds.{state_with};
+ghost use Rattle.pfs_store_plain.specs.Admission.{limit_at};
+ghost use Rattle.pfs_store_plain.specs.Worlds.{state_with};
 ghost use Rattle.pfs_engine.specs.Kept.{IsKept};
 ghost use Rattle.pfs_engine.specs.Machine.{answered, by_action, by_limit, by_rule, decided, machine_of};
 ghost use Rattle.pfs_engine.specs.Refusals.{IsFree, IsFreeBy};
@@ -16,7 +16,7 @@ use crate::handshakes::belongs;
 use pfs_addr::{FlowKey, Meter, NoMemory, Packet};
 use pfs_conf_rules::{Action, Config, LimitName, RuleNo};
 use pfs_eval::{Book, Tables};
-use pfs_store::Store;
+use pfs_store_plain::Store;
 
 /// The meters of one packet.
 #[derive(Drop)]

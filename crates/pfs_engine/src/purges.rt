@@ -6,7 +6,7 @@ ghost use Rattle.pfs_engine.specs.Machine.{due, most_nodes, most_states, purged,
 
 use crate::events::Work;
 use pfs_addr::Meter;
-use pfs_store::{Slice, Store};
+use pfs_store_plain::{Slice, Store};
 
 /// All purges due between the last moment and this one; none before the first event. No memory is taken.
 pub(crate) fn purge_due<S: Store>(store: &mut S, last: Option<u64>, now: u64) -> Work

@@ -1,18 +1,6 @@
-// States and source nodes: what is held, how it is counted, admitted, renewed, killed and purged.
+//! The stores of states and source nodes: what each kind does, and the kinds.
 #![tactic(auto)]
 
-mod counts;
-mod leaving;
-mod limits;
-mod plain;
-mod purging;
-mod records;
-mod store;
-mod touching;
-
-pub use plain::PlainStore;
-pub use records::{Limit, Node, NodeScope, Slice, State, StateNo, Touched};
-pub use store::Store;
-
-#[cfg(test)]
-mod tests;
+pub use pfs_store_plain::{
+    Limit, Node, NodeScope, PlainStore, Slice, State, StateNo, Store, Touched,
+};

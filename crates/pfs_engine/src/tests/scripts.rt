@@ -9,7 +9,7 @@ use super::tallied::Tallied;
 use crate::{Engine, Event, Limit, Outcome, What};
 use pfs_addr::{Addr, Dir, Endpoint, Flags, Packet, Proto, parse_ifname};
 use pfs_conf_rules::{Config, RuleNo};
-use pfs_store::{PlainStore, Store};
+use pfs_store_plain::{PlainStore, Store};
 use std::alloc::{AllocGlobal, Global};
 use std::process::Abort;
 use std::test::Fail;

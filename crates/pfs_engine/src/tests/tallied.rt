@@ -5,7 +5,7 @@ ghost use Rattle.std.specs.Prelude.{◌≡◌};
 use crate::Limit;
 use pfs_addr::{Addr, FlowKey, Meter, NoMemory, Packet};
 use pfs_conf_rules::RuleNo;
-use pfs_store::{Slice, StateNo, Store, Touched};
+use pfs_store_plain::{Slice, StateNo, Store, Touched};
 
 /// Any store, with a count of the calls that change it.
 #[derive(Drop)]

@@ -9,7 +9,7 @@ use super::scripts::{A1, A2, SERVER, SYN, held, new, packet, pass_time, plain, s
 use crate::{Engine, Outcome, Work};
 use pfs_addr::{Dir, Endpoint, Proto};
 use pfs_conf_rules::{Config, Filter, Host, LimitName, Ports, RuleNo, Scope, Side, TimeoutName};
-use pfs_store::Store;
+use pfs_store_plain::Store;
 use std::alloc::AllocGlobal;
 use std::process::Abort;
 use std::test::Fail;

@@ -1,6 +1,6 @@
 use Rattle.std.proofs.Common.{◌==◌, arith, ap, length}
-use Rattle.pfs_store.specs.Leaving.{other_than}
-use Rattle.pfs_store.specs.Worlds.{World}
+use Rattle.pfs_store_plain.specs.Leaving.{other_than}
+use Rattle.pfs_store_plain.specs.Worlds.{World}
 use Rattle.pfs_engine.proofs.Counts.{count-rest, count_le}
 use Rattle.pfs_engine.proofs.handshakes.kill_with.Goals as goal
 

@@ -1,6 +1,6 @@
 use Rattle.std.proofs.Common.{◌≡◌, ◌∙◌, Some, ap, rules, sym}
 use Rattle.pfs_conf_rules.specs.Configs.{Conf}
-use Rattle.pfs_store.specs.Admission.{limit_at}
+use Rattle.pfs_store_plain.specs.Admission.{limit_at}
 use Rattle.pfs_engine.proofs.OptionLaws.{refused_at}
 use Rattle.pfs_engine.proofs.packets.by_action.Goals as goal
 

@@ -1,6 +1,6 @@
 use Rattle.std.proofs.Common.{◌≡◌, ◌∙◌, Some, ap, arith, subst, sym}
 use Rattle.pfs_conf_rules.specs.Configs.{Conf}
-use Rattle.pfs_store.specs.Worlds.{World}
+use Rattle.pfs_store_plain.specs.Worlds.{World}
 use Rattle.pfs_engine.specs.Kept.{IsKept}
 use Rattle.pfs_engine.specs.Machine.{due, machine_of, purged}
 use Rattle.pfs_engine.specs.Views.{View}

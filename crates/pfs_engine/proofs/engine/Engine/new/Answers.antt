@@ -1,5 +1,5 @@
 use Rattle.std.proofs.Common.{ap, arith}
-use Rattle.pfs_store.specs.Worlds.{World}
+use Rattle.pfs_store_plain.specs.Worlds.{World}
 use Rattle.pfs_engine.proofs.KeptTime.{kept_start}
 use Rattle.pfs_engine.proofs.engine.Engine.new.Goals as goal
 

@@ -1,7 +1,0 @@
-use Rattle.std.proofs.Common.{arith}
-use Rattle.pfs_store.proofs.IdleLaws.{none-idle}
-use Rattle.pfs_store.proofs.leaving.idle.Goals as goal
-
-pub returns-else-count-before-clause-nodes : goal.returns-else-count-before-clause-nodes
-returns-else-count-before-clause-nodes g c =
-    none-idle c.args.config.now (g.T.Test.passes c.args.test.now) c.args.before.now c.args.now c.args.nodes.now (omega (arith, c.count.ensures, c.if-count-before.false))

@@ -1,7 +1,0 @@
-use Rattle.std.proofs.Common.{arith}
-use Rattle.std.proofs.lemmas.Grind.{common_steps}
-use Rattle.pfs_store.proofs.plain.PlainStoreStore.purge_states.Goals as goal
-
-pub returns-clause-world : goal.returns-clause-world
-returns-clause-world c =
-    grind (arith, common_steps, c.slice_states.ensures.world c.self.inside.pending_nodes.items c.self.inside.made)

@@ -1,8 +1,0 @@
-use Rattle.std.proofs.Common.{◌≡◌, ◌++◌, take, drop, map}
-use Rattle.pfs_store.specs.Touching.{renewed}
-use Rattle.pfs_store.proofs.touching.renew.Given as goal
-
--- those so far are renewed
-abbrev pub invariant-loop-state : goal.invariant-loop-state
-invariant-loop-state l =
-    l.states ≡ map (renewed l.number l.packet l.now) (take l.state-index l.initial.states) ++ drop l.state-index l.initial.states

@@ -1,0 +1,39 @@
+-- Where no state leaves, no node gets an idle moment.
+use Rattle.std.proofs.Common.{◌≡◌, ◌≤◌, ◌==◌, ◌&&◌, ◌∷◌, [], ℕ, suc, Bool, true, false, List, length, filter, map, nat_lt, if◌then◌else◌, refl, ap, sym, arith}
+use Rattle.std.proofs.lemmas.Bool.Decides.{nat_tests}
+use Rattle.std.proofs.lemmas.List.Sums.{count_by-le-length, length-filter}
+use Rattle.pfs_conf_rules.specs.Configs.{Conf}
+use Rattle.pfs_store_plain.specs.Counts.{node_states}
+use Rattle.pfs_store_plain.specs.Leaving.{idled}
+use Rattle.pfs_store_plain.specs.declared.records.Node.{Node}
+use Rattle.pfs_store_plain.specs.declared.records.State.{State}
+
+-- a filter that keeps as many keeps all
+filter-all : (p : State → Bool) (xs : List State) → length xs ≤ length (filter p xs) → filter p xs ≡ xs
+filter-all p [] h = refl
+filter-all p (x ∷ xs) h = go (λ k. filter-all p xs k) (p x) h
+  where
+    go : (length xs ≤ length (filter p xs) → filter p xs ≡ xs) → (b : Bool)
+        → suc (length xs) ≤ length (if b then x ∷ filter p xs else filter p xs) → (if b then x ∷ filter p xs else filter p xs) ≡ x ∷ xs
+    go rest true k = ap (λ ys. x ∷ ys) (rest (omega arith))
+    go rest false k = absurd (omega (arith, length-filter p xs, count_by-le-length p xs))
+
+-- a map that changes no element
+map-same : (f : Node → Node) → ((n : Node) → f n ≡ n) → (ns : List Node) → map f ns ≡ ns
+map-same f same [] = refl
+map-same f same (n ∷ ns) = λ i. same n i ∷ map-same f same ns i
+
+-- no number is both above 0 and 0
+not-both : (a : ℕ) → (nat_lt 0 a && (a == 0)) ≡ false
+not-both a = grind (arith, nat_tests)
+
+-- a node that has as many states as before is as before
+idled-same : (conf : Conf) (states : List State) (now : ℕ) (n : Node) → idled conf states states now n ≡ n
+idled-same conf states now n =
+    ap (λ b. if b then record n { idle = now } else n) (not-both (node_states conf n.scope n.source states))
+
+pub none-idle : (conf : Conf) (p : State → Bool) (states : List State) (now : ℕ) (nodes : List Node) → length states ≤ length (filter p states)
+    → nodes ≡ map (idled conf states (filter p states) now) nodes
+none-idle conf p states now nodes h =
+    let all = filter-all p states h in
+    rw all (sym (map-same (idled conf states states now) (idled-same conf states now) nodes))

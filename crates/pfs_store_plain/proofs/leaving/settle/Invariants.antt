@@ -1,0 +1,12 @@
+use Rattle.std.proofs.Common.{◌≡◌, ◌++◌, take, drop, map, filter}
+use Rattle.pfs_store_plain.specs.Leaving.{idled}
+use Rattle.pfs_store_plain.specs.Plain.{AreScores}
+use Rattle.pfs_store_plain.proofs.leaving.settle.Given as goal
+
+-- those so far are settled, and no score is past the greatest
+abbrev pub invariant-loop-node : goal.invariant-loop-node
+invariant-loop-node g l = record {
+  nodes : l.nodes
+      ≡ map (idled l.config l.before (filter (g.T.Test.passes l.test) l.before) l.now) (take l.node-index l.initial.nodes) ++ drop l.node-index l.initial.nodes;
+  scores : AreScores l.nodes;
+}

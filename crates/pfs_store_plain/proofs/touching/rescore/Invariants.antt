@@ -1,0 +1,15 @@
+use Rattle.std.proofs.Common.{◌≡◌, ◌≤◌, ◌++◌, take, drop, map, length}
+use Rattle.std.specs.List.{AllWithin}
+use Rattle.pfs_store_plain.specs.Plain.{AreScores}
+use Rattle.pfs_store_plain.specs.Touching.{rescored}
+use Rattle.pfs_store_plain.specs.declared.records.Node.{Node}
+use Rattle.pfs_store_plain.proofs.touching.rescore.Given as goal
+
+-- the nodes so far are done; of the others the last handshake came before now; no score is past the greatest
+abbrev pub invariant-loop-node : goal.invariant-loop-node
+invariant-loop-node l = record {
+  nodes : l.nodes
+      ≡ map (rescored l.scope l.source l.rate.seconds l.now) (take l.node-index l.initial.nodes) ++ drop l.node-index l.initial.nodes;
+  order : AllWithin (λ (n : Node). n.score.last ≤ l.now) l.nodes l.node-index (length l.nodes);
+  scores : AreScores l.nodes;
+}

@@ -1,0 +1,10 @@
+use Rattle.std.proofs.Common.{◌≡◌, drop}
+use Rattle.std.specs.List.{find}
+use Rattle.pfs_addr.specs.Sameness.{same_key}
+use Rattle.pfs_store_plain.specs.declared.records.State.{State}
+use Rattle.pfs_store_plain.proofs.touching.state_with.Given as goal
+
+-- the first is among the rest
+abbrev pub invariant-loop-state : goal.invariant-loop-state
+invariant-loop-state l =
+    find (λ (s : State). same_key s.key l.key) (drop l.state-index l.states) ≡ find (λ (s : State). same_key s.key l.key) l.states

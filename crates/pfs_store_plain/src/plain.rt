@@ -1,0 +1,229 @@
+// A store over plain lists.
+
+ghost use Rattle.std.specs.Prelude.{◌≡◌, ◌+◌, ◌<◌, ◌≤◌, [], ◌∷◌, ◌++◌, false, IfOk, OnOk, length, vec_capacity};
+ghost use Rattle.pfs_store_plain.specs.Admission.{nodes_with};
+ghost use Rattle.pfs_store_plain.specs.Plain.{AreScores};
+ghost use Rattle.pfs_store_plain.specs.Worlds.{empty_world};
+
+use crate::counts::{count, has_node, node_scope};
+use crate::leaving::{Flushed, OtherThan, Unflushed, holds_number, leave};
+use crate::limits::limit_met;
+use crate::purging::{slice_nodes, slice_states};
+use crate::records::{Limit, Node, NodeScope, Slice, State, StateNo, Touched};
+use crate::store::Store;
+use crate::touching::{self, state_with};
+use pfs_addr::{Addr, FlowKey, Meter, NoMemory, Packet};
+use pfs_conf_rules::{Config, RuleNo};
+use pfs_track::{Score, StatePhase};
+use std::alloc::{AllocError, Global};
+use std::marker::Model;
+
+/// A store that keeps its states and source nodes as two lists, and walks them at each call. It does not count looks.
+///
+/// Clauses see a `Plain`: the configuration that it was made for, and its world.
+#[derive(Drop)]
+pub struct PlainStore {
+    config: Config,
+    states: Vec<State>,
+    nodes: Vec<Node>,
+    pending_states: Vec<u64>,
+    pending_nodes: Vec<u64>,
+    rule_counts: Vec<u64>,
+    made: u64,
+}
+
+impl Model for PlainStore {
+    ghost use Rattle.std.specs.Prelude.{vec_capacity};
+    ghost use Rattle.pfs_store_plain.specs.Plain.{IsRoomy, Plain};
+    ghost use Rattle.pfs_store_plain.specs.Worlds.{lists};
+
+    ghost Value = { Plain };
+
+    ghost view = { λ s. record { config = s.config; world = lists s.states.items s.nodes.items s.pending_states.items s.pending_nodes.items s.made } };
+
+    ghost invariant = { λ s. IsRoomy s.config s.states.items s.nodes.items s.rule_counts.items (vec_capacity s.pending_states) (vec_capacity s.pending_nodes) };
+}
+
+impl PlainStore {
+    /// An empty store, made for this configuration, of which it keeps a copy. `NoMemory` where memory for the copy is refused.
+    pub fn new(alloc: Global, config: &Config) -> Result<PlainStore, NoMemory>
+        ensures { IfOk result (λ s. s ≡ record { config = config.now; world = empty_world }) }
+    {
+        let rules = config.item_count() as usize;
+        Ok(PlainStore {
+            config: config.copy()?,
+            states: Vec::new(alloc),
+            nodes: Vec::new(alloc),
+            pending_states: Vec::new(alloc),
+            pending_nodes: Vec::new(alloc),
+            rule_counts: vec![in alloc; 0; rules]?,
+            made: 0,
+        })
+    }
+}
+
+impl Store for PlainStore {
+    ghost world = { λ s. s.world };
+
+    ghost config = { λ s. s.config };
+
+    ghost counts = { false };
+
+    fn find(&self, key: &FlowKey) -> Option<StateNo> {
+        match state_with(&self.states, key) {
+            Some(state) => Some(StateNo(state.number)),
+            None => None,
+        }
+    }
+
+    fn rule_at(&self, key: &FlowKey) -> Option<RuleNo> {
+        match state_with(&self.states, key) {
+            Some(state) => Some(state.rule),
+            None => None,
+        }
+    }
+
+    fn holds(&self, number: StateNo) -> bool {
+        holds_number(&self.states, number.0)
+    }
+
+    fn state_count(&self) -> u64 {
+        self.states.len() as u64
+    }
+
+    fn node_count(&self) -> u64 {
+        self.nodes.len() as u64
+    }
+
+    fn made(&self) -> u64 {
+        self.made
+    }
+
+    fn admit(
+        &mut self,
+        packet: &Packet,
+        rule: RuleNo,
+        now: u64,
+    ) -> Result<Result<StateNo, Limit>, NoMemory> {
+        let source = packet.src();
+        if let Some(limit) = limit_met(&self.config, &self.states, &self.nodes, rule, source) {
+            return Ok(Err(limit));
+        }
+        if make_room(&mut self.states, &mut self.pending_states).is_err() {
+            return Err(NoMemory);
+        }
+        if make_room(&mut self.nodes, &mut self.pending_nodes).is_err() {
+            return Err(NoMemory);
+        }
+        let number = self.made + 1;
+        let scope = node_scope(&self.config, rule);
+        add_node(&mut self.nodes, number, source, scope);
+        self.states.push_reserved(State {
+            number,
+            key: FlowKey::of(packet),
+            dir: packet.dir(),
+            source,
+            rule,
+            phase: StatePhase::first(packet.proto()),
+            last: now,
+        });
+        self.made = number;
+        Ok(Ok(StateNo(number)))
+    }
+
+    fn touch(
+        &mut self,
+        _number: StateNo,
+        packet: &Packet,
+        now: u64,
+        _meter: &mut Meter,
+    ) -> Touched {
+        touching::touch(
+            &self.config,
+            self.states.as_mut_slice(),
+            self.nodes.as_mut_slice(),
+            packet,
+            now,
+        )
+    }
+
+    fn kill(&mut self, number: StateNo, now: u64, _meter: &mut Meter) {
+        leave(
+            &self.config,
+            &mut self.states,
+            self.nodes.as_mut_slice(),
+            &mut self.pending_states,
+            &OtherThan(number.0),
+            now,
+        );
+    }
+
+    fn flush(&mut self, source: Addr, rule: Option<RuleNo>, now: u64, _meter: &mut Meter) -> u64 {
+        let flushed = Flushed { source, rule };
+        let killed = count(&self.states, &flushed);
+        leave(
+            &self.config,
+            &mut self.states,
+            self.nodes.as_mut_slice(),
+            &mut self.pending_states,
+            &Unflushed(flushed),
+            now,
+        );
+        killed
+    }
+
+    fn purge_states(&mut self, now: u64, _meter: &mut Meter) -> Slice {
+        slice_states(
+            &self.config,
+            self.rule_counts.as_mut_slice(),
+            &mut self.states,
+            self.nodes.as_mut_slice(),
+            &mut self.pending_states,
+            now,
+        )
+    }
+
+    fn purge_nodes(&mut self, now: u64) -> Slice {
+        slice_nodes(
+            &self.config,
+            &self.states,
+            &mut self.nodes,
+            &mut self.pending_nodes,
+            now,
+        )
+    }
+}
+
+/// Room for one more of what is held, and for the numbers of all of it.
+fn make_room<T>(held: &mut Vec<T>, pending: &mut Vec<u64>) -> Result<(), AllocError>
+    ensures held { held.new.items ≡ held.old.items }
+    ensures pending { pending.new.items ≡ pending.old.items }
+    ensures kept { vec_capacity pending.old ≤ vec_capacity pending.new }
+    ensures room { OnOk result (length held.new.items < vec_capacity held.new) }
+    ensures numbers { OnOk result (length held.new.items + 1 ≤ vec_capacity pending.new) }
+{
+    held.reserve(1)?;
+    let wanted = held.len().saturating_add(1);
+    pending.reserve(wanted.saturating_sub(pending.len()))
+}
+
+/// Adds the node of a source in a scope, if there is a scope and it has none.
+fn add_node(nodes: &mut Vec<Node>, number: u64, source: Addr, scope: Option<NodeScope>)
+    requires room { length nodes.old.items < vec_capacity nodes.old }
+    requires scores { AreScores nodes.old.items }
+    ensures nodes { nodes.new.items ≡ nodes_with nodes.old.items number source scope }
+    ensures fewer { length nodes.new.items ≤ length nodes.old.items + 1 }
+    ensures scores { AreScores nodes.new.items }
+{
+    if let Some(scope) = scope
+        && !has_node(nodes, scope, source)
+    {
+        nodes.push_reserved(Node {
+            number,
+            scope,
+            source,
+            score: Score::default(),
+            idle: 0,
+        });
+    }
+}
