@@ -70,10 +70,8 @@ function leave_out(why) {
 function make_record(    ports, moment, name) {
     ports = packet["protocol"] == "tcp" || packet["protocol"] == "udp"
     if (ports && (number_of(packet["source_port"], 65535) < 0 || number_of(packet["target_port"], 65535) < 0)) return leave_out("cut before its ports or flags")
-    if (packet["direction"] == "") {
-        if (prefixes["count"] == 0) refuse("which way the packet goes is not told here: --inside is wanted")
-        packet["direction"] = direction_of(packet["source"], packet["target"])
-    } else if (prefixes["count"] > 0) refuse("the line tells the direction: --inside is not for it")
+    if (prefixes["count"] > 0) packet["direction"] = direction_of(packet["source"], packet["target"])
+    else if (packet["direction"] == "") refuse("which way the packet goes is not told here: --inside is wanted")
     if (packet["direction"] == "") return leave_out("neither in nor out by --inside")
     moment = int(packet["time"])
     if (moment > 4294967295) refuse("the moment is past 4294967295")
