@@ -61,8 +61,6 @@ $1 == "held" {
 }
 $1 == "users" && $2 == "connections" { tried[column] = $3 }
 $1 == "users" && $2 == "served" { went[column] = $3 }
-$1 == "users" && $2 == "unanswered" { went[column] += $3 }
-$1 == "end" || $1 == "users" && $2 == "without-beginning" { last_seen[column] = 1 }
 
 # A text of the picture's own, at a place of the whole picture.
 function text_at(x, y, colour, text) {
@@ -76,15 +74,15 @@ function heading(row,    x, y, top) {
     if (row == "held") text_at(x, y, black, "states held")
     if (row == "made") {
         text_at(x, y, black, "states a second:")
-        text_at(x + 125 / width, y, blue, "new")
-        text_at(x + 170 / width, y, red, "dropped by a limit")
-        text_at(x + 310 / width, y, orange, "killed")
+        text_at(x + 124 / width, y, blue, "new")
+        text_at(x + 172 / width, y, red, "dropped by a limit")
+        text_at(x + 322 / width, y, orange, "killed")
     }
     if (row == "users") {
         text_at(x, y, black, "users' connections a second:")
-        text_at(x + 210 / width, y, green, "served")
-        text_at(x + 275 / width, y, red, "refused")
-        text_at(x + 345 / width, y, orange, "killed or cut")
+        text_at(x + 226 / width, y, green, "served")
+        text_at(x + 290 / width, y, red, "refused")
+        text_at(x + 362 / width, y, orange, "killed or cut")
     }
 }
 
@@ -106,7 +104,7 @@ function panel(row, column,    name, style) {
 function print_script(    row, rows, names, r, c) {
     blue = "#1f4e8c"; red = "#c62828"; orange = "#e08a00"; green = "#3b8f4a"; black = "#222222"
     rows = split("held made users", names, " ")
-    left = 64; gap = 16; panel_height = 150
+    left = 64; gap = 24; panel_height = 150
     panel_width = (width - left - 16 - (column - 1) * gap) / column
     height = (title != "" ? 34 : 8) + 30
     for (r = 1; r <= rows; r++) if (names[r] == "made" || names[r] in most) {
@@ -121,11 +119,11 @@ function print_script(    row, rows, names, r, c) {
     print "$nothing << EOD\n0 0 0 0\nEOD"
     for (r = 1; r <= rows; r++) for (c = 1; c <= column; c++) if ((names[r], c) in data) printf "$%s%d << EOD\n%sEOD\n", names[r], c, data[names[r], c]
     printf "set xrange [0:%.0f]\n", most["time"]
-    print "unset key\nset border 3 linecolor rgb \"#888888\"\nset tics nomirror out scale 0.5\nset ytics " "autofreq\nset style fill solid 1.0 noborder\nset grid ytics linecolor rgb \"#dddddd\""
+    print "unset key\nset border 3 linecolor rgb \"#555555\"\nset tics nomirror out scale 0.5 textcolor rgb \"#222222\"\nset ytics " "autofreq\nset style fill solid 1.0 noborder\nset grid ytics linecolor rgb \"#dddddd\""
     print "set multiplot"
     if (title != "") text_at(left / width, 1 - 18 / height, black, title)
     for (c = 1; c <= column; c++)
-        text_at((left + (c - 1) * (panel_width + gap)) / width, 1 - ((title != "" ? 34 : 8) + 12) / height, black, label[c] (tried[c] > 0 ? (label[c] != "" ? ": " : "") sprintf("%.0f %% of the users served", 100 * went[c] / tried[c]) : ""))
+        text_at((left + (c - 1) * (panel_width + gap)) / width, 1 - ((title != "" ? 34 : 8) + 12) / height, black, label[c] (tried[c] > 0 ? (label[c] != "" ? ": " : "") sprintf("%.0f %% of users served", 100 * went[c] / tried[c]) : ""))
     for (r = 1; r <= rows; r++) {
         if (!(names[r] in row_top)) continue
         heading(names[r])
