@@ -162,7 +162,7 @@ BEGIN {
         exit 2
     }
     while ((getline line < rules) > 0) read_rule(line)
-    items_known = items
+    items_known = items + 0
 }
 
 # The n-th line that begins an item is that of `@n`: behind the settings and tables, and without the ends of anchors.

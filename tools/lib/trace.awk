@@ -47,7 +47,7 @@ function read_fields(line,    part) {
     }
     packet["direction"] = part[12] == "1" || part[12] == "in" ? "in" : part[12] == "2" || part[12] == "out" ? "out" : ""
     packet["interface"] = part[13]
-    packet["action"] = part[14]
+    packet["action"] = part[14] == "0" ? "pass" : part[14] == "1" ? "block" : part[14]
     packet["rule"] = part[15]
     return ""
 }
