@@ -13,11 +13,11 @@ function refuse(where, line, reason) {
     exit 1
 }
 
-# Reads the next record of the trace into `field`, past its header and blank lines; whether there was one.
-function next_record(    line) {
+# Reads the next record of the trace into `record`, past its header and blank lines; whether there was one.
+function next_record(    line, text) {
     while ((getline line < trace) > 0) {
         trace_line++
-        sub(/\r$/, "", line)
+        if (substr(line, length(line)) == "\r") line = substr(line, 1, length(line) - 1)
         if (line == "") continue
         if (index(line, "\"") > 0) refuse("trace", trace_line, "a quote, which this tool does not read")
         if (!header) {
@@ -26,10 +26,24 @@ function next_record(    line) {
             header = 1
             continue
         }
-        if (split(line, field, ",") != 9) refuse("trace", trace_line, "not nine fields")
-        if (field[1] !~ /^[0-9]+$/) refuse("trace", trace_line, "the moment is no number")
+        text = substr(line, 1, index(line, ",") - 1)
+        if (text != time_text) {
+            if (text !~ /^[0-9]+$/) refuse("trace", trace_line, "the moment is no number")
+            time_text = text
+        }
+        record = line
         return 1
     }
+    return 0
+}
+
+function split_record() {
+    if (split(record, field, ",") != 9) refuse("trace", trace_line, "not nine fields")
+}
+
+# Whether the record may be one of a user: it has the bytes with which the addresses of some network of users begin.
+function may_be_of_user(    i) {
+    for (i = 1; i <= prefixes["count"]; i++) if (index(record, beginning[i]) > 0) return 1
     return 0
 }
 
@@ -38,6 +52,8 @@ function end_second(    word) {
     for (word in now) {
         in_second[word, moment] = now[word]
         busy[word]++
+        if (!(word in first_moment)) first_moment[word] = moment
+        last_moment[word] = moment
     }
     split("", now)
     seconds++
@@ -113,7 +129,7 @@ function is_user(address) {
 
 function take_with_trace(word,    time) {
     if (!next_record()) refuse("trace", trace_line, "the report has more rows than the trace")
-    time = field[1] + 0
+    time = time_text + 0
     if (time != moment || FNR == 1) {
         if (FNR == 1) first_time = time
         else if (time < moment) refuse("trace", trace_line, "the moment falls")
@@ -121,6 +137,8 @@ function take_with_trace(word,    time) {
         moment = time
     }
     now[word]++
+    if (substr(word, 1, 5) == "drop:" || substr(word, 1, 5) == "kill:" || may_be_of_user()) split_record()
+    else return
     if (substr(word, 1, 5) == "drop:") refused_of[field[5]]++
     if (users != "" && (is_user(field[5]) || is_user(field[7]))) follow_user(word)
 }
@@ -161,8 +179,18 @@ BEGIN {
         failed = 2
         exit 2
     }
+    for (i = 1; i <= prefixes["count"]; i++) beginning[i] = "," common_bytes(prefixes["start", i], prefixes["end", i] - 1)
     while ((getline line < rules) > 0) read_rule(line)
     items_known = items + 0
+}
+
+# The whole numbers with which all addresses from the one to the other begin, each with its dot.
+function common_bytes(from, to,    one, other, i, text) {
+    split(address_text(from), one, ".")
+    split(address_text(to), other, ".")
+    text = ""
+    for (i = 1; i <= 3 && one[i] == other[i]; i++) text = text one[i] "."
+    return text
 }
 
 # The n-th line that begins an item is that of `@n`: behind the settings and tables, and without the ends of anchors.
@@ -189,11 +217,7 @@ $1 == "end" {
     answers[$2, $3]++
     last_row[$2] = FNR
     rows++
-    if (trace != "") {
-        take_with_trace($2)
-        if (!($2 in first_moment)) first_moment[$2] = moment
-        last_moment[$2] = moment
-    }
+    if (trace != "") take_with_trace($2)
     if (substr($2, 1, 5) == "kill:") take_kill()
     else if (NF != 3) refuse("report", FNR, "no line of a report")
 }
