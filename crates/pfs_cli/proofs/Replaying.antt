@@ -4,7 +4,7 @@ use Rattle.std.proofs.Math.Seq.{drop-append_seam, drop-append-add}
 use Rattle.std.specs.Prelude.{IsErrAnd, Result, Ok, Err, nat_lt}
 use Rattle.std.proofs.lemmas.Bool.Decides.{nat_tests}
 use Rattle.std.proofs.lemmas.List.{append-nil, take-append-drop}
-use Rattle.pfs_engine.specs.declared.events.Event.{Event}
+use Rattle.pfs_engine_machine.specs.declared.events.Event.{Event}
 use Rattle.pfs_cli.specs.Traces.{Trace}
 use Rattle.pfs_cli.proofs.Telling.{report-front}
 use Rattle.std.specs.Io.KnownBytes.{Appends, Keeps, Consumes}

@@ -17,13 +17,13 @@ use Rattle.pfs_store_plain.specs.Worlds.{state_with}
 use Rattle.pfs_store_plain.specs.declared.records.Limit.{Limit}
 use Rattle.pfs_store_plain.specs.declared.records.State.{State}
 use Rattle.pfs_store_plain.specs.declared.records.Touched.{Touched}
-use Rattle.pfs_engine.specs.Machine.{Machine, machine_of, step, advanced, acted, answered, by_state, by_rule, by_action, by_limit, by_touch, by_hit, decided}
-use Rattle.pfs_engine.specs.declared.events.Event.{Event}
-use Rattle.pfs_engine.specs.Kept.{moment_of}
-use Rattle.pfs_engine.specs.declared.events.Outcome.{Outcome}
-use Rattle.pfs_engine.specs.declared.events.Outcome.TheVariants as outcome
-use Rattle.pfs_engine.specs.declared.events.What.{What}
-use Rattle.pfs_engine.specs.declared.events.What.TheVariants as what
+use Rattle.pfs_engine_machine.specs.Machine.{Machine, machine_of, step, advanced, acted, answered, by_state, by_rule, by_action, by_limit, by_touch, by_hit, decided}
+use Rattle.pfs_engine_machine.specs.declared.events.Event.{Event}
+use Rattle.pfs_engine_machine.specs.Kept.{moment_of}
+use Rattle.pfs_engine_machine.specs.declared.events.Outcome.{Outcome}
+use Rattle.pfs_engine_machine.specs.declared.events.Outcome.TheVariants as outcome
+use Rattle.pfs_engine_machine.specs.declared.events.What.{What}
+use Rattle.pfs_engine_machine.specs.declared.events.What.TheVariants as what
 use Rattle.pfs_cli.specs.declared.faults.TraceFault.{TraceFault}
 use Rattle.pfs_cli.specs.declared.faults.TraceFault.TheVariants as fault
 use Rattle.pfs_cli.specs.Events.{at_most, column_of, number_to, what_at, falls, event_at, in_column, and_then}

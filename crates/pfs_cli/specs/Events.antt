@@ -13,9 +13,9 @@ use Rattle.pfs_addr.specs.declared.packets.Dir.TheVariants.{In, Out}
 use Rattle.pfs_addr.specs.declared.packets.Endpoint.{Endpoint}
 use Rattle.pfs_addr.specs.declared.protocols.Proto.{Proto}
 use Rattle.pfs_addr.specs.declared.protocols.Proto.TheVariants.{Tcp, Udp, Other}
-use Rattle.pfs_engine.specs.declared.events.What.{What}
-use Rattle.pfs_engine.specs.declared.events.What.TheVariants as what
-use Rattle.pfs_engine.specs.declared.events.Event.{Event}
+use Rattle.pfs_engine_machine.specs.declared.events.What.{What}
+use Rattle.pfs_engine_machine.specs.declared.events.What.TheVariants as what
+use Rattle.pfs_engine_machine.specs.declared.events.Event.{Event}
 use Rattle.pfs_cli.specs.declared.faults.TraceFault.{TraceFault}
 use Rattle.pfs_cli.specs.declared.faults.TraceFault.TheVariants as fault
 

@@ -6,8 +6,8 @@ use Rattle.pfs_store_plain.specs.declared.records.Limit.{Limit}
 use Rattle.pfs_store_plain.specs.declared.records.Limit.TheVariants as limit
 use Rattle.pfs_eval.specs.declared.tables.Added.{Added}
 use Rattle.pfs_eval.specs.declared.tables.Added.TheVariants as added
-use Rattle.pfs_engine.specs.declared.events.Outcome.{Outcome}
-use Rattle.pfs_engine.specs.declared.events.Outcome.TheVariants as outcome
+use Rattle.pfs_engine_machine.specs.declared.events.Outcome.{Outcome}
+use Rattle.pfs_engine_machine.specs.declared.events.Outcome.TheVariants as outcome
 
 -- a refused state is told by the limit that it met, in pf.conf(5)'s word for it
 abbrev pub limit_word : Limit → List ℕ

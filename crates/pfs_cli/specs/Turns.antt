@@ -1,8 +1,8 @@
 -- What one turn of a run writes. (own)
 use Rattle.std.specs.Prelude.{◌≡◌, ℕ, List, [], take, Result, Ok, Err}
 use Rattle.pfs_conf_rules.specs.Configs.{Conf}
-use Rattle.pfs_engine.specs.declared.events.Event.{Event}
-use Rattle.pfs_engine.specs.Machine.{Machine, step}
+use Rattle.pfs_engine_machine.specs.declared.events.Event.{Event}
+use Rattle.pfs_engine_machine.specs.Machine.{Machine, step}
 use Rattle.pfs_cli.specs.declared.records.Stop.{Stop}
 use Rattle.pfs_cli.specs.declared.records.Stop.TheVariants as stop
 use Rattle.pfs_cli.specs.Events.{event_at}

@@ -8,7 +8,7 @@ ghost use Rattle.csv.specs.Records.{fields_of};
 ghost use Rattle.pfs_cli_streams.specs.Sinks.{held, failures_of};
 ghost use Rattle.pfs_cli.specs.Lines.{row_text, end_text};
 ghost use Rattle.std.specs.Option.{ForSome};
-ghost use Rattle.pfs_engine.specs.Machine.{start, step};
+ghost use Rattle.pfs_engine_machine.specs.Machine.{start, step};
 ghost use Rattle.pfs_cli.specs.Reports.{Tells, end_of};
 ghost use Rattle.pfs_cli.specs.Turns.{WritesLine, TakesEvent, TakesRecord};
 ghost use Rattle.pfs_cli.specs.Traces.{events_of, events_from, records_of, records_left};

@@ -11,10 +11,11 @@ use Rattle.pfs_store_plain.specs.Worlds.{World, holds_number, number_of, rule_in
 use Rattle.pfs_store_plain.specs.declared.records.State.{State}
 use Rattle.pfs_store_plain.specs.declared.records.StateNo.{StateNo}
 use Rattle.pfs_store_plain.specs.declared.records.Touched.{Touched}
-use Rattle.pfs_engine.specs.Kept.{IsKept}
-use Rattle.pfs_engine.specs.Machine.{Machine}
-use Rattle.pfs_engine.specs.Rooms.{HasRoomFor, is_tcp, overload_at}
-use Rattle.pfs_engine.proofs.KeptHandshakes.{held_touched, proto_of_completed}
+use Rattle.pfs_engine_machine.specs.Kept.{IsKept}
+use Rattle.pfs_engine_machine.specs.Machine.{Held}
+use Rattle.pfs_engine_machine.specs.Refusals.{is_tcp}
+use Rattle.pfs_engine.specs.Rooms.{HasRoomFor, overload_at}
+use Rattle.pfs_engine_machine.proofs.KeptHandshakes.{held_touched, proto_of_completed}
 
 -- the state that was found
 pub found_state : (o : Option State) (number : StateNo) → option_map number_of o ≡ Some number → (s : State) × (o ≡ Some s) × (s.number ≡ number.0)
@@ -29,8 +30,8 @@ held_after conf w after p now number e is =
     ap (λ (v : World). holds_number v.states number.0) after_is
     ∙ (ap (λ (n : ℕ). holds_number (touched conf w s p now).states n) (sym same) ∙ held_touched conf w p now s found)
 
-pub room_after : (conf store_conf : Conf) (m : Machine) (p : Header) (now : ℕ) (number : StateNo) (t : Touched) (rule : Option RuleNo) (tables : Holdings)
-    → IsKept conf m → option_map number_of (state_with (key_of p) m.world) ≡ Some number
+pub room_after : (conf store_conf : Conf) (m : Held) (p : Header) (now : ℕ) (number : StateNo) (t : Touched) (rule : Option RuleNo) (tables : Holdings)
+    → IsKept conf m now → option_map number_of (state_with (key_of p) m.world) ≡ Some number
     → rule ≡ option_map rule_in (state_with (key_of p) m.world)
     → Some t ≡ option_map (touch_of store_conf m.world p now) (state_with (key_of p) m.world)
     → (is_tcp p.proto ≡ true → HasRoomFor tables (overload_at conf rule))
@@ -41,5 +42,5 @@ room_after conf store_conf m p now number t rule tables kept e rule_is touch_is 
     let t_is : t ≡ touch_of store_conf m.world p now s = cc in
     let completes : completes_at p s ≡ true = sym (ap (λ (x : Touched). x.completed) t_is) ∙ done in
     let at : rule ≡ Some s.rule = rule_is ∙ ap (option_map rule_in) found in
-    let here = subst (λ (r : Option RuleNo). HasRoomFor tables (overload_at conf r)) at (room (proto_of_completed conf m p s kept found completes)) in
+    let here = subst (λ (r : Option RuleNo). HasRoomFor tables (overload_at conf r)) at (room (proto_of_completed conf m p now s kept found completes)) in
     subst (λ (r : RuleNo). HasRoomFor tables (options_of conf r.0).overload) (sym (ap (λ (x : Touched). x.rule) t_is)) here

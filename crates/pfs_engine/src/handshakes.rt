@@ -9,15 +9,15 @@ ghost use Rattle.pfs_store_plain.specs.Counts.{exceeded};
 ghost use Rattle.pfs_store_plain.specs.Handshakes.{flush_of, over_rate};
 ghost use Rattle.pfs_store_plain.specs.Leaving.{without};
 ghost use Rattle.pfs_store_plain.specs.Worlds.{holds_number, number_of, state_with};
-ghost use Rattle.pfs_engine.specs.Kept.{IsKept};
-ghost use Rattle.pfs_engine.specs.Machine.{added_by, by_options, by_state, by_touch, killed_count, machine_of, stays_at_kill, tables_by};
+ghost use Rattle.pfs_engine_machine.specs.Kept.{IsKept};
+ghost use Rattle.pfs_engine_machine.specs.Machine.{added_by, by_options, by_state, by_touch, killed_count, held_of, stays_at_kill, tables_by};
 ghost use Rattle.pfs_store_plain.specs.declared.records.State.{State};
-ghost use Rattle.pfs_engine.specs.Refusals.{IsFree};
-ghost use Rattle.pfs_engine.specs.Rooms.{HasRoomFor, is_tcp, overload_at};
+ghost use Rattle.pfs_engine_machine.specs.Refusals.{IsFree, is_tcp};
+ghost use Rattle.pfs_engine.specs.Rooms.{HasRoomFor, overload_at};
 
-use crate::events::Outcome;
 use pfs_addr::{Addr, FlowKey, Meter, NoMemory, Packet, Proto};
 use pfs_conf_rules::{Config, LimitName, Overload, Rate, RuleNo, Scope, StateOptions};
+use pfs_engine_machine::Outcome;
 use pfs_eval::{Added, Tables};
 use pfs_store_plain::{StateNo, Store, Touched};
 use pfs_track::Score;
@@ -40,17 +40,17 @@ pub(crate) fn belongs<S: Store>(
 ) -> Result<Outcome, NoMemory>
     requires made_for { S.config store.old ≡ config.now }
     requires limit { tables.old.limit ≡ limit_of config.now LimitName.TableEntries }
-    requires kept { IsKept config.now (machine_of (S.world store.old) tables.old.entries (Some now)) }
+    requires kept { IsKept config.now (held_of (S.world store.old) tables.old.entries) now }
     requires held { option_map number_of (state_with (key_of packet.now) (S.world store.old)) ≡ Some number }
     requires looks { looks.old ≡ 0 }
-    ensures ok { IfOk result (λ o. (o, machine_of (S.world store.new) tables.new.entries (Some now))
-        ≡ by_state config.now (machine_of (S.world store.old) tables.old.entries (Some now)) packet.now now (state_with (key_of packet.now) (S.world store.old))) }
+    ensures ok { IfOk result (λ o. (o, held_of (S.world store.new) tables.new.entries)
+        ≡ by_state config.now (held_of (S.world store.old) tables.old.entries) packet.now now (state_with (key_of packet.now) (S.world store.old))) }
     ensures world { OnErr result (S.world store.new ≡ S.world store.old) }
     ensures entries { OnErr result (tables.new.entries ≡ tables.old.entries) }
     ensures config { S.config store.new ≡ S.config store.old }
     ensures limit { tables.new.limit ≡ tables.old.limit }
     ensures free { (s : State) → state_with (key_of packet.now) (S.world store.old) ≡ Some s →
-        IsFree config.now (machine_of (S.world store.old) tables.old.entries (Some now)) packet.now (Some s) → IsOk result }
+        IsFree config.now (held_of (S.world store.old) tables.old.entries) packet.now (Some s) → IsOk result }
     ensures uncounted { S.counts ≡ false → looks.new ≡ 0 }
 {
     let rule = store.rule_at(&FlowKey::of(packet));
@@ -114,8 +114,8 @@ fn outcome_of<S: Store>(
     requires held { holds_number (S.world store.old).states number.0 ≡ true }
     requires looks { looks.old ≤ 1000000000 }
     requires room { touched.now.completed ≡ true → HasRoomFor tables.old (options_of config.now touched.now.rule.0).overload }
-    ensures answer { (result, machine_of (S.world store.new) tables.new.entries (Some now))
-        ≡ by_touch config.now (machine_of (S.world store.old) tables.old.entries (Some now)) number.0 now touched.now touched.now.completed }
+    ensures answer { (result, held_of (S.world store.new) tables.new.entries)
+        ≡ by_touch config.now (held_of (S.world store.old) tables.old.entries) number.0 now touched.now touched.now.completed }
     ensures config { S.config store.new ≡ S.config store.old }
     ensures limit { tables.new.limit ≡ tables.old.limit }
     ensures uncounted { S.counts ≡ false → looks.new ≡ looks.old }

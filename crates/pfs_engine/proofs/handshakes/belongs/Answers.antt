@@ -2,7 +2,7 @@ use Rattle.std.proofs.Common.{Some, ap, ◌∙◌}
 use Rattle.std.specs.Prelude.{option_map}
 use Rattle.pfs_addr.specs.declared.packets.FlowKey.{FlowKey}
 use Rattle.pfs_store_plain.specs.Worlds.{rule_in, state_with}
-use Rattle.pfs_engine.specs.Machine.{machine_of}
+use Rattle.pfs_engine_machine.specs.Machine.{machine_of}
 use Rattle.pfs_engine.proofs.Belonging.{held_after, room_after}
 use Rattle.pfs_engine.proofs.handshakes.belongs.Goals as goal
 

@@ -4,8 +4,8 @@ use Rattle.pfs_eval.specs.Matching.{matches_item}
 use Rattle.pfs_eval.specs.Verdict.{verdict}
 use Rattle.pfs_conf_rules.specs.declared.items.Item.{Item}
 use Rattle.pfs_conf_rules.specs.declared.items.RuleNo.{RuleNo}
-use Rattle.pfs_engine.specs.Machine.{decided, machine_of}
-use Rattle.pfs_engine.specs.Refusals.{IsFreeBy}
+use Rattle.pfs_engine_machine.specs.Machine.{decided, machine_of}
+use Rattle.pfs_engine_machine.specs.Refusals.{IsFreeBy}
 use Rattle.pfs_engine.proofs.packets.by_rules.Goals as goal
 
 pub returns-in-Some-clause-free : goal.returns-in-Some-clause-free

@@ -1,10 +1,10 @@
-use Rattle.std.proofs.Common.{◌≡◌, ◌∙◌, Some, ap, arith, subst, sym}
+use Rattle.std.proofs.Common.{◌≡◌, ◌∙◌, ap, arith, subst, sym}
 use Rattle.pfs_conf_rules.specs.Configs.{Conf}
 use Rattle.pfs_store_plain.specs.Worlds.{World}
-use Rattle.pfs_engine.specs.Kept.{IsKept}
-use Rattle.pfs_engine.specs.Machine.{due, machine_of, purged}
-use Rattle.pfs_engine.specs.Views.{View}
-use Rattle.pfs_engine.proofs.KeptTime.{kept_advanced, made_purged}
+use Rattle.pfs_engine_machine.specs.Kept.{IsKept}
+use Rattle.pfs_engine_machine.specs.Machine.{due, held_of, purged}
+use Rattle.pfs_engine.specs.Views.{View, machine_at}
+use Rattle.pfs_engine_machine.proofs.KeptTime.{kept_advanced, made_purged}
 use Rattle.pfs_engine.proofs.engine.Engine.advance.Goals as goal
 
 pub invariant_of-self : goal.invariant_of-self
@@ -13,14 +13,14 @@ invariant_of-self g c =
     let i = c.self.invariant in
     let w = g.S.Store.world inside.store in
     let seconds = due inside.last c.args.now in
-    let before = machine_of w inside.tables.entries inside.last in
+    let before = machine_at w inside.tables.entries inside.last in
     let is : g.S.Store.world c.purge_due-self-inside.new.store ≡ purged inside.config w seconds =
     c.purge_due-self-inside.ensures.world ∙ ap (λ (k : Conf). purged k w seconds) i.made_for in
     record {
       made_for = c.purge_due-self-inside.ensures.config ∙ i.made_for;
       items = i.items;
       limit = i.limit;
-      kept = subst (λ (v : World). IsKept inside.config (machine_of v inside.tables.entries (Some c.args.now))) (sym is) (kept_advanced inside.config before c.args.now (λ last e. c.requires.order last (sym (ap (λ (v : View). v.machine.last) c.self.view_is) ∙ e)) i.kept);
+      kept = subst (λ (v : World). IsKept inside.config (held_of v inside.tables.entries) c.args.now) (sym is) (kept_advanced inside.config before c.args.now (λ last e. c.requires.order last (sym (ap (λ (v : View). v.machine.last) c.self.view_is) ∙ e)) i.kept);
       made = omega (arith, ap (λ (v : World). v.made) is, made_purged inside.config w seconds, i.made);
       few = i.few;
       config = i.config;

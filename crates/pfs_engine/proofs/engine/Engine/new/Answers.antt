@@ -1,6 +1,6 @@
 use Rattle.std.proofs.Common.{ap, arith}
 use Rattle.pfs_store_plain.specs.Worlds.{World}
-use Rattle.pfs_engine.proofs.KeptTime.{kept_start}
+use Rattle.pfs_engine_machine.proofs.KeptTime.{kept_start}
 use Rattle.pfs_engine.proofs.engine.Engine.new.Goals as goal
 
 pub invariant_of-result : goal.invariant_of-result

@@ -1,8 +1,8 @@
 use Rattle.std.proofs.Common.{◌<◌, ◌+◌, List, [], ◌∷◌, ◌++◌, Some, length, arith, length-drop, ◌∙◌, ap, sym, inr, refl}
 use Rattle.std.proofs.lemmas.Option.{slice_get-get_or}
-use Rattle.pfs_engine.specs.declared.events.Event.{Event}
-use Rattle.pfs_engine.specs.declared.events.Outcome.{Outcome}
-use Rattle.pfs_engine.proofs.Running.{machine_next, machine_none, order_next, outcomes_next, outcomes_none, taken_next, taken_none}
+use Rattle.pfs_engine_machine.specs.declared.events.Event.{Event}
+use Rattle.pfs_engine_machine.specs.declared.events.Outcome.{Outcome}
+use Rattle.pfs_engine_machine.proofs.Running.{machine_next, machine_none, order_next, outcomes_next, outcomes_none, taken_next, taken_none}
 use Rattle.pfs_engine.proofs.engine.Engine.run.Goals as goal
 
 pub loop-event-init : goal.loop-event-init

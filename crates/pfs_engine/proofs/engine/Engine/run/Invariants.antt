@@ -1,6 +1,6 @@
 use Rattle.std.proofs.Common.{◌≡◌, ◌≤◌, ◌+◌, ◌++◌, length, take, drop}
-use Rattle.pfs_engine.specs.Runs.{outcomes_of, machine_after, packets_in}
-use Rattle.pfs_engine.specs.Runs.{IsInOrder}
+use Rattle.pfs_engine_machine.specs.Runs.{outcomes_of, machine_after, packets_in}
+use Rattle.pfs_engine_machine.specs.Runs.{IsInOrder}
 use Rattle.pfs_engine.proofs.engine.Engine.run.Given as goal
 
 -- the events so far were taken, and the others are in order

@@ -20,15 +20,15 @@ use Rattle.pfs_store_plain.specs.Worlds.{World}
 use Rattle.pfs_store_plain.specs.declared.records.Node.{Node}
 use Rattle.pfs_store_plain.specs.declared.records.NodeScope.{NodeScope}
 use Rattle.pfs_store_plain.specs.declared.records.State.{State}
-use Rattle.pfs_engine.proofs.Numbers.{Rise-filter}
-use Rattle.pfs_engine.proofs.Counts.{any-filter, any-map, count-at, count-filter_le, count-map, count_le}
-use Rattle.pfs_engine.proofs.Scopes.{and_left, and_right, is_of_node-own, same_scope_true}
-use Rattle.pfs_engine.specs.Kept.{HasNode, IsKept, IsPhaseOf, IsWithin, moment_of, own_scope}
-use Rattle.pfs_engine.specs.Machine.{Machine, advanced, due, machine_of, purged, start}
+use Rattle.pfs_engine_machine.proofs.Numbers.{Rise-filter}
+use Rattle.pfs_engine_machine.proofs.Counts.{any-filter, any-map, count-at, count-filter_le, count-map, count_le}
+use Rattle.pfs_engine_machine.proofs.Scopes.{and_left, and_right, is_of_node-own, same_scope_true}
+use Rattle.pfs_engine_machine.specs.Kept.{HasNode, IsKept, IsPhaseOf, IsWithin, moment_of, own_scope}
+use Rattle.pfs_engine_machine.specs.Machine.{Held, Machine, advanced, due, held_of, purged, start}
 
 -- ---- the start
 
-pub kept_start : (conf : Conf) → IsConfig conf → IsKept conf (start conf)
+pub kept_start : (conf : Conf) → IsConfig conf → IsKept conf (start conf).held 0
 kept_start conf sound = record {
   limits = record {
     states = omega arith;
@@ -62,9 +62,9 @@ idled-scope : (conf : Conf) (before after : List State) (now : ℕ) (scope : Nod
 idled-scope conf before after now scope n = grind arith
 
 -- the states that pass a test stay, at whatever moment, with whatever numbers pending
-pub kept_left : (conf : Conf) (m : Machine) (p : State → Bool) (pending : List ℕ) (at : ℕ) → IsKept conf m
-    → IsKept conf (machine_of (left conf m.world (filter p m.world.states) pending at) m.tables m.last)
-kept_left conf m p pending at k =
+pub kept_left : (conf : Conf) (m : Held) (p : State → Bool) (pending : List ℕ) (at now : ℕ) → IsKept conf m now
+    → IsKept conf (held_of (left conf m.world (filter p m.world.states) pending at) m.tables) now
+kept_left conf m p pending at now k =
     let w = m.world in
     let change = idled conf w.states (filter p w.states) at in
     record {
@@ -86,11 +86,11 @@ kept_left conf m p pending at k =
           (filter p w.states) (All-filter p (HasNode conf w.nodes) w.states k.noded);
       phases = All-filter p (λ (s : State). IsPhaseOf s.key.proto s.phase) w.states k.phases;
       tables = k.tables;
-      moments = left-up_to_now conf w (filter p w.states) pending at (moment_of m.last) k.moments;
+      moments = left-up_to_now conf w (filter p w.states) pending at now k.moments;
     }
 
-pub kept_state_slice : (conf : Conf) (m : Machine) (at : ℕ) → IsKept conf m → IsKept conf (machine_of (state_slice conf m.world at) m.tables m.last)
-kept_state_slice conf m at k = kept_left conf m (stays conf m.world.states at (take (state_share conf) (state_round m.world))) _ at k
+pub kept_state_slice : (conf : Conf) (m : Held) (at now : ℕ) → IsKept conf m now → IsKept conf (held_of (state_slice conf m.world at) m.tables) now
+kept_state_slice conf m at now k = kept_left conf m (stays conf m.world.states at (take (state_share conf) (state_round m.world))) _ at now k
 
 -- ---- nodes leave
 
@@ -114,8 +114,8 @@ noded_slice conf nodes states at examined h k d within scope is =
     let some = count-at (is_of_node conf scope s.source) states k d within (is_of_node-own conf s scope is) in
     any-filter (is_node scope s.source) (node_stays conf states at examined) (node_stays-held conf states at examined scope s.source some) nodes (h k d within scope is)
 
-pub kept_node_slice : (conf : Conf) (m : Machine) (at : ℕ) → IsKept conf m → IsKept conf (machine_of (node_slice conf m.world at) m.tables m.last)
-kept_node_slice conf m at k =
+pub kept_node_slice : (conf : Conf) (m : Held) (at now : ℕ) → IsKept conf m now → IsKept conf (held_of (node_slice conf m.world at) m.tables) now
+kept_node_slice conf m at now k =
     let w = m.world in
     let examined = take (node_share conf) (node_round w) in
     let p = node_stays conf w.states at examined in
@@ -134,47 +134,40 @@ kept_node_slice conf m at k =
       noded = noded_slice conf w.nodes w.states at examined k.noded;
       phases = k.phases;
       tables = k.tables;
-      moments = node_slice-up_to_now conf w at (moment_of m.last) k.moments;
+      moments = node_slice-up_to_now conf w at now k.moments;
     }
 
 -- ---- time passes
 
-pub kept_purge : (conf : Conf) (m : Machine) (at : ℕ) → IsKept conf m → IsKept conf (machine_of (purge conf m.world at) m.tables m.last)
-kept_purge conf m at k =
-    kept_node_slice conf (machine_of (state_slice conf m.world at) m.tables m.last) at (kept_state_slice conf m at k)
+pub kept_purge : (conf : Conf) (h : Held) (at now : ℕ) → IsKept conf h now → IsKept conf (held_of (purge conf h.world at) h.tables) now
+kept_purge conf h at now k =
+    kept_node_slice conf (held_of (state_slice conf h.world at) h.tables) at now (kept_state_slice conf h at now k)
 
-pub kept_purged : (conf : Conf) (w : World) (tables : List (List Entry)) (last : Option ℕ) (seconds : List ℕ) → IsKept conf (machine_of w tables last)
-    → IsKept conf (machine_of (purged conf w seconds) tables last)
-kept_purged conf w tables last [] k = k
-kept_purged conf w tables last (s ∷ seconds) k = kept_purged conf (purge conf w s) tables last seconds (kept_purge conf (machine_of w tables last) s k)
+pub kept_purged : (conf : Conf) (w : World) (tables : List (List Entry)) (now : ℕ) (seconds : List ℕ) → IsKept conf (held_of w tables) now
+    → IsKept conf (held_of (purged conf w seconds) tables) now
+kept_purged conf w tables now [] k = k
+kept_purged conf w tables now (s ∷ seconds) k =
+    kept_purged conf (purge conf w s) tables now seconds (kept_purge conf (held_of w tables) s now k)
 
 -- a later moment
-pub kept_later : (conf : Conf) (m : Machine) (now : ℕ) → ForSome m.last (λ last. last ≤ now) → IsKept conf m
-    → IsKept conf (machine_of m.world m.tables (Some now))
-kept_later conf m now later k = record {
-  limits = record {
-    states = k.limits.states;
-    nodes = k.limits.nodes;
-    entries = k.limits.entries;
-    rule_states = k.limits.rule_states;
-    source_nodes = k.limits.source_nodes;
-    source_states = k.limits.source_states;
-    source_connections = k.limits.source_connections;
-  };
+pub kept_later : (conf : Conf) (h : Held) (last now : ℕ) → last ≤ now → IsKept conf h last → IsKept conf h now
+kept_later conf h last now later k = record {
+  limits = k.limits;
   numbers = k.numbers;
   noded = k.noded;
   phases = k.phases;
   tables = k.tables;
-  moments = later-up_to_now (moment_of m.last) now m.world (by m.last later) k.moments;
+  moments = later-up_to_now last now h.world later k.moments;
 }
+
+pub kept_advanced : (conf : Conf) (m : Machine) (now : ℕ) → ForSome m.last (λ last. last ≤ now) → IsKept conf m.held (moment_of m.last)
+    → IsKept conf (advanced conf m now).held now
+kept_advanced conf m now later k =
+    kept_later conf (advanced conf m now).held (moment_of m.last) now (by m.last later) (kept_purged conf m.held.world m.held.tables (moment_of m.last) (due m.last now) k)
   where
     by : (last : Option ℕ) → ForSome last (λ last. last ≤ now) → moment_of last ≤ now
     by None h = omega arith
     by (Some last) h = h last refl
-
-pub kept_advanced : (conf : Conf) (m : Machine) (now : ℕ) → ForSome m.last (λ last. last ≤ now) → IsKept conf m → IsKept conf (advanced conf m now)
-kept_advanced conf m now later k =
-    kept_later conf (machine_of (purged conf m.world (due m.last now)) m.tables m.last) now later (kept_purged conf m.world m.tables m.last (due m.last now) k)
 
 -- ---- no second makes a state
 
@@ -182,5 +175,5 @@ pub made_purged : (conf : Conf) (w : World) (seconds : List ℕ) → (purged con
 made_purged conf w [] = refl
 made_purged conf w (s ∷ seconds) = made_purged conf (purge conf w s) seconds
 
-pub made_advanced : (conf : Conf) (m : Machine) (now : ℕ) → (advanced conf m now).world.made ≡ m.world.made
-made_advanced conf m now = made_purged conf m.world (due m.last now)
+pub made_advanced : (conf : Conf) (m : Machine) (now : ℕ) → (advanced conf m now).held.world.made ≡ m.held.world.made
+made_advanced conf m now = made_purged conf m.held.world (due m.last now)

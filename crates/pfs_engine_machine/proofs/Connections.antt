@@ -16,10 +16,10 @@ use Rattle.pfs_store_plain.specs.Worlds.{World}
 use Rattle.pfs_store_plain.specs.declared.records.NodeScope.{NodeScope}
 use Rattle.pfs_store_plain.specs.declared.records.State.{State}
 use Rattle.pfs_track.specs.StatePhases.{is_done, phase_after}
-use Rattle.pfs_engine.specs.Kept.{IsWithin, TracksAlone, own_scope}
-use Rattle.pfs_engine.specs.Machine.{stays_at_kill}
-use Rattle.pfs_engine.proofs.Changes.{count-map_at, count-stay_le}
-use Rattle.pfs_engine.proofs.Renewals.{is_done-same}
+use Rattle.pfs_engine_machine.specs.Kept.{IsWithin, TracksAlone, own_scope}
+use Rattle.pfs_engine_machine.specs.Machine.{stays_at_kill}
+use Rattle.pfs_engine_machine.proofs.Changes.{count-map_at, count-stay_le}
+use Rattle.pfs_engine_machine.proofs.Renewals.{is_done-same}
 
 -- this state alone has its number
 abbrev pub IsAlone : State → List State → Type 0

@@ -3,8 +3,8 @@ use Rattle.std.proofs.Common.{◌≡◌, ◌≤◌, ◌<◌, ℕ, Bool, true, fa
 use Rattle.std.specs.List.{find}
 use Rattle.std.proofs.lemmas.List.Elements.{All-cons, All-nil, All-weaker}
 use Rattle.pfs_store_plain.specs.declared.records.State.{State}
-use Rattle.pfs_engine.specs.Kept.{Rise}
-use Rattle.pfs_engine.proofs.Changes.{find-all}
+use Rattle.pfs_engine_machine.specs.Kept.{Rise}
+use Rattle.pfs_engine_machine.proofs.Changes.{find-all}
 
 pub Rise-lower : (low low' high : ℕ) (ss : List State) → low' ≤ low → Rise low ss high → Rise low' ss high
 Rise-lower low low' high [] le r = omega arith

@@ -17,7 +17,7 @@ use Rattle.pfs_store_plain.specs.declared.records.NodeScope.TheVariants as node_
 use Rattle.pfs_store_plain.specs.declared.records.State.{State}
 use Rattle.pfs_track.specs.declared.state_phases.StatePhase.{StatePhase}
 use Rattle.pfs_track.specs.declared.state_phases.StatePhase.TheVariants as phase
-use Rattle.pfs_engine.specs.Machine.{Machine}
+use Rattle.pfs_engine_machine.specs.Machine.{Held}
 
 -- a count is within a maximum, where there is one
 abbrev pub IsWithin : Option ℕ → ℕ → Type 0
@@ -34,14 +34,14 @@ TracksAlone conf rule = scope_of conf rule ≡ Some scope.Rule
 -- States, nodes and entries are within their limits; the states of a rule within its `max`; of a rule that tracks sources by
 -- itself, the nodes within `max-src-nodes`, and of each source the states within `max-src-states` and the connections within
 -- `max-src-conn`.
-pub record IsWithinLimits (conf : Conf) (m : Machine) : Type 0 where
-  pub states : length m.world.states ≤ limit_of conf limit_name.States
-  pub nodes : length m.world.nodes ≤ limit_of conf limit_name.SrcNodes
-  pub entries : entry_count m.tables ≤ limit_of conf limit_name.TableEntries
-  pub rule_states : (rule : ℕ) → IsWithin (options_of conf rule).max (rule_states rule m.world.states)
-  pub source_nodes : (rule : ℕ) → TracksAlone conf rule → IsWithin (options_of conf rule).max_src_nodes (scope_nodes (own_scope rule) m.world.nodes)
-  pub source_states : (rule : ℕ) (source : Addr) → TracksAlone conf rule → IsWithin (options_of conf rule).max_src_states (node_states conf (own_scope rule) source m.world.states)
-  pub source_connections : (rule : ℕ) (source : Addr) → TracksAlone conf rule → IsWithin (options_of conf rule).max_src_conn (node_connections conf (own_scope rule) source m.world.states)
+pub record IsWithinLimits (conf : Conf) (h : Held) : Type 0 where
+  pub states : length h.world.states ≤ limit_of conf limit_name.States
+  pub nodes : length h.world.nodes ≤ limit_of conf limit_name.SrcNodes
+  pub entries : entry_count h.tables ≤ limit_of conf limit_name.TableEntries
+  pub rule_states : (rule : ℕ) → IsWithin (options_of conf rule).max (rule_states rule h.world.states)
+  pub source_nodes : (rule : ℕ) → TracksAlone conf rule → IsWithin (options_of conf rule).max_src_nodes (scope_nodes (own_scope rule) h.world.nodes)
+  pub source_states : (rule : ℕ) (source : Addr) → TracksAlone conf rule → IsWithin (options_of conf rule).max_src_states (node_states conf (own_scope rule) source h.world.states)
+  pub source_connections : (rule : ℕ) (source : Addr) → TracksAlone conf rule → IsWithin (options_of conf rule).max_src_conn (node_connections conf (own_scope rule) source h.world.states)
 
 -- ---- what else is kept
 
@@ -66,14 +66,14 @@ abbrev pub moment_of : Option ℕ → ℕ
 moment_of last = unwrap_or last 0
 
 -- the limits; numbers that rise; a node for each state of a rule that tracks sources; phases of the state's protocol; the tables
--- of the text; no handshake counted after the last moment
-pub record IsKept (conf : Conf) (m : Machine) : Type 0 where
-  pub limits : IsWithinLimits conf m
-  pub numbers : Rise 0 m.world.states m.world.made
-  pub noded : All (HasNode conf m.world.nodes) m.world.states
-  pub phases : All (λ (s : State). IsPhaseOf s.key.proto s.phase) m.world.states
-  pub tables : length m.tables ≡ length conf.tables
-  pub moments : IsUpToNow (moment_of m.last) m.world
+-- of the text; no handshake counted after this moment
+pub record IsKept (conf : Conf) (h : Held) (now : ℕ) : Type 0 where
+  pub limits : IsWithinLimits conf h
+  pub numbers : Rise 0 h.world.states h.world.made
+  pub noded : All (HasNode conf h.world.nodes) h.world.states
+  pub phases : All (λ (s : State). IsPhaseOf s.key.proto s.phase) h.world.states
+  pub tables : length h.tables ≡ length conf.tables
+  pub moments : IsUpToNow now h.world
 
 -- ---- of a state that a rule with shared nodes makes, directly after it
 

@@ -12,7 +12,7 @@ use Rattle.pfs_store_plain.specs.Touching.{nodes_scored, nodes_touched, rescored
 use Rattle.pfs_store_plain.specs.declared.records.Node.{Node}
 use Rattle.pfs_store_plain.specs.declared.records.NodeScope.{NodeScope}
 use Rattle.pfs_store_plain.specs.declared.records.State.{State}
-use Rattle.pfs_engine.proofs.Counts.{any-map, count-map}
+use Rattle.pfs_engine_machine.proofs.Counts.{any-map, count-map}
 
 -- as many nodes, of the same scopes and sources
 pub record AreAlike (before after : List Node) : Type 0 where

@@ -10,8 +10,8 @@ use Rattle.pfs_store_plain.specs.declared.records.State.{State}
 use Rattle.pfs_track.specs.StatePhases.{completes, is_done, phase_after}
 use Rattle.pfs_track.specs.declared.state_phases.StatePhase.{StatePhase}
 use Rattle.pfs_track.specs.declared.state_phases.StatePhase.TheVariants as phase
-use Rattle.pfs_engine.specs.Kept.{IsPhaseOf}
-use Rattle.pfs_engine.specs.Rooms.{is_tcp}
+use Rattle.pfs_engine_machine.specs.Kept.{IsPhaseOf}
+use Rattle.pfs_engine_machine.specs.Refusals.{is_tcp}
 
 -- ---- phases
 

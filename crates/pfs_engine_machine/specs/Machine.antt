@@ -25,34 +25,38 @@ use Rattle.pfs_store_plain.specs.Worlds.{World, empty_world, state_with}
 use Rattle.pfs_store_plain.specs.declared.records.Limit.{Limit}
 use Rattle.pfs_store_plain.specs.declared.records.State.{State}
 use Rattle.pfs_store_plain.specs.declared.records.Touched.{Touched}
-use Rattle.pfs_engine.specs.declared.events.Event.{Event}
-use Rattle.pfs_engine.specs.declared.events.Outcome.{Outcome}
-use Rattle.pfs_engine.specs.declared.events.Outcome.TheVariants as outcome
-use Rattle.pfs_engine.specs.declared.events.What.{What}
-use Rattle.pfs_engine.specs.declared.events.What.TheVariants as what
+use Rattle.pfs_engine_machine.specs.declared.events.Event.{Event}
+use Rattle.pfs_engine_machine.specs.declared.events.Outcome.{Outcome}
+use Rattle.pfs_engine_machine.specs.declared.events.Outcome.TheVariants as outcome
+use Rattle.pfs_engine_machine.specs.declared.events.What.{What}
+use Rattle.pfs_engine_machine.specs.declared.events.What.TheVariants as what
 
--- the states and source nodes, the entries of each table, and the moment of the last event
-pub record Machine : Type 0 where
+-- what is held: the states and source nodes, and the entries of each table
+pub record Held : Type 0 where
   pub world : World
   pub tables : List (List Entry)
-  pub last : Option ℕ
 
-abbrev pub machine_of : World → List (List Entry) → Option ℕ → Machine
-machine_of world tables last = record { world = world; tables = tables; last = last }
+abbrev pub held_of : World → List (List Entry) → Held
+held_of world tables = record { world = world; tables = tables }
+
+-- what is held, and the moment of the last event
+pub record Machine : Type 0 where
+  pub held : Held
+  pub last : Option ℕ
 
 -- before the first event: no state, and the tables as the rules text fills them
 abbrev pub start : Conf → Machine
-start conf = machine_of empty_world (config_entries conf) None
+start conf = record { held = held_of empty_world (config_entries conf); last = None }
 
 -- how many states, source nodes and entries are held
 abbrev pub states_held : Machine → ℕ
-states_held m = length m.world.states
+states_held m = length m.held.world.states
 
 abbrev pub nodes_held : Machine → ℕ
-nodes_held m = length m.world.nodes
+nodes_held m = length m.held.world.nodes
 
 abbrev pub entries_held : Machine → ℕ
-entries_held m = entry_count m.tables
+entries_held m = entry_count m.held.tables
 
 -- ---- time passes: in each whole second a slice of the states and one of the nodes
 
@@ -81,7 +85,8 @@ most_nodes conf w (s ∷ ss) = max (node_slice_of conf (state_slice conf w s) s)
 
 -- the machine at a moment: all purges due are done
 abbrev pub advanced : Conf → Machine → ℕ → Machine
-advanced conf m now = machine_of (purged conf m.world (due m.last now)) m.tables (Some now)
+advanced conf m now =
+    record { held = held_of (purged conf m.held.world (due m.last now)) m.held.tables; last = Some now }
 
 -- ---- a completed handshake
 
@@ -103,59 +108,64 @@ abbrev pub killed_count : World → Option Scope → ℕ → Touched → ℕ
 killed_count w flush number t = length (filter (goes_with flush number t) w.states)
 
 -- of the limits on connections one is hit, or none
-abbrev pub by_hit : Conf → Machine → ℕ → ℕ → Touched → Option Overload → Bool → Bool → Bool → Outcome × Machine
-by_hit conf m number now t overload conn rate false = (outcome.State t.rule, m)
-by_hit conf m number now t overload conn rate true =
-    (outcome.Kill t.rule conn rate (added_by conf m.tables t.source overload) (killed_count m.world (flush_of overload) number t), machine_of (without conf m.world (stays_at_kill (flush_of overload) number t) now) (tables_by conf m.tables t.source overload) m.last)
+abbrev pub by_hit : Conf → Held → ℕ → ℕ → Touched → Option Overload → Bool → Bool → Bool → Outcome × Held
+by_hit conf h number now t overload conn rate false = (outcome.State t.rule, h)
+by_hit conf h number now t overload conn rate true =
+    (outcome.Kill t.rule conn rate (added_by conf h.tables t.source overload) (killed_count h.world (flush_of overload) number t), held_of (without conf h.world (stays_at_kill (flush_of overload) number t) now) (tables_by conf h.tables t.source overload))
 
 -- what the handshake hits of the options of its rule
-abbrev pub by_options : Conf → Machine → ℕ → ℕ → Touched → StateOptions → Outcome × Machine
-by_options conf m number now t o =
-    by_hit conf m number now t o.overload (hits_connections o t) (hits_rate o t) (hits_connections o t || hits_rate o t)
+abbrev pub by_options : Conf → Held → ℕ → ℕ → Touched → StateOptions → Outcome × Held
+by_options conf h number now t o =
+    by_hit conf h number now t o.overload (hits_connections o t) (hits_rate o t) (hits_connections o t || hits_rate o t)
 
 -- the handshake of the state of this number completes with its packet, or does not
-abbrev pub by_touch : Conf → Machine → ℕ → ℕ → Touched → Bool → Outcome × Machine
-by_touch conf m number now t false = (outcome.State t.rule, m)
-by_touch conf m number now t true = by_options conf m number now t (options_of conf t.rule.0)
+abbrev pub by_touch : Conf → Held → ℕ → ℕ → Touched → Bool → Outcome × Held
+by_touch conf h number now t false = (outcome.State t.rule, h)
+by_touch conf h number now t true = by_options conf h number now t (options_of conf t.rule.0)
 
 -- ---- one packet
 
 -- the state that it would make meets a limit, or none
-abbrev pub by_limit : Conf → Machine → Header → ℕ → ℕ → Option Limit → Outcome × Machine
-by_limit conf m p now rule None = (outcome.New (record { 0 = rule }), machine_of (admitted conf m.world p rule now) m.tables m.last)
-by_limit conf m p now rule (Some l) = (outcome.Drop (record { 0 = rule }) l, m)
+abbrev pub by_limit : Conf → Held → Header → ℕ → ℕ → Option Limit → Outcome × Held
+by_limit conf h p now rule None = (outcome.New (record { 0 = rule }), held_of (admitted conf h.world p rule now) h.tables)
+by_limit conf h p now rule (Some l) = (outcome.Drop (record { 0 = rule }) l, h)
 
 -- what the rule that decides says
-abbrev pub by_action : Conf → Machine → Header → ℕ → ℕ → Action → Outcome × Machine
-by_action conf m p now rule action.Block = (outcome.Block (record { 0 = rule }), m)
-by_action conf m p now rule action.Pass = (outcome.Pass (Some (record { 0 = rule })), m)
-by_action conf m p now rule (action.Keep o) = by_limit conf m p now rule (limit_at conf m.world p rule)
+abbrev pub by_action : Conf → Held → Header → ℕ → ℕ → Action → Outcome × Held
+by_action conf h p now rule action.Block = (outcome.Block (record { 0 = rule }), h)
+by_action conf h p now rule action.Pass = (outcome.Pass (Some (record { 0 = rule })), h)
+by_action conf h p now rule (action.Keep o) = by_limit conf h p now rule (limit_at conf h.world p rule)
 
 -- a rule decides, or none
-abbrev pub by_rule : Conf → Machine → Header → ℕ → Option ℕ → Outcome × Machine
-by_rule conf m p now None = (outcome.Pass None, m)
-by_rule conf m p now (Some rule) = by_action conf m p now rule (rule_of conf rule).action
+abbrev pub by_rule : Conf → Held → Header → ℕ → Option ℕ → Outcome × Held
+by_rule conf h p now None = (outcome.Pass None, h)
+by_rule conf h p now (Some rule) = by_action conf h p now rule (rule_of conf rule).action
 
 -- the rule that decides
-abbrev pub decided : Conf → Machine → Header → Option ℕ
-decided conf m p = verdict (matches_item m.tables p) conf.items
+abbrev pub decided : Conf → Held → Header → Option ℕ
+decided conf h p = verdict (matches_item h.tables p) conf.items
 
 -- a held state has its key, or none
-abbrev pub by_state : Conf → Machine → Header → ℕ → Option State → Outcome × Machine
-by_state conf m p now (Some s) =
-    by_touch conf (machine_of (touched conf m.world s p now) m.tables m.last) s.number now (touch_of conf m.world p now s) (completes_at p s)
-by_state conf m p now None = by_rule conf m p now (decided conf m p)
+abbrev pub by_state : Conf → Held → Header → ℕ → Option State → Outcome × Held
+by_state conf h p now (Some s) =
+    by_touch conf (held_of (touched conf h.world s p now) h.tables) s.number now (touch_of conf h.world p now s) (completes_at p s)
+by_state conf h p now None = by_rule conf h p now (decided conf h p)
 
 -- what a packet does at a moment
-abbrev pub answered : Conf → Machine → Header → ℕ → Outcome × Machine
-answered conf m p now = by_state conf m p now (state_with (key_of p) m.world)
+abbrev pub answered : Conf → Held → Header → ℕ → Outcome × Held
+answered conf h p now = by_state conf h p now (state_with (key_of p) h.world)
 
 -- ---- one event
 
-abbrev pub acted : Conf → Machine → ℕ → What → Outcome × Machine
-acted conf m now what.Skip = (outcome.Skip, m)
-acted conf m now (what.Packet p) = answered conf m p now
+-- what comes
+abbrev pub acted : Conf → Held → ℕ → What → Outcome × Held
+acted conf h now what.Skip = (outcome.Skip, h)
+acted conf h now (what.Packet p) = answered conf h p now
+
+-- what it leaves is held, and its moment is the last
+abbrev pub at_moment : ℕ → Outcome × Held → Outcome × Machine
+at_moment now a = (a.0, record { held = a.1; last = Some now })
 
 -- the purges due, and then what comes
 unfoldable pub step : Conf → Machine → Event → Outcome × Machine
-step conf m e = acted conf (advanced conf m e.time) e.time e.what
+step conf m e = at_moment e.time (acted conf (advanced conf m e.time).held e.time e.what)

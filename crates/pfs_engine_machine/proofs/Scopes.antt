@@ -14,7 +14,7 @@ use Rattle.pfs_store_plain.specs.declared.records.Node.{Node}
 use Rattle.pfs_store_plain.specs.declared.records.NodeScope.{NodeScope}
 use Rattle.pfs_store_plain.specs.declared.records.NodeScope.TheVariants as node_scope
 use Rattle.pfs_store_plain.specs.declared.records.State.{State}
-use Rattle.pfs_engine.specs.Kept.{HasNode, TracksAlone, own_scope}
+use Rattle.pfs_engine_machine.specs.Kept.{HasNode, TracksAlone, own_scope}
 
 -- ---- the tests decide
 

@@ -18,7 +18,7 @@ use Rattle.pfs_conf_rules.specs.declared.limits.LimitName.TheVariants as limit_n
 use Rattle.pfs_store_plain.proofs.MomentLaws.{world_at-up_to_now}
 use Rattle.pfs_store_plain.specs.Admission.{admitted, first_of, held_node_limit, limit_at, limit_met, new_node, new_node_limit, new_state, nodes_with, source_limit}
 use Rattle.pfs_store_plain.specs.Counts.{has_node, is_connection, is_node, is_of_node, is_of_rule, node_connections, node_scope_by, node_scope_of, node_states, reached, rule_states, same_scope, scope_nodes}
-use Rattle.pfs_store_plain.specs.Worlds.{IsUpToNow, World}
+use Rattle.pfs_store_plain.specs.Worlds.{World}
 use Rattle.pfs_store_plain.specs.declared.records.Limit.{Limit}
 use Rattle.pfs_store_plain.specs.declared.records.Limit.TheVariants as limit
 use Rattle.pfs_store_plain.specs.declared.records.Node.{Node}
@@ -26,10 +26,10 @@ use Rattle.pfs_store_plain.specs.declared.records.NodeScope.{NodeScope}
 use Rattle.pfs_store_plain.specs.declared.records.NodeScope.TheVariants as node_scope
 use Rattle.pfs_store_plain.specs.declared.records.State.{State}
 use Rattle.pfs_track.specs.StatePhases.{first_phase, is_done}
-use Rattle.pfs_engine.proofs.Counts.{any-push, count-push_failing, count-push_le, count-push_passing}
-use Rattle.pfs_engine.proofs.Scopes.{IsScopeOf, and_left, and_right, global-IsScopeOf, none_without_node, own_scope-IsScopeOf, same_scope_self, same_scope_true, scope-alone, scope-shared}
-use Rattle.pfs_engine.specs.Kept.{HasNode, IsKept, IsPhaseOf, IsWithinShared, Rise, TracksAlone, moment_of, own_scope}
-use Rattle.pfs_engine.specs.Machine.{Machine, machine_of}
+use Rattle.pfs_engine_machine.proofs.Counts.{any-push, count-push_failing, count-push_le, count-push_passing}
+use Rattle.pfs_engine_machine.proofs.Scopes.{IsScopeOf, and_left, and_right, global-IsScopeOf, none_without_node, own_scope-IsScopeOf, same_scope_self, same_scope_true, scope-alone, scope-shared}
+use Rattle.pfs_engine_machine.specs.Kept.{HasNode, IsKept, IsPhaseOf, IsWithinShared, Rise, TracksAlone, own_scope}
+use Rattle.pfs_engine_machine.specs.Machine.{Held, held_of}
 
 -- ---- no limit is met
 
@@ -255,10 +255,10 @@ phase_first (proto.Other n) = tt
 
 -- ---- what is kept
 
-pub kept_admitted : (conf : Conf) (m : Machine) (p : Header) (rule now : ℕ) → IsConfig conf → m.last ≡ Some now
-    → limit_at conf m.world p rule ≡ None → IsKept conf m
-    → IsKept conf (machine_of (admitted conf m.world p rule now) m.tables m.last)
-kept_admitted conf m p rule now sound at met k =
+pub kept_admitted : (conf : Conf) (m : Held) (p : Header) (rule now : ℕ) → IsConfig conf
+    → limit_at conf m.world p rule ≡ None → IsKept conf m now
+    → IsKept conf (held_of (admitted conf m.world p rule now) m.tables) now
+kept_admitted conf m p rule now sound met k =
     let w = m.world in
     let new = new_state (w.made + 1) p rule now in
     let free = meets_none conf w rule p.source.addr met in
@@ -279,13 +279,12 @@ kept_admitted conf m p rule now sound at met k =
       noded = noded_with conf w p rule now k.noded;
       phases = All-push (λ (s : State). IsPhaseOf s.key.proto s.phase) w.states new k.phases (phase_first p.proto);
       tables = k.tables;
-      moments = subst (λ last. IsUpToNow (moment_of last) (admitted conf w p rule now)) (sym at)
-          (world_at-up_to_now conf w p rule now None (subst (λ last. IsUpToNow (moment_of last) w) at k.moments));
+      moments = world_at-up_to_now conf w p rule now None k.moments;
     }
 
 -- directly after it, the maxima of a rule with shared nodes hold too
-pub shared_admitted : (conf : Conf) (m : Machine) (p : Header) (rule now : ℕ) → IsConfig conf
-    → limit_at conf m.world p rule ≡ None → scope_of conf rule ≡ Some scope.Global → IsKept conf m
+pub shared_admitted : (conf : Conf) (m : Held) (p : Header) (rule now : ℕ) → IsConfig conf
+    → limit_at conf m.world p rule ≡ None → scope_of conf rule ≡ Some scope.Global → IsKept conf m now
     → IsWithinShared conf rule p.source.addr m.world (admitted conf m.world p rule now)
 shared_admitted conf m p rule now sound met shared k =
     let w = m.world in

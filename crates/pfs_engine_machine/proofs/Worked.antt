@@ -26,13 +26,13 @@ use Rattle.pfs_conf_rules.specs.declared.items.What.TheVariants as item
 use Rattle.pfs_conf_rules.specs.declared.tables.TableDef.{TableDef}
 use Rattle.pfs_store_plain.specs.declared.records.Limit.{Limit}
 use Rattle.pfs_store_plain.specs.declared.records.Limit.TheVariants as limit
-use Rattle.pfs_engine.specs.Machine.{Machine, entries_held, nodes_held, start, states_held, step}
-use Rattle.pfs_engine.specs.Rates.{history_score}
-use Rattle.pfs_engine.specs.Runs.{machine_after, outcomes_of}
-use Rattle.pfs_engine.specs.declared.events.Event.{Event}
-use Rattle.pfs_engine.specs.declared.events.Outcome.{Outcome}
-use Rattle.pfs_engine.specs.declared.events.Outcome.TheVariants as outcome
-use Rattle.pfs_engine.specs.declared.events.What.TheVariants.{Packet, Skip}
+use Rattle.pfs_engine_machine.specs.Machine.{Machine, entries_held, nodes_held, start, states_held, step}
+use Rattle.pfs_engine_machine.specs.Rates.{history_score}
+use Rattle.pfs_engine_machine.specs.Runs.{machine_after, outcomes_of}
+use Rattle.pfs_engine_machine.specs.declared.events.Event.{Event}
+use Rattle.pfs_engine_machine.specs.declared.events.Outcome.{Outcome}
+use Rattle.pfs_engine_machine.specs.declared.events.Outcome.TheVariants as outcome
+use Rattle.pfs_engine_machine.specs.declared.events.What.TheVariants.{Packet, Skip}
 
 -- ---- configurations: limits of states and nodes, the timeouts that differ, tables and items
 

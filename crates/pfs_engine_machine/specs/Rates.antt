@@ -11,10 +11,10 @@ use Rattle.pfs_store_plain.specs.Worlds.{World, state_with}
 use Rattle.pfs_store_plain.specs.declared.records.State.{State}
 use Rattle.pfs_track.specs.Scores.{score_after, zero_score}
 use Rattle.pfs_track.specs.declared.scores.Score.{Score}
-use Rattle.pfs_engine.specs.declared.events.Event.{Event}
-use Rattle.pfs_engine.specs.declared.events.What.{What}
-use Rattle.pfs_engine.specs.declared.events.What.TheVariants as what
-use Rattle.pfs_engine.specs.Machine.{Machine, advanced, start, step}
+use Rattle.pfs_engine_machine.specs.declared.events.Event.{Event}
+use Rattle.pfs_engine_machine.specs.declared.events.What.{What}
+use Rattle.pfs_engine_machine.specs.declared.events.What.TheVariants as what
+use Rattle.pfs_engine_machine.specs.Machine.{Machine, advanced, start, step}
 
 -- a handshake of a state: its rule, its source, and when it completed
 pub record Handshake : Type 0 where
@@ -33,7 +33,7 @@ handshake_by w (what.Packet p) = completed_by p (state_with (key_of p) w)
 
 -- the state whose handshake an event completes
 abbrev pub handshake_at : Conf → Machine → Event → Option State
-handshake_at conf m e = handshake_by (advanced conf m e.time).world e.what
+handshake_at conf m e = handshake_by (advanced conf m e.time).held.world e.what
 
 abbrev pub with_handshake : ℕ → Option State → List Handshake → List Handshake
 with_handshake now None others = others

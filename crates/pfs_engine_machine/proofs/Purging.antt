@@ -9,7 +9,7 @@ use Rattle.pfs_store_plain.specs.Worlds.{World, lists}
 use Rattle.pfs_store_plain.specs.declared.records.Node.{Node}
 use Rattle.pfs_store_plain.specs.declared.records.Slice.{Slice}
 use Rattle.pfs_store_plain.specs.declared.records.State.{State}
-use Rattle.pfs_engine.specs.Machine.{most_nodes, most_states, purged, seconds}
+use Rattle.pfs_engine_machine.specs.Machine.{most_nodes, most_states, purged, seconds}
 
 -- the first second that is due
 pub seconds_next : (from to : ℕ) → from < to → seconds from to ≡ (from + 1) ∷ seconds (from + 1) to

@@ -1,0 +1,6 @@
+pub mod Kept
+pub mod Machine
+pub mod Rates
+pub mod Refusals
+pub mod Runs
+pub mod Visits
