@@ -12,7 +12,8 @@ pub mod KeptTime
 mod Numbers
 pub mod OptionLaws
 pub mod Purging
-mod Renewals
+pub mod Renewals
 pub mod Running
 mod Scopes
+pub mod Shares
 mod Worked

@@ -2,7 +2,7 @@ use Rattle.std.proofs.Common.{◌≡◌, true, refl, subst, sym}
 use Rattle.pfs_conf_rules.specs.declared.actions.StateOptions.{StateOptions}
 use Rattle.pfs_engine.specs.Rooms.{HasRoomFor}
 use Rattle.pfs_engine_machine.proofs.OptionLaws.{options_there, some_of}
-use Rattle.pfs_engine.proofs.handshakes.outcome_of.Goals as goal
+use Rattle.pfs_engine.proofs.handshakes.complete_handshake.Goals as goal
 
 pub is_over-rate-requires : goal.is_over-rate-requires
 is_over-rate-requires g c = some_of _ _ (c.in-Some.ensures.kept _ refl).max_src_conn_rate
