@@ -20,5 +20,6 @@ pub use faults::{ReplayFault, status};
 pub use joined::replay_joined;
 pub use performing::perform;
 pub use pfs_cli_jobs::{Job, job};
+pub use pfs_cli_streams::{Feed, Sink};
 pub use pfs_conf::{Kind, LoadFault};
 pub use replays::replay;
