@@ -1,6 +1,6 @@
-// The limits on states and on source nodes.
+//! The limits on states and on source nodes.
 
-use super::traces::{A, B, Case, Sent, tell_each};
+use crate::traces::{A, B, Case, Sent, tell_each};
 use std::test::Fail;
 
 const CASES: &[Case] = &[

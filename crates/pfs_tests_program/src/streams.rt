@@ -1,72 +1,9 @@
-//! Readers and writers in memory that end, fail or stall at a given turn.
+//! Bounded readers, and writers whose failures are counted.
 
-use crate::{Feed, Sink, write_whole};
-use std::io;
-use std::io::{Error, ErrorKind, Read, Write};
+use crate::fakes::{Halting, sink_of};
+use pfs_cli_streams::{Feed, write_whole};
+use std::io::{ErrorKind, Read, Write};
 use std::test::Fail;
-
-// A reader that gives one byte at each read, and fails at each read after the first `good`.
-#[derive(Drop)]
-struct Halting<'a> {
-    text: &'a [u8],
-    good: usize,
-}
-
-impl Read for Halting<'_> {
-    fn read(&mut self, buf: &mut [u8]) -> io::Result<usize> {
-        if self.good == 0 {
-            return Err(Error::new(ErrorKind::Interrupted, "halted"));
-        }
-        self.good -= 1;
-        if buf.is_empty() {
-            return Ok(0);
-        }
-        let Some((first, rest)) = self.text.split_first() else {
-            return Ok(0);
-        };
-        buf[0] = *first;
-        self.text = rest;
-        Ok(1)
-    }
-}
-
-// A writer that takes at most `width` bytes at each write, and fails after `room` writes.
-#[derive(Drop)]
-struct Narrow {
-    taken: Vec<u8>,
-    width: usize,
-    room: usize,
-    flushes: u64,
-}
-
-impl Write for Narrow {
-    fn write(&mut self, buf: &[u8]) -> io::Result<usize> {
-        if self.room == 0 {
-            return Err(Error::new(ErrorKind::Other, "full"));
-        }
-        self.room -= 1;
-        let n = buf.len().min(self.width);
-        self.taken.extend_from_slice(&buf[..n])?;
-        Ok(n)
-    }
-
-    fn flush(&mut self) -> io::Result<()> {
-        if self.room == 0 {
-            return Err(Error::new(ErrorKind::Other, "full"));
-        }
-        self.flushes = self.flushes.saturating_add(1);
-        Ok(())
-    }
-}
-
-fn sink_of(rt: &HostRuntime, width: usize, room: usize) -> Sink<Narrow> {
-    Sink::new(Narrow {
-        taken: Vec::new(rt.alloc()),
-        width,
-        room,
-        flushes: 0,
-    })
-}
 
 #[test]
 fn a_feed_gives_its_bytes_and_ends(rt: HostRuntime) -> Result<(), Fail> {
@@ -137,7 +74,7 @@ fn a_feed_fails_once_with_its_reader(rt: HostRuntime) -> Result<(), Fail> {
 
 #[test]
 fn a_text_is_written_a_byte_at_a_time(rt: HostRuntime) -> Result<(), Fail> {
-    let mut out = sink_of(&rt, 1, 9);
+    let mut out = sink_of(rt.alloc(), 1, 9);
     write_whole(&mut out, b"abc")?;
     write_whole(&mut out, b"")?;
     out.flush()?;
@@ -151,7 +88,7 @@ fn a_text_is_written_a_byte_at_a_time(rt: HostRuntime) -> Result<(), Fail> {
 
 #[test]
 fn a_text_is_cut_where_a_write_fails(rt: HostRuntime) -> Result<(), Fail> {
-    let mut out = sink_of(&rt, 1, 2);
+    let mut out = sink_of(rt.alloc(), 1, 2);
     assert!(rt; write_whole(&mut out, b"abc").is_err());
     assert_eq!(rt; out.failures(), 1);
     assert!(rt; out.flush().is_err());
@@ -165,7 +102,7 @@ fn a_text_is_cut_where_a_write_fails(rt: HostRuntime) -> Result<(), Fail> {
 
 #[test]
 fn a_write_that_takes_nothing_is_a_failure(rt: HostRuntime) -> Result<(), Fail> {
-    let mut out = sink_of(&rt, 0, 9);
+    let mut out = sink_of(rt.alloc(), 0, 9);
     assert_eq!(rt; out.write(b"")?, 0);
     assert_eq!(rt; out.failures(), 0);
     match write_whole(&mut out, b"abc") {

@@ -1,20 +1,12 @@
-//! Runs over readers and writers in memory: reports, and each place where a reader, a writer or a
-//! text can end early.
+//! Reports of rules and records, and what is told of texts that are refused.
 
-mod handshakes;
-mod jobs;
-mod limits;
-mod purges;
-mod traces;
-mod verdicts;
-
-use crate::{Kind, LoadFault, ReplayFault, replay, replay_joined, status};
+use crate::fakes::{Halting, Narrow, sink_of};
+use pfs_cli::{Kind, LoadFault, ReplayFault, replay, replay_joined, status};
 use pfs_cli_streams::{Feed, Sink};
-use std::io;
-use std::io::{Error, ErrorKind, Read, Write};
+use std::alloc::Global;
 use std::test::Fail;
 
-const HEADER: &[u8] = b"time,dir,if,proto,src,sport,dst,dport,flags\n";
+pub const HEADER: &[u8] = b"time,dir,if,proto,src,sport,dst,dport,flags\n";
 
 // Rules, records behind the header, what is written, and how it ends.
 #[derive(Clone, Copy)]
@@ -86,77 +78,8 @@ fn rows() -> [Row; 9] {
     ]
 }
 
-// A reader that gives one byte at each read, and fails at each read after the first `good`.
-#[derive(Drop)]
-struct Halting<'a> {
-    text: &'a [u8],
-    good: usize,
-}
-
-impl Read for Halting<'_> {
-    fn read(&mut self, buf: &mut [u8]) -> io::Result<usize> {
-        if self.good == 0 {
-            return Err(Error::new(ErrorKind::Other, "halted"));
-        }
-        self.good -= 1;
-        if buf.is_empty() {
-            return Ok(0);
-        }
-        let Some((first, rest)) = self.text.split_first() else {
-            return Ok(0);
-        };
-        buf[0] = *first;
-        self.text = rest;
-        Ok(1)
-    }
-}
-
-// A reader that gives this byte at each read, for ever.
-#[derive(Drop)]
-struct Endless(u8);
-
-impl Read for Endless {
-    fn read(&mut self, buf: &mut [u8]) -> io::Result<usize> {
-        if buf.is_empty() {
-            return Ok(0);
-        }
-        buf[0] = self.0;
-        Ok(1)
-    }
-}
-
-// A writer that takes one byte at each write, fails after `room` bytes, and counts its flushes.
-#[derive(Drop)]
-struct Narrow {
-    taken: Vec<u8>,
-    room: usize,
-    flushes: u64,
-}
-
-impl Write for Narrow {
-    fn write(&mut self, buf: &[u8]) -> io::Result<usize> {
-        if self.room == 0 {
-            return Err(Error::new(ErrorKind::Other, "full"));
-        }
-        if buf.is_empty() {
-            return Ok(0);
-        }
-        self.taken.push(buf[0])?;
-        self.room -= 1;
-        Ok(1)
-    }
-
-    fn flush(&mut self) -> io::Result<()> {
-        if self.room == 0 {
-            return Err(Error::new(ErrorKind::Other, "full"));
-        }
-        self.flushes = self.flushes.saturating_add(1);
-        Ok(())
-    }
-}
-
-fn trace_of(rt: &HostRuntime, records: &[u8]) -> Result<Vec<u8>, Fail> {
-    let mut trace = Vec::new(rt.alloc());
+pub fn trace_of(alloc: Global, records: &[u8]) -> Result<Vec<u8>, Fail> {
+    let mut trace = Vec::new(alloc);
     trace.extend_from_slice(HEADER)?;
     trace.extend_from_slice(records)?;
     Ok(trace)
@@ -165,7 +88,7 @@ fn trace_of(rt: &HostRuntime, records: &[u8]) -> Result<Vec<u8>, Fail> {
 #[test]
 fn rows_from_slices(rt: HostRuntime) -> Result<(), Fail> {
     for row in &rows() {
-        let trace = trace_of(&rt, row.records)?;
+        let trace = trace_of(rt.alloc(), row.records)?;
         let mut rules = Feed::new(row.rules, 9);
         let mut records = Feed::new(trace.as_slice(), 99);
         let mut out = Sink::new(Vec::new(rt.alloc()));
@@ -183,148 +106,20 @@ fn rows_a_byte_at_a_time(rt: HostRuntime) -> Result<(), Fail> {
         let mut text = Vec::new(rt.alloc());
         text.extend_from_slice(row.rules)?;
         text.extend_from_slice(b"\n%%\n")?;
-        let trace = trace_of(&rt, row.records)?;
+        let trace = trace_of(rt.alloc(), row.records)?;
         text.extend_from_slice(trace.as_slice())?;
         let reader = Halting {
             text: text.as_slice(),
             good: 9999,
         };
         let mut input = Feed::new(reader, 9999);
-        let mut out = Sink::new(Narrow {
-            taken: Vec::new(rt.alloc()),
-            room: 9999,
-            flushes: 0,
-        });
+        let mut out = sink_of(rt.alloc(), 1, 9999);
         let outcome = replay_joined(rt.alloc(), &mut input, &mut out);
         assert_eq!(rt; outcome, row.outcome);
         let writer = out.into_inner();
         assert_eq!(rt; writer.taken.as_slice(), row.report);
         assert_eq!(rt; writer.flushes, if row.outcome == Ok(()) { 1 } else { 0 });
     }
-    Ok(())
-}
-
-const RULES: &[u8] = b"set limit states 2\npass in proto udp all\n";
-
-const RECORDS: &[u8] =
-    b"5,in,em0,udp,198.51.100.1,1,192.0.2.1,53,\n5,in,em0,udp,198.51.100.2,1,192.0.2.1,53,\n5,in,em0,udp,198.51.100.3,1,192.0.2.1,53,\n";
-
-const REPORT: &[u8] =
-    b"1 new @0\n2 new @0\n3 drop:states @0\nend rows=3 states=2 nodes=0 entries=0\n";
-
-// How many bytes the first `count` lines of a text have.
-fn lines_len(text: &[u8], count: usize) -> usize {
-    let mut left = count;
-    for (i, byte) in text.iter().enumerate() {
-        if left == 0 {
-            return i;
-        }
-        if *byte == b'\n' {
-            left -= 1;
-        }
-    }
-    text.len()
-}
-
-// How many lines are whole in the first `len` bytes of a text.
-fn whole_lines(text: &[u8], len: usize) -> usize {
-    text.iter().take(len).filter(|byte| **byte == b'\n').count()
-}
-
-#[test]
-fn a_read_fails_at_each_turn(rt: HostRuntime) -> Result<(), Fail> {
-    let trace = trace_of(&rt, RECORDS)?;
-    for good in 0..=trace.len() {
-        let mut rules = Feed::new(RULES, 9);
-        let reader = Halting {
-            text: trace.as_slice(),
-            good,
-        };
-        let mut records = Feed::new(reader, 999);
-        let mut out = Sink::new(Vec::new(rt.alloc()));
-        let outcome = replay(rt.alloc(), &mut rules, &mut records, &mut out);
-        assert_eq!(rt; outcome, Err(ReplayFault::Read), "{good}");
-        assert_eq!(rt; records.failures(), 1);
-        let rows = whole_lines(trace.as_slice(), good).saturating_sub(1);
-        let written = out.into_inner();
-        let len = lines_len(REPORT, rows);
-        assert!(rt; len <= REPORT.len());
-        assert_eq!(rt; written.as_slice(), &REPORT[..len], "{good}");
-    }
-    Ok(())
-}
-
-#[test]
-fn a_read_of_joined_text_fails_at_each_turn(rt: HostRuntime) -> Result<(), Fail> {
-    let mut text = Vec::new(rt.alloc());
-    text.extend_from_slice(RULES)?;
-    text.extend_from_slice(b"%%\n")?;
-    let trace = trace_of(&rt, RECORDS)?;
-    text.extend_from_slice(trace.as_slice())?;
-    for good in 0..=text.len() {
-        let reader = Halting {
-            text: text.as_slice(),
-            good,
-        };
-        let mut input = Feed::new(reader, 999);
-        let mut out = Sink::new(Vec::new(rt.alloc()));
-        let outcome = replay_joined(rt.alloc(), &mut input, &mut out);
-        assert_eq!(rt; outcome, Err(ReplayFault::Read), "{good}");
-        let rows = whole_lines(text.as_slice(), good).saturating_sub(4);
-        let written = out.into_inner();
-        let len = lines_len(REPORT, rows);
-        assert!(rt; len <= REPORT.len());
-        assert_eq!(rt; written.as_slice(), &REPORT[..len], "{good}");
-    }
-    Ok(())
-}
-
-#[test]
-fn a_write_fails_at_each_turn(rt: HostRuntime) -> Result<(), Fail> {
-    let trace = trace_of(&rt, RECORDS)?;
-    for room in 0..=REPORT.len() {
-        let mut rules = Feed::new(RULES, 9);
-        let mut records = Feed::new(trace.as_slice(), 99);
-        let mut out = Sink::new(Narrow {
-            taken: Vec::new(rt.alloc()),
-            room,
-            flushes: 0,
-        });
-        let outcome = replay(rt.alloc(), &mut rules, &mut records, &mut out);
-        assert_eq!(rt; outcome, Err(ReplayFault::Write), "{room}");
-        assert_eq!(rt; out.failures(), 1);
-        let writer = out.into_inner();
-        assert_eq!(rt; writer.taken.as_slice(), &REPORT[..room]);
-    }
-    Ok(())
-}
-
-#[test]
-fn readers_without_an_end(rt: HostRuntime) -> Result<(), Fail> {
-    let too_long = ReplayFault::Rules(LoadFault {
-        line: 0,
-        kind: Kind::TooLong,
-    });
-    for (bound, outcome) in [(100, ReplayFault::Endless), (2_000_000, too_long)] {
-        let mut rules = Feed::new(Endless(b' '), bound);
-        let mut records = Feed::new(HEADER, 9);
-        let mut out = Sink::new(Vec::new(rt.alloc()));
-        let told = replay(rt.alloc(), &mut rules, &mut records, &mut out);
-        assert_eq!(rt; told, Err(outcome));
-        assert_eq!(rt; out.into_inner().as_slice(), b"".as_slice());
-    }
-    let mut rules = Feed::new(RULES, 9);
-    let mut records = Feed::new(Endless(b'\n'), 100);
-    let mut out = Sink::new(Vec::new(rt.alloc()));
-    let told = replay(rt.alloc(), &mut rules, &mut records, &mut out);
-    assert_eq!(rt; told, Err(ReplayFault::Endless));
-    assert_eq!(rt; out.into_inner().as_slice(), b"".as_slice());
-    // A joined text is read on to its split line, in bounded memory.
-    let mut input = Feed::new(Endless(b'x'), 2_000_000);
-    let mut out = Sink::new(Vec::new(rt.alloc()));
-    let told = replay_joined(rt.alloc(), &mut input, &mut out);
-    assert_eq!(rt; told, Err(ReplayFault::Endless));
-    assert_eq!(rt; out.into_inner().as_slice(), b"".as_slice());
     Ok(())
 }
 
@@ -380,7 +175,7 @@ fn traces_that_are_cut(rt: HostRuntime) -> Result<(), Fail> {
             Ok(()),
         ),
     ] {
-        let trace = trace_of(&rt, records)?;
+        let trace = trace_of(rt.alloc(), records)?;
         let mut rules = Feed::new(b"".as_slice(), 9);
         let mut records = Feed::new(trace.as_slice(), 99);
         let mut out = Sink::new(Vec::new(rt.alloc()));
@@ -422,7 +217,7 @@ fn fields_that_are_refused(rt: HostRuntime) -> Result<(), Fail> {
             9,
         ),
     ] {
-        let trace = trace_of(&rt, record)?;
+        let trace = trace_of(rt.alloc(), record)?;
         let mut rules = Feed::new(b"".as_slice(), 9);
         let mut records = Feed::new(trace.as_slice(), 99);
         let mut out = Sink::new(Vec::new(rt.alloc()));

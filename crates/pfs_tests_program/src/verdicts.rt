@@ -1,6 +1,6 @@
-// Which rule decides, and the records of each protocol.
+//! Which rule decides, and the records of each protocol.
 
-use super::traces::{Case, Sent, tell_each};
+use crate::traces::{Case, Sent, tell_each};
 use std::test::Fail;
 
 const CASES: &[Case] = &[

@@ -1,6 +1,6 @@
-// The limits on connections, overload tables and flushes.
+//! The limits on connections, overload tables and flushes.
 
-use super::traces::{A, B, Case, Sent, tell_each};
+use crate::traces::{A, B, Case, Sent, tell_each};
 use std::test::Fail;
 
 const CONNECTIONS: &[Case] = &[

@@ -1,6 +1,6 @@
-// States and source nodes leave with time, and life under load is shorter.
+//! States and source nodes leave with time, and life under load is shorter.
 
-use super::traces::{A, B, Case, Sent, tell_each, tell_scaled};
+use crate::traces::{A, B, Case, Sent, tell_each, tell_scaled};
 use std::test::Fail;
 
 const SCALED: &[Case] = &[

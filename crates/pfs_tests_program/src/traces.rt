@@ -1,42 +1,42 @@
-// Short records, and the reports of them.
+//! Short records, and the reports of them.
 
-use crate::{replay, replay_joined};
+use pfs_cli::{replay, replay_joined};
 use pfs_cli_streams::{Feed, Sink};
 use std::process::Abort;
 use std::test::Fail;
 
-// Two sources.
-pub(super) const A: &str = "198.51.100.1";
+/// Two sources.
+pub const A: &str = "198.51.100.1";
 
-pub(super) const B: &str = "198.51.100.2";
+pub const B: &str = "198.51.100.2";
 
-// No state is given a shorter life under load.
-pub(super) const UNSCALED: &str = "set timeout { adaptive.start 0, adaptive.end 0 }\n";
+/// No state is given a shorter life under load.
+pub const UNSCALED: &str = "set timeout { adaptive.start 0, adaptive.end 0 }\n";
 
-// Records of a trace, by the moment, the address of the client and its port. The server is 192.0.2.1.
+/// Records of a trace, by the moment, the address of the client and its port. The server is 192.0.2.1.
 #[derive(Clone, Copy)]
-pub(super) enum Sent {
-    // A UDP packet to port 53 of the server.
+pub enum Sent {
+    /// A UDP packet to port 53 of the server.
     Udp(u64, &'static str, u16),
-    // A UDP packet to port 54.
+    /// A UDP packet to port 54.
     Other(u64, &'static str, u16),
-    // A TCP packet to port 80, with these flags.
+    /// A TCP packet to port 80, with these flags.
     Tcp(u64, &'static str, u16, &'static str),
-    // The three packets of a handshake.
+    /// The three packets of a handshake.
     Shake(u64, &'static str, u16),
-    // A packet of ICMP.
+    /// A packet of ICMP.
     Ping(u64),
-    // A record as it stands.
+    /// A record as it stands.
     Line(&'static str),
 }
 
-// What a report shows: the rules, the records, and the report.
+/// What a report shows: the rules, the records, and the report.
 #[derive(Clone, Copy)]
-pub(super) struct Case {
-    pub(super) shows: &'static str,
-    pub(super) rules: &'static str,
-    pub(super) sent: &'static [Sent],
-    pub(super) report: &'static str,
+pub struct Case {
+    pub shows: &'static str,
+    pub rules: &'static str,
+    pub sent: &'static [Sent],
+    pub report: &'static str,
 }
 
 fn write_sent(trace: &mut String, sent: &Sent) -> Result<(), Fail> {
@@ -57,7 +57,7 @@ fn write_sent(trace: &mut String, sent: &Sent) -> Result<(), Fail> {
     Ok(())
 }
 
-// The report of these rules, behind a first line of them, and of these records is this one, from two texts and from one.
+/// The report of these rules, behind a first line of them, and of these records is this one, from two texts and from one.
 fn tell(rt: &(impl Abort + AllocGlobal), first: &str, case: &Case) -> Result<(), Fail> {
     let shows = case.shows;
     let mut trace = String::new(rt.alloc());
@@ -84,16 +84,16 @@ fn tell(rt: &(impl Abort + AllocGlobal), first: &str, case: &Case) -> Result<(),
     Ok(())
 }
 
-// Tells each case, without a shorter life under load.
-pub(super) fn tell_each(rt: &(impl Abort + AllocGlobal), cases: &[Case]) -> Result<(), Fail> {
+/// Tells each case, without a shorter life under load.
+pub fn tell_each(rt: &(impl Abort + AllocGlobal), cases: &[Case]) -> Result<(), Fail> {
     for case in cases {
         tell(rt, UNSCALED, case)?;
     }
     Ok(())
 }
 
-// Tells each case, with the lives that load shortens.
-pub(super) fn tell_scaled(rt: &(impl Abort + AllocGlobal), cases: &[Case]) -> Result<(), Fail> {
+/// Tells each case, with the lives that load shortens.
+pub fn tell_scaled(rt: &(impl Abort + AllocGlobal), cases: &[Case]) -> Result<(), Fail> {
     for case in cases {
         tell(rt, "", case)?;
     }

@@ -1,6 +1,6 @@
-// Checks, canonical texts and jobs over readers and writers in memory.
+//! Checks, canonical texts and jobs over readers and writers in memory.
 
-use crate::{Job, Kind, LoadFault, ReplayFault, check, perform, print};
+use pfs_cli::{Job, Kind, LoadFault, ReplayFault, check, perform, print};
 use pfs_cli_streams::{Feed, Sink};
 use std::process::Abort;
 use std::test::Fail;

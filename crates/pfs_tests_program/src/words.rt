@@ -1,7 +1,6 @@
-// Which words ask for which job.
+//! Which words ask for which job.
 
-use crate::tasks::Job;
-use crate::words::job;
+use pfs_cli::{Job, job};
 use std::test::Fail;
 
 #[test]
