@@ -7,12 +7,12 @@ pub mod Counts
 mod KeptAdmission
 pub mod KeptHandshakes
 pub mod KeptPackets
-mod KeptRuns
+pub mod KeptRuns
 pub mod KeptTime
-mod Numbers
+pub mod Numbers
 pub mod OptionLaws
 pub mod Purging
-mod Renewals
+pub mod Renewals
 pub mod Running
-mod Scopes
+pub mod Scopes
 mod Worked
