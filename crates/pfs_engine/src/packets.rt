@@ -1,17 +1,18 @@
 //! What one packet does.
 
-ghost use Rattle.std.specs.Prelude.{List, ◌≡◌, ◌≤◌, ◌<◌, ◌+◌, false, None, Some, IfOk, IsOk, IsSome, OnErr};
+ghost use Rattle.std.specs.Prelude.{List, ◌≡◌, ◌≤◌, ◌<◌, ◌+◌, false, true, None, Some, IfOk, IsOk, IsSome, OnErr};
 ghost use Rattle.pfs_addr.specs.Keys.{key_of};
 ghost use Rattle.pfs_eval.specs.Entries.{Entry};
 ghost use Rattle.pfs_conf_rules.specs.Configs.{limit_of, options_at};
 ghost use Rattle.pfs_store_plain.specs.Admission.{limit_at};
 ghost use Rattle.pfs_store_plain.specs.Worlds.{state_with};
 ghost use Rattle.pfs_engine_machine.specs.Kept.{IsKept};
+ghost use Rattle.pfs_engine_machine.specs.Looks.{AreLooks, states_beside};
 ghost use Rattle.pfs_engine_machine.specs.Machine.{answered, by_action, by_limit, by_rule, decided, held_of};
 ghost use Rattle.pfs_engine_machine.specs.Refusals.{IsFree, IsFreeBy};
 ghost use Rattle.pfs_engine_machine.specs.Visits.{AreVisits};
 
-use crate::handshakes::belongs;
+use crate::handshakes::take_packet_of_state;
 use pfs_addr::{FlowKey, Meter, NoMemory, Packet};
 use pfs_conf_rules::{Action, Config, LimitName, RuleNo};
 use pfs_engine_machine::Outcome;
@@ -55,10 +56,13 @@ pub(crate) fn answer<S: Store>(
         (state_with (key_of packet.now) (S.world store.old)) meters.new.visits }
     ensures free { IsFree config.now (held_of (S.world store.old) tables.old.entries) packet.now
         (state_with (key_of packet.now) (S.world store.old)) → IsOk result }
+    ensures looks { S.counts ≡ true → IfOk result (λ o. AreLooks config.now
+        (states_beside (S.world store.old) (state_with (key_of packet.now) (S.world store.old))) o meters.new.looks) }
+    ensures no_looks { S.counts ≡ true → OnErr result (meters.new.looks ≡ 0) }
     ensures uncounted { S.counts ≡ false → meters.new.looks ≡ 0 }
 {
     match store.find(&FlowKey::of(packet)) {
-        Some(number) => belongs(
+        Some(number) => take_packet_of_state(
             config,
             tables,
             store,
@@ -93,6 +97,7 @@ fn by_rules<S: Store>(
     ensures config { S.config store.new ≡ S.config store.old }
     ensures visits { AreVisits config.now (held_of (S.world store.old) tables.now.entries) packet.now None visits.new }
     ensures free { IsFree config.now (held_of (S.world store.old) tables.now.entries) packet.now None → IsOk result }
+    ensures no_looks { IfOk result (λ o. AreLooks config.now 0 o 0) }
 {
     match book.decide(tables, packet, visits) {
         Some(rule) => by_action(config, store, packet, rule, now),
@@ -117,6 +122,7 @@ fn by_action<S: Store>(
     ensures config { S.config store.new ≡ S.config store.old }
     ensures free { (tables : List (List Entry)) →
         IsFreeBy config.now (held_of (S.world store.old) tables) packet.now (Some rule.0) → IsOk result }
+    ensures no_looks { IfOk result (λ o. AreLooks config.now 0 o 0) }
 {
     let Some(found) = config.rule(rule) else {
         return Ok(Outcome::Block(rule));

@@ -15,4 +15,5 @@ pub mod Purging
 pub mod Renewals
 pub mod Running
 pub mod Scopes
+pub mod Shares
 mod Worked

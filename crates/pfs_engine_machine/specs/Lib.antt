@@ -1,4 +1,5 @@
 pub mod Kept
+pub mod Looks
 pub mod Machine
 pub mod Rates
 pub mod Refusals

@@ -13,3 +13,7 @@ invariant_of-result g c = record {
   few = omega arith;
   config = c.limit-limit.ensures.sound;
 }
+
+pub returns-clause-limits : goal.returns-clause-limits
+returns-clause-limits g c =
+    rw (c.requires.empty, c.in_ok-tables.ensures.entries) (kept_start c.args.config c.limit-limit.ensures.sound).limits
