@@ -12,8 +12,6 @@ mod performing;
 mod records;
 mod replays;
 mod rules;
-#[cfg(test)]
-mod tests;
 
 pub use checks::{check, print};
 pub use faults::{ReplayFault, status};
