@@ -2,10 +2,10 @@
 use Rattle.std.proofs.Common.{◌≡◌, ◌+◌, ◌++◌, ◌∙◌, ℕ, suc, List, [], ◌∷◌, length, refl, sym, ap, append_assoc, arith}
 use Rattle.std.proofs.lemmas.List.{append-nil}
 use Rattle.pfs_conf_rules.specs.Configs.{Conf}
-use Rattle.pfs_engine.specs.declared.events.Event.{Event}
-use Rattle.pfs_engine.specs.declared.events.Outcome.{Outcome}
-use Rattle.pfs_engine.specs.Machine.{Machine, start, step}
-use Rattle.pfs_engine.specs.Runs.{outcomes_of, machine_after}
+use Rattle.pfs_engine_machine.specs.declared.events.Event.{Event}
+use Rattle.pfs_engine_machine.specs.declared.events.Outcome.{Outcome}
+use Rattle.pfs_engine_machine.specs.Machine.{Machine, start, step}
+use Rattle.pfs_engine_machine.specs.Runs.{outcomes_of, machine_after}
 use Rattle.pfs_cli.specs.Lines.{row_text}
 use Rattle.pfs_cli.specs.Reports.{lines_from, lines_of}
 

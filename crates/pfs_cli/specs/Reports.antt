@@ -1,10 +1,10 @@
 -- The report of a trace under a configuration, and what a run has written of it when it stops. (own)
 use Rattle.std.specs.Prelude.{◌≡◌, ◌+◌, ◌++◌, ℕ, List, [], ◌∷◌, length, take, Some, None, Result, Ok, Err}
 use Rattle.pfs_conf_rules.specs.Configs.{Conf}
-use Rattle.pfs_engine.specs.declared.events.Event.{Event}
-use Rattle.pfs_engine.specs.declared.events.Outcome.{Outcome}
-use Rattle.pfs_engine.specs.Machine.{Machine, start, states_held, nodes_held, entries_held}
-use Rattle.pfs_engine.specs.Runs.{outcomes_of, machine_after}
+use Rattle.pfs_engine_machine.specs.declared.events.Event.{Event}
+use Rattle.pfs_engine_machine.specs.declared.events.Outcome.{Outcome}
+use Rattle.pfs_engine_machine.specs.Machine.{Machine, start, states_held, nodes_held, entries_held}
+use Rattle.pfs_engine_machine.specs.Runs.{outcomes_of, machine_after}
 use Rattle.pfs_cli.specs.declared.records.Stop.{Stop}
 use Rattle.pfs_cli.specs.declared.records.Stop.TheVariants as stop
 use Rattle.pfs_cli.specs.Lines.{row_text, end_text}

@@ -1,8 +1,8 @@
 -- What one turn of a run writes. (own)
 use Rattle.std.specs.Prelude.{◌≡◌, ℕ, List, [], take, Result, Ok, Err}
 use Rattle.pfs_conf_rules.specs.Configs.{Conf}
-use Rattle.pfs_engine.specs.declared.events.Event.{Event}
-use Rattle.pfs_engine.specs.Machine.{Machine, step}
+use Rattle.pfs_engine_machine.specs.declared.events.Event.{Event}
+use Rattle.pfs_engine_machine.specs.Machine.{Machine, step}
 use Rattle.pfs_cli.specs.declared.records.Stop.{Stop}
 use Rattle.pfs_cli.specs.declared.records.Stop.TheVariants as stop
 use Rattle.pfs_cli.specs.Events.{event_at}
@@ -23,5 +23,5 @@ TakesEvent conf row m e text result after =
 
 -- the turn of a record, by what it is
 abbrev pub TakesRecord : Conf → ℕ → Machine → List (List ℕ) → List ℕ → Result Unit Stop → Machine → Type 0
-TakesRecord conf row m fields text (Err (stop.Fault f)) after = (event_at row m.last fields ≡ Err f) × (text ≡ [])
-TakesRecord conf row m fields text result after = (e : Event) × (event_at row m.last fields ≡ Ok e) × TakesEvent conf row m e text result after
+TakesRecord conf row m fields text (Err (stop.Fault f)) after = (event_at conf row m.last fields ≡ Err f) × (text ≡ [])
+TakesRecord conf row m fields text result after = (e : Event) × (event_at conf row m.last fields ≡ Ok e) × TakesEvent conf row m e text result after

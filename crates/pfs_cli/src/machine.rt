@@ -2,7 +2,7 @@
 
 ghost use Rattle.std.specs.Prelude.{◌≡◌, ◌<◌, ◌≤◌, ◌+◌, ◌^◌, IfOk};
 ghost use Rattle.std.specs.Option.{ForSome};
-ghost use Rattle.pfs_engine.specs.Machine.{start, step};
+ghost use Rattle.pfs_engine_machine.specs.Machine.{start, step};
 
 use pfs_addr::NoMemory;
 use pfs_conf_rules::Config;

@@ -2,7 +2,7 @@
 
 ghost use Rattle.std.specs.Prelude.{◌≡◌, IfOk, IfErr};
 ghost use Rattle.pfs_conf.specs.Reads.{Reads};
-ghost use Rattle.pfs_engine.specs.Machine.{start};
+ghost use Rattle.pfs_engine_machine.specs.Machine.{start};
 ghost use Rattle.pfs_cli.specs.Checks.{fault_of};
 ghost use Rattle.pfs_cli.specs.Replays.{RefusesRules};
 

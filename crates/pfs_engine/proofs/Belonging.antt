@@ -3,18 +3,25 @@ use Rattle.std.proofs.Common.{◌≡◌, ℕ, true, Option, None, Some, ap, ◌�
 use Rattle.std.specs.Prelude.{option_map}
 use Rattle.pfs_addr.specs.Keys.{key_of}
 use Rattle.pfs_addr.specs.Packets.{Header}
+use Rattle.pfs_addr.specs.Sameness.{same_addr}
+use Rattle.pfs_addr.specs.declared.addresses.Addr.{Addr}
 use Rattle.pfs_eval.specs.Holdings.{Holdings}
 use Rattle.pfs_conf_rules.specs.Configs.{Conf, options_of}
 use Rattle.pfs_conf_rules.specs.declared.items.RuleNo.{RuleNo}
-use Rattle.pfs_store_plain.specs.Touching.{completes_at, touch_of, touched, world_touched}
+use Rattle.pfs_store_plain.specs.Counts.{is_of_source, source_states}
+use Rattle.pfs_store_plain.specs.Touching.{completes_at, renewed, touch_of, touched, world_touched}
 use Rattle.pfs_store_plain.specs.Worlds.{World, holds_number, number_of, rule_in, state_with}
 use Rattle.pfs_store_plain.specs.declared.records.State.{State}
 use Rattle.pfs_store_plain.specs.declared.records.StateNo.{StateNo}
 use Rattle.pfs_store_plain.specs.declared.records.Touched.{Touched}
-use Rattle.pfs_engine.specs.Kept.{IsKept}
-use Rattle.pfs_engine.specs.Machine.{Machine}
-use Rattle.pfs_engine.specs.Rooms.{HasRoomFor, is_tcp, overload_at}
-use Rattle.pfs_engine.proofs.KeptHandshakes.{held_touched, proto_of_completed}
+use Rattle.pfs_engine_machine.specs.Kept.{IsKept}
+use Rattle.pfs_engine_machine.specs.Looks.{states_beside}
+use Rattle.pfs_engine_machine.specs.Machine.{Held}
+use Rattle.pfs_engine_machine.specs.Refusals.{is_tcp}
+use Rattle.pfs_engine.specs.Rooms.{HasRoomFor, overload_at}
+use Rattle.pfs_engine_machine.proofs.Counts.{count-map}
+use Rattle.pfs_engine_machine.proofs.Renewals.{renewed-same}
+use Rattle.pfs_engine_machine.proofs.KeptHandshakes.{held_touched, proto_of_completed}
 
 -- the state that was found
 pub found_state : (o : Option State) (number : StateNo) → option_map number_of o ≡ Some number → (s : State) × (o ≡ Some s) × (s.number ≡ number.0)
@@ -29,8 +36,8 @@ held_after conf w after p now number e is =
     ap (λ (v : World). holds_number v.states number.0) after_is
     ∙ (ap (λ (n : ℕ). holds_number (touched conf w s p now).states n) (sym same) ∙ held_touched conf w p now s found)
 
-pub room_after : (conf store_conf : Conf) (m : Machine) (p : Header) (now : ℕ) (number : StateNo) (t : Touched) (rule : Option RuleNo) (tables : Holdings)
-    → IsKept conf m → option_map number_of (state_with (key_of p) m.world) ≡ Some number
+pub room_after : (conf store_conf : Conf) (m : Held) (p : Header) (now : ℕ) (number : StateNo) (t : Touched) (rule : Option RuleNo) (tables : Holdings)
+    → IsKept conf m now → option_map number_of (state_with (key_of p) m.world) ≡ Some number
     → rule ≡ option_map rule_in (state_with (key_of p) m.world)
     → Some t ≡ option_map (touch_of store_conf m.world p now) (state_with (key_of p) m.world)
     → (is_tcp p.proto ≡ true → HasRoomFor tables (overload_at conf rule))
@@ -41,5 +48,20 @@ room_after conf store_conf m p now number t rule tables kept e rule_is touch_is 
     let t_is : t ≡ touch_of store_conf m.world p now s = cc in
     let completes : completes_at p s ≡ true = sym (ap (λ (x : Touched). x.completed) t_is) ∙ done in
     let at : rule ≡ Some s.rule = rule_is ∙ ap (option_map rule_in) found in
-    let here = subst (λ (r : Option RuleNo). HasRoomFor tables (overload_at conf r)) at (room (proto_of_completed conf m p s kept found completes)) in
+    let here = subst (λ (r : Option RuleNo). HasRoomFor tables (overload_at conf r)) at (room (proto_of_completed conf m p now s kept found completes)) in
     subst (λ (r : RuleNo). HasRoomFor tables (options_of conf r.0).overload) (sym (ap (λ (x : Touched). x.rule) t_is)) here
+
+-- the source of the state has as many states as before
+pub beside_after : (store_conf : Conf) (w after : World) (p : Header) (now : ℕ) (number : StateNo) (t : Touched)
+    → option_map number_of (state_with (key_of p) w) ≡ Some number → after ≡ world_touched store_conf w p now (state_with (key_of p) w)
+    → Some t ≡ option_map (touch_of store_conf w p now) (state_with (key_of p) w)
+    → source_states t.source after.states ≡ states_beside w (state_with (key_of p) w)
+beside_after store_conf w after p now number t e is touch_is =
+    let (s, found, same) = found_state (state_with (key_of p) w) number e in
+    let told : Some t ≡ Some (touch_of store_conf w p now s) = touch_is ∙ ap (option_map (touch_of store_conf w p now)) found in
+    let t_is : t ≡ touch_of store_conf w p now s = cc in
+    let after_is : after ≡ touched store_conf w s p now = is ∙ ap (world_touched store_conf w p now) found in
+    ap (λ (a : Addr). source_states a after.states) (ap (λ (x : Touched). x.source) t_is)
+    ∙ (ap (λ (v : World). source_states s.source v.states) after_is
+    ∙ (count-map (is_of_source s.source) (renewed s.number p now) (λ (x : State). ap (λ (a : Addr). same_addr a s.source) (renewed-same s.number p now x).source) w.states
+    ∙ sym (ap (states_beside w) found)))

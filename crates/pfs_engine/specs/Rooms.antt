@@ -1,19 +1,11 @@
 -- Room in a rule's overload table, made before a packet changes anything.
-use Rattle.std.specs.Prelude.{ℕ, ◌≡◌, ◌≤◌, ◌<◌, ◌⊎◌, Bool, true, false, Option, Some, None, length}
+use Rattle.std.specs.Prelude.{ℕ, ◌≡◌, ◌≤◌, ◌<◌, ◌⊎◌, true, Option, Some, None, length}
 use Rattle.std.specs.Option.{ForSome}
-use Rattle.pfs_addr.specs.declared.protocols.Proto.{Proto}
-use Rattle.pfs_addr.specs.declared.protocols.Proto.TheVariants as proto
 use Rattle.pfs_eval.specs.Holdings.{Holdings}
 use Rattle.pfs_eval.specs.Tables.{entry_count, has_room}
 use Rattle.pfs_conf_rules.specs.Configs.{Conf, options_of}
 use Rattle.pfs_conf_rules.specs.declared.actions.Overload.{Overload}
 use Rattle.pfs_conf_rules.specs.declared.items.RuleNo.{RuleNo}
-
--- only TCP has handshakes
-abbrev pub is_tcp : Proto → Bool
-is_tcp proto.Tcp = true
-is_tcp proto.Udp = false
-is_tcp (proto.Other n) = false
 
 -- the `overload` of the rule of a held state
 abbrev pub overload_at : Conf → Option RuleNo → Option Overload

@@ -1,12 +1,18 @@
 -- What an engine is to its callers, and what it keeps.
-use Rattle.std.specs.Prelude.{ℕ, ◌≡◌, ◌≤◌, List}
+use Rattle.std.specs.Prelude.{ℕ, ◌≡◌, ◌≤◌, List, Option}
+use Rattle.pfs_eval.specs.Entries.{Entry}
 use Rattle.pfs_eval.specs.Holdings.{Holdings}
 use Rattle.pfs_conf_rules.specs.Configs.{Conf, IsConfig, limit_of}
 use Rattle.pfs_conf_rules.specs.declared.items.Item.{Item}
 use Rattle.pfs_conf_rules.specs.declared.limits.LimitName.TheVariants as limit_name
-use Rattle.pfs_engine.specs.Kept.{IsKept}
-use Rattle.pfs_engine.specs.Machine.{Machine}
-use Rattle.pfs_engine.specs.declared.events.Work.{Work}
+use Rattle.pfs_store_plain.specs.Worlds.{World}
+use Rattle.pfs_engine_machine.specs.Kept.{IsKept, moment_of}
+use Rattle.pfs_engine_machine.specs.Machine.{Machine, held_of}
+use Rattle.pfs_engine.specs.declared.works.Work.{Work}
+
+-- the machine of what a store and the tables hold, and of a last moment
+abbrev pub machine_at : World → List (List Entry) → Option ℕ → Machine
+machine_at world tables last = record { held = held_of world tables; last = last }
 
 -- the configuration, the machine, how many packets were answered, and the work of the latest call
 pub record View : Type 0 where
@@ -20,7 +26,7 @@ pub record IsWhole (conf store : Conf) (book : List Item) (tables : Holdings) (m
   pub made_for : store ≡ conf
   pub items : book ≡ conf.items
   pub limit : tables.limit ≡ limit_of conf limit_name.TableEntries
-  pub kept : IsKept conf machine
-  pub made : machine.world.made ≤ taken
+  pub kept : IsKept conf machine.held (moment_of machine.last)
+  pub made : machine.held.world.made ≤ taken
   pub few : taken ≤ 1000000000
   pub config : IsConfig conf

@@ -3,22 +3,26 @@
 ghost use Rattle.std.specs.Prelude.{◌≡◌, ◌+◌, ◌*◌, ◌<◌, ◌≤◌, ◌^◌, ◌++◌, true, false, length, None, Some, Ok, IfOk, IsOk, IsSome, OnErr, OnOk, unwrap_or};
 ghost use Rattle.std.specs.Option.{ForSome};
 ghost use Rattle.pfs_addr.specs.Keys.{key_of};
+ghost use Rattle.pfs_addr.specs.Packets.{Header};
+ghost use Rattle.pfs_store_plain.specs.Purging.{node_share, state_share};
 ghost use Rattle.pfs_store_plain.specs.Worlds.{empty_world, state_with};
 ghost use Rattle.pfs_conf_rules.specs.Configs.{scope_of};
 ghost use Rattle.pfs_conf_rules.specs.declared.actions.Scope.TheVariants as Scope;
 ghost use Rattle.pfs_conf_rules.specs.declared.items.RuleNo.{RuleNo};
 ghost use Rattle.pfs_store_plain.specs.declared.records.Limit.{Limit};
-ghost use Rattle.pfs_engine.specs.Kept.{IsWithinLimits, IsWithinShared, moment_of};
-ghost use Rattle.pfs_engine.specs.Refusals.{IsFree, IsRefused};
-ghost use Rattle.pfs_engine.specs.Machine.{advanced, answered, due, entries_held, most_nodes, most_states, nodes_held, start, states_held, step};
-ghost use Rattle.pfs_engine.specs.Runs.{IsInOrder, IsStopped, machine_after, outcomes_of, packets_in, taken_by};
-ghost use Rattle.pfs_engine.specs.Visits.{AreVisits};
+ghost use Rattle.pfs_engine_machine.specs.Kept.{IsWithinLimits, IsWithinShared, moment_of};
+ghost use Rattle.pfs_engine_machine.specs.Looks.{AreLooks, states_beside};
+ghost use Rattle.pfs_engine_machine.specs.Refusals.{IsFree, IsRefused};
+ghost use Rattle.pfs_engine_machine.specs.Machine.{advanced, answered, due, entries_held, most_nodes, most_states, nodes_held, start, states_held, step};
+ghost use Rattle.pfs_engine_machine.specs.Runs.{IsInOrder, IsRefusedIn, IsStopped, machine_after, outcomes_of, packets_in, taken_by};
+ghost use Rattle.pfs_engine_machine.specs.Visits.{AreVisits};
 
-use crate::events::{Event, Outcome, What, Work};
 use crate::packets::{Meters, answer};
 use crate::purges::purge_due;
+use crate::works::Work;
 use pfs_addr::{Meter, NoMemory, Packet};
 use pfs_conf_rules::{Config, LimitName};
+use pfs_engine_machine::{Event, Outcome, What};
 use pfs_eval::{Book, Tables};
 use pfs_store_plain::Store;
 use std::alloc::Global;
@@ -28,7 +32,7 @@ use std::marker::Model;
 ///
 /// Clauses see a `View`: the configuration, the machine (what the store holds, the entries of the tables, and the
 /// last moment), how many packets were answered, and the work of the latest call. What is held is at all times within
-/// the limits, which `states` tells to callers.
+/// the limits, as each call that changes it says.
 #[derive(Drop)]
 pub struct Engine<S: Store> {
     config: Config,
@@ -41,19 +45,18 @@ pub struct Engine<S: Store> {
 }
 
 impl<S: Store> Model for Engine<S> {
-    ghost use Rattle.pfs_engine.specs.Machine.{machine_of};
-    ghost use Rattle.pfs_engine.specs.Views.{IsWhole, View};
+    ghost use Rattle.pfs_engine.specs.Views.{IsWhole, View, machine_at};
 
     ghost Value = { View };
 
     ghost view = { λ e. record {
       config = e.config;
-      machine = machine_of (S.world e.store) e.tables.entries e.last;
+      machine = machine_at (S.world e.store) e.tables.entries e.last;
       taken = e.taken;
       work = e.work;
     } };
 
-    ghost invariant = { λ e. IsWhole e.config (S.config e.store) e.book e.tables (machine_of (S.world e.store) e.tables.entries e.last) e.taken };
+    ghost invariant = { λ e. IsWhole e.config (S.config e.store) e.book e.tables (machine_at (S.world e.store) e.tables.entries e.last) e.taken };
 }
 
 impl<S: Store + Drop> Engine<S> {
@@ -65,6 +68,7 @@ impl<S: Store + Drop> Engine<S> {
         ensures config { IfOk result (λ e. e.config ≡ config) }
         ensures machine { IfOk result (λ e. e.machine ≡ start config) }
         ensures taken { IfOk result (λ e. e.taken ≡ 0) }
+        ensures limits { IfOk result (λ e. IsWithinLimits e.config e.machine.held) }
         ensures work { IfOk result (λ e. e.work ≡ record { visits = 0; looks = 0; slices = 0; most_states = 0; most_nodes = 0 }) }
     {
         let _limit = config.limit(LimitName::States);
@@ -100,7 +104,7 @@ impl<S: Store> Engine<S> {
     /// How many states are held.
     pub fn states(&self) -> u64
         ensures value { result ≡ states_held self.now.machine }
-        ensures limits { IsWithinLimits self.now.config self.now.machine }
+        ensures limits { IsWithinLimits self.now.config self.now.machine.held }
     {
         self.store.state_count()
     }
@@ -134,11 +138,14 @@ impl<S: Store> Engine<S> {
         requires moment { now < 2 ^ 32 }
         ensures machine { self.new.machine ≡ advanced self.old.config self.old.machine now }
         ensures slices { self.new.work.slices ≡ 2 * length (due self.old.machine.last now) }
-        ensures most_states { self.new.work.most_states ≡ most_states self.old.config self.old.machine.world (due self.old.machine.last now) }
-        ensures most_nodes { self.new.work.most_nodes ≡ most_nodes self.old.config self.old.machine.world (due self.old.machine.last now) }
+        ensures most_states { self.new.work.most_states ≡ most_states self.old.config self.old.machine.held.world (due self.old.machine.last now) }
+        ensures most_nodes { self.new.work.most_nodes ≡ most_nodes self.old.config self.old.machine.held.world (due self.old.machine.last now) }
         ensures visits { self.new.work.visits ≡ 0 }
         ensures looks { S.counts ≡ true → self.new.work.looks ≡ self.new.work.most_states }
         ensures uncounted { S.counts ≡ false → self.new.work.looks ≡ 0 }
+        ensures states_share { self.new.work.most_states ≤ state_share self.old.config }
+        ensures nodes_share { self.new.work.most_nodes ≤ node_share self.old.config }
+        ensures limits { IsWithinLimits self.new.config self.new.machine.held }
         ensures config { self.new.config ≡ self.old.config }
         ensures taken { self.new.taken ≡ self.old.taken }
     {
@@ -153,30 +160,36 @@ impl<S: Store> Engine<S> {
     pub fn packet(&mut self, packet: &Packet) -> Result<Outcome, NoMemory>
         requires started { IsSome self.old.machine.last }
         requires room { self.old.taken < 1000000000 }
-        ensures ok { IfOk result (λ o. (o, self.new.machine) ≡ answered self.old.config self.old.machine packet.now (moment_of self.old.machine.last)) }
+        ensures ok { IfOk result (λ o. (o, self.new.machine.held) ≡ answered self.old.config self.old.machine.held packet.now (moment_of self.old.machine.last)) }
         ensures err { OnErr result (self.new.machine ≡ self.old.machine) }
         ensures last { self.new.machine.last ≡ self.old.machine.last }
+        ensures limits { IsWithinLimits self.new.config self.new.machine.held }
         ensures config { self.new.config ≡ self.old.config }
         ensures taken { OnOk result (self.new.taken ≡ self.old.taken + 1) }
         ensures not_taken { OnErr result (self.new.taken ≡ self.old.taken) }
 
         // A state is refused exactly where a limit is met; then nothing has changed.
         ensures refused { (rule : RuleNo) (limit : Limit) →
-            IsRefused self.old.config self.old.machine packet.now rule.0 limit → result ≡ Ok (Outcome.Drop rule limit) }
+            IsRefused self.old.config self.old.machine.held packet.now rule.0 limit → result ≡ Ok (Outcome.Drop rule limit) }
         ensures refused_only { (rule : RuleNo) (limit : Limit) → result ≡ Ok (Outcome.Drop rule limit) →
-            IsRefused self.old.config self.old.machine packet.now rule.0 limit × (self.new.machine ≡ self.old.machine) }
+            IsRefused self.old.config self.old.machine.held packet.now rule.0 limit × (self.new.machine ≡ self.old.machine) }
 
         // Of a new state of a rule with shared source nodes, directly after it.
         ensures shared { (rule : RuleNo) → result ≡ Ok (Outcome.New rule) → scope_of self.old.config rule.0 ≡ Some Scope.Global →
-            IsWithinShared self.old.config rule.0 packet.now.source.addr self.old.machine.world self.new.machine.world }
+            IsWithinShared self.old.config rule.0 packet.now.source.addr self.old.machine.held.world self.new.machine.held.world }
 
         // Memory is asked for only where a state is made, or a TCP packet is one of a rule with `overload`.
-        ensures free { IsFree self.old.config self.old.machine packet.now (state_with (key_of packet.now) self.old.machine.world) → IsOk result }
+        ensures free { IsFree self.old.config self.old.machine.held packet.now (state_with (key_of packet.now) self.old.machine.held.world) → IsOk result }
 
-        ensures visits { AreVisits self.old.config self.old.machine packet.now (state_with (key_of packet.now) self.old.machine.world) self.new.work.visits }
+        ensures visits { AreVisits self.old.config self.old.machine.held packet.now (state_with (key_of packet.now) self.old.machine.held.world) self.new.work.visits }
         ensures slices { self.new.work.slices ≡ 0 }
         ensures most_states { self.new.work.most_states ≡ 0 }
         ensures most_nodes { self.new.work.most_nodes ≡ 0 }
+
+        // Where the store counts looks, by what came of it.
+        ensures looks { S.counts ≡ true → IfOk result (λ o. AreLooks self.old.config
+            (states_beside self.old.machine.held.world (state_with (key_of packet.now) self.old.machine.held.world)) o self.new.work.looks) }
+        ensures no_looks { S.counts ≡ true → OnErr result (self.new.work.looks ≡ 0) }
         ensures uncounted { S.counts ≡ false → self.new.work.looks ≡ 0 }
     {
         let mut meters = Meters {
@@ -199,8 +212,9 @@ impl<S: Store> Engine<S> {
     }
 
     /// Takes events in turn, and appends the outcome of each. Moments do not fall, from the last one on, and all events
-    /// together fit into the 1,000,000,000 packets. `NoMemory` where memory was refused, for the outcome or by `packet`:
-    /// then the outcomes are those of the first events, and the engine stands after these, or at the moment of the next.
+    /// together fit into the 1,000,000,000 packets. `NoMemory` where memory was refused at an event: the outcomes are
+    /// those of the events before it. If it was refused for the outcome, the engine stands where these leave it; if in the
+    /// event's packet, which needs memory then, at the event's moment.
     pub fn run(&mut self, events: &[Event], outcomes: &mut Vec<Outcome>) -> Result<(), NoMemory>
         requires order { IsInOrder self.old.machine.last events.now }
         requires room { self.old.taken + length events.now ≤ 1000000000 }
@@ -208,8 +222,10 @@ impl<S: Store> Engine<S> {
         ensures machine { OnOk result (self.new.machine ≡ machine_after self.old.config self.old.machine events.now) }
         ensures err { OnErr result (IsStopped self.old.config self.old.machine events.now outcomes.old.items outcomes.new.items self.new.machine self.old.taken self.new.taken) }
         ensures taken { OnOk result (self.new.taken ≡ self.old.taken + packets_in events.now) }
+        ensures limits { IsWithinLimits self.new.config self.new.machine.held }
         ensures config { self.new.config ≡ self.old.config }
     {
+        prove!(self.taken <= 1_000_000_000);
         for event in events {
             if outcomes.reserve(1).is_err() {
                 return Err(NoMemory);
@@ -223,13 +239,14 @@ impl<S: Store> Engine<S> {
     }
 
     // One event.
-    #[tactic(auto, unfolding(crate::specs::Machine::step))]
+    #[tactic(auto, unfolding(pfs_engine_machine::specs::Machine::step))]
     fn event(&mut self, event: &Event) -> Result<Outcome, NoMemory>
         requires order { ForSome self.old.machine.last (λ m. m ≤ event.now.time) }
         requires moment { event.now.time < 2 ^ 32 }
         requires room { self.old.taken < 1000000000 }
         ensures ok { IfOk result (λ o. (o, self.new.machine) ≡ step self.old.config self.old.machine event.now) }
-        ensures err { OnErr result (self.new.machine ≡ advanced self.old.config self.old.machine event.now.time) }
+        ensures err { OnErr result ((packet : Header) × IsRefusedIn self.old.config self.old.machine event.now packet self.new.machine) }
+        ensures limits { IsWithinLimits self.new.config self.new.machine.held }
         ensures config { self.new.config ≡ self.old.config }
         ensures taken { OnOk result (self.new.taken ≡ self.old.taken + taken_by event.now.what) }
         ensures not_taken { OnErr result (self.new.taken ≡ self.old.taken) }

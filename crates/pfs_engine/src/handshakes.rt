@@ -5,19 +5,20 @@ ghost use Rattle.std.specs.Option.{ForSome, option_copied};
 ghost use Rattle.pfs_addr.specs.Keys.{key_of};
 ghost use Rattle.pfs_conf_rules.specs.Configs.{Conf, limit_of, options_at, options_of};
 ghost use Rattle.pfs_conf_rules.specs.LoadRules.{AreOptions, IsRate};
-ghost use Rattle.pfs_store_plain.specs.Counts.{exceeded};
+ghost use Rattle.pfs_store_plain.specs.Counts.{exceeded, source_states};
 ghost use Rattle.pfs_store_plain.specs.Handshakes.{flush_of, over_rate};
 ghost use Rattle.pfs_store_plain.specs.Leaving.{without};
 ghost use Rattle.pfs_store_plain.specs.Worlds.{holds_number, number_of, state_with};
-ghost use Rattle.pfs_engine.specs.Kept.{IsKept};
-ghost use Rattle.pfs_engine.specs.Machine.{added_by, by_options, by_state, by_touch, killed_count, machine_of, stays_at_kill, tables_by};
+ghost use Rattle.pfs_engine_machine.specs.Kept.{IsKept};
+ghost use Rattle.pfs_engine_machine.specs.Looks.{AreLooks, AreLooksOfKill, states_beside};
+ghost use Rattle.pfs_engine_machine.specs.Machine.{added_by, by_options, by_state, by_touch, killed_count, held_of, stays_at_kill, tables_by};
 ghost use Rattle.pfs_store_plain.specs.declared.records.State.{State};
-ghost use Rattle.pfs_engine.specs.Refusals.{IsFree};
-ghost use Rattle.pfs_engine.specs.Rooms.{HasRoomFor, is_tcp, overload_at};
+ghost use Rattle.pfs_engine_machine.specs.Refusals.{IsFree, is_tcp};
+ghost use Rattle.pfs_engine.specs.Rooms.{HasRoomFor, overload_at};
 
-use crate::events::Outcome;
 use pfs_addr::{Addr, FlowKey, Meter, NoMemory, Packet, Proto};
 use pfs_conf_rules::{Config, LimitName, Overload, Rate, RuleNo, Scope, StateOptions};
+use pfs_engine_machine::Outcome;
 use pfs_eval::{Added, Tables};
 use pfs_store_plain::{StateNo, Store, Touched};
 use pfs_track::Score;
@@ -29,7 +30,7 @@ use pfs_track::Score;
 /// Memory is taken for the overload table alone, for a TCP packet, before anything changes; `NoMemory`
 /// where it is refused, and then nothing has changed. (pf.conf(5), STATEFUL TRACKING OPTIONS,
 /// "max-src-conn", "max-src-conn-rate" and "overload")
-pub(crate) fn belongs<S: Store>(
+pub(crate) fn take_packet_of_state<S: Store>(
     config: &Config,
     tables: &mut Tables,
     store: &mut S,
@@ -40,23 +41,26 @@ pub(crate) fn belongs<S: Store>(
 ) -> Result<Outcome, NoMemory>
     requires made_for { S.config store.old ≡ config.now }
     requires limit { tables.old.limit ≡ limit_of config.now LimitName.TableEntries }
-    requires kept { IsKept config.now (machine_of (S.world store.old) tables.old.entries (Some now)) }
+    requires kept { IsKept config.now (held_of (S.world store.old) tables.old.entries) now }
     requires held { option_map number_of (state_with (key_of packet.now) (S.world store.old)) ≡ Some number }
     requires looks { looks.old ≡ 0 }
-    ensures ok { IfOk result (λ o. (o, machine_of (S.world store.new) tables.new.entries (Some now))
-        ≡ by_state config.now (machine_of (S.world store.old) tables.old.entries (Some now)) packet.now now (state_with (key_of packet.now) (S.world store.old))) }
+    ensures ok { IfOk result (λ o. (o, held_of (S.world store.new) tables.new.entries)
+        ≡ by_state config.now (held_of (S.world store.old) tables.old.entries) packet.now now (state_with (key_of packet.now) (S.world store.old))) }
     ensures world { OnErr result (S.world store.new ≡ S.world store.old) }
     ensures entries { OnErr result (tables.new.entries ≡ tables.old.entries) }
     ensures config { S.config store.new ≡ S.config store.old }
     ensures limit { tables.new.limit ≡ tables.old.limit }
     ensures free { (s : State) → state_with (key_of packet.now) (S.world store.old) ≡ Some s →
-        IsFree config.now (machine_of (S.world store.old) tables.old.entries (Some now)) packet.now (Some s) → IsOk result }
+        IsFree config.now (held_of (S.world store.old) tables.old.entries) packet.now (Some s) → IsOk result }
+    ensures looks { S.counts ≡ true → IfOk result (λ o. AreLooks config.now
+        (states_beside (S.world store.old) (state_with (key_of packet.now) (S.world store.old))) o looks.new) }
+    ensures no_looks { S.counts ≡ true → OnErr result (looks.new ≡ 0) }
     ensures uncounted { S.counts ≡ false → looks.new ≡ 0 }
 {
     let rule = store.rule_at(&FlowKey::of(packet));
     make_room(config, tables, rule, packet)?;
     let touched = store.touch(number, packet, now, looks);
-    Ok(outcome_of(config, tables, store, number, &touched, now, looks))
+    Ok(complete_handshake(config, tables, store, number, &touched, now, looks))
 }
 
 // Room for one more entry in the overload table of a rule, where a packet may complete a handshake.
@@ -99,8 +103,9 @@ fn options(config: &Config, rule: RuleNo) -> Option<&StateOptions>
     config.options(rule)
 }
 
-// What comes of a packet of the state of this number, which it touched.
-fn outcome_of<S: Store>(
+// What comes of a packet that touched the state of this number: where its handshake completes past a limit of its rule, the
+// source is added to the overload table and states are killed.
+fn complete_handshake<S: Store>(
     config: &Config,
     tables: &mut Tables,
     store: &mut S,
@@ -114,10 +119,12 @@ fn outcome_of<S: Store>(
     requires held { holds_number (S.world store.old).states number.0 ≡ true }
     requires looks { looks.old ≤ 1000000000 }
     requires room { touched.now.completed ≡ true → HasRoomFor tables.old (options_of config.now touched.now.rule.0).overload }
-    ensures answer { (result, machine_of (S.world store.new) tables.new.entries (Some now))
-        ≡ by_touch config.now (machine_of (S.world store.old) tables.old.entries (Some now)) number.0 now touched.now touched.now.completed }
+    ensures answer { (result, held_of (S.world store.new) tables.new.entries)
+        ≡ by_touch config.now (held_of (S.world store.old) tables.old.entries) number.0 now touched.now touched.now.completed }
     ensures config { S.config store.new ≡ S.config store.old }
     ensures limit { tables.new.limit ≡ tables.old.limit }
+    ensures looks { S.counts ≡ true → looks.old ≡ 1 →
+        AreLooks config.now (source_states touched.now.source (S.world store.old).states) result looks.new }
     ensures uncounted { S.counts ≡ false → looks.new ≡ looks.old }
 {
     if !touched.completed {
@@ -202,6 +209,8 @@ fn kill_with<S: Store>(
     ensures answer { result ≡ killed_count (S.world store.old) flush number.0 touched.now }
     ensures world { S.world store.new ≡ without (S.config store.old) (S.world store.old) (stays_at_kill flush number.0 touched.now) now }
     ensures config { S.config store.new ≡ S.config store.old }
+    ensures looks { S.counts ≡ true → looks.old ≡ 1 →
+        AreLooksOfKill flush result (source_states touched.now.source (S.world store.old).states) looks.new }
     ensures uncounted { S.counts ≡ false → looks.new ≡ looks.old }
 {
     match flush {

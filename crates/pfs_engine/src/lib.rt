@@ -2,14 +2,16 @@
 #![tactic(auto)]
 
 mod engine;
-mod events;
 mod handshakes;
+pub mod laws;
 mod packets;
 mod purges;
 #[cfg(test)]
 mod tests;
+mod works;
 
 pub use engine::Engine;
-pub use events::{Event, Outcome, What, Work};
+pub use pfs_engine_machine::{Event, Outcome, What};
 pub use pfs_eval::Added;
 pub use pfs_store_plain::Limit;
+pub use works::Work;

@@ -1,20 +1,21 @@
 //! What one packet does.
 
-ghost use Rattle.std.specs.Prelude.{List, ◌≡◌, ◌≤◌, ◌<◌, ◌+◌, false, None, Some, IfOk, IsOk, IsSome, OnErr};
+ghost use Rattle.std.specs.Prelude.{List, ◌≡◌, ◌≤◌, ◌<◌, ◌+◌, false, true, None, Some, IfOk, IsOk, IsSome, OnErr};
 ghost use Rattle.pfs_addr.specs.Keys.{key_of};
 ghost use Rattle.pfs_eval.specs.Entries.{Entry};
 ghost use Rattle.pfs_conf_rules.specs.Configs.{limit_of, options_at};
 ghost use Rattle.pfs_store_plain.specs.Admission.{limit_at};
 ghost use Rattle.pfs_store_plain.specs.Worlds.{state_with};
-ghost use Rattle.pfs_engine.specs.Kept.{IsKept};
-ghost use Rattle.pfs_engine.specs.Machine.{answered, by_action, by_limit, by_rule, decided, machine_of};
-ghost use Rattle.pfs_engine.specs.Refusals.{IsFree, IsFreeBy};
-ghost use Rattle.pfs_engine.specs.Visits.{AreVisits};
+ghost use Rattle.pfs_engine_machine.specs.Kept.{IsKept};
+ghost use Rattle.pfs_engine_machine.specs.Looks.{AreLooks, states_beside};
+ghost use Rattle.pfs_engine_machine.specs.Machine.{answered, by_action, by_limit, by_rule, decided, held_of};
+ghost use Rattle.pfs_engine_machine.specs.Refusals.{IsFree, IsFreeBy};
+ghost use Rattle.pfs_engine_machine.specs.Visits.{AreVisits};
 
-use crate::events::Outcome;
-use crate::handshakes::belongs;
+use crate::handshakes::take_packet_of_state;
 use pfs_addr::{FlowKey, Meter, NoMemory, Packet};
 use pfs_conf_rules::{Action, Config, LimitName, RuleNo};
+use pfs_engine_machine::Outcome;
 use pfs_eval::{Book, Tables};
 use pfs_store_plain::Store;
 
@@ -41,24 +42,27 @@ pub(crate) fn answer<S: Store>(
     requires made_for { S.config store.old ≡ config.now }
     requires book { book.now ≡ config.now.items }
     requires limit { tables.old.limit ≡ limit_of config.now LimitName.TableEntries }
-    requires kept { IsKept config.now (machine_of (S.world store.old) tables.old.entries (Some now)) }
+    requires kept { IsKept config.now (held_of (S.world store.old) tables.old.entries) now }
     requires room { (S.world store.old).made < 1000000000 }
     requires visits { meters.old.visits ≡ 0 }
     requires looks { meters.old.looks ≡ 0 }
-    ensures ok { IfOk result (λ o. (o, machine_of (S.world store.new) tables.new.entries (Some now))
-        ≡ answered config.now (machine_of (S.world store.old) tables.old.entries (Some now)) packet.now now) }
+    ensures ok { IfOk result (λ o. (o, held_of (S.world store.new) tables.new.entries)
+        ≡ answered config.now (held_of (S.world store.old) tables.old.entries) packet.now now) }
     ensures world { OnErr result (S.world store.new ≡ S.world store.old) }
     ensures entries { OnErr result (tables.new.entries ≡ tables.old.entries) }
     ensures config { S.config store.new ≡ S.config store.old }
     ensures limit { tables.new.limit ≡ tables.old.limit }
-    ensures visits { AreVisits config.now (machine_of (S.world store.old) tables.old.entries (Some now)) packet.now
+    ensures visits { AreVisits config.now (held_of (S.world store.old) tables.old.entries) packet.now
         (state_with (key_of packet.now) (S.world store.old)) meters.new.visits }
-    ensures free { IsFree config.now (machine_of (S.world store.old) tables.old.entries (Some now)) packet.now
+    ensures free { IsFree config.now (held_of (S.world store.old) tables.old.entries) packet.now
         (state_with (key_of packet.now) (S.world store.old)) → IsOk result }
+    ensures looks { S.counts ≡ true → IfOk result (λ o. AreLooks config.now
+        (states_beside (S.world store.old) (state_with (key_of packet.now) (S.world store.old))) o meters.new.looks) }
+    ensures no_looks { S.counts ≡ true → OnErr result (meters.new.looks ≡ 0) }
     ensures uncounted { S.counts ≡ false → meters.new.looks ≡ 0 }
 {
     match store.find(&FlowKey::of(packet)) {
-        Some(number) => belongs(
+        Some(number) => take_packet_of_state(
             config,
             tables,
             store,
@@ -86,13 +90,14 @@ fn by_rules<S: Store>(
     requires fresh { state_with (key_of packet.now) (S.world store.old) ≡ None }
     requires room { (S.world store.old).made < 1000000000 }
     requires visits { visits.old ≡ 0 }
-    ensures ok { IfOk result (λ o. (o, machine_of (S.world store.new) tables.now.entries (Some now))
-        ≡ by_rule config.now (machine_of (S.world store.old) tables.now.entries (Some now)) packet.now now
-        (decided config.now (machine_of (S.world store.old) tables.now.entries (Some now)) packet.now)) }
+    ensures ok { IfOk result (λ o. (o, held_of (S.world store.new) tables.now.entries)
+        ≡ by_rule config.now (held_of (S.world store.old) tables.now.entries) packet.now now
+        (decided config.now (held_of (S.world store.old) tables.now.entries) packet.now)) }
     ensures world { OnErr result (S.world store.new ≡ S.world store.old) }
     ensures config { S.config store.new ≡ S.config store.old }
-    ensures visits { AreVisits config.now (machine_of (S.world store.old) tables.now.entries (Some now)) packet.now None visits.new }
-    ensures free { IsFree config.now (machine_of (S.world store.old) tables.now.entries (Some now)) packet.now None → IsOk result }
+    ensures visits { AreVisits config.now (held_of (S.world store.old) tables.now.entries) packet.now None visits.new }
+    ensures free { IsFree config.now (held_of (S.world store.old) tables.now.entries) packet.now None → IsOk result }
+    ensures no_looks { IfOk result (λ o. AreLooks config.now 0 o 0) }
 {
     match book.decide(tables, packet, visits) {
         Some(rule) => by_action(config, store, packet, rule, now),
@@ -111,12 +116,13 @@ fn by_action<S: Store>(
     requires made_for { S.config store.old ≡ config.now }
     requires fresh { state_with (key_of packet.now) (S.world store.old) ≡ None }
     requires room { (S.world store.old).made < 1000000000 }
-    ensures ok { IfOk result (λ o. (tables : List (List Entry)) → (o, machine_of (S.world store.new) tables (Some now))
-        ≡ by_rule config.now (machine_of (S.world store.old) tables (Some now)) packet.now now (Some rule.0)) }
+    ensures ok { IfOk result (λ o. (tables : List (List Entry)) → (o, held_of (S.world store.new) tables)
+        ≡ by_rule config.now (held_of (S.world store.old) tables) packet.now now (Some rule.0)) }
     ensures world { OnErr result (S.world store.new ≡ S.world store.old) }
     ensures config { S.config store.new ≡ S.config store.old }
     ensures free { (tables : List (List Entry)) →
-        IsFreeBy config.now (machine_of (S.world store.old) tables (Some now)) packet.now (Some rule.0) → IsOk result }
+        IsFreeBy config.now (held_of (S.world store.old) tables) packet.now (Some rule.0) → IsOk result }
+    ensures no_looks { IfOk result (λ o. AreLooks config.now 0 o 0) }
 {
     let Some(found) = config.rule(rule) else {
         return Ok(Outcome::Block(rule));

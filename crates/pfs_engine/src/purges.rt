@@ -2,9 +2,9 @@
 
 ghost use Rattle.std.specs.Prelude.{◌≡◌, ◌+◌, ◌*◌, ◌<◌, ◌≤◌, ◌^◌, true, false, length, max};
 ghost use Rattle.std.specs.Option.{ForSome};
-ghost use Rattle.pfs_engine.specs.Machine.{due, most_nodes, most_states, purged, seconds};
+ghost use Rattle.pfs_engine_machine.specs.Machine.{due, most_nodes, most_states, purged, seconds};
 
-use crate::events::Work;
+use crate::works::Work;
 use pfs_addr::Meter;
 use pfs_store_plain::{Slice, Store};
 

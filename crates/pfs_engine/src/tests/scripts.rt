@@ -3,7 +3,7 @@
 ghost use Rattle.std.specs.Prelude.{◌≡◌, ◌<◌, ◌≤◌, ◌^◌, true};
 ghost use Rattle.std.specs.Option.{ForSome};
 ghost use Rattle.pfs_addr.specs.Protocols.{has_ports};
-ghost use Rattle.pfs_engine.specs.Runs.{IsInOrder};
+ghost use Rattle.pfs_engine_machine.specs.Runs.{IsInOrder};
 
 use super::tallied::Tallied;
 use crate::{Engine, Event, Limit, Outcome, What};

@@ -1,7 +1,7 @@
 use Rattle.std.proofs.Common.{◌==◌, arith, ap, length}
 use Rattle.pfs_store_plain.specs.Leaving.{other_than}
 use Rattle.pfs_store_plain.specs.Worlds.{World}
-use Rattle.pfs_engine.proofs.Counts.{count-rest, count_le}
+use Rattle.pfs_engine_machine.proofs.Counts.{count-rest, count_le}
 use Rattle.pfs_engine.proofs.handshakes.kill_with.Goals as goal
 
 pub overflow_sub-result : goal.overflow_sub-result

@@ -1,5 +1,5 @@
 use Rattle.std.proofs.Common.{refl}
-use Rattle.pfs_engine.proofs.OptionLaws.{some_of}
+use Rattle.pfs_engine_machine.proofs.OptionLaws.{some_of}
 use Rattle.pfs_engine.proofs.handshakes.overload.Goals as goal
 
 pub returns-clause-known : goal.returns-clause-known

@@ -1,7 +1,7 @@
 use Rattle.std.proofs.Common.{◌≡◌, ◌∙◌, Some, ap, rules, sym}
 use Rattle.pfs_conf_rules.specs.Configs.{Conf}
 use Rattle.pfs_store_plain.specs.Admission.{limit_at}
-use Rattle.pfs_engine.proofs.OptionLaws.{refused_at}
+use Rattle.pfs_engine_machine.proofs.OptionLaws.{refused_at}
 use Rattle.pfs_engine.proofs.packets.by_action.Goals as goal
 
 pub returns-in-Err-clause-ok : goal.returns-in-Err-clause-ok

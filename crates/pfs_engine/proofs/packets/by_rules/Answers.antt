@@ -4,15 +4,15 @@ use Rattle.pfs_eval.specs.Matching.{matches_item}
 use Rattle.pfs_eval.specs.Verdict.{verdict}
 use Rattle.pfs_conf_rules.specs.declared.items.Item.{Item}
 use Rattle.pfs_conf_rules.specs.declared.items.RuleNo.{RuleNo}
-use Rattle.pfs_engine.specs.Machine.{decided, machine_of}
-use Rattle.pfs_engine.specs.Refusals.{IsFreeBy}
+use Rattle.pfs_engine_machine.specs.Machine.{decided, held_of}
+use Rattle.pfs_engine_machine.specs.Refusals.{IsFreeBy}
 use Rattle.pfs_engine.proofs.packets.by_rules.Goals as goal
 
 pub returns-in-Some-clause-free : goal.returns-in-Some-clause-free
 returns-in-Some-clause-free g c =
     let conf = c.args.config.now in
     let entries = c.args.tables.now.entries in
-    let m = machine_of (g.S.Store.world c.args.store.now) entries (Some c.args.now) in
+    let m = held_of (g.S.Store.world c.args.store.now) entries in
     let p = c.args.packet.now in
     let decides : decided conf m p ≡ Some c.in-Some.rule.0 =
     ap (λ (items : List Item). verdict (matches_item entries p) items) (sym c.requires.book)

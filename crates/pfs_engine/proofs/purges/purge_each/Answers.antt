@@ -1,7 +1,7 @@
 use Rattle.std.proofs.Common.{◌≡◌, ◌+◌, ◌∙◌, ap, arith, max, sym}
-use Rattle.pfs_engine.specs.Machine.{seconds}
-use Rattle.pfs_engine.specs.declared.events.Work.{Work}
-use Rattle.pfs_engine.proofs.Purging.{idle_from, most_nodes_next, most_states_next, nodes_seen, purge_made, purged_next, states_seen}
+use Rattle.pfs_engine_machine.specs.Machine.{seconds}
+use Rattle.pfs_engine.specs.declared.works.Work.{Work}
+use Rattle.pfs_engine_machine.proofs.Purging.{idle_from, most_nodes_next, most_states_next, nodes_seen, purge_made, purged_next, states_seen}
 use Rattle.pfs_engine.proofs.purges.purge_each.Goals as goal
 
 pub returns-then-nodes-eq0-clause-world : goal.returns-then-nodes-eq0-clause-world

@@ -1,5 +1,5 @@
 use Rattle.std.proofs.Common.{◌≡◌, max, true, false}
-use Rattle.pfs_engine.specs.Machine.{most_nodes, most_states, purged, seconds}
+use Rattle.pfs_engine_machine.specs.Machine.{most_nodes, most_states, purged, seconds}
 use Rattle.pfs_engine.proofs.purges.purge_each.Given as goal
 
 -- the seconds to come are the rest of all

@@ -1,10 +1,11 @@
-use Rattle.std.proofs.Common.{◌≡◌, ◌∙◌, Some, ap, arith, subst, sym}
+use Rattle.std.proofs.Common.{◌≡◌, ◌∙◌, ap, arith, subst, sym}
 use Rattle.pfs_conf_rules.specs.Configs.{Conf}
 use Rattle.pfs_store_plain.specs.Worlds.{World}
-use Rattle.pfs_engine.specs.Kept.{IsKept}
-use Rattle.pfs_engine.specs.Machine.{due, machine_of, purged}
-use Rattle.pfs_engine.specs.Views.{View}
-use Rattle.pfs_engine.proofs.KeptTime.{kept_advanced, made_purged}
+use Rattle.pfs_engine_machine.specs.Kept.{IsKept, IsWithinLimits}
+use Rattle.pfs_engine_machine.specs.Machine.{due, held_of, most_nodes, most_states, purged}
+use Rattle.pfs_engine.specs.Views.{View, machine_at}
+use Rattle.pfs_engine_machine.proofs.KeptTime.{kept_advanced, made_purged}
+use Rattle.pfs_engine_machine.proofs.Shares.{most_nodes-share, most_states-share}
 use Rattle.pfs_engine.proofs.engine.Engine.advance.Goals as goal
 
 pub invariant_of-self : goal.invariant_of-self
@@ -13,15 +14,43 @@ invariant_of-self g c =
     let i = c.self.invariant in
     let w = g.S.Store.world inside.store in
     let seconds = due inside.last c.args.now in
-    let before = machine_of w inside.tables.entries inside.last in
+    let before = machine_at w inside.tables.entries inside.last in
     let is : g.S.Store.world c.purge_due-self-inside.new.store ≡ purged inside.config w seconds =
     c.purge_due-self-inside.ensures.world ∙ ap (λ (k : Conf). purged k w seconds) i.made_for in
     record {
       made_for = c.purge_due-self-inside.ensures.config ∙ i.made_for;
       items = i.items;
       limit = i.limit;
-      kept = subst (λ (v : World). IsKept inside.config (machine_of v inside.tables.entries (Some c.args.now))) (sym is) (kept_advanced inside.config before c.args.now (λ last e. c.requires.order last (sym (ap (λ (v : View). v.machine.last) c.self.view_is) ∙ e)) i.kept);
+      kept = subst (λ (v : World). IsKept inside.config (held_of v inside.tables.entries) c.args.now) (sym is) (kept_advanced inside.config before c.args.now (λ last e. c.requires.order last (sym (ap (λ (v : View). v.machine.last) c.self.view_is) ∙ e)) i.kept);
       made = omega (arith, ap (λ (v : World). v.made) is, made_purged inside.config w seconds, i.made);
       few = i.few;
       config = i.config;
     }
+
+pub returns-clause-limits : goal.returns-clause-limits
+returns-clause-limits g c =
+    let inside = c.self.inside in
+    let i = c.self.invariant in
+    let w = g.S.Store.world inside.store in
+    let seconds = due inside.last c.args.now in
+    let before = machine_at w inside.tables.entries inside.last in
+    let is : g.S.Store.world c.purge_due-self-inside.new.store ≡ purged inside.config w seconds =
+    c.purge_due-self-inside.ensures.world ∙ ap (λ (k : Conf). purged k w seconds) i.made_for in
+    let kept = kept_advanced inside.config before c.args.now (λ last e. c.requires.order last (sym (ap (λ (v : View). v.machine.last) c.self.view_is) ∙ e)) i.kept in
+    subst (λ (v : World). IsWithinLimits inside.config (held_of v inside.tables.entries)) (sym is) kept.limits
+
+pub returns-clause-states_share : goal.returns-clause-states_share
+returns-clause-states_share g c =
+    let inside = c.self.inside in
+    let w = g.S.Store.world inside.store in
+    let same : inside.config ≡ c.args.self.now.config = ap (λ (v : View). v.config) c.self.view_is in
+    let most = ap (λ (k : Conf). most_states k w (due inside.last c.args.now)) c.self.invariant.made_for in
+    rw (sym same) (omega (arith, c.purge_due-self-inside.ensures.most_states, most, most_states-share inside.config w (due inside.last c.args.now)))
+
+pub returns-clause-nodes_share : goal.returns-clause-nodes_share
+returns-clause-nodes_share g c =
+    let inside = c.self.inside in
+    let w = g.S.Store.world inside.store in
+    let same : inside.config ≡ c.args.self.now.config = ap (λ (v : View). v.config) c.self.view_is in
+    let most = ap (λ (k : Conf). most_nodes k w (due inside.last c.args.now)) c.self.invariant.made_for in
+    rw (sym same) (omega (arith, c.purge_due-self-inside.ensures.most_nodes, most, most_nodes-share inside.config w (due inside.last c.args.now)))

@@ -1,6 +1,6 @@
 use Rattle.std.proofs.Common.{ap, arith}
 use Rattle.pfs_store_plain.specs.Worlds.{World}
-use Rattle.pfs_engine.proofs.KeptTime.{kept_start}
+use Rattle.pfs_engine_machine.proofs.KeptTime.{kept_start}
 use Rattle.pfs_engine.proofs.engine.Engine.new.Goals as goal
 
 pub invariant_of-result : goal.invariant_of-result
@@ -13,3 +13,7 @@ invariant_of-result g c = record {
   few = omega arith;
   config = c.limit-limit.ensures.sound;
 }
+
+pub returns-clause-limits : goal.returns-clause-limits
+returns-clause-limits g c =
+    rw (c.requires.empty, c.in_ok-tables.ensures.entries) (kept_start c.args.config c.limit-limit.ensures.sound).limits

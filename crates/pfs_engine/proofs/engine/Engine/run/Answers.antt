@@ -1,8 +1,10 @@
-use Rattle.std.proofs.Common.{◌<◌, ◌+◌, List, [], ◌∷◌, ◌++◌, Some, length, arith, length-drop, ◌∙◌, ap, sym, inr, refl}
+use Rattle.std.proofs.Common.{◌<◌, ◌+◌, List, [], ◌∷◌, ◌++◌, Some, length, arith, length-drop, ◌∙◌, ap, sym, inl, inr, refl, subst}
 use Rattle.std.proofs.lemmas.Option.{slice_get-get_or}
-use Rattle.pfs_engine.specs.declared.events.Event.{Event}
-use Rattle.pfs_engine.specs.declared.events.Outcome.{Outcome}
-use Rattle.pfs_engine.proofs.Running.{machine_next, machine_none, order_next, outcomes_next, outcomes_none, taken_next, taken_none}
+use Rattle.pfs_engine_machine.specs.declared.events.Event.{Event}
+use Rattle.pfs_engine_machine.specs.declared.events.Outcome.{Outcome}
+use Rattle.pfs_engine_machine.specs.Kept.{IsWithinLimits}
+use Rattle.pfs_engine.specs.Views.{View}
+use Rattle.pfs_engine_machine.proofs.Running.{machine_next, machine_none, order_next, outcomes_next, outcomes_none, taken_next, taken_none}
 use Rattle.pfs_engine.proofs.engine.Engine.run.Goals as goal
 
 pub loop-event-init : goal.loop-event-init
@@ -14,18 +16,48 @@ loop-event-init g c =
       machine = machine_none conf first;
       config = refl;
       order = c.requires.order;
+      limits = subst (λ (v : View). IsWithinLimits v.config v.machine.held) c.self.view_is c.self.invariant.kept.limits;
       taken = taken_none c.args.self.now.taken;
       room = c.requires.room;
     }
+
+pub returns-then-is_err-clause-err : goal.returns-then-is_err-clause-err
+returns-then-is_err-clause-err g c =
+    let i = c.loop-event.invariant in
+    let at = c.loop-event.event-index in
+    let es = c.args.events.now in
+    let within : at < length es = omega arith in (
+      at,
+      within,
+      (
+        c.event-item.result,
+        record {
+          next = slice_get-get_or es at _ within ∙ ap (λ (e : Event). Some e) (sym c.event-item.is);
+          outcomes = c.reserve.ensures.items ∙ i.outcomes;
+          counted = i.taken;
+          refused = inl i.machine;
+        },
+      ),
+    )
 
 pub returns-in-Err-clause-err : goal.returns-in-Err-clause-err
 returns-in-Err-clause-err g c =
     let i = c.loop-event.invariant in
     let at = c.loop-event.event-index in
     let es = c.args.events.now in
-    let within : at < length es = omega arith in
-    let refused = rw (i.config, i.machine) at c.in-Err.ensures.err in
-    (at, within, c.reserve.ensures.items ∙ i.outcomes, c.in-Err.ensures.not_taken ∙ i.taken, inr (c.event-item.result, slice_get-get_or es at _ within ∙ ap (λ (e : Event). Some e) (sym c.event-item.is), refused))
+    let within : at < length es = omega arith in (
+      at,
+      within,
+      (
+        c.event-item.result,
+        record {
+          next = slice_get-get_or es at _ within ∙ ap (λ (e : Event). Some e) (sym c.event-item.is);
+          outcomes = c.reserve.ensures.items ∙ i.outcomes;
+          counted = c.in-Err.ensures.not_taken ∙ i.taken;
+          refused = inr (rw (i.config, i.machine) at c.in-Err.ensures.err);
+        },
+      ),
+    )
 
 pub loop-event-preserved : goal.loop-event-preserved
 loop-event-preserved g c =
@@ -41,6 +73,7 @@ loop-event-preserved g c =
       outcomes = c.push_reserved.ensures.items ∙ (ap (λ (os : List Outcome). os ++ c.in-Ok.outcome ∷ []) c.reserve.ensures.items ∙ outcomes_next conf first c.loop-event.self.machine c.event.new.self.machine c.args.outcomes.now.items c.loop-event.outcomes.items c.in-Ok.outcome es at _ within stepped i.machine i.outcomes);
       machine = machine_next conf first c.loop-event.self.machine _ c.in-Ok.outcome es at _ within stepped i.machine;
       config = c.event.ensures.config ∙ i.config;
+      limits = c.event.ensures.limits;
       order = rw (c.event.ensures.last, c.event-item.is) (order_next c.loop-event.self.machine.last es at _ within i.order);
       taken = taken_next c.args.self.now.taken c.loop-event.self.taken c.event.new.self.taken es at _ within i.taken (rw c.event-item.is at k.taken);
       room = omega (arith, length-drop at es, length-drop (at + 1) es, i.room, c.event.ensures.few);

@@ -1,6 +1,6 @@
 use Rattle.std.proofs.Common.{◌≡◌, ◌≤◌, ◌+◌, ◌++◌, length, take, drop}
-use Rattle.pfs_engine.specs.Runs.{outcomes_of, machine_after, packets_in}
-use Rattle.pfs_engine.specs.Runs.{IsInOrder}
+use Rattle.pfs_engine_machine.specs.Kept.{IsWithinLimits}
+use Rattle.pfs_engine_machine.specs.Runs.{IsInOrder, machine_after, outcomes_of, packets_in}
 use Rattle.pfs_engine.proofs.engine.Engine.run.Given as goal
 
 -- the events so far were taken, and the others are in order
@@ -12,6 +12,7 @@ invariant-loop-event g l =
       outcomes : l.outcomes.items ≡ l.fn.outcomes.items ++ outcomes_of conf first (take l.event-index l.events);
       machine : l.self.machine ≡ machine_after conf first (take l.event-index l.events);
       config : l.self.config ≡ conf;
+      limits : IsWithinLimits l.self.config l.self.machine.held;
       order : IsInOrder l.self.machine.last (drop l.event-index l.events);
       taken : l.self.taken ≡ l.fn.self.taken + packets_in (take l.event-index l.events);
       room : l.self.taken + length (drop l.event-index l.events) ≤ 1000000000;

@@ -1,0 +1,154 @@
+"""The rules and traces that `bench/run` measures.
+
+Each scenario is a rules text and a trace that is written to a file. The same words give the same bytes: the numbers come from a
+plain generator with a fixed seed.
+"""
+from dataclasses import dataclass
+from typing import Callable, Iterator, List, TextIO
+
+HEADER = "time,dir,if,proto,src,sport,dst,dport,flags\n"
+SERVER = "192.0.2.1"
+UNSCALED = "set timeout { adaptive.start 0, adaptive.end 0 }\n"
+LONG = "set timeout { udp.first 86400, udp.single 86400, udp.multiple 86400, tcp.established 86400 }\n"
+
+
+@dataclass
+class Scenario:
+    """What is replayed: a name, the states that it holds, the rules, and the lines of the trace behind the header."""
+
+    name: str
+    held: int
+    rules: str
+    records: Callable[[], Iterator[str]]
+
+
+class Numbers:
+    """A plain generator of numbers, the same in each run."""
+
+    def __init__(self) -> None:
+        self.state = 1
+
+    def below(self, most: int) -> int:
+        self.state = (self.state * 6364136223846793005 + 1442695040888963407) % (1 << 64)
+        return (self.state >> 33) % most
+
+
+def client(flow: int) -> str:
+    return f"10.{flow // 62500 % 250}.{flow // 250 % 250}.{flow % 250 + 1}"
+
+
+def port(flow: int) -> int:
+    return 1024 + flow % 60000
+
+
+def udp(second: int, flow: int, answer: bool) -> str:
+    if answer:
+        return f"{second},out,em0,udp,{SERVER},53,{client(flow)},{port(flow)},\n"
+    return f"{second},in,em0,udp,{client(flow)},{port(flow)},{SERVER},53,\n"
+
+
+def tcp(second: int, source: str, source_port: int, flags: str, answer: bool = False) -> str:
+    if answer:
+        return f"{second},out,em0,tcp,{SERVER},80,{source},{source_port},{flags}\n"
+    return f"{second},in,em0,tcp,{source},{source_port},{SERVER},80,{flags}\n"
+
+
+def held_flows(held: int) -> Iterator[str]:
+    return (udp(0, flow, False) for flow in range(held))
+
+
+def refused_flood(held: int, records: int) -> Scenario:
+    """A flood of fresh sources, each refused by `set limit states`, over as many held states."""
+
+    def lines() -> Iterator[str]:
+        yield from held_flows(held)
+        yield from (udp(n // 1000, held + n, False) for n in range(records))
+
+    rules = f"{UNSCALED}set limit states {held}\n{LONG}pass in proto udp all\n"
+    return Scenario("flood refused by `set limit states`", held, rules, lines)
+
+
+def established_mix(held: int, records: int) -> Scenario:
+    """Of each 1,000 packets 999 belong to held states, in no order, and one comes from a source of its own."""
+
+    def lines() -> Iterator[str]:
+        yield from held_flows(held)
+        chosen = Numbers()
+        for n in range(records):
+            if n % 1000 == 999:
+                yield udp(n // 1000, held + n, False)
+            else:
+                yield udp(n // 1000, chosen.below(held), n % 4 == 3)
+
+    rules = f"{UNSCALED}set limit states {held}\n{LONG}pass in proto udp all\n"
+    return Scenario("established mix", held, rules, lines)
+
+
+def overload_flood(records: int) -> Scenario:
+    """Each source completes handshakes until its rate puts it into the table and all its states are flushed; then it is blocked."""
+
+    def lines() -> Iterator[str]:
+        for n in range(records // 30):
+            source = f"172.{16 + n // 62500}.{n // 250 % 250}.{n % 250 + 1}"
+            for connection in range(7):
+                yield tcp(n // 40, source, 2000 + connection, "S")
+                yield tcp(n // 40, source, 2000 + connection, "SA", True)
+                yield tcp(n // 40, source, 2000 + connection, "A")
+            yield from (tcp(n // 40, source, 3000 + late, "S") for late in range(9))
+
+    rules = (
+        "table <bad> persist\nblock in quick from <bad>\n"
+        "pass in proto tcp to any port 80 keep state (max-src-conn-rate 6/60, overload <bad> flush global)\n"
+    )
+    return Scenario("flood answered by `overload .. flush global`", 0, rules, lines)
+
+
+def web_mix(records: int) -> Scenario:
+    """Handshakes, data both ways and closing, by 5,000 sources, many connections at a time."""
+
+    def connection(n: int) -> List[str]:
+        source, source_port = client(n % 5000), 1024 + n // 5000 % 60000
+        second = n // 70
+        packets = [("S", False), ("SA", True), ("A", False), ("PA", False), ("A", True)]
+        packets += [("PA", True), ("A", False)] * 3 + [("FA", False), ("FA", True), ("A", False)]
+        return [tcp(second + step // 4, source, source_port, flags, answer) for step, (flags, answer) in enumerate(packets)]
+
+    def lines() -> Iterator[str]:
+        waiting: List[List[str]] = []
+        made = 0
+        for second in range(records // 980 + 1):
+            now: List[str] = []
+            while made // 70 <= second:
+                waiting.append(connection(made))
+                made += 1
+            for packets in waiting:
+                while packets and int(packets[0].split(",", 1)[0]) <= second:
+                    now.append(packets.pop(0))
+            waiting = [packets for packets in waiting if packets]
+            yield from now
+
+    rules = (
+        "block all\npass in proto tcp to any port 80 keep state "
+        "(max-src-states 200, max-src-conn 150, max-src-conn-rate 100/10)\n"
+    )
+    return Scenario("web mix", 0, rules, lines)
+
+
+def idle_store(held: int, seconds: int) -> Scenario:
+    """One record a second that changes nothing, over states that stay: what a slice of a purge costs."""
+
+    def lines() -> Iterator[str]:
+        yield from held_flows(held)
+        yield from (f"{second},in,em0,icmp,{client(1)},,{SERVER},,\n" for second in range(1, seconds + 1))
+
+    return Scenario("one record a second, idle", held, f"{UNSCALED}{LONG}pass in proto udp all\n", lines)
+
+
+def write_trace(scenario: Scenario, to: TextIO) -> int:
+    """Writes the trace, and answers how many records it has."""
+    to.write(HEADER)
+    count = 0
+    for line in scenario.records():
+        to.write(line)
+        count += 1
+    return count

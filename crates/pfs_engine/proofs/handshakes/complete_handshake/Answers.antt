@@ -1,0 +1,14 @@
+use Rattle.std.proofs.Common.{◌≡◌, true, refl, subst, sym}
+use Rattle.pfs_conf_rules.specs.declared.actions.StateOptions.{StateOptions}
+use Rattle.pfs_engine.specs.Rooms.{HasRoomFor}
+use Rattle.pfs_engine_machine.proofs.OptionLaws.{options_there, some_of}
+use Rattle.pfs_engine.proofs.handshakes.complete_handshake.Goals as goal
+
+pub is_over-rate-requires : goal.is_over-rate-requires
+is_over-rate-requires g c = some_of _ _ (c.in-Some.ensures.kept _ refl).max_src_conn_rate
+
+pub add_source-added-requires : goal.add_source-added-requires
+add_source-added-requires g c =
+    let done : c.args.touched.now.completed ≡ true = cc in
+    let there = options_there c.args.config.now c.args.touched.now.rule.0 c.in-Some.options.now (sym c.in-Some.ensures.value) in
+    subst (λ (o : StateOptions). HasRoomFor c.args.tables.now o.overload) there (c.requires.room done)

@@ -1,0 +1,26 @@
+use Rattle.std.proofs.Common.{◌≡◌, ◌∙◌, ℕ, ap, arith, subst}
+use Rattle.std.specs.Prelude.{option_map}
+use Rattle.pfs_addr.specs.declared.packets.FlowKey.{FlowKey}
+use Rattle.pfs_store_plain.specs.Worlds.{rule_in, state_with}
+use Rattle.pfs_engine_machine.specs.Looks.{AreLooks}
+use Rattle.pfs_engine_machine.specs.Machine.{held_of}
+use Rattle.pfs_engine.proofs.Belonging.{beside_after, held_after, room_after}
+use Rattle.pfs_engine.proofs.handshakes.take_packet_of_state.Goals as goal
+
+pub complete_handshake-requires-clause-held : goal.complete_handshake-requires-clause-held
+complete_handshake-requires-clause-held g c =
+    let w = g.S.Store.world c.args.store.now in
+    held_after (g.S.Store.config c.args.store.now) w _ c.args.packet.now c.args.now c.args.number c.requires.held c.touch-touched.ensures.world
+
+pub complete_handshake-requires-clause-room : goal.complete_handshake-requires-clause-room
+complete_handshake-requires-clause-room g c =
+    let conf = g.S.Store.config c.args.store.now in
+    let m = held_of (g.S.Store.world c.args.store.now) c.args.tables.now.entries in
+    room_after c.args.config.now conf m c.args.packet.now c.args.now c.args.number c.touch-touched.result c.rule_at-rule.result c.make_room.new.tables c.requires.kept c.requires.held (c.rule_at-rule.ensures ∙ ap (λ (k : FlowKey). option_map rule_in (state_with k (g.S.Store.world c.args.store.now))) c.of.ensures) c.touch-touched.ensures.answer c.in_ok-make_room.ensures.room
+
+pub returns-clause-looks : goal.returns-clause-looks
+returns-clause-looks g c = λ on.
+    let t = c.touch-touched in
+    let beside = beside_after (g.S.Store.config c.args.store.now) (g.S.Store.world c.args.store.now) (g.S.Store.world t.new.self) c.args.packet.now c.args.now c.args.number t.result c.requires.held t.ensures.world t.ensures.answer in
+    let one : t.new.meter ≡ 1 = omega (arith, t.ensures.looks on, c.requires.looks) in
+    subst (λ (n : ℕ). AreLooks c.args.config.now n c.complete_handshake.result c.complete_handshake.new.looks) beside (c.complete_handshake.ensures.looks on one)

@@ -1,0 +1,46 @@
+//! How much work a call of the engine was.
+
+ghost use Rattle.std.specs.Prelude.{◌≡◌};
+
+/// The work of the latest `advance` or `packet` of an engine.
+#[derive(Clone, Copy, Debug, PartialEq, Eq)]
+pub struct Work {
+    /// Of a packet: how many items it was compared with.
+    pub visits: u64,
+    /// Of a packet: at how many records of states the store looked, if it counts looks. Of `advance`: the most of one slice.
+    pub looks: u64,
+    /// Of `advance`: how many slices were due, one of states and one of nodes for each second.
+    pub slices: u64,
+    /// Of `advance`: the most states that one slice examined.
+    pub most_states: u64,
+    /// Of `advance`: the most source nodes that one slice examined.
+    pub most_nodes: u64,
+}
+
+impl Work {
+    /// No work.
+    pub(crate) fn none() -> Work
+        ensures { result ≡ record { visits = 0; looks = 0; slices = 0; most_states = 0; most_nodes = 0 } }
+    {
+        Work {
+            visits: 0,
+            looks: 0,
+            slices: 0,
+            most_states: 0,
+            most_nodes: 0,
+        }
+    }
+
+    /// The work of a packet.
+    pub(crate) fn of_packet(visits: u64, looks: u64) -> Work
+        ensures { result ≡ record { visits = visits; looks = looks; slices = 0; most_states = 0; most_nodes = 0 } }
+    {
+        Work {
+            visits,
+            looks,
+            slices: 0,
+            most_states: 0,
+            most_nodes: 0,
+        }
+    }
+}

@@ -1,0 +1,146 @@
+-- What may come of a packet: it is one of a held state, or passes, or is blocked, or its state is refused, or made.
+use Rattle.std.proofs.Common.{◌≡◌, ℕ, Bool, true, false, Option, None, Some, IsSome, Result, Ok, Err, IfOk, ap, refl, sym, ◌∙◌, unwrap_or}
+use Rattle.std.proofs.lemmas.Bool.{false≢true}
+use Rattle.std.specs.Option.{option_and_then}
+use Rattle.pfs_addr.specs.Keys.{key_of}
+use Rattle.pfs_addr.specs.Packets.{Header}
+use Rattle.pfs_conf_rules.specs.Configs.{Conf, IsConfig, no_rule, options_at, options_in, rule_at, rule_of, scope_of}
+use Rattle.pfs_conf_rules.specs.declared.actions.Action.{Action}
+use Rattle.pfs_conf_rules.specs.declared.actions.Action.TheVariants as action
+use Rattle.pfs_conf_rules.specs.declared.actions.Overload.{Overload}
+use Rattle.pfs_conf_rules.specs.declared.actions.Scope.TheVariants as scope
+use Rattle.pfs_conf_rules.specs.declared.actions.StateOptions.{StateOptions}
+use Rattle.pfs_conf_rules.specs.declared.items.Rule.{Rule}
+use Rattle.pfs_conf_rules.specs.declared.items.RuleNo.{RuleNo}
+use Rattle.pfs_store_plain.specs.Admission.{admitted, limit_at}
+use Rattle.pfs_store_plain.specs.Worlds.{state_with}
+use Rattle.pfs_store_plain.specs.declared.records.Limit.{Limit}
+use Rattle.pfs_store_plain.specs.declared.records.State.{State}
+use Rattle.pfs_store_plain.specs.declared.records.Touched.{Touched}
+use Rattle.pfs_engine_machine.specs.Kept.{IsKept, IsWithinShared}
+use Rattle.pfs_engine_machine.specs.Machine.{Held, answered, by_action, by_hit, by_limit, by_rule, by_state, by_touch, decided, held_of}
+use Rattle.pfs_engine_machine.specs.Refusals.{IsRefused}
+use Rattle.pfs_engine_machine.specs.declared.events.Outcome.{Outcome}
+use Rattle.pfs_engine_machine.specs.declared.events.Outcome.TheVariants as outcome
+use Rattle.pfs_engine_machine.proofs.KeptAdmission.{shared_admitted}
+
+-- what holds of each answer holds of a packet's
+pub record Answers (conf : Conf) (m : Held) (p : Header) (now : ℕ) (Q : Outcome × Held → Type 0) : Type 0 where
+  pub held : (s : State) → state_with (key_of p) m.world ≡ Some s → Q (by_state conf m p now (Some s))
+  pub passes : Q (outcome.Pass None, m)
+  pub passed : (rule : ℕ) → Q (outcome.Pass (Some (record { 0 = rule })), m)
+  pub blocked : (rule : ℕ) → Q (outcome.Block (record { 0 = rule }), m)
+  pub refused : (rule : ℕ) (limit : Limit) → IsRefused conf m p rule limit → Q (outcome.Drop (record { 0 = rule }) limit, m)
+  pub made : (rule : ℕ) → limit_at conf m.world p rule ≡ None
+      → Q (outcome.New (record { 0 = rule }), held_of (admitted conf m.world p rule now) m.tables)
+
+keeps_state : (found : Option Rule) (o : StateOptions) → (unwrap_or found no_rule).action ≡ action.Keep o
+    → IsSome (option_and_then (λ (r : Rule). options_in r.action) found)
+keeps_state None o e = cc
+keeps_state (Some r) o e = rw e refl
+
+limit_answers : (conf : Conf) (m : Held) (p : Header) (now rule : ℕ) (Q : Outcome × Held → Type 0) → Answers conf m p now Q
+    → state_with (key_of p) m.world ≡ None → decided conf m p ≡ Some rule → IsSome (options_at conf rule)
+    → (limit : Option Limit) → limit_at conf m.world p rule ≡ limit → Q (by_limit conf m p now rule limit)
+limit_answers conf m p now rule Q a fresh at keeps None e = a.made rule e
+limit_answers conf m p now rule Q a fresh at keeps (Some l) e = a.refused rule l (record { fresh = fresh; rule_is = at; keeps = keeps; met = e })
+
+action_answers : (conf : Conf) (m : Held) (p : Header) (now rule : ℕ) (Q : Outcome × Held → Type 0) → Answers conf m p now Q
+    → state_with (key_of p) m.world ≡ None → decided conf m p ≡ Some rule
+    → (what : Action) → (rule_of conf rule).action ≡ what → Q (by_action conf m p now rule what)
+action_answers conf m p now rule Q a fresh at action.Block e = a.blocked rule
+action_answers conf m p now rule Q a fresh at action.Pass e = a.passed rule
+action_answers conf m p now rule Q a fresh at (action.Keep o) e =
+    limit_answers conf m p now rule Q a fresh at (keeps_state (rule_at conf rule) o e) (limit_at conf m.world p rule) refl
+
+rule_answers : (conf : Conf) (m : Held) (p : Header) (now : ℕ) (Q : Outcome × Held → Type 0) → Answers conf m p now Q
+    → state_with (key_of p) m.world ≡ None → (rule : Option ℕ) → decided conf m p ≡ rule → Q (by_rule conf m p now rule)
+rule_answers conf m p now Q a fresh None e = a.passes
+rule_answers conf m p now Q a fresh (Some rule) e = action_answers conf m p now rule Q a fresh e (rule_of conf rule).action refl
+
+state_answers : (conf : Conf) (m : Held) (p : Header) (now : ℕ) (Q : Outcome × Held → Type 0) → Answers conf m p now Q
+    → (found : Option State) → state_with (key_of p) m.world ≡ found → Q (by_state conf m p now found)
+state_answers conf m p now Q a None e = rule_answers conf m p now Q a e (decided conf m p) refl
+state_answers conf m p now Q a (Some s) e = a.held s e
+
+pub answered_has : (conf : Conf) (m : Held) (p : Header) (now : ℕ) (Q : Outcome × Held → Type 0) → Answers conf m p now Q → Q (answered conf m p now)
+answered_has conf m p now Q a = state_answers conf m p now Q a (state_with (key_of p) m.world) refl
+
+-- ---- a packet of a held state is not refused, and makes no state
+
+abbrev is_of_held : Outcome → Bool
+is_of_held (outcome.State r) = true
+is_of_held (outcome.New r) = false
+is_of_held (outcome.Pass r) = false
+is_of_held (outcome.Block r) = false
+is_of_held (outcome.Drop r l) = false
+is_of_held (outcome.Kill r c h o k) = true
+is_of_held outcome.Skip = false
+
+hit_held : (conf : Conf) (m : Held) (number now : ℕ) (t : Touched) (o : Option Overload) (conn rate hit : Bool)
+    → is_of_held (by_hit conf m number now t o conn rate hit).0 ≡ true
+hit_held conf m number now t o conn rate false = refl
+hit_held conf m number now t o conn rate true = refl
+
+touch_held : (conf : Conf) (m : Held) (number now : ℕ) (t : Touched) (done : Bool) → is_of_held (by_touch conf m number now t done).0 ≡ true
+touch_held conf m number now t false = refl
+touch_held conf m number now t true = hit_held conf m number now t _ _ _ _
+
+-- ---- a state that is refused, and one that is made with shared nodes
+
+abbrev numbered : ℕ → RuleNo
+numbered n = record { 0 = n }
+
+abbrev pub RefusedOnly : Conf → Held → Header → Outcome × Held → Type 0
+RefusedOnly conf m p a = (rule : RuleNo) (limit : Limit) → a.0 ≡ outcome.Drop rule limit → IsRefused conf m p rule.0 limit × (a.1 ≡ m)
+
+pub refused_only : (conf : Conf) (m : Held) (p : Header) (now : ℕ) → RefusedOnly conf m p (answered conf m p now)
+refused_only conf m p now = answered_has conf m p now (RefusedOnly conf m p) (record {
+  held = λ s found rule limit e. absurd (false≢true (sym (ap is_of_held e) ∙ touch_held conf _ _ now _ _));
+  passes = λ rule limit e. cc;
+  passed = λ r rule limit e. cc;
+  blocked = λ r rule limit e. cc;
+  refused = λ r l is rule limit e.
+      let rules : numbered r ≡ rule = cc in
+      let limits : l ≡ limit = cc in
+      (rw (sym (ap (λ (x : RuleNo). x.0) rules), sym limits) is, refl);
+  made = λ r none rule limit e. cc;
+})
+
+abbrev pub MadeShared : Conf → Held → Header → Outcome × Held → Type 0
+MadeShared conf m p a = (rule : RuleNo) → a.0 ≡ outcome.New rule → scope_of conf rule.0 ≡ Some scope.Global
+    → IsWithinShared conf rule.0 p.source.addr m.world a.1.world
+
+pub made_shared : (conf : Conf) (m : Held) (p : Header) (now : ℕ) → IsConfig conf → IsKept conf m now → MadeShared conf m p (answered conf m p now)
+made_shared conf m p now config kept = answered_has conf m p now (MadeShared conf m p) (record {
+  held = λ s found rule e. absurd (false≢true (sym (ap is_of_held e) ∙ touch_held conf _ _ now _ _));
+  passes = λ rule e. cc;
+  passed = λ r rule e. cc;
+  blocked = λ r rule e. cc;
+  refused = λ r l is rule e. cc;
+  made = λ r none rule e global.
+      let same : numbered r ≡ rule = cc in
+      let number : r ≡ rule.0 = ap (λ (x : RuleNo). x.0) same in
+      rw (sym number) (shared_admitted conf m p r now config none (rw (sym number) at global) kept);
+})
+
+-- ---- of an answer that may be want of memory
+
+pub refused_result : {E : Type 0} (conf : Conf) (m before after : Held) (p : Header) (now : ℕ) (r : Result Outcome E) → before ≡ m
+    → IfOk r (λ o. (o, after) ≡ answered conf before p now) → (rule : RuleNo) (limit : Limit) → r ≡ Ok (outcome.Drop rule limit)
+    → IsRefused conf m p rule.0 limit × (after ≡ before)
+refused_result conf m before after p now (Ok o) same ok rule limit e =
+    let dropped : o ≡ outcome.Drop rule limit = cc in
+    let told = refused_only conf before p now rule limit (sym (ap (λ (a : Outcome × Held). a.0) ok) ∙ dropped) in
+    (rw (sym same) told.0, ap (λ (a : Outcome × Held). a.1) ok ∙ told.1)
+refused_result conf m before after p now (Err x) same ok rule limit e = cc
+
+pub shared_result : {E : Type 0} (conf : Conf) (m before after : Held) (p : Header) (now : ℕ) (r : Result Outcome E) → before ≡ m
+    → IsConfig conf → IsKept conf before now → IfOk r (λ o. (o, after) ≡ answered conf before p now) → (rule : RuleNo)
+    → r ≡ Ok (outcome.New rule) → scope_of conf rule.0 ≡ Some scope.Global → IsWithinShared conf rule.0 p.source.addr m.world after.world
+shared_result conf m before after p now (Ok o) same config kept ok rule e global =
+    let made : o ≡ outcome.New rule = cc in
+    let told = made_shared conf before p now config kept rule (sym (ap (λ (a : Outcome × Held). a.0) ok) ∙ made) global in
+    let is : after ≡ (answered conf before p now).1 = ap (λ (a : Outcome × Held). a.1) ok in
+    rw (is, sym same) told
+shared_result conf m before after p now (Err x) same config kept ok rule e global = cc

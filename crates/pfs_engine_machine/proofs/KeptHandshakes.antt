@@ -1,0 +1,273 @@
+-- A packet of a held state keeps what a machine keeps: it is within `max-src-conn`, or states are killed for it.
+use Rattle.std.proofs.Common.{◌≡◌, ◌≤◌, ◌||◌, ◌==◌, eq-eqb, ◌⊎◌, inl, inr, ℕ, Bool, true, false, Option, None, Some, List, All, filter, length, map, refl, ap, sym, ◌∙◌, arith}
+use Rattle.std.proofs.lemmas.List.{length-map}
+use Rattle.std.proofs.lemmas.List.Elements.{All-filter, All-map, All-weaker}
+use Rattle.pfs_addr.proofs.SameLaws.{same_key_true}
+use Rattle.pfs_addr.specs.Keys.{key_of}
+use Rattle.pfs_addr.specs.Packets.{Header}
+use Rattle.pfs_addr.specs.Sameness.{same_key}
+use Rattle.pfs_addr.specs.declared.addresses.Addr.{Addr}
+use Rattle.pfs_addr.specs.declared.packets.FlowKey.{FlowKey}
+use Rattle.pfs_eval.specs.Entries.{Entry}
+use Rattle.pfs_eval.specs.Tables.{added_to, entry_count}
+use Rattle.pfs_conf_rules.specs.Configs.{Conf, limit_of, options_of}
+use Rattle.pfs_conf_rules.specs.declared.actions.Overload.{Overload}
+use Rattle.pfs_conf_rules.specs.declared.items.RuleNo.{RuleNo}
+use Rattle.pfs_conf_rules.specs.declared.limits.LimitName.TheVariants as limit_name
+use Rattle.pfs_store_plain.proofs.MomentLaws.{left-up_to_now, world_touched-up_to_now}
+use Rattle.pfs_store_plain.specs.Counts.{has_node, is_of_node, is_of_rule, node_connections, node_scope_of, node_states, rule_states, scope_nodes}
+use Rattle.pfs_store_plain.specs.Handshakes.{flush_of, hits_connections, hits_rate}
+use Rattle.pfs_store_plain.specs.Leaving.{without}
+use Rattle.pfs_store_plain.specs.Touching.{completes_at, goes_forward, nodes_touched, renewed, touch_of, touched}
+use Rattle.pfs_store_plain.specs.Worlds.{IsUpToNow, World, holds_number, state_with}
+use Rattle.pfs_store_plain.specs.declared.records.Node.{Node}
+use Rattle.pfs_store_plain.specs.declared.records.NodeScope.{NodeScope}
+use Rattle.pfs_store_plain.specs.declared.records.State.{State}
+use Rattle.pfs_store_plain.specs.declared.records.Touched.{Touched}
+use Rattle.pfs_engine_machine.specs.Kept.{HasNode, IsKept, IsPhaseOf, IsWithin, Rise, TracksAlone, own_scope}
+use Rattle.pfs_engine_machine.specs.Machine.{Held, by_hit, by_state, by_touch, held_of, stays_at_kill, tables_by}
+use Rattle.pfs_engine_machine.specs.Refusals.{is_tcp}
+use Rattle.pfs_engine_machine.proofs.Additions.{entries_after-size, entries_after-within}
+use Rattle.pfs_engine_machine.proofs.Alike.{AreAlike, idled_all-alike, nodes_touched-alike}
+use Rattle.pfs_engine_machine.proofs.Changes.{find-all, find-any, find-passes}
+use Rattle.pfs_engine_machine.proofs.Connections.{IsAlone, connections-killed, connections-same, connections-within}
+use Rattle.pfs_engine_machine.proofs.Counts.{any-map, count-filter_le, count-map, count_le}
+use Rattle.pfs_engine_machine.proofs.KeptTime.{within_less}
+use Rattle.pfs_engine_machine.proofs.Numbers.{Rise-alone, Rise-filter, Rise-map}
+use Rattle.pfs_engine_machine.proofs.Renewals.{is_tcp-completes, renewed-phase, renewed-same}
+
+-- what a machine keeps while a handshake is looked at: all but that connections are within `max-src-conn`
+record IsKeptBut (conf : Conf) (m : Held) (now : ℕ) : Type 0 where
+  states : length m.world.states ≤ limit_of conf limit_name.States
+  nodes : length m.world.nodes ≤ limit_of conf limit_name.SrcNodes
+  entries : entry_count m.tables ≤ limit_of conf limit_name.TableEntries
+  of_rules : (rule : ℕ) → IsWithin (options_of conf rule).max (rule_states rule m.world.states)
+  source_nodes : (rule : ℕ) → TracksAlone conf rule → IsWithin (options_of conf rule).max_src_nodes (scope_nodes (own_scope rule) m.world.nodes)
+  source_states : (rule : ℕ) (source : Addr) → TracksAlone conf rule → IsWithin (options_of conf rule).max_src_states (node_states conf (own_scope rule) source m.world.states)
+  numbers : Rise 0 m.world.states m.world.made
+  noded : All (HasNode conf m.world.nodes) m.world.states
+  phases : All (λ (s : State). IsPhaseOf s.key.proto s.phase) m.world.states
+  tables : length m.tables ≡ length conf.tables
+  moments : IsUpToNow now m.world
+
+-- the connections of each source of a rule that tracks them by itself are within `max-src-conn`
+abbrev AreFew : Conf → List State → Type 0
+AreFew conf states = (rule : ℕ) (source : Addr) → TracksAlone conf rule
+    → IsWithin (options_of conf rule).max_src_conn (node_connections conf (own_scope rule) source states)
+
+kept_whole : (conf : Conf) (m : Held) (now : ℕ) → IsKeptBut conf m now → AreFew conf m.world.states → IsKept conf m now
+kept_whole conf m now k few = record {
+  limits = record {
+    states = k.states;
+    nodes = k.nodes;
+    entries = k.entries;
+    rule_states = k.of_rules;
+    source_nodes = k.source_nodes;
+    source_states = k.source_states;
+    source_connections = few;
+  };
+  numbers = k.numbers;
+  noded = k.noded;
+  phases = k.phases;
+  tables = k.tables;
+  moments = k.moments;
+}
+
+-- ---- the state's packet
+
+-- nodes that are alike are those of the same states
+HasNode-alike : (conf : Conf) (before after : List Node) → AreAlike before after → (s : State) → HasNode conf before s → HasNode conf after s
+HasNode-alike conf before after alike s h = λ scope is. alike.has scope s.source ∙ h scope is
+
+renewed-noded : (conf : Conf) (nodes : List Node) (number : ℕ) (p : Header) (now : ℕ) (s : State) → HasNode conf nodes s
+    → HasNode conf nodes (renewed number p now s)
+renewed-noded conf nodes number p now s h = λ scope is.
+    let same = renewed-same number p now s in
+    ap (λ (a : Addr). has_node scope a nodes) same.source ∙ h scope (sym (ap (λ (r : RuleNo). node_scope_of conf r.0) same.rule) ∙ is)
+
+renewed-of_node : (conf : Conf) (scope : NodeScope) (source : Addr) (number : ℕ) (p : Header) (now : ℕ) (s : State)
+    → is_of_node conf scope source (renewed number p now s) ≡ is_of_node conf scope source s
+renewed-of_node conf scope source number p now s = let same = renewed-same number p now s in rw (same.rule, same.source)
+
+kept_but_touched : (conf : Conf) (m : Held) (p : Header) (now : ℕ) (s : State) → IsKept conf m now
+    → IsKeptBut conf (held_of (touched conf m.world s p now) m.tables) now
+kept_but_touched conf m p now s k =
+    let w = m.world in
+    let f = renewed s.number p now in
+    let alike = nodes_touched-alike conf w.nodes s now (completes_at p s) in
+    let nodes = nodes_touched conf w.nodes s now (completes_at p s) in
+    record {
+      states = omega (arith, length-map w.states f, k.limits.states);
+      nodes = omega (arith, alike.size, k.limits.nodes);
+      entries = k.limits.entries;
+      of_rules = λ rule n is.
+          omega (arith, count-map (is_of_rule rule) f (λ (t : State). rw ((renewed-same s.number p now t).rule)) w.states, k.limits.rule_states rule n is);
+      source_nodes = λ rule tracks n is. omega (arith, alike.counts (own_scope rule), k.limits.source_nodes rule tracks n is);
+      source_states = λ rule source tracks n is.
+          omega (arith, count-map (is_of_node conf (own_scope rule) source) f (renewed-of_node conf (own_scope rule) source s.number p now) w.states, k.limits.source_states rule source tracks n is);
+      numbers = Rise-map f (λ (t : State). (renewed-same s.number p now t).number) 0 w.made w.states k.numbers;
+      noded = All-map (HasNode conf nodes) f w.states
+          (All-weaker (HasNode conf w.nodes) (λ (t : State). HasNode conf nodes (f t))
+          (λ t h. renewed-noded conf nodes s.number p now t (HasNode-alike conf w.nodes nodes alike t h)) w.states k.noded);
+      phases = All-map (λ (t : State). IsPhaseOf t.key.proto t.phase) f w.states
+          (All-weaker (λ (t : State). IsPhaseOf t.key.proto t.phase) (λ (t : State). IsPhaseOf (f t).key.proto (f t).phase) (renewed-phase s.number p now) w.states k.phases);
+      tables = k.tables;
+      moments = world_touched-up_to_now conf w p now (Some s) k.moments;
+    }
+
+-- the state alone has its number
+alone_of : (conf : Conf) (m : Held) (p : Header) (now : ℕ) (s : State) → state_with (key_of p) m.world ≡ Some s → IsKept conf m now → IsAlone s m.world.states
+alone_of conf m p now s found k = Rise-alone (λ (t : State). same_key t.key (key_of p)) s 0 m.world.made m.world.states k.numbers found
+
+-- where the handshake does not complete, or hits no `max-src-conn`, no source has too many connections
+few_touched : (conf : Conf) (m : Held) (p : Header) (now : ℕ) (s : State) → state_with (key_of p) m.world ≡ Some s
+    → ((completes_at p s ≡ false) ⊎ (hits_connections (options_of conf s.rule.0) (touch_of conf m.world p now s) ≡ false))
+    → IsKept conf m now → AreFew conf (touched conf m.world s p now).states
+few_touched conf m p now s found why k rule source tracks = go why (is_of_node conf (own_scope rule) source s) refl
+  where
+    alone : IsAlone s m.world.states
+    alone = alone_of conf m p now s found k
+
+    same : ((completes_at p s ≡ false) ⊎ (is_of_node conf (own_scope rule) source s ≡ false))
+        → IsWithin (options_of conf rule).max_src_conn (node_connections conf (own_scope rule) source (map (renewed s.number p now) m.world.states))
+    same because = λ n is.
+        omega (arith, connections-same conf (own_scope rule) source s p now m.world.states alone because, k.limits.source_connections rule source tracks n is)
+
+    go : ((completes_at p s ≡ false) ⊎ (hits_connections (options_of conf s.rule.0) (touch_of conf m.world p now s) ≡ false))
+        → (own : Bool) → is_of_node conf (own_scope rule) source s ≡ own
+        → IsWithin (options_of conf rule).max_src_conn (node_connections conf (own_scope rule) source (map (renewed s.number p now) m.world.states))
+    go (inl before) own e = same (inl before)
+    go (inr few) true e = connections-within conf m.world p now s rule source tracks e few
+    go (inr few) false e = same (inr e)
+
+pub kept_touched : (conf : Conf) (m : Held) (p : Header) (now : ℕ) (s : State) → state_with (key_of p) m.world ≡ Some s
+    → ((completes_at p s ≡ false) ⊎ (hits_connections (options_of conf s.rule.0) (touch_of conf m.world p now s) ≡ false))
+    → IsKept conf m now → IsKept conf (held_of (touched conf m.world s p now) m.tables) now
+kept_touched conf m p now s found why k =
+    kept_whole conf (held_of (touched conf m.world s p now) m.tables) now (kept_but_touched conf m p now s k) (few_touched conf m p now s found why k)
+
+-- ---- states are killed
+
+kept_but_without : (conf : Conf) (m : Held) (stays : State → Bool) (at now : ℕ) → IsKeptBut conf m now
+    → IsKeptBut conf (held_of (without conf m.world stays at) m.tables) now
+kept_but_without conf m stays at now k =
+    let w = m.world in
+    let alike = idled_all-alike conf w.states (filter stays w.states) at w.nodes in
+    let nodes = (without conf w stays at).nodes in
+    record {
+      states = omega (arith, count_le stays w.states, k.states);
+      nodes = omega (arith, alike.size, k.nodes);
+      entries = k.entries;
+      of_rules = λ rule. within_less (options_of conf rule).max _ _ (count-filter_le (is_of_rule rule) stays w.states) (k.of_rules rule);
+      source_nodes = λ rule tracks n is. omega (arith, alike.counts (own_scope rule), k.source_nodes rule tracks n is);
+      source_states = λ rule source tracks.
+          within_less (options_of conf rule).max_src_states _ _ (count-filter_le (is_of_node conf (own_scope rule) source) stays w.states) (k.source_states rule source tracks);
+      numbers = Rise-filter stays 0 w.made w.states k.numbers;
+      noded = All-filter stays (HasNode conf nodes) w.states (All-weaker (HasNode conf w.nodes) (HasNode conf nodes) (HasNode-alike conf w.nodes nodes alike) w.states k.noded);
+      phases = All-filter stays (λ (t : State). IsPhaseOf t.key.proto t.phase) w.states k.phases;
+      tables = k.tables;
+      moments = left-up_to_now conf w (filter stays w.states) (without conf w stays at).pending_states at now k.moments;
+    }
+
+-- the tables: one entry more at most, and only below the limit
+tables_by-size : (conf : Conf) (tables : List (List Entry)) (source : Addr) (overload : Option Overload)
+    → length (tables_by conf tables source overload) ≡ length tables
+tables_by-size conf tables source None = refl
+tables_by-size conf tables source (Some v) =
+    entries_after-size tables v.table.0 source (added_to tables (limit_of conf limit_name.TableEntries) v.table.0 source)
+
+tables_by-within : (conf : Conf) (tables : List (List Entry)) (source : Addr) (overload : Option Overload)
+    → entry_count tables ≤ limit_of conf limit_name.TableEntries → entry_count (tables_by conf tables source overload) ≤ limit_of conf limit_name.TableEntries
+tables_by-within conf tables source None le = le
+tables_by-within conf tables source (Some v) le = entries_after-within tables (limit_of conf limit_name.TableEntries) v.table.0 source le
+
+kept_but_added : (conf : Conf) (m : Held) (source : Addr) (overload : Option Overload) (now : ℕ) → IsKeptBut conf m now
+    → IsKeptBut conf (held_of m.world (tables_by conf m.tables source overload)) now
+kept_but_added conf m source overload now k = record {
+  states = k.states;
+  nodes = k.nodes;
+  entries = tables_by-within conf m.tables source overload k.entries;
+  of_rules = k.of_rules;
+  source_nodes = k.source_nodes;
+  source_states = k.source_states;
+  numbers = k.numbers;
+  noded = k.noded;
+  phases = k.phases;
+  tables = tables_by-size conf m.tables source overload ∙ k.tables;
+  moments = k.moments;
+}
+
+few_killed : (conf : Conf) (m : Held) (p : Header) (now : ℕ) (s : State) (overload : Option Overload) → state_with (key_of p) m.world ≡ Some s
+    → IsKept conf m now
+    → AreFew conf (filter (stays_at_kill (flush_of overload) s.number (touch_of conf m.world p now s)) (touched conf m.world s p now).states)
+few_killed conf m p now s overload found k rule source tracks =
+    within_less (options_of conf rule).max_src_conn _ _ (connections-killed conf m.world p now s (flush_of overload) (own_scope rule) source (alone_of conf m p now s found k)) (k.limits.source_connections rule source tracks)
+
+pub kept_killed : (conf : Conf) (m : Held) (p : Header) (now : ℕ) (s : State) (overload : Option Overload) (conn rate : Bool)
+    → state_with (key_of p) m.world ≡ Some s → IsKept conf m now
+    → IsKept conf (by_hit conf (held_of (touched conf m.world s p now) m.tables) s.number now (touch_of conf m.world p now s) overload conn rate true).1 now
+kept_killed conf m p now s overload conn rate found k =
+    let t = touch_of conf m.world p now s in
+    let stays = stays_at_kill (flush_of overload) s.number t in
+    let first = held_of (touched conf m.world s p now) m.tables in
+    let second = held_of (without conf first.world stays now) first.tables in
+    kept_whole conf (held_of second.world (tables_by conf second.tables t.source overload)) now
+    (kept_but_added conf second t.source overload now (kept_but_without conf first stays now now (kept_but_touched conf m p now s k)))
+    (few_killed conf m p now s overload found k)
+
+-- ---- together
+
+kept_by_hit : (conf : Conf) (m : Held) (p : Header) (now : ℕ) (s : State) (overload : Option Overload) (conn rate : Bool)
+    → state_with (key_of p) m.world ≡ Some s → IsKept conf m now
+    → conn ≡ hits_connections (options_of conf s.rule.0) (touch_of conf m.world p now s)
+    → IsKept conf (by_hit conf (held_of (touched conf m.world s p now) m.tables) s.number now (touch_of conf m.world p now s) overload conn rate (conn || rate)).1 now
+kept_by_hit conf m p now s overload true rate found k is = kept_killed conf m p now s overload true rate found k
+kept_by_hit conf m p now s overload false true found k is = kept_killed conf m p now s overload false true found k
+kept_by_hit conf m p now s overload false false found k is = kept_touched conf m p now s found (inr (sym is)) k
+
+kept_by_touch : (conf : Conf) (m : Held) (p : Header) (now : ℕ) (s : State) (completed : Bool)
+    → state_with (key_of p) m.world ≡ Some s → IsKept conf m now → completes_at p s ≡ completed
+    → IsKept conf (by_touch conf (held_of (touched conf m.world s p now) m.tables) s.number now (touch_of conf m.world p now s) completed).1 now
+kept_by_touch conf m p now s false found k is = kept_touched conf m p now s found (inl is) k
+kept_by_touch conf m p now s true found k is =
+    let o = options_of conf s.rule.0 in
+    let t = touch_of conf m.world p now s in
+    kept_by_hit conf m p now s o.overload (hits_connections o t) (hits_rate o t) found k refl
+
+pub kept_held : (conf : Conf) (m : Held) (p : Header) (now : ℕ) (s : State) → state_with (key_of p) m.world ≡ Some s
+    → IsKept conf m now → IsKept conf (by_state conf m p now (Some s)).1 now
+kept_held conf m p now s found k = kept_by_touch conf m p now s (completes_at p s) found k refl
+
+-- no state is made
+made_by_hit : (conf : Conf) (m : Held) (number now : ℕ) (t : Touched) (overload : Option Overload) (conn rate hit : Bool)
+    → (by_hit conf m number now t overload conn rate hit).1.world.made ≡ m.world.made
+made_by_hit conf m number now t overload conn rate true = refl
+made_by_hit conf m number now t overload conn rate false = refl
+
+made_by_touch : (conf : Conf) (m : Held) (number now : ℕ) (t : Touched) (completed : Bool)
+    → (by_touch conf m number now t completed).1.world.made ≡ m.world.made
+made_by_touch conf m number now t false = refl
+made_by_touch conf m number now t true =
+    let o = options_of conf t.rule.0 in
+    made_by_hit conf m number now t o.overload (hits_connections o t) (hits_rate o t) (hits_connections o t || hits_rate o t)
+
+pub made_held : (conf : Conf) (m : Held) (p : Header) (now : ℕ) (s : State) → (by_state conf m p now (Some s)).1.world.made ≡ m.world.made
+made_held conf m p now s =
+    made_by_touch conf (held_of (touched conf m.world s p now) m.tables) s.number now (touch_of conf m.world p now s) (completes_at p s)
+
+-- ---- of a state that is held
+
+-- only TCP completes
+pub proto_of_completed : (conf : Conf) (m : Held) (p : Header) (now : ℕ) (s : State) → IsKept conf m now → state_with (key_of p) m.world ≡ Some s
+    → completes_at p s ≡ true → is_tcp p.proto ≡ true
+proto_of_completed conf m p now s k found done =
+    let key : s.key ≡ key_of p = same_key_true s.key (key_of p) (find-passes (λ (t : State). same_key t.key (key_of p)) m.world.states s found) in
+    let own : IsPhaseOf s.key.proto s.phase = find-all (λ (t : State). IsPhaseOf t.key.proto t.phase) (λ (t : State). same_key t.key (key_of p)) m.world.states s k.phases found in
+    ap (λ (f : FlowKey). is_tcp f.proto) (sym key) ∙ is_tcp-completes s.key.proto s.phase (goes_forward p s) p.flags own done
+
+-- the state is held after its packet
+pub held_touched : (conf : Conf) (w : World) (p : Header) (now : ℕ) (s : State) → state_with (key_of p) w ≡ Some s
+    → holds_number (touched conf w s p now).states s.number ≡ true
+held_touched conf w p now s found =
+    any-map (λ (t : State). t.number == s.number) (renewed s.number p now) (λ (t : State). ap (λ n. n == s.number) (renewed-same s.number p now t).number) w.states
+    ∙ find-any (λ (t : State). t.number == s.number) (λ (t : State). same_key t.key (key_of p)) w.states s found (eq-eqb s.number s.number refl)

@@ -1,0 +1,70 @@
+-- What a packet changes of its state: the phase, which stays one of its protocol, and the moment.
+use Rattle.std.proofs.Common.{◌≡◌, ◌||◌, ◌==◌, ℕ, Bool, true, false, if◌then◌else◌, refl, ap, ◌∙◌}
+use Rattle.std.proofs.Math.Bool.{or-false}
+use Rattle.pfs_addr.specs.Packets.{Header}
+use Rattle.pfs_addr.specs.declared.flag_sets.Flags.{Flags}
+use Rattle.pfs_addr.specs.declared.protocols.Proto.{Proto}
+use Rattle.pfs_addr.specs.declared.protocols.Proto.TheVariants as proto
+use Rattle.pfs_store_plain.specs.Touching.{goes_forward, renewed, stepped}
+use Rattle.pfs_store_plain.specs.declared.records.State.{State}
+use Rattle.pfs_track.specs.StatePhases.{completes, is_done, phase_after}
+use Rattle.pfs_track.specs.declared.state_phases.StatePhase.{StatePhase}
+use Rattle.pfs_track.specs.declared.state_phases.StatePhase.TheVariants as phase
+use Rattle.pfs_engine_machine.specs.Kept.{IsPhaseOf}
+use Rattle.pfs_engine_machine.specs.Refusals.{is_tcp}
+
+-- ---- phases
+
+-- where no handshake completes, as many have completed as before
+pub is_done-same : (ph : StatePhase) (forward : Bool) (flags : Flags) → completes ph forward flags ≡ false
+    → is_done (phase_after ph forward flags) ≡ is_done ph
+is_done-same (phase.Tcp p) forward flags e = ap (λ b. p.complete || b) e ∙ or-false p.complete
+is_done-same (phase.Udp p) forward flags e = refl
+is_done-same (phase.Other p) forward flags e = refl
+
+pub IsPhaseOf-after : (protocol : Proto) (ph : StatePhase) (forward : Bool) (flags : Flags) → IsPhaseOf protocol ph
+    → IsPhaseOf protocol (phase_after ph forward flags)
+IsPhaseOf-after proto.Tcp (phase.Tcp p) forward flags h = tt
+IsPhaseOf-after proto.Tcp (phase.Udp p) forward flags h = h
+IsPhaseOf-after proto.Tcp (phase.Other p) forward flags h = h
+IsPhaseOf-after proto.Udp (phase.Tcp p) forward flags h = h
+IsPhaseOf-after proto.Udp (phase.Udp p) forward flags h = tt
+IsPhaseOf-after proto.Udp (phase.Other p) forward flags h = tt
+IsPhaseOf-after (proto.Other n) (phase.Tcp p) forward flags h = h
+IsPhaseOf-after (proto.Other n) (phase.Udp p) forward flags h = tt
+IsPhaseOf-after (proto.Other n) (phase.Other p) forward flags h = tt
+
+-- only TCP completes
+pub is_tcp-completes : (protocol : Proto) (ph : StatePhase) (forward : Bool) (flags : Flags) → IsPhaseOf protocol ph
+    → completes ph forward flags ≡ true → is_tcp protocol ≡ true
+is_tcp-completes proto.Tcp ph forward flags h e = refl
+is_tcp-completes proto.Udp (phase.Tcp p) forward flags h e = absurd h
+is_tcp-completes proto.Udp (phase.Udp p) forward flags h e = cc
+is_tcp-completes proto.Udp (phase.Other p) forward flags h e = cc
+is_tcp-completes (proto.Other n) (phase.Tcp p) forward flags h e = absurd h
+is_tcp-completes (proto.Other n) (phase.Udp p) forward flags h e = cc
+is_tcp-completes (proto.Other n) (phase.Other p) forward flags h e = cc
+
+-- ---- the state of a number
+
+-- what a packet leaves of its state
+pub record IsSameState (before after : State) : Type 0 where
+  pub number : after.number ≡ before.number
+  pub key : after.key ≡ before.key
+  pub source : after.source ≡ before.source
+  pub rule : after.rule ≡ before.rule
+
+pub renewed-same : (number : ℕ) (p : Header) (now : ℕ) (s : State) → IsSameState s (renewed number p now s)
+renewed-same number p now s = go (s.number == number)
+  where
+    go : (b : Bool) → IsSameState s (if b then stepped p now s else s)
+    go true = record { number = refl; key = refl; source = refl; rule = refl }
+    go false = record { number = refl; key = refl; source = refl; rule = refl }
+
+pub renewed-phase : (number : ℕ) (p : Header) (now : ℕ) (s : State) → IsPhaseOf s.key.proto s.phase
+    → IsPhaseOf (renewed number p now s).key.proto (renewed number p now s).phase
+renewed-phase number p now s h = go (s.number == number)
+  where
+    go : (b : Bool) → IsPhaseOf (if b then stepped p now s else s).key.proto (if b then stepped p now s else s).phase
+    go true = IsPhaseOf-after s.key.proto s.phase (goes_forward p s) p.flags h
+    go false = h

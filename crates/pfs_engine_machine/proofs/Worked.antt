@@ -1,0 +1,286 @@
+-- Worked runs of the machine, each by computation.
+use Rattle.std.proofs.Common.{◌≡◌, ℕ, Bool, true, false, Option, None, Some, List, [], ◌∷◌, ◌++◌, refl}
+use Rattle.pfs_addr.specs.Packets.{Header}
+use Rattle.pfs_addr.specs.Prefixes.{cleared, covers}
+use Rattle.pfs_addr.specs.declared.addresses.Addr.{Addr}
+use Rattle.pfs_addr.specs.declared.addresses.Addr.TheVariants.{V4}
+use Rattle.pfs_addr.specs.declared.flag_sets.Flags.{Flags}
+use Rattle.pfs_addr.specs.declared.packets.Dir.TheVariants.{In, Out}
+use Rattle.pfs_addr.specs.declared.packets.Endpoint.{Endpoint}
+use Rattle.pfs_addr.specs.declared.protocols.Proto.{Proto}
+use Rattle.pfs_addr.specs.declared.protocols.Proto.TheVariants.{Tcp, Udp}
+use Rattle.pfs_eval.specs.Matching.{matches_item}
+use Rattle.pfs_eval.specs.Tables.{table_answer}
+use Rattle.pfs_eval.specs.Verdict.{verdict}
+use Rattle.pfs_eval.specs.declared.tables.Added.TheVariants as added
+use Rattle.pfs_conf_rules.specs.Configs.{Conf, any_packet, any_side, no_options}
+use Rattle.pfs_conf_rules.specs.declared.actions.Action.{Action}
+use Rattle.pfs_conf_rules.specs.declared.actions.Action.TheVariants as action
+use Rattle.pfs_conf_rules.specs.declared.actions.Overload.{Overload}
+use Rattle.pfs_conf_rules.specs.declared.actions.Scope.TheVariants as scope
+use Rattle.pfs_conf_rules.specs.declared.filters.Filter.{Filter}
+use Rattle.pfs_conf_rules.specs.declared.filters.Host.TheVariants as host
+use Rattle.pfs_conf_rules.specs.declared.items.Item.{Item}
+use Rattle.pfs_conf_rules.specs.declared.items.RuleNo.{RuleNo}
+use Rattle.pfs_conf_rules.specs.declared.items.What.TheVariants as item
+use Rattle.pfs_conf_rules.specs.declared.tables.TableDef.{TableDef}
+use Rattle.pfs_store_plain.specs.declared.records.Limit.{Limit}
+use Rattle.pfs_store_plain.specs.declared.records.Limit.TheVariants as limit
+use Rattle.pfs_engine_machine.specs.Machine.{Machine, entries_held, nodes_held, start, states_held, step}
+use Rattle.pfs_engine_machine.specs.Rates.{history_score}
+use Rattle.pfs_engine_machine.specs.Runs.{machine_after, outcomes_of}
+use Rattle.pfs_engine_machine.specs.declared.events.Event.{Event}
+use Rattle.pfs_engine_machine.specs.declared.events.Outcome.{Outcome}
+use Rattle.pfs_engine_machine.specs.declared.events.Outcome.TheVariants as outcome
+use Rattle.pfs_engine_machine.specs.declared.events.What.TheVariants.{Packet, Skip}
+
+-- ---- configurations: limits of states and nodes, the timeouts that differ, tables and items
+
+-- `tcp.closed`, `tcp.first`, `udp.first`, `src.track`, `interval`
+pub record Times : Type 0 where
+  pub closed : ℕ
+  pub first : ℕ
+  pub udp : ℕ
+  pub track : ℕ
+  pub interval : ℕ
+
+abbrev usual : Times
+usual = record { closed = 90; first = 120; udp = 60; track = 0; interval = 10 }
+
+abbrev conf : ℕ → ℕ → Times → List TableDef → List Item → Conf
+conf states nodes t tables items = record {
+  limits = record { states = states; src_nodes = nodes; tables = 1000; table_entries = 200000 };
+  timeouts = t.first ∷ 30 ∷ 86400 ∷ 900 ∷ 45 ∷ t.closed ∷ t.udp ∷ 30 ∷ 60 ∷ 60 ∷ 30 ∷ 60 ∷ t.track ∷ t.interval ∷ 0 ∷ 0 ∷ [];
+  tables = tables;
+  items = items;
+}
+
+abbrev rule : Bool → Filter → Action → Item
+rule quick filter does = record { depth = 0; what = item.Rule (record { quick = quick; filter = filter; action = does }) }
+
+abbrev of_proto : Proto → Filter
+of_proto p = record any_packet { dir = Some In; proto = Some p }
+
+-- ---- packets and events
+
+abbrev source : ℕ → Addr
+source n = V4 (198 ∷ 51 ∷ 100 ∷ n ∷ [])
+
+abbrev server : Addr
+server = V4 (192 ∷ 0 ∷ 2 ∷ 1 ∷ [])
+
+abbrev end_at : Addr → ℕ → Endpoint
+end_at addr port = record { addr = addr; port = port }
+
+abbrev flagged : Bool → Bool → Bool → Flags
+flagged syn ack rst =
+    record { fin = false; syn = syn; rst = rst; psh = false; ack = ack; urg = false; ece = false; cwr = false }
+
+abbrev to_server : Proto → ℕ → ℕ → ℕ → Flags → Header
+to_server proto n sport dport flags =
+    record { dir = In; ifname = []; proto = proto; source = end_at (source n) sport; destination = end_at server dport; flags = flags }
+
+abbrev from_server : ℕ → ℕ → Flags → Header
+from_server n port flags =
+    record { dir = Out; ifname = []; proto = Tcp; source = end_at server 80; destination = end_at (source n) port; flags = flags }
+
+abbrev comes : ℕ → Header → Event
+comes now p = record { time = now; what = Packet p }
+
+abbrev nothing : ℕ → Event
+nothing now = record { time = now; what = Skip }
+
+abbrev udp : ℕ → ℕ → ℕ → Event
+udp now n port = comes now (to_server Udp n port 53 (flagged false false false))
+
+abbrev syn : ℕ → ℕ → ℕ → Event
+syn now n port = comes now (to_server Tcp n port 80 (flagged true false false))
+
+abbrev reset : ℕ → ℕ → ℕ → Event
+reset now n port = comes now (to_server Tcp n port 80 (flagged false false true))
+
+abbrev handshake : ℕ → ℕ → ℕ → List Event
+handshake now n port =
+    syn now n port ∷ comes now (from_server n port (flagged true true false)) ∷ comes now (to_server Tcp n port 80 (flagged false true false)) ∷ []
+
+-- ---- outcomes
+
+abbrev number : ℕ → RuleNo
+number n = record { 0 = n }
+
+abbrev made : ℕ → Outcome
+made n = outcome.New (number n)
+
+abbrev of_state : ℕ → Outcome
+of_state n = outcome.State (number n)
+
+abbrev dropped : ℕ → Limit → Outcome
+dropped n l = outcome.Drop (number n) l
+
+-- the outcomes of a run, and how many states, nodes and entries are held after it
+abbrev held_after : Machine → ℕ × ℕ × ℕ
+held_after m = (states_held m, nodes_held m, entries_held m)
+
+abbrev run_of : Conf → List Event → List Outcome × (ℕ × ℕ × ℕ)
+run_of c es = (outcomes_of c (start c) es, held_after (machine_after c (start c) es))
+
+-- ---- a node is kept for `src.track` after its last state
+
+abbrev one_source : Conf
+one_source =
+    conf 100 100 (record usual { udp = 5; track = 20; interval = 1 }) [] (rule false (of_proto Udp) (action.Keep (record no_options { scope = Some scope.Rule; max_src_nodes = Some 1 })) ∷ [])
+
+one_source_after : run_of one_source (udp 0 1 1 ∷ udp 10 2 1 ∷ udp 30 2 1 ∷ [])
+    ≡ (made 0 ∷ dropped 0 limit.MaxSrcNodes ∷ made 0 ∷ [], (1, 1, 0))
+unfolding outcomes_of machine_after step verdict matches_item table_answer
+one_source_after = refl
+
+-- ---- `max-src-conn` with `overload` and `flush`: the source is blocked, and its states of the rule are killed
+
+abbrev guarded : Option Overload → Conf
+guarded overload =
+    conf 100 100 usual (record { name = 98 ∷ []; is_const = false; entries = [] } ∷ [])
+    (rule true (record any_packet { from = record any_side { host = host.Table (record { 0 = 0 }) false } }) action.Block
+    ∷ rule false (of_proto Udp) (action.Keep no_options)
+    ∷ rule false (of_proto Tcp) (action.Keep (record no_options { scope = Some scope.Rule; max_src_conn = Some 1; overload = overload }))
+    ∷ [])
+
+abbrev two_handshakes : List Event
+two_handshakes = udp 0 1 53000 ∷ (handshake 0 1 1000 ++ (handshake 0 1 1001 ++ syn 0 1 1002 ∷ []))
+
+abbrev guarded_outcomes : ℕ → List Outcome
+guarded_outcomes killed =
+    made 1
+    ∷ made 2
+    ∷ of_state 2
+    ∷ of_state 2
+    ∷ made 2
+    ∷ of_state 2
+    ∷ outcome.Kill (number 2) true false (Some added.New) killed
+    ∷ outcome.Block (number 0)
+    ∷ []
+
+flushed_by_rule : run_of (guarded (Some (record { table = record { 0 = 0 }; flush = Some scope.Rule }))) two_handshakes
+    ≡ (guarded_outcomes 2, (1, 1, 1))
+unfolding outcomes_of machine_after step verdict matches_item table_answer covers cleared
+flushed_by_rule = refl
+
+flushed_by_source : run_of (guarded (Some (record { table = record { 0 = 0 }; flush = Some scope.Global }))) two_handshakes
+    ≡ (guarded_outcomes 3, (0, 1, 1))
+unfolding outcomes_of machine_after step verdict matches_item table_answer covers cleared
+flushed_by_source = refl
+
+-- ---- the rate of a source outlives its states
+
+abbrev rated : ℕ → ℕ → Conf
+rated most seconds =
+    conf 100 100 (record usual { closed = 0; interval = 1 }) [] (rule false (of_proto Tcp) (action.Keep (record no_options { scope = Some scope.Rule; max_src_conn_rate = Some (record { limit = most; seconds = seconds }) })) ∷ [])
+
+abbrev again : ℕ → List Event
+again now = handshake 0 1 1 ++ (reset 0 1 1 ∷ handshake now 1 2)
+
+abbrev before_again : List Outcome
+before_again = made 0 ∷ of_state 0 ∷ of_state 0 ∷ of_state 0 ∷ made 0 ∷ of_state 0 ∷ []
+
+again_soon : run_of (rated 1 4) (again 3) ≡ (before_again ++ outcome.Kill (number 0) false true None 1 ∷ [], (0, 1, 0))
+unfolding outcomes_of machine_after step verdict matches_item table_answer
+again_soon = refl
+
+again_later : run_of (rated 1 4) (again 4) ≡ (before_again ++ of_state 0 ∷ [], (1, 1, 0))
+unfolding outcomes_of machine_after step verdict matches_item table_answer
+again_later = refl
+
+again_long_after : run_of (rated 1 4) (again 5) ≡ (before_again ++ of_state 0 ∷ [], (1, 1, 0))
+unfolding outcomes_of machine_after step verdict matches_item table_answer
+again_long_after = refl
+
+-- the history of its handshakes tells the same score
+history_soon : (history_score (rated 1 4) 0 (source 1) (again 3)).value ≡ 1250
+unfolding step verdict matches_item table_answer
+history_soon = refl
+
+-- ---- a flood against rounds: what came later does not wait in the round of what came before
+
+abbrev slow : Conf
+slow = conf 6 100 (record usual { first = 4; udp = 1; interval = 5 }) [] (rule false any_packet (action.Keep no_options) ∷ [])
+
+flooded : run_of slow
+    (syn 0 1 1
+    ∷ udp 0 2 1
+    ∷ udp 0 2 2
+    ∷ udp 1 2 3
+    ∷ udp 1 2 4
+    ∷ udp 2 2 5
+    ∷ udp 2 2 6
+    ∷ udp 3 2 7
+    ∷ udp 3 2 8
+    ∷ udp 4 2 9
+    ∷ udp 4 2 10
+    ∷ udp 5 2 11
+    ∷ udp 5 2 12
+    ∷ nothing 6
+    ∷ [])
+    ≡ (
+      made 0
+          ∷ made 0
+          ∷ made 0
+          ∷ made 0
+          ∷ made 0
+          ∷ made 0
+          ∷ made 0
+          ∷ made 0
+          ∷ made 0
+          ∷ made 0
+          ∷ made 0
+          ∷ made 0
+          ∷ dropped 0 limit.States
+          ∷ outcome.Skip
+          ∷ [],
+      (4, 0, 0),
+    )
+unfolding outcomes_of machine_after step verdict matches_item table_answer
+flooded = refl
+
+-- ---- a slice of the nodes does not go on into the next round
+
+abbrev four_nodes : Conf
+four_nodes =
+    conf 100 4 (record usual { udp = 0; interval = 2 }) [] (rule false (of_proto Udp) (action.Keep (record no_options { scope = Some scope.Rule })) ∷ [])
+
+rounds_of_nodes : run_of four_nodes
+    (udp 0 1 1
+    ∷ udp 0 2 1
+    ∷ udp 0 3 1
+    ∷ udp 0 4 1
+    ∷ udp 0 5 1
+    ∷ udp 1 5 1
+    ∷ udp 1 6 1
+    ∷ udp 1 7 1
+    ∷ udp 1 8 1
+    ∷ udp 2 8 1
+    ∷ udp 2 9 1
+    ∷ [])
+    ≡ (
+      made 0
+          ∷ made 0
+          ∷ made 0
+          ∷ made 0
+          ∷ dropped 0 limit.SrcNodes
+          ∷ made 0
+          ∷ made 0
+          ∷ made 0
+          ∷ dropped 0 limit.SrcNodes
+          ∷ made 0
+          ∷ dropped 0 limit.SrcNodes
+          ∷ [],
+      (1, 4, 0),
+    )
+unfolding outcomes_of machine_after step verdict matches_item table_answer
+rounds_of_nodes = refl
+
+-- ---- a state that has expired and was not purged is matched still
+
+expired_matches : run_of (conf 100 100 (record usual { udp = 0 }) [] (rule false (of_proto Udp) (action.Keep no_options) ∷ [])) (udp 0 1 1 ∷ udp 0 1 1 ∷ [])
+    ≡ (made 0 ∷ of_state 0 ∷ [], (1, 0, 0))
+unfolding outcomes_of machine_after step verdict matches_item table_answer
+expired_matches = refl

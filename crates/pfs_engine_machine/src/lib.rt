@@ -1,0 +1,6 @@
+//! The machine over plain lists: what comes, what one event does, and a run of events, as definitions and their laws.
+#![tactic(auto)]
+
+mod events;
+
+pub use events::{Event, Outcome, What};
