@@ -3,6 +3,7 @@
 
 mod engine;
 mod handshakes;
+pub mod laws;
 mod packets;
 mod purges;
 #[cfg(test)]

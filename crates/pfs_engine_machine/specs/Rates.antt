@@ -52,7 +52,11 @@ folded seconds score (t ∷ ts) = folded seconds (score_after seconds score t) t
 abbrev pub is_from : ℕ → Addr → Handshake → Bool
 is_from rule source h = (h.rule == rule) && same_addr h.source source
 
+-- when those of a rule's states of a source completed
+abbrev pub moments_of : ℕ → Addr → List Handshake → List ℕ
+moments_of rule source all = map (λ (h : Handshake). h.moment) (filter (is_from rule source) all)
+
 -- the score of a rule and a source after these events, from all handshakes of that rule's states of that source
 abbrev pub history_score : Conf → ℕ → Addr → List Event → Score
 history_score conf rule source events =
-    folded (rate_seconds (options_of conf rule).max_src_conn_rate) zero_score (map (λ (h : Handshake). h.moment) (filter (is_from rule source) (handshakes conf (start conf) events)))
+    folded (rate_seconds (options_of conf rule).max_src_conn_rate) zero_score (moments_of rule source (handshakes conf (start conf) events))

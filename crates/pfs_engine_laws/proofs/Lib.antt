@@ -1,0 +1,12 @@
+mod Changes
+mod Hearing
+mod Histories
+mod Lists
+mod Numbers
+mod Remembering
+mod Rounds
+mod Runs
+mod Small
+mod Staling
+mod Untouched
+mod Within

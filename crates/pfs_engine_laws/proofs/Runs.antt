@@ -1,0 +1,32 @@
+-- A run of events is the run of its acts.
+use Rattle.std.proofs.Common.{◌≡◌, ℕ, List, [], ◌∷◌, ◌++◌, map, refl, sym, ◌∙◌}
+use Rattle.pfs_conf_rules.specs.Configs.{Conf}
+use Rattle.pfs_store_plain.specs.Purging.{purge}
+use Rattle.pfs_engine_machine.specs.Machine.{Held, Machine, acted, advanced, due, held_of, purged, step}
+use Rattle.pfs_engine_machine.specs.Runs.{machine_after}
+use Rattle.pfs_engine_machine.specs.declared.events.Event.{Event}
+use Rattle.pfs_engine_machine.specs.declared.events.What.{What}
+use Rattle.pfs_engine_machine.specs.declared.events.What.TheVariants as what
+use Rattle.pfs_engine_laws.specs.Acts.{Act, Purge, acts_of, arrivals, done, done_all}
+use Rattle.std.proofs.Common.{Some}
+
+pub done_all-append : (conf : Conf) (h : Held) (xs ys : List Act) → done_all conf h (xs ++ ys) ≡ done_all conf (done_all conf h xs) ys
+done_all-append conf h [] ys = refl
+done_all-append conf h (x ∷ xs) ys = done_all-append conf (done conf h x) xs ys
+
+purges-done : (conf : Conf) (h : Held) (ss : List ℕ) (rest : List Act)
+    → done_all conf h (map (λ s. Purge s) ss ++ rest) ≡ done_all conf (held_of (purged conf h.world ss) h.tables) rest
+purges-done conf h [] rest = refl
+purges-done conf h (s ∷ ss) rest = purges-done conf (held_of (purge conf h.world s) h.tables) ss rest
+
+arrivals-done : (conf : Conf) (h : Held) (now : ℕ) (what : What) (rest : List Act)
+    → done_all conf h (arrivals now what ++ rest) ≡ done_all conf (acted conf h now what).1 rest
+arrivals-done conf h now what.Skip rest = refl
+arrivals-done conf h now (what.Packet p) rest = refl
+
+pub acts-done : (conf : Conf) (m : Machine) (es : List Event) → (machine_after conf m es).held ≡ done_all conf m.held (acts_of m.last es)
+unfolding machine_after step
+acts-done conf m [] = refl
+acts-done conf m (e ∷ es) =
+    acts-done conf (step conf m e).1 es
+    ∙ sym (purges-done conf m.held (due m.last e.time) (arrivals e.time e.what ++ acts_of (Some e.time) es) ∙ arrivals-done conf (advanced conf m e.time).held e.time e.what (acts_of (Some e.time) es))

@@ -1,0 +1,5 @@
+use Rattle.pfs_engine_laws.proofs.Within.{stays-within}
+use Rattle.pfs_engine_laws.proofs.staying.within_limits.Goals as goal
+
+pub returns : goal.returns
+returns c = stays-within c.args.config.now c.args.events.now c.limit-limit.ensures.sound c.requires.order

@@ -1,0 +1,47 @@
+-- A run as the single things that happen in it, one after another. (own)
+use Rattle.std.specs.Prelude.{◌≡◌, ℕ, suc, Option, Some, None, List, [], ◌∷◌, ◌++◌, map}
+use Rattle.pfs_addr.specs.Packets.{Header}
+use Rattle.pfs_conf_rules.specs.Configs.{Conf}
+use Rattle.pfs_store_plain.specs.Purging.{purge}
+use Rattle.pfs_engine_machine.specs.Kept.{IsWithinLimits}
+use Rattle.pfs_engine_machine.specs.Machine.{Held, answered, due, held_of, start}
+use Rattle.pfs_engine_machine.specs.declared.events.Event.{Event}
+use Rattle.pfs_engine_machine.specs.declared.events.What.{What}
+use Rattle.pfs_engine_machine.specs.declared.events.What.TheVariants as what
+
+-- the purge of a second, or a packet that arrives at a moment
+pub data Act : Type 0 where
+  Purge : ℕ → Act
+  Arrive : ℕ → Header → Act
+
+abbrev pub arrivals : ℕ → What → List Act
+arrivals now what.Skip = []
+arrivals now (what.Packet p) = Arrive now p ∷ []
+
+-- what these events make a run do, from its last moment on: before each event the purges due
+abbrev pub acts_of : Option ℕ → List Event → List Act
+acts_of last [] = []
+acts_of last (e ∷ es) = map (λ s. Purge s) (due last e.time) ++ (arrivals e.time e.what ++ acts_of (Some e.time) es)
+
+-- what is held after one of them, after all of them, and after the first of a run
+abbrev pub done : Conf → Held → Act → Held
+done conf h (Purge s) = held_of (purge conf h.world s) h.tables
+done conf h (Arrive now p) = (answered conf h p now).1
+
+abbrev pub done_all : Conf → Held → List Act → Held
+done_all conf h [] = h
+done_all conf h (a ∷ acts) = done_all conf (done conf h a) acts
+
+abbrev pub after : Conf → List Act → Held
+after conf acts = done_all conf (start conf).held acts
+
+-- how many purges are among them
+abbrev pub purges : List Act → ℕ
+purges [] = 0
+purges (Purge s ∷ acts) = suc (purges acts)
+purges (Arrive now p ∷ acts) = purges acts
+
+-- after each purge and each packet of a run, what is held is within the limits
+abbrev pub StaysWithinLimits : Conf → List Event → Type 0
+StaysWithinLimits conf events =
+    (earlier later : List Act) → acts_of None events ≡ earlier ++ later → IsWithinLimits conf (after conf earlier)
