@@ -2,7 +2,5 @@
 #![tactic(auto)]
 
 mod events;
-mod limits;
 
 pub use events::{Event, Outcome, What};
-pub use limits::stays_within_limits;
