@@ -1,4 +1,4 @@
-# Addresses and prefixes of IPv4, and numbers, for the tools. No function here reads or prints.
+# Addresses, prefixes and numbers, for the tools. No function here reads or prints.
 
 # The value of a number of decimal digits, at most `most`; -1 for any other text.
 function number_of(text, most) {
@@ -46,8 +46,62 @@ function prefix_start(text,    part, size, value) {
     return value - value % size
 }
 
+# The 32 hexadecimal digits of an IPv6 address; nothing for a text that is none. A dotted tail is not read.
+function address6_of(text,    half, halves, part, i, count, front, back) {
+    text = tolower(text)
+    if (text !~ /^[0-9a-f:]+$/ || text !~ /:/) return ""
+    halves = split(text, half, "::")
+    if (halves > 2) return ""
+    front = groups_of(half[1])
+    back = halves == 2 ? groups_of(half[2]) : ""
+    if (front == "?" || back == "?") return ""
+    count = length(front back)
+    if (halves == 1 ? count != 32 : count > 28) return ""
+    for (i = count; i < 32; i++) front = front "0"
+    return front back
+}
+
+# Groups of up to four digits between colons, each filled up to four; `?` for what is none.
+function groups_of(text,    part, count, i, digits) {
+    digits = ""
+    count = split(text, part, ":")
+    for (i = 1; i <= count; i++) {
+        if (length(part[i]) < 1 || length(part[i]) > 4) return "?"
+        digits = digits substr("000" part[i], length(part[i]))
+    }
+    return digits
+}
+
+# The first `bits` of hexadecimal digits, the last of them shortened to those that count.
+function first_bits(digits, bits,    whole, rest, value) {
+    whole = int(bits / 4)
+    rest = bits % 4
+    if (rest == 0) return substr(digits, 1, whole)
+    value = index("0123456789abcdef", substr(digits, whole + 1, 1)) - 1
+    for (; rest < 4; rest++) value = int(value / 2)
+    return substr(digits, 1, whole) "." value
+}
+
+# Reads a prefix of IPv6 into `prefixes`; whether it is one.
+function read_prefix6(text, prefixes,    part, count, digits, bits) {
+    count = split(text, part, "/")
+    digits = address6_of(part[1])
+    bits = count == 1 ? 128 : part[2]
+    if (count > 2 || digits == "" || number_of(bits, 128) < 0) return 0
+    prefixes["count6"]++
+    prefixes["bits", prefixes["count6"]] = bits + 0
+    prefixes["first", prefixes["count6"]] = first_bits(digits, bits + 0)
+    return 1
+}
+
 # Whether the address is one of the prefixes that `read_prefixes` gave.
 function is_covered(text, prefixes,    value, i) {
+    if (index(text, ":") > 0) {
+        value = address6_of(text)
+        for (i = 1; i <= prefixes["count6"]; i++)
+            if (first_bits(value, prefixes["bits", i]) == prefixes["first", i] "") return 1
+        return 0
+    }
     value = address_of(text)
     for (i = 1; i <= prefixes["count"]; i++)
         if (value >= prefixes["start", i] && value < prefixes["end", i]) return 1
@@ -58,8 +112,9 @@ function is_covered(text, prefixes,    value, i) {
 function read_prefixes(text, prefixes,    part, count, i) {
     count = split(text, part, /[ ,]+/)
     prefixes["count"] = 0
+    prefixes["count6"] = 0
     for (i = 1; i <= count; i++) {
-        if (part[i] == "") continue
+        if (part[i] == "" || read_prefix6(part[i], prefixes)) continue
         if (prefix_size(part[i]) == 0) return part[i]
         prefixes["count"]++
         prefixes["start", prefixes["count"]] = prefix_start(part[i])

@@ -189,6 +189,7 @@ BEGIN {
     split_tokens($0)
     if (skipping > 0) skip_body()
     else if (token[1] == "set") read_set()
+    else if (token[1] == "table" && depth > 0) leave_out(text_from(1, tokens), "+a table inside an anchor is not read")
     else if (token[1] == "table") read_table()
     else read_item()
 }

@@ -259,12 +259,19 @@ function keeps_option(first, last, is_global,    name) {
     return 0
 }
 
+# What a rule can ask of a packet and no trace tells.
+function is_beyond_trace(word) {
+    return word ~ /^(user|group|tagged|received-on|os|tos|rdomain|prio|fragment)$/
+}
+
 # Everything that ./pfsrc does not read.
 function read_other(word,    last) {
     last = token[at + 1] == "(" ? closing(at + 1) : at + 1
     if (word == "inet6") gone = "-no record has an IPv6 address"
     else if (word ~ /^(icmp-type|icmp6-type)$/) gone = "-ICMP is answered by skip"
-    else if (word ~ /^(user|group|tagged|received-on|probability|os|tos|rdomain|prio|fragment|max-pkt-rate)$/ || word == "!" && token[at + 1] == "tagged") gone = "+a trace does not carry what it asks (" word ")"
+    else if (word == "max-pkt-rate") gone = "+it counts packets, not states"
+    else if (word == "probability") gone = "+it matches by chance"
+    else if (is_beyond_trace(word) || word == "!" && is_beyond_trace(token[at + 1])) gone = "+a trace does not carry what it asks (" (word == "!" ? token[at + 1] : word) ")"
     else if (word ~ /^(label|tag|queue)$/) drop_part(at, last, word == "tag" ? "-the rules that ask for the tag are told by themselves" : "-it neither passes nor blocks")
     else if (word == "set") drop_part(at, token[at + 1] == "(" ? last : at + 2, "-it orders or marks packets that pass")
     else if (word == "allow-opts") drop_part(at, at, "-a trace does not carry IP options")

@@ -25,31 +25,42 @@ function flags_of(text,    value, i, bit, letters) {
 }
 
 # A line of tshark: the fields that `trace --call` asks for, split by tabs.
-function read_fields(line,    part) {
-    if (split(line, part, "\t") != 15) refuse("not the 15 fields of trace --call")
+function read_fields(line,    part, number) {
+    if (split(line, part, "\t") != 18) refuse("not the 18 fields of trace --call")
     if (part[1] !~ /^[0-9]+(\.[0-9]+)?$/) refuse("the moment is no number: '" substr(part[1], 1, 40) "'")
     packet["time"] = part[1]
-    if (part[2] == "") return part[11] != "" ? "IPv6" : "not IP"
-    if (address_of(part[2]) < 0 || address_of(part[3]) < 0) refuse("no address")
-    if (number_of(part[4], 255) < 0) refuse("no protocol")
-    if (part[5] != "" && part[5] + 0 > 0) return "later fragment"
-    packet["source"] = part[2]
-    packet["target"] = part[3]
-    packet["protocol"] = part[4] == 6 ? "tcp" : part[4] == 17 ? "udp" : part[4] == 1 ? "icmp" : part[4] + 0
-    if (part[4] == 6) {
+    if (part[2] == "" && part[11] == "") return "not IP"
+    if (part[2] == "" && !inet6) return "IPv6"
+    packet["source"] = part[2] != "" ? part[2] : part[11]
+    packet["target"] = part[2] != "" ? part[3] : part[12]
+    number = part[2] != "" ? part[4] : part[13]
+    if (!is_address(packet["source"]) || !is_address(packet["target"])) refuse("no address")
+    if (number_of(number, 255) < 0) refuse("no protocol")
+    if (part[5] + 0 > 0 || part[14] + 0 > 0) return "later fragment"
+    if (part[2] == "" && number ~ /^(0|43|44|60)$/) number = part[8] != "" ? 6 : part[9] != "" ? 17 : number
+    packet["protocol"] = name_of_protocol(number)
+    if (number == 6) {
         packet["source_port"] = part[6]
         packet["target_port"] = part[7]
         if (part[8] !~ /^0x[0-9a-fA-F]+$/) return "cut before its ports or flags"
         packet["flags"] = flags_of(part[8])
-    } else if (part[4] == 17) {
+    } else if (number == 17) {
         packet["source_port"] = part[9]
         packet["target_port"] = part[10]
     }
-    packet["direction"] = part[12] == "1" || part[12] == "in" ? "in" : part[12] == "2" || part[12] == "out" ? "out" : ""
-    packet["interface"] = part[13]
-    packet["action"] = part[14] == "0" ? "pass" : part[14] == "1" ? "block" : part[14]
-    packet["rule"] = part[15]
+    packet["direction"] = part[15] == "1" || part[15] == "in" ? "in" : part[15] == "2" || part[15] == "out" ? "out" : ""
+    packet["interface"] = part[16]
+    packet["action"] = part[17] == "0" ? "pass" : part[17] == "1" ? "block" : part[17]
+    packet["rule"] = part[18]
     return ""
+}
+
+function is_address(text) {
+    return address_of(text) >= 0 || address6_of(text) != ""
+}
+
+function name_of_protocol(number) {
+    return number == 6 ? "tcp" : number == 17 ? "udp" : number == 1 ? "icmp" : number == 58 ? "icmp6" : number + 0
 }
 
 # The direction by the addresses, where the line does not tell it.
@@ -70,7 +81,7 @@ function leave_out(why) {
 function make_record(    ports, moment, name) {
     ports = packet["protocol"] == "tcp" || packet["protocol"] == "udp"
     if (ports && (number_of(packet["source_port"], 65535) < 0 || number_of(packet["target_port"], 65535) < 0)) return leave_out("cut before its ports or flags")
-    if (prefixes["count"] > 0) packet["direction"] = direction_of(packet["source"], packet["target"])
+    if (prefixes["count"] + prefixes["count6"] > 0) packet["direction"] = direction_of(packet["source"], packet["target"])
     else if (packet["direction"] == "") refuse("which way the packet goes is not told here: --inside is wanted")
     if (packet["direction"] == "") return leave_out("neither in nor out by --inside")
     moment = int(packet["time"])

@@ -1,28 +1,37 @@
 # Reads a line of `tcpdump -nn -tt`, of libpcap's tcpdump or of OpenBSD's, plain or of pflog (-e).
 
-# Lines that go on with the packet above: tcpdump begins them with space.
+# Lines that go on with the packet above: tcpdump begins them with space, or with the packet that is inside a tunnel.
 function is_continuation(line) {
-    return line ~ /^[ \t]/
+    return packets > 0 && line ~ /^([ \t]|[0-9a-f][0-9a-f]:[0-9a-f][0-9a-f]:[0-9a-f:]* > |IP6? |ARP,)/
 }
 
-function read_tcpdump(line,    rest, pair, place) {
+function read_tcpdump(line,    rest, place) {
     if (line !~ /^[0-9]+\.[0-9]+ /) refuse("no line of tcpdump -nn -tt, which begins with a moment as 1700000000.123456")
     packet["time"] = substr(line, 1, index(line, " ") - 1)
-    if (packet["time"] + 0 < 86400 && line ~ /^[0-9]+:/) refuse("the moment is a time of day; tcpdump -tt is wanted")
     rest = read_pflog(substr(line, index(line, " ") + 1))
     rest = read_interface(rest)
     if (packet["direction"] == "other") return "no packet of this machine"
-    if (!match(rest, /[0-9]+\.[0-9]+\.[0-9]+\.[0-9]+(\.[0-9]+)? > [0-9]+\.[0-9]+\.[0-9]+\.[0-9]+(\.[0-9]+)?:/) || is_ipv6(rest, RSTART))
-        return is_ipv6(rest, 0) ? "IPv6" : "not IP"
-    if (substr(rest, 1, RSTART - 1) ~ /(ARP|arp|who-has|IP6|ip6) ?/) return "not IP"
-    pair = substr(rest, RSTART, RLENGTH - 1)
-    rest = substr(rest, RSTART + RLENGTH)
+    rest = behind_link(rest)
+    if (match(rest, /^[0-9a-f]*:[0-9a-f]*:[0-9a-f:.]* > [0-9a-f]*:[0-9a-f:.]*: /)) {
+        if (!inet6) return "IPv6"
+    }
+    else if (!match(rest, /^[0-9]+\.[0-9]+\.[0-9]+\.[0-9]+(\.[0-9]+)? > [0-9]+\.[0-9]+\.[0-9]+\.[0-9]+(\.[0-9]+)?: /)) return "not IP"
+    place = index(rest, " > ")
+    take_end("source", substr(rest, 1, place - 1))
+    take_end("target", substr(rest, place + 3, RLENGTH - place - 4))
+    if (!is_address(packet["source"]) || !is_address(packet["target"])) refuse("no address")
+    rest = substr(rest, RLENGTH + 1)
     sub(/^ +/, "", rest)
-    place = index(pair, " > ")
-    take_end("source", substr(pair, 1, place - 1))
-    take_end("target", substr(pair, place + 3))
-    if (address_of(packet["source"]) < 0 || address_of(packet["target"]) < 0) refuse("no address")
     return read_protocol(rest)
+}
+
+# The line from its addresses on, without what tcpdump says of the link (-e) and of a packet that is cut.
+function behind_link(rest) {
+    sub(/^.*ethertype IPv[46] \(0x[0-9a-f]+\), (length [0-9]+: )?/, "", rest)
+    sub(/^AF IPv[46] \([0-9]+\), length [0-9]+: /, "", rest)
+    sub(/^(IP|IP6|ip6) /, "", rest)
+    sub(/^truncated-ip6? - [0-9]+ bytes missing! ?/, "", rest)
+    return rest
 }
 
 # `rule 2/0(match): block in on em0: ..` of a pflog.
@@ -44,7 +53,7 @@ function read_pflog(rest,    head, part) {
 
 # `em0   In  IP ..` of a capture on all interfaces.
 function read_interface(rest,    part, word) {
-    if (rest !~ /^[A-Za-z0-9_.-]+ +(In|Out|B|M|P) +(IP6?|ARP|ethertype|[A-Z])/) return rest
+    if (rest !~ /^[A-Za-z0-9_.-]+ +(In|Out|B|M|P) +(ifindex|ethertype|[A-Z])/) return rest
     split(rest, part, " ")
     packet["interface"] = part[1]
     word = part[2]
@@ -53,16 +62,11 @@ function read_interface(rest,    part, word) {
     return rest
 }
 
-# Whether a packet of IPv6 is told before the given place of the line, or anywhere where it is 0.
-function is_ipv6(rest, before) {
-    if (before > 0) rest = substr(rest, 1, before - 1)
-    return rest ~ /(^| )(IP6|ip6) / || rest ~ /ethertype IPv6/ || before == 0 && rest ~ /^[0-9a-f]*:[0-9a-f:.]* > [0-9a-f:.]+: /
-}
-
-# An address with or without a port behind a fifth dot.
-function take_end(name, text,    part) {
-    if (split(text, part, ".") == 5) {
-        packet[name "_port"] = part[5]
+# An address with or without a port: behind a fifth dot, or the one dot of an IPv6 address.
+function take_end(name, text,    part, count) {
+    count = split(text, part, ".")
+    if (index(text, ":") > 0 ? count == 2 : count == 5) {
+        packet[name "_port"] = part[count]
         sub(/\.[0-9]+$/, "", text)
     }
     packet[name] = text
@@ -71,9 +75,12 @@ function take_end(name, text,    part) {
 # The protocol by what tcpdump says of the packet; its name in a trace.
 function read_protocol(rest,    word, number) {
     if (rest ~ /^\(frag [0-9]+:[0-9]+@[0-9]+/ && rest !~ /^\(frag [0-9]+:[0-9]+@0[+)]/) return "later fragment"
+    sub(/^(HBH|DSTOPT|RT6?) +/, "", rest)
+    if (rest ~ /^frag \([1-9]/) return "later fragment"
     word = tolower(rest)
     if ("source_port" in packet && "target_port" in packet) return read_ports(rest)
-    if (word ~ /^icmp/) packet["protocol"] = "icmp"
+    if (word ~ /^icmp6/ || index(packet["source"], ":") > 0 && word ~ /^icmp/) packet["protocol"] = "icmp6"
+    else if (word ~ /^icmp/) packet["protocol"] = "icmp"
     else if (match(word, /^ip-proto-[0-9]+/)) {
         number = substr(word, 10, RLENGTH - 9) + 0
         if (number == 6 || number == 17) return "later fragment"

@@ -154,6 +154,7 @@ further items w i line l n b r q e f g = by b (r && q) e (ap (λ k. k && is_quic
     ahead : (c : Bool) → (is_rule i.what && is_quick i.what) ≡ c → w.place < line.next
     ahead true k = let out : line.next ≡ length items = l.next ∙ cond-true _ _ _ k in omega (arith, out)
     ahead false k = let on : line.next ≡ w.place + 1 = l.next ∙ cond-false _ _ _ k in omega (arith, on)
+
     by : (b c : Bool) → line.is_rule ≡ b → (is_rule i.what && is_quick i.what) ≡ c → w.place < (walk_after w line None).place
     by true c h k = rw h (ahead c k)
     by false c h k = rw h (ahead c k)

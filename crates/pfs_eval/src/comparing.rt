@@ -52,12 +52,7 @@ impl Asked {
 
     /// Visits: compares what is asked with a packet. The answer is the first parameter that does not hold of the packet, or
     /// `None` where each that is given holds, so that the item matches. (pf.conf(5), PARAMETERS)
-    pub fn failing(
-        &self,
-        tables: &Tables,
-        packet: &Packet,
-        visits: &mut Meter,
-    ) -> Option<Parameter>
+    pub fn failing(&self, tables: &Tables, packet: &Packet, visits: &mut Meter) -> Option<Parameter>
         requires { visits.old < 2 ^ 64 - 1 }
         ensures answer { MatchOption result (filter_holds tables.now.entries packet.now self.now.filter ≡ true) (λ k. holds_at tables.now.entries packet.now k self.now.filter ≡ false) }
         ensures visit { visits.new ≡ visits.old + 1 }
@@ -192,10 +187,8 @@ fn same_test(one: FlagTest, two: FlagTest) -> bool
 {
     match (one, two) {
         (FlagTest::Any, FlagTest::Any) => true,
-        (
-            FlagTest::Exactly { set: a, among: b },
-            FlagTest::Exactly { set: c, among: d },
-        ) => same_flags(a, c) && same_flags(b, d),
+        (FlagTest::Exactly { set: a, among: b }, FlagTest::Exactly { set: c, among: d }) =>
+            same_flags(a, c) && same_flags(b, d),
         _ => false,
     }
 }

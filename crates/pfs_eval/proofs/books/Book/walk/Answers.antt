@@ -16,10 +16,10 @@ loop-walk-smaller c =
     let are : AreLines items lines = subst (AreLines items) (sym c.as_slice-lines.ensures.value) c.self.invariant in
     let within : c.loop-walk.walk.place < length lines = omega arith in
     let v = visit c.args.tables.now.entries c.args.packet.now c.args.self.now lines c.loop-walk.walk c.on-walk.result _ c.index-lines-walk-in-loop-walk.result c.failing-failed.result c.loop-walk.meter c.failing-failed.new.visits c.args.meter.now
-        (subst (λ is. AreLines is lines) c.self.view_is are)
-        (slice_get-get_or lines c.loop-walk.walk.place _ within)
-        (slice_get_read lines _ c.loop-walk.walk.place _ refl within c.index-lines-walk-in-loop-walk.is)
-        c.if-walk-lines.true c.failing-failed.ensures.answer c.on-walk.ensures c.failing-failed.ensures.visit c.loop-walk.invariant.left in
+    (subst (λ is. AreLines is lines) c.self.view_is are)
+    (slice_get-get_or lines c.loop-walk.walk.place _ within)
+    (slice_get_read lines _ c.loop-walk.walk.place _ refl within c.index-lines-walk-in-loop-walk.is)
+    c.if-walk-lines.true c.failing-failed.ensures.answer c.on-walk.ensures c.failing-failed.ensures.visit c.loop-walk.invariant.left in
     omega (arith, v.forward)
 
 pub loop-walk-preserved : goal.loop-walk-preserved
@@ -29,10 +29,10 @@ loop-walk-preserved c =
     let are : AreLines items lines = subst (AreLines items) (sym c.as_slice-lines.ensures.value) c.self.invariant in
     let within : c.loop-walk.walk.place < length lines = omega arith in
     let v = visit c.args.tables.now.entries c.args.packet.now c.args.self.now lines c.loop-walk.walk c.on-walk.result _ c.index-lines-walk-in-loop-walk.result c.failing-failed.result c.loop-walk.meter c.failing-failed.new.visits c.args.meter.now
-        (subst (λ is. AreLines is lines) c.self.view_is are)
-        (slice_get-get_or lines c.loop-walk.walk.place _ within)
-        (slice_get_read lines _ c.loop-walk.walk.place _ refl within c.index-lines-walk-in-loop-walk.is)
-        c.if-walk-lines.true c.failing-failed.ensures.answer c.on-walk.ensures c.failing-failed.ensures.visit c.loop-walk.invariant.left in
+    (subst (λ is. AreLines is lines) c.self.view_is are)
+    (slice_get-get_or lines c.loop-walk.walk.place _ within)
+    (slice_get_read lines _ c.loop-walk.walk.place _ refl within c.index-lines-walk-in-loop-walk.is)
+    c.if-walk-lines.true c.failing-failed.ensures.answer c.on-walk.ensures c.failing-failed.ensures.visit c.loop-walk.invariant.left in
     record { left = v.left; few = omega (arith, v.forward) }
 
 pub returns-else-walk-lines-clause-verdict : goal.returns-else-walk-lines-clause-verdict
@@ -42,7 +42,7 @@ returns-else-walk-lines-clause-verdict c =
     let are : AreLines items lines = subst (AreLines items) (sym c.as_slice-lines.ensures.value) c.self.invariant in
     let within : c.loop-walk.walk.place < length lines = omega arith in
     let k = walk_end (matches_item c.args.tables.now.entries c.args.packet.now) c.args.self.now lines c.args.self.now c.loop-walk.walk c.loop-walk.meter c.args.meter.now
-        (subst (λ is. AreLines is lines) c.self.view_is are) refl (inr (_, slice_get-get_or lines c.loop-walk.walk.place _ within, c.if-walk-lines.false)) c.loop-walk.invariant.left in
+    (subst (λ is. AreLines is lines) c.self.view_is are) refl (inr (_, slice_get-get_or lines c.loop-walk.walk.place _ within, c.if-walk-lines.false)) c.loop-walk.invariant.left in
     k.verdict
 
 pub returns-after-loop-walk-clause-verdict : goal.returns-after-loop-walk-clause-verdict
@@ -51,7 +51,7 @@ returns-after-loop-walk-clause-verdict c =
     let items = c.self.inside.items.items in
     let are : AreLines items lines = subst (AreLines items) (sym c.as_slice-lines.ensures.value) c.self.invariant in
     let k = walk_end (matches_item c.args.tables.now.entries c.args.packet.now) c.args.self.now lines c.args.self.now c.loop-walk.walk c.loop-walk.meter c.args.meter.now
-        (subst (λ is. AreLines is lines) c.self.view_is are) refl (inl c.loop-walk-test.false) c.loop-walk.invariant.left in
+    (subst (λ is. AreLines is lines) c.self.view_is are) refl (inl c.loop-walk-test.false) c.loop-walk.invariant.left in
     k.verdict
 
 pub returns-else-walk-lines-clause-least : goal.returns-else-walk-lines-clause-least
@@ -61,7 +61,7 @@ returns-else-walk-lines-clause-least c =
     let are : AreLines items lines = subst (AreLines items) (sym c.as_slice-lines.ensures.value) c.self.invariant in
     let within : c.loop-walk.walk.place < length lines = omega arith in
     let k = walk_end (matches_item c.args.tables.now.entries c.args.packet.now) c.args.self.now lines c.args.self.now c.loop-walk.walk c.loop-walk.meter c.args.meter.now
-        (subst (λ is. AreLines is lines) c.self.view_is are) refl (inr (_, slice_get-get_or lines c.loop-walk.walk.place _ within, c.if-walk-lines.false)) c.loop-walk.invariant.left in
+    (subst (λ is. AreLines is lines) c.self.view_is are) refl (inr (_, slice_get-get_or lines c.loop-walk.walk.place _ within, c.if-walk-lines.false)) c.loop-walk.invariant.left in
     k.least
 
 pub returns-after-loop-walk-clause-least : goal.returns-after-loop-walk-clause-least
@@ -70,7 +70,7 @@ returns-after-loop-walk-clause-least c =
     let items = c.self.inside.items.items in
     let are : AreLines items lines = subst (AreLines items) (sym c.as_slice-lines.ensures.value) c.self.invariant in
     let k = walk_end (matches_item c.args.tables.now.entries c.args.packet.now) c.args.self.now lines c.args.self.now c.loop-walk.walk c.loop-walk.meter c.args.meter.now
-        (subst (λ is. AreLines is lines) c.self.view_is are) refl (inl c.loop-walk-test.false) c.loop-walk.invariant.left in
+    (subst (λ is. AreLines is lines) c.self.view_is are) refl (inl c.loop-walk-test.false) c.loop-walk.invariant.left in
     k.least
 
 pub returns-else-walk-lines-clause-most : goal.returns-else-walk-lines-clause-most
@@ -80,7 +80,7 @@ returns-else-walk-lines-clause-most c =
     let are : AreLines items lines = subst (AreLines items) (sym c.as_slice-lines.ensures.value) c.self.invariant in
     let within : c.loop-walk.walk.place < length lines = omega arith in
     let k = walk_end (matches_item c.args.tables.now.entries c.args.packet.now) c.args.self.now lines c.args.self.now c.loop-walk.walk c.loop-walk.meter c.args.meter.now
-        (subst (λ is. AreLines is lines) c.self.view_is are) refl (inr (_, slice_get-get_or lines c.loop-walk.walk.place _ within, c.if-walk-lines.false)) c.loop-walk.invariant.left in
+    (subst (λ is. AreLines is lines) c.self.view_is are) refl (inr (_, slice_get-get_or lines c.loop-walk.walk.place _ within, c.if-walk-lines.false)) c.loop-walk.invariant.left in
     k.most
 
 pub returns-after-loop-walk-clause-most : goal.returns-after-loop-walk-clause-most
@@ -89,5 +89,5 @@ returns-after-loop-walk-clause-most c =
     let items = c.self.inside.items.items in
     let are : AreLines items lines = subst (AreLines items) (sym c.as_slice-lines.ensures.value) c.self.invariant in
     let k = walk_end (matches_item c.args.tables.now.entries c.args.packet.now) c.args.self.now lines c.args.self.now c.loop-walk.walk c.loop-walk.meter c.args.meter.now
-        (subst (λ is. AreLines is lines) c.self.view_is are) refl (inl c.loop-walk-test.false) c.loop-walk.invariant.left in
+    (subst (λ is. AreLines is lines) c.self.view_is are) refl (inl c.loop-walk-test.false) c.loop-walk.invariant.left in
     k.most

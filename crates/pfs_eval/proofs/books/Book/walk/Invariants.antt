@@ -1,5 +1,4 @@
 use Rattle.std.proofs.Common.{length, ◌-◌, ◌+◌, ◌≤◌}
-
 use Rattle.pfs_eval.specs.Matching.{matches_item}
 use Rattle.pfs_eval.proofs.Visiting.{IsLeft}
 use Rattle.pfs_eval.proofs.books.Book.walk.Given as goal
