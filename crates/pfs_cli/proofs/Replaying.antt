@@ -36,29 +36,29 @@ first-lines-begin conf trace text (k, e) =
     (rest, ap (λ (es : List Event). report conf (es, trace.1)) (sym whole) ∙ (begins ∙ ap (λ (t : List ℕ). t ++ rest) (sym e)))
 
 -- a faulty trace leaves its report
-pub run-fault : (conf : Conf) (rs ts t : List ℕ) (f : TraceFault) → Reads rs conf → Tells conf (trace_of ts) t (Err (stop.Fault f)) → Replays rs ts t (Err (replay_fault f))
+pub run-fault : (conf : Conf) (rs ts t : List ℕ) (f : TraceFault) → Reads rs conf → Tells conf (trace_of conf ts) t (Err (stop.Fault f)) → Replays rs ts t (Err (replay_fault f))
 run-fault conf rs ts t (trace.Columns row) reads told = (conf, reads, told.0, told.1)
 run-fault conf rs ts t (trace.Field row column) reads told = (conf, reads, told.0, told.1)
 run-fault conf rs ts t (trace.TimeFell row) reads told = (conf, reads, told.0, told.1)
 run-fault conf rs ts t trace.TooManyRows reads told = (conf, reads, told.0, told.1)
 
 -- a trace that is not read to its end leaves the lines of its first records
-pub run-cut : (conf : Conf) (rs ts t : List ℕ) (f : ReplayFault) → IsFeedFault f → Reads rs conf → AreFirstLines conf (trace_of ts) t → Replays rs ts t (Err f)
+pub run-cut : (conf : Conf) (rs ts t : List ℕ) (f : ReplayFault) → IsFeedFault f → Reads rs conf → AreFirstLines conf (trace_of conf ts) t → Replays rs ts t (Err f)
 run-cut conf rs ts t f kind reads lines = elim kind [
-  | inl e ↦ rw e (inr (conf, reads, lines, first-lines-begin conf (trace_of ts) t lines))
+  | inl e ↦ rw e (inr (conf, reads, lines, first-lines-begin conf (trace_of conf ts) t lines))
   | inr m ↦ elim m [
-    | inl e ↦ rw e (inr (conf, reads, lines, first-lines-begin conf (trace_of ts) t lines))
-    | inr e ↦ rw e (inr (conf, reads, lines, first-lines-begin conf (trace_of ts) t lines))
+    | inl e ↦ rw e (inr (conf, reads, lines, first-lines-begin conf (trace_of conf ts) t lines))
+    | inr e ↦ rw e (inr (conf, reads, lines, first-lines-begin conf (trace_of conf ts) t lines))
   ]
 ]
 
-pub run-write : (conf : Conf) (rs ts t : List ℕ) → Reads rs conf → BeginsReport conf (trace_of ts) t → Replays rs ts t (Err fault.Write)
+pub run-write : (conf : Conf) (rs ts t : List ℕ) → Reads rs conf → BeginsReport conf (trace_of conf ts) t → Replays rs ts t (Err fault.Write)
 run-write conf rs ts t reads front = (conf, reads, front)
 
-pub run-done : (conf : Conf) (rs ts t : List ℕ) → Reads rs conf → Tells conf (trace_of ts) t (Ok tt) → Replays rs ts t (Ok tt)
+pub run-done : (conf : Conf) (rs ts t : List ℕ) → Reads rs conf → Tells conf (trace_of conf ts) t (Ok tt) → Replays rs ts t (Ok tt)
 run-done conf rs ts t reads told = (conf, reads, told.0, told.1)
 
-pub run-unflushed : (conf : Conf) (rs ts t : List ℕ) → Reads rs conf → Tells conf (trace_of ts) t (Ok tt) → Replays rs ts t (Err fault.Write)
+pub run-unflushed : (conf : Conf) (rs ts t : List ℕ) → Reads rs conf → Tells conf (trace_of conf ts) t (Ok tt) → Replays rs ts t (Err fault.Write)
 run-unflushed conf rs ts t reads told = (conf, reads, ([], sym (append-nil t ∙ told.1)))
 
 -- a feed of rules that gives no more leaves nothing

@@ -1,25 +1,14 @@
 -- The moment of the machine is that of its last event, and what a record says of its own moment.
 use Rattle.std.proofs.Common.{◌≡◌, ◌<◌, ◌≤◌, ℕ, List, Bool, true, false, Option, Some, None, refl, sym, ap, ◌∙◌, arith}
-use Rattle.std.specs.Prelude.{Result, Ok, Err, IfOk, ◌^◌, ◌==◌, ◌||◌, if◌then◌else◌, length, nat_le}
+use Rattle.std.specs.Prelude.{Result, Ok, Err, IfOk, ◌^◌, ◌==◌, if◌then◌else◌, length, nat_le}
 use Rattle.std.specs.Option.{ForSome}
 use Rattle.std.proofs.lemmas.Bool.Decides.{nat_tests}
-use Rattle.pfs_addr.specs.Keys.{key_of}
 use Rattle.pfs_addr.specs.Numbers.{number_of}
 use Rattle.pfs_addr.specs.Packets.{Header}
-use Rattle.pfs_conf_rules.specs.Configs.{Conf, options_of, rule_of}
-use Rattle.pfs_conf_rules.specs.declared.actions.Action.{Action}
-use Rattle.pfs_conf_rules.specs.declared.actions.Action.TheVariants as action
-use Rattle.pfs_conf_rules.specs.declared.actions.Overload.{Overload}
-use Rattle.pfs_store_plain.specs.Admission.{limit_at}
-use Rattle.pfs_store_plain.specs.Handshakes.{hits_connections, hits_rate}
-use Rattle.pfs_store_plain.specs.Touching.{completes_at, touch_of, touched}
-use Rattle.pfs_store_plain.specs.Worlds.{state_with}
-use Rattle.pfs_store_plain.specs.declared.records.Limit.{Limit}
-use Rattle.pfs_store_plain.specs.declared.records.State.{State}
-use Rattle.pfs_store_plain.specs.declared.records.Touched.{Touched}
-use Rattle.pfs_engine_machine.specs.Machine.{Machine, machine_of, step, advanced, acted, answered, by_state, by_rule, by_action, by_limit, by_touch, by_hit, decided}
-use Rattle.pfs_engine_machine.specs.declared.events.Event.{Event}
+use Rattle.pfs_conf_rules.specs.Configs.{Conf}
 use Rattle.pfs_engine_machine.specs.Kept.{moment_of}
+use Rattle.pfs_engine_machine.specs.Machine.{Machine, acted, advanced, answered, at_moment, step}
+use Rattle.pfs_engine_machine.specs.declared.events.Event.{Event}
 use Rattle.pfs_engine_machine.specs.declared.events.Outcome.{Outcome}
 use Rattle.pfs_engine_machine.specs.declared.events.Outcome.TheVariants as outcome
 use Rattle.pfs_engine_machine.specs.declared.events.What.{What}
@@ -28,41 +17,9 @@ use Rattle.pfs_cli.specs.declared.faults.TraceFault.{TraceFault}
 use Rattle.pfs_cli.specs.declared.faults.TraceFault.TheVariants as fault
 use Rattle.pfs_cli.specs.Events.{at_most, column_of, number_to, what_at, falls, event_at, in_column, and_then}
 
-last-hit : (conf : Conf) (m : Machine) (number now : ℕ) (t : Touched) (overload : Option Overload) (conn rate hit : Bool) → (by_hit conf m number now t overload conn rate hit).1.last ≡ m.last
-last-hit conf m number now t overload conn rate false = refl
-last-hit conf m number now t overload conn rate true = refl
-
-last-touch : (conf : Conf) (m : Machine) (number now : ℕ) (t : Touched) (completes : Bool) → (by_touch conf m number now t completes).1.last ≡ m.last
-last-touch conf m number now t false = refl
-last-touch conf m number now t true =
-    let o = options_of conf t.rule.0 in
-    last-hit conf m number now t o.overload (hits_connections o t) (hits_rate o t) (hits_connections o t || hits_rate o t)
-
-last-limit : (conf : Conf) (m : Machine) (p : Header) (now rule : ℕ) (l : Option Limit) → (by_limit conf m p now rule l).1.last ≡ m.last
-last-limit conf m p now rule None = refl
-last-limit conf m p now rule (Some l) = refl
-
-last-action : (conf : Conf) (m : Machine) (p : Header) (now rule : ℕ) (a : Action) → (by_action conf m p now rule a).1.last ≡ m.last
-last-action conf m p now rule action.Block = refl
-last-action conf m p now rule action.Pass = refl
-last-action conf m p now rule (action.Keep o) = last-limit conf m p now rule (limit_at conf m.world p rule)
-
-last-rule : (conf : Conf) (m : Machine) (p : Header) (now : ℕ) (r : Option ℕ) → (by_rule conf m p now r).1.last ≡ m.last
-last-rule conf m p now None = refl
-last-rule conf m p now (Some rule) = last-action conf m p now rule (rule_of conf rule).action
-
-last-state : (conf : Conf) (m : Machine) (p : Header) (now : ℕ) (s : Option State) → (by_state conf m p now s).1.last ≡ m.last
-last-state conf m p now None = last-rule conf m p now (decided conf m p)
-last-state conf m p now (Some s) =
-    last-touch conf (machine_of (touched conf m.world s p now) m.tables m.last) s.number now (touch_of conf m.world p now s) (completes_at p s)
-
-last-acted : (conf : Conf) (m : Machine) (now : ℕ) (w : What) → (acted conf m now w).1.last ≡ m.last
-last-acted conf m now what.Skip = refl
-last-acted conf m now (what.Packet p) = last-state conf m p now (state_with (key_of p) m.world)
-
 pub last-step : (conf : Conf) (m : Machine) (e : Event) → (step conf m e).1.last ≡ Some e.time
 unfolding step
-last-step conf m e = last-acted conf (advanced conf m e.time) e.time e.what
+last-step conf m e = refl
 
 -- ---- the moment of a record
 
@@ -91,8 +48,8 @@ time-kept row last time (Ok w) e q = by (falls last time) refl q
     by false test h = let same : record { time = time; what = w } ≡ e = cc in (test, sym (ap (λ (d : Event). d.time) same))
 
 -- the moment of a record is not before the last one, and is small
-pub event-moment : (row : ℕ) (last : Option ℕ) (fields : List (List ℕ)) (e : Event) → event_at row last fields ≡ Ok e → ForSome last (λ m. m ≤ e.time) × (e.time < 2 ^ 32)
-event-moment row last fields e q = by_length (length fields == 9) q
+pub event-moment : (conf : Conf) (row : ℕ) (last : Option ℕ) (fields : List (List ℕ)) (e : Event) → event_at conf row last fields ≡ Ok e → ForSome last (λ m. m ≤ e.time) × (e.time < 2 ^ 32)
+event-moment conf row last fields e q = by_length (length fields == 9) q
   where
     by_time : (o : Option ℕ) → number_to 4294967295 (column_of fields 1) ≡ o → in_column row 1 o (λ time. event_with row last time (what_at row fields)) ≡ Ok e → ForSome last (λ m. m ≤ e.time) × (e.time < 2 ^ 32)
     by_time None test h = cc
@@ -108,14 +65,23 @@ event-moment row last fields e q = by_length (length fields == 9) q
 
 -- ---- one event is its moment, and then what comes
 
+-- what comes of an event, by what it is
+abbrev stepped : Conf → Machine → ℕ → What → Outcome × Machine
+stepped conf m now w = at_moment now (acted conf (advanced conf m now).held now w)
+
 pub step-skip : (conf : Conf) (m new : Machine) (e : Event) → new ≡ advanced conf m e.time → e.what ≡ what.Skip → (outcome.Skip, new) ≡ step conf m e
 unfolding step
-step-skip conf m new e at_moment comes = ap (λ (a : Machine). (outcome.Skip, a)) at_moment ∙ ap (acted conf (advanced conf m e.time) e.time) (sym comes)
+step-skip conf m new e is comes = ap (λ (a : Machine). (outcome.Skip, a)) is ∙ ap (stepped conf m e.time) (sym comes)
+
+-- a machine is what it holds and its moment
+rebuilt : (m : Machine) (now : ℕ) → m.last ≡ Some now → m ≡ record { held = m.held; last = Some now }
+rebuilt m now is = ap (λ (l : Option ℕ). let a : Machine = record { held = m.held; last = l } in a) is
 
 pub step-packet : {E : Type 0} (conf after : Conf) (m now new : Machine) (e : Event) (p : Header) (r : Result Outcome E) → after ≡ conf → now ≡ advanced conf m e.time → e.what ≡ what.Packet p
-    → IfOk r (λ o. (o, new) ≡ answered after now p (moment_of now.last)) → IfOk r (λ o. (o, new) ≡ step conf m e)
+    → new.last ≡ now.last → IfOk r (λ o. (o, new.held) ≡ answered after now.held p (moment_of now.last)) → IfOk r (λ o. (o, new) ≡ step conf m e)
 unfolding step
-step-packet conf after m now new e p (Err f) same at_moment comes h = tt
-step-packet conf after m now new e p (Ok o) same at_moment comes h =
-    let is : (o, new) ≡ answered conf (advanced conf m e.time) p e.time = rw (same, at_moment) at h in
-    is ∙ ap (acted conf (advanced conf m e.time) e.time) (sym comes)
+step-packet conf after m now new e p (Err f) same is comes last h = tt
+step-packet conf after m now new e p (Ok o) same is comes last h =
+    let answer : (o, new.held) ≡ answered conf (advanced conf m e.time).held p e.time = rw (same, is) at h in
+    let moment : new.last ≡ Some e.time = last ∙ ap (λ (a : Machine). a.last) is in
+    ap (λ (a : Machine). (o, a)) (rebuilt new e.time moment) ∙ (ap (at_moment e.time) answer ∙ ap (stepped conf m e.time) (sym comes))

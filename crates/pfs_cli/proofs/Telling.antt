@@ -51,23 +51,23 @@ below-limit rows h = grind (arith, nat_tests)
 at-limit : (rows : ℕ) → 1000000000 ≤ rows → nat_lt rows row_limit ≡ false
 at-limit rows h = grind (arith, nat_tests)
 
-events_from-more : (rows : ℕ) (last : Option ℕ) (f : Fields) (fs : List Fields) (e : Event) → rows < 1000000000 → event_at (rows + 1) last f ≡ Ok e
-    → events_from rows last (f ∷ fs) ≡ behind (e ∷ []) (events_from (rows + 1) (Some e.time) fs)
+events_from-more : (conf : Conf) (rows : ℕ) (last : Option ℕ) (f : Fields) (fs : List Fields) (e : Event) → rows < 1000000000 → event_at conf (rows + 1) last f ≡ Ok e
+    → events_from conf rows last (f ∷ fs) ≡ behind (e ∷ []) (events_from conf (rows + 1) (Some e.time) fs)
 unfolding events_from
-events_from-more rows last f fs e h q = rw (below-limit rows h, q) refl
+events_from-more conf rows last f fs e h q = rw (below-limit rows h, q) refl
 
-events_from-fault : (rows : ℕ) (last : Option ℕ) (f : Fields) (fs : List Fields) (m : TraceFault) → rows < 1000000000 → event_at (rows + 1) last f ≡ Err m
-    → events_from rows last (f ∷ fs) ≡ ([], Some m)
+events_from-fault : (conf : Conf) (rows : ℕ) (last : Option ℕ) (f : Fields) (fs : List Fields) (m : TraceFault) → rows < 1000000000 → event_at conf (rows + 1) last f ≡ Err m
+    → events_from conf rows last (f ∷ fs) ≡ ([], Some m)
 unfolding events_from
-events_from-fault rows last f fs m h q = rw (below-limit rows h, q) refl
+events_from-fault conf rows last f fs m h q = rw (below-limit rows h, q) refl
 
-events_from-limit : (rows : ℕ) (last : Option ℕ) (f : Fields) (fs : List Fields) → 1000000000 ≤ rows → events_from rows last (f ∷ fs) ≡ ([], Some fault.TooManyRows)
+events_from-limit : (conf : Conf) (rows : ℕ) (last : Option ℕ) (f : Fields) (fs : List Fields) → 1000000000 ≤ rows → events_from conf rows last (f ∷ fs) ≡ ([], Some fault.TooManyRows)
 unfolding events_from
-events_from-limit rows last f fs h = rw (at-limit rows h) refl
+events_from-limit conf rows last f fs h = rw (at-limit rows h) refl
 
-events_from-end : (rows : ℕ) (last : Option ℕ) → events_from rows last [] ≡ ([], None)
+events_from-end : (conf : Conf) (rows : ℕ) (last : Option ℕ) → events_from conf rows last [] ≡ ([], None)
 unfolding events_from
-events_from-end rows last = refl
+events_from-end conf rows last = refl
 
 next-is : (s s2 : State) (left z : List ℕ) (p : Read) (f : Fields) → next_record default_config s [] [] left ≡ Some p → f ≡ p.0 → p.1 ≡ s2 → p.2 ≡ z
     → records_left default_config s left ≡ f ∷ records_left default_config s2 z
@@ -94,10 +94,10 @@ pub record ToldSoFar {S : Type 0} (rem : S → Option (List ℕ)) (conf : Conf) 
   pub appended : Appends before now (lines_of conf seen)
   pub count : length seen ≡ rows
   pub holds : m ≡ machine_after conf (start conf) seen
-  pub split : trace ≡ behind seen (events_from rows m.last (records_left default_config rdr.state left))
+  pub split : trace ≡ behind seen (events_from conf rows m.last (records_left default_config rdr.state left))
 
 pub so_far-start : {S : Type 0} (rem : S → Option (List ℕ)) (conf : Conf) (before : Option (List ℕ)) (rdr : Reader S) (xs : List ℕ) → source_of rem rdr ≡ Some xs
-    → ToldSoFar rem conf (events_from 0 None (records_left default_config rdr.state xs)) before before 0 (start conf) rdr
+    → ToldSoFar rem conf (events_from conf 0 None (records_left default_config rdr.state xs)) before before 0 (start conf) rdr
 unfolding machine_after
 so_far-start rem conf before rdr xs source = record {
   seen = [];
@@ -116,7 +116,7 @@ lines-more conf seen rows m e n h = lines_of-more conf seen e ∙ rw (n, ← h) 
 
 pub so_far-more : {S : Type 0} (rem : S → Option (List ℕ)) (conf : Conf) (trace : Trace) (before now after : Option (List ℕ)) (rows : ℕ) (m v : Machine) (a b : Reader S) (f : Fields) (e : Event) (t : List ℕ)
     → ToldSoFar rem conf trace before now rows m a → a.config ≡ default_config → rows < 1000000000 → ReadRecord rem a b true f
-    → event_at (rows + 1) m.last f ≡ Ok e → Appends now after t → TakesEvent conf (rows + 1) m e t (Ok tt) v
+    → event_at conf (rows + 1) m.last f ≡ Ok e → Appends now after t → TakesEvent conf (rows + 1) m e t (Ok tt) v
     → ToldSoFar rem conf trace before after (rows + 1) v b
 so_far-more rem conf trace before now after rows m v a b f e t h config few r judged grown (text, held) =
     let (z, at_z, next) = read-more rem a b f h.left config h.source r in
@@ -128,9 +128,9 @@ so_far-more rem conf trace before now after rows m v a b f e t h config few r ju
       appended = rw (lines-more conf h.seen rows m e h.count h.holds, ← text) (Appends-more before now after (lines_of conf h.seen) t h.appended grown);
       count = simp length-append (omega (arith, h.count));
       holds = new ∙ (ap (λ (u : Machine). (step conf u e).1) h.holds ∙ sym (machine_after-more conf (start conf) h.seen e));
-      split = h.split ∙ rw (next, events_from-more rows m.last f (records_left default_config b.state z) e few judged, new, last-step conf m e)
-          (ap (λ (es : List Event). (es, (events_from (rows + 1) (Some e.time) (records_left default_config b.state z)).1))
-          (sym (append_assoc h.seen (e ∷ []) (events_from (rows + 1) (Some e.time) (records_left default_config b.state z)).0)));
+      split = h.split ∙ rw (next, events_from-more conf rows m.last f (records_left default_config b.state z) e few judged, new, last-step conf m e)
+          (ap (λ (es : List Event). (es, (events_from conf (rows + 1) (Some e.time) (records_left default_config b.state z)).1))
+          (sym (append_assoc h.seen (e ∷ []) (events_from conf (rows + 1) (Some e.time) (records_left default_config b.state z)).0)));
     }
 
 -- how a run may end
@@ -140,7 +140,7 @@ Ends conf trace before after result = (t : List ℕ) × Appends before after t �
 first-lines : {S : Type 0} (rem : S → Option (List ℕ)) (conf : Conf) (trace : Trace) (before now : Option (List ℕ)) (rows : ℕ) (m : Machine) (a : Reader S) (h : ToldSoFar rem conf trace before now rows m a)
     → AreFirstLines conf trace (lines_of conf h.seen)
 first-lines rem conf trace before now rows m a h =
-    let front : take (length h.seen) trace.0 ≡ h.seen = ap (λ (q : Trace). take (length h.seen) q.0) h.split ∙ take-append_seam h.seen (events_from rows m.last (records_left default_config a.state h.left)).0 in
+    let front : take (length h.seen) trace.0 ≡ h.seen = ap (λ (q : Trace). take (length h.seen) q.0) h.split ∙ take-append_seam h.seen (events_from conf rows m.last (records_left default_config a.state h.left)).0 in
     (length h.seen, sym (ap (lines_of conf) front))
 
 pub ends-source : {S : Type 0} (rem : S → Option (List ℕ)) (conf : Conf) (trace : Trace) (before now : Option (List ℕ)) (rows : ℕ) (m : Machine) (a : Reader S) → ToldSoFar rem conf trace before now rows m a
@@ -151,7 +151,7 @@ ends-source rem conf trace before now rows m a h = (lines_of conf h.seen, h.appe
 told-all : {S : Type 0} (rem : S → Option (List ℕ)) (conf : Conf) (trace : Trace) (before now : Option (List ℕ)) (rows : ℕ) (m : Machine) (a b : Reader S) (f : Fields) (h : ToldSoFar rem conf trace before now rows m a)
     → a.config ≡ default_config → ReadRecord rem a b false f → trace ≡ (h.seen, None)
 told-all rem conf trace before now rows m a b f h config r =
-    h.split ∙ rw (read-end rem a b f h.left config h.source r, events_from-end rows m.last) (ap (λ (es : List Event). (es, None)) (append-nil h.seen))
+    h.split ∙ rw (read-end rem a b f h.left config h.source r, events_from-end conf rows m.last) (ap (λ (es : List Event). (es, None)) (append-nil h.seen))
 
 -- the last line, where these are all events
 last-line : (conf : Conf) (seen : List Event) (rows : ℕ) (m : Machine) → length seen ≡ rows → m ≡ machine_after conf (start conf) seen → end_of rows m ≡ end_line conf seen
@@ -190,7 +190,7 @@ pub ends-limit : {S : Type 0} (rem : S → Option (List ℕ)) (conf : Conf) (tra
 ends-limit rem conf trace before now rows m a b f h config r many =
     let (z, at_z, next) = read-more rem a b f h.left config h.source r in
     let all : trace ≡ (h.seen, Some fault.TooManyRows) =
-    h.split ∙ rw (next, events_from-limit rows m.last f (records_left default_config b.state z) many) (ap (λ (es : List Event). (es, Some fault.TooManyRows)) (append-nil h.seen)) in
+    h.split ∙ rw (next, events_from-limit conf rows m.last f (records_left default_config b.state z) many) (ap (λ (es : List Event). (es, Some fault.TooManyRows)) (append-nil h.seen)) in
     (lines_of conf h.seen, h.appended, (ap (λ (q : Trace). q.1) all, rw all refl))
 
 -- the lines of the first events begin those of all
@@ -225,7 +225,7 @@ pub ends-record : {S : Type 0} (rem : S → Option (List ℕ)) (conf : Conf) (tr
 ends-record rem conf trace before now after rows m v a b f (stop.Fault u) t h config r few grown how =
     let (z, at_z, next) = read-more rem a b f h.left config h.source r in
     let all : trace ≡ (h.seen, Some u) =
-    h.split ∙ rw (next, events_from-fault rows m.last f (records_left default_config b.state z) u few how.0) (ap (λ (es : List Event). (es, Some u)) (append-nil h.seen)) in
+    h.split ∙ rw (next, events_from-fault conf rows m.last f (records_left default_config b.state z) u few how.0) (ap (λ (es : List Event). (es, Some u)) (append-nil h.seen)) in
     (lines_of conf h.seen, rw (how.1, append-nil) at (Appends-more before now after (lines_of conf h.seen) t h.appended grown), (ap (λ (q : Trace). q.1) all, rw all refl))
 ends-record rem conf trace before now after rows m v a b f stop.Source t h config r few grown (e, judged, (how, held)) = absurd how
 ends-record rem conf trace before now after rows m v a b f stop.Memory t h config r few grown (e, judged, (how, held)) =
@@ -233,9 +233,9 @@ ends-record rem conf trace before now after rows m v a b f stop.Memory t h confi
 ends-record rem conf trace before now after rows m v a b f stop.Write t h config r few grown (e, judged, ((k, cut), held)) =
     let (z, at_z, next) = read-more rem a b f h.left config h.source r in
     let line = row_text (rows + 1) (step conf m e).0 in
-    let more : Trace = events_from (rows + 1) (Some e.time) (records_left default_config b.state z) in
+    let more : Trace = events_from conf (rows + 1) (Some e.time) (records_left default_config b.state z) in
     let all : trace ≡ (h.seen ++ (e ∷ more.0), more.1) =
-    h.split ∙ rw (next, events_from-more rows m.last f (records_left default_config b.state z) e few judged) refl in
+    h.split ∙ rw (next, events_from-more conf rows m.last f (records_left default_config b.state z) e few judged) refl in
     let (rest, begins) = report-begins conf h.seen e more in (
       lines_of conf h.seen ++ t,
       Appends-more before now after (lines_of conf h.seen) t h.appended grown,
@@ -251,7 +251,7 @@ pub record Running {S : Type 0} (rem : S → Option (List ℕ)) (begun : Reader 
   pub within : rows ≤ 1000000000
   pub taken : v.taken ≤ rows
   pub so_far : (xs : List ℕ) → source_of rem begun ≡ Some xs
-      → ToldSoFar rem first.config (events_from 0 None (records_left default_config begun.state xs)) before now rows v.machine rdr
+      → ToldSoFar rem first.config (events_from first.config 0 None (records_left default_config begun.state xs)) before now rows v.machine rdr
 
 -- a turn under rules that are these
 pub TakesRecord-rules : (conf d : Conf) (row : ℕ) (m : Machine) (f : Fields) (t : List ℕ) (r : Result Unit Stop) (v : Machine) → d ≡ conf → TakesRecord d row m f t r v → TakesRecord conf row m f t r v
@@ -259,41 +259,50 @@ TakesRecord-rules conf d row m f t r v same takes =
     let P : Conf → Type 0 = λ x. TakesRecord x row m f t r v in
     subst P same takes
 
-events_of-header : (f : Fields) (fs : List Fields) → is_header f ≡ true → events_of (f ∷ fs) ≡ events_from 0 None fs
+events_of-header : (conf : Conf) (f : Fields) (fs : List Fields) → is_header f ≡ true → events_of conf (f ∷ fs) ≡ events_from conf 0 None fs
 unfolding events_of
-events_of-header f fs h = rw h refl
+events_of-header conf f fs h = rw h refl
 
-events_of-other : (f : Fields) (fs : List Fields) → is_header f ≡ false → events_of (f ∷ fs) ≡ ([], Some (fault.Columns 0))
+events_of-other : (conf : Conf) (f : Fields) (fs : List Fields) → is_header f ≡ false → events_of conf (f ∷ fs) ≡ ([], Some (fault.Columns 0))
 unfolding events_of
-events_of-other f fs h = rw h refl
+events_of-other conf f fs h = rw h refl
 
-events_of-none : events_of [] ≡ ([], Some (fault.Columns 0))
+events_of-none : (conf : Conf) → events_of conf [] ≡ ([], Some (fault.Columns 0))
 unfolding events_of
-events_of-none = refl
+events_of-none conf = refl
 
 -- the records of a source, where the first is the header
-pub trace-rest : {S : Type 0} (rem : S → Option (List ℕ)) (a b : Reader S) (f : Fields) (xs : List ℕ) → a.config ≡ default_config → source_of rem a ≡ Some xs → ReadRecord rem a b true f
+pub trace-rest : {S : Type 0} (rem : S → Option (List ℕ)) (conf : Conf) (a b : Reader S) (f : Fields) (xs : List ℕ) → a.config ≡ default_config → source_of rem a ≡ Some xs → ReadRecord rem a b true f
     → is_header f ≡ true → (z : List ℕ) × (source_of rem b ≡ Some z)
-    × (events_of (records_left default_config a.state xs) ≡ events_from 0 None (records_left default_config b.state z))
-trace-rest rem a b f xs config source r header =
+    × (events_of conf (records_left default_config a.state xs) ≡ events_from conf 0 None (records_left default_config b.state z))
+trace-rest rem conf a b f xs config source r header =
     let (z, at_z, next) = read-more rem a b f xs config source r in
-    (z, at_z, rw next (events_of-header f (records_left default_config b.state z) header))
+    (z, at_z, rw next (events_of-header conf f (records_left default_config b.state z) header))
 
 -- a run of a trace whose header is not as it must be writes nothing
 no-header : (conf : Conf) (trace : Trace) (before : Option (List ℕ)) → trace ≡ ([], Some (fault.Columns 0)) → Ends conf trace before before (Err (stop.Fault (fault.Columns 0)))
 no-header conf trace before all = ([], Appends-nothing before, (ap (λ (q : Trace). q.1) all, rw (all, lines_of-none conf) refl))
 
 pub ends-other : {S : Type 0} (rem : S → Option (List ℕ)) (conf : Conf) (before : Option (List ℕ)) (a b : Reader S) (f : Fields) (xs : List ℕ) → a.config ≡ default_config → source_of rem a ≡ Some xs → ReadRecord rem a b true f
-    → is_header f ≡ false → Ends conf (events_of (records_left default_config a.state xs)) before before (Err (stop.Fault (fault.Columns 0)))
+    → is_header f ≡ false → Ends conf (events_of conf (records_left default_config a.state xs)) before before (Err (stop.Fault (fault.Columns 0)))
 ends-other rem conf before a b f xs config source r header =
     let (z, at_z, next) = read-more rem a b f xs config source r in
-    no-header conf _ before (rw next (events_of-other f (records_left default_config b.state z) header))
+    no-header conf _ before (rw next (events_of-other conf f (records_left default_config b.state z) header))
 
 pub ends-empty : {S : Type 0} (rem : S → Option (List ℕ)) (conf : Conf) (before : Option (List ℕ)) (a b : Reader S) (f : Fields) (xs : List ℕ) → a.config ≡ default_config → source_of rem a ≡ Some xs → ReadRecord rem a b false f
-    → Ends conf (events_of (records_left default_config a.state xs)) before before (Err (stop.Fault (fault.Columns 0)))
+    → Ends conf (events_of conf (records_left default_config a.state xs)) before before (Err (stop.Fault (fault.Columns 0)))
 ends-empty rem conf before a b f xs config source r =
-    no-header conf _ before (rw (read-end rem a b f xs config source r) events_of-none)
+    no-header conf _ before (rw (read-end rem a b f xs config source r) (events_of-none conf))
 
 -- a run that stopped before the first record
 pub no-lines : (conf : Conf) (trace : Trace) → AreFirstLines conf trace []
 no-lines conf trace = (0, sym (lines_of-none conf))
+
+-- a record whose event was taken
+pub takes-event : (conf : Conf) (row : ℕ) (m : Machine) (f : Fields) (e : Event) (t : List ℕ) (r : Result Unit Stop) (v : Machine) → event_at conf row m.last f ≡ Ok e
+    → TakesEvent conf row m e t r v → TakesRecord conf row m f t r v
+takes-event conf row m f e t (Ok u) v judged takes = (e, judged, takes)
+takes-event conf row m f e t (Err (stop.Fault x)) v judged takes = absurd takes.0
+takes-event conf row m f e t (Err stop.Source) v judged takes = (e, judged, takes)
+takes-event conf row m f e t (Err stop.Memory) v judged takes = (e, judged, takes)
+takes-event conf row m f e t (Err stop.Write) v judged takes = (e, judged, takes)

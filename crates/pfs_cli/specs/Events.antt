@@ -13,6 +13,7 @@ use Rattle.pfs_addr.specs.declared.packets.Dir.TheVariants.{In, Out}
 use Rattle.pfs_addr.specs.declared.packets.Endpoint.{Endpoint}
 use Rattle.pfs_addr.specs.declared.protocols.Proto.{Proto}
 use Rattle.pfs_addr.specs.declared.protocols.Proto.TheVariants.{Tcp, Udp, Other}
+use Rattle.pfs_conf_rules.specs.Configs.{Conf}
 use Rattle.pfs_engine_machine.specs.declared.events.What.{What}
 use Rattle.pfs_engine_machine.specs.declared.events.What.TheVariants as what
 use Rattle.pfs_engine_machine.specs.declared.events.Event.{Event}
@@ -102,10 +103,10 @@ abbrev pub falls : Option ℕ → ℕ → Bool
 falls None time = false
 falls (Some last) time = nat_lt time last
 
--- the event of a record in this row after this moment, or the first that is wrong with it: it has not nine fields, a
+-- the event of a record under a configuration, in this row after this moment, or the first that is wrong with it: it has not nine fields, a
 -- field is not accepted, from left to right, or its moment is before the last one
-abbrev pub event_at : ℕ → Option ℕ → List (List ℕ) → Result Event TraceFault
-event_at row last fields =
+abbrev pub event_at : Conf → ℕ → Option ℕ → List (List ℕ) → Result Event TraceFault
+event_at conf row last fields =
     if length fields == 9
     then in_column row 1 (number_to 4294967295 (column_of fields 1)) (λ time.
     and_then (what_at row fields) (λ what.

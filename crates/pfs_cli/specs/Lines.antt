@@ -4,8 +4,7 @@ use Rattle.std.specs.Fmt.{decimal}
 use Rattle.pfs_conf_rules.specs.declared.items.RuleNo.{RuleNo}
 use Rattle.pfs_store_plain.specs.declared.records.Limit.{Limit}
 use Rattle.pfs_store_plain.specs.declared.records.Limit.TheVariants as limit
-use Rattle.pfs_eval.specs.declared.tables.Added.{Added}
-use Rattle.pfs_eval.specs.declared.tables.Added.TheVariants as added
+use Rattle.pfs_engine_machine.specs.Sources.{Addition, by_addition}
 use Rattle.pfs_engine_machine.specs.declared.events.Outcome.{Outcome}
 use Rattle.pfs_engine_machine.specs.declared.events.Outcome.TheVariants as outcome
 
@@ -49,11 +48,8 @@ mark_text (Some r) = codes "@" ++ decimal r.0
 mark_text None = codes "-"
 
 -- what became of the source of killed states in the overload table of the rule
-abbrev pub overload_word : Option Added → List ℕ
-overload_word (Some added.New) = codes "added"
-overload_word (Some added.Held) = codes "held"
-overload_word (Some added.Full) = codes "full"
-overload_word None = codes "none"
+abbrev pub overload_word : Addition → List ℕ
+overload_word a = by_addition (codes "added") (codes "held") (codes "full") (codes "none") a
 
 -- a line of killed states goes on with the overload and how many were killed
 abbrev pub note_text : Outcome → List ℕ

@@ -16,6 +16,16 @@ Performs (job.Check name) rules trace text result = Answers counts_text rules te
 Performs (job.Show name) rules trace text result = Answers text_of rules text result
 Performs (job.Replay name other) rules trace text result = Replays rules trace text result
 
+-- a fact of a replay of two files, the one job that reads a trace of its own
+abbrev pub OfReplay : Job → Type 0 → Type 0
+OfReplay (job.Replay name other) P = P
+OfReplay _ P = Unit {0}
+
+-- a fact of the jobs that read a rules file
+abbrev pub OfRulesFile : Job → Type 0 → Type 0
+OfRulesFile job.Joined P = Unit {0}
+OfRulesFile _ P = P
+
 -- a fact of all jobs but a replay of two files
 abbrev pub ReadsRulesAlone : Job → Type 0 → Type 0
 ReadsRulesAlone (job.Replay name other) P = Unit {0}

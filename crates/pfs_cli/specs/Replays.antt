@@ -10,36 +10,38 @@ use Rattle.pfs_cli.specs.Rules.{IsRefused}
 use Rattle.pfs_cli.specs.Traces.{Trace, events_of, records_of}
 use Rattle.pfs_cli.specs.Reports.{report, AreFirstLines, BeginsReport}
 
--- the events of a trace, and its fault
-abbrev pub trace_of : List ℕ → Trace
-trace_of bytes = events_of (records_of bytes)
+-- the events of a trace under a configuration, and its fault
+abbrev pub trace_of : Conf → List ℕ → Trace
+trace_of conf bytes = events_of conf (records_of bytes)
 
 -- the whole report of a trace with this fault, or with none
-abbrev pub WritesReport : List ℕ → Trace → List ℕ → Option TraceFault → Type 0
-WritesReport rules trace text f = (conf : Conf) × Reads rules conf × (trace.1 ≡ f) × (text ≡ report conf trace)
+abbrev pub WritesReport : List ℕ → List ℕ → List ℕ → Option TraceFault → Type 0
+WritesReport rules bytes text f =
+    (conf : Conf) × Reads rules conf × ((trace_of conf bytes).1 ≡ f) × (text ≡ report conf (trace_of conf bytes))
 
 -- nothing, or the lines of the first records of the trace, which begin its report
-abbrev pub WritesLines : List ℕ → Trace → List ℕ → Type 0
-WritesLines rules trace text = (text ≡ []) ⊎ ((conf : Conf) × Reads rules conf × AreFirstLines conf trace text × BeginsReport conf trace text)
+abbrev pub WritesLines : List ℕ → List ℕ → List ℕ → Type 0
+WritesLines rules bytes text =
+    (text ≡ []) ⊎ ((conf : Conf) × Reads rules conf × AreFirstLines conf (trace_of conf bytes) text × BeginsReport conf (trace_of conf bytes) text)
 
 -- a front of the report
-abbrev pub WritesFront : List ℕ → Trace → List ℕ → Type 0
-WritesFront rules trace text = (conf : Conf) × Reads rules conf × BeginsReport conf trace text
+abbrev pub WritesFront : List ℕ → List ℕ → List ℕ → Type 0
+WritesFront rules bytes text = (conf : Conf) × Reads rules conf × BeginsReport conf (trace_of conf bytes) text
 
 -- what is written, by how the replay ends. A rules text that is not accepted leaves nothing; a faulty trace, and one
 -- without a fault, its report; a failed read, an endless reader or refused memory the lines of the first records; a
 -- failed write a front of the report.
 abbrev pub Replays : List ℕ → List ℕ → List ℕ → Result Unit ReplayFault → Type 0
-Replays rules bytes text (Ok u) = WritesReport rules (trace_of bytes) text None
+Replays rules bytes text (Ok u) = WritesReport rules bytes text None
 Replays rules bytes text (Err (fault.Rules f)) = IsRefused rules f × (text ≡ [])
-Replays rules bytes text (Err (fault.Columns row)) = WritesReport rules (trace_of bytes) text (Some (trace.Columns row))
-Replays rules bytes text (Err (fault.Field row column)) = WritesReport rules (trace_of bytes) text (Some (trace.Field row column))
-Replays rules bytes text (Err (fault.TimeFell row)) = WritesReport rules (trace_of bytes) text (Some (trace.TimeFell row))
-Replays rules bytes text (Err fault.TooManyRows) = WritesReport rules (trace_of bytes) text (Some trace.TooManyRows)
-Replays rules bytes text (Err fault.Read) = WritesLines rules (trace_of bytes) text
-Replays rules bytes text (Err fault.Memory) = WritesLines rules (trace_of bytes) text
-Replays rules bytes text (Err fault.Endless) = WritesLines rules (trace_of bytes) text
-Replays rules bytes text (Err fault.Write) = WritesFront rules (trace_of bytes) text
+Replays rules bytes text (Err (fault.Columns row)) = WritesReport rules bytes text (Some (trace.Columns row))
+Replays rules bytes text (Err (fault.Field row column)) = WritesReport rules bytes text (Some (trace.Field row column))
+Replays rules bytes text (Err (fault.TimeFell row)) = WritesReport rules bytes text (Some (trace.TimeFell row))
+Replays rules bytes text (Err fault.TooManyRows) = WritesReport rules bytes text (Some trace.TooManyRows)
+Replays rules bytes text (Err fault.Read) = WritesLines rules bytes text
+Replays rules bytes text (Err fault.Memory) = WritesLines rules bytes text
+Replays rules bytes text (Err fault.Endless) = WritesLines rules bytes text
+Replays rules bytes text (Err fault.Write) = WritesFront rules bytes text
 
 -- what may be told of a rules text in place of its machine: a fault of it, or that memory was refused
 abbrev pub RefusesRules : List ℕ → ReplayFault → Type 0

@@ -1,8 +1,9 @@
--- The events of a trace, up to its first faulty record. (own)
+-- The events of a trace under a configuration, up to its first faulty record. (own)
 use Rattle.std.specs.Prelude.{◌+◌, ℕ, List, [], ◌∷◌, length, Option, Some, None, Result, Ok, Err, if◌then◌else◌, nat_lt}
 use Rattle.csv.specs.Reading.{records, records_from, default_config, strip_bom}
 use Rattle.csv.specs.declared.parser.Config.{Config}
 use Rattle.csv.specs.declared.parser.State.{State}
+use Rattle.pfs_conf_rules.specs.Configs.{Conf}
 use Rattle.pfs_engine_machine.specs.declared.events.Event.{Event}
 use Rattle.pfs_cli.specs.declared.faults.TraceFault.{TraceFault}
 use Rattle.pfs_cli.specs.declared.faults.TraceFault.TheVariants as fault
@@ -34,14 +35,14 @@ and_then (Ok e) more = (e ∷ (more e).0, (more e).1)
 and_then (Err f) more = ([], Some f)
 
 -- the events of the records after so many rows, the last of them at this moment
-unfoldable pub events_from : ℕ → Option ℕ → List Fields → Trace
-events_from rows last [] = ([], None)
-events_from rows last (r ∷ rs) =
+unfoldable pub events_from : Conf → ℕ → Option ℕ → List Fields → Trace
+events_from conf rows last [] = ([], None)
+events_from conf rows last (r ∷ rs) =
     if nat_lt rows row_limit
-    then and_then (event_at (rows + 1) last r) (λ e. events_from (rows + 1) (Some e.time) rs)
+    then and_then (event_at conf (rows + 1) last r) (λ e. events_from conf (rows + 1) (Some e.time) rs)
     else ([], Some fault.TooManyRows)
 
 -- the events of a trace: its first record is the header
-unfoldable pub events_of : List Fields → Trace
-events_of [] = ([], Some (fault.Columns 0))
-events_of (r ∷ rs) = if is_header r then events_from 0 None rs else ([], Some (fault.Columns 0))
+unfoldable pub events_of : Conf → List Fields → Trace
+events_of conf [] = ([], Some (fault.Columns 0))
+events_of conf (r ∷ rs) = if is_header r then events_from conf 0 None rs else ([], Some (fault.Columns 0))

@@ -23,5 +23,5 @@ TakesEvent conf row m e text result after =
 
 -- the turn of a record, by what it is
 abbrev pub TakesRecord : Conf → ℕ → Machine → List (List ℕ) → List ℕ → Result Unit Stop → Machine → Type 0
-TakesRecord conf row m fields text (Err (stop.Fault f)) after = (event_at row m.last fields ≡ Err f) × (text ≡ [])
-TakesRecord conf row m fields text result after = (e : Event) × (event_at row m.last fields ≡ Ok e) × TakesEvent conf row m e text result after
+TakesRecord conf row m fields text (Err (stop.Fault f)) after = (event_at conf row m.last fields ≡ Err f) × (text ≡ [])
+TakesRecord conf row m fields text result after = (e : Event) × (event_at conf row m.last fields ≡ Ok e) × TakesEvent conf row m e text result after

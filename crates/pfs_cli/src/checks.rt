@@ -13,8 +13,7 @@ use crate::faults::ReplayFault;
 use crate::replays::read_text;
 use crate::rules::told;
 use pfs_cli_streams::{Feed, Sink, write_whole};
-use pfs_conf::{Config, load};
-use pfs_conf_show::show;
+use pfs_conf::{Config, load, show};
 use std::alloc::{AllocError, Global};
 use std::io::{Read, Write};
 

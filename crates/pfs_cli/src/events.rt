@@ -3,6 +3,7 @@
 ghost use Rattle.std.specs.Prelude.{◌≡◌, ◌≤◌};
 ghost use Rattle.csv.specs.Records.{fields_of};
 ghost use Rattle.pfs_addr.specs.Protocols.{is_icmp};
+ghost use Rattle.pfs_conf_rules.specs.Configs.{Conf};
 ghost use Rattle.pfs_cli.specs.Events.{column_of, number_to, dir_of, port_of, flags_for, ends_at, what_at, is_header, falls, event_at};
 
 use crate::faults::TraceFault;
@@ -36,7 +37,7 @@ pub(crate) fn read_event(
     last: Option<u64>,
     fields: &ByteRecord,
 ) -> Result<Event, TraceFault>
-    ensures { result ≡ event_at row last (fields_of fields.now) }
+    ensures { (conf : Conf) → result ≡ event_at conf row last (fields_of fields.now) }
 {
     if fields.len() != 9 {
         return Err(TraceFault::Columns(row));

@@ -12,13 +12,12 @@ mod performing;
 mod records;
 mod replays;
 mod rules;
-#[cfg(test)]
-mod tests;
 
 pub use checks::{check, print};
 pub use faults::{ReplayFault, status};
 pub use joined::replay_joined;
 pub use performing::perform;
 pub use pfs_cli_jobs::{Job, job};
+pub use pfs_cli_streams::{Feed, Sink};
 pub use pfs_conf::{Kind, LoadFault};
 pub use replays::replay;

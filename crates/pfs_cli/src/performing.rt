@@ -1,10 +1,11 @@
 //! One job of the command line.
 
-ghost use Rattle.std.specs.Prelude.{◌≡◌, ◌⊎◌, Some, Err, ◌<◌, ℕ, List};
+ghost use Rattle.std.specs.Prelude.{◌≡◌, ◌⊎◌, Some, Err, ◌<◌, ◌≤◌, ◌+◌, ℕ, List, drop, true};
 ghost use Rattle.std.specs.Io.KnownBytes.{Appends};
-ghost use Rattle.pfs_cli_streams.specs.Feeds.{unread, IsFresh, IsSpent, failures_of as read_failures};
+ghost use Rattle.pfs_cli_streams.specs.Feeds.{unread, has_ended, IsFresh, IsSpent, failures_of as read_failures};
 ghost use Rattle.pfs_cli_streams.specs.Sinks.{held, failures_of};
-ghost use Rattle.pfs_cli.specs.Performing.{Performs, ReadsRulesAlone};
+ghost use Rattle.pfs_cli.specs.Rules.{rules_limit};
+ghost use Rattle.pfs_cli.specs.Performing.{OfReplay, OfRulesFile, Performs, ReadsRulesAlone};
 
 use crate::checks::{check, print};
 use crate::faults::ReplayFault;
@@ -17,7 +18,8 @@ use std::io::{Read, Write};
 
 /// Does a job over the feeds that it needs: `replay_joined` of the rules' feed for `Joined`, and `check`, `print` or
 /// `replay` for the others. A feed that the job does not need is not read. What is written and answered is what that call
-/// writes and answers.
+/// writes and answers: of a rules file no more than 1,048,577 bytes are read, and nothing of a replay is written before
+/// its rules are read to their end.
 pub fn perform<R: Read, T: Read, W: Write>(
     alloc: Global,
     job: &Job,
@@ -26,9 +28,12 @@ pub fn perform<R: Read, T: Read, W: Write>(
     out: &mut Sink<W>,
 ) -> Result<(), ReplayFault>
     requires { IsFresh rules.old }
-    ensures performs { (rs : List ℕ) (ts : List ℕ) → unread R.remaining rules.old ≡ Some rs → unread T.remaining trace.old ≡ Some ts →
+    ensures performs { (rs : List ℕ) (ts : List ℕ) → unread R.remaining rules.old ≡ Some rs → OfReplay job.now (unread T.remaining trace.old ≡ Some ts) →
         ((t : List ℕ) × Appends (held W.contents out.old) (held W.contents out.new) t × Performs job.now rs ts t result) }
     ensures untouched { ReadsRulesAlone job.now (trace.new ≡ trace.old) }
+    ensures rules_first { OfReplay job.now ((out.new ≡ out.old) ⊎ ((has_ended rules.new ≡ true) × (read_failures rules.new ≡ 0))) }
+    ensures few { OfRulesFile job.now ((rs : List ℕ) → unread R.remaining rules.old ≡ Some rs →
+        (k : ℕ) × (k ≤ rules_limit + 1) × (unread R.remaining rules.new ≡ Some (drop k rs))) }
     ensures read { result ≡ Err ReplayFault.Read → (0 < read_failures rules.new) ⊎ (0 < read_failures trace.new) }
     ensures endless { result ≡ Err ReplayFault.Endless → IsSpent rules.new ⊎ IsSpent trace.new }
     ensures write { result ≡ Err ReplayFault.Write → 0 < failures_of out.new }

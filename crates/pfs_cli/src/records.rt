@@ -147,7 +147,7 @@ fn tell_rows<S: Read, W: Write>(
     requires taken { engine.old.taken ≡ 0 }
     ensures tells { (xs : List ℕ) → source_of S.remaining reader.old ≡ Some xs →
         ((t : List ℕ) × Appends (held W.contents out.old) (held W.contents out.new) t
-        × Tells engine.old.config (events_from 0 None (records_left default_config (reader_state reader.old) xs)) t result) }
+        × Tells engine.old.config (events_from engine.old.config 0 None (records_left default_config (reader_state reader.old) xs)) t result) }
     ensures fails { result ≡ Err (Stop.Write) → 0 < failures_of out.new }
 {
     for rows in 0..=ROW_LIMIT {
@@ -182,7 +182,7 @@ fn tell_trace<S: Read, W: Write>(
     requires taken { engine.old.taken ≡ 0 }
     ensures tells { (xs : List ℕ) → source_of S.remaining reader.old ≡ Some xs →
         ((t : List ℕ) × Appends (held W.contents out.old) (held W.contents out.new) t
-        × Tells engine.old.config (events_of (records_left default_config (reader_state reader.old) xs)) t result) }
+        × Tells engine.old.config (events_of engine.old.config (records_left default_config (reader_state reader.old) xs)) t result) }
     ensures fails { result ≡ Err (Stop.Write) → 0 < failures_of out.new }
 {
     match reader.read_byte_record(fields) {
@@ -208,7 +208,7 @@ pub(crate) fn tell_records<S: Read + Drop, W: Write>(
     requires taken { engine.old.taken ≡ 0 }
     ensures tells { (xs : List ℕ) → S.remaining source ≡ Some xs →
         ((t : List ℕ) × Appends (held W.contents out.old) (held W.contents out.new) t
-        × Tells engine.old.config (events_of (records_of xs)) t result) }
+        × Tells engine.old.config (events_of engine.old.config (records_of xs)) t result) }
     ensures fails { result ≡ Err (Stop.Write) → 0 < failures_of out.new }
 {
     let mut reader = ReaderBuilder::new()

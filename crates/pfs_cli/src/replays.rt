@@ -34,7 +34,7 @@ pub(crate) fn feed_fault<R>(feed: &Feed<R>) -> ReplayFault
 
 // The fault of a run over this feed that stopped.
 pub(crate) fn fault_at<R>(stop: Stop, feed: &Feed<R>) -> ReplayFault
-    ensures told { (conf : Conf) (rs : List ℕ) (ts : List ℕ) (t : List ℕ) → Reads rs conf → Tells conf (trace_of ts) t (Err stop) → Replays rs ts t (Err result) }
+    ensures told { (conf : Conf) (rs : List ℕ) (ts : List ℕ) (t : List ℕ) → Reads rs conf → Tells conf (trace_of conf ts) t (Err stop) → Replays rs ts t (Err result) }
     ensures read { result ≡ ReplayFault.Read → 0 < read_failures feed.now }
     ensures endless { result ≡ ReplayFault.Endless → IsSpent feed.now }
     ensures write { result ≡ ReplayFault.Write → stop ≡ Stop.Write }
@@ -83,7 +83,7 @@ pub(crate) fn finish<R, W: Write>(
 ) -> Result<(), ReplayFault>
     requires { outcome ≡ Err (Stop.Write) → 0 < failures_of out.old }
     ensures kept { Keeps (held W.contents out.old) (held W.contents out.new) }
-    ensures told { (conf : Conf) (rs : List ℕ) (ts : List ℕ) (t : List ℕ) → Reads rs conf → Tells conf (trace_of ts) t outcome → Replays rs ts t result }
+    ensures told { (conf : Conf) (rs : List ℕ) (ts : List ℕ) (t : List ℕ) → Reads rs conf → Tells conf (trace_of conf ts) t outcome → Replays rs ts t result }
     ensures read { result ≡ Err ReplayFault.Read → 0 < read_failures feed.now }
     ensures endless { result ≡ Err ReplayFault.Endless → IsSpent feed.now }
     ensures write { result ≡ Err ReplayFault.Write → 0 < failures_of out.new }

@@ -2,8 +2,6 @@
 #![tactic(auto)]
 
 mod tasks;
-#[cfg(test)]
-mod tests;
 mod words;
 
 pub use tasks::Job;

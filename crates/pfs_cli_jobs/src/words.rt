@@ -1,11 +1,12 @@
 // How the words of the command line are read, with `clap`.
 
 ghost use Rattle.std.specs.Prelude.{◌≡◌, IfOk, map, false, codes, Some};
-ghost use Rattle.clap.specs.Words.{app_of, subcommand_of, rule_of, new_app, with_rule, first_of, found_of, rows_of};
+ghost use Rattle.clap.specs.Words.{app_of, subcommand_of, rule_of, new_app, with_rule, first_of, found_of, kind_of, rows_of};
 ghost use Rattle.clap.specs.declared.builder.command.Command.TheViews.{out-Command};
 ghost use Rattle.pfs_cli_jobs.specs.Jobs.{JobIs, pfsrc_app, file_rule};
 
 use crate::tasks::Job;
+use clap::error::ErrorKind;
 use clap::{Arg, ArgMatches, Command, Error};
 use std::alloc::{AllocError, Global};
 
@@ -19,7 +20,7 @@ pub fn job<'a>(alloc: Global, words: &'a [&'a str]) -> Result<Job<'a>, Error>
 {
     let matches = pfsrc(alloc)?.try_get_matches_from(words)?;
     match matches.subcommand() {
-        Some((name, found)) => job_of(name, found),
+        Some((name, found)) => job_of(alloc, name, found),
         None => Ok(Job::Joined),
     }
 }
@@ -103,23 +104,31 @@ fn trace_file<'a>(alloc: Global) -> Arg<'a>
 }
 
 /// The job of a subcommand.
-fn job_of<'a>(name: &str, found: &ArgMatches<'a>) -> Result<Job<'a>, Error>
+fn job_of<'a>(alloc: Global, name: &str, found: &ArgMatches<'a>) -> Result<Job<'a>, Error>
     ensures { IfOk result (JobIs (Some (name.now, rows_of (found_of found.now)))) }
 {
     match name {
-        "check" => Ok(Job::Check(named(found, "RULES")?)),
-        "show" => Ok(Job::Show(named(found, "RULES")?)),
-        "replay" => Ok(Job::Replay(named(found, "RULES")?, named(found, "TRACE")?)),
-        _ => Err(Error::from(AllocError)),
+        "check" => Ok(Job::Check(named(alloc, found, "RULES")?)),
+        "show" => Ok(Job::Show(named(alloc, found, "RULES")?)),
+        "replay" => Ok(Job::Replay(named(alloc, found, "RULES")?, named(alloc, found, "TRACE")?)),
+        _ => Err(mistake(alloc, ErrorKind::InvalidSubcommand)?),
     }
 }
 
-/// The file that was given under this name. `clap` asks for it before.
-fn named<'a>(found: &ArgMatches<'a>, id: &str) -> Result<&'a str, Error>
+/// The file that was given under this name; a mistake in the words where there is none, for which `clap` asks before.
+fn named<'a>(alloc: Global, found: &ArgMatches<'a>, id: &str) -> Result<&'a str, Error>
     ensures { IfOk result (λ r. first_of id.now (rows_of (found_of found.now)) ≡ Some r.now) }
 {
     match found.get_str(id) {
         Some(file) => Ok(file),
-        None => Err(Error::from(AllocError)),
+        None => Err(mistake(alloc, ErrorKind::MissingRequiredArgument)?),
     }
+}
+
+/// What is told of a mistake in the words: want of memory is told only where memory was refused.
+fn mistake(alloc: Global, kind: ErrorKind) -> Result<Error, AllocError>
+    ensures { IfOk result (λ e. kind_of e ≡ kind) }
+{
+    let mut program = pfsrc(alloc)?;
+    program.error(kind, "the words name no job")
 }

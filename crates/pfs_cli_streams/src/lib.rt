@@ -3,8 +3,6 @@
 
 mod feeds;
 mod sinks;
-#[cfg(test)]
-mod tests;
 mod writing;
 
 pub use feeds::Feed;

@@ -1,9 +1,9 @@
 -- What keeps the load rules, with its tables by their numbers, is such as a configuration has.
-use Rattle.std.proofs.Common.{◌≡◌, ℕ, ◌<◌, ◌≤◌, ◌||◌, ◌&&◌, not, Bool, true, false, cond, leb, List, [], ◌∷◌, ◌++◌, length, Option, Some, None, IfSome, is_some, refl, sym, ap, subst, ◌∙◌, arith, length-append}
+use Rattle.std.proofs.Common.{◌≡◌, ℕ, ◌<◌, ◌≤◌, Bool, true, false, cond, leb, List, [], ◌∷◌, ◌++◌, length, Option, Some, None, IfSome, refl, ◌∙◌, arith, length-append}
 use Rattle.std.proofs.lemmas.Bool.{leb-false}
 use Rattle.pfs_conf_tokens.specs.declared.refusals.LoadRule.{LoadRule}
 use Rattle.pfs_conf_tokens.specs.declared.refusals.LoadRule.TheVariants as load_rule
-use Rattle.pfs_conf_rules.specs.Drafts.{Drafted, number_of, with_name, tables_of}
+use Rattle.pfs_conf_rules.specs.Drafts.{Drafted, tables_of}
 use Rattle.pfs_conf_rules.specs.Namings.{Named, is_named, naming, undefined_table}
 use Rattle.pfs_conf_rules.specs.LoadRules.{IsTableNo, IsHost, IsSide, IsFilter, IsFlagTest, IsAction, IsRule, IsAnchor}
 use Rattle.pfs_conf_rules.specs.declared.actions.Action.{Action}
@@ -14,22 +14,20 @@ use Rattle.pfs_conf_rules.specs.declared.filters.Host.{Host}
 use Rattle.pfs_conf_rules.specs.declared.filters.Host.TheVariants as host
 use Rattle.pfs_conf_rules.specs.declared.filters.Side.{Side}
 use Rattle.pfs_conf_rules.specs.declared.filters.TableNo.{TableNo}
-use Rattle.pfs_conf_rules.specs.declared.items.Item.{Item}
 use Rattle.pfs_conf_rules.proofs.NamingLaws.{naming-IsPlaced}
 use Rattle.pfs_conf_filters.specs.declared.phrases.Hosts.{Hosts}
 use Rattle.pfs_conf_filters.specs.declared.phrases.Parameters.{Parameters}
 use Rattle.pfs_conf_filters.specs.declared.phrases.Verb.{Verb}
 use Rattle.pfs_conf_filters.specs.declared.phrases.Verb.TheVariants as verb
 use Rattle.pfs_conf_filters.specs.Sides.{lacks_proto, source_of, destination_of}
-use Rattle.pfs_conf_options.specs.declared.clauses.Options.{Options}
 use Rattle.pfs_conf_options.specs.declared.clauses.OverloadText.{OverloadText}
 use Rattle.pfs_conf_options.specs.declared.clauses.StateClause.{StateClause}
 use Rattle.pfs_conf_options.specs.declared.clauses.StateClause.TheVariants as clause
-use Rattle.pfs_conf_options.specs.Options.{no_options, options_of, has_overload_alone, has_global_connections, has_global_retention, has_broken_pair, resolved, AreRead}
+use Rattle.pfs_conf_options.specs.Options.{no_options, has_overload_alone, has_global_connections, has_global_retention, has_broken_pair, AreRead}
 use Rattle.pfs_conf_options.proofs.ReadLaws.{resolved_are}
 use Rattle.pfs_conf.specs.declared.phrases.RuleText.{RuleText}
 use Rattle.pfs_conf.specs.declared.phrases.AnchorText.{AnchorText}
-use Rattle.pfs_conf.specs.Statements.{name_host, number_host, number_side, name_overload, number_overload, filter_of, name_hosts, state_options, passing, action_of, default_flags, flags_or, name_rule, rule_action, rule_said, anchor_said, first_broken, keeps_on_block, is_full, rule_breaks, anchor_breaks}
+use Rattle.pfs_conf.specs.Statements.{name_host, number_host, number_side, name_overload, number_overload, filter_of, name_hosts, state_options, action_of, default_flags, flags_or, name_rule, rule_action, rule_said, anchor_said, keeps_on_block, is_full, rule_breaks, anchor_breaks}
 use Rattle.pfs_conf.specs.Within.{IsTableName, AreParameters, IsRuleText, IsAnchorText}
 
 -- ---- tables

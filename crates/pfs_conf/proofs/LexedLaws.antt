@@ -1,11 +1,9 @@
 -- The tokens of a text have the keys of their words, and so have those that a reader leaves.
-use Rattle.std.proofs.Common.{◌≡◌, ℕ, zero, suc, ◌==◌, ◌&&◌, Bool, true, false, cond, List, [], ◌∷◌, take, Result, Ok, refl}
+use Rattle.std.proofs.Common.{◌≡◌, ℕ, zero, suc, ◌==◌, ◌&&◌, Bool, true, false, cond, List, [], ◌∷◌, Ok, refl}
 use Rattle.pfs_conf_tokens.specs.declared.keys.Key.{Key}
-use Rattle.pfs_conf_tokens.specs.declared.keys.Key.TheVariants as key
 use Rattle.pfs_conf_tokens.specs.declared.lexer.Run.TheVariants as run
 use Rattle.pfs_conf_tokens.specs.Tokens.{Tok, token}
 use Rattle.pfs_conf_tokens.specs.Keys.{is_word_key}
-use Rattle.pfs_conf_tokens.specs.Words.{key_of}
 use Rattle.pfs_conf_tokens.specs.Lexis.{is_word_byte, is_space, mark_key, run_of, is_closed, in_front, piece, taken, tokens, tokens_of}
 use Rattle.pfs_conf_tokens.specs.Grammar.{Passes, stays, over}
 use Rattle.pfs_conf_tokens.specs.Reading.{Reader}

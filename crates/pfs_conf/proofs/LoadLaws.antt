@@ -1,7 +1,7 @@
 -- Texts, and what is answered of them.
-use Rattle.std.proofs.Common.{◌≡◌, ◌≤◌, ◌<◌, ℕ, Bool, true, false, List, [], ◌∷◌, ◌++◌, length, Option, Some, None, Result, Ok, Err, refl, sym, ap, subst, ◌∙◌, arith, inl, inr, ◌⊎◌}
+use Rattle.std.proofs.Common.{◌≡◌, ◌≤◌, ℕ, false, List, ◌∷◌, ◌++◌, length, Option, Some, None, Result, Ok, Err, refl, sym, ap, subst, ◌∙◌, arith, inl, inr, ◌⊎◌}
 use Rattle.std.specs.Prelude.{IfOk, IfErr, MatchResult}
-use Rattle.pfs_conf_tokens.specs.Tokens.{Tok, head, rest}
+use Rattle.pfs_conf_tokens.specs.Tokens.{Tok, head}
 use Rattle.pfs_conf_tokens.specs.Keys.{ends_text}
 use Rattle.pfs_conf_tokens.specs.Lexis.{tokens_of}
 use Rattle.pfs_conf_tokens.specs.Reading.{Refused, stop, broken, up_to_all}
@@ -17,17 +17,21 @@ use Rattle.pfs_conf_tokens.proofs.ShownLaws.{tokens_have_end}
 use Rattle.pfs_conf_rules.specs.Configs.{Conf}
 use Rattle.pfs_conf.specs.declared.faults.LoadFault.{LoadFault}
 use Rattle.pfs_conf.specs.declared.progress.Progress.{Progress}
-use Rattle.pfs_conf.specs.Kinds.{no_memory, fault, fault_of, kind_of, kind_of_rule}
+use Rattle.pfs_conf.specs.declared.kinds.Kind.{Kind}
+use Rattle.pfs_conf.specs.Kinds.{no_memory, fault, kind_of_rule, IsKindAt}
+use Rattle.pfs_conf.specs.Places.{IsBegun}
+use Rattle.pfs_conf.specs.Stopping.{fault_of, kind_of}
 use Rattle.pfs_conf.specs.Grammar.{TextOf, Statements, none, before, Breaks, at_rule, at_anchor, at_end}
 use Rattle.pfs_conf.specs.Giving.{Comes}
 use Rattle.pfs_conf.specs.Statements.{nothing}
 use Rattle.pfs_conf.specs.Reading.{statement_at, statements_at, text_at}
 use Rattle.pfs_conf.specs.Reads.{Reads, most_bytes, StopsAt, IsFault, IsTold}
 use Rattle.pfs_conf.specs.Reads as faults
-use Rattle.pfs_conf.specs.Loads.{IsFaultRead, long, memory, breaks, stops, IsConfRead, IsLoad}
+use Rattle.pfs_conf.specs.Loads.{IsFaultRead, long, memory, breaks, stops, IsLoad}
 use Rattle.pfs_conf.proofs.OnlineLaws.{online_text, statement_shrinks}
 use Rattle.pfs_conf.proofs.BreakLaws.{text_breaks_is}
 use Rattle.pfs_conf.proofs.PhraseLaws.{text_is}
+use Rattle.pfs_conf.proofs.PlaceLaws.{text_stops, kind_fits}
 use Rattle.pfs_conf.proofs.ReadLaws.{verb_key, rule_told, rule_statement, anchor_told, anchor_statement, statement_reads, statement_begins, statements_read, text_told, text_reads}
 
 -- where a statement is refused, so are the statements
@@ -96,10 +100,11 @@ told_broken text (Err e) b n h s k = told_fault text e b n s (breaks_told k) h
 
 -- ---- where reading stops
 
-hopeless_at : (text : List ℕ) (left : List Tok) (w : Why) → text_at (tokens_of text) ≡ Err (stop left w) → (t : Tok) × (m : List Tok) × (left ≡ t ∷ m) × StopsAt text t m
-hopeless_at text left w e =
+stops_at_token : (text : List ℕ) (left : List Tok) (w : Why) → text_at (tokens_of text) ≡ Err (stop left w) → (t : Tok) × (m : List Tok) × (left ≡ t ∷ m) × StopsAt text t m
+stops_at_token text left w e =
     let s = stops_at across text_at online_text (tokens_of text) left w e (tokens_have_end text) in
-    let here : text_at (s.0 ++ s.1 ∷ s.2) ≡ Err (stop (s.1 ∷ s.2) w) = ap text_at (sym s.4) ∙ e ∙ ap (λ (z : List Tok). Err (stop z w)) s.3 in (
+    let here : text_at (s.0 ++ s.1 ∷ s.2) ≡ Err (stop (s.1 ∷ s.2) w) = ap text_at (sym s.4) ∙ e ∙ ap (λ (z : List Tok). Err (stop z w)) s.3 in
+    let place = text_stops (tokens_of text) left w e in (
       s.1,
       s.2,
       s.3,
@@ -107,6 +112,10 @@ hopeless_at text left w e =
         before = s.0;
         splits = s.4;
         hopeless = λ other others conf p r. no_text across text_at online_text s.0 s.1 s.2 others w conf r.whole.left here (ap text_at (sym p) ∙ text_reads r.whole);
+        said = place.0;
+        begun = place.1;
+        statements = place.2;
+        begins = subst (λ (z : List Tok). IsBegun place.1 z) s.3 place.3;
       },
     )
 
@@ -115,8 +124,9 @@ told_as text e (long l k) = faults.long l k
 told_as text e (memory l k) = faults.memory k
 told_as text e (breaks l g k) = faults.breaks l (text_breaks_is g) k
 told_as text e (stops {w = w} {left = left} l g k) =
-    let s = hopeless_at text left w g in
-    faults.stops w s.0 s.1 l s.3 (k ∙ ap (λ (z : List Tok). fault (head z).line (kind_of w z)) s.2)
+    let s = stops_at_token text left w g in
+    let told : e ≡ fault s.0.line (kind_of w (s.0 ∷ s.1)) = k ∙ ap (λ (z : List Tok). fault (head z).line (kind_of w z)) s.2 in
+    faults.stops s.0 s.1 l s.3 (ap (λ (z : LoadFault). z.line) told) (subst (λ (z : Kind). IsKindAt s.0 z) (sym (ap (λ (z : LoadFault). z.kind) told)) (kind_fits w s.0 (head s.1).key))
 
 pub is_fault : (text : List ℕ) (r : Result Conf LoadFault) → IsLoad r text → IfErr r (λ e. IsFault text e)
 is_fault text (Ok c) h = tt

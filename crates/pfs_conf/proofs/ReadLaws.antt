@@ -1,21 +1,19 @@
 -- Each statement of the grammar is read.
-use Rattle.std.proofs.Common.{◌≡◌, ℕ, ◌≤◌, ◌==◌, Bool, true, false, cond, not, List, [], ◌∷◌, length, Option, Some, None, Result, Ok, Err, refl, sym, ap, subst, ◌∙◌, arith}
+use Rattle.std.proofs.Common.{◌≡◌, ℕ, ◌==◌, Bool, true, false, List, Option, Some, None, Result, Ok, Err, refl, sym, ap, subst, ◌∙◌, arith}
 use Rattle.std.proofs.lemmas.Bool.{ne_eqb}
-use Rattle.pfs_conf_tokens.specs.Tokens.{Tok, head, rest}
+use Rattle.pfs_conf_tokens.specs.Tokens.{Tok, head}
 use Rattle.pfs_conf_tokens.specs.declared.keys.Key.{Key}
 use Rattle.pfs_conf_tokens.specs.declared.keys.Key.TheVariants as key
 use Rattle.pfs_conf_tokens.specs.declared.refusals.LoadRule.{LoadRule}
-use Rattle.pfs_conf_tokens.specs.Keys.{ends_line, ends_text, is_word_key}
+use Rattle.pfs_conf_tokens.specs.Keys.{ends_line, ends_text}
 use Rattle.pfs_conf_tokens.specs.Grammar.{Word, Perhaps, absent, present, Until, ends, goes, UpTo}
-use Rattle.pfs_conf_tokens.specs.Reading.{Refused, broken, Reader, on_front, done, chain, perhaps, until_all, up_to_all, ended}
-use Rattle.pfs_conf_tokens.proofs.Laws.{ok_parts}
+use Rattle.pfs_conf_tokens.specs.Reading.{Refused, broken}
 use Rattle.pfs_conf_tokens.proofs.ReaderLaws.{word_head, ended_reads, perhaps_reads, Reads, until_reads, up_to_reads}
-use Rattle.pfs_addr.specs.Names.{name_of}
 use Rattle.pfs_conf_rules.specs.Configs.{Conf}
 use Rattle.pfs_conf_rules.specs.Drafts.{Drafted, finished}
 use Rattle.pfs_conf_rules.specs.declared.filters.FlagTest.{FlagTest}
-use Rattle.pfs_conf_filters.specs.Grammar.{Says, Behind, VerbOf, pass, block, DirOf, inward, outward, QuickOf, slow, quick, MarksOf, of_anchor, HeadOf, HostsOf, every, sides, ParametersOf, FlagsOf}
-use Rattle.pfs_conf_filters.specs.Reading.{verb_at, parameters_at, flags_at, begins_flags}
+use Rattle.pfs_conf_filters.specs.Grammar.{Behind, VerbOf, pass, block, DirOf, inward, outward, slow, quick, MarksOf, of_anchor, HostsOf, every, sides, ParametersOf, FlagsOf}
+use Rattle.pfs_conf_filters.specs.Reading.{flags_at, begins_flags}
 use Rattle.pfs_addr.specs.declared.packets.Dir.{Dir}
 use Rattle.pfs_conf_filters.specs.declared.phrases.Hosts.{Hosts}
 use Rattle.pfs_conf_filters.specs.declared.phrases.Parameters.{Parameters}
@@ -23,12 +21,8 @@ use Rattle.pfs_conf_filters.specs.declared.phrases.Statement.TheVariants as stat
 use Rattle.pfs_conf_filters.specs.declared.phrases.Verb.{Verb}
 use Rattle.pfs_conf_filters.specs.declared.phrases.Marks.{Marks}
 use Rattle.pfs_conf_filters.proofs.ReadLaws.{no_policy, ends_parameters, verb_reads, parameters_read, flags_read, parameters_head, flags_head}
-use Rattle.pfs_conf_options.specs.Grammar.{StateOf, no, keep}
-use Rattle.pfs_conf_options.specs.Reading.{state_at}
-use Rattle.pfs_conf_options.specs.declared.clauses.StateClause.{StateClause}
+use Rattle.pfs_conf_options.specs.Grammar.{no, keep}
 use Rattle.pfs_conf_options.proofs.PhraseLaws.{ends_state, state_reads}
-use Rattle.pfs_conf_settings.specs.Settings.{settings_at}
-use Rattle.pfs_conf_settings.specs.Tables.{parts_at}
 use Rattle.pfs_conf_settings.specs.SettingGrammar.{SettingOf}
 use Rattle.pfs_conf_settings.specs.TableGrammar.{PartsOf}
 use Rattle.pfs_conf_settings.specs.declared.tables.Parts.{Parts}
@@ -38,9 +32,9 @@ use Rattle.pfs_conf.specs.declared.phrases.Clauses.{Clauses}
 use Rattle.pfs_conf.specs.declared.phrases.RuleText.{RuleText}
 use Rattle.pfs_conf.specs.declared.phrases.AnchorText.{AnchorText}
 use Rattle.pfs_conf.specs.declared.progress.Progress.{Progress}
-use Rattle.pfs_conf.specs.Grammar.{ClauseOf, flags, state, RuleOf, names_anchor, AnchorNameOf, unnamed, named, AnchorOf, NewTableOf, StatementOf, blank, set, table, rule, anchor, close, Statements, none, before, TextOf}
-use Rattle.pfs_conf.specs.Statements.{nothing, with_draft, closed, no_clauses, with_rule, with_anchor, with_definition, rule_breaks, anchor_breaks, text_breaks}
-use Rattle.pfs_conf.specs.Reading.{told, clause_by, clause_at, rule_text_at, rule_at, anchor_name_at, brace_at, anchor_parts_at, in_head, anchor_text_at, anchor_at, set_at, open_by, close_by, table_name_by, table_name_at, table_at, statement_by, statement_at, all_closed, told_of, statements_at, text_at}
+use Rattle.pfs_conf.specs.Grammar.{ClauseOf, flags, state, RuleOf, names_anchor, AnchorNameOf, unnamed, named, AnchorOf, NewTableOf, StatementOf, blank, set, table, rule, anchor, close, TextOf}
+use Rattle.pfs_conf.specs.Statements.{nothing, with_draft, closed, with_rule, with_anchor, with_definition, rule_breaks, anchor_breaks, text_breaks}
+use Rattle.pfs_conf.specs.Reading.{clause_at, rule_text_at, rule_at, anchor_name_at, brace_at, anchor_parts_at, in_head, anchor_text_at, anchor_at, set_at, table_name_at, table_at, statement_at, statements_at, text_at}
 use Rattle.pfs_conf.proofs.OnlineLaws.{clause_shrinks, statement_shrinks}
 
 -- ---- rules

@@ -1,12 +1,12 @@
 -- Readers that ask no load rule: what they refuse, they refuse at a token.
-use Rattle.std.proofs.Common.{◌≡◌, ℕ, zero, suc, ◌&&◌, Bool, true, false, cond, leb, List, [], ◌∷◌, length, Option, Some, None, Result, Ok, Err, refl, inl, inr, ◌⊎◌}
+use Rattle.std.proofs.Common.{◌≡◌, ℕ, zero, suc, ◌&&◌, Bool, true, false, cond, leb, List, length, Option, Some, None, Result, Err, inl, inr}
 use Rattle.pfs_conf_tokens.specs.Tokens.{Tok, head, rest}
 use Rattle.pfs_conf_tokens.specs.declared.keys.Key.{Key}
 use Rattle.pfs_conf_tokens.specs.declared.keys.Key.TheVariants as key
 use Rattle.pfs_conf_tokens.specs.declared.refusals.LoadRule.{LoadRule}
 use Rattle.pfs_conf_tokens.specs.declared.refusals.Why.TheVariants as why
 use Rattle.pfs_conf_tokens.specs.Numbers.{number_of}
-use Rattle.pfs_conf_tokens.specs.Reading.{Refused, stop, broken, Reader, ◌>>=◌, Act, take, stay, refuse, act, on_front, done, chain, perhaps, once, turns, taken, left_there, until_all, up_to_all, comma_by, comma_at, next_of, list_all, ended_by, ended, skip_lines, skipping, number_in, number_by, number_at}
+use Rattle.pfs_conf_tokens.specs.Reading.{Refused, broken, Reader, Act, take, stay, refuse, act, on_front, done, chain, perhaps, once, turns, taken, left_there, until_all, up_to_all, comma_by, comma_at, next_of, list_all, ended_by, ended, skip_lines, skipping, number_in, number_by, number_at}
 use Rattle.pfs_conf_tokens.proofs.Laws.{bind_err}
 
 pub record Unbroken {A : Type 0} (f : List Tok → Result (A × List Tok) Refused) : Type 0 where

@@ -1,12 +1,12 @@
 -- The readers of parameters, of state clauses, of options and of tables ask no load rule.
-use Rattle.std.proofs.Common.{◌≡◌, ℕ, Bool, true, false, cond, List, [], ◌∷◌, Option, Some, None, refl, slice_index_or, slice_set}
+use Rattle.std.proofs.Common.{ℕ, Bool, true, false, List, [], Option, Some, None, slice_index_or, slice_set}
 use Rattle.pfs_conf_tokens.specs.Tokens.{Tok}
 use Rattle.pfs_conf_tokens.specs.declared.keys.Key.{Key}
 use Rattle.pfs_conf_tokens.specs.declared.keys.Key.TheVariants as key
 use Rattle.pfs_conf_tokens.specs.declared.refusals.Why.{Why}
 use Rattle.pfs_conf_tokens.specs.declared.refusals.Why.TheVariants as why
 use Rattle.pfs_conf_tokens.specs.Keys.{is_word_key, closes_parens, closes_braces, ends_line}
-use Rattle.pfs_conf_tokens.specs.Reading.{Reader, Act, take, stay, refuse, on_front, done, chain, perhaps, next_of, list_all, skipping, number_at}
+use Rattle.pfs_conf_tokens.specs.Reading.{Reader, Act, refuse, on_front, done, chain, skipping, number_at}
 use Rattle.pfs_addr.specs.Names.{name_of}
 use Rattle.pfs_addr.specs.Prefixes.{Network}
 use Rattle.pfs_addr.specs.Protocols.{proto_in}
@@ -39,7 +39,7 @@ use Rattle.pfs_conf_settings.specs.Settings.{timeout_named, limited, limit_by, l
 use Rattle.pfs_conf_settings.specs.Tables as tables
 use Rattle.pfs_conf_settings.specs.Tables.{again, joined, entered, entry_by, entry_at, lined_entry_at, entries_by, entries_at, unless, part_by, part_at, no_parts, parts_at}
 use Rattle.pfs_conf_settings.specs.declared.tables.Parts.{Parts}
-use Rattle.pfs_conf.proofs.UnbrokenLaws.{Unbroken, UnbrokenAct, unbroken_done, unbroken_chain, unbroken_front, unbroken_if, unbroken_once, unbroken_perhaps, unbroken_until, unbroken_up_to, unbroken_list, unbroken_skipping, unbroken_number}
+use Rattle.pfs_conf.proofs.UnbrokenLaws.{Unbroken, UnbrokenAct, unbroken_done, unbroken_chain, unbroken_front, unbroken_if, unbroken_once, unbroken_perhaps, unbroken_up_to, unbroken_list, unbroken_skipping, unbroken_number}
 
 -- ---- parameters
 

@@ -1,21 +1,21 @@
 -- What is read of single words and of parameters is within its bounds.
-use Rattle.std.proofs.Common.{◌≡◌, ℕ, suc, ◌<◌, ◌≤◌, ◌==◌, ◌&&◌, ◌||◌, Bool, true, false, cond, not, eqb, ltb, leb, nat_lt, nat_le, List, [], ◌∷◌, length, codes, Option, Some, None, IfSome, Result, Ok, refl, sym, ap, subst, ◌∙◌, arith, inl, inr, ◌⊎◌, bytes_eq}
-use Rattle.std.specs.List.{list_all, list_any}
-use Rattle.std.proofs.lemmas.Bool.{eqb-true, eqb-false, ltb-true, leb-true, and_parts}
+use Rattle.std.proofs.Common.{◌≡◌, ℕ, ◌<◌, ◌==◌, ◌||◌, Bool, true, false, cond, ltb, leb, List, [], ◌∷◌, length, codes, Option, Some, None, IfSome, refl, sym, ap, subst, ◌∙◌, arith, bytes_eq}
+use Rattle.std.specs.List.{list_all}
+use Rattle.std.proofs.lemmas.Bool.{eqb-false, ltb-true, leb-true, and_parts}
 use Rattle.std.proofs.lemmas.Slice.Eq.{bytes_eq-Decides}
-use Rattle.pfs_conf_tokens.specs.Tokens.{Tok, head}
+use Rattle.pfs_conf_tokens.specs.Tokens.{Tok}
 use Rattle.pfs_conf_tokens.specs.declared.keys.Key.{Key}
 use Rattle.pfs_conf_tokens.specs.declared.keys.Key.TheVariants as key
 use Rattle.pfs_conf_tokens.specs.Keys.{is_word_key}
 use Rattle.pfs_conf_tokens.specs.Words.{key_of}
 use Rattle.pfs_conf_tokens.specs.Numbers.{split_around}
-use Rattle.pfs_conf_tokens.specs.Grammar.{Word, Perhaps, absent, present, Until, ends, goes, NextOf, plain, comma, ListOf}
+use Rattle.pfs_conf_tokens.specs.Grammar.{Word, Perhaps, absent, present, Until, ends, goes, NextOf, plain, comma}
 use Rattle.pfs_conf_tokens.proofs.WordKeys.{key_of-Any, key_of-Rdomain}
 use Rattle.pfs_addr.specs.Names.{is_name, name_of}
 use Rattle.pfs_addr.specs.Numbers.{number_of}
 use Rattle.pfs_conf_tokens.specs.Numbers as text_numbers
 use Rattle.pfs_addr.specs.Protocols.{proto_of, proto_numbered, proto_in}
-use Rattle.pfs_addr.specs.Prefixes.{Network, IsNetwork, PrefixText, network_of}
+use Rattle.pfs_addr.specs.Prefixes.{Network, IsNetwork}
 use Rattle.pfs_addr.specs.Texts.{prefix_of}
 use Rattle.pfs_addr.specs.FlagSets.{flags_of, is_flag_letter, names_letter}
 use Rattle.pfs_addr.specs.declared.protocols.Proto.{Proto}
@@ -25,18 +25,15 @@ use Rattle.pfs_addr.proofs.PieceLaws.{prefix_of_parts}
 use Rattle.pfs_addr.proofs.PrefixLaws.{network_of_is_network}
 use Rattle.pfs_conf_rules.specs.LoadRules.{IsInterface, IsProto, ArePorts, IsHost, IsSide, IsFlagTest, has_a_flag}
 use Rattle.pfs_conf_rules.specs.declared.filters.FlagTest.{FlagTest}
-use Rattle.pfs_conf_rules.specs.declared.filters.FlagTest.TheVariants as test
 use Rattle.pfs_conf_rules.specs.declared.filters.Host.{Host}
-use Rattle.pfs_conf_rules.specs.declared.filters.Host.TheVariants as host
 use Rattle.pfs_conf_rules.specs.declared.filters.Interface.{Interface}
 use Rattle.pfs_conf_rules.specs.declared.filters.Ports.{Ports}
 use Rattle.pfs_conf_rules.specs.declared.filters.Side.{Side}
-use Rattle.pfs_conf_filters.specs.declared.phrases.Head.{Head}
 use Rattle.pfs_conf_filters.specs.declared.phrases.Hosts.{Hosts}
 use Rattle.pfs_conf_filters.specs.declared.phrases.Parameters.{Parameters}
 use Rattle.pfs_conf_filters.specs.declared.phrases.Statement.{Statement}
-use Rattle.pfs_conf_filters.specs.Values.{in_word, is_plain_word, in_plain_word, may_name_interface, interface_name, table_name, port_numbered, port_by, port_of, one_port, port_range, ports_around, ports_of, exactly, flags_around, flag_test_of, flag_test_by, flag_test}
-use Rattle.pfs_conf_filters.specs.Grammar.{Says, Behind, NegationOf, affirmed, negated, OnOf, on, HeadOf, HostOf, any, prefix, table, PortsOf, plainly, equals, SideOf, hosted, ported, HostsOf, every, sides, ParametersOf, FlagsOf, DirOf, inward, outward, LogItemOf, all, matches, user, to, LogListOf, bare, listed, LogOf, silent, logs, QuickOf, slow, quick, MarksOf, log_first, quick_first, of_anchor}
+use Rattle.pfs_conf_filters.specs.Values.{in_word, is_plain_word, in_plain_word, may_name_interface, interface_name, port_numbered, port_by, port_of, one_port, port_range, ports_around, ports_of, exactly, flags_around, flag_test_of, flag_test_by, flag_test}
+use Rattle.pfs_conf_filters.specs.Grammar.{Says, Behind, NegationOf, affirmed, negated, OnOf, on, HostOf, any, prefix, table, PortsOf, plainly, equals, SideOf, hosted, ported, HostsOf, every, sides, ParametersOf, FlagsOf, DirOf, inward, outward, LogItemOf, all, matches, user, to, bare, listed, LogOf, silent, logs, QuickOf, slow, quick, MarksOf, log_first, quick_first, of_anchor}
 use Rattle.pfs_conf_filters.specs.Sides.{any_side, source_of, destination_of}
 use Rattle.pfs_addr.specs.declared.packets.Dir.{Dir}
 use Rattle.pfs_conf_filters.specs.declared.phrases.Marks.{Marks}

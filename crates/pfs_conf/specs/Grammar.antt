@@ -1,6 +1,6 @@
 -- The grammar of statements: which tokens write them, what they add to what the statements before them say, and which tokens
 -- they leave. (pf.conf(5), GRAMMAR)
-use Rattle.std.specs.Prelude.{◌≡◌, ℕ, ◌≤◌, Bool, true, false, Option, Some, None, List, [], ◌∷◌}
+use Rattle.std.specs.Prelude.{◌≡◌, ℕ, ◌≤◌, Bool, true, false, Option, Some, None, List, ◌∷◌}
 use Rattle.pfs_conf_tokens.specs.Tokens.{Tok, head}
 use Rattle.pfs_conf_tokens.specs.Keys.{is_word_key}
 use Rattle.pfs_conf_tokens.specs.Grammar.{Word, Perhaps, Until, UpTo}

@@ -1,8 +1,10 @@
 pub mod Kinds
+pub mod Stopping
 pub mod Statements
 pub mod Grammar
 pub mod Reading
 pub mod Giving
 pub mod Within
+pub mod Places
 pub mod Reads
 pub mod Loads

@@ -3,7 +3,6 @@ use Rattle.std.specs.Prelude.{ℕ, ◌+◌, ◌-◌, Bool, true, false, if◌the
 use Rattle.std.specs.Option.{option_map}
 use Rattle.pfs_conf_tokens.specs.declared.refusals.LoadRule.{LoadRule}
 use Rattle.pfs_conf_tokens.specs.declared.refusals.LoadRule.TheVariants as load_rule
-use Rattle.pfs_addr.specs.declared.flag_sets.Flags.{Flags}
 use Rattle.pfs_conf_rules.specs.Drafts.{Drafted, empty_draft, number_of, with_name, with_table, with_item, const_overload, has_broken_pair, has_too_many_tables, has_too_many_entries}
 use Rattle.pfs_conf_rules.specs.declared.actions.Action.{Action}
 use Rattle.pfs_conf_rules.specs.declared.actions.Action.TheVariants as action
@@ -15,7 +14,6 @@ use Rattle.pfs_conf_rules.specs.declared.filters.Host.TheVariants as host
 use Rattle.pfs_conf_rules.specs.declared.filters.Side.{Side}
 use Rattle.pfs_conf_rules.specs.declared.filters.TableNo.{TableNo}
 use Rattle.pfs_conf_rules.specs.declared.items.Anchor.{Anchor}
-use Rattle.pfs_conf_rules.specs.declared.items.Item.{Item}
 use Rattle.pfs_conf_rules.specs.declared.items.Rule.{Rule}
 use Rattle.pfs_conf_rules.specs.declared.items.What.TheVariants as what
 use Rattle.pfs_conf_filters.specs.declared.phrases.Verb.{Verb}

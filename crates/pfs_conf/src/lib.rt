@@ -18,10 +18,11 @@ pub use faults::LoadFault;
 pub use kinds::Kind;
 pub use loading::load;
 pub use pfs_conf_rules::{
-    Action, Anchor, AnchorName, Config, Draft, Entries, Family, Filter, FlagTest, Host, Interface,
-    Item, LimitName, Limits, Overload, Ports, Rate, Rule, RuleNo, RuleTimeouts, Scope, Side,
-    StateOptions, TableDef, TableName, TableNo, TimeoutName, Timeouts, What,
+    Action, Anchor, AnchorName, Config, Entries, Family, Filter, FlagTest, Host, Interface, Item,
+    LimitName, Overload, Ports, Rate, Rule, RuleNo, RuleTimeouts, Scope, Side, StateOptions,
+    TableDef, TableName, TableNo, TimeoutName, What,
 };
+pub use pfs_conf_show::show;
 
 #[cfg(test)]
 mod tests;

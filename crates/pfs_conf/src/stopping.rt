@@ -2,7 +2,8 @@
 
 ghost use Rattle.std.specs.Prelude.{◌≡◌};
 ghost use Rattle.pfs_conf_tokens.specs.Tokens.{head, rest};
-ghost use Rattle.pfs_conf.specs.Kinds.{begins_with_letter, fault_of, has_byte, has_dollar, is_equals, is_foreign, is_left_out, is_named_value, is_number_key, kind_of, opens, wants_number};
+ghost use Rattle.pfs_conf.specs.Kinds.{has_byte, has_dollar, is_foreign, is_number_key, opens};
+ghost use Rattle.pfs_conf.specs.Stopping.{begins_with_letter, fault_of, is_equals, is_left_out, is_named_value, kind_of, wants_number};
 
 use crate::faults::LoadFault;
 use crate::kinds::Kind;

@@ -7,7 +7,6 @@ pub mod Counts
 mod KeptAdmission
 pub mod KeptHandshakes
 pub mod KeptPackets
-pub mod KeptRuns
 pub mod KeptTime
 pub mod Numbers
 pub mod OptionLaws

@@ -4,4 +4,5 @@ pub mod Machine
 pub mod Rates
 pub mod Refusals
 pub mod Runs
+pub mod Sources
 pub mod Visits

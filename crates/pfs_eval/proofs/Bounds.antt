@@ -1,3 +1,4 @@
+-- What a walk visits, between the fewest and the most comparisons.
 use Rattle.std.proofs.Common.{◌≡◌, ℕ, ◌+◌, ◌<◌, ◌≤◌, ◌==◌, suc, zero, max, Bool, true, false, not, ◌&&◌, cond, nat_lt, List, [], ◌∷◌, length, filter, Option, Some, None, refl, ap, sym, ◌∙◌, arith, add-one}
 use Rattle.std.specs.List.{take_while}
 use Rattle.std.proofs.lemmas.List.Sums.{take_while-cons}
@@ -7,8 +8,8 @@ use Rattle.pfs_conf_rules.specs.declared.items.Item.{Item}
 use Rattle.pfs_eval.specs.Verdict.{Place, is_quick, is_hit, cut}
 use Rattle.pfs_conf_rules.specs.Depths.{is_rule, next_depth, IsPreorder}
 use Rattle.pfs_eval.specs.Visits.{count_at, direct_items, opened_items, visit_bound, visit_floor}
-use Rattle.pfs_eval.specs.Lines.{stop_depth_of}
-use Rattle.pfs_eval.proofs.Paths.{shown, place_at, within, hides, rest_of, back}
+use Rattle.pfs_eval.specs.Lines.{back, stop_depth_of}
+use Rattle.pfs_eval.proofs.Paths.{shown, place_at, within, hides, rest_of}
 use Rattle.pfs_eval.proofs.Cuts.{walked, cut-walked}
 
 -- how many items are still to come as direct items of the main body or of the bodies that are open down to this depth

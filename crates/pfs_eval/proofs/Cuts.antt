@@ -1,10 +1,11 @@
+-- The path before its cut, as what a walk visits.
 use Rattle.std.proofs.Common.{◌≡◌, ℕ, ◌+◌, ◌<◌, ◌≤◌, max, Bool, true, false, ◌&&◌, ◌||◌, cond, nat_lt, nat_le, List, [], ◌∷◌, filter, map, Option, Some, None, refl, ap, arith}
 use Rattle.std.specs.List.{list_any}
 use Rattle.std.proofs.lemmas.Bool.Decides.{nat_tests}
 use Rattle.pfs_conf_rules.specs.declared.items.Item.{Item}
 use Rattle.pfs_eval.specs.Verdict.{Place, is_quick, is_hit, ends_before, cut_from, cut, last_or, verdict}
-use Rattle.pfs_eval.specs.Lines.{stop_depth_of}
-use Rattle.pfs_eval.proofs.Paths.{on_path, back, same_cond, rest_of, path-shown}
+use Rattle.pfs_eval.specs.Lines.{back, stop_depth_of}
+use Rattle.pfs_eval.proofs.Paths.{on_path, same_cond, rest_of, path-shown}
 
 -- what a walk visits, where a rule that matched ends it at items less deep than `stop`
 unfoldable pub walked : (Item → Bool) → ℕ → List Place → List Place

@@ -1,3 +1,4 @@
+-- The verdict is the number of a rule.
 use Rattle.std.proofs.Common.{◌≡◌, ℕ, ◌+◌, Bool, true, false, ◌&&◌, cond, List, [], ◌∷◌, filter, map, Option, Some, None, refl, ap, sym, ◌∙◌, arith, subst, suc}
 use Rattle.std.specs.Prelude.{IfSome, IsSome, option_map, slice_get}
 use Rattle.std.specs.List.{list_all, list_any}

@@ -1,9 +1,11 @@
-pub mod Paths
-pub mod Cuts
 pub mod Bounds
-pub mod Narrowest
+pub mod Cuts
 pub mod Deciding
 pub mod LinesMade
+pub mod Narrowest
+pub mod Paths
 pub mod Rooms
+pub mod SameFlags
+pub mod Skipping
 pub mod TextTables
 pub mod Visiting

@@ -1,30 +1,111 @@
-use Rattle.std.proofs.Common.{◌≡◌, ℕ, ◌+◌, ◌<◌, ◌≤◌, max, Bool, true, false, cond, nat_lt, nat_le, List, [], ◌∷◌, ◌++◌, length, drop, slice_get, Some, refl, ap, sym, ◌∙◌, arith, append_assoc, append-nil, replicate, get_or}
-use Rattle.std.proofs.lemmas.List.{drop_all, length-map, get_or-replicate}
+-- The lines of items, one after the other, and their skips.
+use Rattle.std.proofs.Common.{◌≡◌, ℕ, ◌+◌, ◌<◌, ◌≤◌, suc, zero, max, Bool, true, false, cond, nat_lt, nat_le, List, [], ◌∷◌, ◌++◌, length, drop, slice_get, Some, refl, ap, sym, subst, ◌∙◌, ◌⊎◌, inl, inr, arith, replicate, get_or, set}
+use Rattle.std.proofs.lemmas.List.{get_or-replicate, length-set}
+use Rattle.std.proofs.lemmas.Option.{slice_get_read, slice_get_within}
 use Rattle.std.proofs.lemmas.Bool.Decides.{nat_tests}
 use Rattle.std.proofs.lemmas.Bool.{cond-true, cond-false}
 use Rattle.pfs_conf_rules.specs.declared.items.Item.{Item}
+use Rattle.pfs_eval.specs.declared.comparing.Parameter.{Parameter}
 use Rattle.pfs_eval.specs.declared.lines.Line.{Line}
+use Rattle.pfs_eval.specs.declared.skips.Skips.{Skips}
+use Rattle.pfs_eval.specs.Lines.{AreLines, EachLine, IsLine, back, stop_depth_of}
+use Rattle.pfs_eval.specs.Matching.{filter_of}
+use Rattle.pfs_eval.specs.Parameters.{IsSame}
+use Rattle.pfs_eval.specs.Skips.{AreSkipsOf, IsSkip, behind, body_length, more, one, skip_of}
 use Rattle.pfs_eval.specs.Verdict.{enclosing, is_quick}
-use Rattle.pfs_eval.specs.Lines.{body_length, items_of, lines_from, lines_of, stop_depth_of}
-use Rattle.pfs_eval.proofs.Paths.{back, back-at, drop-at}
+use Rattle.pfs_eval.proofs.Paths.{back-at, drop-at, some_same}
 
--- no line yet
-pub lines-start : (items : List Item) (xs : List Line) → xs ≡ []
-    → xs ++ lines_from (back 0 [] items) 0 items ≡ lines_of items
-unfolding back
-lines-start items xs e = rw e refl
+-- ---- the item of a line
 
--- one more line
-pub lines-more : (items : List Item) (xs : List Line) (p : ℕ) (i : Item) (after stop : ℕ) → slice_get items p ≡ Some i
-    → after ≡ p + 1 + body_length i.depth (drop (p + 1) items)
-    → stop ≡ stop_depth_of (enclosing i.depth (back p [] items))
-    → xs ++ lines_from (back p [] items) p (drop p items) ≡ lines_of items
-    → (xs ++ record { item = i; behind = after; stop_depth = stop } ∷ []) ++ lines_from (back (p + 1) [] items) (p + 1)
-    (drop (p + 1) items) ≡ lines_of items
-unfolding lines_from
-lines-more items xs p i after stop at a l h =
-    rw (append_assoc, a, l, back-at items p i at)
-    (ap (λ ys. xs ++ lines_from (back p [] items) p ys) (sym (drop-at items p i at)) ∙ h)
+some_at : {X : Type 0} (xs : List X) (p : ℕ) → p < length xs → (x : X) × (slice_get xs p ≡ Some x)
+some_at [] p h = absurd (omega (arith, h))
+some_at (x ∷ xs) zero h = (x, refl)
+some_at (x ∷ xs) (suc p) h = some_at xs p (omega (arith, h))
+
+-- the item of a line
+pub record IsItem (items : List Item) (p : ℕ) (line : Line) : Type 0 where
+  pub item : Item
+  pub at : slice_get items p ≡ Some item
+  pub is : IsLine items p item line
+
+pub item_of : (items : List Item) (lines : List Line) (p : ℕ) (line : Line) → AreLines items lines
+    → slice_get lines p ≡ Some line → IsItem items p line
+item_of items lines p line a there =
+    let inside = slice_get_within lines p line there in
+    let found = some_at items p (omega (arith, inside, a.long)) in
+    record { item = found.0; at = found.1; is = a.each p found.0 line found.1 there }
+
+-- ---- one more line, and a line that is written anew
+
+get-more : {X : Type 0} (xs : List X) (y x : X) (p : ℕ) → slice_get (xs ++ y ∷ []) p ≡ Some x
+    → (slice_get xs p ≡ Some x) ⊎ ((p ≡ length xs) × (x ≡ y))
+get-more [] y x zero h = inr (refl, sym (some_same h))
+get-more [] y x (suc p) h = cc
+get-more (z ∷ xs) y x zero h = inl h
+get-more (z ∷ xs) y x (suc p) h = by (get-more xs y x p h)
+  where
+    by : (slice_get xs p ≡ Some x) ⊎ ((p ≡ length xs) × (x ≡ y))
+        → (slice_get (z ∷ xs) (suc p) ≡ Some x) ⊎ ((suc p ≡ length (z ∷ xs)) × (x ≡ y))
+    by (inl k) = inl k
+    by (inr k) = inr (omega (arith, k.0), k.1)
+
+get-set : {X : Type 0} (xs : List X) (y x : X) (p q : ℕ) → slice_get (set xs p y) q ≡ Some x
+    → (slice_get xs q ≡ Some x) ⊎ ((q ≡ p) × (x ≡ y))
+get-set [] y x p q h = inl h
+get-set (z ∷ xs) y x zero zero h = inr (refl, sym (some_same h))
+get-set (z ∷ xs) y x zero (suc q) h = inl h
+get-set (z ∷ xs) y x (suc p) zero h = inl h
+get-set (z ∷ xs) y x (suc p) (suc q) h = by (get-set xs y x p q h)
+  where
+    by : (slice_get xs q ≡ Some x) ⊎ ((q ≡ p) × (x ≡ y))
+        → (slice_get (z ∷ xs) (suc q) ≡ Some x) ⊎ ((suc q ≡ suc p) × (x ≡ y))
+    by (inl k) = inl k
+    by (inr k) = inr (ap suc k.0, k.1)
+
+pub each-none : (items : List Item) (lines : List Line) → lines ≡ [] → EachLine items lines
+each-none items lines e p i line at there = cc
+
+is_line : (items : List Item) (p q : ℕ) (i j : Item) (line other : Line) → p ≡ q → line ≡ other → slice_get items p ≡ Some i
+    → slice_get items q ≡ Some j → IsLine items q j other → IsLine items p i line
+is_line items p q i j line other e f at there h =
+    let same : i ≡ j = some_same (sym at ∙ ap (slice_get items) e ∙ there) in
+    rw (e, f, same) h
+
+pub each-more : (items : List Item) (lines new : List Line) (p : ℕ) (i : Item) (line : Line) → new ≡ lines ++ line ∷ []
+    → length lines ≡ p → slice_get items p ≡ Some i → IsLine items p i line → EachLine items lines → EachLine items new
+each-more items lines new p i line e long at is each q j other here there = by (get-more lines line other q (rw e at there))
+  where
+    by : (slice_get lines q ≡ Some other) ⊎ ((q ≡ length lines) × (other ≡ line)) → IsLine items q j other
+    by (inl k) = each q j other here k
+    by (inr k) = is_line items q p j i other line (k.0 ∙ long) k.1 here at is
+
+pub each-set : (items : List Item) (lines new : List Line) (p : ℕ) (line other : Line) (s : Skips) → EachLine items lines
+    → slice_get lines p ≡ Some line → AreSkipsOf items p s
+    → other ≡ record { asked = line.asked; skips = s; next = line.next; depth = line.depth; stop_depth = line.stop_depth; is_rule = line.is_rule }
+    → new ≡ set lines p other → EachLine items new
+each-set items lines new p line other s each old skips eo en q i found here there = by (get-set lines other found p q (rw en at there))
+  where
+    by : (slice_get lines q ≡ Some found) ⊎ ((q ≡ p) × (found ≡ other)) → IsLine items q i found
+    by (inl k) = each q i found here k
+    by (inr k) =
+        let at : slice_get items p ≡ Some i = ap (slice_get items) (sym k.0) ∙ here in
+        let l = each p i line at old in
+        let made : IsLine items p i (record { asked = line.asked; skips = s; next = line.next; depth = line.depth; stop_depth = line.stop_depth; is_rule = line.is_rule })
+        = record { asked = l.asked; skips = skips i at; next = l.next; depth = l.depth; stop = l.stop; rule = l.rule } in
+        is_line items q p i i found _ k.0 (k.1 ∙ eo) here at made
+
+-- a line whose skips are written anew
+pub lines-set : (items : List Item) (lines : List Line) (p : ℕ) (line : Line) (s : Skips) → AreLines items lines
+    → slice_get lines p ≡ Some line → AreSkipsOf items p s
+    → AreLines items (set lines p (record { asked = line.asked; skips = s; next = line.next; depth = line.depth; stop_depth = line.stop_depth; is_rule = line.is_rule }))
+lines-set items lines p line s a at skips = record {
+  long = length-set lines p _ ∙ a.long;
+  each = each-set items lines _ p line _ s a.each at skips refl refl;
+  few = a.few;
+  preorder = a.preorder;
+}
+
+-- ---- the depths at which the evaluation ends
 
 stop-cons : (d : ℕ) (i : Item) (before : List Item) (v w : ℕ) → v ≡ stop_depth_of (enclosing i.depth before)
     → w ≡ stop_depth_of (enclosing d before)
@@ -49,13 +130,6 @@ depths-more items p i stop old new at e s h k d l =
     k d (omega arith) ∙ stop-cons d i (back p [] items) stop (old d) (e ∙ h i.depth (omega arith)) (h d l)
     ∙ ap (λ bs. stop_depth_of (enclosing d bs)) (sym (back-at items p i at))
 
--- there is no further line
-pub lines-end : (items : List Item) (xs : List Line) (p : ℕ) → length items ≤ p
-    → xs ++ lines_from (back p [] items) p (drop p items) ≡ lines_of items → xs ≡ lines_of items
-unfolding lines_from
-lines-end items xs p l h = sym (append-nil xs)
-    ∙ sym (ap (λ ys. xs ++ lines_from (back p [] items) p ys) (drop_all p items l)) ∙ h
-
 zeros : (d : ℕ) → d ≤ 17 → get_or {A = ℕ} (replicate 18 0) d 0 ≡ 0
 zeros d l = get_or-replicate 18 d 0 0 (omega arith)
 
@@ -77,16 +151,48 @@ pub body-more : (items : List Item) (p d : ℕ) (i : Item) → slice_get items p
 body-more items p d i at h = let in_body : nat_lt d i.depth ≡ true = grind (arith, nat_tests) in ap (body_length d)
     (drop-at items p i at) ∙ cond-true (nat_lt d i.depth) _ _ in_body
 
-items-lines : (before : List Item) (n : ℕ) (items : List Item) → items_of (lines_from before n items) ≡ items
-unfolding lines_from
-items-lines before n [] = refl
-items-lines before n (i ∷ rest) = ap (λ xs. i ∷ xs) (items-lines (i ∷ before) (n + 1) rest)
+-- ---- skips
 
--- the items of the lines
-pub items-of : (items : List Item) (xs : List Line) → xs ≡ lines_of items → items_of xs ≡ items
-items-of items xs e = rw e (items-lines [] 0 items)
+-- what a look-up by place tells
+pub looked_up : {X : Type 0} (xs : List X) (p : ℕ) (x : X) → (true ≡ nat_lt p (length xs)) × (x ≡ get_or xs p x)
+    → slice_get xs p ≡ Some x
+looked_up xs p x h = let within : p < length xs = grind (arith, nat_tests, h.0) in slice_get_read xs _ p x refl within h.1
 
--- there are as many
-pub length-of : (items : List Item) (xs : List Line) → xs ≡ lines_of items → length xs ≡ length items
-length-of items xs e = sym (length-map xs (λ (l : Line). l.item))
-    ∙ ap (λ (ys : List Item). length ys) (items-of items xs e)
+-- behind the body of the item of a line
+behind_of : (items : List Item) (p q : ℕ) (i : Item) (line : Line) → IsLine items p i line
+    → q ≡ p + 1 + body_length line.depth (drop (p + 1) items) → behind items p i ≡ q
+behind_of items p q i line l e = sym (e ∙ ap (λ d. p + 1 + body_length d (drop (p + 1) items)) l.depth)
+
+-- an item skips its own body
+pub skips-own : (items : List Item) (p q : ℕ) (i : Item) (s : Skips) → q ≡ behind items p i
+    → ((k : Parameter) → skip_of s k ≡ q) → (k : Parameter) → IsSkip k items p i (skip_of s k)
+skips-own items p q i s e h k = subst (λ r. IsSkip k items p i r) (sym (h k ∙ e)) one
+
+pub skips-alone : (items : List Item) (lines : List Line) (p q : ℕ) (line : Line) (s : Skips) → AreLines items lines
+    → slice_get lines p ≡ Some line → q ≡ p + 1 + body_length line.depth (drop (p + 1) items)
+    → ((k : Parameter) → skip_of s k ≡ q) → AreSkipsOf items p s
+skips-alone items lines p q line s a there e h i at k =
+    skips-own items p q i s (sym (behind_of items p q i line (a.each p i line at there) e)) h k
+
+-- an item skips the next one of its body too, with its skip, where both ask the same
+pub skips-joined : (items : List Item) (lines : List Line) (p q : ℕ) (line next : Line) (s : Skips) → AreLines items lines
+    → slice_get lines p ≡ Some line → slice_get lines q ≡ Some next
+    → q ≡ p + 1 + body_length line.depth (drop (p + 1) items) → next.depth ≡ line.depth
+    → ((k : Parameter) → (skip_of s k ≡ q) ⊎ (IsSame k line.asked.filter next.asked.filter × (skip_of s k ≡ skip_of next.skips k)))
+    → AreSkipsOf items p s
+skips-joined items lines p q line next s a there then e d h i at k = by (h k)
+  where
+    by : (skip_of s k ≡ q) ⊎ (IsSame k line.asked.filter next.asked.filter × (skip_of s k ≡ skip_of next.skips k))
+        → IsSkip k items p i (skip_of s k)
+    by (inl near) = let l = a.each p i line at there in
+        subst (λ r. IsSkip k items p i r) (behind_of items p q i line l e ∙ sym near) one
+    by (inr far) =
+        let l = a.each p i line at there in
+        let j = item_of items lines q next a then in
+        let b = behind_of items p q i line l e in
+        let same : IsSame k (filter_of i.what) (filter_of j.item.what) = subst (λ f. IsSame k f (filter_of j.item.what)) l.asked
+        (subst (λ f. IsSame k line.asked.filter f) j.is.asked far.0) in
+        let rest : IsSkip k items (behind items p i) j.item (skip_of next.skips k) = subst (λ r. IsSkip k items r j.item (skip_of next.skips k))
+        (sym b) (j.is.skips k) in
+        subst (λ r. IsSkip k items p i r) (sym far.1)
+        (more (ap (slice_get items) b ∙ j.at) (sym j.is.depth ∙ d ∙ l.depth) same rest)

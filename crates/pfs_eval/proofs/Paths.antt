@@ -1,3 +1,4 @@
+-- The path, as a walk over places finds it.
 use Rattle.std.proofs.Common.{◌≡◌, ℕ, ◌+◌, ◌≤◌, suc, zero, Bool, true, false, ◌&&◌, cond, nat_lt, nat_le, List, [], ◌∷◌, length, drop, drop-cons, slice_get, Option, Some, None, refl, ap, ◌∙◌, arith, add-zero, add-one, one-add, add-suc, add_comm, not}
 use Rattle.std.specs.List.{list_all}
 use Rattle.std.proofs.lemmas.List.{drop_all, drop-drop}
@@ -5,7 +6,8 @@ use Rattle.std.proofs.lemmas.Option.{slice_get_within, get_or_from_slice_get}
 use Rattle.std.proofs.lemmas.Bool.Decides.{nat_tests}
 use Rattle.pfs_conf_rules.specs.declared.items.Item.{Item}
 use Rattle.pfs_eval.specs.Verdict.{Place, enclosing, path_from}
-use Rattle.pfs_eval.specs.Lines.{body_length}
+use Rattle.pfs_eval.specs.Lines.{back}
+use Rattle.pfs_eval.specs.Skips.{body_length}
 
 -- whether all anchors around an item of this depth match, so that it is on the path
 unfoldable pub on_path : (Item → Bool) → ℕ → List Item → Bool
@@ -106,13 +108,7 @@ path-shown m h before n (i ∷ rest) k =
 
 -- ---- places in the list
 
--- the items in front of place_at k, the nearest first
-unfoldable pub back : ℕ → List Item → List Item → List Item
-back zero before items = before
-back (suc k) before [] = before
-back (suc k) before (i ∷ rest) = back k (i ∷ before) rest
-
--- the path from place_at p on, where p is on it
+-- the path from a place on, where it is on it
 unfoldable pub rest_of : (Item → Bool) → List Item → ℕ → List Place
 rest_of m items p = shown m None (back p [] items) p (drop p items)
 
@@ -153,7 +149,7 @@ shown-jump m h before n (i ∷ rest) =
     jump_step m h before n i rest (nat_lt h i.depth) (nat_le i.depth h) (grind (arith, nat_tests))
     (shown-jump m h (i ∷ before) (n + 1) rest)
 
--- ---- one place_at of the walk
+-- ---- one place of the walk
 
 pub rest-end : (m : Item → Bool) (items : List Item) (p : ℕ) → length items ≤ p → rest_of m items p ≡ []
 unfolding rest_of shown

@@ -2,6 +2,8 @@ pub mod Entries
 pub mod Holdings
 pub mod Lines
 pub mod Matching
+pub mod Parameters
+pub mod Skips
 pub mod Tables
 pub mod Verdict
 pub mod Visits

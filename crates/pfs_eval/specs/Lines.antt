@@ -1,10 +1,20 @@
-use Rattle.std.specs.Prelude.{ℕ, ◌≡◌, ◌≤◌, ◌+◌, Bool, max, nat_lt, if◌then◌else◌, Some, List, [], ◌∷◌, length, map}
-use Rattle.std.specs.List.{prefix_len}
+-- What a walk over items reads of each of them.
+use Rattle.std.specs.Prelude.{ℕ, suc, zero, ◌≡◌, ◌≤◌, ◌+◌, ◌&&◌, max, if◌then◌else◌, Option, Some, None, List, [], ◌∷◌, length, slice_get}
 use Rattle.pfs_conf_rules.specs.Depths.{is_rule, IsPreorder}
 use Rattle.pfs_conf_rules.specs.declared.items.Item.{Item}
+use Rattle.pfs_conf_rules.specs.declared.items.What.{What}
+use Rattle.pfs_eval.specs.Matching.{filter_of}
+use Rattle.pfs_eval.specs.Skips.{IsSkip, skip_of}
 use Rattle.pfs_eval.specs.Verdict.{enclosing, is_quick}
+use Rattle.pfs_eval.specs.declared.comparing.Parameter.{Parameter}
 use Rattle.pfs_eval.specs.declared.lines.Line.{Line}
 use Rattle.pfs_eval.specs.declared.walks.Walk.{Walk}
+
+-- the items in front of a place, the nearest first, and then those before
+unfoldable pub back : ℕ → List Item → List Item → List Item
+back zero before items = before
+back (suc k) before [] = before
+back (suc k) before (i ∷ rest) = back k (i ∷ before) rest
 
 -- a rule that matched inside these anchors ends the evaluation at the first item of lesser depth than this: one more than
 -- the depth of the innermost quick one, or 0 if none is quick
@@ -12,37 +22,34 @@ abbrev pub stop_depth_of : List Item → ℕ
 stop_depth_of [] = 0
 stop_depth_of (a ∷ outer) = if is_quick a.what then max (a.depth + 1) (stop_depth_of outer) else stop_depth_of outer
 
--- how many of these items, which stand behind an item of this depth, are its body
-abbrev pub body_length : ℕ → List Item → ℕ
-body_length depth items = prefix_len (λ (i : Item). nat_lt depth i.depth) items
+-- where a walk goes on behind an item at p that matches: a quick rule ends it
+abbrev pub next_place : List Item → ℕ → What → ℕ
+next_place items p what = if is_rule what && is_quick what then length items else p + 1
 
--- the line of each item: the place behind its body, and the depth at which a match there ends the evaluation
-unfoldable pub lines_from : List Item → ℕ → List Item → List Line
-lines_from before n [] = []
-lines_from before n (i ∷ rest) =
-    record { item = i; behind = n + 1 + body_length i.depth rest; stop_depth = stop_depth_of (enclosing i.depth before) }
-    ∷ lines_from (i ∷ before) (n + 1) rest
+-- the line of the item i at p
+pub record IsLine (items : List Item) (p : ℕ) (i : Item) (line : Line) : Type 0 where
+  pub asked : line.asked.filter ≡ filter_of i.what
+  pub skips : (k : Parameter) → IsSkip k items p i (skip_of line.skips k)
+  pub next : line.next ≡ next_place items p i.what
+  pub depth : line.depth ≡ i.depth
+  pub stop : line.stop_depth ≡ stop_depth_of (enclosing i.depth (back p [] items))
+  pub rule : line.is_rule ≡ is_rule i.what
 
-abbrev pub lines_of : List Item → List Line
-lines_of items = lines_from [] 0 items
-
--- the items of lines
-abbrev pub items_of : List Line → List Item
-items_of lines = map (λ (l : Line). l.item) lines
+-- each of these lines is that of its item
+abbrev pub EachLine : List Item → List Line → Type 0
+EachLine items lines = (p : ℕ) (i : Item) (line : Line) → slice_get items p ≡ Some i → slice_get lines p ≡ Some line → IsLine items p i line
 
 -- the lines of the items of a configuration
-pub record AreLines (lines : List Line) : Type 0 where
-  pub made : lines ≡ lines_of (items_of lines)
-  pub few : length lines ≤ 10000
-  pub preorder : IsPreorder 0 (items_of lines)
+pub record AreLines (items : List Item) (lines : List Line) : Type 0 where
+  pub long : length lines ≡ length items
+  pub each : EachLine items lines
+  pub few : length items ≤ 10000
+  pub preorder : IsPreorder 0 items
 
--- a walk behind a visit to a line whose item matches, or does not
-abbrev pub walk_after : Walk → Line → Bool → Walk
-walk_after w line holds =
-    if holds
-    then (if is_rule line.item.what
-    then (if is_quick line.item.what
-    then record { place = 4294967295; stop_depth = w.stop_depth; found = Some w.place }
-    else record { place = w.place + 1; stop_depth = max w.stop_depth line.stop_depth; found = Some w.place })
-    else record { place = w.place + 1; stop_depth = w.stop_depth; found = w.found })
-    else record { place = line.behind; stop_depth = w.stop_depth; found = w.found }
+-- a walk behind a visit to a line, where a parameter failed, or none
+abbrev pub walk_after : Walk → Line → Option Parameter → Walk
+walk_after w line (Some k) = record { place = skip_of line.skips k; stop_depth = w.stop_depth; found = w.found }
+walk_after w line None =
+    if line.is_rule
+    then record { place = line.next; stop_depth = max w.stop_depth line.stop_depth; found = Some w.place }
+    else record { place = line.next; stop_depth = w.stop_depth; found = w.found }

@@ -1,4 +1,4 @@
-// The book of a configuration's rules, and their verdict on a packet.
+//! The book of a configuration's rules, and their verdict on a packet.
 
 ghost use Rattle.std.specs.Prelude.{◌≡◌, ◌+◌, ◌-◌, ◌≤◌, ◌<◌, ◌^◌, All, IfOk, IfSome, length, option_map};
 ghost use Rattle.pfs_conf_rules.specs.Depths.{IsPreorder};
@@ -7,32 +7,32 @@ ghost use Rattle.pfs_eval.specs.Matching.{matches_item};
 ghost use Rattle.pfs_eval.specs.Verdict.{IsRuleAt, cut, verdict};
 ghost use Rattle.pfs_eval.specs.Visits.{visit_bound, visit_floor};
 
-use crate::lines::{Line, lines};
-use crate::matching::matches_item;
+use crate::lines::{Line, item_at, lines};
 use crate::tables::Tables;
 use crate::walks::Walk;
 use pfs_addr::{Meter, NoMemory, Packet};
-use pfs_conf_rules::{Config, RuleNo};
-use std::alloc::Global;
+use pfs_conf_rules::{Config, Item, RuleNo};
+use std::alloc::{AllocError, Global};
 use std::marker::Model;
 
 /// The rules and anchors of a configuration, made ready for evaluation. Clauses see the list of its items.
 /// (pf.conf(5), PACKET FILTERING and ANCHORS)
 #[derive(Drop)]
 pub struct Book {
+    items: Vec<Item>,
     lines: Vec<Line>,
 }
 
 impl Model for Book {
     ghost use Rattle.std.specs.Prelude.{List};
     ghost use Rattle.pfs_conf_rules.specs.declared.items.Item.{Item};
-    ghost use Rattle.pfs_eval.specs.Lines.{AreLines, items_of};
+    ghost use Rattle.pfs_eval.specs.Lines.{AreLines};
 
     ghost Value = { List Item };
 
-    ghost view = { λ b. items_of b.lines.items };
+    ghost view = { λ b. b.items.items };
 
-    ghost invariant = { λ b. AreLines b.lines.items };
+    ghost invariant = { λ b. AreLines b.items.items b.lines.items };
 }
 
 impl Book {
@@ -41,6 +41,7 @@ impl Book {
         ensures { IfOk result (λ b. b ≡ config.now.items) }
     {
         Ok(Book {
+            items: items(alloc, config)?,
             lines: lines(alloc, config)?,
         })
     }
@@ -48,6 +49,8 @@ impl Book {
     /// The rule that decides on a packet, if one does: the last that matches, where a matching quick rule ends the
     /// evaluation, and a quick anchor ends it where it is left if a rule inside it matched. The items of an anchor are
     /// compared only with packets that match it. Without a rule, the packet passes without a state.
+    ///
+    /// An item that fails on a parameter is left behind together with those after it that ask the same there.
     ///
     /// The meter rises by one for each item that is compared with the packet: at most by the number of main items and of
     /// the direct items of each anchor that matches before the end, at least by the number of items that match before it.
@@ -78,11 +81,11 @@ impl Book {
             found: None,
         };
         while (walk.place as usize) < lines.len()
-            && walk.stop_depth <= lines[walk.place as usize].item.depth
+            && walk.stop_depth <= lines[walk.place as usize].depth
         {
             let line = &lines[walk.place as usize];
-            meter.tick();
-            walk = walk.on(line, matches_item(tables, packet, &line.item));
+            let failed = line.asked.failing(tables, packet, meter);
+            walk = walk.on(line, failed);
         }
         walk.found
     }
@@ -95,4 +98,16 @@ fn rule_no(found: Option<u32>) -> Option<RuleNo>
         Some(place) => Some(RuleNo(place)),
         None => None,
     }
+}
+
+// The items of a configuration.
+fn items(alloc: Global, config: &Config) -> Result<Vec<Item>, AllocError>
+    ensures { IfOk result (λ v. v.items ≡ config.now.items) }
+{
+    let count = config.item_count();
+    let mut items = Vec::with_capacity(alloc, count as usize)?;
+    for place in 0..count {
+        items.extend_from_slice(&[*item_at(config, place)])?;
+    }
+    Ok(items)
 }

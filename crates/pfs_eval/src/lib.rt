@@ -1,10 +1,11 @@
-// The tables of a configuration, and the verdict of its rules on a packet.
+//! The tables of a configuration, and the verdict of its rules on a packet.
 #![tactic(auto)]
 
 mod books;
+mod comparing;
 mod entries;
 mod lines;
-mod matching;
+mod skips;
 mod tables;
 mod walks;
 

@@ -1,29 +1,47 @@
-// The items of a book, each with what a walk over them has to know of its surroundings.
+//! What a walk reads of each item of a book.
 
-ghost use Rattle.std.specs.Prelude.{◌≡◌, ◌+◌, ◌<◌, ◌≤◌, ℕ, IfOk, Some, drop, if◌then◌else◌, length, max, nat_le, slice_get, slice_index};
+ghost use Rattle.std.specs.Prelude.{◌≡◌, ◌+◌, ◌<◌, ◌≤◌, ℕ, [], IfOk, Some, drop, if◌then◌else◌, length, max, nat_le, slice_get, slice_index};
 ghost use Rattle.pfs_conf_rules.specs.Configs.{IsConfig};
-ghost use Rattle.pfs_eval.specs.Lines.{body_length, lines_of};
-ghost use Rattle.pfs_eval.specs.Verdict.{is_quick};
+ghost use Rattle.pfs_conf_rules.specs.Depths.{is_rule};
+ghost use Rattle.pfs_eval.specs.Lines.{AreLines, IsLine, back, next_place, stop_depth_of};
+ghost use Rattle.pfs_eval.specs.Skips.{AreSkipsOf, body_length};
+ghost use Rattle.pfs_eval.specs.Verdict.{enclosing, is_quick};
 
+use crate::comparing::Asked;
+use crate::skips::Skips;
 use pfs_conf_rules::{Config, Item, What};
 use std::alloc::{AllocError, Global};
 
-/// An item, and where a walk goes on from it.
+/// What a walk reads of an item: what is compared, and where the walk goes on.
 #[derive(Debug, Clone, Copy)]
 pub struct Line {
-    /// The item.
-    pub item: Item,
-    /// The place behind the item's body, where a walk goes on if the item does not match.
-    pub behind: u32,
+    /// What the item asks of packets.
+    pub asked: Asked,
+    /// Where a walk goes on if one of its parameters fails.
+    pub skips: Skips,
+    /// Where a walk goes on if the item matches: at the next item, or behind the last one where it is a quick rule.
+    pub next: u32,
+    /// The number of anchors around the item.
+    pub depth: u8,
     /// If the item is a rule and matches, the walk ends at the first item of lesser depth than this: one more than the
     /// depth of the innermost quick anchor around the item, or 0 if none is quick.
     pub stop_depth: u8,
+    /// Whether the item is a rule, and no anchor.
+    pub is_rule: bool,
 }
 
 /// The lines of a configuration's items.
 pub fn lines(alloc: Global, config: &Config) -> Result<Vec<Line>, AllocError>
-    ensures lines { IfOk result (λ v. v.items ≡ lines_of config.now.items) }
-    ensures sound { IsConfig config.now }
+    ensures { IfOk result (λ v. AreLines config.now.items v.items) }
+{
+    let mut lines = short_lines(alloc, config)?;
+    lengthen(config, &mut lines);
+    Ok(lines)
+}
+
+// The lines of a configuration's items, each of which skips its own body alone.
+fn short_lines(alloc: Global, config: &Config) -> Result<Vec<Line>, AllocError>
+    ensures { IfOk result (λ v. AreLines config.now.items v.items) }
 {
     let count = config.item_count();
     let mut lines = Vec::with_capacity(alloc, count as usize)?;
@@ -31,19 +49,74 @@ pub fn lines(alloc: Global, config: &Config) -> Result<Vec<Line>, AllocError>
     for place in 0..count {
         let item = item_at(config, place);
         let stop_depth = stop_depths[item.depth as usize];
-        let line = Line {
-            item: *item,
-            behind: body_end(config, place + 1, item.depth),
-            stop_depth,
-        };
         // not `push`, whose error would carry the line
-        lines.extend_from_slice(&[line])?;
+        lines.extend_from_slice(&[short_line(config, place, item, stop_depth)])?;
         set_from(&mut stop_depths, item.depth + 1, inside(item, stop_depth));
     }
     Ok(lines)
 }
 
-/// The first place, from one on, whose item does not stand deeper than this, or the number of items.
+// The line of an item, which skips its own body alone.
+fn short_line(config: &Config, place: u32, item: &Item, stop_depth: u8) -> Line
+    requires place { place < length config.now.items }
+    requires at { slice_get config.now.items place ≡ Some item.now }
+    requires stop { stop_depth ≡ stop_depth_of (enclosing item.now.depth (back place [] config.now.items)) }
+    ensures { IsLine config.now.items place item.now result }
+{
+    let next = next_place(config, place, &item.what);
+    Line {
+        asked: Asked::of(&item.what),
+        skips: Skips::all_to(body_end(config, place + 1, item.depth)),
+        next,
+        depth: item.depth,
+        stop_depth,
+        is_rule: is_rule(&item.what),
+    }
+}
+
+// Lets each line skip as far as it may, from the last to the first.
+fn lengthen(config: &Config, lines: &mut [Line])
+    requires { AreLines config.now.items lines.old }
+    ensures { AreLines config.now.items lines.new }
+{
+    for place in (0..config.item_count()).rev() {
+        lines[place as usize].skips = skips_at(config, lines, place);
+    }
+}
+
+// The skips of the item at a place, from those of the next item of its body.
+fn skips_at(config: &Config, lines: &[Line], place: u32) -> Skips
+    requires place { place < length config.now.items }
+    requires lines { AreLines config.now.items lines.now }
+    ensures { AreSkipsOf config.now.items place result }
+{
+    let line = &lines[place as usize];
+    let behind = body_end(config, place + 1, line.depth);
+    match lines.get(behind as usize) {
+        Some(next) if next.depth == line.depth => Skips::joined(
+            &line.asked,
+            &next.asked,
+            behind,
+            &next.skips,
+        ),
+        _ => Skips::all_to(behind),
+    }
+}
+
+// Where a walk goes on behind an item that matches.
+fn next_place(config: &Config, place: u32, what: &What) -> u32
+    requires { place < length config.now.items }
+    ensures { result ≡ next_place config.now.items place what.now }
+{
+    let count = config.item_count();
+    if is_rule(what) && is_quick(what) {
+        count
+    } else {
+        place + 1
+    }
+}
+
+// The first place, from one on, whose item does not stand deeper than this, or the number of items.
 fn body_end(config: &Config, from: u32, depth: u8) -> u32
     requires { from ≤ length config.now.items }
     ensures value { result ≡ from + body_length depth (drop from config.now.items) }
@@ -58,7 +131,8 @@ fn body_end(config: &Config, from: u32, depth: u8) -> u32
     count
 }
 
-fn item_at(config: &Config, place: u32) -> &Item
+/// The item at a place, which is one of the configuration's.
+pub fn item_at(config: &Config, place: u32) -> &Item
     requires { place < length config.now.items }
     ensures item { slice_get config.now.items place ≡ Some result.now }
     ensures shallow { result.now.depth ≤ 16 }
@@ -67,7 +141,7 @@ fn item_at(config: &Config, place: u32) -> &Item
     config.item(place).unwrap()
 }
 
-/// The stop depth of rules in an item's body, from that of the item.
+// The stop depth of rules in an item's body, from that of the item.
 fn inside(item: &Item, stop_depth: u8) -> u8
     requires { item.now.depth ≤ 16 }
     ensures { result ≡ (if is_quick item.now.what then max (item.now.depth + 1) stop_depth else stop_depth) }
@@ -77,6 +151,13 @@ fn inside(item: &Item, stop_depth: u8) -> u8
     } else {
         stop_depth
     }
+}
+
+// Whether this is a rule, and no anchor.
+fn is_rule(what: &What) -> bool
+    ensures { result ≡ is_rule what.now }
+{
+    matches!(what, What::Rule(_))
 }
 
 /// Whether `quick` stands in a rule or an anchor.
@@ -89,7 +170,7 @@ pub fn is_quick(what: &What) -> bool
     }
 }
 
-/// Writes a value at each place from one on.
+// Writes a value at each place from one on.
 fn set_from(stop_depths: &mut [u8; 18], from: u8, value: u8)
     ensures { (d : ℕ) → d < 18 → slice_index stop_depths.new d ≡ (if nat_le from d then value else slice_index stop_depths.old d) }
 {

@@ -1,9 +1,9 @@
-// A walk over the lines of a book: where it stands, where it ends, and the last rule that matched.
+//! A walk over the lines of a book: where it stands, where it ends, and the last rule that matched.
 
-ghost use Rattle.std.specs.Prelude.{◌≡◌, ◌-◌, ◌<◌, ◌^◌};
+ghost use Rattle.std.specs.Prelude.{◌≡◌};
 
-use crate::lines::{Line, is_quick};
-use pfs_conf_rules::What;
+use crate::comparing::Parameter;
+use crate::lines::Line;
 
 /// Where a walk stands.
 #[derive(Debug, Clone, Copy)]
@@ -19,32 +19,24 @@ pub struct Walk {
 impl Walk {
     ghost use Rattle.pfs_eval.specs.Lines.{walk_after};
 
-    /// The walk behind a visit to this line, whose item matched or did not.
-    pub fn on(self, line: &Line, holds: bool) -> Walk
-        requires { self.place < 2 ^ 32 - 1 }
-        ensures { result ≡ walk_after self line.now holds }
+    /// The walk behind a visit to this line, where a parameter failed, or none.
+    pub fn on(self, line: &Line, failed: Option<Parameter>) -> Walk
+        ensures { result ≡ walk_after self line.now failed }
     {
-        if !holds {
+        if let Some(parameter) = failed {
             return Walk {
-                place: line.behind,
+                place: line.skips.to(parameter),
                 ..self
             };
         }
-        if let What::Anchor(_) = &line.item.what {
+        if !line.is_rule {
             return Walk {
-                place: self.place + 1,
+                place: line.next,
                 ..self
-            };
-        }
-        if is_quick(&line.item.what) {
-            return Walk {
-                place: u32::MAX,
-                stop_depth: self.stop_depth,
-                found: Some(self.place),
             };
         }
         Walk {
-            place: self.place + 1,
+            place: line.next,
             stop_depth: self.stop_depth.max(line.stop_depth),
             found: Some(self.place),
         }

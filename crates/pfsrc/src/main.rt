@@ -4,8 +4,7 @@
 
 use clap::Error;
 use clap::error::ErrorKind;
-use pfs_cli::{Job, ReplayFault, job, perform, status};
-use pfs_cli_streams::{Feed, Sink};
+use pfs_cli::{Feed, Job, ReplayFault, Sink, job, perform, status};
 use std::alloc::AllocError;
 use std::env;
 use std::fs::File;
@@ -20,8 +19,9 @@ fn main(rt: HostRuntime) -> ExitCode {
 }
 
 fn run(rt: &HostRuntime) -> u8 {
-    let Ok(words) = words(rt) else {
-        return told(rt, &ReplayFault::Memory);
+    let words = match words(rt) {
+        Ok(words) => words,
+        Err(error) => return wordless(rt, &error),
     };
     let Ok(names) = names(rt, &words) else {
         return told(rt, &ReplayFault::Memory);
@@ -87,6 +87,15 @@ fn open(rt: &HostRuntime, name: &str) -> Result<File, ReplayFault> {
 fn told(rt: &HostRuntime, fault: &ReplayFault) -> u8 {
     let _ = eprintln!(rt; "{fault}");
     status(fault)
+}
+
+/// Tells that the words could not be taken: one is not UTF-8, which is a mistake in the words, or memory was refused.
+fn wordless(rt: &HostRuntime, error: &io::Error) -> u8 {
+    if error.kind() == io::ErrorKind::InvalidData {
+        let _ = eprintln!(rt; "error: a word is not UTF-8");
+        return 2;
+    }
+    told(rt, &ReplayFault::Memory)
 }
 
 /// Tells what `clap` says of the words: help on standard output with status 0, a mistake on standard error with status 2.

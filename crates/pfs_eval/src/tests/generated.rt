@@ -4,8 +4,8 @@ ghost use Rattle.std.specs.Prelude.{◌≡◌, ◌≤◌, ◌<◌, ◌+◌, ℕ,
 ghost use Rattle.pfs_conf_rules.specs.LoadRules.{IsFilter, IsHost, IsTableNo};
 
 use super::drafting::{EVERY, SYN, drafted, finished, open, packet, port, push};
+use crate::comparing::Asked;
 use crate::lines::is_quick;
-use crate::matching::matches_item;
 use crate::{Book, Tables};
 use pfs_addr::{Addr, Dir, Meter, Packet, Proto};
 use pfs_conf_rules::{Config, Filter, FlagTest, Host, Item, RuleNo, Side, TableNo, What};
@@ -217,7 +217,9 @@ fn compare(
     for n in 0..config.item_count() {
         let item = config.item(n).ok_or("no item")?;
         items.extend_from_slice(&[*item])?;
-        matching.push(matches_item(&tables, packet, item))?;
+        let asked = Asked::of(&item.what);
+        let failed = asked.failing(&tables, packet, &mut Meter::new());
+        matching.push(failed.is_none())?;
     }
     assert!(rt; items.len() == matching.len());
     let (found, places) = plain_verdict(rt.alloc(), &items, &matching)?;

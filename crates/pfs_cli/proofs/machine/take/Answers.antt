@@ -4,7 +4,7 @@ use Rattle.pfs_cli.proofs.machine.take.Goals as goal
 pub returns-in-Packet-clause-ok : goal.returns-in-Packet-clause-ok
 returns-in-Packet-clause-ok c =
     step-packet c.args.engine.now.config c.advance.new.self.config c.args.engine.now.machine c.advance.new.self.machine c.packet.new.self.machine c.args.event.now c.in-Packet.packet c.packet.result
-    c.advance.ensures.config c.advance.ensures.machine c.in-Packet.is c.packet.ensures.ok
+    c.advance.ensures.config c.advance.ensures.machine c.in-Packet.is c.packet.ensures.last c.packet.ensures.ok
 
 pub returns-in-Skip-clause-ok : goal.returns-in-Skip-clause-ok
 returns-in-Skip-clause-ok c =

@@ -1,5 +1,3 @@
-use Rattle.std.proofs.Common.{◌≡◌, ◌<◌, ◌≤◌, length}
-use Rattle.pfs_conf_rules.specs.LoadRules.{IsAnchor}
 use Rattle.pfs_conf.proofs.KeepLaws.{anchor_is_kept}
 use Rattle.pfs_conf.proofs.anchors.push_anchor.Goals as goal
 

@@ -1,7 +1,5 @@
-use Rattle.std.proofs.Common.{◌≡◌, ◌≤◌, ℕ, length, refl, sym, ap, ◌∙◌, arith}
-use Rattle.pfs_conf.specs.Kinds.{fault_of}
+use Rattle.std.proofs.Common.{sym, ap, ◌∙◌, arith}
 use Rattle.pfs_conf.specs.Reading.{text_at}
-use Rattle.pfs_conf.specs.Loads.{IsFaultRead}
 use Rattle.pfs_conf.proofs.LexedLaws.{tokens_lexed}
 use Rattle.pfs_conf.proofs.LoadLaws.{fault_read}
 use Rattle.pfs_conf.proofs.loading.read.Goals as goal

@@ -1,4 +1,4 @@
-use Rattle.std.proofs.Common.{◌≡◌, sym, ◌∙◌}
+use Rattle.std.proofs.Common.{sym, ◌∙◌}
 use Rattle.std.proofs.lemmas.Result.{err_from_is_err_and}
 use Rattle.pfs_conf_tokens.specs.Keys.{ends_line}
 use Rattle.pfs_conf_tokens.specs.Giving.{refused}

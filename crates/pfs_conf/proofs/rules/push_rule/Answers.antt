@@ -1,6 +1,3 @@
-use Rattle.std.proofs.Common.{◌≡◌, ◌<◌, ◌≤◌, length, refl, sym, ap, ◌∙◌, subst}
-use Rattle.pfs_conf_rules.specs.Depths.{depth_after}
-use Rattle.pfs_conf_rules.specs.LoadRules.{IsRule}
 use Rattle.pfs_conf.proofs.KeepLaws.{rule_items, rule_has_room, rule_is_kept}
 use Rattle.pfs_conf.proofs.rules.push_rule.Goals as goal
 

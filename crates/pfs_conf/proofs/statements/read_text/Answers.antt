@@ -1,6 +1,4 @@
-use Rattle.std.proofs.Common.{◌≡◌, ◌<◌, ℕ, Ok, None, refl, sym, ap, ◌∙◌, arith}
-use Rattle.pfs_conf.specs.Reading.{text_at}
-use Rattle.pfs_conf.specs.Statements.{text_breaks}
+use Rattle.std.proofs.Common.{sym, ◌∙◌, arith}
 use Rattle.pfs_conf.proofs.ReadLaws.{text_ends}
 use Rattle.pfs_conf.proofs.LoadLaws.{not_some}
 use Rattle.pfs_conf.proofs.statements.read_text.Goals as goal

@@ -1,5 +1,5 @@
 use Rattle.std.proofs.Common.{◌≡◌, ◌+◌, drop}
-use Rattle.pfs_eval.specs.Lines.{body_length}
+use Rattle.pfs_eval.specs.Skips.{body_length}
 use Rattle.pfs_eval.proofs.lines.body_end.Given as goal
 
 abbrev pub invariant-loop-place : goal.invariant-loop-place

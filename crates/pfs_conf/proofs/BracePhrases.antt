@@ -1,0 +1,201 @@
+-- The readers of options and of tables end no line but in braces.
+use Rattle.std.proofs.Common.{◌≡◌, ℕ, Bool, true, false, List, [], ◌∷◌, ◌++◌, Option, Some, None, refl}
+use Rattle.pfs_conf_tokens.specs.Keys.{is_word_key}
+use Rattle.pfs_conf_tokens.specs.declared.keys.Key.{Key}
+use Rattle.pfs_conf_tokens.specs.declared.keys.Key.TheVariants as key
+use Rattle.pfs_conf_tokens.specs.declared.refusals.Why.TheVariants as why
+use Rattle.pfs_conf_tokens.specs.Reading.{Act, take, refuse, on_front, done, chain, skipping, number_at}
+use Rattle.pfs_addr.specs.Names.{name_of}
+use Rattle.pfs_addr.specs.Prefixes.{Network}
+use Rattle.pfs_addr.specs.Texts.{prefix_of}
+use Rattle.pfs_conf_rules.specs.Entries.{Entry, sign_of}
+use Rattle.pfs_conf_rules.specs.declared.limits.LimitName.{LimitName}
+use Rattle.pfs_conf_rules.specs.declared.limits.LimitName.TheVariants as limit
+use Rattle.pfs_conf_rules.specs.declared.timeouts.TimeoutName.{TimeoutName}
+use Rattle.pfs_conf_rules.specs.Drafts.{Drafted, with_limit, with_timeout, is_defined}
+use Rattle.pfs_conf_settings.specs.Settings.{timeout_named, value_at, limited, limit_by, limit_at, least_value, greatest_value, unkept, timed, time_by, time_at, lined_limit_at, lined_time_at, limits_by, limits_at, times_by, times_at, settings_by, settings_at}
+use Rattle.pfs_conf_settings.specs.Tables.{negation_by, negation_at, again, joined, entered, entry_by, entry_at, lined_entry_at, entries_by, entries_at, unless, part_by, part_at, parts_at, no_parts}
+use Rattle.pfs_conf_settings.specs.declared.tables.Parts.{Parts}
+use Rattle.pfs_conf.specs.Reading.{open_by, close_by, table_named, table_name_by, table_name_at}
+use Rattle.pfs_conf.proofs.BraceLaws.{Keeps, KeepsAct, keeps_done, keeps_chain, keeps_front, keeps_if, keeps_once, keeps_word, keeps_number, keeps_up_to_line, keeps_list, keeps_skipping}
+
+-- ---- options (pf.conf(5), OPTIONS)
+
+keeps_value : (lined : Bool) (low high : ℕ) → Keeps lined lined (value_at lined low high)
+unfolding value_at
+keeps_value true low high = keeps_skipping (number_at low high) (keeps_number true low high)
+keeps_value false low high = keeps_number false low high
+
+limited_acts : (lined : Bool) (name : LimitName) (d : Drafted) (k : Key) → is_word_key k ≡ true → KeepsAct lined lined k (limited lined name d)
+limited_acts lined name d k e = keeps_word lined lined k _ e (keeps_chain (value_at lined 1 4294967295) (λ n. done (with_limit name n d)) (keeps_value lined 1 4294967295) (λ n. keeps_done (with_limit name n d)))
+
+limit_acts : (lined : Bool) (d : Drafted) (k : Key) → KeepsAct lined lined k (limit_by lined d k)
+limit_acts lined d key.States = limited_acts lined limit.States d key.States refl
+limit_acts lined d key.SrcNodes = limited_acts lined limit.SrcNodes d key.SrcNodes refl
+limit_acts lined d key.Tables = limited_acts lined limit.Tables d key.Tables refl
+limit_acts lined d key.TableEntries = limited_acts lined limit.TableEntries d key.TableEntries refl
+limit_acts lined d key.Frags = keeps_word lined lined key.Frags _ refl (keeps_chain (value_at lined 1 4294967295) (λ n. done d) (keeps_value lined 1 4294967295) (λ n. keeps_done d))
+limit_acts lined d _ = tt
+
+keeps_limit : (lined : Bool) (d : Drafted) → Keeps lined lined (limit_at lined d)
+unfolding limit_at
+keeps_limit lined d = keeps_front (λ t. limit_by lined d t.key) (λ t. limit_acts lined d t.key)
+
+named_is_word : (k : Key) (name : TimeoutName) → timeout_named k ≡ Some name → is_word_key k ≡ true
+named_is_word key.Quoted name e = absurd cc
+named_is_word key.OpenBrace name e = absurd cc
+named_is_word key.CloseBrace name e = absurd cc
+named_is_word key.OpenParen name e = absurd cc
+named_is_word key.CloseParen name e = absurd cc
+named_is_word key.OpenAngle name e = absurd cc
+named_is_word key.CloseAngle name e = absurd cc
+named_is_word key.Comma name e = absurd cc
+named_is_word key.Not name e = absurd cc
+named_is_word key.Equals name e = absurd cc
+named_is_word key.LineEnd name e = absurd cc
+named_is_word key.End name e = absurd cc
+named_is_word key.Bad name e = absurd cc
+named_is_word _ name e = refl
+
+timed_acts : (lined : Bool) (d : Drafted) (k : Key) (o : Option TimeoutName) → timeout_named k ≡ o → KeepsAct lined lined k (timed lined d o)
+timed_acts lined d k None e = tt
+timed_acts lined d k (Some name) e = keeps_word lined lined k _ (named_is_word k name e)
+    (keeps_chain (value_at lined (least_value name) (greatest_value name)) (λ n. done (with_timeout name n d)) (keeps_value lined (least_value name) (greatest_value name)) (λ n. keeps_done (with_timeout name n d)))
+
+unkept_acts : (lined : Bool) (d : Drafted) (k : Key) → is_word_key k ≡ true → KeepsAct lined lined k (unkept lined d)
+unkept_acts lined d k e = keeps_word lined lined k _ e (keeps_chain (value_at lined 0 2147483647) (λ n. done d) (keeps_value lined 0 2147483647) (λ n. keeps_done d))
+
+time_acts : (lined : Bool) (d : Drafted) (k : Key) → KeepsAct lined lined k (time_by lined d k)
+time_acts lined d key.Frag = unkept_acts lined d key.Frag refl
+time_acts lined d key.TcpTsdiff = unkept_acts lined d key.TcpTsdiff refl
+time_acts lined d key.IcmpFirst = unkept_acts lined d key.IcmpFirst refl
+time_acts lined d key.IcmpError = unkept_acts lined d key.IcmpError refl
+time_acts lined d k = timed_acts lined d k (timeout_named k) refl
+
+keeps_time : (lined : Bool) (d : Drafted) → Keeps lined lined (time_at lined d)
+unfolding time_at
+keeps_time lined d = keeps_front (λ t. time_by lined d t.key) (λ t. time_acts lined d t.key)
+
+keeps_lines : {A : Type 0} (x : A) → Keeps true true (skipping (done x))
+keeps_lines x = keeps_skipping (done x) (keeps_done x)
+
+keeps_lined_limit : (d : Drafted) → Keeps true true (lined_limit_at d)
+unfolding lined_limit_at
+keeps_lined_limit d = keeps_skipping (chain (limit_at true d) (λ e. skipping (done e))) (keeps_chain (limit_at true d) (λ e. skipping (done e)) (keeps_limit true d) (λ e. keeps_lines e))
+
+keeps_lined_time : (d : Drafted) → Keeps true true (lined_time_at d)
+unfolding lined_time_at
+keeps_lined_time d = keeps_skipping (chain (time_at true d) (λ e. skipping (done e))) (keeps_chain (time_at true d) (λ e. skipping (done e)) (keeps_time true d) (λ e. keeps_lines e))
+
+limits_acts : (d : Drafted) (k : Key) → KeepsAct false false k (limits_by d k)
+limits_acts d key.OpenBrace = (refl, keeps_list lined_limit_at keeps_lined_limit d)
+limits_acts d _ = keeps_limit false d
+
+keeps_limits : (d : Drafted) → Keeps false false (limits_at d)
+unfolding limits_at
+keeps_limits d = keeps_front (λ t. limits_by d t.key) (λ t. limits_acts d t.key)
+
+times_acts : (d : Drafted) (k : Key) → KeepsAct false false k (times_by d k)
+times_acts d key.OpenBrace = (refl, keeps_list lined_time_at keeps_lined_time d)
+times_acts d _ = keeps_time false d
+
+keeps_times : (d : Drafted) → Keeps false false (times_at d)
+unfolding times_at
+keeps_times d = keeps_front (λ t. times_by d t.key) (λ t. times_acts d t.key)
+
+settings_acts : (d : Drafted) (k : Key) → KeepsAct false false k (settings_by d k)
+settings_acts d key.Limit = (refl, keeps_limits d)
+settings_acts d key.Timeout = (refl, keeps_times d)
+settings_acts d _ = tt
+
+pub keeps_settings : (d : Drafted) → Keeps false false (settings_at d)
+unfolding settings_at
+keeps_settings d = keeps_front (λ t. settings_by d t.key) (λ t. settings_acts d t.key)
+
+-- ---- tables (pf.conf(5), TABLES)
+
+negation_acts : (k : Key) → KeepsAct true true k (negation_by k)
+negation_acts key.Not = (refl, keeps_done true)
+negation_acts _ = keeps_done false
+
+keeps_negation : Keeps true true negation_at
+unfolding negation_at
+keeps_negation = keeps_front (λ t. negation_by t.key) (λ t. negation_acts t.key)
+
+held_acts : (k : Key) (entries : List Entry) → is_word_key k ≡ true → KeepsAct true true k (take (done entries))
+held_acts k entries e = keeps_word true true k (done entries) e (keeps_done entries)
+
+again_acts : (k : Key) (entries : List Entry) (negated held : Bool) → is_word_key k ≡ true → KeepsAct true true k (again entries negated held)
+again_acts k entries true true e = held_acts k entries e
+again_acts k entries false false e = held_acts k entries e
+again_acts k entries true false e = tt
+again_acts k entries false true e = tt
+
+joined_acts : (k : Key) (entries : List Entry) (negated : Bool) (p : Network) (o : Option Bool) → is_word_key k ≡ true → KeepsAct true true k (joined entries negated p o)
+joined_acts k entries negated p None e = held_acts k (entries ++ (p, negated) ∷ []) e
+joined_acts k entries negated p (Some held) e = again_acts k entries negated held e
+
+entered_acts : (k : Key) (entries : List Entry) (negated : Bool) (o : Option Network) → is_word_key k ≡ true → KeepsAct true true k (entered entries negated o)
+entered_acts k entries negated None e = tt
+entered_acts k entries negated (Some p) e = joined_acts k entries negated p (sign_of entries p) e
+
+keeps_entry : (entries : List Entry) (negated : Bool) → Keeps true true (entry_at entries negated)
+unfolding entry_at
+keeps_entry entries negated = keeps_front (λ t. entry_by entries negated t)
+    (λ t. keeps_if true true t.key (is_word_key t.key) (entered entries negated (prefix_of t.text)) (refuse why.Host) (λ e. entered_acts t.key entries negated (prefix_of t.text) e) (λ e. tt))
+
+keeps_signed : (entries : List Entry) (negated : Bool) → Keeps true true (skipping (chain (entry_at entries negated) (λ more. skipping (done more))))
+keeps_signed entries negated = keeps_skipping (chain (entry_at entries negated) (λ more. skipping (done more))) (keeps_chain (entry_at entries negated) (λ more. skipping (done more)) (keeps_entry entries negated) (λ more. keeps_lines more))
+
+keeps_lined_entry : (entries : List Entry) → Keeps true true (lined_entry_at entries)
+unfolding lined_entry_at
+keeps_lined_entry entries =
+    keeps_skipping (chain negation_at (λ negated. skipping (chain (entry_at entries negated) (λ more. skipping (done more)))))
+    (keeps_chain negation_at (λ negated. skipping (chain (entry_at entries negated) (λ more. skipping (done more)))) keeps_negation (keeps_signed entries))
+
+entries_acts : (k : Key) → KeepsAct true false k (entries_by k)
+entries_acts key.CloseBrace = (refl, keeps_done [])
+entries_acts _ = keeps_list lined_entry_at keeps_lined_entry []
+
+keeps_entries : Keeps true false entries_at
+unfolding entries_at
+keeps_entries = keeps_skipping (on_front (λ t. entries_by t.key)) (keeps_front (λ t. entries_by t.key) (λ t. entries_acts t.key))
+
+unless_acts : {A : Type 0} (k : Key) (b : Bool) (a : Act A) → KeepsAct false false k a → KeepsAct false false k (unless b a)
+unless_acts k true a h = tt
+unless_acts k false a h = h
+
+part_acts : (p : Parts) (k : Key) → KeepsAct false false k (part_by p k)
+part_acts p key.Persist = unless_acts key.Persist p.persist _ (refl, keeps_done (record p { persist = true }))
+part_acts p key.Const = unless_acts key.Const p.is_const _ (refl, keeps_done (record p { is_const = true }))
+part_acts p key.Counters = unless_acts key.Counters p.counters _ (refl, keeps_done (record p { counters = true }))
+part_acts p key.OpenBrace = keeps_once false false key.OpenBrace p.entries _ (refl, keeps_chain entries_at (λ entries. done (record p { entries = Some entries })) keeps_entries (λ entries. keeps_done (record p { entries = Some entries })))
+part_acts p _ = tt
+
+keeps_part : (p : Parts) → Keeps false false (part_at p)
+unfolding part_at
+keeps_part p = keeps_front (λ t. part_by p t.key) (λ t. part_acts p t.key)
+
+pub keeps_parts : Keeps false false parts_at
+unfolding parts_at
+keeps_parts = keeps_up_to_line part_at keeps_part no_parts
+
+open_acts : (k : Key) → KeepsAct false false k (open_by k)
+open_acts key.OpenAngle = (refl, keeps_done tt)
+open_acts _ = tt
+
+close_acts : (k : Key) → KeepsAct false false k (close_by k)
+close_acts key.CloseAngle = (refl, keeps_done tt)
+close_acts _ = tt
+
+named_acts : (d : Drafted) (k : Key) (o : Option (List ℕ)) → is_word_key k ≡ true → KeepsAct false false k (table_named d o)
+named_acts d k None e = tt
+named_acts d k (Some name) e = keeps_if false false k (is_defined name d) (refuse why.Again) (take (done name)) (λ h. tt) (λ h. keeps_word false false k (done name) e (keeps_done name))
+
+pub keeps_table_name : (d : Drafted) → Keeps false false (table_name_at d)
+unfolding table_name_at
+keeps_table_name d = keeps_chain (on_front (λ t. open_by t.key)) (λ u. chain (on_front (λ t. table_name_by d t)) (λ n. chain (on_front (λ t. close_by t.key)) (λ v. done n)))
+    (keeps_front (λ t. open_by t.key) (λ t. open_acts t.key))
+    (λ u. keeps_chain (on_front (λ t. table_name_by d t)) (λ n. chain (on_front (λ t. close_by t.key)) (λ v. done n))
+    (keeps_front (λ t. table_name_by d t) (λ t. keeps_if false false t.key (is_word_key t.key) (table_named d (name_of 31 t.text)) (refuse why.Plain) (λ e. named_acts d t.key (name_of 31 t.text) e) (λ e. tt)))
+    (λ n. keeps_chain (on_front (λ t. close_by t.key)) (λ v. done n) (keeps_front (λ t. close_by t.key) (λ t. close_acts t.key)) (λ v. keeps_done n)))

@@ -1,0 +1,56 @@
+-- Two tests of flags that are told to be the same are equal.
+use Rattle.std.proofs.Common.{◌≡◌, Bool, true, false, ◌&&◌, refl, sym, arith}
+use Rattle.std.specs.Bool.{OnTrue}
+use Rattle.std.proofs.Math.Bool.{beq}
+use Rattle.pfs_addr.specs.declared.flag_sets.Flags.{Flags}
+use Rattle.pfs_conf_rules.specs.declared.filters.FlagTest.{FlagTest}
+use Rattle.pfs_conf_rules.specs.declared.filters.FlagTest.TheVariants.{Any, Exactly}
+use Rattle.pfs_eval.specs.Matching.{same_flags}
+use Rattle.pfs_eval.specs.Parameters.{same_test}
+
+first : (a b : Bool) → (a && b) ≡ true → a ≡ true
+first a b h = grind arith
+
+rest : (a b : Bool) → (a && b) ≡ true → b ≡ true
+rest a b h = grind arith
+
+same_bit : (a b : Bool) → beq a b ≡ true → a ≡ b
+same_bit true true h = refl
+same_bit false false h = refl
+same_bit true false h = cc
+same_bit false true h = cc
+
+abbrev flags_of : Bool → Bool → Bool → Bool → Bool → Bool → Bool → Bool → Flags
+flags_of a b c d e f g h = record { fin = a; syn = b; rst = c; psh = d; ack = e; urg = f; ece = g; cwr = h }
+
+same_fields : {a b c d e f g h i j k l m n o p : Bool} → a ≡ i → b ≡ j → c ≡ k → d ≡ l → e ≡ m → f ≡ n → g ≡ o → h ≡ p
+    → flags_of a b c d e f g h ≡ flags_of i j k l m n o p
+same_fields q r s t u v w x = cc
+
+same_sets : (f g : Flags) → same_flags f g ≡ true → f ≡ g
+same_sets f g h =
+    let fin : f.fin ≡ g.fin = same_bit _ _ (first _ _ h) in
+    let h1 = rest _ _ h in
+    let syn : f.syn ≡ g.syn = same_bit _ _ (first _ _ h1) in
+    let h2 = rest _ _ h1 in
+    let rst : f.rst ≡ g.rst = same_bit _ _ (first _ _ h2) in
+    let h3 = rest _ _ h2 in
+    let psh : f.psh ≡ g.psh = same_bit _ _ (first _ _ h3) in
+    let h4 = rest _ _ h3 in
+    let ack : f.ack ≡ g.ack = same_bit _ _ (first _ _ h4) in
+    let h5 = rest _ _ h4 in
+    let urg : f.urg ≡ g.urg = same_bit _ _ (first _ _ h5) in
+    let h6 = rest _ _ h5 in
+    let ece : f.ece ≡ g.ece = same_bit _ _ (first _ _ h6) in
+    let cwr : f.cwr ≡ g.cwr = same_bit _ _ (rest _ _ h6) in
+    same_fields fin syn rst psh ack urg ece cwr
+
+same_when : (f g : FlagTest) → same_test f g ≡ true → f ≡ g
+same_when Any Any h = refl
+same_when Any (Exactly c d) h = cc
+same_when (Exactly a b) Any h = cc
+same_when (Exactly a b) (Exactly c d) h = let e = same_sets a c (first _ _ h) in let k = same_sets b d (rest _ _ h) in cc
+
+pub same_tests : (f g : FlagTest) (b : Bool) → b ≡ same_test f g → OnTrue b (f ≡ g)
+same_tests f g true e = same_when f g (sym e)
+same_tests f g false e = tt

@@ -1,0 +1,217 @@
+//! What an item asks of packets, and the one way to compare it with a packet, which is counted as a visit.
+
+ghost use Rattle.std.specs.Prelude.{◌≡◌, ◌+◌, ◌-◌, ◌<◌, ◌^◌, MatchOption, false, true};
+ghost use Rattle.std.specs.Bool.{OnTrue};
+ghost use Rattle.pfs_eval.specs.Matching.{common_flags, dir_holds, family_holds, filter_holds, filter_of, flags_hold, host_holds, interface_holds, ports_hold, proto_holds, same_flags, turned};
+ghost use Rattle.pfs_eval.specs.Parameters.{IsSame, holds_at, same_test};
+
+use crate::tables::Tables;
+use pfs_addr::{Addr, Dir, Flags, IfName, Meter, Packet, Proto};
+use pfs_conf_rules::{Family, Filter, FlagTest, Host, Interface, Ports, TableNo, What};
+
+/// A parameter of an item, in the order in which they are compared. (pf.conf(5), PARAMETERS)
+#[derive(Debug, Clone, Copy, PartialEq, Eq)]
+pub enum Parameter {
+    /// `on`.
+    Interface,
+    /// `in` or `out`.
+    Direction,
+    /// `inet`.
+    Family,
+    /// `proto`.
+    Protocol,
+    /// The host behind `from`.
+    SourceHost,
+    /// The host behind `to`.
+    DestinationHost,
+    /// The ports behind `from`.
+    SourcePort,
+    /// The ports behind `to`.
+    DestinationPort,
+    /// `flags`.
+    Flags,
+}
+
+/// What an item asks of packets.
+#[derive(Debug, Clone, Copy)]
+pub struct Asked {
+    filter: Filter,
+}
+
+impl Asked {
+    /// What this rule or anchor asks.
+    pub fn of(what: &What) -> Asked
+        ensures { result.filter ≡ filter_of what.now }
+    {
+        let filter = match what {
+            What::Rule(rule) => rule.filter,
+            What::Anchor(anchor) => anchor.filter,
+        };
+        Asked { filter }
+    }
+
+    /// Visits: compares what is asked with a packet. The answer is the first parameter that does not hold of the packet, or
+    /// `None` where each that is given holds, so that the item matches. (pf.conf(5), PARAMETERS)
+    pub fn failing(&self, tables: &Tables, packet: &Packet, visits: &mut Meter) -> Option<Parameter>
+        requires { visits.old < 2 ^ 64 - 1 }
+        ensures answer { MatchOption result (filter_holds tables.now.entries packet.now self.now.filter ≡ true) (λ k. holds_at tables.now.entries packet.now k self.now.filter ≡ false) }
+        ensures visit { visits.new ≡ visits.old + 1 }
+    {
+        visits.tick();
+        first_failing(tables, packet, &self.filter)
+    }
+
+    /// Whether two items ask the same at a parameter: it is written the same in both, negation included.
+    pub fn is_same(&self, other: &Asked, parameter: Parameter) -> bool
+        ensures { OnTrue result (IsSame parameter self.now.filter other.now.filter) }
+    {
+        let (one, two) = (&self.filter, &other.filter);
+        match parameter {
+            Parameter::Interface => one.on == two.on,
+            Parameter::Direction => one.dir == two.dir,
+            Parameter::Family => one.family == two.family,
+            Parameter::Protocol => one.proto == two.proto,
+            Parameter::SourceHost => one.from.host == two.from.host,
+            Parameter::DestinationHost => one.to.host == two.to.host,
+            Parameter::SourcePort => one.from.ports == two.from.ports,
+            Parameter::DestinationPort => one.to.ports == two.to.ports,
+            Parameter::Flags => same_test(one.flags, two.flags),
+        }
+    }
+}
+
+// The first parameter that does not hold.
+fn first_failing(tables: &Tables, packet: &Packet, filter: &Filter) -> Option<Parameter>
+    ensures { MatchOption result (filter_holds tables.now.entries packet.now filter.now ≡ true) (λ k. holds_at tables.now.entries packet.now k filter.now ≡ false) }
+{
+    if !interface_holds(filter.on, packet.ifname()) {
+        return Some(Parameter::Interface);
+    }
+    if !dir_holds(filter.dir, packet.dir()) {
+        return Some(Parameter::Direction);
+    }
+    if !family_holds(filter.family, packet.src()) {
+        return Some(Parameter::Family);
+    }
+    if !proto_holds(filter.proto, packet.proto()) {
+        return Some(Parameter::Protocol);
+    }
+    if !host_holds(tables, filter.from.host, packet.src()) {
+        return Some(Parameter::SourceHost);
+    }
+    if !host_holds(tables, filter.to.host, packet.dst()) {
+        return Some(Parameter::DestinationHost);
+    }
+    if !ports_hold(filter.from.ports, packet.sport()) {
+        return Some(Parameter::SourcePort);
+    }
+    if !ports_hold(filter.to.ports, packet.dport()) {
+        return Some(Parameter::DestinationPort);
+    }
+    if !flags_hold(filter.flags, packet.proto(), packet.flags()) {
+        return Some(Parameter::Flags);
+    }
+    None
+}
+
+fn dir_holds(wanted: Option<Dir>, dir: Dir) -> bool
+    ensures { result ≡ dir_holds wanted dir }
+{
+    wanted.is_none_or(|wanted| wanted == dir)
+}
+
+fn interface_holds(on: Option<Interface>, name: IfName) -> bool
+    ensures { result ≡ interface_holds on name }
+{
+    match on {
+        None => true,
+        Some(interface) => turned(interface.negated, interface.name == name),
+    }
+}
+
+fn family_holds(family: Option<Family>, addr: Addr) -> bool
+    ensures { result ≡ family_holds family addr }
+{
+    match (family, addr) {
+        (None, _) => true,
+        (Some(Family::Inet), Addr::V4(_)) => true,
+    }
+}
+
+fn proto_holds(wanted: Option<Proto>, proto: Proto) -> bool
+    ensures { result ≡ proto_holds wanted proto }
+{
+    wanted.is_none_or(|wanted| wanted == proto)
+}
+
+fn host_holds(tables: &Tables, host: Host<TableNo>, addr: Addr) -> bool
+    ensures { result ≡ host_holds tables.now.entries host addr }
+{
+    match host {
+        Host::Any => true,
+        Host::Prefix { prefix, negated } => turned(negated, prefix.contains(addr)),
+        Host::Table { table, negated } => turned(negated, tables.matches(table, addr)),
+    }
+}
+
+fn ports_hold(ports: Option<Ports>, port: u16) -> bool
+    ensures { result ≡ ports_hold ports port }
+{
+    match ports {
+        None => true,
+        Some(ports) => ports.low <= port && port <= ports.high,
+    }
+}
+
+fn flags_hold(test: FlagTest, proto: Proto, flags: Flags) -> bool
+    ensures { result ≡ flags_hold test proto flags }
+{
+    match (test, proto) {
+        (FlagTest::Exactly { set, among }, Proto::Tcp) => same_flags(
+            common_flags(flags, among),
+            set,
+        ),
+        _ => true,
+    }
+}
+
+fn same_flags(flags: Flags, set: Flags) -> bool
+    ensures { result ≡ same_flags flags set }
+{
+    flags == set
+}
+
+// Whether two tests of flags are written the same.
+fn same_test(one: FlagTest, two: FlagTest) -> bool
+    ensures { result ≡ same_test one two }
+{
+    match (one, two) {
+        (FlagTest::Any, FlagTest::Any) => true,
+        (FlagTest::Exactly { set: a, among: b }, FlagTest::Exactly { set: c, among: d }) =>
+            same_flags(a, c) && same_flags(b, d),
+        _ => false,
+    }
+}
+
+// The flags that are in both sets.
+fn common_flags(flags: Flags, among: Flags) -> Flags
+    ensures { result ≡ common_flags flags among }
+{
+    Flags {
+        fin: flags.fin && among.fin,
+        syn: flags.syn && among.syn,
+        rst: flags.rst && among.rst,
+        psh: flags.psh && among.psh,
+        ack: flags.ack && among.ack,
+        urg: flags.urg && among.urg,
+        ece: flags.ece && among.ece,
+        cwr: flags.cwr && among.cwr,
+    }
+}
+
+// A test's answer, turned where a `!` stands before it.
+fn turned(negated: bool, holds: bool) -> bool
+    ensures { result ≡ turned negated holds }
+{
+    holds != negated
+}

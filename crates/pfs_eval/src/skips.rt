@@ -1,0 +1,98 @@
+//! Skip steps: for each parameter, where a walk goes on from an item that fails on it.
+
+ghost use Rattle.std.specs.Prelude.{◌≡◌, ◌⊎◌};
+ghost use Rattle.pfs_eval.specs.Parameters.{IsSame};
+ghost use Rattle.pfs_eval.specs.declared.comparing.Parameter.{Parameter};
+
+use crate::comparing::{Asked, Parameter};
+
+/// For each parameter, the place of the next item of the same body that asks another thing there, or the end of the body:
+/// where a walk goes on from an item that fails on it. (pf's skip steps)
+#[derive(Debug, Clone, Copy)]
+pub struct Skips {
+    /// Over items on the same interface.
+    pub interface: u32,
+    /// Over items of the same direction.
+    pub direction: u32,
+    /// Over items of the same address family.
+    pub family: u32,
+    /// Over items of the same protocol.
+    pub protocol: u32,
+    /// Over items from the same host.
+    pub source_host: u32,
+    /// Over items to the same host.
+    pub destination_host: u32,
+    /// Over items from the same ports.
+    pub source_port: u32,
+    /// Over items to the same ports.
+    pub destination_port: u32,
+    /// Over items with the same test of flags.
+    pub flags: u32,
+}
+
+impl Skips {
+    ghost use Rattle.pfs_eval.specs.Skips.{skip_of};
+
+    /// Where a walk goes on from an item that fails on this parameter.
+    pub fn to(&self, parameter: Parameter) -> u32
+        ensures { result ≡ skip_of self.now parameter }
+    {
+        match parameter {
+            Parameter::Interface => self.interface,
+            Parameter::Direction => self.direction,
+            Parameter::Family => self.family,
+            Parameter::Protocol => self.protocol,
+            Parameter::SourceHost => self.source_host,
+            Parameter::DestinationHost => self.destination_host,
+            Parameter::SourcePort => self.source_port,
+            Parameter::DestinationPort => self.destination_port,
+            Parameter::Flags => self.flags,
+        }
+    }
+
+    /// The skips of an item that no other follows in its body, or none that asks the same: all to this place.
+    pub fn all_to(place: u32) -> Skips
+        ensures { (k : Parameter) → skip_of result k ≡ place }
+    {
+        Skips {
+            interface: place,
+            direction: place,
+            family: place,
+            protocol: place,
+            source_host: place,
+            destination_host: place,
+            source_port: place,
+            destination_port: place,
+            flags: place,
+        }
+    }
+
+    /// The skips of an item, from those of the next item of its body, which stands at `place`: further where both ask the
+    /// same.
+    pub fn joined(item: &Asked, next: &Asked, place: u32, further: &Skips) -> Skips
+        ensures { (k : Parameter) → (skip_of result k ≡ place) ⊎ (IsSame k item.now.filter next.now.filter × (skip_of result k ≡ skip_of further.now k)) }
+    {
+        Skips {
+            interface: further.past(item, next, place, Parameter::Interface),
+            direction: further.past(item, next, place, Parameter::Direction),
+            family: further.past(item, next, place, Parameter::Family),
+            protocol: further.past(item, next, place, Parameter::Protocol),
+            source_host: further.past(item, next, place, Parameter::SourceHost),
+            destination_host: further.past(item, next, place, Parameter::DestinationHost),
+            source_port: further.past(item, next, place, Parameter::SourcePort),
+            destination_port: further.past(item, next, place, Parameter::DestinationPort),
+            flags: further.past(item, next, place, Parameter::Flags),
+        }
+    }
+
+    // The skip at one parameter of an item, where these are the skips of the next one, which stands at `place`.
+    fn past(&self, item: &Asked, next: &Asked, place: u32, parameter: Parameter) -> u32
+        ensures { (result ≡ place) ⊎ (IsSame parameter item.now.filter next.now.filter × (result ≡ skip_of self.now parameter)) }
+    {
+        if item.is_same(next, parameter) {
+            self.to(parameter)
+        } else {
+            place
+        }
+    }
+}

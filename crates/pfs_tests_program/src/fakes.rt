@@ -1,0 +1,84 @@
+//! Readers and writers in memory that end, fail or stall at a given turn.
+
+use pfs_cli_streams::Sink;
+use std::alloc::Global;
+use std::io;
+use std::io::{Error, ErrorKind, Read, Write};
+
+/// A reader that gives one byte at each read, and fails at each read after the first `good`.
+#[derive(Drop)]
+pub struct Halting<'a> {
+    pub text: &'a [u8],
+    pub good: usize,
+}
+
+impl Read for Halting<'_> {
+    fn read(&mut self, buf: &mut [u8]) -> io::Result<usize> {
+        if self.good == 0 {
+            return Err(Error::new(ErrorKind::Interrupted, "halted"));
+        }
+        self.good -= 1;
+        if buf.is_empty() {
+            return Ok(0);
+        }
+        let Some((first, rest)) = self.text.split_first() else {
+            return Ok(0);
+        };
+        buf[0] = *first;
+        self.text = rest;
+        Ok(1)
+    }
+}
+
+/// A reader that gives this byte at each read, for ever.
+#[derive(Drop)]
+pub struct Endless(pub u8);
+
+impl Read for Endless {
+    fn read(&mut self, buf: &mut [u8]) -> io::Result<usize> {
+        if buf.is_empty() {
+            return Ok(0);
+        }
+        buf[0] = self.0;
+        Ok(1)
+    }
+}
+
+/// A writer that takes at most `width` bytes at each write, fails after `room` writes, and counts its flushes.
+#[derive(Drop)]
+pub struct Narrow {
+    pub taken: Vec<u8>,
+    pub width: usize,
+    pub room: usize,
+    pub flushes: u64,
+}
+
+impl Write for Narrow {
+    fn write(&mut self, buf: &[u8]) -> io::Result<usize> {
+        if self.room == 0 {
+            return Err(Error::new(ErrorKind::Other, "full"));
+        }
+        self.room -= 1;
+        let n = buf.len().min(self.width);
+        self.taken.extend_from_slice(&buf[..n])?;
+        Ok(n)
+    }
+
+    fn flush(&mut self) -> io::Result<()> {
+        if self.room == 0 {
+            return Err(Error::new(ErrorKind::Other, "full"));
+        }
+        self.flushes = self.flushes.saturating_add(1);
+        Ok(())
+    }
+}
+
+/// A sink over such a writer, to which nothing was written yet.
+pub fn sink_of(alloc: Global, width: usize, room: usize) -> Sink<Narrow> {
+    Sink::new(Narrow {
+        taken: Vec::new(alloc),
+        width,
+        room,
+        flushes: 0,
+    })
+}

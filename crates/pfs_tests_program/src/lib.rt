@@ -1,0 +1,26 @@
+//! Tests of the program's calls: reports, faults, jobs and streams, over readers and writers in memory.
+
+#![tactic(auto)]
+
+#[cfg(test)]
+mod failing;
+#[cfg(test)]
+mod fakes;
+#[cfg(test)]
+mod handshakes;
+#[cfg(test)]
+mod jobs;
+#[cfg(test)]
+mod limits;
+#[cfg(test)]
+mod purges;
+#[cfg(test)]
+mod reports;
+#[cfg(test)]
+mod streams;
+#[cfg(test)]
+mod traces;
+#[cfg(test)]
+mod verdicts;
+#[cfg(test)]
+mod words;

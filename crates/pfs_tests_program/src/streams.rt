@@ -1,0 +1,116 @@
+//! Bounded readers, and writers whose failures are counted.
+
+use crate::fakes::{Halting, sink_of};
+use pfs_cli_streams::{Feed, write_whole};
+use std::io::{ErrorKind, Read, Write};
+use std::test::Fail;
+
+#[test]
+fn a_feed_gives_its_bytes_and_ends(rt: HostRuntime) -> Result<(), Fail> {
+    let mut feed = Feed::new(
+        Halting {
+            text: b"ab",
+            good: 3,
+        },
+        3,
+    );
+    let mut buf = [0; 4];
+    assert_eq!(rt; feed.read(&mut [])?, 0);
+    assert_eq!(rt; feed.read(&mut buf)?, 1);
+    assert_eq!(rt; buf[0], b'a');
+    assert_eq!(rt; feed.read(&mut buf)?, 1);
+    assert_eq!(rt; buf[0], b'b');
+    assert!(rt; !feed.spent());
+    // The third read finds the end. A fourth of the reader would fail.
+    assert_eq!(rt; feed.read(&mut buf)?, 0);
+    assert_eq!(rt; feed.read(&mut buf)?, 0);
+    assert!(rt; !feed.spent());
+    assert_eq!(rt; feed.failures(), 0);
+    Ok(())
+}
+
+#[test]
+fn a_feed_stops_at_its_bound(rt: HostRuntime) -> Result<(), Fail> {
+    let mut feed = Feed::new(
+        Halting {
+            text: b"abc",
+            good: 9,
+        },
+        2,
+    );
+    let mut buf = [0; 4];
+    assert_eq!(rt; feed.read(&mut buf)?, 1);
+    assert!(rt; !feed.spent());
+    assert_eq!(rt; feed.read(&mut buf)?, 1);
+    assert!(rt; feed.spent());
+    assert_eq!(rt; feed.read(&mut [])?, 0);
+    assert!(rt; feed.read(&mut buf).is_err());
+    assert!(rt; feed.spent());
+    assert_eq!(rt; feed.failures(), 0);
+    Ok(())
+}
+
+#[test]
+fn a_feed_fails_once_with_its_reader(rt: HostRuntime) -> Result<(), Fail> {
+    let mut feed = Feed::new(
+        Halting {
+            text: b"abc",
+            good: 1,
+        },
+        9,
+    );
+    let mut buf = [0; 4];
+    assert_eq!(rt; feed.read(&mut buf)?, 1);
+    for _ in 0..3 {
+        match feed.read(&mut buf) {
+            Ok(_) => assert!(rt; false),
+            Err(e) => assert!(rt; e.kind() == ErrorKind::Other),
+        }
+        assert_eq!(rt; feed.failures(), 1);
+    }
+    assert!(rt; !feed.spent());
+    Ok(())
+}
+
+#[test]
+fn a_text_is_written_a_byte_at_a_time(rt: HostRuntime) -> Result<(), Fail> {
+    let mut out = sink_of(rt.alloc(), 1, 9);
+    write_whole(&mut out, b"abc")?;
+    write_whole(&mut out, b"")?;
+    out.flush()?;
+    assert_eq!(rt; out.failures(), 0);
+    let writer = out.into_inner();
+    assert_eq!(rt; writer.taken.as_slice(), b"abc".as_slice());
+    assert_eq!(rt; writer.room, 6);
+    assert_eq!(rt; writer.flushes, 1);
+    Ok(())
+}
+
+#[test]
+fn a_text_is_cut_where_a_write_fails(rt: HostRuntime) -> Result<(), Fail> {
+    let mut out = sink_of(rt.alloc(), 1, 2);
+    assert!(rt; write_whole(&mut out, b"abc").is_err());
+    assert_eq!(rt; out.failures(), 1);
+    assert!(rt; out.flush().is_err());
+    assert_eq!(rt; out.failures(), 2);
+    assert!(rt; out.write(b"").is_err());
+    assert_eq!(rt; out.failures(), 3);
+    let writer = out.into_inner();
+    assert_eq!(rt; writer.taken.as_slice(), b"ab".as_slice());
+    Ok(())
+}
+
+#[test]
+fn a_write_that_takes_nothing_is_a_failure(rt: HostRuntime) -> Result<(), Fail> {
+    let mut out = sink_of(rt.alloc(), 0, 9);
+    assert_eq!(rt; out.write(b"")?, 0);
+    assert_eq!(rt; out.failures(), 0);
+    match write_whole(&mut out, b"abc") {
+        Ok(()) => assert!(rt; false),
+        Err(e) => assert_eq!(rt; e.to_string(rt.alloc())?.as_str(), "write failed"),
+    }
+    assert_eq!(rt; out.failures(), 1);
+    let writer = out.into_inner();
+    assert_eq!(rt; writer.taken.as_slice(), b"".as_slice());
+    Ok(())
+}

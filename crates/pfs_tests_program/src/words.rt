@@ -1,0 +1,65 @@
+//! Which words ask for which job.
+
+use pfs_cli::{Job, job};
+use std::test::Fail;
+
+#[test]
+fn words_ask_for_jobs(rt: HostRuntime) -> Result<(), Fail> {
+    let words = ["pfsrc"];
+    match job(rt.alloc(), words.as_slice())? {
+        Job::Joined => {}
+        other => panic!(rt; "{other:?}"),
+    }
+    let words = ["pfsrc", "check", "pf.conf"];
+    match job(rt.alloc(), words.as_slice())? {
+        Job::Check(rules) => assert_eq!(rt; rules, "pf.conf"),
+        other => panic!(rt; "{other:?}"),
+    }
+    let words = ["pfsrc", "show", "-"];
+    match job(rt.alloc(), words.as_slice())? {
+        Job::Show(rules) => assert_eq!(rt; rules, "-"),
+        other => panic!(rt; "{other:?}"),
+    }
+    let words = ["pfsrc", "replay", "r", "t"];
+    match job(rt.alloc(), words.as_slice())? {
+        Job::Replay(rules, trace) => {
+            assert_eq!(rt; rules, "r");
+            assert_eq!(rt; trace, "t");
+        }
+        other => panic!(rt; "{other:?}"),
+    }
+    Ok(())
+}
+
+#[test]
+fn other_words_are_refused(rt: HostRuntime) -> Result<(), Fail> {
+    let wrong = ["pfsrc", "check"];
+    assert!(rt; job(rt.alloc(), wrong.as_slice()).is_err());
+    let wrong = ["pfsrc", "check", "a", "b"];
+    assert!(rt; job(rt.alloc(), wrong.as_slice()).is_err());
+    let wrong = ["pfsrc", "replay", "a"];
+    assert!(rt; job(rt.alloc(), wrong.as_slice()).is_err());
+    let wrong = ["pfsrc", "reply", "a", "b"];
+    assert!(rt; job(rt.alloc(), wrong.as_slice()).is_err());
+    Ok(())
+}
+
+#[test]
+fn help_is_no_mistake(rt: HostRuntime) -> Result<(), Fail> {
+    let words = ["pfsrc", "--help"];
+    match job(rt.alloc(), words.as_slice()) {
+        Err(help) => assert_eq!(rt; help.exit_code(), 0),
+        Ok(other) => panic!(rt; "{other:?}"),
+    }
+    let words = ["pfsrc", "replay", "--help"];
+    match job(rt.alloc(), words.as_slice()) {
+        Err(help) => assert_eq!(rt; help.exit_code(), 0),
+        Ok(other) => panic!(rt; "{other:?}"),
+    }
+    let words = ["pfsrc", "reply"];
+    match job(rt.alloc(), words.as_slice()) {
+        Err(mistake) => assert_eq!(rt; mistake.exit_code(), 2),
+        Ok(other) => panic!(rt; "{other:?}"),
+    }
+    Ok(())
+}
