@@ -21,6 +21,3 @@ pub use numbers::parse_number;
 pub use packets::{Dir, Endpoint, FlowKey, Packet};
 pub use prefixes::{Prefix, parse_prefix};
 pub use protocols::{OtherProto, Proto, parse_proto};
-
-#[cfg(test)]
-mod tests;

@@ -95,9 +95,9 @@ kept-fault kept text f other k (long many e) = long (kept-long kept text k many 
 kept-fault kept text f other k (breaks short broken e) =
     let P : List ℕ → Type 0 = λ t. IsFault t f in
     subst P (kept-short kept text k short) (breaks short broken e)
-kept-fault kept text f other k (stops w t behind short at e) =
+kept-fault kept text f other k (stops t behind short at line kind) =
     let P : List ℕ → Type 0 = λ t. IsFault t f in
-    subst P (kept-short kept text k short) (stops w t behind short at e)
+    subst P (kept-short kept text k short) (stops t behind short at line kind)
 
 -- the configuration of what is kept of a text is that of the text
 pub kept-reads : (kept text : List ℕ) (conf : Conf) → IsKept kept text → Reads kept conf → Reads text conf

@@ -23,6 +23,3 @@ pub use pfs_conf_rules::{
     TableDef, TableName, TableNo, TimeoutName, What,
 };
 pub use pfs_conf_show::show;
-
-#[cfg(test)]
-mod tests;

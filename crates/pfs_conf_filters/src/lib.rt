@@ -13,6 +13,3 @@ pub use endpoints::read_parameters;
 pub use flag_words::read_flags;
 pub use heads::read_verb;
 pub use phrases::{Head, Hosts, Marks, Parameters, Statement, Verb};
-
-#[cfg(test)]
-mod tests;

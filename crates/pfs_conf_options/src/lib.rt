@@ -7,6 +7,3 @@ mod rules;
 
 pub use clauses::{Options, OverloadText, StateClause, Track};
 pub use reading::state_clause;
-
-#[cfg(test)]
-mod tests;

@@ -4,6 +4,3 @@
 mod reading_again;
 
 pub use reading_again::reads_again;
-
-#[cfg(test)]
-mod tests;

@@ -19,6 +19,3 @@ pub use items::{Anchor, AnchorName, Item, Rule, RuleNo, What};
 pub use limits::{LimitName, Limits};
 pub use tables::{Entries, TableDef};
 pub use timeouts::{RuleTimeouts, TimeoutName, Timeouts};
-
-#[cfg(test)]
-mod tests;

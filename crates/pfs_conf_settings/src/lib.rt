@@ -3,8 +3,6 @@
 
 mod settings;
 mod tables;
-#[cfg(test)]
-mod tests;
 
 pub use settings::read_settings;
 pub use tables::{Parts, read_parts};

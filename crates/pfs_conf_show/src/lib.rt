@@ -9,6 +9,3 @@ mod settings;
 mod tables;
 
 pub use items::show;
-
-#[cfg(test)]
-mod tests;

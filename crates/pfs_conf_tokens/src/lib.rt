@@ -14,6 +14,3 @@ pub use keys::Key;
 pub use numbers::{digits, number, skip_lines, split_at_byte};
 pub use refusals::{LoadRule, ReadError, Refusal, Why};
 pub use words::key_of;
-
-#[cfg(test)]
-mod tests;

@@ -225,6 +225,7 @@ impl<S: Store> Engine<S> {
         ensures limits { IsWithinLimits self.new.config self.new.machine.held }
         ensures config { self.new.config ≡ self.old.config }
     {
+        // What an engine keeps is known from here, also where there is no event.
         prove!(self.taken <= 1_000_000_000);
         for event in events {
             if outcomes.reserve(1).is_err() {

@@ -1,5 +1,5 @@
 -- The score of a source's node and that of the source's history are the same at each handshake, through a whole run.
-use Rattle.std.proofs.Common.{◌≡◌, ℕ, ◌<◌, ◌≤◌, Bool, true, false, ◌&&◌, ◌||◌, cond, ◌==◌, List, [], ◌∷◌, map, Option, Some, None, refl, ap, ◌∙◌, sym, subst, arith}
+use Rattle.std.proofs.Common.{◌≡◌, ℕ, ◌<◌, ◌≤◌, Bool, true, false, ◌&&◌, ◌||◌, cond, ◌==◌, List, [], ◌∷◌, map, Option, Some, None, refl, ap, ◌∙◌, sym, arith}
 use Rattle.std.specs.List.{AllByRecursion}
 use Rattle.std.proofs.lemmas.Bool.{false≢true}
 use Rattle.std.proofs.lemmas.Bool.Decides.{nat_tests}
@@ -160,10 +160,6 @@ states-touched conf scope source number p now ss = count-map (is_of_node conf sc
     one : (s : State) (b : Bool) → is_of_node conf scope source (cond b (stepped p now s) s) ≡ is_of_node conf scope source s
     one s true = refl
     one s false = refl
-
-with-count : (rule : ℕ) (source : Addr) (seconds now : ℕ) (history : Score) (count count' : ℕ) (nodes : List Node) → count' ≡ count
-    → Remembers rule source seconds now history count nodes → Remembers rule source seconds now history count' nodes
-with-count rule source seconds now history count count' nodes e r = subst (λ (c : ℕ). Remembers rule source seconds now history c nodes) (sym e) r
 
 -- a state that is found is counted
 pub found-count : (conf : Conf) (rule : ℕ) (source : Addr) (p : Header) (w : World) (s : State) → state_with (key_of p) w ≡ Some s → is_of rule source s ≡ true

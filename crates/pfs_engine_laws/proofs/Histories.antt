@@ -2,6 +2,7 @@
 use Rattle.std.proofs.Common.{◌≡◌, ℕ, suc, zero, ◌+◌, ◌-◌, ◌*◌, ◌<◌, ◌≤◌, Bool, true, false, nat_lt, ◌&&◌, ◌||◌, cond, ◌==◌, List, [], ◌∷◌, ◌++◌, filter, map, take, Option, Some, None, refl, ap, ◌∙◌, sym, subst, arith}
 use Rattle.std.specs.Option.{ForSome}
 use Rattle.std.specs.List.{range_with_len}
+use Rattle.std.specs.Prelude.{length, option_map, slice_get}
 use Rattle.std.proofs.lemmas.Bool.{false≢true}
 use Rattle.std.proofs.lemmas.Bool.Decides.{nat_tests}
 use Rattle.pfs_addr.proofs.SameLaws.{same_addr_self, same_addr_true}
@@ -29,8 +30,8 @@ use Rattle.pfs_engine_machine.proofs.Counts.{any-push, count-filter_le, count-pu
 use Rattle.pfs_engine_machine.proofs.Scopes.{same_scope_self, same_scope_true}
 use Rattle.pfs_engine_machine.specs.Kept.{moment_of, own_scope}
 use Rattle.pfs_engine_machine.specs.Machine.{Held, Machine, acted, advanced, answered, by_hit, by_state, by_touch, due, held_of, purged, start, step}
-use Rattle.pfs_engine_machine.specs.Rates.{Handshake, completed_by, folded, handshake_at, handshake_by, handshakes, is_from, moments_of, with_handshake}
-use Rattle.pfs_engine_machine.specs.Runs.{IsInOrder, machine_after}
+use Rattle.pfs_engine_machine.specs.Rates.{Handshake, completed_by, folded, handshake_at, handshake_by, handshakes, history_score, is_from, moments_of, with_handshake}
+use Rattle.pfs_engine_machine.specs.Runs.{IsInOrder, machine_after, outcomes_of}
 use Rattle.pfs_engine_machine.specs.declared.events.Event.{Event}
 use Rattle.pfs_engine_machine.specs.declared.events.What.{What}
 use Rattle.pfs_engine_machine.specs.declared.events.What.TheVariants as what
@@ -38,7 +39,7 @@ use Rattle.pfs_engine_laws.proofs.Changes.{Changes, answered_has}
 use Rattle.pfs_engine_laws.proofs.Hearing.{IsRated, RemembersIn, found-count, heard, is_of, long, rated, scope-rated, score-this, scored-in, states-touched}
 use Rattle.pfs_engine_laws.proofs.Lists.{both, each-of, each-push}
 use Rattle.pfs_engine_laws.proofs.Remembering.{IsKnown, Knows, Remembers, remembers-later, remembers-left, remembers-purged}
-use Rattle.pfs_engine_laws.specs.RateMemory.{RateIsRemembered, ScoreIsRemembered, rate_hit, score_compared}
+use Rattle.pfs_engine_laws.specs.RateMemory.{IsHandshake, RateIsRemembered, ScoreIsRemembered, rate_hit, score_compared}
 
 -- ---- a new state
 
@@ -341,9 +342,25 @@ score-is-remembered conf events sound order before e s rate is =
     ∙ ap (λ (b : Bool). cond b (score_after rate.seconds past e.time) past) (own-handshake s))
     ∙ ap (λ (n : ℕ). folded n zero_score (moments_of s.rule.0 s.source (handshakes conf (start conf) (before ++ e ∷ [])))) (sym (ap rate_seconds is.rated))
 
-pub rate-is-remembered : (conf : Conf) (events : List Event) → IsConfig conf → IsInOrder None events → RateIsRemembered conf events
+-- the outcome of an event of a run
+outcome-at : (conf : Conf) (m : Machine) (before : List Event) (e : Event) (later : List Event)
+    → slice_get (outcomes_of conf m ((before ++ e ∷ []) ++ later)) (length before) ≡ Some (step conf (machine_after conf m before) e).0
+unfolding outcomes_of machine_after
+outcome-at conf m [] e later = refl
+outcome-at conf m (d ∷ before) e later = outcome-at conf (step conf m d).1 before e later
+
+-- that of a handshake
+outcome-hit : (conf : Conf) (events : List Event) → IsConfig conf → IsInOrder None events
+    → (before : List Event) (e : Event) (s : State) (rate : Rate) → IsHandshake conf events before e s rate
+    → rate_hit (step conf (machine_after conf (start conf) before) e).0 ≡ nat_lt (1000 * rate.limit) (history_score conf s.rule.0 s.source (before ++ e ∷ [])).value
 unfolding step
-rate-is-remembered conf events sound order before e s rate is =
+outcome-hit conf events sound order before e s rate is =
     let m : Machine = machine_after conf (start conf) before in
     hit-at conf rate e.time (advanced conf m e.time).held e.what s (rated conf sound s.rule.0 rate is.rated) is.completes
     ∙ ap (λ (y : Score). nat_lt (1000 * rate.limit) y.value) (score-is-remembered conf events sound order before e s rate is)
+
+pub rate-is-remembered : (conf : Conf) (events : List Event) → IsConfig conf → IsInOrder None events → RateIsRemembered conf events
+rate-is-remembered conf events sound order before e s rate is =
+    ap (λ (es : List Event). option_map rate_hit (slice_get (outcomes_of conf (start conf) es) (length before))) is.run.1
+    ∙ ap (option_map rate_hit) (outcome-at conf (start conf) before e is.run.0)
+    ∙ ap (λ (b : Bool). Some b) (outcome-hit conf events sound order before e s rate is)

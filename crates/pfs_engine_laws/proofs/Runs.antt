@@ -1,5 +1,5 @@
 -- A run of events is the run of its acts.
-use Rattle.std.proofs.Common.{◌≡◌, ℕ, List, [], ◌∷◌, ◌++◌, map, refl, sym, ◌∙◌}
+use Rattle.std.proofs.Common.{◌≡◌, ℕ, List, [], ◌∷◌, ◌++◌, map, refl, sym, ◌∙◌, Some}
 use Rattle.pfs_conf_rules.specs.Configs.{Conf}
 use Rattle.pfs_store_plain.specs.Purging.{purge}
 use Rattle.pfs_engine_machine.specs.Machine.{Held, Machine, acted, advanced, due, held_of, purged, step}
@@ -8,7 +8,6 @@ use Rattle.pfs_engine_machine.specs.declared.events.Event.{Event}
 use Rattle.pfs_engine_machine.specs.declared.events.What.{What}
 use Rattle.pfs_engine_machine.specs.declared.events.What.TheVariants as what
 use Rattle.pfs_engine_laws.specs.Acts.{Act, Purge, acts_of, arrivals, done, done_all}
-use Rattle.std.proofs.Common.{Some}
 
 pub done_all-append : (conf : Conf) (h : Held) (xs ys : List Act) → done_all conf h (xs ++ ys) ≡ done_all conf (done_all conf h xs) ys
 done_all-append conf h [] ys = refl

@@ -44,9 +44,6 @@ fate-slice {X = X} f leaves each interval k n xs pending few all (inl h) =
 fate-slice {X = X} f leaves each interval k n xs pending few all (inr d) =
     go (is_among (map f xs) n) refl (is_among (take each (round (map f xs) pending)) n) refl
   where
-    stays : X → Bool
-    stays x = not (is_among (take each (round (map f xs) pending)) (f x) && leaves x)
-
     out : is_among (take each (round (map f xs) pending)) n ≡ true → (x : X) → (f x ≡ n → leaves x ≡ true) → f x ≡ n
         → not (is_among (take each (round (map f xs) pending)) (f x) && leaves x) ≡ false
     out e x h same = rw (same, e, h same) refl

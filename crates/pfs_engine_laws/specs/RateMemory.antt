@@ -1,6 +1,6 @@
 -- A rate counts every handshake of its source, however often the source's node was purged. (own; pf.conf(5), STATEFUL TRACKING
 -- OPTIONS, "max-src-conn-rate")
-use Rattle.std.specs.Prelude.{◌≡◌, ℕ, ◌*◌, nat_lt, Bool, false, Some, List, [], ◌∷◌, ◌++◌}
+use Rattle.std.specs.Prelude.{◌≡◌, ℕ, ◌*◌, nat_lt, length, option_map, slice_get, Bool, false, Some, List, [], ◌∷◌, ◌++◌}
 use Rattle.pfs_conf_rules.specs.Configs.{Conf, options_of}
 use Rattle.pfs_conf_rules.specs.declared.actions.Rate.{Rate}
 use Rattle.pfs_store_plain.specs.Touching.{touch_of}
@@ -8,9 +8,9 @@ use Rattle.pfs_store_plain.specs.Worlds.{World}
 use Rattle.pfs_store_plain.specs.declared.records.State.{State}
 use Rattle.pfs_track.specs.Scores.{zero_score}
 use Rattle.pfs_track.specs.declared.scores.Score.{Score}
-use Rattle.pfs_engine_machine.specs.Machine.{advanced, start, step}
+use Rattle.pfs_engine_machine.specs.Machine.{advanced, start}
 use Rattle.pfs_engine_machine.specs.Rates.{handshake_at, history_score}
-use Rattle.pfs_engine_machine.specs.Runs.{machine_after}
+use Rattle.pfs_engine_machine.specs.Runs.{machine_after, outcomes_of}
 use Rattle.pfs_engine_machine.specs.declared.events.Event.{Event}
 use Rattle.pfs_engine_machine.specs.declared.events.Outcome.{Outcome}
 use Rattle.pfs_engine_machine.specs.declared.events.Outcome.TheVariants as outcome
@@ -40,9 +40,9 @@ abbrev pub rate_hit : Outcome → Bool
 rate_hit (outcome.Kill rule conn rate overload killed) = rate
 rate_hit _ = false
 
--- and the rate is hit exactly where that score exceeds 1000 for each handshake of the rate
+-- and its outcome in the run is a hit of the rate exactly where that score exceeds 1000 for each handshake of the rate
 abbrev pub RateIsRemembered : Conf → List Event → Type 0
 RateIsRemembered conf events =
     (before : List Event) (e : Event) (s : State) (rate : Rate) → IsHandshake conf events before e s rate →
-    rate_hit (step conf (machine_after conf (start conf) before) e).0
-    ≡ nat_lt (1000 * rate.limit) (history_score conf s.rule.0 s.source (before ++ e ∷ [])).value
+    option_map rate_hit (slice_get (outcomes_of conf (start conf) events) (length before))
+    ≡ Some (nat_lt (1000 * rate.limit) (history_score conf s.rule.0 s.source (before ++ e ∷ [])).value)

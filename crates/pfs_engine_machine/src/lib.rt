@@ -1,4 +1,4 @@
-//! The machine over plain lists: what comes, what one event does, and a run of events, as definitions and their laws.
+//! The machine over plain lists: what comes, what one event does, and a run of events, as definitions with their lemmas.
 #![tactic(auto)]
 
 mod events;

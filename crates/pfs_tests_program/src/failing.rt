@@ -1,9 +1,9 @@
 //! Each place where a reader or a writer can fail or fail to end.
 
-use crate::fakes::{Endless, Halting, Narrow, sink_of};
+use crate::fakes::{Endless, Halting, narrow_writer};
 use crate::reports::{HEADER, trace_of};
-use pfs_cli::{Kind, LoadFault, ReplayFault, replay, replay_joined};
-use pfs_cli_streams::{Feed, Sink};
+use crate::runs::{replayed, replayed_joined};
+use pfs_cli::{Kind, LoadFault, ReplayFault};
 use std::process::Abort;
 use std::test::Fail;
 
@@ -34,50 +34,54 @@ fn whole_lines(text: &[u8], len: usize) -> usize {
     text.iter().take(len).filter(|byte| **byte == b'\n').count()
 }
 
+// What a run of the report's records wrote before a read failed: as many lines as it had whole records.
+fn cut(rt: &impl Abort, told: &Result<(), ReplayFault>, written: &[u8], rows: usize) {
+    assert_eq!(rt; *told, Err(ReplayFault::Read));
+    let len = lines_len(REPORT, rows);
+    assert!(rt; len <= REPORT.len());
+    assert_eq!(rt; written, &REPORT[..len], "{rows}");
+}
+
 #[test]
 fn a_read_fails_at_each_turn(rt: HostRuntime) -> Result<(), Fail> {
     let trace = trace_of(rt.alloc(), RECORDS)?;
     for good in 0..=trace.len() {
-        let mut rules = Feed::new(RULES, 9);
-        let reader = Halting {
-            text: trace.as_slice(),
-            good,
-        };
-        let mut records = Feed::new(reader, 999);
-        let mut out = Sink::new(Vec::new(rt.alloc()));
-        let outcome = replay(rt.alloc(), &mut rules, &mut records, &mut out);
-        assert_eq!(rt; outcome, Err(ReplayFault::Read), "{good}");
-        assert_eq!(rt; records.failures(), 1);
-        let rows = whole_lines(trace.as_slice(), good).saturating_sub(1);
-        let written = out.into_inner();
-        let len = lines_len(REPORT, rows);
-        assert!(rt; len <= REPORT.len());
-        assert_eq!(rt; written.as_slice(), &REPORT[..len], "{good}");
+        let text = trace.as_slice();
+        let reader = Halting { text, good };
+        let (told, failed, _, written) = replayed(
+            rt.alloc(),
+            RULES,
+            reader,
+            Vec::new(rt.alloc()),
+            999,
+        );
+        assert_eq!(rt; failed, 1);
+        cut(
+            &rt,
+            &told,
+            &written,
+            whole_lines(text, good).saturating_sub(1),
+        );
     }
     Ok(())
 }
 
 #[test]
 fn a_read_of_joined_text_fails_at_each_turn(rt: HostRuntime) -> Result<(), Fail> {
-    let mut text = Vec::new(rt.alloc());
-    text.extend_from_slice(RULES)?;
-    text.extend_from_slice(b"%%\n")?;
-    let trace = trace_of(rt.alloc(), RECORDS)?;
-    text.extend_from_slice(trace.as_slice())?;
-    for good in 0..=text.len() {
-        let reader = Halting {
-            text: text.as_slice(),
-            good,
-        };
-        let mut input = Feed::new(reader, 999);
-        let mut out = Sink::new(Vec::new(rt.alloc()));
-        let outcome = replay_joined(rt.alloc(), &mut input, &mut out);
-        assert_eq!(rt; outcome, Err(ReplayFault::Read), "{good}");
-        let rows = whole_lines(text.as_slice(), good).saturating_sub(4);
-        let written = out.into_inner();
-        let len = lines_len(REPORT, rows);
-        assert!(rt; len <= REPORT.len());
-        assert_eq!(rt; written.as_slice(), &REPORT[..len], "{good}");
+    let mut joined = Vec::new(rt.alloc());
+    joined.extend_from_slice(RULES)?;
+    joined.extend_from_slice(b"%%\n")?;
+    joined.extend_from_slice(&trace_of(rt.alloc(), RECORDS)?)?;
+    for good in 0..=joined.len() {
+        let text = joined.as_slice();
+        let reader = Halting { text, good };
+        let (told, _, _, written) = replayed_joined(rt.alloc(), reader, Vec::new(rt.alloc()), 999);
+        cut(
+            &rt,
+            &told,
+            &written,
+            whole_lines(text, good).saturating_sub(4),
+        );
     }
     Ok(())
 }
@@ -86,43 +90,51 @@ fn a_read_of_joined_text_fails_at_each_turn(rt: HostRuntime) -> Result<(), Fail>
 fn a_write_fails_at_each_turn(rt: HostRuntime) -> Result<(), Fail> {
     let trace = trace_of(rt.alloc(), RECORDS)?;
     for room in 0..=REPORT.len() {
-        let mut rules = Feed::new(RULES, 9);
-        let mut records = Feed::new(trace.as_slice(), 99);
-        let mut out = sink_of(rt.alloc(), 1, room);
-        let outcome = replay(rt.alloc(), &mut rules, &mut records, &mut out);
-        assert_eq!(rt; outcome, Err(ReplayFault::Write), "{room}");
-        assert_eq!(rt; out.failures(), 1);
-        let writer = out.into_inner();
+        let writer = narrow_writer(rt.alloc(), 1, room);
+        let (told, _, failed, writer) = replayed(rt.alloc(), RULES, trace.as_slice(), writer, 99);
+        assert_eq!(rt; (told, failed), (Err(ReplayFault::Write), 1), "{room}");
         assert_eq!(rt; writer.taken.as_slice(), &REPORT[..room]);
     }
     Ok(())
 }
 
 #[test]
-fn readers_without_an_end(rt: HostRuntime) -> Result<(), Fail> {
+fn rules_without_an_end(rt: HostRuntime) {
     let too_long = ReplayFault::Rules(LoadFault {
         line: 0,
         kind: Kind::TooLong,
     });
-    for (bound, outcome) in [(100, ReplayFault::Endless), (2_000_000, too_long)] {
-        let mut rules = Feed::new(Endless(b' '), bound);
-        let mut records = Feed::new(HEADER, 9);
-        let mut out = Sink::new(Vec::new(rt.alloc()));
-        let told = replay(rt.alloc(), &mut rules, &mut records, &mut out);
-        assert_eq!(rt; told, Err(outcome));
-        assert_eq!(rt; out.into_inner().as_slice(), b"".as_slice());
+    for (bound, fault) in [(100, ReplayFault::Endless), (2_000_000, too_long)] {
+        let (told, _, _, written) = replayed(
+            rt.alloc(),
+            Endless(b' '),
+            HEADER,
+            Vec::new(rt.alloc()),
+            bound,
+        );
+        assert_eq!(rt; told, Err(fault));
+        assert_eq!(rt; written.len(), 0);
     }
-    let mut rules = Feed::new(RULES, 9);
-    let mut records = Feed::new(Endless(b'\n'), 100);
-    let mut out = Sink::new(Vec::new(rt.alloc()));
-    let told = replay(rt.alloc(), &mut rules, &mut records, &mut out);
+}
+
+// A joined text is read on to its split line, in bounded memory.
+#[test]
+fn traces_without_an_end(rt: HostRuntime) {
+    let (told, _, _, written) = replayed(
+        rt.alloc(),
+        RULES,
+        Endless(b'\n'),
+        Vec::new(rt.alloc()),
+        100,
+    );
     assert_eq!(rt; told, Err(ReplayFault::Endless));
-    assert_eq!(rt; out.into_inner().as_slice(), b"".as_slice());
-    // A joined text is read on to its split line, in bounded memory.
-    let mut input = Feed::new(Endless(b'x'), 2_000_000);
-    let mut out = Sink::new(Vec::new(rt.alloc()));
-    let told = replay_joined(rt.alloc(), &mut input, &mut out);
+    assert_eq!(rt; written.len(), 0);
+    let (told, _, _, written) = replayed_joined(
+        rt.alloc(),
+        Endless(b'x'),
+        Vec::new(rt.alloc()),
+        2_000_000,
+    );
     assert_eq!(rt; told, Err(ReplayFault::Endless));
-    assert_eq!(rt; out.into_inner().as_slice(), b"".as_slice());
-    Ok(())
+    assert_eq!(rt; written.len(), 0);
 }

@@ -1,6 +1,5 @@
 //! Readers and writers in memory that end, fail or stall at a given turn.
 
-use pfs_cli_streams::Sink;
 use std::alloc::Global;
 use std::io;
 use std::io::{Error, ErrorKind, Read, Write};
@@ -73,12 +72,12 @@ impl Write for Narrow {
     }
 }
 
-/// A sink over such a writer, to which nothing was written yet.
-pub fn sink_of(alloc: Global, width: usize, room: usize) -> Sink<Narrow> {
-    Sink::new(Narrow {
+/// Such a writer, to which nothing was written yet.
+pub fn narrow_writer(alloc: Global, width: usize, room: usize) -> Narrow {
+    Narrow {
         taken: Vec::new(alloc),
         width,
         room,
         flushes: 0,
-    })
+    }
 }

@@ -1,8 +1,8 @@
 //! Reports of rules and records, and what is told of texts that are refused.
 
-use crate::fakes::{Halting, Narrow, sink_of};
-use pfs_cli::{Kind, LoadFault, ReplayFault, replay, replay_joined, status};
-use pfs_cli_streams::{Feed, Sink};
+use crate::fakes::{Halting, narrow_writer};
+use crate::runs::{replayed_joined, tell, tell_joined};
+use pfs_cli::{Kind, LoadFault, ReplayFault, status};
 use std::alloc::Global;
 use std::test::Fail;
 
@@ -86,37 +86,33 @@ pub fn trace_of(alloc: Global, records: &[u8]) -> Result<Vec<u8>, Fail> {
 }
 
 #[test]
-fn rows_from_slices(rt: HostRuntime) -> Result<(), Fail> {
+fn rows_from_two_texts(rt: HostRuntime) -> Result<(), Fail> {
     for row in &rows() {
         let trace = trace_of(rt.alloc(), row.records)?;
-        let mut rules = Feed::new(row.rules, 9);
-        let mut records = Feed::new(trace.as_slice(), 99);
-        let mut out = Sink::new(Vec::new(rt.alloc()));
-        let outcome = replay(rt.alloc(), &mut rules, &mut records, &mut out);
-        assert_eq!(rt; outcome, row.outcome);
-        let written = out.into_inner();
-        assert_eq!(rt; written.as_slice(), row.report);
+        tell(&rt, row.rules, &trace, row.outcome, row.report);
     }
     Ok(())
 }
 
 #[test]
 fn rows_a_byte_at_a_time(rt: HostRuntime) -> Result<(), Fail> {
+    let alloc = rt.alloc();
     for row in &rows() {
-        let mut text = Vec::new(rt.alloc());
+        let mut text = Vec::new(alloc);
         text.extend_from_slice(row.rules)?;
         text.extend_from_slice(b"\n%%\n")?;
-        let trace = trace_of(rt.alloc(), row.records)?;
-        text.extend_from_slice(trace.as_slice())?;
+        text.extend_from_slice(&trace_of(alloc, row.records)?)?;
         let reader = Halting {
             text: text.as_slice(),
             good: 9999,
         };
-        let mut input = Feed::new(reader, 9999);
-        let mut out = sink_of(rt.alloc(), 1, 9999);
-        let outcome = replay_joined(rt.alloc(), &mut input, &mut out);
-        assert_eq!(rt; outcome, row.outcome);
-        let writer = out.into_inner();
+        let (told, _, _, writer) = replayed_joined(
+            alloc,
+            reader,
+            narrow_writer(alloc, 1, 9999),
+            9999,
+        );
+        assert_eq!(rt; told, row.outcome);
         assert_eq!(rt; writer.taken.as_slice(), row.report);
         assert_eq!(rt; writer.flushes, if row.outcome == Ok(()) { 1 } else { 0 });
     }
@@ -141,11 +137,7 @@ fn split_lines(rt: HostRuntime) -> Result<(), Fail> {
         (b"block all\n%%%\n".as_slice(), syntax),
         (b"block all\n %%\n".as_slice(), syntax),
     ] {
-        let mut input = Feed::new(text, 99);
-        let mut out = Sink::new(Vec::new(rt.alloc()));
-        let told = replay_joined(rt.alloc(), &mut input, &mut out);
-        assert_eq!(rt; told, Err(outcome));
-        assert_eq!(rt; out.into_inner().as_slice(), b"".as_slice());
+        tell_joined(&rt, text, Err(outcome), b"");
     }
     Ok(())
 }
@@ -176,12 +168,7 @@ fn traces_that_are_cut(rt: HostRuntime) -> Result<(), Fail> {
         ),
     ] {
         let trace = trace_of(rt.alloc(), records)?;
-        let mut rules = Feed::new(b"".as_slice(), 9);
-        let mut records = Feed::new(trace.as_slice(), 99);
-        let mut out = Sink::new(Vec::new(rt.alloc()));
-        let told = replay(rt.alloc(), &mut rules, &mut records, &mut out);
-        assert_eq!(rt; told, outcome);
-        assert_eq!(rt; out.into_inner().as_slice(), report);
+        tell(&rt, b"", &trace, outcome, report);
     }
     Ok(())
 }
@@ -218,11 +205,8 @@ fn fields_that_are_refused(rt: HostRuntime) -> Result<(), Fail> {
         ),
     ] {
         let trace = trace_of(rt.alloc(), record)?;
-        let mut rules = Feed::new(b"".as_slice(), 9);
-        let mut records = Feed::new(trace.as_slice(), 99);
-        let mut out = Sink::new(Vec::new(rt.alloc()));
-        let told = replay(rt.alloc(), &mut rules, &mut records, &mut out);
-        assert_eq!(rt; told, Err(ReplayFault::Field(1, column)));
+        let fault = ReplayFault::Field(1, column);
+        tell(&rt, b"", &trace, Err(fault), b"");
     }
     Ok(())
 }

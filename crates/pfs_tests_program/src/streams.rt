@@ -1,9 +1,14 @@
 //! Bounded readers, and writers whose failures are counted.
 
-use crate::fakes::{Halting, sink_of};
-use pfs_cli_streams::{Feed, write_whole};
+use crate::fakes::{Halting, Narrow, narrow_writer};
+use pfs_cli_streams::{Feed, Sink, write_whole};
+use std::alloc::Global;
 use std::io::{ErrorKind, Read, Write};
 use std::test::Fail;
+
+fn sink_of(alloc: Global, width: usize, room: usize) -> Sink<Narrow> {
+    Sink::new(narrow_writer(alloc, width, room))
+}
 
 #[test]
 fn a_feed_gives_its_bytes_and_ends(rt: HostRuntime) -> Result<(), Fail> {

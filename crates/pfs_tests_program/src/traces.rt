@@ -1,7 +1,7 @@
 //! Short records, and the reports of them.
 
-use pfs_cli::{replay, replay_joined};
-use pfs_cli_streams::{Feed, Sink};
+use crate::runs;
+use crate::runs::tell_joined;
 use std::process::Abort;
 use std::test::Fail;
 
@@ -59,7 +59,6 @@ fn write_sent(trace: &mut String, sent: &Sent) -> Result<(), Fail> {
 
 /// The report of these rules, behind a first line of them, and of these records is this one, from two texts and from one.
 fn tell(rt: &(impl Abort + AllocGlobal), first: &str, case: &Case) -> Result<(), Fail> {
-    let shows = case.shows;
     let mut trace = String::new(rt.alloc());
     write!(trace, "time,dir,if,proto,src,sport,dst,dport,flags\n")?;
     for sent in case.sent {
@@ -67,20 +66,10 @@ fn tell(rt: &(impl Abort + AllocGlobal), first: &str, case: &Case) -> Result<(),
     }
     let mut rules = String::new(rt.alloc());
     write!(rules, "{first}{}\n", case.rules)?;
-    let mut text = Feed::new(rules.as_bytes(), 9);
-    let mut records = Feed::new(trace.as_bytes(), 9);
-    let mut out = Sink::new(Vec::new(rt.alloc()));
-    let told = replay(rt.alloc(), &mut text, &mut records, &mut out);
-    let written = out.into_inner();
-    assert_eq!(rt; told, Ok(()), "{shows}");
-    assert_eq!(rt; written.as_slice(), case.report.as_bytes(), "{shows}");
+    let report = case.report.as_bytes();
+    runs::tell(rt, rules.as_bytes(), trace.as_bytes(), Ok(()), report);
     write!(rules, "%%\n{trace}")?;
-    let mut joined = Feed::new(rules.as_bytes(), 9);
-    let mut out = Sink::new(Vec::new(rt.alloc()));
-    let told = replay_joined(rt.alloc(), &mut joined, &mut out);
-    let written = out.into_inner();
-    assert_eq!(rt; told, Ok(()), "{shows}");
-    assert_eq!(rt; written.as_slice(), case.report.as_bytes(), "{shows}");
+    tell_joined(rt, rules.as_bytes(), Ok(()), report);
     Ok(())
 }
 

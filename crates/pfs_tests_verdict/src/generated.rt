@@ -221,7 +221,7 @@ fn evaluated(items: &[Item], packet: &Packet) -> Evaluation {
             quick: item.quick,
             matches: decided.is_some(),
         };
-        evaluation = evaluation.behind(place as u32, &step);
+        evaluation = evaluation.behind(place, &step);
     }
     evaluation
 }
@@ -237,7 +237,7 @@ fn generated_rulesets_answer_as_a_plain_walk_does(rt: HostRuntime) -> Result<(),
             let packet = numbers.packet()?;
             let plain = evaluated(&ruleset.items, &packet);
             let (rule, visits) = rules.ask(&packet);
-            assert_eq!(rt; rule.map(|rule| rule.0), plain.found);
+            assert_eq!(rt; rule.map(|rule| rule.0 as usize), plain.found);
             assert!(rt; visits <= plain.visits, "{visits} visits");
             if visits < plain.visits {
                 fewer = fewer.saturating_add(1);

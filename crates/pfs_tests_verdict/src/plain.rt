@@ -28,7 +28,7 @@ struct Open {
 #[derive(Clone, Copy, Debug, PartialEq, Eq)]
 pub struct Evaluation {
     /// The place of the last rule that matched.
-    pub found: Option<u32>,
+    pub found: Option<usize>,
     /// The number of items that were compared.
     pub visits: u64,
     is_over: bool,
@@ -50,7 +50,7 @@ impl Evaluation {
     }
 
     /// Behind one more item, which stands at a place.
-    pub fn behind(self, place: u32, step: &Step) -> Evaluation {
+    pub fn behind(self, place: usize, step: &Step) -> Evaluation {
         let left = self.after_leaving(step.depth);
         if left.is_over || left.hidden.is_some_and(|anchor| step.depth > anchor) {
             return left;
@@ -87,7 +87,7 @@ impl Evaluation {
     }
 
     // Behind a rule that matched.
-    fn hit(self, place: u32, quick: bool) -> Evaluation {
+    fn hit(self, place: usize, quick: bool) -> Evaluation {
         let mut hit = self;
         for anchor in hit.open.iter_mut() {
             if let Some(anchor) = anchor {

@@ -1,4 +1,4 @@
-// Texts that are shown, and loaded again.
+//! Texts that are shown, and loaded again.
 
 use pfs_conf::{Config, LimitName, TableNo, TimeoutName, load};
 use pfs_conf_show::show;

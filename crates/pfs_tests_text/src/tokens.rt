@@ -1,6 +1,6 @@
-// Tokens, numbers and parts of texts, written out by hand.
+//! Tokens, numbers and parts of texts, written out by hand.
 
-use crate::{
+use pfs_conf_tokens::{
     Cursor, Key, ReadError, Refusal, Why, digits, key_of, number, skip_lines, split_at_byte,
 };
 use std::alloc::AllocError;
@@ -52,16 +52,18 @@ fn ends_of_texts(rt: HostRuntime) {
     assert_eq!(rt; comment.take(Key::All), false);
 }
 
+const BAD: &[&[u8]] = &[
+    b"\"open\n\"",
+    b"\"a\\\nb\"",
+    b"\\ \n",
+    b"\xef\xbb\xbfpass",
+    b"\x7f",
+    b"\x00",
+];
+
 #[test]
 fn what_nothing_accepts(rt: HostRuntime) {
-    for text in [
-        b"\"open\n\"".as_slice(),
-        b"\"a\\\nb\"".as_slice(),
-        b"\\ \n".as_slice(),
-        b"\xef\xbb\xbfpass".as_slice(),
-        b"\x7f".as_slice(),
-        b"\x00".as_slice(),
-    ] {
+    for &text in BAD {
         assert_eq!(rt; Cursor::new(text).key(), Key::Bad);
     }
     let mut quoted = Cursor::new(b"\"we#b {\"}");
@@ -94,22 +96,34 @@ fn marks_part_words(rt: HostRuntime) {
     assert!(rt; cursor.is_at_end());
 }
 
+const WORDS: &[(&[u8], Key)] = &[
+    (b"max-src-conn-rate", Key::MaxSrcConnRate),
+    (b"max-src-conn-rat", Key::Name),
+    (b"Pass", Key::Name),
+    (b"10.0.0.0/8", Key::Number),
+    (b"$ext_if", Key::Name),
+    (b"binat-to", Key::Foreign),
+    (b"", Key::Name),
+];
+
 #[test]
-fn keys_of_words(rt: HostRuntime) {
-    assert_eq!(rt; key_of(b"max-src-conn-rate"), Key::MaxSrcConnRate);
-    assert_eq!(rt; key_of(b"max-src-conn-rat"), Key::Name);
-    assert_eq!(rt; key_of(b"Pass"), Key::Name);
-    assert_eq!(rt; key_of(b"10.0.0.0/8"), Key::Number);
-    assert_eq!(rt; key_of(b"$ext_if"), Key::Name);
-    assert_eq!(rt; key_of(b"binat-to"), Key::Foreign);
-    assert_eq!(rt; key_of(b""), Key::Name);
-    assert!(rt; Key::Number.is_word());
-    assert!(rt; Key::Pass.is_word());
-    assert!(rt; !Key::Quoted.is_word());
-    assert!(rt; Key::Inet6.is_unsupported());
-    assert!(rt; !Key::Inet.is_unsupported());
-    assert_eq!(rt; key_of(b"src.track").timeout_place(), Some(12));
-    assert_eq!(rt; key_of(b"tcp.tsdiff").timeout_place(), None);
+fn words_have_keys(rt: HostRuntime) {
+    for &(word, key) in WORDS {
+        assert_eq!(rt; key_of(word), key);
+    }
+}
+
+#[test]
+fn keys_are_of_kinds(rt: HostRuntime) {
+    for (key, is_word) in [(Key::Number, true), (Key::Pass, true), (Key::Quoted, false)] {
+        assert_eq!(rt; key.is_word(), is_word);
+    }
+    for (key, is_unsupported) in [(Key::Inet6, true), (Key::Inet, false)] {
+        assert_eq!(rt; key.is_unsupported(), is_unsupported);
+    }
+    for (word, place) in [(b"src.track".as_slice(), Some(12)), (b"tcp.tsdiff", None)] {
+        assert_eq!(rt; key_of(word).timeout_place(), place);
+    }
 }
 
 #[test]

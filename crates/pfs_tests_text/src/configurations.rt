@@ -1,0 +1,254 @@
+//! What a configuration says of its text: items, tables, limits, timeouts, and its canonical text.
+
+use pfs_addr::{Addr, Prefix};
+use pfs_conf::{
+    Action, Config, FlagTest, Host, LimitName, RuleNo, Scope, TableNo, TimeoutName, load,
+};
+use pfs_conf_show::show;
+use std::test::Fail;
+
+const NESTED: &[u8] = b"set limit states 50
+set timeout src.track 7
+table <bad> { 10.1.2.3/8, !10.9.9.9 }
+block quick from <bad>
+anchor web {
+pass keep state (max 9, source-track rule, max-src-conn-rate 3/10, overload <worse> flush global)
+}
+pass keep state (source-track global, max-src-states 2)
+";
+
+fn nested(rt: &impl AllocGlobal) -> Result<Config, Fail> {
+    Ok(load(rt.alloc(), NESTED)?)
+}
+
+const ITEMS: &[(
+    u32,
+    Option<u8>,
+    Option<bool>,
+    Option<Option<u32>>,
+    Option<Scope>,
+)] = &[
+    (0, Some(0), Some(true), None, None),
+    (1, Some(0), None, None, None),
+    (2, Some(1), Some(false), Some(Some(9)), Some(Scope::Rule)),
+    (3, Some(0), Some(false), Some(None), Some(Scope::Global)),
+    (4, None, None, None, None),
+];
+
+#[test]
+fn items_are_numbered_in_order(rt: HostRuntime) -> Result<(), Fail> {
+    let config = nested(&rt)?;
+    assert_eq!(rt; config.item_count(), 4);
+    for &(number, depth, quick, max, scope) in ITEMS {
+        assert_eq!(rt; config.item(number).map(|item| item.depth), depth);
+        let number = RuleNo(number);
+        assert_eq!(rt; config.rule(number).map(|rule| rule.quick), quick);
+        assert_eq!(rt; config.options(number).map(|options| options.max), max);
+        assert_eq!(rt; config.scope(number), scope);
+    }
+    assert_eq!(rt; config.rule_timeout(RuleNo(2), TimeoutName::TcpFirst), None);
+    Ok(())
+}
+
+#[test]
+fn tables_are_copied_with_their_entries(rt: HostRuntime) -> Result<(), Fail> {
+    let config = nested(&rt)?;
+    let copy = config.copy()?;
+    assert_eq!(rt;
+        (copy.item_count(), copy.table_count(), copy.entry_count()),
+        (4, 2, 2)
+    );
+    assert!(rt; copy.item(2) == config.item(2));
+    let bad = copy.table(TableNo(0)).ok_or("no table")?;
+    assert_eq!(rt; bad.name.as_bytes(), b"bad".as_slice());
+    assert_eq!(rt; bad.entries.len(), 2);
+    let nine = Prefix::host(Addr::V4([10, 9, 9, 9]));
+    assert_eq!(rt; bad.entries.at(1), Some((nine, true)));
+    for (prefix, negated) in [
+        (nine, Some(true)),
+        (Addr::V4([10, 0, 0, 0]).prefix(8), Some(false)),
+        (Addr::V4([10, 0, 0, 0]).prefix(9), None),
+    ] {
+        assert_eq!(rt; bad.entries.get(prefix), negated);
+    }
+    assert!(rt; copy.table(TableNo(2)).is_none());
+    Ok(())
+}
+
+// As long as its score may matter, or for `src.track`
+#[test]
+fn a_source_node_is_retained(rt: HostRuntime) -> Result<(), Fail> {
+    let config = nested(&rt)?;
+    for (number, seconds) in [(RuleNo(2), 10), (RuleNo(3), 7)] {
+        assert!(rt; config.scope(number).is_some());
+        assert_eq!(rt; config.retention(number), seconds);
+    }
+    Ok(())
+}
+
+#[test]
+fn timeouts_have_places(rt: HostRuntime) {
+    for place in 0..16 {
+        assert!(rt; TimeoutName::at(place).place() == place);
+    }
+}
+
+#[test]
+fn limits_are_set_or_have_their_defaults(rt: HostRuntime) -> Result<(), Fail> {
+    let all =
+        b"set limit {\n states\n 7 ,\n src-nodes 8 frags 1 tables 0009\n table-entries 4294967295\n }\n";
+    for (text, wanted) in [
+        (b"".as_slice(), [100_000, 10_000, 1_000, 200_000]),
+        (NESTED, [50, 10_000, 1_000, 200_000]),
+        (b"set limit states 7\n", [7, 10_000, 1_000, 200_000]),
+        (all, [7, 8, 9, 4_294_967_295]),
+    ] {
+        let config = load(rt.alloc(), text)?;
+        let limits = [
+            config.limit(LimitName::States),
+            config.limit(LimitName::SrcNodes),
+            config.limit(LimitName::Tables),
+            config.limit(LimitName::TableEntries),
+        ];
+        assert_eq!(rt; limits, wanted);
+    }
+    Ok(())
+}
+
+#[test]
+fn timeouts_are_set_or_have_their_defaults(rt: HostRuntime) -> Result<(), Fail> {
+    let twice =
+        b"set timeout { interval 1, udp.first 0 tcp.closed 2147483647, frag 3, icmp.error 0 interval 2 }\n";
+    let pair = b"set timeout { adaptive.start 0, adaptive.end 4294967295 }\n";
+    for (text, name, seconds) in [
+        (NESTED, TimeoutName::TcpEstablished, 86_400),
+        (NESTED, TimeoutName::Interval, 10),
+        (NESTED, TimeoutName::SrcTrack, 7),
+        (NESTED, TimeoutName::AdaptiveStart, 30),
+        (NESTED, TimeoutName::AdaptiveEnd, 60),
+        (twice, TimeoutName::Interval, 2),
+        (twice, TimeoutName::UdpFirst, 0),
+        (twice, TimeoutName::TcpClosed, 2_147_483_647),
+        (pair, TimeoutName::AdaptiveStart, 0),
+        (pair, TimeoutName::AdaptiveEnd, 4_294_967_295),
+    ] {
+        let config = load(rt.alloc(), text)?;
+        assert_eq!(rt; config.timeout(name), seconds, "{name:?}");
+    }
+    Ok(())
+}
+
+#[test]
+fn the_canonical_text_shows_all(rt: HostRuntime) -> Result<(), Fail> {
+    for (text, wanted) in [
+        (
+            b"set limit states 50".as_slice(),
+            b"set limit { states 50, src-nodes 10000, tables 1000, table-entries 200000 }\n\
+            set timeout { tcp.first 120, tcp.opening 30, tcp.established 86400, tcp.closing 900, \
+            tcp.finwait 45, tcp.closed 90, udp.first 60, udp.single 30, udp.multiple 60, \
+            other.first 60, other.single 30, other.multiple 60, src.track 0, interval 10, \
+            adaptive.start 30, adaptive.end 60 }\n"
+                .as_slice(),
+        ),
+        (
+            b"table <bad> const { 10.0.0.0/8 !10.9.9.9/32 }",
+            b"adaptive.end 120000 }\ntable <bad> const { 10.0.0.0/8, !10.9.9.9 }\n",
+        ),
+    ] {
+        let shown = show(rt.alloc(), &load(rt.alloc(), text)?)?;
+        assert!(rt; shown.as_slice().ends_with(wanted));
+    }
+    Ok(())
+}
+
+const WEB_SERVER: &[u8] = b"# http for everyone, ssh for a few
+set limit { states 20000, src-nodes 5000 }
+set timeout { tcp.established 7200,
+              udp.multiple 120 }
+table <martians> const { 10.0.0.0/8, 127.0.0.0/8, \\
+    192.168.0.0/16 }
+table <office> persist {
+    198.51.100.0/24
+    !198.51.100.13      # the guests' router
+}
+table <bruteforce> persist
+
+block drop log all
+pass quick on lo0 all no state
+block in quick on em0 inet from <martians> to any
+block in log quick from <bruteforce>
+pass out on em0 inet proto udp from any to any port domain keep state (max 2000)
+
+anchor \"web\" in on em0 inet {
+    pass proto tcp from any to any port www \\
+        keep state (max 15000, max-src-nodes 4000, \\
+            max-src-conn 80, max-src-conn-rate 200/10, overload <webflood> flush)
+    pass proto tcp from any to any port = https:444 flags any
+}
+
+anchor \"ssh\" in on em0 proto tcp from any to any port ssh {
+    pass quick from <office> keep state (sloppy)
+    pass all keep state (max-src-conn 5 max-src-conn-rate 3/60 overload <bruteforce> flush global, src.track 300)
+}
+";
+
+#[test]
+fn a_web_server_has_its_items_and_tables(rt: HostRuntime) -> Result<(), Fail> {
+    let config = load(rt.alloc(), WEB_SERVER)?;
+    assert_eq!(rt;
+        (
+            config.item_count(),
+            config.table_count(),
+            config.entry_count()
+        ),
+        (11, 4, 5)
+    );
+    let block = config.rule(RuleNo(2)).ok_or("a rule")?;
+    assert!(rt; block.action == Action::Block && block.quick);
+    let martians = Host::Table {
+        table: TableNo(0),
+        negated: false,
+    };
+    assert!(rt; block.filter.from.host == martians);
+    let https = config.rule(RuleNo(7)).ok_or("a rule")?;
+    assert!(rt; https.filter.flags == FlagTest::Any);
+    Ok(())
+}
+
+// What is set, what has its default, and what is resolved of it
+#[test]
+fn a_web_server_has_its_settings(rt: HostRuntime) -> Result<(), Fail> {
+    let config = load(rt.alloc(), WEB_SERVER)?;
+    for (name, value) in [(LimitName::States, 20_000), (LimitName::Tables, 1_000)] {
+        assert_eq!(rt; config.limit(name), value);
+    }
+    for (name, value) in [
+        (TimeoutName::TcpEstablished, 7_200),
+        (TimeoutName::AdaptiveEnd, 24_000),
+    ] {
+        assert_eq!(rt; config.timeout(name), value);
+    }
+    Ok(())
+}
+
+#[test]
+fn a_web_server_has_its_options(rt: HostRuntime) -> Result<(), Fail> {
+    let config = load(rt.alloc(), WEB_SERVER)?;
+    for (number, depth, scope, seconds) in [
+        (4, 0, None, None),
+        (6, 1, Some(Scope::Rule), None),
+        (10, 1, Some(Scope::Rule), Some(300)),
+    ] {
+        assert_eq!(rt; config.item(number).map(|item| item.depth), Some(depth));
+        assert_eq!(rt; config.scope(RuleNo(number)), scope);
+        let seconds_told = config.rule_timeout(RuleNo(number), TimeoutName::SrcTrack);
+        assert_eq!(rt; seconds_told, seconds);
+    }
+    let kept = config.options(RuleNo(6)).ok_or("options")?;
+    let overload = kept.overload.ok_or("overload")?;
+    assert_eq!(rt;
+        (overload.table, overload.flush, kept.max),
+        (TableNo(3), Some(Scope::Rule), Some(15_000))
+    );
+    Ok(())
+}

@@ -1,0 +1,283 @@
+//! Texts of rules that are refused, and unusual ones that are not.
+
+use pfs_conf::{Kind, load};
+use std::alloc::{AllocError, Global};
+use std::process::Abort;
+use std::test::Fail;
+
+// A text is refused at this line, with this kind.
+fn refused(rt: &(impl Abort + AllocGlobal), text: &[u8], line: u64, kind: Kind) {
+    match load(rt.alloc(), text) {
+        Ok(_) => assert!(rt; false, "accepted, and not refused as {kind}"),
+        Err(fault) => assert_eq!(rt; (fault.line, fault.kind), (line, kind)),
+    }
+}
+
+const WORKED: &[(&[u8], u64, Kind)] = &[
+    (b"pass in proto udp all keep state (max 0)", 1, Kind::Number),
+    (b"pass\npass on em0 proto { tcp udp }", 2, Kind::Unsupported),
+    (b"ext_if = \"em0\"", 1, Kind::Unsupported),
+    (b"pass foo", 1, Kind::Syntax),
+    (b"pass from 10/8", 1, Kind::Syntax),
+    (b"anchor \"a\" {\n", 2, Kind::Syntax),
+    (b"pass keep state (max 1, max 2)", 1, Kind::Duplicate),
+    (
+        b"pass keep state (source-track global, max-src-conn 3)",
+        1,
+        Kind::GlobalConn,
+    ),
+    (
+        b"pass keep state (max-src-states 3, src.track 5)",
+        1,
+        Kind::GlobalRetention,
+    ),
+    (b"pass keep state (overload <x>)", 1, Kind::OverloadAlone),
+    (b"set timeout adaptive.start 5", 0, Kind::AdaptivePair),
+    (b"pass to any port 80", 1, Kind::PortWithoutProto),
+    (
+        b"table <t> const\npass proto tcp keep state (max-src-conn 1, overload <t>)",
+        2,
+        Kind::ConstOverload,
+    ),
+    (b"block keep state", 1, Kind::StateOnBlock),
+    (
+        b"set limit tables 1\ntable <a>\ntable <b>",
+        0,
+        Kind::TooManyTables,
+    ),
+    (
+        b"set limit table-entries 1\ntable <a> { 10.0.0.1 10.0.0.2 }",
+        0,
+        Kind::TooManyEntries,
+    ),
+];
+
+#[test]
+fn worked_faults(rt: HostRuntime) {
+    for &(text, line, kind) in WORKED {
+        refused(&rt, text, line, kind);
+    }
+}
+
+fn repeated(alloc: Global, line: &[u8], times: u32, last: &[u8]) -> Result<Vec<u8>, AllocError> {
+    let mut text = Vec::new(alloc);
+    for _ in 0..times {
+        text.extend_from_slice(line)?;
+    }
+    text.extend_from_slice(last)?;
+    Ok(text)
+}
+
+// The limits on depth, on rules and anchors, and on bytes; the 10,001st item is asked the other rules first.
+#[test]
+fn too_many(rt: HostRuntime) -> Result<(), Fail> {
+    let alloc = rt.alloc();
+    refused(
+        &rt,
+        &repeated(alloc, b"anchor {\n", 17, b"")?,
+        17,
+        Kind::TooDeep,
+    );
+    refused(
+        &rt,
+        &repeated(alloc, b"pass\n", 10_001, b"")?,
+        10_001,
+        Kind::TooManyRules,
+    );
+    refused(
+        &rt,
+        &repeated(alloc, b"pass\n", 10_000, b"anchor {\n")?,
+        10_001,
+        Kind::TooManyRules,
+    );
+    refused(
+        &rt,
+        &repeated(alloc, b"pass\n", 10_000, b"block keep state")?,
+        10_001,
+        Kind::StateOnBlock,
+    );
+    refused(
+        &rt,
+        &repeated(alloc, b" ", 1_048_577, b"")?,
+        0,
+        Kind::TooLong,
+    );
+    assert!(rt; load(alloc, &repeated(alloc, b" ", 1_048_576, b"")?).is_ok());
+    assert!(rt; load(alloc, &repeated(alloc, b"pass\n", 10_000, b"")?).is_ok());
+    let deep = repeated(alloc, b"anchor {\n", 16, b"pass\n")?;
+    assert!(rt; load(alloc, &repeated(alloc, b"}\n", 16, b"")?).is_err());
+    let mut closed = deep;
+    closed.extend_from_slice(&repeated(alloc, b"}\n", 16, b"")?)?;
+    assert!(rt; load(alloc, &closed).is_ok());
+    Ok(())
+}
+
+const SPELLINGS: &[&[u8]] = &[
+    b"",
+    b"\t\r \\\n # \\\n\n",
+    b"set limit { states 5\n,\nfrags 4294967295 src-nodes\n0000000001\n }",
+    b"set timeout { interval 1 icmp.first 0, frag 2147483647\ntcp.tsdiff 0 icmp.error 5 }",
+    b"set timeout { adaptive.end 5 adaptive.start 0 }\nset timeout adaptive.start 0",
+    b"table < quick > counters const persist { ! 10.0.0.1/32, 10.0.0.1/8\n\n 10.2.0.0/8 }",
+    b"table <5.x-_> {\n\n}",
+    b"block return-icmp6 quick log all",
+    b"pass quick log(all all, matches user to quick)on !7 inet proto 006 from!<t>port = ssh:0443 to port 5",
+    b"pass in on log proto 17 from any port 0:65535",
+    b"pass flags /S no state",
+    b"pass no state flags SSA/AS",
+    b"pass keep state (sloppy no-sync, floating, tcp.first 0 adaptive.start 1 adaptive.end 2)",
+    b"pass keep state (source-track, src.track 5, max-src-conn-rate 4294967/2147483647, overload <any> flush)",
+    b"anchor log {\n}\nanchor \"pass\" quick {\n}\nanchor keep in flags any {\n}",
+    b"anchor {\n anchor a {\n}\n anchor b {\n}\n}\nanchor a {\n}",
+    b"anchor \"quick\" {\n}\nanchor 10.1 on em0 inet proto esp from any to !10.0.0.0/8 {\nblock\n}",
+];
+
+// The least usual spelling of each production.
+#[test]
+fn unusual_spellings(rt: HostRuntime) {
+    for &text in SPELLINGS {
+        match load(rt.alloc(), text) {
+            Ok(_) => {}
+            Err(fault) => assert!(rt; false, "refused: {fault}"),
+        }
+    }
+}
+
+const DEFINITIONS: &[(&[u8], u64, Kind)] = &[
+    (b"set skip on lo0", 1, Kind::Unsupported),
+    (b"set 5", 1, Kind::Unsupported),
+    (b"set \"limit\" states 5", 1, Kind::Syntax),
+    (b"set", 1, Kind::Syntax),
+    (b"set limit anchors 5", 1, Kind::Syntax),
+    (b"set limit states 0", 1, Kind::Number),
+    (b"set limit states x", 1, Kind::Syntax),
+    (b"set limit states $n", 1, Kind::Unsupported),
+    (b"set limit states 5 6", 1, Kind::Syntax),
+    (b"set limit {\nstates 5,\n}", 3, Kind::Syntax),
+    (b"set timeout interval 0", 1, Kind::Number),
+    (b"set timeout tcp.first 2147483648", 1, Kind::Number),
+    (b"set timeout tcp.last 5", 1, Kind::Syntax),
+    (b"table <a>\ntable <a>", 2, Kind::Duplicate),
+    (b"table <a> const const", 1, Kind::Duplicate),
+    (b"table <a> { 1.2.3.4\n!1.2.3.4 }", 2, Kind::Duplicate),
+    (b"table <a> { host }", 1, Kind::Unsupported),
+    (b"table <a> { 1::2 }", 1, Kind::Unsupported),
+    (b"table <a> { 10/8 }", 1, Kind::Syntax),
+    (b"table <a> { 1.2.3.4,, 5.6.7.8 }", 1, Kind::Syntax),
+    (b"table <a> file \"x\"", 1, Kind::Unsupported),
+    (b"table <$a>", 1, Kind::Unsupported),
+    (
+        b"table <a-name-that-is-longer-than-it-may>",
+        1,
+        Kind::Syntax,
+    ),
+    (b"table \"a\"", 1, Kind::Syntax),
+];
+
+// Statements that set options and define tables.
+#[test]
+fn refused_definitions(rt: HostRuntime) {
+    for &(text, line, kind) in DEFINITIONS {
+        refused(&rt, text, line, kind);
+    }
+}
+
+const RULES: &[(&[u8], u64, Kind)] = &[
+    (b"match in all", 1, Kind::Unsupported),
+    (b"\xef\xbb\xbfpass", 1, Kind::Syntax),
+    (b"pass\n\\\n\"pass", 3, Kind::Syntax),
+    (b"pass pass = 3", 1, Kind::Syntax),
+    (b"block drop return", 1, Kind::Duplicate),
+    (b"pass drop", 1, Kind::Syntax),
+    (b"pass in out", 1, Kind::Duplicate),
+    (b"pass quick in", 1, Kind::Syntax),
+    (b"pass log log", 1, Kind::Duplicate),
+    (b"pass log (foo)", 1, Kind::Syntax),
+    (b"pass on any", 1, Kind::Unsupported),
+    (b"pass on em0/1", 1, Kind::Syntax),
+    (b"pass inet6", 1, Kind::Unsupported),
+    (b"pass proto 256", 1, Kind::Number),
+    (b"pass proto ospf", 1, Kind::Unsupported),
+    (b"pass proto", 1, Kind::Syntax),
+    (b"pass proto tcp to any port 80:70", 1, Kind::Number),
+    (
+        b"pass proto tcp to any port https:http",
+        1,
+        Kind::Unsupported,
+    ),
+    (b"pass proto tcp to any port > 80", 1, Kind::Syntax),
+    (b"pass from www.example.com", 1, Kind::Unsupported),
+    (b"pass from any from any", 1, Kind::Duplicate),
+    (b"pass from any to (em0)", 1, Kind::Unsupported),
+    (b"pass flags S/", 1, Kind::Syntax),
+    (b"pass flags S/SA flags any", 1, Kind::Duplicate),
+    (b"pass flags $f", 1, Kind::Unsupported),
+    (b"pass no state (max 5)", 1, Kind::Unsupported),
+    (b"pass keep state no state", 1, Kind::Duplicate),
+    (b"pass keep state (max 5,)", 1, Kind::Syntax),
+    (b"pass keep state (interval 5)", 1, Kind::Syntax),
+    (b"pass keep state (max-src-conn-rate 5)", 1, Kind::Number),
+    (b"pass keep state (if-bound)", 1, Kind::Unsupported),
+    (b"pass keep state (max 5\n)", 1, Kind::Syntax),
+    (b"pass modulate state", 1, Kind::Unsupported),
+    (b"pass keep state (adaptive.end 5)", 1, Kind::AdaptivePair),
+    (b"block keep state foo", 1, Kind::Syntax),
+];
+
+#[test]
+fn refused_rules(rt: HostRuntime) {
+    for &(text, line, kind) in RULES {
+        refused(&rt, text, line, kind);
+    }
+}
+
+const ANCHORS: &[(&[u8], u64, Kind)] = &[
+    (b"anchor a\n", 1, Kind::Unsupported),
+    (b"anchor on\n", 1, Kind::Unsupported),
+    (b"anchor \"a/b\" {", 1, Kind::Unsupported),
+    (b"anchor a* {", 1, Kind::Unsupported),
+    (b"anchor \"\" {", 1, Kind::Syntax),
+    (b"anchor a {\n}\nanchor \"a\" {", 3, Kind::Duplicate),
+    (b"anchor a { pass }", 1, Kind::Syntax),
+    (b"anchor a {\nset limit states 5", 2, Kind::Unsupported),
+    (b"anchor a {\ntable <t>", 2, Kind::Unsupported),
+    (b"}", 1, Kind::Syntax),
+    (b"anchor {\n} pass", 2, Kind::Syntax),
+    (b"anchor proto 300 {", 1, Kind::Number),
+    (b"anchor quick quick {", 1, Kind::Duplicate),
+    (b"anchor flags any flags any {", 1, Kind::Duplicate),
+    (b"anchor in log {", 1, Kind::Syntax),
+    (b"anchor to any port 80 {\n}", 1, Kind::PortWithoutProto),
+    (
+        b"pass proto tcp\nanchor proto tcp {\npass to any port 80\n}",
+        3,
+        Kind::PortWithoutProto,
+    ),
+];
+
+#[test]
+fn refused_anchors(rt: HostRuntime) {
+    for &(text, line, kind) in ANCHORS {
+        refused(&rt, text, line, kind);
+    }
+}
+
+// Bytes without any order are answered too: a linear congruence gives them.
+#[test]
+fn any_bytes(rt: HostRuntime) -> Result<(), Fail> {
+    let mut seed = 1u64;
+    for length in 0..200usize {
+        let mut text = Vec::new(rt.alloc());
+        for _ in 0..length {
+            seed = seed
+                .wrapping_mul(6_364_136_223_846_793_005)
+                .wrapping_add(1_442_695_040_888_963_407);
+            text.push((seed / 4_294_967_296 % 256) as u8)?;
+        }
+        match load(rt.alloc(), &text) {
+            Ok(config) => assert!(rt; config.item_count() <= 10_000),
+            Err(fault) => assert!(rt; fault.line <= 201),
+        }
+    }
+    Ok(())
+}

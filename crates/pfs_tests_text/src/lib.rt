@@ -1,0 +1,22 @@
+//! Tests of the calls that read and show texts: rows of data, and small functions that run them.
+
+#![tactic(auto)]
+
+#[cfg(test)]
+mod addresses;
+#[cfg(test)]
+mod clauses;
+#[cfg(test)]
+mod configurations;
+#[cfg(test)]
+mod faults;
+#[cfg(test)]
+mod packets;
+#[cfg(test)]
+mod parameters;
+#[cfg(test)]
+mod round_trips;
+#[cfg(test)]
+mod settings;
+#[cfg(test)]
+mod tokens;

@@ -1,0 +1,75 @@
+//! Packets, the keys of their states, the meter, and the text of an error.
+
+use pfs_addr::{
+    Addr, Dir, Endpoint, Flags, FlowKey, IfName, Meter, NoMemory, Packet, Proto, parse_ifname,
+};
+use std::process::Abort;
+use std::test::Fail;
+
+const CLIENT: Endpoint = Endpoint {
+    addr: Addr::V4([198, 51, 100, 1]),
+    port: 1000,
+};
+
+const SERVER: Endpoint = Endpoint {
+    addr: Addr::V4([192, 0, 2, 1]),
+    port: 80,
+};
+
+fn interface(rt: &impl Abort) -> IfName {
+    parse_ifname(b"em0").expect(rt, "a name")
+}
+
+fn tcp(rt: &impl Abort, dir: Dir, from: Endpoint, to: Endpoint, flags: Flags) -> Packet {
+    Packet::new(dir, interface(rt), Proto::Tcp, from, to, flags)
+}
+
+#[test]
+fn a_packet_has_what_it_is_made_of(rt: HostRuntime) {
+    let syn = Flags {
+        syn: true,
+        ..Flags::default()
+    };
+    let packet = tcp(&rt, Dir::In, CLIENT, SERVER, syn);
+    assert!(rt; packet.ifname() == interface(&rt));
+    assert_eq!(rt;
+        (packet.dir(), packet.proto(), packet.flags()),
+        (Dir::In, Proto::Tcp, syn)
+    );
+    assert_eq!(rt; (packet.source(), packet.destination()), (CLIENT, SERVER));
+    assert_eq!(rt; (packet.src(), packet.sport()), (CLIENT.addr, 1000));
+    assert_eq!(rt; (packet.dst(), packet.dport()), (SERVER.addr, 80));
+}
+
+#[test]
+fn a_packet_and_its_answer_have_one_key(rt: HostRuntime) {
+    let none = Flags::default();
+    let key = FlowKey {
+        proto: Proto::Tcp,
+        a: CLIENT,
+        b: SERVER,
+    };
+    for (packet, is_same) in [
+        (tcp(&rt, Dir::In, CLIENT, SERVER, none), true),
+        (tcp(&rt, Dir::Out, SERVER, CLIENT, none), true),
+        (tcp(&rt, Dir::In, SERVER, CLIENT, none), false),
+    ] {
+        assert_eq!(rt; FlowKey::of(&packet) == key, is_same);
+    }
+}
+
+#[test]
+fn a_meter_counts(rt: HostRuntime) {
+    let mut meter = Meter::new();
+    assert_eq!(rt; meter.count(), 0);
+    meter.tick();
+    meter.tick();
+    assert_eq!(rt; meter.count(), 2);
+}
+
+#[test]
+fn want_of_memory_has_a_text(rt: HostRuntime) -> Result<(), Fail> {
+    let text = format!(in rt.alloc(); "{}", NoMemory)?;
+    assert_eq!(rt; text.as_str(), "no memory");
+    Ok(())
+}
