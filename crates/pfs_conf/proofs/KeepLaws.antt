@@ -4,7 +4,7 @@ use Rattle.std.proofs.lemmas.Bool.{leb-false}
 use Rattle.pfs_conf_tokens.specs.declared.refusals.LoadRule.{LoadRule}
 use Rattle.pfs_conf_tokens.specs.declared.refusals.LoadRule.TheVariants as load_rule
 use Rattle.pfs_conf_rules.specs.Drafts.{Drafted, tables_of}
-use Rattle.pfs_conf_rules.specs.Namings.{Named, is_named, naming, undefined_table}
+use Rattle.pfs_conf_rules.specs.Namings.{Named, is_named, naming, place_in, table_number, undefined_table}
 use Rattle.pfs_conf_rules.specs.LoadRules.{IsTableNo, IsHost, IsSide, IsFilter, IsFlagTest, IsAction, IsRule, IsAnchor}
 use Rattle.pfs_conf_rules.specs.declared.actions.Action.{Action}
 use Rattle.pfs_conf_rules.specs.declared.actions.Action.TheVariants as action
@@ -64,17 +64,21 @@ hosts_items h d = host_items (destination_of h).host (name_host (source_of h).ho
 pub rule_items : (r : RuleText) (d : Drafted) → (name_rule r d).items ≡ d.items
 rule_items r d = overload_items (state_options r.clauses.state).overload (name_hosts r.parameters.hosts d) ∙ hosts_items r.parameters.hosts d
 
+-- where a place is one of so many, so is its number
+number_within : (place tables : ℕ) → place < tables → table_number place < tables
+number_within place tables h = omega arith
+
 host_known : (tables : ℕ) (h : Host (List ℕ)) (d : Drafted) → IsHost IsTableName h → length (name_host h d).tables ≤ tables → IsHost (IsTableNo tables) (number_host h d)
 host_known tables host.Any d k more = tt
 host_known tables (host.Prefix p b) d k more = k
-host_known tables (host.Table n b) d k more = let within = (naming-IsPlaced n (tables_of d)).within in omega arith
+host_known tables (host.Table n b) d k more = let within = (naming-IsPlaced n (tables_of d)).within in number_within (place_in n d.tables) tables (omega arith)
 
 side_known : (tables : ℕ) (s : Side (List ℕ)) (d : Drafted) → IsSide IsTableName s → length (name_host s.host d).tables ≤ tables → IsSide (IsTableNo tables) (number_side s d)
 side_known tables s d k more = record { host = host_known tables s.host d k.host more; ports = k.ports }
 
 overload_known : (v : Option OverloadText) (d : Drafted) → IfSome (number_overload v d) (IsTableNo (length (name_overload v d).tables))
 overload_known None d = tt
-overload_known (Some v) d = (naming-IsPlaced v.table (tables_of d)).within
+overload_known (Some v) d = number_within (place_in v.table d.tables) (length (name_overload (Some v) d).tables) (naming-IsPlaced v.table (tables_of d)).within
 
 filter_kept : (tables : ℕ) (p : Parameters) (f : FlagTest) (d : Drafted) → AreParameters p → IsFlagTest f → lacks_proto p ≡ false → length (name_hosts p.hosts d).tables ≤ tables → IsFilter tables (filter_of p f d)
 filter_kept tables p f d k flags lacks more =

@@ -34,7 +34,7 @@ pub fn load(alloc: Global, text: &[u8]) -> Result<Config, LoadFault>
     ensures long { most_bytes < length text.now → IsTooLong result }
     // The load rule that is the first to be broken is told, unless memory runs out.
     ensures broken { (r : LoadRule) (n : ℕ) → length text.now ≤ most_bytes → Breaks (tokens_of text.now) r n → IsTold result (fault n (kind_of_rule r)) }
-    // And whatever is told is so.
+    // And whatever is told is so. Where no accepted text goes on, it is the line of a token before which all is read.
     ensures fault { IfErr result (λ e. IsFault text.now e) }
 {
     read(alloc, text)

@@ -1,5 +1,5 @@
 -- A text that defines all of its tables, before it uses them, leaves each with its number.
-use Rattle.std.proofs.Common.{◌≡◌, ◌∙◌, ◌<◌, ◌+◌, ℕ, zero, suc, Bool, true, false, List, [], ◌∷◌, ◌++◌, length, map, set, Option, refl, sym, ap, arith}
+use Rattle.std.proofs.Common.{◌≡◌, ◌∙◌, ◌<◌, ◌≤◌, ◌+◌, ℕ, zero, suc, Bool, true, false, List, [], ◌∷◌, ◌++◌, length, map, set, Option, refl, sym, ap, arith}
 use Rattle.std.specs.Prelude.{◌||◌, ◌==◌, not, slice_get, slice_index_or}
 use Rattle.std.specs.List.{AllByRecursion, IsDistinct}
 use Rattle.std.specs.Str.{bytes_eq}
@@ -7,7 +7,7 @@ use Rattle.std.proofs.lemmas.Bool.{cond-true, cond-false, and_from, eq-eqb}
 use Rattle.std.proofs.lemmas.Map.Keys.{IsDistinct-head, IsDistinct-tail}
 use Rattle.pfs_conf_rules.specs.Configs.{table_names}
 use Rattle.pfs_conf_rules.specs.Drafts.{Drafted, is_defined, with_name, with_table, with_tables}
-use Rattle.pfs_conf_rules.specs.Namings.{Named, defined_at, defining, is_named, naming, number_in, undefined_table}
+use Rattle.pfs_conf_rules.specs.Namings.{Named, defined_at, defining, is_named, naming, place_in, table_number, undefined_table}
 use Rattle.pfs_conf_rules.specs.declared.filters.TableNo.{TableNo}
 use Rattle.pfs_conf_rules.specs.declared.items.Item.{Item}
 use Rattle.pfs_conf_rules.specs.declared.limits.Limits.{Limits}
@@ -35,8 +35,8 @@ of_each P [] i h lt = absurd (omega arith)
 of_each P (t ∷ tables) zero h lt = h.0
 of_each P (t ∷ tables) (suc i) h lt = of_each P tables i h.1 (omega arith)
 
--- the name of a table has its number
-pub numbered : (tables : List TableDef) (i : ℕ) → IsDistinct bytes_eq (table_names tables) → i < length tables → number_in (name_in (slice_get tables i)) tables ≡ i
+-- the name of a table has its place
+numbered : (tables : List TableDef) (i : ℕ) → IsDistinct bytes_eq (table_names tables) → i < length tables → place_in (name_in (slice_get tables i)) tables ≡ i
 numbered [] i h lt = absurd (omega arith)
 numbered (t ∷ tables) zero h lt = cond-false (not (bytes_eq t.name t.name)) _ _ (ap not (bytes_same t.name))
 numbered (t ∷ tables) (suc i) h lt =
@@ -44,7 +44,18 @@ numbered (t ∷ tables) (suc i) h lt =
     let apart : bytes_eq t.name name ≡ false = of_each (λ y. bytes_eq t.name y ≡ false) tables i (IsDistinct-head bytes_eq t.name (table_names tables) h) (omega arith) in
     let other : bytes_eq name t.name ≡ false = bytes_sym name t.name ∙ apart in
     let at = numbered tables i (IsDistinct-tail bytes_eq t.name (table_names tables) h) (omega arith) in
-    cond-true (not (bytes_eq name t.name)) (1 + number_in name tables) 0 (ap not other) ∙ omega (arith, at)
+    cond-true (not (bytes_eq name t.name)) (1 + place_in name tables) 0 (ap not other) ∙ omega (arith, at)
+
+-- tables with names of their own, which numbers reach
+pub record AreNumbered (tables : List TableDef) : Type 0 where
+  pub names : IsDistinct bytes_eq (table_names tables)
+  pub few : length tables ≤ 4294967295
+
+number_small : (place n : ℕ) → place ≡ n → n ≤ 4294967295 → table_number place ≡ n
+number_small place n e h = omega arith
+
+pub numbered_so : (tables : List TableDef) (i : ℕ) → AreNumbered tables → i < length tables → table_number (place_in (name_in (slice_get tables i)) tables) ≡ i
+numbered_so tables i h lt = let few = h.few in number_small (place_in (name_in (slice_get tables i)) tables) i (numbered tables i h.names lt) (omega arith)
 
 or_left : (a b : Bool) → a ≡ true → (a || b) ≡ true
 or_left true b h = refl
@@ -88,15 +99,15 @@ new_name (x ∷ before) rest t h =
     go false b e f = f
 
 -- the number of a new name is the next
-next_number : (name : List ℕ) (tables : List TableDef) → is_named name tables ≡ false → number_in name tables ≡ length tables
+next_number : (name : List ℕ) (tables : List TableDef) → is_named name tables ≡ false → place_in name tables ≡ length tables
 next_number name [] h = refl
 next_number name (t ∷ tables) h = go (bytes_eq name t.name) refl (next_number name tables)
   where
-    go : (b : Bool) → bytes_eq name t.name ≡ b → (is_named name tables ≡ false → number_in name tables ≡ length tables) → number_in name (t ∷ tables) ≡ length (t ∷ tables)
+    go : (b : Bool) → bytes_eq name t.name ≡ b → (is_named name tables ≡ false → place_in name tables ≡ length tables) → place_in name (t ∷ tables) ≡ length (t ∷ tables)
     go true e rest = absurd (let some = sym (ap (λ (b : Bool). b || is_named name tables) e) ∙ h in cc)
     go false e rest =
         let at = rest (sym (ap (λ (b : Bool). b || is_named name tables) e) ∙ h) in
-        cond-true (not (bytes_eq name t.name)) (1 + number_in name tables) 0 (ap not e) ∙ omega (arith, at)
+        cond-true (not (bytes_eq name t.name)) (1 + place_in name tables) 0 (ap not e) ∙ omega (arith, at)
 
 set_last : {A : Type 0} (xs : List A) (x y : A) → set (xs ++ x ∷ []) (length xs) y ≡ xs ++ y ∷ []
 set_last {A = A} [] x y = refl

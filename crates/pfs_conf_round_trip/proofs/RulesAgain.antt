@@ -35,7 +35,7 @@ use Rattle.pfs_conf.specs.Statements.{action_of, anchor_breaks, anchor_said, fil
 use Rattle.pfs_conf_show.specs.Filters.{has_no_ports, is_any_host, is_every_side}
 use Rattle.pfs_conf_round_trip.proofs.Said.{host_said, hosts_said, options_said, overload_said, parameters_said, side_said, state_said, table_said, track_said}
 use Rattle.pfs_conf_round_trip.proofs.StatementsSaid.{anchor_phrase, rule_phrase, verb_said}
-use Rattle.pfs_conf_round_trip.proofs.Numbering.{drafted, named_again, numbered}
+use Rattle.pfs_conf_round_trip.proofs.Numbering.{AreNumbered, drafted, named_again, numbered_so}
 
 -- ---- hosts
 
@@ -69,10 +69,10 @@ record AreAll (tables : List TableDef) (d : Drafted) : Type 0 where
   number : (t : TableNo) → t.0 < length tables → number_of (table_said tables t) d ≡ t.0
   name : (t : TableNo) → t.0 < length tables → with_name (table_said tables t) d ≡ d
 
-are_all : (limits : Limits) (timeouts : List (Option ℕ)) (tables : List TableDef) (items : List Item) → IsDistinct bytes_eq (table_names tables)
+are_all : (limits : Limits) (timeouts : List (Option ℕ)) (tables : List TableDef) (items : List Item) → AreNumbered tables
     → AreAll tables (drafted limits timeouts tables items)
 are_all limits timeouts tables items h = record {
-  number = λ t lt. numbered tables t.0 h lt;
+  number = λ t lt. numbered_so tables t.0 h lt;
   name = λ t lt. named_again limits timeouts tables items t lt;
 }
 
@@ -177,7 +177,7 @@ action_name tables d k (action.Keep o) h = overload_name tables d k o.overload h
 -- ---- statements
 
 -- the line of a rule means the rule again
-pub rule_again : (limits : Limits) (timeouts : List (Option ℕ)) (tables : List TableDef) (items : List Item) (r : Rule) → IsDistinct bytes_eq (table_names tables)
+pub rule_again : (limits : Limits) (timeouts : List (Option ℕ)) (tables : List TableDef) (items : List Item) (r : Rule) → AreNumbered tables
     → IsRule (length tables) r → rule_said (rule_phrase tables r) (drafted limits timeouts tables items) ≡ r
 rule_again limits timeouts tables items r distinct h =
     let d = drafted limits timeouts tables items in
@@ -192,20 +192,20 @@ rule_again limits timeouts tables items r distinct h =
     ruled f a = record { quick = r.quick; filter = f; action = a }
 
 -- and names no other table
-pub rule_name : (limits : Limits) (timeouts : List (Option ℕ)) (tables : List TableDef) (items : List Item) (r : Rule) → IsDistinct bytes_eq (table_names tables)
+pub rule_name : (limits : Limits) (timeouts : List (Option ℕ)) (tables : List TableDef) (items : List Item) (r : Rule) → AreNumbered tables
     → IsRule (length tables) r → name_rule (rule_phrase tables r) (drafted limits timeouts tables items) ≡ drafted limits timeouts tables items
 rule_name limits timeouts tables items r distinct h =
     let d = drafted limits timeouts tables items in
     let k = are_all limits timeouts tables items distinct in
     ap (name_overload (state_options (state_said tables r.action)).overload) (hosts_name tables d k r.filter h.filter) ∙ action_name tables d k r.action h.action
 
-pub anchor_again : (limits : Limits) (timeouts : List (Option ℕ)) (tables : List TableDef) (items : List Item) (a : Anchor) → IsDistinct bytes_eq (table_names tables)
+pub anchor_again : (limits : Limits) (timeouts : List (Option ℕ)) (tables : List TableDef) (items : List Item) (a : Anchor) → AreNumbered tables
     → IsAnchor (length tables) a → anchor_said (anchor_phrase tables a) (drafted limits timeouts tables items) ≡ a
 anchor_again limits timeouts tables items a distinct h =
     let d = drafted limits timeouts tables items in
     ap (λ (f : Filter). record { name = a.name; quick = a.quick; filter = f }) (filter_again tables d (are_all limits timeouts tables items distinct) a.quick a.filter h.filter)
 
-pub anchor_name : (limits : Limits) (timeouts : List (Option ℕ)) (tables : List TableDef) (items : List Item) (a : Anchor) → IsDistinct bytes_eq (table_names tables)
+pub anchor_name : (limits : Limits) (timeouts : List (Option ℕ)) (tables : List TableDef) (items : List Item) (a : Anchor) → AreNumbered tables
     → IsAnchor (length tables) a → name_hosts (anchor_phrase tables a).parameters.hosts (drafted limits timeouts tables items) ≡ drafted limits timeouts tables items
 anchor_name limits timeouts tables items a distinct h =
     hosts_name tables (drafted limits timeouts tables items) (are_all limits timeouts tables items distinct) a.filter h.filter

@@ -35,7 +35,7 @@ use Rattle.pfs_conf_round_trip.proofs.StatementsSaid.{anchor_phrase, rule_phrase
 use Rattle.pfs_conf_round_trip.proofs.FilterPhrases.{angle_closes, angle_names, angle_opens}
 use Rattle.pfs_conf_round_trip.proofs.ItemPhrases.{anchor_reads, rule_reads}
 use Rattle.pfs_conf_round_trip.proofs.Names.{key_of_word, name_again}
-use Rattle.pfs_conf_round_trip.proofs.Numbering.{drafted, next_new, next_table}
+use Rattle.pfs_conf_round_trip.proofs.Numbering.{AreNumbered, drafted, next_new, next_table}
 use Rattle.pfs_conf_round_trip.proofs.Pieces.{at, line_end, mark, word_space}
 use Rattle.pfs_conf_round_trip.proofs.RulesAgain.{anchor_again, anchor_kept, anchor_name, rule_again, rule_kept, rule_name}
 use Rattle.pfs_conf_round_trip.proofs.TablePhrases.{parts_read}
@@ -134,7 +134,7 @@ end_reads d line lines = record { said = reached d 0 lines; left = tokens 0 fals
 
 -- the line of an item is read, and the item stands behind the others
 item_line : (limits : Limits) (timeouts : List (Option ℕ)) (tables : List TableDef) (before : List Item) (i : Item) (line : ℕ) (lines : List ℕ) (more : List ℕ)
-    → All IsTable tables → IsDistinct bytes_eq (table_names tables) → IsItem (length tables) i → length before < 10000 → repeats_name i before ≡ false
+    → All IsTable tables → AreNumbered tables → IsItem (length tables) i → length before < 10000 → repeats_name i before ≡ false
     → (ls : List ℕ) × StatementOf (reached (drafted limits timeouts tables before) i.depth lines) (tokens 0 false line (what_text tables i.what ++ more))
     (reached (drafted limits timeouts tables (before ++ i ∷ [])) (next_depth i) ls) (tokens 0 false (suc line) more)
 item_line limits timeouts tables before i line lines more t names h few fresh = go i.depth i.what h fresh
@@ -167,7 +167,7 @@ item_line limits timeouts tables before i line lines more t names h few fresh = 
 
 -- the items that are left, behind those that are read
 pub items_read : (limits : Limits) (timeouts : List (Option ℕ)) (tables : List TableDef) (before rest : List Item) (depth : ℕ) → All IsTable tables
-    → IsDistinct bytes_eq (table_names tables) → All (IsItem (length tables)) rest → length (before ++ rest) ≤ 10000 → IsPreorder depth rest → AreNamedOnce before rest
+    → AreNumbered tables → All (IsItem (length tables)) rest → length (before ++ rest) ≤ 10000 → IsPreorder depth rest → AreNamedOnce before rest
     → EndsFrom (drafted limits timeouts tables (before ++ rest)) (drafted limits timeouts tables before) depth (items_text tables depth rest)
 items_read limits timeouts tables before [] depth t names h few order once line lines =
     let whole = drafted limits timeouts tables (before ++ []) in

@@ -24,7 +24,7 @@ use Rattle.pfs_conf_show.specs.Settings.{timeouts_text}
 use Rattle.pfs_conf_show.specs.Tables.{table_text}
 use Rattle.pfs_conf_show.specs.Texts.{items_text, text_of}
 use Rattle.pfs_conf_round_trip.specs.Again.{CanBeSaid}
-use Rattle.pfs_conf_round_trip.proofs.Numbering.{drafted}
+use Rattle.pfs_conf_round_trip.proofs.Numbering.{AreNumbered, drafted}
 use Rattle.pfs_conf_round_trip.proofs.SettingPhrases.{AreGiven, SettingLine, limits_line, set_all, timeouts_line, value_in}
 use Rattle.pfs_conf_round_trip.proofs.Statements.{Ends, EndsFrom, items_read, reached, stated, tables_read}
 
@@ -117,6 +117,10 @@ limited conf = record empty_draft { limits = conf.limits }
 settings_set : (conf : Conf) → set_all timeout_names (value_in conf.timeouts) (limited conf) ≡ drafted conf.limits (all_set conf.timeouts) [] []
 settings_set conf = refl
 
+-- its tables have numbers
+numbered_tables : (conf : Conf) → IsConfig conf → AreNumbered conf.tables
+numbered_tables conf h = let most = h.limits.tables in let few = h.few_tables in record { names = h.names; few = omega arith }
+
 text_ends : (conf : Conf) → IsConfig conf → timeout_of conf name.AdaptiveEnd ≤ 4294967295 → Ends (whole conf) nothing (tokens_of (text_of conf))
 text_ends conf h end =
     let items = items_text conf.tables 0 conf.items in
@@ -125,7 +129,7 @@ text_ends conf h end =
     let d = drafted conf.limits (all_set conf.timeouts) [] [] in
     let read : EndsFrom (whole conf) d 0 tables =
     tables_read (whole conf) conf.limits (all_set conf.timeouts) [] conf.tables items h.tables h.names
-    (items_read conf.limits (all_set conf.timeouts) conf.tables [] conf.items 0 h.tables h.names h.items h.few_items h.preorder h.anchors) in
+    (items_read conf.limits (all_set conf.timeouts) conf.tables [] conf.items 0 h.tables (numbered_tables conf h) h.items h.few_items h.preorder h.anchors) in
     let E : Drafted → Type 0 = λ z. Ends (whole conf) (reached z 0 []) (tokens 0 false 3 tables) in
     stated (setting_read empty_draft (limited conf) [] _ _ (limits_line empty_draft conf.limits 1 timeouts h.limits))
     (stated (setting_read (limited conf) (set_all timeout_names (value_in conf.timeouts) (limited conf)) [] _ _ (timeouts_line (limited conf) conf.timeouts 2 tables (are_given conf h end)))

@@ -9,7 +9,7 @@ use Rattle.std.proofs.lemmas.Slice.Eq.{bytes_eq-Decides}
 use Rattle.indexmap.specs.IndexSet.{insert_key}
 use Rattle.pfs_addr.specs.Names.{is_name}
 use Rattle.pfs_conf_rules.specs.Configs.{IsTable, table_names}
-use Rattle.pfs_conf_rules.specs.Namings.{IsNaming, Named, is_named, naming, number_in, undefined_table}
+use Rattle.pfs_conf_rules.specs.Namings.{IsNaming, Named, is_named, naming, place_in, undefined_table}
 use Rattle.pfs_conf_rules.specs.declared.tables.TableDef.{TableDef}
 
 -- a table without entries
@@ -19,15 +19,14 @@ undefined_table-IsTable name h = record { name = h; networks = λ k d l. absurd 
 
 -- a table of a new name behind the others
 pub IsNaming-push : (keys : List (List ℕ)) (tables : List TableDef) (defined : List Bool) (name : List ℕ)
-    → IsNaming keys tables defined → is_named name tables ≡ false → is_name 31 name ≡ true → length tables < 2 ^ 32
+    → IsNaming keys tables defined → is_named name tables ≡ false → is_name 31 name ≡ true
     → IsNaming (insert_key bytes_eq keys name) (tables ++ undefined_table name ∷ []) (defined ++ false ∷ [])
-IsNaming-push keys tables defined name k fresh good few = record {
+IsNaming-push keys tables defined name k fresh good = record {
   names =
       cond-false (list_any (bytes_eq name) keys) _ _ (ap (λ ks. list_any (bytes_eq name) ks) k.names ∙ fresh)
       ∙ ap (λ ks. ks ++ name ∷ []) k.names ∙ sym (map_push (λ (t : TableDef). t.name) tables (undefined_table name));
   sizes = let s = k.sizes in omega (arith, length-append defined (false ∷ []), length-append tables (undefined_table name ∷ []));
   each = All-push IsTable tables (undefined_table name) k.each (undefined_table-IsTable name good);
-  few = omega (arith, length-append tables (undefined_table name ∷ []));
 }
 
 -- where a name is among others, its first place is one of it
@@ -74,33 +73,33 @@ fresh-None name ks h = go (list_any (bytes_eq name) ks) refl
         absurd (let some = sym (cond-true (nat_lt (position_or_len (bytes_eq name) ks) (length ks)) _ _ (lt-ltb _ _ found.0)) ∙ h in cc)
 
 -- the number of a new name
-pub number_in-fresh : (name : List ℕ) (tables : List TableDef) → is_named name tables ≡ false → number_in name tables ≡ length tables
-number_in-fresh name tables h = place-fresh name (table_names tables) h ∙ length-map tables (λ (t : TableDef). t.name)
+pub place_in-fresh : (name : List ℕ) (tables : List TableDef) → is_named name tables ≡ false → place_in name tables ≡ length tables
+place_in-fresh name tables h = place-fresh name (table_names tables) h ∙ length-map tables (λ (t : TableDef). t.name)
 
 -- once a name is used, its number is that of a table of this name
 pub record IsPlaced (name : List ℕ) (number : ℕ) (tables : List TableDef) : Type 0 where
   pub within : number < length tables
   pub named : get_or (table_names tables) number [] ≡ name
 
-pub naming-IsPlaced : (name : List ℕ) (n : Named) → IsPlaced name (number_in name n.tables) (naming name n).tables
+pub naming-IsPlaced : (name : List ℕ) (n : Named) → IsPlaced name (place_in name n.tables) (naming name n).tables
 naming-IsPlaced name n = go (is_named name n.tables) refl
   where
     Placed : Named → Type 0
-    Placed m = IsPlaced name (number_in name n.tables) m.tables
+    Placed m = IsPlaced name (place_in name n.tables) m.tables
 
-    go : (b : Bool) → is_named name n.tables ≡ b → IsPlaced name (number_in name n.tables) (naming name n).tables
+    go : (b : Bool) → is_named name n.tables ≡ b → IsPlaced name (place_in name n.tables) (naming name n).tables
     go true e =
         let found = place-found name (table_names n.tables) e in
-        subst (λ (m : Named). IsPlaced name (number_in name n.tables) m.tables) (sym (cond-true (is_named name n.tables) n _ e))
+        subst (λ (m : Named). IsPlaced name (place_in name n.tables) m.tables) (sym (cond-true (is_named name n.tables) n _ e))
         (record { within = omega (arith, found.0, length-map n.tables (λ (t : TableDef). t.name)); named = found.1 })
     go false e =
-        let at = number_in-fresh name n.tables e in
-        subst (λ (m : Named). IsPlaced name (number_in name n.tables) m.tables) (sym (cond-false (is_named name n.tables) n _ e))
+        let at = place_in-fresh name n.tables e in
+        subst (λ (m : Named). IsPlaced name (place_in name n.tables) m.tables) (sym (cond-false (is_named name n.tables) n _ e))
         (record {
           within = omega (arith, at, length-append n.tables (undefined_table name ∷ []));
           named =
-              ap (λ ks. get_or ks (number_in name n.tables) []) (map_push (λ (t : TableDef). t.name) n.tables (undefined_table name))
-              ∙ get_or_push (table_names n.tables) name [] (number_in name n.tables) (length-map n.tables (λ (t : TableDef). t.name) ∙ sym at);
+              ap (λ ks. get_or ks (place_in name n.tables) []) (map_push (λ (t : TableDef). t.name) n.tables (undefined_table name))
+              ∙ get_or_push (table_names n.tables) name [] (place_in name n.tables) (length-map n.tables (λ (t : TableDef). t.name) ∙ sym at);
         })
 
 -- a table takes the place of one of its name
@@ -114,5 +113,4 @@ IsNaming-set keys tables defined number t k good placed = record {
       ∙ set-get_or (table_names tables) number []);
   sizes = length-set defined number true ∙ k.sizes ∙ sym (length-set tables number t);
   each = All-set IsTable tables number t good k.each;
-  few = let same = length-set tables number t in let few = k.few in omega arith;
 }

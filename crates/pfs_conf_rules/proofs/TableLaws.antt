@@ -7,9 +7,9 @@ use Rattle.std.proofs.lemmas.List.Elements.{All-from_recursion}
 use Rattle.std.proofs.lemmas.List.Folds.{list_any_at}
 use Rattle.std.proofs.lemmas.Slice.Eq.{bytes_eq-Decides}
 use Rattle.pfs_conf_rules.specs.Configs.{table_names}
-use Rattle.pfs_conf_rules.specs.Namings.{Named, defined_at, defining, is_named, naming, number_in, undefined_table}
+use Rattle.pfs_conf_rules.specs.Namings.{Named, defined_at, defining, is_named, naming, place_in, undefined_table}
 use Rattle.pfs_conf_rules.specs.declared.tables.TableDef.{TableDef}
-use Rattle.pfs_conf_rules.proofs.NamingLaws.{number_in-fresh}
+use Rattle.pfs_conf_rules.proofs.NamingLaws.{place_in-fresh}
 
 same-bytes : (a : List ℕ) → bytes_eq a a ≡ true
 same-bytes a = (bytes_eq-Decides a a).1 refl
@@ -35,9 +35,9 @@ place-own (x ∷ xs) (suc k) d within =
     ∙ (omega arith)
 
 -- of tables with names of their own, each has its own number
-pub number_in-own : (tables : List TableDef) (k : ℕ) → IsDistinct bytes_eq (table_names tables) → k < length tables
-    → number_in (get_or (table_names tables) k []) tables ≡ k
-number_in-own tables k d within = place-own (table_names tables) k d (omega (arith, length-map tables (λ (t : TableDef). t.name)))
+pub place_in-own : (tables : List TableDef) (k : ℕ) → IsDistinct bytes_eq (table_names tables) → k < length tables
+    → place_in (get_or (table_names tables) k []) tables ≡ k
+place_in-own tables k d within = place-own (table_names tables) k d (omega (arith, length-map tables (λ (t : TableDef). t.name)))
 
 -- and naming one of them changes nothing
 pub naming-own : (n : Named) (k : ℕ) → k < length n.tables → naming (get_or (table_names n.tables) k []) n ≡ n
@@ -50,9 +50,9 @@ naming-own n k within =
 pub defining-fresh : (t : TableDef) (n : Named) → length n.defined ≡ length n.tables → is_named t.name n.tables ≡ false
     → defining t n ≡ record { tables = n.tables ++ t ∷ []; defined = n.defined ++ true ∷ [] }
 defining-fresh t n sizes fresh =
-    let number = number_in-fresh t.name n.tables fresh in
+    let number = place_in-fresh t.name n.tables fresh in
     let named = cond-false (is_named t.name n.tables) n (record { tables = n.tables ++ undefined_table t.name ∷ []; defined = n.defined ++ false ∷ [] }) fresh in
-    let tables = set_at n.tables (undefined_table t.name) [] t (number_in t.name n.tables) (sym number) in
-    let defined = set_at n.defined false [] true (number_in t.name n.tables) (sizes ∙ sym number) in
-    ap (defined_at (number_in t.name n.tables) t) named
+    let tables = set_at n.tables (undefined_table t.name) [] t (place_in t.name n.tables) (sym number) in
+    let defined = set_at n.defined false [] true (place_in t.name n.tables) (sizes ∙ sym number) in
+    ap (defined_at (place_in t.name n.tables) t) named
     ∙ (λ i. record { tables = tables i; defined = defined i })

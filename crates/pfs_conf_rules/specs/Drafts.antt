@@ -3,7 +3,7 @@ use Rattle.pfs_conf_rules.specs.Configs.{AreLimits, Conf, entries_in, is_adaptiv
 use Rattle.pfs_conf_rules.specs.Depths.{IsPreorder}
 use Rattle.pfs_conf_rules.specs.Limits.{default_limits, limits_with}
 use Rattle.pfs_conf_rules.specs.LoadRules.{IsItem, IsTimeout}
-use Rattle.pfs_conf_rules.specs.Namings.{Named, defining, is_defined_in, naming, number_in}
+use Rattle.pfs_conf_rules.specs.Namings.{Named, defining, is_defined_in, naming, place_in, table_number}
 use Rattle.pfs_conf_rules.specs.Siblings.{AreNamedOnce}
 use Rattle.pfs_conf_rules.specs.Timeouts.{no_timeouts, place_of, resolved_timeouts}
 use Rattle.pfs_conf_rules.specs.declared.items.Item.{Item}
@@ -46,7 +46,7 @@ with_tables n d = record d { tables = n.tables; defined = n.defined }
 
 -- the number of the table of a name
 abbrev pub number_of : List ℕ → Drafted → ℕ
-number_of name d = number_in name d.tables
+number_of name d = table_number (place_in name d.tables)
 
 -- the table of a name is used
 abbrev pub with_name : List ℕ → Drafted → Drafted

@@ -1,4 +1,4 @@
-use Rattle.std.specs.Prelude.{ℕ, ◌≡◌, ◌≤◌, ◌^◌, Bool, true, false, if◌then◌else◌, List, [], ◌∷◌, ◌++◌, length, All, slice_index_or, slice_set}
+use Rattle.std.specs.Prelude.{ℕ, ◌≡◌, Bool, true, false, if◌then◌else◌, List, [], ◌∷◌, ◌++◌, length, min, All, slice_index_or, slice_set}
 use Rattle.std.specs.List.{list_any, position_or_len}
 use Rattle.std.specs.Str.{bytes_eq}
 use Rattle.pfs_conf_rules.specs.Configs.{IsTable, table_names}
@@ -13,9 +13,14 @@ pub record Named : Type 0 where
 abbrev pub is_named : List ℕ → List TableDef → Bool
 is_named name tables = list_any (bytes_eq name) (table_names tables)
 
--- the number of the table of a name; of a new name the number that it gets: the next
-abbrev pub number_in : List ℕ → List TableDef → ℕ
-number_in name tables = position_or_len (bytes_eq name) (table_names tables)
+-- the place of the table of a name; of a new name the place that it gets: the next
+abbrev pub place_in : List ℕ → List TableDef → ℕ
+place_in name tables = position_or_len (bytes_eq name) (table_names tables)
+
+-- the number of the table at a place is that place, as far as numbers of 32 bits go. No configuration has more tables: its limit
+-- on tables is at most 4294967295
+abbrev pub table_number : ℕ → ℕ
+table_number place = min place 4294967295
 
 -- a table that is named and not defined: one without entries
 abbrev pub undefined_table : List ℕ → TableDef
@@ -29,7 +34,7 @@ naming name n =
 
 -- whether the table of a name is defined
 abbrev pub is_defined_in : List ℕ → Named → Bool
-is_defined_in name n = slice_index_or n.defined (number_in name n.tables) false
+is_defined_in name n = slice_index_or n.defined (place_in name n.tables) false
 
 -- a table takes the place of one of that number, and is defined
 abbrev pub defined_at : ℕ → TableDef → Named → Named
@@ -37,11 +42,10 @@ defined_at number t n = record { tables = slice_set n.tables number t; defined =
 
 -- a table is defined (pf.conf(5), TABLES)
 abbrev pub defining : TableDef → Named → Named
-defining t n = defined_at (number_in t.name n.tables) t (naming t.name n)
+defining t n = defined_at (place_in t.name n.tables) t (naming t.name n)
 
 -- tables and the list of their names, by which they are found
 pub record IsNaming (keys : List (List ℕ)) (tables : List TableDef) (defined : List Bool) : Type 0 where
   pub names : keys ≡ table_names tables
   pub sizes : length defined ≡ length tables
   pub each : All IsTable tables
-  pub few : length tables ≤ 2 ^ 32

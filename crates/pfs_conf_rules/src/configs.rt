@@ -1,8 +1,9 @@
 // What a rules text says, and how it is read.
 
-ghost use Rattle.std.specs.Prelude.{◌≡◌, ◌<◌, IfOk, IsSome, length, slice_get};
+ghost use Rattle.std.specs.Prelude.{◌≡◌, ◌<◌, ◌≤◌, IfOk, IfSome, IsSome, length, slice_get};
 ghost use Rattle.std.specs.Option.{option_copied};
-ghost use Rattle.pfs_conf_rules.specs.Configs.{IsConfig, IsCounted, conf_of, entry_count_of, limit_of, options_at, rate_seconds, retention_in, retention_of, rule_at, rule_timeout_of, scope_of, timeout_of};
+ghost use Rattle.pfs_conf_rules.specs.Configs.{IsConfig, IsCounted, IsTable, conf_of, entry_count_of, limit_of, options_at, rate_seconds, retention_in, retention_of, rule_at, rule_timeout_of, scope_of, timeout_of};
+ghost use Rattle.pfs_conf_rules.specs.LoadRules.{AreOptions, IsItem, IsRule};
 
 use crate::actions::{Action, Rate, Scope, StateOptions};
 use crate::filters::TableNo;
@@ -16,7 +17,8 @@ use std::marker::Model;
 /// What an accepted rules text says: limits, timeouts, tables and items, with defaults filled in.
 ///
 /// Clauses see a `Conf`. Every one keeps `IsConfig`, the load rules; `limit`, `item_count` and `table_count` tell it to
-/// callers. No reader takes memory, and each takes constant time.
+/// callers, and `item`, `rule`, `options` and `table` what they give keeps of it. No reader takes memory, and each takes
+/// constant time.
 #[derive(Debug, Drop)]
 pub struct Config {
     limits: Limits,
@@ -66,16 +68,19 @@ impl Config {
     }
 
     /// The rule or anchor of this number, if there is one: they are numbered from 0 in the order of the text, those inside
-    /// an anchor behind it.
+    /// an anchor behind it. It keeps the load rules.
     pub fn item(&self, number: u32) -> Option<&Item>
-        ensures { option_copied result ≡ slice_get self.now.items number }
+        ensures value { option_copied result ≡ slice_get self.now.items number }
+        ensures kept { IfSome (option_copied result) (IsItem (length self.now.tables)) }
+        ensures shallow { IfSome (option_copied result) (λ i. i.depth ≤ 16) }
     {
         self.items.get(number as usize)
     }
 
-    /// The rule of this number, if that item is a rule.
+    /// The rule of this number, if that item is a rule. It keeps the load rules.
     pub fn rule(&self, number: RuleNo) -> Option<&Rule>
-        ensures { option_copied result ≡ rule_at self.now number.0 }
+        ensures value { option_copied result ≡ rule_at self.now number.0 }
+        ensures kept { IfSome (option_copied result) (IsRule (length self.now.tables)) }
     {
         match &self.item(number.0)?.what {
             What::Rule(rule) => Some(rule),
@@ -83,9 +88,10 @@ impl Config {
         }
     }
 
-    /// The options of the rule of this number, if it keeps state.
+    /// The options of the rule of this number, if it keeps state. They keep the load rules.
     pub fn options(&self, number: RuleNo) -> Option<&StateOptions>
-        ensures { option_copied result ≡ options_at self.now number.0 }
+        ensures value { option_copied result ≡ options_at self.now number.0 }
+        ensures kept { IfSome (option_copied result) (AreOptions (length self.now.tables)) }
     {
         match &self.rule(number)?.action {
             Action::Keep(options) => Some(options),
@@ -101,9 +107,10 @@ impl Config {
         self.tables.len() as u32
     }
 
-    /// The table of this number, if there is one.
+    /// The table of this number, if there is one: its name is one, and no two of its entries have the same prefix.
     pub fn table(&self, number: TableNo) -> Option<&TableDef>
-        ensures { option_copied result ≡ slice_get self.now.tables number.0 }
+        ensures value { option_copied result ≡ slice_get self.now.tables number.0 }
+        ensures kept { IfSome (option_copied result) IsTable }
     {
         self.tables.get(number.0 as usize)
     }

@@ -5,7 +5,7 @@ ghost use Rattle.std.specs.List.{IsDistinct};
 ghost use Rattle.std.specs.Str.{bytes_eq};
 ghost use Rattle.pfs_addr.specs.Names.{is_name};
 ghost use Rattle.pfs_conf_rules.specs.Configs.{IsTable, table_names};
-ghost use Rattle.pfs_conf_rules.specs.Namings.{defining, is_defined_in, is_named, naming, number_in};
+ghost use Rattle.pfs_conf_rules.specs.Namings.{defining, is_defined_in, is_named, naming, place_in, table_number};
 
 use crate::filters::{TableName, TableNo};
 use crate::tables::{Entries, TableDef};
@@ -62,35 +62,43 @@ impl NamedTables {
         }
     }
 
-    /// The number of the table of this name, which is named from now on. `NoMemory` is answered where memory for one more
-    /// table is refused, and then nothing changes.
+    /// The number of the table of this name, which is named from now on; 4294967295 for all tables that are named behind as
+    /// many others. `NoMemory` is answered where memory for one more table is refused, and then nothing changes.
     pub fn number_of(&mut self, name: TableName) -> Result<TableNo, NoMemory>
         requires { is_name 31 name ≡ true }
-        ensures answer { IfOk result (λ t. t.0 ≡ number_in name self.old.tables) }
+        ensures answer { IfOk result (λ t. t.0 ≡ table_number (place_in name self.old.tables)) }
+        ensures more { length self.old.tables ≤ length self.new.tables }
+        ensures ok { OnOk result (self.new ≡ naming name self.old) }
+        ensures err { OnErr result (self.new ≡ self.old) }
+    {
+        let place = self.place_of(name)?;
+        Ok(TableNo(place.min(u32::MAX as usize) as u32))
+    }
+
+    // The place of the table of this name, which is named from now on.
+    fn place_of(&mut self, name: TableName) -> Result<usize, NoMemory>
+        requires { is_name 31 name ≡ true }
+        ensures answer { IfOk result (λ n. n ≡ place_in name self.old.tables) }
         ensures more { length self.old.tables ≤ length self.new.tables }
         ensures ok { OnOk result (self.new ≡ naming name self.old) }
         ensures err { OnErr result (self.new ≡ self.old) }
     {
         match self.names.get_index_of(&name) {
-            Some(place) => Ok(TableNo(place as u32)),
+            Some(place) => Ok(place),
             None => self.add(name),
         }
     }
 
-    // Puts a table of a new name behind the others, and answers its number. More than 2^32 tables can't be numbered, and
-    // their memory is refused; no text names as many.
-    fn add(&mut self, name: TableName) -> Result<TableNo, NoMemory>
+    // Puts a table of a new name behind the others, and answers its place.
+    fn add(&mut self, name: TableName) -> Result<usize, NoMemory>
         requires fresh { is_named name self.old.tables ≡ false }
         requires name { is_name 31 name ≡ true }
-        ensures answer { IfOk result (λ t. t.0 ≡ length self.old.tables) }
+        ensures answer { IfOk result (λ n. n ≡ length self.old.tables) }
         ensures more { length self.old.tables ≤ length self.new.tables }
         ensures ok { OnOk result (self.new ≡ naming name self.old) }
         ensures err { OnErr result (self.new ≡ self.old) }
     {
         let place = self.tables.len();
-        if place > u32::MAX as usize {
-            return Err(NoMemory);
-        }
         self.tables.reserve(1)?;
         self.defined.reserve(1)?;
         self.names.insert(name)?;
@@ -101,7 +109,7 @@ impl NamedTables {
             entries,
         });
         self.defined.push_reserved(false);
-        Ok(TableNo(place as u32))
+        Ok(place)
     }
 
     /// Defines the table of its name. `NoMemory` is answered as by `number_of`.
@@ -113,7 +121,7 @@ impl NamedTables {
     {
         // That its entries are those of a table is known, and told here.
         let _count = table.entries.len();
-        let place = self.number_of(table.name)?.0 as usize;
+        let place = self.place_of(table.name)?;
         self.tables[place] = table;
         self.defined[place] = true;
         Ok(())

@@ -1,14 +1,8 @@
 -- The text of the items that are left.
-use Rattle.std.proofs.Common.{◌≡◌, ℕ, zero, suc, ◌+◌, ◌-◌, ◌<◌, ◌≤◌, List, [], ◌∷◌, ◌++◌, All, length, drop, Some, None, refl, sym, ap, ◌∙◌, arith, subst, get_or, add-one, append_assoc}
+use Rattle.std.proofs.Common.{◌≡◌, ℕ, zero, suc, ◌+◌, ◌-◌, ◌<◌, ◌≤◌, List, [], ◌∷◌, ◌++◌, length, drop, Some, None, refl, sym, ap, ◌∙◌, arith, add-one, append_assoc}
 use Rattle.std.specs.Prelude.{codes, slice_get}
-use Rattle.std.proofs.lemmas.List.Elements.{All-get_or}
-use Rattle.std.proofs.lemmas.Option.{slice_get_within, get_or_from_slice_get}
-use Rattle.pfs_conf_rules.specs.Configs.{Conf, IsConfig}
 use Rattle.pfs_conf_rules.specs.Depths.{next_depth}
-use Rattle.pfs_conf_rules.specs.LoadRules.{IsItem}
 use Rattle.pfs_conf_rules.specs.declared.items.Item.{Item}
-use Rattle.pfs_conf_rules.specs.declared.items.What.{What}
-use Rattle.pfs_conf_rules.specs.declared.items.What.TheVariants.{Rule, Anchor}
 use Rattle.pfs_conf_rules.specs.declared.tables.TableDef.{TableDef}
 use Rattle.pfs_conf_show.specs.Texts.{braces_text, items_text, what_text}
 
@@ -32,21 +26,6 @@ items-next tables depth (suc n) (j ∷ items) i h =
   where
     up : (m : ℕ) → suc (m + 1) ≡ suc m + 1
     up m = omega arith
-
--- no item stands deeper than 16
-shallow : (tables depth : ℕ) (w : What) → IsItem tables (record { depth = depth; what = w }) → depth ≤ 16
-shallow tables depth (Rule r) h = h.0
-shallow tables depth (Anchor a) h = omega (arith, h.0)
-
-all_shallow : (tables : ℕ) (items : List Item) → All (IsItem tables) items → (n : ℕ) (i : Item) → slice_get items n ≡ Some i → i.depth ≤ 16
-all_shallow tables items h n i e =
-    let within : n < length items = slice_get_within items n i e in
-    let same : get_or items n i ≡ i = get_or_from_slice_get items n i i e in
-    let one : IsItem tables i = subst (IsItem tables) same (All-get_or (IsItem tables) items n i within h) in
-    shallow tables i.depth i.what one
-
-pub item_depth : (conf : Conf) → IsConfig conf → (n : ℕ) (i : Item) → slice_get conf.items n ≡ Some i → i.depth ≤ 16
-item_depth conf h n i e = all_shallow (length conf.tables) conf.items h.items n i e
 
 -- behind the last item only the open anchors are left
 pub items-end : (tables : List TableDef) (depth n : ℕ) (items : List Item) → length items ≤ n → items_text tables depth (drop n items) ≡ braces_text depth

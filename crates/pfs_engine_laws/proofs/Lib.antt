@@ -10,3 +10,4 @@ mod Small
 mod Staling
 mod Untouched
 mod Within
+mod Worked

@@ -1,6 +1,6 @@
 use Rattle.std.proofs.Common.{◌≡◌, ◌++◌, ◌∙◌, ◌<◌, ◌≤◌, ◌+◌, ap, sym, List, ℕ, arith, drop, length}
 use Rattle.pfs_conf_show.specs.Texts.{items_text, braces_text}
-use Rattle.pfs_conf_show.proofs.ItemLaws.{is_there, item_depth, item_step, items-end}
+use Rattle.pfs_conf_show.proofs.ItemLaws.{is_there, item_step, items-end}
 use Rattle.pfs_conf_show.proofs.ListLaws.{on_ok}
 use Rattle.pfs_conf_show.proofs.items.push_items.Goals as goal
 use Rattle.pfs_conf_show.proofs.items.push_items.Goals.{in-Some+in_ok-depth, in_default}
@@ -15,14 +15,14 @@ loop-number-preserved c =
           ap (λ v. v.items ++ items_text conf.tables c.match-item.depth (drop (n + 1) conf.items)) w.out-is
           ∙ (ap (λ (d : ℕ). w.push_item.new.out.items ++ items_text conf.tables d (drop (n + 1) conf.items)) w.depth-is
           ∙ item_step conf.tables c.loop-number.depth n conf.items w.in-Some.item.now w.in_ok-depth.depth c.loop-number.out.items w.push_item.new.out.items all
-          (sym w.in-Some.ensures) c.loop-number.invariant w.in_ok-depth.ensures.text w.in_ok-depth.ensures.depth)
+          (sym w.in-Some.ensures.value) c.loop-number.invariant w.in_ok-depth.ensures.text w.in_ok-depth.ensures.depth)
       | in_default w ↦
           let within : n < length conf.items = omega (arith, c.item_count-number-end.ensures.value) in
-          absurd (is_there conf.items n within (sym w.in_default.ensures))
+          absurd (is_there conf.items n within (sym w.in_default.ensures.value))
     ]
 
 pub push_item-requires : goal.push_item-requires
-push_item-requires c = item_depth c.args.config.now c.item_count-number-end.ensures.sound c.loop-number.number c.in-Some.item.now (sym c.in-Some.ensures)
+push_item-requires c = c.in-Some.ensures.shallow
 
 pub returns : goal.returns
 returns c =

@@ -13,8 +13,8 @@ loop-number-preserved c =
       | in-Some+in_ok-push_table w ↦
           ap (λ v. v.items) w.out-is
           ∙ text_at table_text tables i w.in-Some.table.now c.args.out.now.items c.loop-number.out.items w.push_table.new.out.items
-          (sym w.in-Some.ensures) c.loop-number.invariant w.in_ok-push_table.ensures
+          (sym w.in-Some.ensures.value) c.loop-number.invariant w.in_ok-push_table.ensures
       | in_default w ↦
           let within : i < length tables = omega (arith, c.table_count-number-end.ensures.value) in
-          absurd (is_there tables i within (sym w.in_default.ensures))
+          absurd (is_there tables i within (sym w.in_default.ensures.value))
     ]

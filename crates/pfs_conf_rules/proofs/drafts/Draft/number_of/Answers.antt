@@ -1,14 +1,17 @@
-use Rattle.std.proofs.Common.{◌≡◌, ◌<◌, ℕ, length, Ok, Err, IfOk, OnOk}
+use Rattle.std.proofs.Common.{◌≡◌, ◌<◌, ℕ, arith, length, Ok, Err, IfOk, OnOk}
 use Rattle.std.specs.Prelude.{List, Result}
-use Rattle.pfs_conf_rules.specs.Namings.{Named, naming, number_in}
+use Rattle.pfs_conf_rules.specs.Namings.{Named, naming, place_in, table_number}
 use Rattle.pfs_conf_rules.specs.declared.filters.TableNo.{TableNo}
 use Rattle.pfs_conf_rules.proofs.DraftLaws.{IsDraft-with_tables}
 use Rattle.pfs_conf_rules.proofs.NamingLaws.{naming-IsPlaced}
 use Rattle.pfs_conf_rules.proofs.drafts.Draft.number_of.Goals as goal
 
-within : {E : Type 0} (r : Result TableNo E) (name : List ℕ) (old new : Named) → IfOk r (λ t. t.0 ≡ number_in name old.tables) → OnOk r (new ≡ naming name old)
+below : (place tables : ℕ) → place < tables → table_number place < tables
+below place tables h = omega arith
+
+within : {E : Type 0} (r : Result TableNo E) (name : List ℕ) (old new : Named) → IfOk r (λ t. t.0 ≡ table_number (place_in name old.tables)) → OnOk r (new ≡ naming name old)
     → IfOk r (λ t. t.0 < length new.tables)
-within (Ok t) name old new at is = rw (at, is) (naming-IsPlaced name old).within
+within (Ok t) name old new at is = let placed = (naming-IsPlaced name old).within in rw (at, is) (below (place_in name old.tables) (length (naming name old).tables) placed)
 within (Err e) name old new at is = is
 
 pub invariant_of-self : goal.invariant_of-self

@@ -12,11 +12,10 @@ pub invariant_of-self-2 : goal.invariant_of-self-2
 unfolding named
 invariant_of-self-2 c =
     let view = ap (λ (n : Named). n.tables) c.self.view_is in
-    let few : length c.self.inside.tables.items < 2 ^ 32 = omega (arith, c.self.inside.tables.ok.0) in
     let tables =
     c.push_reserved.ensures.items ∙ ap (λ ts. ts ++ named c.args.name c.new-entries.result ∷ []) c.reserve.ensures.items
     ∙ ap (λ es. c.self.inside.tables.items ++ named c.args.name es ∷ []) c.new-entries.ensures in
     let defined = c.push_reserved-2.ensures.items ∙ ap (λ bs. bs ++ false ∷ []) c.reserve-2.ensures.items in
     rw (c.in_ok-insert.ensures.keys, tables, defined)
     (IsNaming-push c.self.inside.names.keys c.self.inside.tables.items c.self.inside.defined.items c.args.name c.self.invariant
-    (ap (is_named c.args.name) view ∙ c.requires.fresh) c.requires.name few)
+    (ap (is_named c.args.name) view ∙ c.requires.fresh) c.requires.name)

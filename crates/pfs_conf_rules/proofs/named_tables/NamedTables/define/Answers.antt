@@ -6,18 +6,18 @@ use Rattle.pfs_conf_rules.proofs.named_tables.NamedTables.define.Goals as goal
 pub index_mut-requires : goal.index_mut-requires
 index_mut-requires c =
     let view = ap (λ (n : Named). n.tables) (c.self.view_is ∙ c.in_ok-place.ensures.ok) in
-    let placed : IsPlaced c.args.table.name c.in_ok-place.field-0.0 c.self.inside.tables.items = rw (view, c.in_ok-place.ensures.answer) (naming-IsPlaced c.args.table.name c.args.self.now) in
+    let placed : IsPlaced c.args.table.name c.in_ok-place.place c.self.inside.tables.items = rw (view, c.in_ok-place.ensures.answer) (naming-IsPlaced c.args.table.name c.args.self.now) in
     omega (arith, placed.within, c.self.inside.tables.ok.0)
 
 pub index_mut-requires-2 : goal.index_mut-requires-2
 index_mut-requires-2 c =
     let view = ap (λ (n : Named). n.tables) (c.self.view_is ∙ c.in_ok-place.ensures.ok) in
-    let placed : IsPlaced c.args.table.name c.in_ok-place.field-0.0 c.self.inside.tables.items = rw (view, c.in_ok-place.ensures.answer) (naming-IsPlaced c.args.table.name c.args.self.now) in
+    let placed : IsPlaced c.args.table.name c.in_ok-place.place c.self.inside.tables.items = rw (view, c.in_ok-place.ensures.answer) (naming-IsPlaced c.args.table.name c.args.self.now) in
     omega (arith, placed.within, c.self.inside.defined.ok.0, c.self.invariant.sizes)
 
 pub invariant_of-self : goal.invariant_of-self
 invariant_of-self c =
     let view = ap (λ (n : Named). n.tables) (c.self.view_is ∙ c.in_ok-place.ensures.ok) in
-    let placed : IsPlaced c.args.table.name c.in_ok-place.field-0.0 c.self.inside.tables.items = rw (view, c.in_ok-place.ensures.answer) (naming-IsPlaced c.args.table.name c.args.self.now) in
-    IsNaming-set c.self.inside.names.keys c.self.inside.tables.items c.self.inside.defined.items c.in_ok-place.field-0.0 c.args.table c.self.invariant
+    let placed : IsPlaced c.args.table.name c.in_ok-place.place c.self.inside.tables.items = rw (view, c.in_ok-place.ensures.answer) (naming-IsPlaced c.args.table.name c.args.self.now) in
+    IsNaming-set c.self.inside.names.keys c.self.inside.tables.items c.self.inside.defined.items c.in_ok-place.place c.args.table c.self.invariant
     (record { name = c.requires; networks = c.len-count.ensures.networks; distinct = c.len-count.ensures.distinct }) placed

@@ -3,13 +3,12 @@ use Rattle.std.specs.Prelude.{Result}
 use Rattle.std.specs.List.{list_any}
 use Rattle.std.specs.Str.{bytes_eq}
 use Rattle.pfs_conf_rules.specs.Namings.{Named, is_named}
-use Rattle.pfs_conf_rules.specs.declared.filters.TableNo.{TableNo}
-use Rattle.pfs_conf_rules.proofs.NamingLaws.{fresh-None, number_in-fresh}
-use Rattle.pfs_conf_rules.proofs.named_tables.NamedTables.number_of.Goals as goal
+use Rattle.pfs_conf_rules.proofs.NamingLaws.{fresh-None, place_in-fresh}
+use Rattle.pfs_conf_rules.proofs.named_tables.NamedTables.place_of.Goals as goal
 
-numbered : {E : Type 0} (r : Result TableNo E) (m n : ℕ) → m ≡ n → IfOk r (λ t. t.0 ≡ m) → IfOk r (λ t. t.0 ≡ n)
-numbered (Ok t) m n e h = h ∙ e
-numbered (Err x) m n e h = h
+placed : {E : Type 0} (r : Result ℕ E) (m n : ℕ) → m ≡ n → IfOk r (λ k. k ≡ m) → IfOk r (λ k. k ≡ n)
+placed (Ok t) m n e h = h ∙ e
+placed (Err x) m n e h = h
 
 pub returns-in-None-clause-answer : goal.returns-in-None-clause-answer
 returns-in-None-clause-answer c =
@@ -17,4 +16,4 @@ returns-in-None-clause-answer c =
     let absent = fresh-None c.args.name c.self.inside.names.keys (sym c.get_index_of.ensures.index ∙ c.in-None.is) in
     let fresh =
     sym (ap (is_named c.args.name) view) ∙ sym (ap (λ ks. list_any (bytes_eq c.args.name) ks) c.self.invariant.names) ∙ absent in
-    numbered _ _ _ (sym (number_in-fresh c.args.name c.args.self.now.tables fresh)) c.add.ensures.answer
+    placed _ _ _ (sym (place_in-fresh c.args.name c.args.self.now.tables fresh)) c.add.ensures.answer
