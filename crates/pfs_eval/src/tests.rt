@@ -1,4 +1,4 @@
-// The calls on worked rules, and on generated ones beside a verdict that is computed plainly.
+//! The calls on worked rules.
 
 ghost use Rattle.std.specs.Prelude.{◌≡◌, ◌≤◌, ℕ, IfOk, codes, true};
 ghost use Rattle.pfs_addr.specs.Protocols.{has_ports};
@@ -13,7 +13,6 @@ use std::process::Abort;
 use std::test::Fail;
 
 mod drafting;
-mod generated;
 
 use drafting::{EVERY, NONE, SYN, define, drafted, finished, open, packet, port, push};
 
