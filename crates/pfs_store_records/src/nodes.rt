@@ -111,6 +111,8 @@ impl<S: BuildHasher> Nodes<S> {
         ensures err { OnErr result (self.new ≡ self.old) }
         ensures orderly { IsOrderly self.new }
     {
+        // That no count is near the greatest number is known of the order, and told here.
+        let _count = self.order.len();
         let place = (tally.node.scope, tally.node.source);
         self.counts.make_room(tally.node.scope)?;
         self.table.reserve(1)?;

@@ -1,0 +1,3 @@
+pub mod Ordered
+pub mod RecordLaws
+pub mod NodeLaws
