@@ -53,9 +53,9 @@ place_apart a b d = go (same_place a b) refl
 -- a table that has this at a place, and at each other what it had
 pub updated-table : (T U : NodeScope × Addr → Option Tally) (p : NodeScope × Addr) (w : Option Tally) → ((q : NodeScope × Addr) → U q ≡ cond (same_place p q) w (T q)) → IsUpdated T U p w
 updated-table T U p w h = record {
-    changed = h p ∙ rw (place_self p) refl;
-    others = λ q d. h q ∙ rw (place_apart p q (λ e. d (sym e))) refl;
-  }
+  changed = h p ∙ rw (place_self p) refl;
+  others = λ q d. h q ∙ rw (place_apart p q (λ e. d (sym e))) refl;
+}
 
 -- ---- a node is found
 
@@ -103,14 +103,14 @@ distinct-held : (T : NodeScope × Addr → Option Tally) (es : List (ℕ × (Nod
 distinct-held T [] o h = IsDistinct-nil
 distinct-held T (e ∷ es) o (h, hs) =
     rw h.1 (IsDistinct-cons same_node h.0 (held T es)
-        (apart T h.0 e.0 es (ap T h.3 ∙ h.1) h.2 (sorted_head nat_cmp e.0 (keys_of es) o) hs)
-        (distinct-held T es (sorted_tail nat_cmp e.0 (keys_of es) o) hs))
+    (apart T h.0 e.0 es (ap T h.3 ∙ h.1) h.2 (sorted_head nat_cmp e.0 (keys_of es) o) hs)
+    (distinct-held T es (sorted_tail nat_cmp e.0 (keys_of es) o) hs))
 
 pub orderly : (T : NodeScope × Addr → Option Tally) (es : List (ℕ × (NodeScope × Addr))) → IsKept number_of_node place_of_node T es → IsOrderly (held T es)
 orderly T es k = record {
-    rising = rw (numbers-nodes (held T es)) (rising-held number_of_node place_of_node T es k);
-    distinct = distinct-held T es k.ordered k.placed;
-  }
+  rising = rw (numbers-nodes (held T es)) (rising-held number_of_node place_of_node T es k);
+  distinct = distinct-held T es k.ordered k.placed;
+}
 
 -- ---- counts of scopes, which the order alone tells
 
@@ -123,6 +123,7 @@ nodes-in-order s T (e ∷ es) (h, hs) = rw h.1 (go (nodes-in-order s T es hs) (s
   where
     same : same_scope e.1.0 s ≡ same_scope h.0.node.scope s
     same = ap (λ (a : NodeScope × Addr). same_scope a.0 s) (sym h.3)
+
     go : scope_nodes s (nodes_of (held T es)) ≡ in_order s es → (b : Bool) → same_scope h.0.node.scope s ≡ b → scope_nodes s (nodes_of (h.0 ∷ held T es)) ≡ in_order s (e ∷ es)
     go more true t = rw (same, t) (ap suc more)
     go more false t = rw (same, t) more
@@ -147,6 +148,7 @@ in-order-remove s n p (e ∷ es) l = go (in-order-remove s n p es) (is_at (nat_c
         → in_order s (e ∷ es) ≡ in_order s (e ∷ remove_entry (is_at (nat_cmp n)) es) + one_if (same_scope p.0 s)
     tail more true t = rw t (omega (arith, more))
     tail more false t = rw t more
+
     head : e.1 ≡ p → (b : Bool) → same_scope e.1.0 s ≡ b → in_order s (e ∷ es) ≡ in_order s es + one_if (same_scope p.0 s)
     head q true t =
         let t' : same_scope p.0 s ≡ true = ap (λ (a : NodeScope × Addr). same_scope a.0 s) (sym q) ∙ t in
@@ -154,6 +156,7 @@ in-order-remove s n p (e ∷ es) l = go (in-order-remove s n p es) (is_at (nat_c
     head q false t =
         let t' : same_scope p.0 s ≡ false = ap (λ (a : NodeScope × Addr). same_scope a.0 s) (sym q) ∙ t in
         rw (t, t') (omega arith)
+
     go : (lookup (is_at (nat_cmp n)) es ≡ Some p → in_order s es ≡ in_order s (remove_entry (is_at (nat_cmp n)) es) + one_if (same_scope p.0 s)) → (b : Bool) → is_at (nat_cmp n) e.0 ≡ b
         → in_order s (e ∷ es) ≡ in_order s (remove_entry (is_at (nat_cmp n)) (e ∷ es)) + one_if (same_scope p.0 s)
     go more true i =
@@ -177,10 +180,10 @@ in-order-few s (e ∷ es) = go (in-order-few s es) (same_scope e.1.0 s) refl
 pub noted-all : (T U : NodeScope × Addr → Option Tally) (es : List (ℕ × (NodeScope × Addr))) (rules rules' : List ℕ) (global global' : ℕ) → ((q : NodeScope × Addr) → U q ≡ T q)
     → SameCounts (count_of rules global) (count_of rules' global') → IsNoted T es rules global → IsNoted U es rules' global'
 noted-all T U es rules rules' global global' h s k = record {
-    kept = kept-all number_of_node place_of_node T U es h k.kept;
-    found = λ p t a. k.found p t (sym (h p) ∙ a);
-    counted = λ c. s c ∙ k.counted c ∙ ap (λ xs. scope_nodes c (nodes_of xs)) (sym (held-all number_of_node place_of_node T U es h));
-  }
+  kept = kept-all number_of_node place_of_node T U es h k.kept;
+  found = λ p t a. k.found p t (sym (h p) ∙ a);
+  counted = λ c. s c ∙ k.counted c ∙ ap (λ xs. scope_nodes c (nodes_of xs)) (sym (held-all number_of_node place_of_node T U es h));
+}
 
 -- a node comes
 pub noted-pushed : (T U : NodeScope × Addr → Option Tally) (t : Tally) (es fs : List (ℕ × (NodeScope × Addr))) (rules rules' : List ℕ) (global global' : ℕ)
@@ -190,24 +193,29 @@ pub noted-pushed : (T U : NodeScope × Addr → Option Tally) (t : Tally) (es fs
     → ((s : NodeScope) → count_of rules' global' s ≡ count_of rules global s + one_if (same_scope t.node.scope s))
     → IsNoted T es rules global → IsNoted U fs rules' global'
 noted-pushed T U t es fs rules rules' global global' n u a e o g c k = record {
-    kept = kept;
-    found = λ p v h. is_found p v h (same_place (place_of_node t) p) refl;
-    counted = λ s. c s ∙ rw (k.counted s, nodes-in-order s T es k.kept.placed, nodes-in-order s U fs kept.placed, e, last) (sym (in-order-push s t.node.number (place_of_node t) es));
-  }
+  kept = kept;
+  found = λ p v h. is_found p v h (same_place (place_of_node t) p) refl;
+  counted = λ s. c s ∙ rw (k.counted s, nodes-in-order s T es k.kept.placed, nodes-in-order s U fs kept.placed, e, last) (sym (in-order-push s t.node.number (place_of_node t) es));
+}
   where
     above : AllByRecursion (λ m. m < t.node.number) (map number_of_node (held T es))
     above = rw (numbers-nodes (held T es)) at a
+
     below : AllByRecursion (λ m. m < t.node.number) (keys_of es)
     below = below-keys number_of_node place_of_node t.node.number T es k.kept.placed above
+
     last : insert_entry nat_cmp es t.node.number (place_of_node t) ≡ es ++ (t.node.number, place_of_node t) ∷ []
     last = insert-last t.node.number (place_of_node t) es below
+
     kept : IsKept number_of_node place_of_node U fs
     kept = kept-pushed number_of_node place_of_node T U (place_of_node t) t es fs n u k.kept above refl e o
+
     elsewhere : (p : NodeScope × Addr) (v : Tally) → lookup (is_at (nat_cmp v.node.number)) es ≡ Some p → (b : Bool) → is_at (nat_cmp t.node.number) v.node.number ≡ b → lookup (is_at (nat_cmp v.node.number)) fs ≡ Some p
     elsewhere p v l true i =
         let x : lookup (is_at (nat_cmp v.node.number)) es ≡ None = none-above v.node.number es (rw (at_same t.node.number v.node.number i) at below) in
         absurd (cc (x, l))
     elsewhere p v l false i = g v.node.number ∙ rw i l
+
     is_found : (p : NodeScope × Addr) (v : Tally) → U p ≡ Some v → (b : Bool) → same_place (place_of_node t) p ≡ b → lookup (is_at (nat_cmp v.node.number)) fs ≡ Some p
     is_found p v h true s =
         let q = place_true (place_of_node t) p s in
@@ -227,13 +235,14 @@ pub noted-removed : (T U : NodeScope × Addr → Option Tally) (n : ℕ) (place 
     → ((s : NodeScope) → count_of rules global s ≡ count_of rules' global' s + one_if (same_scope place.0 s))
     → IsNoted T es rules global → IsNoted U fs rules' global'
 noted-removed T U n place es fs rules rules' global global' l u e o g c k = record {
-    kept = kept;
-    found = λ p v h. is_found p v h (same_place place p) refl;
-    counted = counted;
-  }
+  kept = kept;
+  found = λ p v h. is_found p v h (same_place place p) refl;
+  counted = counted;
+}
   where
     kept : IsKept number_of_node place_of_node U fs
     kept = kept-removed number_of_node place_of_node T U place n es fs l u k.kept e o
+
     counted : (s : NodeScope) → count_of rules' global' s ≡ scope_nodes s (nodes_of (held U fs))
     counted s =
         let a : count_of rules global s ≡ in_order s es = k.counted s ∙ nodes-in-order s T es k.kept.placed in
@@ -241,12 +250,14 @@ noted-removed T U n place es fs rules rules' global global' l u e o g c k = reco
         let r = in-order-remove s n place es l in
         let d = c s in
         omega (arith, a, b, r, d)
+
     elsewhere : (p : NodeScope × Addr) (v : Tally) → p ≢ place → lookup (is_at (nat_cmp v.node.number)) es ≡ Some p → (b : Bool) → is_at (nat_cmp n) v.node.number ≡ b → lookup (is_at (nat_cmp v.node.number)) fs ≡ Some p
     elsewhere p v d f true i =
         let x : lookup (is_at (nat_cmp v.node.number)) es ≡ Some place = ap (λ m. lookup (is_at (nat_cmp m)) es) (sym (at_same n v.node.number i)) ∙ l in
         let y : p ≡ place = cc (x, f) in
         absurd (d y)
     elsewhere p v d f false i = g v.node.number ∙ rw i f
+
     is_found : (p : NodeScope × Addr) (v : Tally) → U p ≡ Some v → (b : Bool) → same_place place p ≡ b → lookup (is_at (nat_cmp v.node.number)) fs ≡ Some p
     is_found p v h true s =
         let q = place_true place p s in
@@ -260,13 +271,14 @@ noted-removed T U n place es fs rules rules' global global' l u e o g c k = reco
 pub noted-written : (T U : NodeScope × Addr → Option Tally) (t : Tally) (es : List (ℕ × (NodeScope × Addr))) (rules : List ℕ) (global : ℕ)
     → lookup (is_at (nat_cmp t.node.number)) es ≡ Some (place_of_node t) → IsUpdated T U (place_of_node t) (Some t) → IsNoted T es rules global → IsNoted U es rules global
 noted-written T U t es rules global l u k = record {
-    kept = kept;
-    found = λ p v h. is_found p v h (same_place (place_of_node t) p) refl;
-    counted = λ s. k.counted s ∙ nodes-in-order s T es k.kept.placed ∙ sym (nodes-in-order s U es kept.placed);
-  }
+  kept = kept;
+  found = λ p v h. is_found p v h (same_place (place_of_node t) p) refl;
+  counted = λ s. k.counted s ∙ nodes-in-order s T es k.kept.placed ∙ sym (nodes-in-order s U es kept.placed);
+}
   where
     kept : IsKept number_of_node place_of_node U es
     kept = kept-written number_of_node place_of_node T U (place_of_node t) t.node.number t es refl refl l u k.kept
+
     is_found : (p : NodeScope × Addr) (v : Tally) → U p ≡ Some v → (b : Bool) → same_place (place_of_node t) p ≡ b → lookup (is_at (nat_cmp v.node.number)) es ≡ Some p
     is_found p v h true s =
         let q = place_true (place_of_node t) p s in

@@ -31,7 +31,7 @@ at_other n k h = grind (arith, nat_tests, h)
 pub less_apart : (n k : ℕ) → nat_cmp n k ≡ Less → n < k
 less_apart n k h = grind (arith, nat_tests)
 
-range_between : (a m k : ℕ) → range_contains nat_cmp (Excluded a) (Included m) k ≡ between a m k
+pub range_between : (a m k : ℕ) → range_contains nat_cmp (Excluded a) (Included m) k ≡ between a m k
 range_between a m k = grind (arith, nat_tests)
 
 -- a key is another one than a number
@@ -83,7 +83,7 @@ module _ {P : Type 0} where
     where
       go : keys_of (entries_between nat_cmp (Excluded a) (Included m) es) ≡ filter (between a m) (keys_of es) → (b : Bool) → range_contains nat_cmp (Excluded a) (Included m) e.0 ≡ b
           → keys_of (cond (range_contains nat_cmp (Excluded a) (Included m) e.0) (e ∷ entries_between nat_cmp (Excluded a) (Included m) es) (entries_between nat_cmp (Excluded a) (Included m) es))
-            ≡ cond (range_contains nat_cmp (Excluded a) (Included m) e.0) (e.0 ∷ filter (between a m) (keys_of es)) (filter (between a m) (keys_of es))
+          ≡ cond (range_contains nat_cmp (Excluded a) (Included m) e.0) (e.0 ∷ filter (between a m) (keys_of es)) (filter (between a m) (keys_of es))
       go more true t = rw t (ap (λ xs. e.0 ∷ xs) more)
       go more false t = rw t more
 
@@ -277,9 +277,9 @@ module _ {P V : Type 0} (num : V → ℕ) (pl : V → P) where
   pub kept-removed : (T U : P → Option V) (p : P) (n : ℕ) (es fs : List (ℕ × P)) → lookup (is_at (nat_cmp n)) es ≡ Some p → IsUpdated T U p None → IsKept num pl T es
       → fs ≡ remove_entry (is_at (nat_cmp n)) es → IsStrictlySortedBy nat_cmp (keys_of fs) → IsKept num pl U fs
   kept-removed T U p n es fs l u k e o = record {
-      placed = rw e (placed-same T U _ (same-removed T U p n es (found T n p es k.placed l) u k) (placed-removed _ T es k.placed));
-      ordered = o;
-    }
+    placed = rw e (placed-same T U _ (same-removed T U p n es (found T n p es k.placed l) u k) (placed-removed _ T es k.placed));
+    ordered = o;
+  }
 
   -- ---- a value takes the place of another, where a function changes this one and no other
 
@@ -360,9 +360,9 @@ module _ {P V : Type 0} (num : V → ℕ) (pl : V → P) where
   pub kept-pushed : (T U : P → Option V) (p : P) (v : V) (es fs : List (ℕ × P)) → T p ≡ None → IsUpdated T U p (Some v) → IsKept num pl T es → AllByRecursion (λ k. k < num v) (map num (held T es)) → pl v ≡ p → fs ≡ insert_entry nat_cmp es (num v) p
       → IsStrictlySortedBy nat_cmp (keys_of fs) → IsKept num pl U fs
   kept-pushed T U p v es fs n u k a b e o = record {
-      placed = rw (e, insert-last (num v) p es (below-keys (num v) T es k.placed a)) (placed-push U (num v, p) es (placed-same T U es (same-vacant T U p (Some v) es n u k.placed) k.placed) (v, u.changed, refl, b));
-      ordered = o;
-    }
+    placed = rw (e, insert-last (num v) p es (below-keys (num v) T es k.placed a)) (placed-push U (num v, p) es (placed-same T U es (same-vacant T U p (Some v) es n u k.placed) k.placed) (v, u.changed, refl, b));
+    ordered = o;
+  }
 
   -- ---- the next number
 
@@ -405,6 +405,7 @@ module _ {P V : Type 0} (num : V → ℕ) (pl : V → P) where
           let y = c h.0 (h.3 ∙ q) in
           absurd (cc (y, t))
       skip false i t = rw i at l
+
       go : (lookup (is_at (nat_cmp (num v))) es ≡ Some p → find test (held T es) ≡ Some v) → (b : Bool) → test h.0 ≡ b → find test (held T (e ∷ es)) ≡ Some v
       go more true t =
           let q : e.1 ≡ p = sym h.3 ∙ s h.0 t in

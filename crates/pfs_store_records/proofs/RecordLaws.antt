@@ -61,9 +61,9 @@ states-push place s (p ∷ ps) = ap (λ xs. p.state ∷ xs) (states-push place s
 
 pub updated : (s t : Slab State) (p : ℕ) (w : Option State) → Updates s t p w → IsUpdated (record_in s) (record_in t) p (option_map (placed_at p) w)
 updated s t p w u = record {
-    changed = ap (option_map (placed_at p)) u.changed;
-    others = λ q d. ap (option_map (placed_at q)) (u.others q d);
-  }
+  changed = ap (option_map (placed_at p)) u.changed;
+  others = λ q d. ap (option_map (placed_at q)) (u.others q d);
+}
 
 pub vacant : (s : Slab State) (p : ℕ) → get s p ≡ None → record_in s p ≡ None
 vacant s p h = ap (option_map (placed_at p)) h
@@ -78,7 +78,7 @@ has_state (Some s) p v h = refl
 pub has_place : (s : Slab State) (p : ℕ) (v : Placed) → record_in s p ≡ Some v → ContainsKey s p
 has_place s p v h = has_state (get s p) p v h
 
-state_at : (o : Option State) (p : ℕ) (v : Placed) → option_map (placed_at p) o ≡ Some v → o ≡ Some v.state
+pub state_at : (o : Option State) (p : ℕ) (v : Placed) → option_map (placed_at p) o ≡ Some v → o ≡ Some v.state
 state_at None p v h = absurd (cc h)
 state_at (Some s) p v h = ap (option_map (λ (q : Placed). q.state)) h
 

@@ -4,6 +4,8 @@
 mod nodes;
 mod records;
 mod scope_counts;
+mod walks;
 
 pub use nodes::{Nodes, Tally};
 pub use records::Records;
+pub use walks::{StateTest, Walk};

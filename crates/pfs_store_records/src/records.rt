@@ -6,8 +6,11 @@ ghost use Rattle.slab.specs.Slab.{ContainsKey, get};
 ghost use Rattle.pfs_store_plain.specs.Leaving.{other_than};
 ghost use Rattle.pfs_store_plain.specs.Purging.{state_numbers};
 ghost use Rattle.pfs_store_plain.specs.Worlds.{holds_number};
+ghost use Rattle.pfs_store_records.specs.Keeping.{IsKept, held, number_in, place_in, record_in};
+ghost use Rattle.pfs_store_records.specs.Walks.{IsWalk, looks_of};
 ghost use Rattle.pfs_store_records.specs.Records.{IsAbove, IsRecordAt, IsRising, between, is_placed, leaves_number, placed_at, put, put_state, stands_at, states_of};
 
+use crate::walks::{StateTest, Walk};
 use pfs_addr::{Meter, NoMemory};
 use pfs_store_plain::State;
 use slab::Slab;
@@ -93,6 +96,25 @@ impl Records {
         look(&self.slab, place, meter)
     }
 
+    /// Walks over the records whose numbers are above `above` and up to `most`, from the least on: over at most `share` of
+    /// them, and up to the first whose state passes the test. Each is one look, and all are found by one search. It takes
+    /// no memory.
+    pub fn walk<T: StateTest>(
+        &self,
+        above: u64,
+        most: u64,
+        share: u64,
+        test: &T,
+        meter: &mut Meter,
+    ) -> Walk
+        requires range { above ≤ most }
+        requires room { meter.old + share < 2 ^ 64 }
+        ensures walk { IsWalk (T.passes test.now) (states_of self.now) above most share result.stayed result.last result.leaver }
+        ensures looks { meter.new ≡ meter.old + looks_of result.stayed result.leaver }
+    {
+        walk_range(&self.slab, &self.places, above, most, share, test, meter)
+    }
+
     /// Writes a state into the record of its number, which stands at this place. It is no look, and takes no memory.
     pub fn write_at(&mut self, place: usize, state: State)
         requires { list_any (is_placed state.number place) self.old ≡ true }
@@ -146,4 +168,49 @@ fn look(slab: &Slab<State>, place: usize, meter: &mut Meter) -> State
 {
     meter.tick();
     slab[place]
+}
+
+fn walk_range<T: StateTest>(
+    slab: &Slab<State>,
+    places: &BTreeMap<u64, usize>,
+    above: u64,
+    most: u64,
+    share: u64,
+    test: &T,
+    meter: &mut Meter,
+) -> Walk
+    requires kept { IsKept number_in place_in (record_in slab.now) places.now.entries }
+    requires range { above ≤ most }
+    requires room { meter.old + share < 2 ^ 64 }
+    ensures walk { IsWalk (T.passes test.now) (states_of (held (record_in slab.now) places.now.entries)) above most share
+        result.stayed result.last result.leaver }
+    ensures looks { meter.new ≡ meter.old + looks_of result.stayed result.leaver }
+{
+    let mut rest = places.range((Bound::Excluded(above), Bound::Included(most)));
+    let mut stayed = 0;
+    let mut last = above;
+    while stayed < share {
+        let Some((number, place)) = rest.next() else {
+            return Walk {
+                stayed,
+                last,
+                leaver: None,
+            };
+        };
+        let state = look(slab, *place, meter);
+        if test.passes(&state) {
+            return Walk {
+                stayed,
+                last,
+                leaver: Some(state),
+            };
+        }
+        stayed += 1;
+        last = *number;
+    }
+    Walk {
+        stayed,
+        last,
+        leaver: None,
+    }
 }

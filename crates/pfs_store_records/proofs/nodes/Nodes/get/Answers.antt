@@ -7,5 +7,5 @@ use Rattle.pfs_store_records.proofs.nodes.Nodes.get.Goals as goal
 pub returns : goal.returns
 returns g c =
     rw (sym c.self.view_is)
-        (c.copied.ensures ∙ c.get.ensures.value
-            ∙ get-noted c.args.scope c.args.source (get same_place c.self.inside.table) c.self.inside.order.entries c.self.inside.counts.rules.items c.self.inside.counts.global c.self.invariant)
+    (c.copied.ensures ∙ c.get.ensures.value
+    ∙ get-noted c.args.scope c.args.source (get same_place c.self.inside.table) c.self.inside.order.entries c.self.inside.counts.rules.items c.self.inside.counts.global c.self.invariant)

@@ -16,8 +16,8 @@ returns-in-Some-clause-number g c =
     let f = found number_of_node place_of_node (get same_place c.self.inside.table) c.in-Some.field-0-0.now c.in-Some.place.now c.self.inside.order.entries c.self.invariant.kept.placed l in
     let r : c.copied.result ≡ Some f.0 = c.copied.ensures ∙ c.get.ensures.value ∙ f.1 in
     ap (option_map (λ (t : Tally). t.node.number)) r ∙ ap Some f.2
-        ∙ rw (numbers-nodes c.args.self.now, sym c.self.view_is)
-            (first_between number_of_node place_of_node c.args.above c.args.most (get same_place c.self.inside.table) _ _ _ _ c.self.invariant.kept.placed e)
+    ∙ rw (numbers-nodes c.args.self.now, sym c.self.view_is)
+    (first_between number_of_node place_of_node c.args.above c.args.most (get same_place c.self.inside.table) _ _ _ _ c.self.invariant.kept.placed e)
 
 pub returns-in-Some-clause-tally : goal.returns-in-Some-clause-tally
 returns-in-Some-clause-tally g c =
@@ -26,9 +26,9 @@ returns-in-Some-clause-tally g c =
     let f = found number_of_node place_of_node (get same_place c.self.inside.table) c.in-Some.field-0-0.now c.in-Some.place.now c.self.inside.order.entries c.self.invariant.kept.placed l in
     let r : c.copied.result ≡ Some f.0 = c.copied.ensures ∙ c.get.ensures.value ∙ f.1 in
     rw (r, f.2, sym c.self.view_is)
-        (find_placed number_of_node place_of_node (get same_place c.self.inside.table) c.in-Some.field-0-0.now c.self.inside.order.entries c.in-Some.place.now c.self.invariant.kept.placed l ∙ f.1)
+    (find_placed number_of_node place_of_node (get same_place c.self.inside.table) c.in-Some.field-0-0.now c.self.inside.order.entries c.in-Some.place.now c.self.invariant.kept.placed l ∙ f.1)
 
 pub returns-in-None-clause-number : goal.returns-in-None-clause-number
 returns-in-None-clause-number g c =
     rw (numbers-nodes c.args.self.now, sym c.self.view_is)
-        (none_between number_of_node place_of_node c.args.above c.args.most (get same_place c.self.inside.table) _ c.self.invariant.kept.placed (sym c.in-None.ensures.steps.0 ∙ c.range.ensures.between tt))
+    (none_between number_of_node place_of_node c.args.above c.args.most (get same_place c.self.inside.table) _ c.self.invariant.kept.placed (sym c.in-None.ensures.steps.0 ∙ c.range.ensures.between tt))

@@ -40,8 +40,8 @@ invariant_of-self-in-Ok g c =
     let n : get same_place c.reserve.new.self (place_of_node c.args.tally) ≡ None = get-noted c.args.tally.node.scope c.args.tally.node.source (get same_place c.reserve.new.self) c.self.inside.order.entries c.make_room.new.self.rules.items c.make_room.new.self.global k ∙ rw w c.requires.absent in
     let u = updated-table (get same_place c.reserve.new.self) (get same_place c.insert-2.new.self) (place_of_node c.args.tally) (Some c.args.tally) c.in-Ok.ensures.updates.0 in
     noted-pushed (get same_place c.reserve.new.self) (get same_place c.insert-2.new.self) c.args.tally c.self.inside.order.entries c.insert.new.self.entries
-        c.make_room.new.self.rules.items c.add.new.self.rules.items c.make_room.new.self.global c.add.new.self.global
-        n u (rw w c.requires.above) c.in_ok-insert.ensures.entries c.in_ok-insert.ensures.ordered c.in_ok-insert.ensures.updates.0 c.add.ensures k
+    c.make_room.new.self.rules.items c.add.new.self.rules.items c.make_room.new.self.global c.add.new.self.global
+    n u (rw w c.requires.above) c.in_ok-insert.ensures.entries c.in_ok-insert.ensures.ordered c.in_ok-insert.ensures.updates.0 c.add.ensures k
 
 pub returns-clause-ok : goal.returns-clause-ok
 returns-clause-ok g c =
@@ -51,8 +51,8 @@ returns-clause-ok g c =
     let n : get same_place c.reserve.new.self (place_of_node c.args.tally) ≡ None = get-noted c.args.tally.node.scope c.args.tally.node.source (get same_place c.reserve.new.self) c.self.inside.order.entries c.make_room.new.self.rules.items c.make_room.new.self.global k ∙ rw w c.requires.absent in
     let u = updated-table (get same_place c.reserve.new.self) (get same_place c.insert-2.new.self) (place_of_node c.args.tally) (Some c.args.tally) c.in-Ok.ensures.updates.0 in
     held-pushed number_of_node place_of_node (get same_place c.reserve.new.self) (get same_place c.insert-2.new.self) (place_of_node c.args.tally) c.args.tally c.self.inside.order.entries c.insert.new.self.entries
-        n u k.kept (rw w (rw (numbers-nodes c.args.self.now) at c.requires.above)) c.in_ok-insert.ensures.entries
-        ∙ ap (λ xs. xs ++ c.args.tally ∷ []) w
+    n u k.kept (rw w (rw (numbers-nodes c.args.self.now) at c.requires.above)) c.in_ok-insert.ensures.entries
+    ∙ ap (λ xs. xs ++ c.args.tally ∷ []) w
 
 pub returns-clause-orderly : goal.returns-clause-orderly
 returns-clause-orderly g c = orderly (get same_place c.insert-2.new.self) c.insert.new.self.entries (invariant_of-self-in-Ok g c).kept

@@ -29,7 +29,7 @@ returns-clause-nodes g c =
     let h = c.get_mut.follows.holds c.args.tally in
     let u = updated-table (get same_place c.self.inside.table) (get same_place (c.get_mut.follows.lender c.args.tally)) (place_of_node c.args.tally) (Some c.args.tally) (h.3 s).0 in
     view-tally (get same_place c.self.inside.table) (get same_place (c.get_mut.follows.lender c.args.tally)) c.args.tally c.self.inside.order.entries l u c.self.invariant.kept
-        ∙ ap (map (put_tally c.args.tally)) c.self.view_is
+    ∙ ap (map (put_tally c.args.tally)) c.self.view_is
 
 pub returns-clause-orderly : goal.returns-clause-orderly
 returns-clause-orderly g c =

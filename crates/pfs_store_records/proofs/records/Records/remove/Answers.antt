@@ -14,7 +14,7 @@ remove-requires-in-Some c =
 pub invariant_of-self : goal.invariant_of-self
 invariant_of-self c =
     kept-removed number_in place_in (record_in c.self.inside.slab) (record_in c.remove-in-Some.new.self) c.in-Some.place c.args.number c.self.inside.places.entries _
-        (sym c.in-Some.ensures.value) (updated c.self.inside.slab _ c.in-Some.place _ c.remove-in-Some.ensures.updates) c.self.invariant c.remove.ensures.entries c.remove.ensures.ordered
+    (sym c.in-Some.ensures.value) (updated c.self.inside.slab _ c.in-Some.place _ c.remove-in-Some.ensures.updates) c.self.invariant c.remove.ensures.entries c.remove.ensures.ordered
 
 pub unreachable-requires : goal.unreachable-requires
 unreachable-requires c =
@@ -24,8 +24,8 @@ unreachable-requires c =
 pub returns-clause-records : goal.returns-clause-records
 returns-clause-records c =
     held-removed number_in place_in (record_in c.self.inside.slab) (record_in c.remove-in-Some.new.self) c.in-Some.place c.args.number c.self.inside.places.entries _
-        (sym c.in-Some.ensures.value) (updated c.self.inside.slab _ c.in-Some.place _ c.remove-in-Some.ensures.updates) c.self.invariant c.remove.ensures.entries
-        ∙ ap (filter (leaves_number c.args.number)) c.self.view_is
+    (sym c.in-Some.ensures.value) (updated c.self.inside.slab _ c.in-Some.place _ c.remove-in-Some.ensures.updates) c.self.invariant c.remove.ensures.entries
+    ∙ ap (filter (leaves_number c.args.number)) c.self.view_is
 
 pub returns-clause-states : goal.returns-clause-states
 returns-clause-states c = ap states_of (returns-clause-records c) ∙ states-filter c.args.number c.args.self.now

@@ -15,7 +15,7 @@ invariant_of-self c =
 pub returns-clause-records : goal.returns-clause-records
 returns-clause-records c =
     view-put c.self.inside.slab c.self.inside.places.entries c.args.place c.args.state c.self.invariant (rw c.self.view_is c.requires)
-        ∙ ap (map (put c.args.state)) c.self.view_is
+    ∙ ap (map (put c.args.state)) c.self.view_is
 
 pub returns-clause-states : goal.returns-clause-states
 returns-clause-states c = ap states_of (returns-clause-records c) ∙ states-put c.args.state c.args.self.now
