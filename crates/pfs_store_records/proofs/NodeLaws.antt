@@ -1,6 +1,6 @@
 -- The source nodes: what a table holds by scope and source, seen by number, and how many each scope has.
-use Rattle.std.proofs.Common.{length, suc, ◌+◌, ◌≡◌, ◌≢◌, ℕ, ◌<◌, ◌≤◌, ◌==◌, ◌&&◌, Bool, true, false, cond, not, if◌then◌else◌, Option, Some, None, IsSome, IfSome, List, [], ◌∷◌, ◌++◌, map, option_map, slice_get, refl, sym, ap, subst, ◌∙◌, arith, rules, filter}
-use Rattle.std.specs.List.{list_any, find, AllByRecursion, IsDistinct}
+use Rattle.std.proofs.Common.{length, suc, ◌+◌, ◌≡◌, ◌≢◌, ℕ, ◌<◌, ◌≤◌, ◌==◌, ◌&&◌, Bool, true, false, cond, Option, Some, None, List, [], ◌∷◌, ◌++◌, map, refl, sym, ap, ◌∙◌, arith, rules, filter}
+use Rattle.std.specs.List.{find, AllByRecursion, IsDistinct}
 use Rattle.std.specs.List.Sorted.{IsStrictlySortedBy}
 use Rattle.std.specs.Map.{keys_of, lookup, remove_entry}
 use Rattle.std.specs.BTreeMap.{is_at, insert_entry}
@@ -17,9 +17,9 @@ use Rattle.pfs_store_plain.specs.Purging.{node_numbers}
 use Rattle.pfs_store_plain.specs.declared.records.NodeScope.{NodeScope}
 use Rattle.pfs_store_records.specs.Keeping.{IsKept, IsNoted, IsPlaced, SameCounts, held, number_of_node, one_if, place_of_node, same_place}
 use Rattle.pfs_store_records.specs.Records.{IsAbove, IsRising}
-use Rattle.pfs_store_records.specs.Tallies.{IsOrderly, IsTallied, count_of, has_node_number, is_tally, nodes_of, other_node, put_tally, same_node}
+use Rattle.pfs_store_records.specs.Tallies.{IsOrderly, IsTallied, count_of, has_node_number, is_tally, nodes_of, put_tally, same_node}
 use Rattle.pfs_store_records.specs.declared.nodes.Tally.{Tally}
-use Rattle.pfs_store_records.proofs.Ordered.{IsUpdated, at_apart, at_other, at_same, at_self, below-keys, find-held, find-vacant, find_placed, found, held-all, held-pushed, held-removed, insert-last, kept-all, kept-pushed, kept-removed, kept-written, less_apart, look-placed, none-above, numbers-held, rising-held, view-written}
+use Rattle.pfs_store_records.proofs.Ordered.{IsUpdated, at_same, at_self, below-keys, find-held, find-vacant, found, held-all, insert-last, kept-all, kept-pushed, kept-removed, kept-written, less_apart, look-placed, none-above, rising-held, view-written}
 
 -- ---- the test of scope and source decides
 

@@ -1,5 +1,5 @@
 -- The records of states: what a slab holds, seen as records by number, and as states alone.
-use Rattle.std.proofs.Common.{length, ◌≡◌, ℕ, ◌<◌, ◌==◌, ◌&&◌, Bool, true, false, not, Option, Some, None, IsSome, List, [], ◌∷◌, ◌++◌, map, option_map, refl, sym, ap, subst, ◌∙◌, arith, filter}
+use Rattle.std.proofs.Common.{◌≡◌, ℕ, ◌==◌, Bool, true, false, Option, Some, None, IsSome, List, [], ◌∷◌, ◌++◌, map, option_map, refl, sym, ap, subst, ◌∙◌, arith, filter}
 use Rattle.std.specs.List.{list_any, find, AllByRecursion}
 use Rattle.std.specs.Map.{lookup}
 use Rattle.std.specs.BTreeMap.{is_at}
@@ -12,7 +12,7 @@ use Rattle.pfs_store_plain.specs.Purging.{state_numbers}
 use Rattle.pfs_store_plain.specs.declared.records.State.{State}
 use Rattle.pfs_store_records.specs.Keeping.{held, IsPlaced, IsKept, number_in, place_in, record_in}
 use Rattle.pfs_store_records.specs.Records.{IsRecordAt, IsRising, Placed, is_placed, leaves_number, placed_at, put, put_state, stands_at, states_of}
-use Rattle.pfs_store_records.proofs.Ordered.{IsUpdated, find_placed, found, held-removed, kept-removed, kept-written, look-placed, rising-held, view-written}
+use Rattle.pfs_store_records.proofs.Ordered.{IsUpdated, find_placed, found, kept-written, look-placed, rising-held, view-written}
 
 -- ---- records as states
 

@@ -1,11 +1,10 @@
 -- The walk over the records in a range of numbers, from the least on.
-use Rattle.std.proofs.Common.{length, suc, ◌+◌, ◌-◌, ◌≡◌, ◌≢◌, ℕ, ◌<◌, ◌≤◌, ◌==◌, ◌&&◌, Bool, true, false, not, Option, Some, None, List, [], ◌∷◌, ◌++◌, map, refl, sym, ap, subst, ◌∙◌, arith, filter, slice_get, take, drop}
+use Rattle.std.proofs.Common.{length, suc, ◌+◌, ◌≡◌, ℕ, ◌<◌, ◌≤◌, ◌==◌, Bool, true, false, Option, Some, None, List, [], ◌∷◌, ◌++◌, refl, sym, ap, subst, ◌∙◌, arith, filter, slice_get, take, drop}
 use Rattle.std.specs.List.{AllByRecursion, find}
 use Rattle.std.specs.List.Sorted.{IsStrictlySortedBy}
 use Rattle.std.specs.Ordering.{nat_cmp}
 use Rattle.std.specs.declared.cmp.Ordering.TheVariants.{Less}
-use Rattle.std.specs.Map.{keys_of, lookup}
-use Rattle.std.specs.BTreeMap.{is_at}
+use Rattle.std.specs.Map.{keys_of}
 use Rattle.std.specs.BTreeMap.Range.{entries_between}
 use Rattle.std.specs.declared.ops.Bound.TheVariants.{Included, Excluded}
 use Rattle.std.proofs.lemmas.Bool.Decides.{nat_tests}
@@ -14,7 +13,7 @@ use Rattle.slab.specs.Slab.{Slab, get, ContainsKey}
 use Rattle.pfs_store_plain.specs.Purging.{state_numbers}
 use Rattle.pfs_store_plain.specs.declared.records.State.{State}
 use Rattle.pfs_store_records.specs.Keeping.{IsKept, IsPlaced, held, number_in, place_in, record_in}
-use Rattle.pfs_store_records.specs.Records.{Placed, between, states_of}
+use Rattle.pfs_store_records.specs.Records.{between, states_of}
 use Rattle.pfs_store_records.specs.Walks.{IsLeaver, IsWalk}
 use Rattle.pfs_store_records.proofs.Ordered.{found, less_apart, look-between, numbers-held, range_between}
 use Rattle.pfs_store_records.proofs.RecordLaws.{has_place, numbers-states, read-value, state_at}

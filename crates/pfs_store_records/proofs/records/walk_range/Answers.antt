@@ -1,4 +1,4 @@
-use Rattle.std.proofs.Common.{◌≡◌, ◌∙◌, ◌∷◌, None, Some, arith, sym}
+use Rattle.std.proofs.Common.{◌∙◌, None, Some, arith, sym}
 use Rattle.pfs_store_records.specs.Keeping.{held, record_in}
 use Rattle.pfs_store_records.specs.Records.{states_of}
 use Rattle.pfs_store_records.proofs.Walking.{Stays, is-walk, next-leaves, next-there, none-leaves, one-stays, share-used, walking-init, walking-step}

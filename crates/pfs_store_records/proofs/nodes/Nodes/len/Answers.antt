@@ -1,4 +1,4 @@
-use Rattle.std.proofs.Common.{length, ◌≡◌, ◌∙◌, ap, sym}
+use Rattle.std.proofs.Common.{length, ◌∙◌, ap, sym}
 use Rattle.indexmap.specs.IndexMap.{get}
 use Rattle.pfs_store_records.specs.Keeping.{number_of_node, place_of_node, same_place}
 use Rattle.pfs_store_records.proofs.Ordered.{length-held}

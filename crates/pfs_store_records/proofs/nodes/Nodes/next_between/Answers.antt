@@ -1,9 +1,6 @@
-use Rattle.std.proofs.Common.{◌≡◌, ◌∙◌, ◌∷◌, Option, Some, ap, option_map, sym}
-use Rattle.std.specs.List.{find}
-use Rattle.std.specs.BTreeMap.Range.{entries_between}
+use Rattle.std.proofs.Common.{◌≡◌, ◌∙◌, Some, ap, option_map, sym}
 use Rattle.indexmap.specs.IndexMap.{get}
-use Rattle.pfs_store_records.specs.Keeping.{held, number_of_node, place_of_node, same_place}
-use Rattle.pfs_store_records.specs.Tallies.{has_node_number}
+use Rattle.pfs_store_records.specs.Keeping.{number_of_node, place_of_node, same_place}
 use Rattle.pfs_store_records.specs.declared.nodes.Tally.{Tally}
 use Rattle.pfs_store_records.proofs.Ordered.{find_placed, first_between, found, look-between, none_between}
 use Rattle.pfs_store_records.proofs.NodeLaws.{numbers-nodes}

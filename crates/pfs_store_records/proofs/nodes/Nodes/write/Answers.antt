@@ -1,4 +1,4 @@
-use Rattle.std.proofs.Common.{◌≡◌, ◌∙◌, IsSome, Some, ap, map, refl}
+use Rattle.std.proofs.Common.{◌∙◌, IsSome, Some, ap, map, refl}
 use Rattle.indexmap.specs.IndexMap.{get}
 use Rattle.pfs_store_records.specs.Keeping.{number_of_node, place_of_node, same_place}
 use Rattle.pfs_store_records.specs.Tallies.{put_tally}

@@ -1,7 +1,5 @@
-use Rattle.std.proofs.Common.{length, ◌≡◌, ◌∙◌, ap, subst, sym}
-use Rattle.pfs_store_plain.specs.Purging.{state_numbers}
+use Rattle.std.proofs.Common.{length, ◌∙◌, ap, sym}
 use Rattle.pfs_store_records.specs.Keeping.{number_in, place_in, record_in}
-use Rattle.pfs_store_records.specs.Records.{IsRising, Placed, states_of}
 use Rattle.pfs_store_records.proofs.Ordered.{length-held}
 use Rattle.pfs_store_records.proofs.RecordLaws.{rising-states}
 use Rattle.pfs_store_records.proofs.records.Records.len.Goals as goal

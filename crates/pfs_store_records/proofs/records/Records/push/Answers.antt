@@ -1,7 +1,6 @@
-use Rattle.std.proofs.Common.{◌≡◌, ◌∙◌, ◌++◌, ◌∷◌, [], ◌<◌, Some, ap, map, refl, sym}
-use Rattle.std.specs.List.{AllByRecursion}
+use Rattle.std.proofs.Common.{◌≡◌, ◌∙◌, ◌++◌, ◌∷◌, [], Some, ap, refl, sym}
 use Rattle.pfs_store_records.specs.Keeping.{held, number_in, place_in, record_in}
-use Rattle.pfs_store_records.specs.Records.{IsAbove, placed_at, states_of}
+use Rattle.pfs_store_records.specs.Records.{placed_at, states_of}
 use Rattle.pfs_store_records.proofs.Ordered.{held-all, held-pushed, kept-all, kept-pushed}
 use Rattle.pfs_store_records.proofs.RecordLaws.{grown, numbers-states, rising-states, states-push, updated, vacant}
 use Rattle.pfs_store_records.proofs.records.Records.push.Goals as goal

@@ -1,4 +1,4 @@
-use Rattle.std.proofs.Common.{◌∙◌, ap, map, sym}
+use Rattle.std.proofs.Common.{◌∙◌, ap, map}
 use Rattle.slab.specs.Slab.{with_value}
 use Rattle.pfs_store_records.specs.Records.{put, states_of}
 use Rattle.pfs_store_records.proofs.RecordLaws.{has-written, kept-put, rising-states, states-put, view-put}
