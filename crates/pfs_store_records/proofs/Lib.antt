@@ -1,0 +1,4 @@
+pub mod Ordered
+pub mod RecordLaws
+pub mod NodeLaws
+pub mod Walking

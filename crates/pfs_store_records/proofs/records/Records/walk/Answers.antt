@@ -1,0 +1,5 @@
+use Rattle.std.proofs.Common.{sym}
+use Rattle.pfs_store_records.proofs.records.Records.walk.Goals as goal
+
+pub returns-clause-walk : goal.returns-clause-walk
+returns-clause-walk g c = rw (sym c.self.view_is) c.walk_range.ensures.walk

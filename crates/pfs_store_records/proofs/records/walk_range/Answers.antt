@@ -1,0 +1,50 @@
+use Rattle.std.proofs.Common.{◌∙◌, None, Some, arith, sym}
+use Rattle.pfs_store_records.specs.Keeping.{held, record_in}
+use Rattle.pfs_store_records.specs.Records.{states_of}
+use Rattle.pfs_store_records.proofs.Walking.{Stays, is-walk, next-leaves, next-there, none-leaves, one-stays, share-used, walking-init, walking-step}
+use Rattle.pfs_store_records.proofs.records.walk_range.Goals as goal
+
+pub loop-stayed-init : goal.loop-stayed-init
+loop-stayed-init g c = record {
+  walking = walking-init (Stays (g.T.StateTest.passes c.args.test.now) c.args.slab.now) c.args.places.now.entries c.range-rest.result c.args.above c.args.most c.requires.range (c.range-rest.ensures.between tt);
+  share = omega arith;
+  looks = omega arith;
+}
+
+pub returns-in_default-clause-walk : goal.returns-in_default-clause-walk
+returns-in_default-clause-walk g c =
+    let w = c.loop-stayed.invariant.walking in
+    is-walk (g.T.StateTest.passes c.args.test.now) c.args.slab.now c.args.places.now.entries c.loop-stayed.rest c.args.above c.loop-stayed.last c.args.most c.args.share c.loop-stayed.stayed None
+    c.requires.kept w c.loop-stayed.invariant.share
+    (none-leaves (g.T.StateTest.passes c.args.test.now) c.args.slab.now c.args.places.now.entries c.loop-stayed.last c.args.most c.args.share c.loop-stayed.stayed c.requires.kept
+    (sym c.in_default.ensures.steps.0 ∙ w.rest))
+
+pub look-state-requires-clause-held : goal.look-state-requires-clause-held
+look-state-requires-clause-held g c =
+    next-there c.args.slab.now c.args.places.now.entries _ c.loop-stayed.last c.args.most c.in-Some.number.now c.in-Some.place.now c.requires.kept
+    (sym c.in-Some.ensures.steps ∙ c.loop-stayed.invariant.walking.rest)
+
+pub returns-then-passes-clause-walk : goal.returns-then-passes-clause-walk
+returns-then-passes-clause-walk g c =
+    let w = c.loop-stayed.invariant.walking in
+    is-walk (g.T.StateTest.passes c.args.test.now) c.args.slab.now c.args.places.now.entries c.loop-stayed.rest c.args.above c.loop-stayed.last c.args.most c.args.share c.loop-stayed.stayed (Some c.look-state.result)
+    c.requires.kept w c.loop-stayed.invariant.share
+    (next-leaves (g.T.StateTest.passes c.args.test.now) c.args.slab.now c.args.places.now.entries _ c.loop-stayed.last c.args.most c.args.share c.loop-stayed.stayed c.in-Some.number.now c.in-Some.place.now c.look-state.result
+    c.requires.kept (sym c.in-Some.ensures.steps ∙ w.rest) c.look-state.ensures.value (sym c.passes.ensures ∙ c.if-passes.true) (omega arith))
+
+pub loop-stayed-preserved : goal.loop-stayed-preserved
+loop-stayed-preserved g c =
+    let w = (rw c.in-Some.ensures.steps at c.loop-stayed.invariant.walking) in
+    record {
+      walking = walking-step (Stays (g.T.StateTest.passes c.args.test.now) c.args.slab.now) c.args.places.now.entries c.next.new.self c.args.above c.loop-stayed.last c.args.most c.loop-stayed.stayed c.in-Some.number.now c.in-Some.place.now
+          c.requires.kept.ordered w
+          (one-stays (g.T.StateTest.passes c.args.test.now) c.args.slab.now c.in-Some.number.now c.in-Some.place.now c.look-state.result c.look-state.ensures.value (sym c.passes.ensures ∙ c.if-passes.false));
+      share = omega arith;
+      looks = omega arith;
+    }
+
+pub returns-clause-walk : goal.returns-clause-walk
+returns-clause-walk g c =
+    is-walk (g.T.StateTest.passes c.args.test.now) c.args.slab.now c.args.places.now.entries c.loop-stayed.rest c.args.above c.loop-stayed.last c.args.most c.args.share c.loop-stayed.stayed None
+    c.requires.kept c.loop-stayed.invariant.walking c.loop-stayed.invariant.share
+    (share-used (g.T.StateTest.passes c.args.test.now) (states_of (held (record_in c.args.slab.now) c.args.places.now.entries)) c.loop-stayed.last c.args.most c.args.share c.loop-stayed.stayed (omega arith))

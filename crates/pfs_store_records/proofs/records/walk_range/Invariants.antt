@@ -1,0 +1,13 @@
+use Rattle.std.proofs.Common.{◌≡◌, ◌≤◌, ◌+◌, ◌-◌}
+use Rattle.pfs_store_records.proofs.Walking.{Stays, Walking}
+use Rattle.pfs_store_records.proofs.records.walk_range.Given as goal
+
+abbrev pub invariant-loop-stayed : goal.invariant-loop-stayed
+invariant-loop-stayed g l = record {
+  walking : Walking (Stays (g.T.StateTest.passes l.test) l.slab) l.places.entries l.rest l.above l.last l.most l.stayed;
+  share : l.stayed ≤ l.share;
+  looks : l.meter ≡ l.fn.meter + l.stayed;
+}
+
+abbrev pub decreases-loop-stayed : goal.decreases-loop-stayed
+decreases-loop-stayed g l = l.share - l.stayed

@@ -1,0 +1,4 @@
+pub mod Keeping
+pub mod Records
+pub mod Tallies
+pub mod Walks

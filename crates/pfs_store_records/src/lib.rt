@@ -1,0 +1,11 @@
+//! The records of states by number and place, and the source nodes with their counts, as a store with indexes keeps them.
+#![tactic(auto)]
+
+mod nodes;
+mod records;
+mod scope_counts;
+mod walks;
+
+pub use nodes::{Nodes, Tally};
+pub use records::Records;
+pub use walks::{StateTest, Walk};

@@ -1,0 +1,216 @@
+//! The records of states: the one module that reads a record, and ticks the meter for it.
+
+ghost use Rattle.std.specs.Prelude.{◌≡◌, ◌+◌, ◌-◌, ◌<◌, ◌≤◌, ◌^◌, ◌==◌, ◌++◌, ◌∷◌, [], IfOk, OnErr, OnOk, Some, filter, length, map, slice_get, true};
+ghost use Rattle.std.specs.List.{find, list_any};
+ghost use Rattle.slab.specs.Slab.{ContainsKey, get};
+ghost use Rattle.pfs_store_plain.specs.Leaving.{other_than};
+ghost use Rattle.pfs_store_plain.specs.Purging.{state_numbers};
+ghost use Rattle.pfs_store_plain.specs.Worlds.{holds_number};
+ghost use Rattle.pfs_store_records.specs.Keeping.{IsKept, held, number_in, place_in, record_in};
+ghost use Rattle.pfs_store_records.specs.Walks.{IsWalk, looks_of};
+ghost use Rattle.pfs_store_records.specs.Records.{IsAbove, IsRecordAt, IsRising, between, is_placed, leaves_number, placed_at, put, put_state, stands_at, states_of};
+
+use crate::walks::{StateTest, Walk};
+use pfs_addr::{Meter, NoMemory};
+use pfs_store_plain::State;
+use slab::Slab;
+use std::alloc::Global;
+use std::collections::BTreeMap;
+use std::marker::Model;
+use std::ops::Bound;
+
+/// The records of the states that are held, by rising number. Callers see each with the place at which it stands, which it
+/// keeps until it is removed. To read a record is a look, and ticks the meter.
+#[derive(Drop)]
+pub struct Records {
+    slab: Slab<State>,
+    places: BTreeMap<u64, usize>,
+}
+
+impl Model for Records {
+    ghost use Rattle.std.specs.Prelude.{List};
+    ghost use Rattle.pfs_store_records.specs.Records.{Placed};
+    ghost use Rattle.pfs_store_records.specs.Keeping.{IsKept, held, number_in, place_in, record_in};
+
+    ghost Value = { List Placed };
+
+    ghost view = { λ r. held (record_in r.slab) r.places.entries };
+
+    ghost invariant = { λ r. IsKept number_in place_in (record_in r.slab) r.places.entries };
+}
+
+impl Records {
+    /// No records. It takes no memory.
+    pub fn new(alloc: Global) -> Records
+        ensures { result ≡ [] }
+    {
+        Records {
+            slab: Slab::new(alloc),
+            places: BTreeMap::new(alloc),
+        }
+    }
+
+    /// How many records there are. It takes no memory.
+    pub fn len(&self) -> u64
+        ensures value { result ≡ length self.now }
+        ensures rising { IsRising (state_numbers (states_of self.now)) }
+    {
+        self.places.len() as u64
+    }
+
+    /// The least number above `above`, and up to `most`, that a record has. It is no look, and takes no memory.
+    pub fn next_between(&self, above: u64, most: u64) -> Option<u64>
+        requires { above ≤ most }
+        ensures { result ≡ slice_get (filter (between above most) (state_numbers (states_of self.now))) 0 }
+    {
+        match self
+            .places
+            .range((Bound::Excluded(above), Bound::Included(most)))
+            .next()
+        {
+            Some((number, _)) => Some(*number),
+            None => None,
+        }
+    }
+
+    /// The state of this number, of which there is a record: one look, and one search by number. It takes no memory.
+    pub fn read(&self, number: u64, meter: &mut Meter) -> State
+        requires held { holds_number (states_of self.now) number ≡ true }
+        requires room { meter.old < 2 ^ 64 - 1 }
+        ensures value { Some result ≡ find (λ s. s.number == number) (states_of self.now) }
+        ensures looks { meter.new ≡ meter.old + 1 }
+    {
+        match self.places.get(&number) {
+            Some(place) => look(&self.slab, *place, meter),
+            None => unreachable!(),
+        }
+    }
+
+    /// The state of the record that stands at this place: one look, and no search. It takes no memory.
+    pub fn read_at(&self, place: usize, meter: &mut Meter) -> State
+        requires held { list_any (stands_at place) self.now ≡ true }
+        requires room { meter.old < 2 ^ 64 - 1 }
+        ensures value { IsRecordAt place result self.now }
+        ensures looks { meter.new ≡ meter.old + 1 }
+    {
+        look(&self.slab, place, meter)
+    }
+
+    /// Walks over the records whose numbers are above `above` and up to `most`, from the least on: over at most `share` of
+    /// them, and up to the first whose state passes the test. Each is one look, and all are found by one search. It takes
+    /// no memory.
+    pub fn walk<T: StateTest>(
+        &self,
+        above: u64,
+        most: u64,
+        share: u64,
+        test: &T,
+        meter: &mut Meter,
+    ) -> Walk
+        requires range { above ≤ most }
+        requires room { meter.old + share < 2 ^ 64 }
+        ensures walk { IsWalk (T.passes test.now) (states_of self.now) above most share result.stayed result.last result.leaver }
+        ensures looks { meter.new ≡ meter.old + looks_of result.stayed result.leaver }
+    {
+        walk_range(&self.slab, &self.places, above, most, share, test, meter)
+    }
+
+    /// Writes a state into the record of its number, which stands at this place. It is no look, and takes no memory.
+    pub fn write_at(&mut self, place: usize, state: State)
+        requires { list_any (is_placed state.number place) self.old ≡ true }
+        ensures records { self.new ≡ map (put state) self.old }
+        ensures states { states_of self.new ≡ map (put_state state) (states_of self.old) }
+        ensures rising { IsRising (state_numbers (states_of self.new)) }
+    {
+        self.slab[place] = state;
+    }
+
+    /// Adds the record of a state whose number is above all others, and answers its place. `NoMemory` is answered where
+    /// memory for it is refused, and then nothing changes.
+    pub fn push(&mut self, state: &State) -> Result<usize, NoMemory>
+        requires { IsAbove state.now.number (state_numbers (states_of self.old)) }
+        ensures records { IfOk result (λ place. self.new ≡ self.old ++ placed_at place state.now ∷ []) }
+        ensures states { OnOk result (states_of self.new ≡ states_of self.old ++ state.now ∷ []) }
+        ensures err { OnErr result (self.new ≡ self.old) }
+        ensures rising { IsRising (state_numbers (states_of self.new)) }
+    {
+        self.slab.reserve(1)?;
+        let place = self.slab.vacant_key();
+        self.places.insert(state.number, place)?;
+        // The proof needs the types of a key named here.
+        let key = &state.key;
+        let _proto = &key.proto;
+        Ok(self.slab.insert_reserved(*state))
+    }
+
+    /// Removes the record of this number, of which there is one. It is no look, and takes no memory.
+    pub fn remove(&mut self, number: u64)
+        requires { holds_number (states_of self.old) number ≡ true }
+        ensures records { self.new ≡ filter (leaves_number number) self.old }
+        ensures states { states_of self.new ≡ filter (other_than number) (states_of self.old) }
+        ensures rising { IsRising (state_numbers (states_of self.new)) }
+    {
+        match self.places.remove(&number) {
+            Some(place) => {
+                self.slab.remove(place);
+            }
+            None => unreachable!(),
+        }
+    }
+}
+
+/// Reads the record at a place: the one look.
+fn look(slab: &Slab<State>, place: usize, meter: &mut Meter) -> State
+    requires held { ContainsKey slab.now place }
+    requires room { meter.old < 2 ^ 64 - 1 }
+    ensures value { get slab.now place ≡ Some result }
+    ensures looks { meter.new ≡ meter.old + 1 }
+{
+    meter.tick();
+    slab[place]
+}
+
+fn walk_range<T: StateTest>(
+    slab: &Slab<State>,
+    places: &BTreeMap<u64, usize>,
+    above: u64,
+    most: u64,
+    share: u64,
+    test: &T,
+    meter: &mut Meter,
+) -> Walk
+    requires kept { IsKept number_in place_in (record_in slab.now) places.now.entries }
+    requires range { above ≤ most }
+    requires room { meter.old + share < 2 ^ 64 }
+    ensures walk { IsWalk (T.passes test.now) (states_of (held (record_in slab.now) places.now.entries)) above most share
+        result.stayed result.last result.leaver }
+    ensures looks { meter.new ≡ meter.old + looks_of result.stayed result.leaver }
+{
+    let mut rest = places.range((Bound::Excluded(above), Bound::Included(most)));
+    let mut stayed = 0;
+    let mut last = above;
+    while stayed < share {
+        let Some((number, place)) = rest.next() else {
+            return Walk {
+                stayed,
+                last,
+                leaver: None,
+            };
+        };
+        let state = look(slab, *place, meter);
+        if test.passes(&state) {
+            return Walk {
+                stayed,
+                last,
+                leaver: Some(state),
+            };
+        }
+        stayed += 1;
+        last = *number;
+    }
+    Walk {
+        stayed,
+        last,
+        leaver: None,
+    }
+}
