@@ -12,6 +12,3 @@ mod walks;
 pub use books::Book;
 pub use entries::Mark;
 pub use tables::{Added, Tables};
-
-#[cfg(test)]
-mod tests;

@@ -8,8 +8,6 @@ mod scores;
 mod state_phases;
 mod tcp_phases;
 mod tcp_ranks;
-#[cfg(test)]
-mod tests;
 
 pub use datagrams::DatagramPhase;
 pub use lifetimes::{is_expired, lifetime};

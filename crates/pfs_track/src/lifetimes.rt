@@ -58,25 +58,3 @@ fn scale(lifetime: u64, start: u64, end: u64, count: u64) -> u64
         left as u64
     }
 }
-
-#[cfg(test)]
-mod tests {
-    use super::*;
-
-    #[test]
-    fn lifetimes_shrink_between_start_and_end(rt: HostRuntime) {
-        for (count, want) in [
-            (6, 120),
-            (7, 100),
-            (8, 80),
-            (10, 40),
-            (12, 0),
-            (u64::MAX, 0),
-        ] {
-            assert_eq!(rt; scale(120, 6, 12, count), want, "at {count} states");
-        }
-        assert_eq!(rt; scale(120, 0, 0, 1000), 120);
-        assert_eq!(rt; scale(120, 0, 4, 1), 90);
-        assert_eq!(rt; scale(u64::MAX, 0, u64::MAX, 1), u64::MAX - 1);
-    }
-}

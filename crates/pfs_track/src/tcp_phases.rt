@@ -63,6 +63,3 @@ impl TcpPhase {
         self.complete
     }
 }
-
-#[cfg(test)]
-mod tests;

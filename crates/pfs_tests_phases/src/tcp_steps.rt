@@ -1,11 +1,13 @@
-// Walks every phase that a TCP connection can reach, and compares each step with a table that is written anew here.
+//! Walks every phase that a TCP connection can reach beside ranks that step by a table which is written anew here, and
+//! compares what is seen of each.
 
-use super::TcpPhase;
-use pfs_addr::Flags;
-use pfs_conf_rules::TimeoutName;
+use pfs_addr::{Flags, Proto};
+use pfs_conf::TimeoutName;
+use pfs_track::StatePhase;
+use std::test::Fail;
 
 /// A phase with its ranks as numbers: CLOSED 0, SYN_SENT 2, ESTABLISHED 4, CLOSING 7, FIN_WAIT_2 9, TIME_WAIT 10.
-#[derive(Debug, Clone, Copy, PartialEq, Eq)]
+#[derive(Clone, Copy, PartialEq, Eq)]
 struct Seen {
     maker: u8,
     other: u8,
@@ -135,15 +137,6 @@ fn expected(seen: Seen, forward: bool, flags: Flags) -> Option<(Seen, bool)> {
     Some((after, completes))
 }
 
-fn described(phase: TcpPhase) -> Seen {
-    Seen {
-        maker: phase.maker as u8,
-        other: phase.other as u8,
-        timeout: phase.timeout,
-        complete: phase.complete,
-    }
-}
-
 /// Sixteen sets of SYN, FIN, ACK and RST; the flags that do not matter are set in half of them.
 fn flags_of(number: u8) -> Flags {
     Flags {
@@ -158,24 +151,48 @@ fn flags_of(number: u8) -> Flags {
     }
 }
 
+// A phase, and the ranks that stand for it.
+type Pair = (StatePhase, Seen);
+
+// Whether each of the phases is this one just where its ranks are
+fn is_one_to_one(reached: &[Pair], pair: &Pair) -> bool {
+    reached
+        .iter()
+        .all(|(phase, seen)| (*phase == pair.0) == (*seen == pair.1))
+}
+
 #[test]
-fn every_reachable_phase_steps_by_the_table(rt: HostRuntime) -> Result<(), std::test::Fail> {
-    let mut reached = Vec::new(rt.alloc());
-    reached.push(TcpPhase::new())?;
+fn every_reachable_phase_steps_by_the_table(rt: HostRuntime) -> Result<(), Fail> {
+    let closed = Seen {
+        maker: 2,
+        other: 0,
+        timeout: TimeoutName::TcpFirst,
+        complete: false,
+    };
+    let first = StatePhase::first(Proto::Tcp);
+    let mut reached: Vec<Pair> = Vec::new(rt.alloc());
+    reached.push((first, closed))?;
+    assert_eq!(rt;
+        (first.slot(), first.done()),
+        (TimeoutName::TcpFirst, false)
+    );
     for place in 0..100 {
-        let Some(phase) = reached.get(place).copied() else {
+        let Some(pair) = reached.get(place).copied() else {
             break;
         };
+        let (phase, seen) = pair;
         for number in 0..32u8 {
             let forward = number < 16;
             let flags = flags_of(number % 16);
             let (after, completes) = phase.step(forward, flags);
+            let (wanted, is_third) = expected(seen, forward, flags).ok_or("no timeout")?;
             assert_eq!(rt;
-                Some((described(after), completes)),
-                expected(described(phase), forward, flags)
+                (after.slot(), after.done(), completes),
+                (wanted.timeout, wanted.complete, is_third)
             );
-            if !reached.contains(&after) {
-                reached.push(after)?;
+            assert!(rt; is_one_to_one(&reached, &(after, wanted)));
+            if !reached.contains(&(after, wanted)) {
+                reached.push((after, wanted))?;
             }
         }
     }

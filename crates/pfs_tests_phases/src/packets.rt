@@ -1,0 +1,45 @@
+//! Flags, and packets on em0 between a source and a server.
+
+ghost use Rattle.std.specs.Prelude.{◌≡◌, true};
+ghost use Rattle.pfs_addr.specs.Protocols.{has_ports};
+
+use pfs_addr::{Addr, Dir, Endpoint, Flags, Packet, Proto, parse_ifname};
+use std::test::Fail;
+
+/// A source.
+pub const A1: Addr = Addr::V4([198, 51, 100, 1]);
+
+const SERVER: Addr = Addr::V4([192, 0, 2, 1]);
+
+/// No flag, and those of a connection.
+pub const NONE: Flags = Flags {
+    fin: false,
+    syn: false,
+    rst: false,
+    psh: false,
+    ack: false,
+    urg: false,
+    ece: false,
+    cwr: false,
+};
+
+pub const SYN: Flags = Flags { syn: true, ..NONE };
+
+pub const SYN_ACK: Flags = Flags { ack: true, ..SYN };
+
+pub const ACK: Flags = Flags { ack: true, ..NONE };
+
+pub const FIN_ACK: Flags = Flags { fin: true, ..ACK };
+
+/// A packet from port 1000 of a source to a port of the server; one of TCP opens a connection.
+pub fn packet(dir: Dir, proto: Proto, source: Addr, port: u16) -> Result<Packet, Fail>
+    requires { has_ports proto ≡ true }
+{
+    let ifname = parse_ifname(b"em0").ok_or("no name")?;
+    let from = Endpoint {
+        addr: source,
+        port: 1000,
+    };
+    let to = Endpoint { addr: SERVER, port };
+    Ok(Packet::new(dir, ifname, proto, from, to, SYN))
+}
