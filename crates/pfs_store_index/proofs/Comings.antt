@@ -1,12 +1,12 @@
 -- A state comes: each fact of the indexes and counts, of the states and nodes with it.
-use Rattle.std.proofs.Common.{◌≡◌, ◌≢◌, ◌∙◌, ◌+◌, ◌-◌, ◌<◌, ◌≤◌, ◌^◌, ◌==◌, ◌&&◌, ◌||◌, ℕ, Bool, true, false, cond, not, if◌then◌else◌, Option, Some, None, is_some, List, [], ◌∷◌, ◌++◌, length, map, filter, option_map, slice_index, slice_set, length-set, refl, ap, sym, subst, arith}
+use Rattle.std.proofs.Common.{◌≡◌, ◌≢◌, ◌∙◌, ◌+◌, ◌<◌, ◌≤◌, ◌==◌, ◌&&◌, ◌||◌, ℕ, Bool, true, false, cond, not, if◌then◌else◌, Option, Some, None, is_some, List, [], ◌∷◌, ◌++◌, length, map, filter, option_map, slice_index, slice_set, length-set, refl, ap, sym, subst, arith}
 use Rattle.std.specs.List.{find, list_any, AllByRecursion, IsDistinct}
 use Rattle.std.proofs.lemmas.Bool.Decides.{nat_tests}
 use Rattle.std.proofs.lemmas.List.{get_or-set_other}
 use Rattle.std.proofs.lemmas.Grind.{get_or-set_at}
 use Rattle.std.proofs.lemmas.Map.Keys.{IsDistinct-head, IsDistinct-tail, IsDistinct-cons}
-use Rattle.pfs_addr.proofs.SameLaws.{same_addr_self, same_addr_true, same_key_self, same_key_true}
-use Rattle.pfs_addr.specs.Sameness.{same_addr, same_key}
+use Rattle.pfs_addr.proofs.SameLaws.{same_addr_self, same_addr_true, same_key_true}
+use Rattle.pfs_addr.specs.Sameness.{same_key}
 use Rattle.pfs_addr.specs.declared.addresses.Addr.{Addr}
 use Rattle.pfs_addr.specs.declared.packets.FlowKey.{FlowKey}
 use Rattle.pfs_conf_rules.specs.Configs.{Conf, scope_of}
@@ -15,17 +15,15 @@ use Rattle.pfs_conf_rules.specs.declared.actions.Scope.TheVariants as scope
 use Rattle.pfs_track.specs.StatePhases.{is_done}
 use Rattle.pfs_store_plain.specs.Admission.{new_node, nodes_with}
 use Rattle.pfs_store_plain.specs.Counts.{has_node, in_scope, is_connection, is_global, is_node, is_of_node, is_of_rule, is_of_source, node_connections, node_scope_by, node_scope_of, node_states, rule_states}
-use Rattle.pfs_store_plain.specs.Leaving.{other_than}
 use Rattle.pfs_store_plain.specs.Plain.{AreCounts}
-use Rattle.pfs_store_plain.specs.declared.records.Node.{Node}
 use Rattle.pfs_store_plain.specs.declared.records.NodeScope.{NodeScope}
 use Rattle.pfs_store_plain.specs.declared.records.NodeScope.TheVariants as node_scope
 use Rattle.pfs_store_plain.specs.declared.records.State.{State}
-use Rattle.pfs_store_records.specs.Records.{IsAbove, Placed, placed_at, states_of}
+use Rattle.pfs_store_records.specs.Records.{IsAbove, Placed}
 use Rattle.pfs_store_records.specs.Tallies.{is_tally, nodes_of}
 use Rattle.pfs_store_records.specs.declared.nodes.Tally.{Tally}
 use Rattle.pfs_store_index.specs.declared.indexes.Entry.{Entry}
-use Rattle.pfs_store_index.specs.Ties.{HasRule, HasTally, IsCounted, IsFew, IsScope, IsScored, IsScoped, at_node, entry_of, has_key, is_at, is_pair, joined, joined_of, key_in, new_tally, recounted}
+use Rattle.pfs_store_index.specs.Ties.{HasRule, HasTally, IsCounted, IsFew, IsScope, IsScored, IsScoped, at_node, entry_of, has_key, is_at, is_pair, joined, joined_of, key_in, new_tally}
 use Rattle.pfs_store_index.proofs.OneNode.{IsFaithful, and_both, and_false, and_left, and_right, of_node, same_scope_self, scope_of-IsScope, scoped-at, tally-at}
 use Rattle.pfs_store_index.proofs.Searches.{all-map, all-push, all-weaker, any-found, any-push, count-le, count-push, map-push, none-any}
 
@@ -48,10 +46,13 @@ counted-joined conf s xs t p h e = go (is_at (node_scope_of conf s.rule.0) s.sou
   where
     es : t.states ≡ node_states conf t.node.scope t.node.source xs
     es = ap (λ (u : Tally). u.states) e
+
     ec : t.connections ≡ node_connections conf t.node.scope t.node.source xs
     ec = ap (λ (u : Tally). u.connections) e
+
     d : node_connections conf t.node.scope t.node.source (xs ++ s ∷ []) ≡ node_connections conf t.node.scope t.node.source xs
     d = count-same (is_connection conf t.node.scope t.node.source) s xs (rw p refl)
+
     go : (b : Bool) → is_at (node_scope_of conf s.rule.0) s.source t ≡ b → IsCounted conf (xs ++ s ∷ []) (at_node (node_scope_of conf s.rule.0) s.source joined_of t)
     go true i =
         let o : is_of_node conf t.node.scope t.node.source s ≡ true = of_node conf s t h ∙ i in
@@ -191,6 +192,7 @@ scored-came (Some sc) s ts h = go (is_some (find (is_tally sc s.source) ts))
         by : (b : Bool) → IsScored (if b then joined_of t else t)
         by true = k
         by false = k
+
     go : (b : Bool) → AllByRecursion IsScored (if b then map (at_node (Some sc) s.source joined_of) ts else ts ++ new_tally sc s ∷ [])
     go true = all-map IsScored (at_node (Some sc) s.source joined_of) keep ts h
     go false = all-push IsScored (new_tally sc s) ts h (omega arith)
@@ -273,6 +275,7 @@ distinct-came s (x ∷ xs) f d = go (distinct-came s xs) (IsDistinct-head same_k
         → AllByRecursion (λ y. same_key x.state.key y ≡ false) (map key_in (ys ++ s ∷ []))
     also [] h e = (e, tt)
     also (y ∷ ys) (h, hs) e = (h, also ys hs e)
+
     go : (find (has_key s.state.key) xs ≡ None → IsDistinct same_key (map key_in xs) → IsDistinct same_key (map key_in (xs ++ s ∷ [])))
         → AllByRecursion (λ y. same_key x.state.key y ≡ false) (map key_in xs) → IsDistinct same_key (map key_in xs)
         → (b : Bool) → same_key x.state.key s.state.key ≡ b → IsDistinct same_key (map key_in (x ∷ xs ++ s ∷ []))
@@ -320,8 +323,10 @@ rule-came s xs counts v w e h r l = go (s.rule.0 == r) refl
   where
     c : length (filter (is_of_rule r) (xs ++ s ∷ [])) ≡ length (filter (is_of_rule r) xs) + cond (s.rule.0 == r) 1 0
     c = count-push (is_of_rule r) s xs
+
     l' : r < length counts
     l' = omega (arith, length-set counts s.rule.0 (v + 1))
+
     go : (b : Bool) → (s.rule.0 == r) ≡ b → slice_index (slice_set counts s.rule.0 (v + 1)) r ≡ rule_states r (xs ++ s ∷ [])
     go true i =
         let q : r ≡ s.rule.0 = grind (arith, nat_tests) in

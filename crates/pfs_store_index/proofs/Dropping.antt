@@ -1,12 +1,12 @@
 -- A node without states goes: every state keeps its node.
-use Rattle.std.proofs.Common.{◌≡◌, ◌∙◌, ◌+◌, ◌==◌, ◌&&◌, ℕ, Bool, true, false, cond, not, if◌then◌else◌, Option, Some, None, IfSome, option_map, List, [], ◌∷◌, length, map, filter, refl, ap, sym, subst, arith}
+use Rattle.std.proofs.Common.{◌≡◌, ◌∙◌, ◌==◌, ℕ, Bool, true, false, not, if◌then◌else◌, Option, Some, None, IfSome, option_map, List, [], ◌∷◌, length, filter, refl, ap, sym, arith}
 use Rattle.std.specs.BTreeSet.{BTreeSet}
 use Rattle.std.specs.HashMap.{HashMap}
 use Rattle.std.specs.List.{find, list_any, AllByRecursion}
 use Rattle.pfs_addr.specs.declared.addresses.Addr.{Addr}
 use Rattle.pfs_addr.specs.declared.packets.FlowKey.{FlowKey}
 use Rattle.pfs_conf_rules.specs.Configs.{Conf}
-use Rattle.pfs_store_plain.specs.Counts.{is_of_node, node_scope_of, node_states}
+use Rattle.pfs_store_plain.specs.Counts.{is_of_node, node_states}
 use Rattle.pfs_store_plain.specs.Purging.{node_numbers}
 use Rattle.pfs_store_plain.specs.declared.records.Node.{Node}
 use Rattle.pfs_store_plain.specs.declared.records.NodeScope.{NodeScope}
@@ -50,11 +50,12 @@ noded-dropped : (conf : Conf) (n : ℕ) (t : Tally) (ts : List Tally) (xs : List
     → node_states conf t.node.scope t.node.source xs ≡ 0 → AllByRecursion (HasTally conf ts) xs → AllByRecursion (HasTally conf (filter (other_node n) ts)) xs
 noded-dropped conf n t ts [] r f k z h = tt
 noded-dropped conf n t ts (x ∷ xs) r f k z (h, hs) =
-    let w = none-first (is_of_node conf t.node.scope t.node.source) x xs z in
-    ((λ sc e.
-        let apart : is_tally sc x.source t ≡ false = ap (λ (o : Option NodeScope). is_at o x.source t) (sym e) ∙ sym (of_node conf x t k) ∙ w.0 in
-        any-kept (λ (u : Tally). u.node.number) (is_tally sc x.source) n t ts (rising-tallies ts r) f apart ∙ h sc e),
-    noded-dropped conf n t ts xs r f k w.1 hs)
+    let w = none-first (is_of_node conf t.node.scope t.node.source) x xs z in (
+      (λ sc e.
+          let apart : is_tally sc x.source t ≡ false = ap (λ (o : Option NodeScope). is_at o x.source t) (sym e) ∙ sym (of_node conf x t k) ∙ w.0 in
+          any-kept (λ (u : Tally). u.node.number) (is_tally sc x.source) n t ts (rising-tallies ts r) f apart ∙ h sc e),
+      noded-dropped conf n t ts xs r f k w.1 hs,
+    )
 
 pub tied-dropped : {S : Type 0} (conf : Conf) (rs : List Placed) (keys : HashMap FlowKey Entry S) (counts : List ℕ) (ts : List Tally) (pairs : BTreeSet (Addr × ℕ)) (n : Node)
     → IsTied conf rs keys counts ts pairs → IsRising (node_numbers (nodes_of ts)) → find (λ (m : Node). m.number == n.number) (nodes_of ts) ≡ Some n

@@ -41,8 +41,10 @@ idled-node conf xs p q now n = go (nat_lt 0 (node_states conf n.scope n.source x
   where
     l : node_states conf n.scope n.source (filter p xs) ≤ node_states conf n.scope n.source xs
     l = count_fewer (is_of_node conf n.scope n.source) p xs
+
     m : node_states conf n.scope n.source (filter q (filter p xs)) ≤ node_states conf n.scope n.source (filter p xs)
     m = count_fewer (is_of_node conf n.scope n.source) q (filter p xs)
+
     go : (b : Bool) → (nat_lt 0 (node_states conf n.scope n.source xs) && (node_states conf n.scope n.source (filter p xs) == 0)) ≡ b
         → idled conf (filter p xs) (filter q (filter p xs)) now (idled conf xs (filter p xs) now n) ≡ idled conf xs (filter q (filter p xs)) now n
     go true t = let y = first_yes _ _ _ l m t in rw (t, y.0, y.1) refl

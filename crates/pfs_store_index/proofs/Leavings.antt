@@ -1,12 +1,10 @@
 -- A state leaves: each fact of the indexes and counts, of the states and nodes that are left.
-use Rattle.std.proofs.Common.{◌≡◌, ◌≢◌, ◌∙◌, ◌+◌, ◌-◌, ◌<◌, ◌≤◌, ◌==◌, ◌&&◌, ◌||◌, ℕ, nat_lt, Bool, true, false, cond, not, if◌then◌else◌, Option, Some, None, List, [], ◌∷◌, length, map, filter, option_map, slice_index, slice_set, length-set, refl, ap, sym, subst, arith}
+use Rattle.std.proofs.Common.{◌≡◌, ◌≢◌, ◌∙◌, ◌+◌, ◌-◌, ◌<◌, ◌≤◌, ◌==◌, ◌&&◌, ℕ, nat_lt, Bool, true, false, cond, not, if◌then◌else◌, Option, Some, None, List, [], ◌∷◌, length, map, filter, option_map, slice_index, slice_set, length-set, refl, ap, sym, subst, arith}
 use Rattle.std.specs.List.{find, list_any, AllByRecursion, IsDistinct}
-use Rattle.std.specs.BTreeMap.{is_at as is_found}
 use Rattle.std.proofs.lemmas.Bool.Decides.{nat_tests}
-use Rattle.std.proofs.lemmas.List.{get_or_default, get_or-set_other}
+use Rattle.std.proofs.lemmas.List.{get_or-set_other}
 use Rattle.std.proofs.lemmas.Grind.{get_or-set_at}
-use Rattle.pfs_addr.proofs.SameLaws.{same_addr_true}
-use Rattle.pfs_addr.specs.Sameness.{same_addr, same_key}
+use Rattle.pfs_addr.specs.Sameness.{same_key}
 use Rattle.pfs_addr.specs.declared.addresses.Addr.{Addr}
 use Rattle.pfs_addr.specs.declared.packets.FlowKey.{FlowKey}
 use Rattle.pfs_conf_rules.specs.Configs.{Conf}
@@ -17,14 +15,13 @@ use Rattle.pfs_store_plain.specs.Plain.{AreCounts}
 use Rattle.pfs_store_plain.specs.declared.records.Node.{Node}
 use Rattle.pfs_store_plain.specs.declared.records.NodeScope.{NodeScope}
 use Rattle.pfs_store_plain.specs.declared.records.State.{State}
-use Rattle.pfs_store_records.specs.Records.{Placed, states_of}
-use Rattle.pfs_store_records.specs.Tallies.{is_tally, nodes_of}
+use Rattle.pfs_store_records.specs.Records.{Placed}
+use Rattle.pfs_store_records.specs.Tallies.{nodes_of}
 use Rattle.pfs_store_records.specs.declared.nodes.Tally.{Tally}
 use Rattle.pfs_store_index.specs.declared.indexes.Entry.{Entry}
-use Rattle.pfs_store_index.specs.Ties.{HasRule, HasTally, IsCounted, IsScored, IsScoped, at_node, entry_of, has_key, is_at, is_pair, key_in, left_at, left_of, recounted}
-use Rattle.pfs_store_index.proofs.OneNode.{IsFaithful, and_false, and_left, and_right, of_node, tally-at}
-use Rattle.pfs_store_index.proofs.Removals.{any-kept, any-removed, count-removed, distinct-filter, find-removed}
-use Rattle.pfs_store_index.proofs.Searches.{all-map}
+use Rattle.pfs_store_index.specs.Ties.{HasRule, HasTally, IsCounted, IsScored, IsScoped, entry_of, has_key, is_at, is_pair, key_in, left_at, left_of}
+use Rattle.pfs_store_index.proofs.OneNode.{IsFaithful, and_false, and_right, of_node, tally-at}
+use Rattle.pfs_store_index.proofs.Removals.{any-kept, any-removed, count-removed, find-removed}
 use Rattle.pfs_store_index.proofs.Walks.{IsRisingBy, has_number}
 
 -- the number of a state, and of a record
@@ -60,28 +57,35 @@ left-parted conf s now xs t r f h e = go (is_at (node_scope_of conf s.rule.0) s.
   where
     ys : List State
     ys = filter (other_than s.number) xs
+
     sc : NodeScope
     sc = t.node.scope
+
     a : Addr
     a = t.node.source
+
     c : length (filter (is_of_node conf t.node.scope t.node.source) (filter (other_than s.number) xs)) + cond (is_of_node conf t.node.scope t.node.source s) 1 0
         ≡ length (filter (is_of_node conf t.node.scope t.node.source) xs)
     c = count-removed state_number (is_of_node conf t.node.scope t.node.source) s.number s xs r f
+
     d : length (filter (is_connection conf t.node.scope t.node.source) (filter (other_than s.number) xs)) + cond (is_connection conf t.node.scope t.node.source s) 1 0
         ≡ length (filter (is_connection conf t.node.scope t.node.source) xs)
     d = count-removed state_number (is_connection conf t.node.scope t.node.source) s.number s xs r f
+
     es : t.states ≡ length (filter (is_of_node conf t.node.scope t.node.source) xs)
     es = ap (λ (u : Tally). u.states) e
+
     ec : t.connections ≡ length (filter (is_connection conf t.node.scope t.node.source) xs)
     ec = ap (λ (u : Tally). u.connections) e
+
     go : (b : Bool) → is_at (node_scope_of conf s.rule.0) s.source t ≡ b → left_at conf s now t ≡ parted conf xs (filter (other_than s.number) xs) now t
     go true i =
         let o : is_of_node conf t.node.scope t.node.source s ≡ true = of_node conf s t h ∙ i in
         let c1 : length (filter (is_of_node conf t.node.scope t.node.source) (filter (other_than s.number) xs)) + 1 ≡ length (filter (is_of_node conf t.node.scope t.node.source) xs) =
-            ap (λ (b : Bool). length (filter (is_of_node conf t.node.scope t.node.source) (filter (other_than s.number) xs)) + cond b 1 0) (sym o) ∙ c in
+        ap (λ (b : Bool). length (filter (is_of_node conf t.node.scope t.node.source) (filter (other_than s.number) xs)) + cond b 1 0) (sym o) ∙ c in
         let z : is_connection conf t.node.scope t.node.source s ≡ is_done s.phase = done_first (is_done s.phase) (is_of_node conf t.node.scope t.node.source s) o in
         let d1 : length (filter (is_connection conf t.node.scope t.node.source) (filter (other_than s.number) xs)) + cond (is_done s.phase) 1 0 ≡ length (filter (is_connection conf t.node.scope t.node.source) xs) =
-            ap (λ (b : Bool). length (filter (is_connection conf t.node.scope t.node.source) (filter (other_than s.number) xs)) + cond b 1 0) (sym z) ∙ d in
+        ap (λ (b : Bool). length (filter (is_connection conf t.node.scope t.node.source) (filter (other_than s.number) xs)) + cond b 1 0) (sym z) ∙ d in
         let m : t.states - 1 ≡ length (filter (is_of_node conf t.node.scope t.node.source) (filter (other_than s.number) xs)) = omega (arith, c1, es) in
         let n : t.connections - cond (is_done s.phase) 1 0 ≡ length (filter (is_connection conf t.node.scope t.node.source) (filter (other_than s.number) xs)) = omega (arith, d1, ec) in
         let l = idle_last (length (filter (is_of_node conf t.node.scope t.node.source) xs)) (length (filter (is_of_node conf t.node.scope t.node.source) (filter (other_than s.number) xs))) c1 in
@@ -94,10 +98,10 @@ left-parted conf s now xs t r f h e = go (is_at (node_scope_of conf s.rule.0) s.
     go false i =
         let o : is_of_node conf t.node.scope t.node.source s ≡ false = of_node conf s t h ∙ i in
         let c1 : length (filter (is_of_node conf t.node.scope t.node.source) (filter (other_than s.number) xs)) + 0 ≡ length (filter (is_of_node conf t.node.scope t.node.source) xs) =
-            ap (λ (b : Bool). length (filter (is_of_node conf t.node.scope t.node.source) (filter (other_than s.number) xs)) + cond b 1 0) (sym o) ∙ c in
+        ap (λ (b : Bool). length (filter (is_of_node conf t.node.scope t.node.source) (filter (other_than s.number) xs)) + cond b 1 0) (sym o) ∙ c in
         let z : is_connection conf t.node.scope t.node.source s ≡ false = and_false (is_done s.phase) (is_of_node conf t.node.scope t.node.source s) o in
         let d1 : length (filter (is_connection conf t.node.scope t.node.source) (filter (other_than s.number) xs)) + 0 ≡ length (filter (is_connection conf t.node.scope t.node.source) xs) =
-            ap (λ (b : Bool). length (filter (is_connection conf t.node.scope t.node.source) (filter (other_than s.number) xs)) + cond b 1 0) (sym z) ∙ d in
+        ap (λ (b : Bool). length (filter (is_connection conf t.node.scope t.node.source) (filter (other_than s.number) xs)) + cond b 1 0) (sym z) ∙ d in
         let m : t.states ≡ length (filter (is_of_node conf t.node.scope t.node.source) (filter (other_than s.number) xs)) = omega (arith, c1, es) in
         let n : t.connections ≡ length (filter (is_connection conf t.node.scope t.node.source) (filter (other_than s.number) xs)) = omega (arith, d1, ec) in
         let k : length (filter (is_of_node conf t.node.scope t.node.source) xs) ≡ length (filter (is_of_node conf t.node.scope t.node.source) (filter (other_than s.number) xs)) = omega (arith, c1) in
@@ -139,12 +143,14 @@ counted-left conf s now xs (t ∷ ts) r f (g, gs) (h, hs) =
             go : (b : Bool) → part (if b then record t.node { idle = now } else t.node) ≡ part t.node
             go true = e
             go false = refl
+
     same_source_of : (idled conf xs (filter (other_than s.number) xs) now t.node).source ≡ t.node.source
     same_source_of = go (nat_lt 0 (node_states conf t.node.scope t.node.source xs) && (node_states conf t.node.scope t.node.source (filter (other_than s.number) xs) == 0))
       where
         go : (b : Bool) → (if b then record t.node { idle = now } else t.node).source ≡ t.node.source
         go true = refl
         go false = refl
+
     still : (u : Tally) → u ≡ parted conf xs (filter (other_than s.number) xs) now t → IsCounted conf (filter (other_than s.number) xs) u
     still u e = subst (IsCounted conf (filter (other_than s.number) xs)) (sym e)
         (λ j. record {
@@ -192,8 +198,10 @@ rule-left s xs counts v ri f w e h r l = go (s.rule.0 == r) refl
   where
     c : length (filter (is_of_rule r) (filter (other_than s.number) xs)) + cond (s.rule.0 == r) 1 0 ≡ length (filter (is_of_rule r) xs)
     c = count-removed state_number (is_of_rule r) s.number s xs ri f
+
     l' : r < length counts
     l' = omega (arith, length-set counts s.rule.0 (v - 1))
+
     go : (b : Bool) → (s.rule.0 == r) ≡ b → slice_index (slice_set counts s.rule.0 (v - 1)) r ≡ rule_states r (filter (other_than s.number) xs)
     go true i =
         let q : r ≡ s.rule.0 = grind (arith, nat_tests) in
@@ -227,6 +235,7 @@ pair-left s xs a n g g' r f e e' = rw (e', e) (go (is_pair a n s) refl)
   where
     second : (x : State) → is_pair a n x ≡ true → x.number ≡ n
     second x h = let t = and_right (is_of_source a x) (x.number == n) h in grind (arith, nat_tests)
+
     go : (b : Bool) → is_pair a n s ≡ b → cond (is_pair a n s) false (list_any (is_pair a n) xs) ≡ list_any (is_pair a n) (filter (other_than s.number) xs)
     go true t = rw t (sym (any-removed state_number (is_pair a n) s.number s xs r f (λ x h. second x h ∙ sym (second s t)) t))
     go false t = rw t (sym (any-kept state_number (is_pair a n) s.number s xs r f t))

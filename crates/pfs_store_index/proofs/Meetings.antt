@@ -1,30 +1,26 @@
 -- A packet of a state: each fact of the indexes and counts, of the states and nodes after it.
-use Rattle.std.proofs.Common.{◌≡◌, ◌∙◌, ◌+◌, ◌<◌, ◌≤◌, ◌==◌, ◌&&◌, ◌||◌, ℕ, Bool, true, false, cond, not, if◌then◌else◌, Option, Some, None, List, [], ◌∷◌, length, map, filter, option_map, refl, ap, sym, subst, arith}
-use Rattle.std.specs.List.{find, list_any, AllByRecursion, IsDistinct}
+use Rattle.std.proofs.Common.{◌≡◌, ◌∙◌, ◌+◌, ◌==◌, ◌&&◌, ◌||◌, ℕ, Bool, true, false, cond, if◌then◌else◌, Option, Some, None, List, [], ◌∷◌, length, map, filter, option_map, refl, ap, sym, subst, arith}
+use Rattle.std.specs.List.{find, list_any, AllByRecursion}
 use Rattle.std.proofs.lemmas.Bool.Decides.{nat_tests}
 use Rattle.pfs_addr.specs.Packets.{Header}
-use Rattle.pfs_addr.specs.Sameness.{same_addr, same_key}
 use Rattle.pfs_addr.specs.declared.addresses.Addr.{Addr}
-use Rattle.pfs_addr.specs.declared.flag_sets.Flags.{Flags}
 use Rattle.pfs_addr.specs.declared.packets.FlowKey.{FlowKey}
 use Rattle.pfs_conf_rules.specs.Configs.{Conf, options_of}
 use Rattle.pfs_conf_rules.specs.declared.actions.Rate.{Rate}
 use Rattle.pfs_track.specs.Scores.{score_after}
-use Rattle.pfs_track.specs.StatePhases.{completes, is_done, phase_after}
+use Rattle.pfs_track.specs.StatePhases.{is_done, phase_after}
 use Rattle.pfs_track.specs.declared.scores.Score.{Score}
-use Rattle.pfs_track.specs.declared.state_phases.StatePhase.{StatePhase}
-use Rattle.pfs_store_plain.specs.Counts.{is_connection, is_node, is_of_node, is_of_rule, is_of_source, node_connections, node_scope_of, node_states}
-use Rattle.pfs_store_plain.specs.Touching.{completes_at, goes_forward, node_score, nodes_scored, nodes_touched, renewed, rescored, stepped}
+use Rattle.pfs_store_plain.specs.Counts.{is_connection, is_of_node, node_connections, node_scope_of, node_states}
+use Rattle.pfs_store_plain.specs.Touching.{completes_at, goes_forward, nodes_scored, nodes_touched, renewed, stepped}
 use Rattle.pfs_store_plain.specs.declared.records.Node.{Node}
 use Rattle.pfs_store_plain.specs.declared.records.NodeScope.{NodeScope}
 use Rattle.pfs_store_plain.specs.declared.records.State.{State}
-use Rattle.pfs_store_records.specs.Records.{Placed, placed_at, put, put_state, states_of}
+use Rattle.pfs_store_records.specs.Records.{Placed, placed_at, put, states_of}
 use Rattle.pfs_store_records.specs.Tallies.{is_tally, nodes_of}
 use Rattle.pfs_store_records.specs.declared.nodes.Tally.{Tally}
-use Rattle.pfs_store_index.specs.declared.indexes.Entry.{Entry}
-use Rattle.pfs_store_index.specs.Ties.{HasRule, HasTally, IsCounted, IsScored, IsScoped, at_node, entry_of, has_key, is_at, is_pair, key_in, met_by, scored_by}
+use Rattle.pfs_store_index.specs.Ties.{HasTally, IsCounted, IsScored, IsScoped, at_node, entry_of, has_key, is_at, key_in, met_by}
 use Rattle.pfs_store_index.proofs.Leavings.{record_number, state_number}
-use Rattle.pfs_store_index.proofs.OneNode.{IsFaithful, and_false, of_node, tally-at}
+use Rattle.pfs_store_index.proofs.OneNode.{IsFaithful, of_node, tally-at}
 use Rattle.pfs_store_index.proofs.Walks.{Apart, IsRisingBy, has_number, head-apart, head-is, rest-rising, same_number}
 
 -- ---- what a packet leaves as it was
@@ -96,7 +92,7 @@ put-renewed n p now s st (x ∷ xs) r f e k = go (put-renewed n p now s st xs (r
         let a : Apart record_number n xs = subst (λ m. Apart record_number m xs) (same_number n x.state.number t) (head-apart record_number x xs r) in
         let y : (x.state.number == st.number) ≡ true = ap (λ m. x.state.number == m) k ∙ t in
         let h : put st x ≡ renewed_record n p now x =
-            ap (λ (b : Bool). if b then placed_at x.place st else x) y ∙ ap (placed_at x.place) (e ∙ ap (λ (z : Placed). renewed n p now z.state) (sym q)) in
+        ap (λ (b : Bool). if b then placed_at x.place st else x) y ∙ ap (placed_at x.place) (e ∙ ap (λ (z : Placed). renewed n p now z.state) (sym q)) in
         (λ i. h i ∷ (put-apart n st xs k a ∙ sym (renew-apart n p now xs a)) i)
     go more false t =
         let y : (x.state.number == st.number) ≡ false = ap (λ m. x.state.number == m) k ∙ t in
@@ -109,8 +105,10 @@ key-number k s (x ∷ xs) r h = go (key-number k s xs (rest-rising record_number
   where
     same_self : (m : ℕ) → (m == m) ≡ true
     same_self m = grind (arith, nat_tests)
+
     flip : (a b : ℕ) → (b == a) ≡ false → (a == b) ≡ false
     flip a b e = grind (arith, nat_tests)
+
     later : (ys : List Placed) → Apart record_number x.state.number ys → find (has_key k) ys ≡ Some s → (s.state.number == x.state.number) ≡ false
     later [] a f = absurd cc
     later (y ∷ ys) (a, more) f = on (later ys more) (has_key k y) refl
@@ -118,6 +116,7 @@ key-number k s (x ∷ xs) r h = go (key-number k s xs (rest-rising record_number
         on : (find (has_key k) ys ≡ Some s → (s.state.number == x.state.number) ≡ false) → (b : Bool) → has_key k y ≡ b → (s.state.number == x.state.number) ≡ false
         on m true t = let f' : Some y ≡ Some s = (rw t at f) in let q : y ≡ s = cc in ap (λ (z : Placed). z.state.number == x.state.number) (sym q) ∙ a
         on m false t = m (rw t at f)
+
     go : (find (has_key k) xs ≡ Some s → find (has_number record_number s.state.number) xs ≡ Some s) → (b : Bool) → has_key k x ≡ b
         → find (has_number record_number s.state.number) (x ∷ xs) ≡ Some s
     go more true t =
@@ -140,6 +139,7 @@ key-renewed n p now k (r ∷ rs) = on (r.state.number == n) (key-renewed n p now
         → option_map entry_of (cond b (Some x) (find (has_key k) (map (renewed_record n p now) rs))) ≡ option_map entry_of (cond b (Some r) (find (has_key k) rs))
     go x e true m = ap Some e
     go x e false m = m
+
     on : (c : Bool) → option_map entry_of (find (has_key k) (map (renewed_record n p now) rs)) ≡ option_map entry_of (find (has_key k) rs)
         → option_map entry_of (cond (has_key k (placed_at r.place (if c then stepped p now r.state else r.state))) (Some (placed_at r.place (if c then stepped p now r.state else r.state))) (find (has_key k) (map (renewed_record n p now) rs)))
         ≡ option_map entry_of (cond (has_key k r) (Some r) (find (has_key k) rs))
@@ -161,15 +161,18 @@ count-renewed n p now q s (x ∷ xs) r f = go (count-renewed n p now q s xs (res
     apart : (ys : List State) → Apart state_number n ys → map (renewed n p now) ys ≡ ys
     apart [] a = refl
     apart (y ∷ ys) (a, more) = rw a (ap (λ zs. y ∷ zs) (apart ys more))
+
     add : (u v : Bool) (ys zs : List State) (y z : State) → length ys ≡ length zs → length (cond v (y ∷ ys) ys) + cond u 1 0 ≡ length (cond u (z ∷ zs) zs) + cond v 1 0
     add true true ys zs y z e = omega (arith, e)
     add true false ys zs y z e = omega (arith, e)
     add false true ys zs y z e = omega (arith, e)
     add false false ys zs y z e = omega (arith, e)
+
     same : length (filter q (map (renewed n p now) xs)) + cond (q s) 1 0 ≡ length (filter q xs) + cond (q (stepped p now s)) 1 0 → (b : Bool)
         → length (cond b (x ∷ filter q (map (renewed n p now) xs)) (filter q (map (renewed n p now) xs))) + cond (q s) 1 0 ≡ length (cond b (x ∷ filter q xs) (filter q xs)) + cond (q (stepped p now s)) 1 0
     same m true = omega (arith, m)
     same m false = m
+
     go : (find (has_number state_number n) xs ≡ Some s → length (filter q (map (renewed n p now) xs)) + cond (q s) 1 0 ≡ length (filter q xs) + cond (q (stepped p now s)) 1 0) → (b : Bool) → (x.number == n) ≡ b
         → length (filter q (map (renewed n p now) (x ∷ xs))) + cond (q s) 1 0 ≡ length (filter q (x ∷ xs)) + cond (q (stepped p now s)) 1 0
     go more true t =
@@ -221,19 +224,25 @@ counted-met conf n p now rate s xs t r f k h e = go (is_at (node_scope_of conf s
   where
     c : node_states conf t.node.scope t.node.source (map (renewed n p now) xs) ≡ node_states conf t.node.scope t.node.source xs
     c = count-blind n p now (is_of_node conf t.node.scope t.node.source) xs (blind n p now (is_of_node conf t.node.scope t.node.source) (λ x. refl))
+
     d : node_connections conf t.node.scope t.node.source (map (renewed n p now) xs) + cond (is_done s.phase && is_of_node conf t.node.scope t.node.source s) 1 0
         ≡ node_connections conf t.node.scope t.node.source xs + cond (is_done (phase_after s.phase (goes_forward p s) p.flags) && is_of_node conf t.node.scope t.node.source s) 1 0
     d = count-renewed n p now (is_connection conf t.node.scope t.node.source) s xs r f
+
     es : t.states ≡ node_states conf t.node.scope t.node.source xs
     es = ap (λ (u : Tally). u.states) e
+
     ec : t.connections ≡ node_connections conf t.node.scope t.node.source xs
     ec = ap (λ (u : Tally). u.connections) e
+
     both : (a b : Bool) → b ≡ true → ◌≡◌ {A = ℕ} (cond (a && b) 1 0) (cond a 1 0)
     both true b z = ap (λ (x : Bool). cond {A = ℕ} x 1 0) z
     both false b z = refl
+
     neither : (a b : Bool) → b ≡ false → ◌≡◌ {A = ℕ} (cond (a && b) 1 0) 0
     neither true b z = ap (λ (x : Bool). cond {A = ℕ} x 1 0) z
     neither false b z = refl
+
     go : (b : Bool) → is_at (node_scope_of conf s.rule.0) s.source t ≡ b
         → IsCounted conf (map (renewed n p now) xs) (at_node (node_scope_of conf s.rule.0) s.source (met_by rate now (completes_at p s)) t)
     go true i =
@@ -242,7 +251,7 @@ counted-met conf n p now rate s xs t r f k h e = go (is_at (node_scope_of conf s
         let d2 = both (is_done (phase_after s.phase (goes_forward p s) p.flags)) (is_of_node conf t.node.scope t.node.source s) o in
         let m : t.connections + cond (completes_at p s) 1 0 ≡ node_connections conf t.node.scope t.node.source (map (renewed n p now) xs) = omega (arith, d, d1, d2, ec, k) in
         let w : at_node (node_scope_of conf s.rule.0) s.source (met_by rate now (completes_at p s)) t ≡ met_by rate now (completes_at p s) t =
-            ap (λ (b : Bool). if b then met_by rate now (completes_at p s) t else t) i in
+        ap (λ (b : Bool). if b then met_by rate now (completes_at p s) t else t) i in
         let f1 = met-faithful rate now (completes_at p s) in
         subst (IsCounted conf (map (renewed n p now) xs)) (sym w)
         (recount conf (map (renewed n p now) xs) t (met_by rate now (completes_at p s) t) (f1.scope t) (f1.source t)
@@ -253,7 +262,7 @@ counted-met conf n p now rate s xs t r f k h e = go (is_at (node_scope_of conf s
         let d2 = neither (is_done (phase_after s.phase (goes_forward p s) p.flags)) (is_of_node conf t.node.scope t.node.source s) o in
         let m : t.connections ≡ node_connections conf t.node.scope t.node.source (map (renewed n p now) xs) = omega (arith, d, d1, d2, ec) in
         let w : at_node (node_scope_of conf s.rule.0) s.source (met_by rate now (completes_at p s)) t ≡ t =
-            ap (λ (b : Bool). if b then met_by rate now (completes_at p s) t else t) i in
+        ap (λ (b : Bool). if b then met_by rate now (completes_at p s) t else t) i in
         subst (IsCounted conf (map (renewed n p now) xs)) (sym w)
         (recount conf (map (renewed n p now) xs) t t refl refl (es ∙ sym c) m)
 

@@ -1,5 +1,5 @@
 -- One source node among others: its states by its scope, and the change of its tally alone.
-use Rattle.std.proofs.Common.{◌≡◌, ◌∙◌, ◌<◌, ◌≤◌, ◌==◌, ◌&&◌, ◌||◌, ℕ, Bool, true, false, if◌then◌else◌, Option, Some, None, List, [], ◌∷◌, ◌++◌, map, refl, ap, sym, subst, arith, rules}
+use Rattle.std.proofs.Common.{◌≡◌, ◌∙◌, ◌<◌, ◌≤◌, ◌==◌, ◌&&◌, ℕ, Bool, true, false, if◌then◌else◌, Option, Some, None, List, [], ◌∷◌, map, refl, ap, sym, subst, arith, rules}
 use Rattle.std.specs.List.{find, list_any, AllByRecursion, IsDistinct}
 use Rattle.std.proofs.lemmas.Bool.{false≢true}
 use Rattle.std.proofs.lemmas.Bool.Decides.{nat_tests}
@@ -13,15 +13,15 @@ use Rattle.pfs_conf_rules.specs.Configs.{Conf, scope_of}
 use Rattle.pfs_conf_rules.specs.declared.actions.Scope.{Scope}
 use Rattle.pfs_conf_rules.specs.declared.actions.Scope.TheVariants as scope
 use Rattle.pfs_conf_rules.specs.declared.items.RuleNo.{RuleNo}
-use Rattle.pfs_store_plain.specs.Counts.{is_node, is_of_node, node_scope_by, node_scope_of, same_scope}
+use Rattle.pfs_store_plain.specs.Counts.{is_of_node, node_scope_by, node_scope_of, same_scope}
 use Rattle.pfs_store_plain.specs.declared.records.Node.{Node}
 use Rattle.pfs_store_plain.specs.declared.records.NodeScope.{NodeScope}
 use Rattle.pfs_store_plain.specs.declared.records.NodeScope.TheVariants as node_scope
 use Rattle.pfs_store_plain.specs.declared.records.State.{State}
-use Rattle.pfs_store_records.specs.Tallies.{IsOrderly, IsTallied, has_node_number, is_tally, nodes_of, put_tally, same_node}
+use Rattle.pfs_store_records.specs.Tallies.{IsTallied, has_node_number, is_tally, nodes_of, put_tally, same_node}
 use Rattle.pfs_store_records.specs.declared.nodes.Tally.{Tally}
 use Rattle.pfs_store_index.specs.Ties.{IsScope, IsScoped, at_node, is_at}
-use Rattle.pfs_store_index.proofs.Searches.{any-also, any-map, found-all, found-passes}
+use Rattle.pfs_store_index.proofs.Searches.{any-also, any-map, found-all}
 use Rattle.pfs_store_index.proofs.Walks.{Above, IsRisingBy, head-above, rest-rising}
 
 -- ---- the tests decide
@@ -96,11 +96,13 @@ of_node conf s t h = by t.node.scope refl h
             let z : Some scope.Rule ≡ Some scope.Global = sym k ∙ ap (scope_of conf) (sym q) ∙ f in
             absurd (cc z)
         differs false i = i
+
     shared : t.node.scope ≡ node_scope.Global → (o : Option Scope) → scope_of conf s.rule.0 ≡ o
         → is_of_node conf node_scope.Global t.node.source s ≡ is_at (node_scope_by s.rule.0 o) s.source t
     shared e None f = rw f refl
     shared e (Some scope.Rule) f = rw (f, e) refl
     shared e (Some scope.Global) f = rw (f, e) (same_addr_flip s.source t.node.source)
+
     by : (sc : NodeScope) → t.node.scope ≡ sc → IsScope conf sc → is_of_node conf t.node.scope t.node.source s ≡ is_at (node_scope_of conf s.rule.0) s.source t
     by (node_scope.Rule r) e k = ap (λ (x : NodeScope). is_of_node conf x t.node.source s) e ∙ own r e k (scope_of conf s.rule.0) refl
     by node_scope.Global e k = ap (λ (x : NodeScope). is_of_node conf x t.node.source s) e ∙ shared e (scope_of conf s.rule.0) refl
@@ -157,6 +159,7 @@ put-at sc a v t f (u ∷ ts) r d l n c =
   where
     higher : Above (λ (x : Tally). x.node.number) u.node.number ts
     higher = head-above (λ (x : Tally). x.node.number) u ts r
+
     go : (find (is_tally sc a) ts ≡ Some t → map (put_tally v) ts ≡ map (at_node (Some sc) a f) ts) → (b : Bool) → is_tally sc a u ≡ b
         → map (put_tally v) (u ∷ ts) ≡ map (at_node (Some sc) a f) (u ∷ ts)
     go more true i =
@@ -191,7 +194,7 @@ pub tallied-at : (sc : NodeScope) (a : Addr) (v t : Tally) (ts : List Tally) →
     → v.node.number ≡ t.node.number → IsTallied v ts
 tallied-at sc a v t ts l p q n =
     let h : is_tally v.node.scope v.node.source t ≡ true =
-        subst (λ (z : NodeScope × Addr). is_tally z.0 z.1 t ≡ true) (λ i. (sym p i, sym q i)) (is_tally_self t) in
+    subst (λ (z : NodeScope × Addr). is_tally z.0 z.1 t ≡ true) (λ i. (sym p i, sym q i)) (is_tally_self t) in
     let y : has_node_number v.node.number t ≡ true = ap (λ z. t.node.number == z) n ∙ same_self t.node.number in
     any-also (is_tally sc a) (λ (u : Tally). is_tally v.node.scope v.node.source u && has_node_number v.node.number u) t ts l (and_both _ _ h y)
 
@@ -233,6 +236,7 @@ find-at sc a f k t (u ∷ ts) l = go (find-at sc a f k t ts) (is_tally sc a u) r
   where
     same : (x : Tally) → is_tally sc a (f x) ≡ is_tally sc a x
     same x = (λ i. same_scope (k.scope x i) sc && same_addr (k.source x i) a)
+
     go : (find (is_tally sc a) ts ≡ Some t → find (is_tally sc a) (map (at_node (Some sc) a f) ts) ≡ Some (f t)) → (b : Bool) → is_tally sc a u ≡ b
         → find (is_tally sc a) (map (at_node (Some sc) a f) (u ∷ ts)) ≡ Some (f t)
     go more true i =

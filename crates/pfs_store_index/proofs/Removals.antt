@@ -1,5 +1,5 @@
 -- One element leaves a list in rising numbers: counts, tests and searches of the others.
-use Rattle.std.proofs.Common.{◌≡◌, ◌∙◌, ◌+◌, ◌<◌, ◌≤◌, ◌==◌, ◌&&◌, ◌||◌, ℕ, suc, Bool, true, false, cond, not, Option, Some, None, List, [], ◌∷◌, length, map, filter, option_map, refl, ap, sym, subst, arith}
+use Rattle.std.proofs.Common.{◌≡◌, ◌∙◌, ◌+◌, ◌==◌, ◌||◌, ℕ, Bool, true, false, cond, not, Some, None, List, [], ◌∷◌, length, map, filter, refl, ap, sym, subst, arith}
 use Rattle.std.specs.List.{find, list_any, AllByRecursion, IsDistinct}
 use Rattle.std.proofs.lemmas.Bool.Decides.{nat_tests}
 use Rattle.std.proofs.lemmas.Map.Keys.{IsDistinct-head, IsDistinct-tail, IsDistinct-cons}
@@ -54,6 +54,7 @@ module _ {X : Type 0} (number : X → ℕ) where
           at_head : list_any p ys ≡ false → (b : Bool) → p y ≡ b → list_any p (y ∷ ys) ≡ false
           at_head m true u = let e = one y u in let a' : (number y == n) ≡ true = grind (arith, nat_tests) in absurd (cc (a, a'))
           at_head m false u = rw u m
+
       go : (find (has_number number n) xs ≡ Some s → ((x : X) → p x ≡ true → number x ≡ n) → p s ≡ true → list_any p (filter (other n) xs) ≡ false) → (b : Bool) → (number x == n) ≡ b
           → list_any p (filter (other n) (x ∷ xs)) ≡ false
       go more true t =
@@ -143,6 +144,7 @@ module _ {X : Type 0} (number : X → ℕ) (key : X → FlowKey) where
           → find (has_key k) xs ≡ cond (same_key (key x) k) None (cond (same_key (key x) k) (Some x) (find (has_key k) xs))
       found true u hd = rw u (find-strange k xs (subst (λ (j : FlowKey). AllByRecursion (λ y. same_key j y ≡ false) (map key xs)) (same_key_true (key x) k u) hd))
       found false u hd = rw u refl
+
       go : (find (has_number number n) xs ≡ Some s → find (has_key k) (filter (other number n) xs) ≡ cond (same_key (key s) k) None (find (has_key k) xs))
           → AllByRecursion (λ y. same_key (key x) y ≡ false) (map key xs) → (b : Bool) → (number x == n) ≡ b → (b' : Bool) → same_key (key x) k ≡ b'
           → find (has_key k) (filter (other number n) (x ∷ xs)) ≡ cond (same_key (key s) k) None (find (has_key k) (x ∷ xs))
@@ -179,6 +181,7 @@ module _ {X : Type 0} (number : X → ℕ) (key : X → FlowKey) where
           at_head : AllByRecursion (λ z. same_key (key x) z ≡ false) (map key (filter p ys)) → (b : Bool) → p y ≡ b → AllByRecursion (λ z. same_key (key x) z ≡ false) (map key (filter p (y ∷ ys)))
           at_head m true u = rw u (h, m)
           at_head m false u = rw u m
+
       go : IsDistinct same_key (map key (filter p xs)) → AllByRecursion (λ y. same_key (key x) y ≡ false) (map key xs) → (b : Bool) → p x ≡ b → IsDistinct same_key (map key (filter p (x ∷ xs)))
       go more hd true u = rw u (IsDistinct-cons same_key (key x) (map key (filter p xs)) (still xs hd) more)
       go more hd false u = rw u more

@@ -1,5 +1,5 @@
 -- The record that the index by key leads to, what a packet makes of it, and what is told of its node.
-use Rattle.std.proofs.Common.{◌≡◌, ◌∙◌, ◌+◌, ◌==◌, ◌&&◌, ◌||◌, ℕ, Bool, true, false, cond, if◌then◌else◌, Option, Some, None, is_some, unwrap_or, List, [], ◌∷◌, map, option_map, refl, ap, sym, subst, arith}
+use Rattle.std.proofs.Common.{◌≡◌, ◌∙◌, ◌+◌, ◌==◌, ◌||◌, ℕ, Bool, true, false, cond, if◌then◌else◌, Option, Some, None, is_some, unwrap_or, List, map, option_map, refl, ap, sym, subst, arith}
 use Rattle.std.specs.List.{find, list_any, AllByRecursion}
 use Rattle.std.proofs.lemmas.Bool.Decides.{nat_tests}
 use Rattle.pfs_addr.specs.Packets.{Header}
@@ -15,7 +15,7 @@ use Rattle.pfs_track.specs.declared.state_phases.StatePhase.{StatePhase}
 use Rattle.pfs_track.specs.declared.state_phases.StatePhase.TheVariants.{Tcp, Udp, Other}
 use Rattle.pfs_store_plain.specs.Counts.{is_node, node_connections}
 use Rattle.pfs_store_plain.specs.Purging.{state_numbers}
-use Rattle.pfs_store_plain.specs.Touching.{completes_at, connections_in, goes_forward, node_score, renewed, score_in, stepped}
+use Rattle.pfs_store_plain.specs.Touching.{connections_in, goes_forward, renewed, score_in, stepped}
 use Rattle.pfs_store_plain.specs.declared.records.Node.{Node}
 use Rattle.pfs_store_plain.specs.declared.records.NodeScope.{NodeScope}
 use Rattle.pfs_store_plain.specs.declared.records.State.{State}
@@ -69,7 +69,7 @@ pub number-found : (k : FlowKey) (e : Entry) (s : State) (rs : List Placed) (h :
     → find (has_number state_number s.number) (states_of rs) ≡ Some s
 number-found k e s rs h q r =
     let f : find (has_number record_number s.number) rs ≡ Some h.record_of =
-        subst (λ (x : State). find (has_number record_number x.number) rs ≡ Some h.record_of) q (key-number k h.record_of rs (rising-records rs r) h.found) in
+    subst (λ (x : State). find (has_number record_number x.number) rs ≡ Some h.record_of) q (key-number k h.record_of rs (rising-records rs r) h.found) in
     find-part (λ (p : Placed). p.state) (has_number state_number s.number) rs ∙ ap (option_map (λ (p : Placed). p.state)) f ∙ ap Some q
 
 renewed-self : (p : Header) (now : ℕ) (s : State) → renewed s.number p now s ≡ stepped p now s
@@ -79,7 +79,7 @@ pub written : (k : FlowKey) (e : Entry) (p : Header) (now : ℕ) (s after : Stat
     → after ≡ stepped p now s → map (put after) rs ≡ map (renewed_record s.number p now) rs
 written k e p now s after rs h q r a =
     let f : find (has_number record_number s.number) rs ≡ Some h.record_of =
-        subst (λ (x : State). find (has_number record_number x.number) rs ≡ Some h.record_of) q (key-number k h.record_of rs (rising-records rs r) h.found) in
+    subst (λ (x : State). find (has_number record_number x.number) rs ≡ Some h.record_of) q (key-number k h.record_of rs (rising-records rs r) h.found) in
     put-renewed s.number p now h.record_of after rs (rising-records rs r) f (a ∙ sym (renewed-self p now s) ∙ ap (renewed s.number p now) (sym q)) (ap (λ (x : State). x.number) a)
 
 -- ---- a handshake is counted once

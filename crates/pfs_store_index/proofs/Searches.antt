@@ -1,5 +1,5 @@
 -- What was found by a test, and what a map or one element more changes of a search.
-use Rattle.std.proofs.Common.{◌≡◌, ◌∙◌, ◌+◌, ◌≤◌, ◌||◌, ℕ, suc, Bool, true, false, cond, Option, Some, None, is_some, List, [], ◌∷◌, ◌++◌, length, map, filter, option_map, refl, ap, sym, subst, arith}
+use Rattle.std.proofs.Common.{◌≡◌, ◌∙◌, ◌+◌, ◌≤◌, ◌||◌, suc, Bool, true, false, cond, Some, None, is_some, List, [], ◌∷◌, ◌++◌, length, map, filter, option_map, refl, ap, sym, subst, arith}
 use Rattle.std.specs.List.{find, list_any, AllByRecursion}
 
 module _ {X : Type 0} where
@@ -35,6 +35,7 @@ module _ {X : Type 0} where
       or_true : (b : Bool) → (b || true) ≡ true
       or_true true = refl
       or_true false = refl
+
       go : (find p xs ≡ Some s → list_any q xs ≡ true) → (b : Bool) → p x ≡ b → (q x || list_any q xs) ≡ true
       go more true t =
           let f' : Some x ≡ Some s = (rw t at f) in

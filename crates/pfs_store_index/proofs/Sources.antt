@@ -1,7 +1,7 @@
 -- The pairs of one source in the ordered set, by number, are its states.
-use Rattle.std.proofs.Common.{◌≡◌, ◌∙◌, ◌<◌, ◌≤◌, ◌==◌, ◌&&◌, ◌||◌, ℕ, nat_lt, nat_le, Bool, true, false, cond, Option, Some, None, List, [], ◌∷◌, map, filter, slice_get, refl, ap, sym, subst, arith, rules}
+use Rattle.std.proofs.Common.{◌≡◌, ◌∙◌, ◌<◌, ◌≤◌, ◌==◌, ◌&&◌, ◌||◌, ℕ, Bool, true, false, cond, Some, None, List, [], ◌∷◌, slice_get, refl, ap, sym, subst, arith}
 use Rattle.std.specs.Cmp.{IsTotalOrder}
-use Rattle.std.specs.List.{find, list_any, AllByRecursion}
+use Rattle.std.specs.List.{list_any}
 use Rattle.std.specs.BTreeMap.{is_at as is_found}
 use Rattle.std.specs.Ordering.{is_eq, is_gt, nat_cmp, ordering_reverse, ordering_then}
 use Rattle.std.specs.declared.cmp.Ordering.{Ordering}
@@ -96,6 +96,7 @@ pair_number a b m n h = go (addr_cmp a b) refl
   where
     nat_equal : (x y : ℕ) → nat_cmp x y ≡ Equal → x ≡ y
     nat_equal x y k = grind (arith, nat_tests)
+
     go : (o : Ordering) → addr_cmp a b ≡ o → (a ≡ b) × (m ≡ n)
     go Less e = let z : Less ≡ Equal = ap (λ o. ordering_then o (nat_cmp m n)) (sym e) ∙ h in absurd (cc z)
     go Greater e = let z : Greater ≡ Equal = ap (λ o. ordering_then o (nat_cmp m n)) (sym e) ∙ h in absurd (cc z)
@@ -114,14 +115,18 @@ pair_test s a n = go (is_found (pair_cmp (s.source, s.number)) (a, n)) refl (is_
   where
     same_self : (k : ℕ) → (k == k) ≡ true
     same_self k = grind (arith, nat_tests)
+
     same_number : (k m : ℕ) → (k == m) ≡ true → k ≡ m
     same_number k m h = grind (arith, nat_tests)
+
     nat_itself : (k : ℕ) → nat_cmp k k ≡ Equal
     nat_itself k = grind (arith, nat_tests)
+
     found_self : (b : Addr) (k : ℕ) → is_found (pair_cmp (b, k)) (b, k) ≡ true
     found_self b k =
         let z : pair_cmp (b, k) (b, k) ≡ Equal = ap (λ o. ordering_then o (nat_cmp k k)) (addr_itself b) ∙ nat_itself k in
         ap (λ (o : Ordering). is_found (λ (x : Addr × ℕ). o) (b, k)) z
+
     go : (x : Bool) → is_found (pair_cmp (s.source, s.number)) (a, n) ≡ x → (y : Bool) → is_pair a n s ≡ y → is_found (pair_cmp (s.source, s.number)) (a, n) ≡ is_pair a n s
     go true e true f = e ∙ sym f
     go false e false f = e ∙ sym f
@@ -177,6 +182,7 @@ first-some a above most n (x ∷ xs) r f = go (first-some a above most n xs (res
   where
     self-held : is_of_source a x ≡ true → list_any (is_pair a x.number) (x ∷ xs) ≡ true
     self-held s = ap (λ b. b || list_any (is_pair a x.number) xs) (and_both (is_of_source a x) (x.number == x.number) s (same_self x.number))
+
     go : (IsFirstOf a above most n xs → slice_get (waiting_of a above most xs) 0 ≡ Some n) → (b : Bool) → (is_of_source a x && between above most x.number) ≡ b → slice_get (waiting_of a above most (x ∷ xs)) 0 ≡ Some n
     go more true e =
         let s = and_left (is_of_source a x) (between above most x.number) e in
@@ -201,8 +207,10 @@ first-some a above most n (x ∷ xs) r f = go (first-some a above most n xs (res
         or_true : (b : Bool) → (b || true) ≡ true
         or_true true = refl
         or_true false = refl
+
         later : (k : ℕ) → list_any (is_pair a k) xs ≡ true → list_any (is_pair a k) (x ∷ xs) ≡ true
         later k any = ap (λ b. is_pair a k x || b) any ∙ or_true (is_pair a k x)
+
         apart : (b : Bool) → is_pair a n x ≡ b → is_pair a n x ≡ false
         apart true i =
             let s = and_left (is_of_source a x) (x.number == n) i in
@@ -219,6 +227,7 @@ first-none a above most (x ∷ xs) h = go (first-none a above most xs) (is_of_so
     or_no : (b c : Bool) → (b || c) ≡ false → c ≡ false
     or_no true c e = absurd (cc e)
     or_no false c e = e
+
     go : (((n : ℕ) → above < n → n ≤ most → list_any (is_pair a n) xs ≡ false) → slice_get (waiting_of a above most xs) 0 ≡ None) → (b : Bool) → (is_of_source a x && between above most x.number) ≡ b → slice_get (waiting_of a above most (x ∷ xs)) 0 ≡ None
     go more true e =
         let s = and_left (is_of_source a x) (between above most x.number) e in
@@ -250,7 +259,7 @@ first-of-range a above most xs pairs k r r' paired e h =
       most_it = o.most_it;
       least = λ n any l m.
           let z : is_gt (pair_cmp k (a, n)) ≡ false =
-              subst (λ z. IfSome (slice_get z 0) (λ (q : Addr × ℕ). is_gt (pair_cmp q (a, n)) ≡ false)) e (h.2 (a, n) (in-range a above most n l m) (paired a n ∙ any)) in
+          subst (λ z. IfSome (slice_get z 0) (λ (q : Addr × ℕ). is_gt (pair_cmp q (a, n)) ≡ false)) e (h.2 (a, n) (in-range a above most n l m) (paired a n ∙ any)) in
           nat_not_gt k.1 n (ap (λ o. is_gt (ordering_then o (nat_cmp k.1 n))) (sym (addr_itself a) ∙ ap (λ (b : Addr). addr_cmp b a) (sym o.source)) ∙ z);
     }
 

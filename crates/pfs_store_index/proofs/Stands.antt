@@ -1,7 +1,6 @@
 -- The records of states as the states themselves, by number and by key.
-use Rattle.std.proofs.Common.{◌≡◌, ◌∙◌, ◌<◌, ◌≤◌, ◌==◌, ◌&&◌, ℕ, Bool, true, false, cond, if◌then◌else◌, not, Option, Some, None, is_some, List, [], ◌∷◌, ◌++◌, length, map, filter, option_map, refl, ap, sym, subst, arith}
-use Rattle.std.specs.List.{find, list_any, AllByRecursion}
-use Rattle.std.proofs.lemmas.Bool.Decides.{nat_tests}
+use Rattle.std.proofs.Common.{◌≡◌, ◌∙◌, ◌<◌, ◌≤◌, ◌==◌, ℕ, Bool, true, false, if◌then◌else◌, not, Option, Some, None, List, [], ◌∷◌, length, map, filter, option_map, refl, ap, sym, subst}
+use Rattle.std.specs.List.{find}
 use Rattle.pfs_addr.specs.Sameness.{same_key}
 use Rattle.pfs_addr.specs.declared.packets.FlowKey.{FlowKey}
 use Rattle.std.proofs.Common.{◌⊎◌, inl, inr, IsSome}
@@ -20,9 +19,9 @@ use Rattle.pfs_store_records.specs.Tallies.{nodes_of}
 use Rattle.pfs_store_records.specs.declared.nodes.Tally.{Tally}
 use Rattle.pfs_store_index.specs.declared.indexes.Entry.{Entry}
 use Rattle.pfs_store_index.specs.Ties.{entry_of, has_key}
-use Rattle.pfs_store_index.proofs.Leavings.{record_number, state_number}
-use Rattle.pfs_store_index.proofs.Searches.{find-part, found-any}
-use Rattle.pfs_store_index.proofs.Walks.{IsRisingBy, has_number}
+use Rattle.pfs_store_index.proofs.Leavings.{record_number}
+use Rattle.pfs_store_index.proofs.Searches.{find-part}
+use Rattle.pfs_store_index.proofs.Walks.{IsRisingBy}
 
 pub numbers-records : (rs : List Placed) → map record_number rs ≡ state_numbers (states_of rs)
 numbers-records [] = refl
@@ -102,5 +101,5 @@ rule-known conf rule h = by (cases_lt rule (length conf.items))
     by (inl within) = within
     by (inr past) =
         let z : options_at conf rule ≡ None =
-            ap (λ (i : Option Item). option_and_then (λ (r : Rule). options_in r.action) (option_and_then (λ (i : Item). rule_in_item i.what) i)) (slice_get_past conf.items rule past) in
+        ap (λ (i : Option Item). option_and_then (λ (r : Rule). options_in r.action) (option_and_then (λ (i : Item). rule_in_item i.what) i)) (slice_get_past conf.items rule past) in
         let e : false ≡ true = subst IsSome z h in absurd (cc e)

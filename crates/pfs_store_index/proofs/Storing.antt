@@ -1,6 +1,6 @@
 -- The world of a store after each change of what is held, and what every store keeps.
-use Rattle.std.proofs.Common.{◌≡◌, ◌∙◌, ◌+◌, ◌-◌, ◌<◌, ◌≤◌, ◌==◌, ◌&&◌, ◌||◌, ℕ, nat_lt, Bool, true, false, not, if◌then◌else◌, Option, Some, None, is_some, List, [], ◌∷◌, ◌++◌, length, map, filter, take, drop, slice_get, slice_index, refl, ap, sym, subst, arith}
-use Rattle.std.specs.List.{find, list_any, AllByRecursion}
+use Rattle.std.proofs.Common.{◌≡◌, ◌∙◌, ◌+◌, ◌-◌, ◌<◌, ◌≤◌, ◌==◌, ◌&&◌, ◌||◌, ℕ, nat_lt, Bool, true, false, not, if◌then◌else◌, Option, Some, None, is_some, List, [], ◌∷◌, ◌++◌, length, map, filter, take, drop, slice_get, refl, ap, sym, subst, arith}
+use Rattle.std.specs.List.{AllByRecursion}
 use Rattle.std.proofs.lemmas.Bool.Decides.{nat_tests}
 use Rattle.pfs_addr.specs.Packets.{Header}
 use Rattle.pfs_addr.specs.declared.addresses.Addr.{Addr}
@@ -10,16 +10,16 @@ use Rattle.pfs_conf_rules.specs.declared.items.RuleNo.{RuleNo}
 use Rattle.pfs_track.specs.Lifetimes.{is_expired, scaled_lifetime}
 use Rattle.pfs_track.specs.Scores.{score_after}
 use Rattle.pfs_store_plain.specs.Admission.{new_node, nodes_with}
-use Rattle.pfs_store_plain.specs.Counts.{has_node, is_node, is_of_source, node_scope_of, node_states, rule_states, source_states}
-use Rattle.pfs_store_plain.specs.Leaving.{idled, is_flushed, left, other_than, stays_unflushed, without}
+use Rattle.pfs_store_plain.specs.Counts.{has_node, is_node, is_of_source, node_scope_of, node_states, source_states}
+use Rattle.pfs_store_plain.specs.Leaving.{idled, is_flushed, stays_unflushed, without}
 use Rattle.pfs_store_plain.specs.Plain.{AreCounts}
-use Rattle.pfs_store_plain.specs.Purging.{has_expired, is_among, is_over, node_numbers, node_round, node_share, node_slice, node_stays, round, state_numbers, state_round, state_share, state_slice, stays}
-use Rattle.pfs_store_plain.specs.Touching.{completes_at, nodes_scored, nodes_touched, renewed, rescored, stepped, touched}
-use Rattle.pfs_store_plain.specs.Worlds.{World, holds_number, lists}
+use Rattle.pfs_store_plain.specs.Purging.{has_expired, is_among, node_numbers, node_share, node_slice, node_stays, round, state_numbers, state_share, state_slice, stays}
+use Rattle.pfs_store_plain.specs.Touching.{completes_at, nodes_scored, nodes_touched, renewed, rescored, touched}
+use Rattle.pfs_store_plain.specs.Worlds.{holds_number, lists}
 use Rattle.pfs_store_plain.specs.declared.records.Node.{Node}
 use Rattle.pfs_store_plain.specs.declared.records.NodeScope.{NodeScope}
 use Rattle.pfs_store_plain.specs.declared.records.State.{State}
-use Rattle.pfs_store_records.specs.Records.{IsAbove, IsRising, between}
+use Rattle.pfs_store_records.specs.Records.{IsAbove, between}
 use Rattle.pfs_store_index.specs.Holdings.{Holding}
 use Rattle.pfs_store_index.specs.Rounds.{waiting}
 use Rattle.pfs_store_index.specs.Stored.{IsNumbered, IsStored, is_due, world_of}
@@ -128,9 +128,11 @@ hold-stays p (x ∷ xs) r = (own (p x) refl, later xs (head-apart state_number x
     own : (b : Bool) → p x ≡ b → holds_number (filter p (x ∷ xs)) x.number ≡ p x
     own true e = rw (e, same_self x.number) refl
     own false e = rw e (apart-none p x.number xs (head-apart state_number x xs r))
+
     drop_head : (b : Bool) (k : ℕ) → (k == x.number) ≡ false → holds_number (if b then x ∷ filter p xs else filter p xs) k ≡ holds_number (filter p xs) k
     drop_head true k d = ap (λ b. b || holds_number (filter p xs) k) (flip_no k x.number d)
     drop_head false k d = refl
+
     later : (ys : List State) → Apart state_number x.number ys → AllByRecursion (λ (y : State). holds_number (filter p xs) y.number ≡ p y) ys
         → AllByRecursion (λ (y : State). holds_number (filter p (x ∷ xs)) y.number ≡ p y) ys
     later [] a h = tt
@@ -159,9 +161,9 @@ pub world-without : (p : State → Bool) (now : ℕ) (h h' : Holding) (c m c' m'
 world-without p now h h' c m c' m' made r e f =
     let ns : h'.nodes ≡ map (idled h.config h.states (filter p h.states) now) h.nodes = f ∙ ap (λ xs. map (idled h.config h.states xs now) h.nodes) e in
     let ps : waiting c m (state_numbers h'.states) ≡ filter (holds_number (filter p h.states)) (waiting c m (state_numbers h.states)) =
-        ap (λ xs. waiting c m (state_numbers xs)) e ∙ waiting-without c m p h.states r in
+    ap (λ xs. waiting c m (state_numbers xs)) e ∙ waiting-without c m p h.states r in
     let qs : waiting c' m' (node_numbers h'.nodes) ≡ waiting c' m' (node_numbers h.nodes) =
-        ap (waiting c' m') (ap node_numbers ns ∙ numbers-idled h.config h.states (filter p h.states) now h.nodes) in
+    ap (waiting c' m') (ap node_numbers ns ∙ numbers-idled h.config h.states (filter p h.states) now h.nodes) in
     (λ i. lists (e i) (ns i) (ps i) (qs i) made)
 
 pub stored-without : (p : State → Bool) (now : ℕ) (h h' : Holding) (c m c' m' c2 m2 made places : ℕ) → h'.config ≡ h.config → h'.states ≡ filter p h.states
@@ -185,11 +187,11 @@ pub world-slice : (now share : ℕ) (h h' : Holding) (b k c m c' m' made : ℕ) 
     → waiting c m (state_numbers h'.states) ≡ drop share rs → world_of h' c m c' m' made ≡ state_slice h.config (world_of h b k c' m' made) now
 world-slice now share h h' b k c m c' m' made rs s r e f w =
     let xs : h'.states ≡ filter (stays h.config h.states now (take (state_share h.config) (round (state_numbers h.states) (waiting b k (state_numbers h.states))))) h.states =
-        e ∙ (λ i. filter (stays h.config h.states now (take (s i) (r i))) h.states) in
+    e ∙ (λ i. filter (stays h.config h.states now (take (s i) (r i))) h.states) in
     let ns : h'.nodes ≡ map (idled h.config h.states (filter (stays h.config h.states now (take (state_share h.config) (round (state_numbers h.states) (waiting b k (state_numbers h.states))))) h.states) now) h.nodes =
-        f ∙ ap (λ ys. map (idled h.config h.states ys now) h.nodes) xs in
+    f ∙ ap (λ ys. map (idled h.config h.states ys now) h.nodes) xs in
     let qs : waiting c' m' (node_numbers h'.nodes) ≡ waiting c' m' (node_numbers h.nodes) =
-        ap (waiting c' m') (ap node_numbers f ∙ numbers-idled h.config h.states h'.states now h.nodes) in
+    ap (waiting c' m') (ap node_numbers f ∙ numbers-idled h.config h.states h'.states now h.nodes) in
     (λ i. lists (xs i) (ns i) ((w ∙ (λ j. drop (s j) (r j))) i) (qs i) made)
 
 -- ---- a slice of the nodes
@@ -200,7 +202,7 @@ pub world-node_slice : (now share : ℕ) (h h' : Holding) (c m b k c' m' made : 
     → waiting c' m' (node_numbers h'.nodes) ≡ drop share rs → world_of h' c m c' m' made ≡ node_slice h.config (world_of h c m b k made) now
 world-node_slice now share h h' c m b k c' m' made rs s r e f w =
     let ns : h'.nodes ≡ filter (node_stays h.config h.states now (take (node_share h.config) (round (node_numbers h.nodes) (waiting b k (node_numbers h.nodes))))) h.nodes =
-        f ∙ (λ i. filter (node_stays h.config h.states now (take (s i) (r i))) h.nodes) in
+    f ∙ (λ i. filter (node_stays h.config h.states now (take (s i) (r i))) h.nodes) in
     (λ i. lists (e i) (ns i) (waiting c m (state_numbers (e i))) ((w ∙ (λ j. drop (s j) (r j))) i) made)
 
 pub stored-nodes : (p : Node → Bool) (h h' : Holding) (c m c' m' c2 m2 made places : ℕ) → h'.config ≡ h.config → h'.states ≡ h.states → h'.nodes ≡ filter p h.nodes
@@ -334,6 +336,7 @@ from-source a made xs h = filter-agree (from a made) (is_of_source a) xs (each x
     and_true : (b c : Bool) → c ≡ true → (b && c) ≡ b
     and_true true c e = e
     and_true false c e = refl
+
     each : (ys : List State) → IsNumbered made (state_numbers ys) → AllByRecursion (λ (y : State). from a made y ≡ is_of_source a y) ys
     each [] k = tt
     each (y ∷ ys) (k, ks) = (and_true (is_of_source a y) (between 0 made y.number) (between_all made y.number k.0 k.1), each ys ks)
@@ -357,8 +360,10 @@ flushed-stays a rule made xs h =
   where
     ns : List ℕ
     ns = map (λ (s : State). s.number) (filter (from a made) xs)
+
     among : List State → State → Type 0
     among ys y = from a made y ≡ true → is_among (map (λ (s : State). s.number) (filter (from a made) ys)) y.number ≡ true
+
     later : (y : State) (ys zs : List State) → AllByRecursion (among ys) zs → AllByRecursion (among (y ∷ ys)) zs
     later y ys [] k = tt
     later y ys (z ∷ zs) (k, ks) = ((λ f. go (from a made y) (k f)), later y ys zs ks)
@@ -367,9 +372,11 @@ flushed-stays a rule made xs h =
             → is_among (map (λ (s : State). s.number) (if b then y ∷ filter (from a made) ys else filter (from a made) ys)) z.number ≡ true
         go true e = ap (λ b. (y.number == z.number) || b) e ∙ or_true (y.number == z.number)
         go false e = e
+
     members : (ys : List State) → AllByRecursion (among ys) ys
     members [] = tt
     members (y ∷ ys) = ((λ f. rw (f, same_self y.number) refl), later y ys ys (members ys))
+
     each : (ys : List State) → IsNumbered made (state_numbers ys) → AllByRecursion (among xs) ys
         → AllByRecursion (λ (y : State). stays_by state_number (is_flushed a rule) (map (λ (s : State). s.number) (filter (from a made) xs)) y ≡ stays_unflushed a rule y) ys
     each [] k m = tt
@@ -418,6 +425,7 @@ held-next n (x ∷ xs) l = rw (same x.number) (go (x.number == n) (held-next n x
   where
     same : (k : ℕ) → between (n - 1) n k ≡ (k == n)
     same k = grind (arith, nat_tests)
+
     go : (b : Bool) → is_some (slice_get (waiting (n - 1) n (state_numbers xs)) 0) ≡ holds_number xs n
         → is_some (slice_get (if b then x.number ∷ waiting (n - 1) n (state_numbers xs) else waiting (n - 1) n (state_numbers xs)) 0) ≡ (b || holds_number xs n)
     go true e = refl

@@ -1,32 +1,29 @@
 -- Every index and count stays tied to the records: when a state leaves, when one comes, and when a packet of one comes.
-use Rattle.std.proofs.Common.{◌≡◌, ◌∙◌, ◌+◌, ◌-◌, ◌<◌, ◌≤◌, ◌==◌, ◌&&◌, ℕ, Bool, true, false, cond, not, Option, Some, None, is_some, List, [], ◌∷◌, ◌++◌, length, map, filter, option_map, slice_index, slice_set, length-set, refl, ap, sym, subst, arith}
+use Rattle.std.proofs.Common.{◌≡◌, ◌∙◌, ◌+◌, ◌-◌, ◌<◌, ◌==◌, ℕ, true, false, cond, Option, Some, None, List, [], ◌∷◌, ◌++◌, length, map, filter, option_map, slice_index, slice_set, length-set, refl, ap, sym, subst}
 use Rattle.std.specs.BTreeMap.{is_at as is_found}
 use Rattle.std.specs.BTreeSet as tree
 use Rattle.std.specs.BTreeSet.{BTreeSet}
 use Rattle.std.specs.HashMap as hash
 use Rattle.std.specs.HashMap.{HashMap}
 use Rattle.std.specs.List.{find, list_any, AllByRecursion, IsDistinct}
-use Rattle.std.proofs.lemmas.Bool.Decides.{nat_tests}
 use Rattle.pfs_addr.specs.Packets.{Header}
 use Rattle.pfs_addr.specs.Sameness.{same_key}
 use Rattle.pfs_addr.specs.declared.addresses.Addr.{Addr}
 use Rattle.pfs_addr.specs.declared.packets.FlowKey.{FlowKey}
 use Rattle.pfs_conf_rules.specs.Configs.{Conf, options_of}
-use Rattle.pfs_conf_rules.specs.declared.actions.Rate.{Rate}
 use Rattle.pfs_track.specs.StatePhases.{is_done}
-use Rattle.pfs_store_plain.specs.Counts.{node_scope_of, node_states, rule_states}
+use Rattle.pfs_store_plain.specs.Counts.{node_scope_of, rule_states}
 use Rattle.pfs_store_plain.specs.Leaving.{other_than}
 use Rattle.pfs_store_plain.specs.Plain.{AreCounts}
 use Rattle.pfs_store_plain.specs.Purging.{state_numbers}
-use Rattle.pfs_store_plain.specs.Touching.{completes_at, renewed, stepped}
+use Rattle.pfs_store_plain.specs.Touching.{completes_at, renewed}
 use Rattle.pfs_store_plain.specs.declared.records.NodeScope.{NodeScope}
 use Rattle.pfs_store_plain.specs.declared.records.State.{State}
 use Rattle.pfs_store_records.specs.Records.{IsRising, Placed, leaves_number, placed_at, states_of}
-use Rattle.pfs_store_records.specs.Tallies.{has_node_number, is_tally, other_node}
 use Rattle.pfs_store_records.specs.declared.nodes.Tally.{Tally}
 use Rattle.pfs_store_index.specs.declared.indexes.Entry.{Entry}
-use Rattle.pfs_store_index.specs.Ties.{HasPair, HasRule, HasTally, IsCounted, IsScored, IsScoped, IsTied, SamePairs, at_node, entry_of, has_key, is_pair, joined, key_in, left_at, left_of, met_by, pair_cmp}
-use Rattle.pfs_store_index.proofs.Comings.{counted-came, distinct-came, in_scope-of, key-came, noded-came, pair-came, rule-came, ruled-came, scoped-came, scored-came}
+use Rattle.pfs_store_index.specs.Ties.{HasPair, HasRule, HasTally, IsCounted, IsTied, SamePairs, at_node, entry_of, has_key, is_pair, joined, key_in, left_at, left_of, met_by, pair_cmp}
+use Rattle.pfs_store_index.proofs.Comings.{counted-came, distinct-came, key-came, noded-came, pair-came, rule-came, ruled-came, scoped-came, scored-came}
 use Rattle.pfs_store_index.proofs.Leavings.{counted-left, key-left, left-faithful, noded-left, pair-left, record_number, rule-left, ruled-set, scored-left, state_number}
 use Rattle.pfs_store_index.proofs.Meetings.{CountsDone, all-blind, all-met, any-blind, blind, count-blind, key-renewed, keys-renewed, met-faithful, noded-met, renewed_record, scored-met, states-renewed}
 use Rattle.pfs_store_index.proofs.OneNode.{scoped-at}
@@ -37,7 +34,6 @@ use Rattle.pfs_store_index.proofs.Stands.{record-found, rising-records, states-l
 use Rattle.pfs_store_index.proofs.Walks.{has_number}
 
 module _ {S : Type 0} (conf : Conf) (rs : List Placed) (keys : HashMap FlowKey Entry S) (counts : List ℕ) (ts : List Tally) (pairs : BTreeSet (Addr × ℕ)) where
-
   -- the rule of a state that is held has a count
   pub rule-within : (s : State) → IsTied conf rs keys counts ts pairs → find (has_number state_number s.number) (states_of rs) ≡ Some s → s.rule.0 < length counts
   rule-within s i f = all-found state_number (HasRule (length counts)) s.number s (states_of rs) i.ruled f
@@ -134,4 +130,3 @@ module _ {S : Type 0} (conf : Conf) (rs : List Placed) (keys : HashMap FlowKey E
     noded = i.noded;
     paired = λ a n. hp (a, n) ∙ i.paired a n;
   }
-

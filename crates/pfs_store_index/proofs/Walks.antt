@@ -1,5 +1,5 @@
 -- Lists in rising numbers, of which a walk examines one number after another: what leaves, and what is still to come.
-use Rattle.std.proofs.Common.{◌≡◌, ◌∙◌, ◌+◌, ◌<◌, ◌≤◌, ◌==◌, ◌&&◌, ◌||◌, ℕ, suc, nat_lt, nat_le, Bool, true, false, not, if◌then◌else◌, Option, Some, None, List, [], ◌∷◌, ◌++◌, length, map, filter, take, drop, get_or, slice_get, refl, ap, sym, subst, arith, add-one, length-drop, drop-cons}
+use Rattle.std.proofs.Common.{◌≡◌, ◌∙◌, ◌+◌, ◌<◌, ◌≤◌, ◌==◌, ◌&&◌, ◌||◌, ℕ, suc, Bool, true, false, not, if◌then◌else◌, Some, None, List, [], ◌∷◌, ◌++◌, length, map, filter, take, drop, get_or, slice_get, refl, ap, sym, subst, arith, add-one, length-drop, drop-cons}
 use Rattle.std.specs.List.{find, list_any, AllByRecursion}
 use Rattle.std.specs.List.Sorted.{IsStrictlySortedBy}
 use Rattle.std.specs.Ordering.{nat_cmp}
@@ -220,6 +220,7 @@ module _ {X : Type 0} (number : X → ℕ) (test : X → Bool) where
       at_head : (b : Bool) → (b || list_any (has_number number n) xs) ≡ true
       at_head true = refl
       at_head false = w.held
+
       go : Bool → IsWaiting a m n (x ∷ xs)
       go b = record { held = at_head (number x == n); above = w.above; most = w.most }
 
@@ -284,6 +285,7 @@ module _ {X : Type 0} (number : X → ℕ) (test : X → Bool) where
           → waiting_by n m (if b then x ∷ filter (survives number leaves n) xs else filter (survives number leaves n) xs) ≡ rest
       skipped l e true = rw (and_false (test x) (between n m (number x)) (not_past n m (number x) l)) e
       skipped l e false = e
+
       go : (waiting_by a m xs ≡ n ∷ rest → waiting_by n m (filter (survives number leaves n) xs) ≡ rest) → (b : Bool) → (test x && between a m (number x)) ≡ b
           → waiting_by n m (filter (survives number leaves n) (x ∷ xs)) ≡ rest
       go more true t =

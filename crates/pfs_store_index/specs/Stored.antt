@@ -1,5 +1,5 @@
 -- A store of what is held, and of two rounds of the purge, each of which is two numbers. (own)
-use Rattle.std.specs.Prelude.{ℕ, ◌≡◌, ◌≤◌, ◌&&◌, not, Bool, List, [], length, slice_index}
+use Rattle.std.specs.Prelude.{ℕ, ◌≡◌, ◌≤◌, Bool, List, length, slice_index}
 use Rattle.std.specs.List.{AllByRecursion}
 use Rattle.pfs_conf_rules.specs.Configs.{Conf}
 use Rattle.pfs_track.specs.Lifetimes.{is_expired, scaled_lifetime}

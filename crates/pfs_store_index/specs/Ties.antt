@@ -8,7 +8,7 @@ use Rattle.std.specs.HashMap.{HashMap}
 use Rattle.std.specs.List.{find, list_any, AllByRecursion, IsDistinct}
 use Rattle.std.specs.Ordering.{nat_cmp, ordering_then}
 use Rattle.std.specs.declared.cmp.Ordering.{Ordering}
-use Rattle.pfs_addr.specs.Sameness.{same_addr, same_key}
+use Rattle.pfs_addr.specs.Sameness.{same_key}
 use Rattle.pfs_addr.specs.contracts.addresses.AddrOrd.TheImpl as addr_ord
 use Rattle.pfs_addr.specs.declared.addresses.Addr.{Addr}
 use Rattle.pfs_addr.specs.declared.packets.FlowKey.{FlowKey}
@@ -20,7 +20,6 @@ use Rattle.pfs_track.specs.StatePhases.{is_done}
 use Rattle.pfs_track.specs.declared.scores.Score.{Score}
 use Rattle.pfs_store_plain.specs.Admission.{new_node}
 use Rattle.pfs_store_plain.specs.Counts.{is_of_source, node_connections, node_scope_of, node_states}
-use Rattle.pfs_store_plain.specs.Leaving.{idled}
 use Rattle.pfs_store_plain.specs.Plain.{AreCounts}
 use Rattle.pfs_store_plain.specs.declared.records.Node.{Node}
 use Rattle.pfs_store_plain.specs.declared.records.NodeScope.{NodeScope}

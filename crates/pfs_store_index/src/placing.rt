@@ -9,9 +9,9 @@ ghost use Rattle.pfs_store_records.specs.Tallies.{nodes_of};
 ghost use Rattle.pfs_store_index.specs.Ties.{HasPair, IsFew, SamePairs, joined, pair_cmp};
 
 use crate::tallying::join;
-use pfs_store_records::{Nodes, Records};
 use pfs_addr::{Addr, NoMemory};
 use pfs_store_plain::{NodeScope, State};
+use pfs_store_records::{Nodes, Records};
 use std::collections::BTreeSet;
 use std::hash::BuildHasher;
 

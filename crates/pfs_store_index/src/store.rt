@@ -37,8 +37,8 @@ impl<S: BuildHasher> Model for IndexStore<S> {
     ghost Value = { Plain };
 
     ghost view = { λ s. record {
-        config = s.indexes.config;
-        world = world_of s.indexes s.states_round.cursor s.states_round.mark s.nodes_round.cursor s.nodes_round.mark s.made;
+      config = s.indexes.config;
+      world = world_of s.indexes s.states_round.cursor s.states_round.mark s.nodes_round.cursor s.nodes_round.mark s.made;
     } };
 
     ghost invariant = { λ s.
@@ -106,9 +106,7 @@ impl<S: BuildHasher> Store for IndexStore<S> {
         if number.0 == 0 {
             false
         } else {
-            self.indexes
-                .next_between(number.0 - 1, number.0)
-                .is_some()
+            self.indexes.next_between(number.0 - 1, number.0).is_some()
         }
     }
 

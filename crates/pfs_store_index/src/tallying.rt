@@ -12,10 +12,10 @@ ghost use Rattle.pfs_store_records.specs.Tallies.{is_tally, nodes_of};
 ghost use Rattle.pfs_store_index.specs.Ties.{HasTally, IsFew, IsScored, at_node, connections_at, joined, left_of, met_by, score_at, scored_by};
 
 use crate::indexes::node_scope;
-use pfs_store_records::{Nodes, Tally};
 use pfs_addr::{Addr, NoMemory};
 use pfs_conf_rules::{Config, Rate, RuleNo};
 use pfs_store_plain::{Node, NodeScope, State};
+use pfs_store_records::{Nodes, Tally};
 use pfs_track::Score;
 use std::hash::BuildHasher;
 

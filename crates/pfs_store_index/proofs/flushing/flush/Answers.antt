@@ -1,9 +1,7 @@
-use Rattle.std.proofs.Common.{◌≡◌, ◌∙◌, ◌≤◌, ℕ, List, sym, ap, refl, filter, length, take, drop, map, arith}
+use Rattle.std.proofs.Common.{◌≡◌, ◌∙◌, sym, ap, refl, filter, take, map, arith}
 use Rattle.std.proofs.lemmas.List.{take_all}
-use Rattle.pfs_store_plain.specs.Leaving.{stays_unflushed}
 use Rattle.pfs_store_plain.specs.Counts.{is_of_source}
 use Rattle.pfs_store_plain.specs.Leaving.{idled, is_flushed}
-use Rattle.pfs_store_plain.specs.declared.records.State.{State}
 use Rattle.pfs_store_index.specs.Rounds.{state_survives, waiting_of}
 use Rattle.pfs_store_index.proofs.Idling.{idled-same, step-nodes}
 use Rattle.pfs_store_index.proofs.Leavings.{state_number}
@@ -46,7 +44,7 @@ loop-number-preserved g c =
     let q = waiting-in state_number test c.loop-number.cursor c.args.made n c.loop-number.indexes.states (sym c.in-Some.ensures) in
     let x = at_next c.loop-number.examined n ws (waiting_of c.args.source c.loop-number.cursor c.args.made c.loop-number.indexes.states) i.rest (sym c.in-Some.ensures) in
     let m : c.strike.new.indexes.nodes ≡ map (idled conf c.loop-number.indexes.states c.strike.new.indexes.states c.args.now) c.loop-number.indexes.nodes =
-        c.strike.ensures.nodes ∙ (λ j. map (idled (i.config j) c.loop-number.indexes.states c.strike.new.indexes.states c.args.now) c.loop-number.indexes.nodes) in
+    c.strike.ensures.nodes ∙ (λ j. map (idled (i.config j) c.loop-number.indexes.states c.strike.new.indexes.states c.args.now) c.loop-number.indexes.nodes) in
     record {
       config = c.strike.ensures.config ∙ i.config;
       order = q.most;

@@ -1,11 +1,10 @@
-use Rattle.std.proofs.Common.{◌≡◌, ◌∙◌, ◌≤◌, ℕ, List, Some, None, slice_get, option_map, sym, ap, refl, filter, length, take, drop, min, arith, subst, length-take}
+use Rattle.std.proofs.Common.{◌≡◌, ◌∙◌, ℕ, List, Some, None, slice_get, option_map, sym, ap, refl, filter, length, take, drop, min, arith, length-take}
 use Rattle.std.proofs.lemmas.List.{take_min, drop_min}
 use Rattle.pfs_store_plain.specs.Purging.{is_over, node_numbers, node_stays}
-use Rattle.pfs_store_plain.specs.declared.records.Node.{Node}
 use Rattle.pfs_store_records.specs.declared.nodes.Tally.{Tally}
 use Rattle.pfs_store_index.specs.Rounds.{node_survives, waiting}
 use Rattle.pfs_store_index.proofs.Idling.{node_number}
-use Rattle.pfs_store_index.proofs.Walks.{all-examined, all-fewer, all-in, all-next, at_next, stays-none, stays_by, step-stays}
+use Rattle.pfs_store_index.proofs.Walks.{all-examined, all-in, all-next, at_next, stays-none, step-stays}
 use Rattle.pfs_store_index.proofs.purging.walk_nodes.Goals as goal
 use Rattle.pfs_store_index.proofs.purging.walk_nodes.Goals.{else-loop-examined-test, then-loop-examined-test+in_default}
 
@@ -33,7 +32,7 @@ loop-examined-preserved g c =
     let q = all-in node_number c.loop-examined.cursor c.args.round.mark n c.loop-examined.indexes.nodes first in
     let x = at_next c.loop-examined.examined n ws (waiting c.loop-examined.cursor c.args.round.mark (node_numbers c.loop-examined.indexes.nodes)) i.rest first in
     let e : c.examine_node.new.indexes.nodes ≡ filter (node_survives (is_over conf xs c.args.now) n) c.loop-examined.indexes.nodes =
-        c.examine_node.ensures.nodes ∙ (λ j. filter (node_survives (is_over (i.config j) (i.kept j) c.args.now) n) c.loop-examined.indexes.nodes) in
+    c.examine_node.ensures.nodes ∙ (λ j. filter (node_survives (is_over (i.config j) (i.kept j) c.args.now) n) c.loop-examined.indexes.nodes) in
     record {
       config = c.examine_node.ensures.config ∙ i.config;
       kept = c.examine_node.ensures.states ∙ i.kept;
@@ -51,11 +50,11 @@ returns-clause-examined g c =
     let ws = waiting c.args.round.cursor c.args.round.mark (node_numbers c.args.indexes.now.nodes) in
     let l = length-take c.args.share ws in
     elim c.loop-examined-test.branch [
-      else-loop-examined-test w ↦ omega (arith, l, i.share, i.within, w.loop-examined-test.false)
-    | then-loop-examined-test+in_default w ↦
-        let none : slice_get (waiting c.loop-examined.cursor c.args.round.mark (node_numbers c.loop-examined.indexes.nodes)) 0 ≡ None =
-            sym w.next_node.ensures.number ∙ ap (option_map (λ (t : Tally). t.node.number)) w.in_default.is in
-        omega (arith, l, i.share, i.within, w.loop-examined-test.true, all-examined c.loop-examined.examined ws (waiting c.loop-examined.cursor c.args.round.mark (node_numbers c.loop-examined.indexes.nodes)) i.rest none)
+      | else-loop-examined-test w ↦ omega (arith, l, i.share, i.within, w.loop-examined-test.false)
+      | then-loop-examined-test+in_default w ↦
+          let none : slice_get (waiting c.loop-examined.cursor c.args.round.mark (node_numbers c.loop-examined.indexes.nodes)) 0 ≡ None =
+          sym w.next_node.ensures.number ∙ ap (option_map (λ (t : Tally). t.node.number)) w.in_default.is in
+          omega (arith, l, i.share, i.within, w.loop-examined-test.true, all-examined c.loop-examined.examined ws (waiting c.loop-examined.cursor c.args.round.mark (node_numbers c.loop-examined.indexes.nodes)) i.rest none)
     ]
 
 -- the number of those examined, of the share and of those that wait

@@ -1,6 +1,5 @@
 use Rattle.std.proofs.Common.{◌≡◌, ◌-◌, ◌≤◌, length, filter, take, drop}
 use Rattle.pfs_store_plain.specs.Purging.{is_over, node_numbers}
-use Rattle.pfs_store_plain.specs.declared.records.Node.{Node}
 use Rattle.pfs_store_index.specs.Rounds.{waiting}
 use Rattle.pfs_store_index.proofs.Idling.{node_number}
 use Rattle.pfs_store_index.proofs.Walks.{stays_by}

@@ -1,10 +1,9 @@
 use Rattle.std.specs.List.{AllByRecursion}
 use Rattle.pfs_store_index.specs.Ties.{HasRule}
-use Rattle.std.proofs.Common.{◌≡◌, ◌∙◌, ◌≤◌, ℕ, List, sym, ap, refl, filter, length, take, drop, min, map, arith, subst, length-take}
+use Rattle.std.proofs.Common.{◌≡◌, ◌∙◌, ℕ, List, sym, ap, refl, filter, length, take, drop, min, map, arith, subst, length-take}
 use Rattle.std.proofs.lemmas.List.{take_min, drop_min}
 use Rattle.pfs_store_plain.specs.Leaving.{idled}
-use Rattle.pfs_store_plain.specs.Purging.{state_numbers, stays}
-use Rattle.pfs_store_plain.specs.declared.records.State.{State}
+use Rattle.pfs_store_plain.specs.Purging.{state_numbers}
 use Rattle.pfs_store_index.specs.Rounds.{state_survives, waiting}
 use Rattle.pfs_store_index.specs.Stored.{is_due}
 use Rattle.pfs_store_index.proofs.Idling.{idled-same, step-nodes}
@@ -46,9 +45,9 @@ loop-examined-preserved g c =
     let q = all-in state_number c.loop-examined.cursor c.args.round.mark n c.loop-examined.indexes.states (sym c.in-Some.ensures) in
     let x = at_next c.loop-examined.examined n ws (waiting c.loop-examined.cursor c.args.round.mark (state_numbers c.loop-examined.indexes.states)) i.rest (sym c.in-Some.ensures) in
     let e : c.examine.new.indexes.states ≡ filter (state_survives (is_due conf c.args.counts.now held c.args.now) n) c.loop-examined.indexes.states =
-        c.examine.ensures.states ∙ (λ j. filter (state_survives (is_due (i.config j) c.args.counts.now (i.held j) c.args.now) n) c.loop-examined.indexes.states) in
+    c.examine.ensures.states ∙ (λ j. filter (state_survives (is_due (i.config j) c.args.counts.now (i.held j) c.args.now) n) c.loop-examined.indexes.states) in
     let m : c.examine.new.indexes.nodes ≡ map (idled conf c.loop-examined.indexes.states c.examine.new.indexes.states c.args.now) c.loop-examined.indexes.nodes =
-        c.examine.ensures.nodes ∙ (λ j. map (idled (i.config j) c.loop-examined.indexes.states c.examine.new.indexes.states c.args.now) c.loop-examined.indexes.nodes) in
+    c.examine.ensures.nodes ∙ (λ j. map (idled (i.config j) c.loop-examined.indexes.states c.examine.new.indexes.states c.args.now) c.loop-examined.indexes.nodes) in
     record {
       config = c.examine.ensures.config ∙ i.config;
       held = i.held;
@@ -67,9 +66,9 @@ returns-clause-examined g c =
     let ws = waiting c.args.round.cursor c.args.round.mark (state_numbers c.args.indexes.now.states) in
     let l = length-take c.args.share ws in
     elim c.loop-examined-test.branch [
-      else-loop-examined-test w ↦ omega (arith, l, i.share, i.within, w.loop-examined-test.false)
-    | then-loop-examined-test+in_default w ↦
-        omega (arith, l, i.share, i.within, w.loop-examined-test.true, all-examined c.loop-examined.examined ws (waiting c.loop-examined.cursor c.args.round.mark (state_numbers c.loop-examined.indexes.states)) i.rest (sym w.next_between.ensures ∙ w.in_default.is))
+      | else-loop-examined-test w ↦ omega (arith, l, i.share, i.within, w.loop-examined-test.false)
+      | then-loop-examined-test+in_default w ↦
+          omega (arith, l, i.share, i.within, w.loop-examined-test.true, all-examined c.loop-examined.examined ws (waiting c.loop-examined.cursor c.args.round.mark (state_numbers c.loop-examined.indexes.states)) i.rest (sym w.next_between.ensures ∙ w.in_default.is))
     ]
 
 -- the number of those examined, of the share and of those that wait

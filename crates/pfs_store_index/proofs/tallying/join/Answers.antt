@@ -1,5 +1,5 @@
 use Rattle.std.proofs.Common.{◌∙◌, ap, sym, refl, arith, map, is_some, if◌then◌else◌, ◌++◌, ◌∷◌, []}
-use Rattle.std.proofs.Common.{Bool, Option}
+use Rattle.std.proofs.Common.{Option}
 use Rattle.pfs_store_records.specs.declared.nodes.Tally.{Tally}
 use Rattle.pfs_store_index.specs.Ties.{IsFew, at_node, joined, joined_of, new_tally}
 use Rattle.pfs_store_plain.specs.declared.records.NodeScope.{NodeScope}
@@ -8,7 +8,7 @@ use Rattle.pfs_store_index.proofs.OneNode.{put-at, tallied-at}
 use Rattle.pfs_store_index.proofs.Searches.{found-all}
 use Rattle.pfs_store_index.proofs.Stands.{rising-tallies}
 use Rattle.pfs_store_index.proofs.tallying.join.Goals as goal
-use Rattle.std.proofs.Common.{Some, None}
+use Rattle.std.proofs.Common.{Some}
 
 pub overflow_add-tally : goal.overflow_add-tally
 overflow_add-tally g c =

@@ -1,4 +1,4 @@
-use Rattle.std.proofs.Common.{◌∙◌, Option, ap, map, sym}
+use Rattle.std.proofs.Common.{◌∙◌, Option, ap, map}
 use Rattle.pfs_conf_rules.specs.Configs.{options_of}
 use Rattle.pfs_store_plain.specs.declared.records.NodeScope.{NodeScope}
 use Rattle.pfs_store_index.specs.Ties.{at_node, met_by}

@@ -1,9 +1,8 @@
-use Rattle.std.proofs.Common.{◌≡◌, ◌∙◌, ◌≤◌, Some, map, ap, refl, sym, subst}
+use Rattle.std.proofs.Common.{◌∙◌, Some, ap, sym}
 use Rattle.std.specs.List.{find}
-use Rattle.pfs_store_records.specs.Tallies.{is_tally, nodes_of}
+use Rattle.pfs_store_records.specs.Tallies.{is_tally}
 use Rattle.pfs_store_records.specs.declared.nodes.Tally.{Tally}
-use Rattle.pfs_store_plain.specs.declared.records.Node.{Node}
-use Rattle.pfs_store_index.specs.Ties.{IsFew, IsScored, at_node, met_by}
+use Rattle.pfs_store_index.specs.Ties.{IsFew, IsScored, met_by}
 use Rattle.pfs_store_index.proofs.Meetings.{met-faithful}
 use Rattle.pfs_store_index.proofs.OneNode.{find-at, put-at, scored-found, tallied-at}
 use Rattle.pfs_store_index.proofs.Searches.{found-all, none-any}

@@ -1,7 +1,6 @@
 use Rattle.std.proofs.Common.{◌≡◌, ◌∙◌, ◌<◌, ◌≤◌, Option, None, Some, cond, length, ap, refl, subst, sym, arith, rules}
-use Rattle.std.specs.List.{find, AllByRecursion}
+use Rattle.std.specs.List.{find}
 use Rattle.std.proofs.lemmas.List.{get_or_read}
-use Rattle.std.specs.HashMap as hash
 use Rattle.pfs_addr.specs.Sameness.{same_key}
 use Rattle.pfs_store_plain.specs.Admission.{nodes_with}
 use Rattle.pfs_store_plain.specs.Counts.{is_of_rule, node_scope_of}
@@ -10,9 +9,8 @@ use Rattle.pfs_store_plain.specs.declared.records.NodeScope.{NodeScope}
 use Rattle.pfs_store_plain.specs.declared.records.State.{State}
 use Rattle.pfs_store_records.specs.Records.{IsAbove, states_of}
 use Rattle.pfs_store_records.specs.Tallies.{nodes_of}
-use Rattle.pfs_store_records.specs.declared.nodes.Tally.{Tally}
 use Rattle.pfs_store_index.specs.Holdings.{Holding}
-use Rattle.pfs_store_index.specs.Ties.{IsCounted, IsFew, has_key}
+use Rattle.pfs_store_index.specs.Ties.{IsCounted, IsFew}
 use Rattle.pfs_store_index.proofs.Comings.{few-counted, nodes-came, pair-fresh}
 use Rattle.pfs_store_index.proofs.Searches.{all-weaker, count-le}
 use Rattle.pfs_store_index.proofs.Stands.{none-found, rule-known}
@@ -49,13 +47,13 @@ invariant_of-self-in_err-spot g c =
 pub index_mut-requires : goal.index_mut-requires
 index_mut-requires g c =
     let w : c.args.state.rule.0 < length c.self.inside.counts.items =
-        omega (arith, c.self.invariant.size, ap (λ (h : Holding). length h.config.items) c.self.view_is, rule-known c.args.self.now.config c.args.state.rule.0 c.requires.rule) in
+    omega (arith, c.self.invariant.size, ap (λ (h : Holding). length h.config.items) c.self.view_is, rule-known c.args.self.now.config c.args.state.rule.0 c.requires.rule) in
     search rules
 
 pub overflow_add-index_mut : goal.overflow_add-index_mut
 overflow_add-index_mut g c =
     let w : c.args.state.rule.0 < length c.self.inside.counts.items =
-        omega (arith, c.self.invariant.size, ap (λ (h : Holding). length h.config.items) c.self.view_is, rule-known c.args.self.now.config c.args.state.rule.0 c.requires.rule) in
+    omega (arith, c.self.invariant.size, ap (λ (h : Holding). length h.config.items) c.self.view_is, rule-known c.args.self.now.config c.args.state.rule.0 c.requires.rule) in
     let v = get_or_read c.self.inside.counts.items _ _ w c.index_mut.ensures.value 0 in
     omega (arith, v, c.self.invariant.by_rule c.args.state.rule.0 w, count-le (is_of_rule c.args.state.rule.0) (states_of c.self.inside.records), ap (λ (h : Holding). length h.states) c.self.view_is, c.requires.few)
 
@@ -63,7 +61,7 @@ pub invariant_of-self-2 : goal.invariant_of-self-2
 invariant_of-self-2 g c =
     let s = c.args.state in
     let w : c.args.state.rule.0 < length c.self.inside.counts.items =
-        omega (arith, c.self.invariant.size, ap (λ (h : Holding). length h.config.items) c.self.view_is, rule-known c.args.self.now.config c.args.state.rule.0 c.requires.rule) in
+    omega (arith, c.self.invariant.size, ap (λ (h : Holding). length h.config.items) c.self.view_is, rule-known c.args.self.now.config c.args.state.rule.0 c.requires.rule) in
     let f : find (λ (x : State). same_key x.key c.args.state.key) (states_of c.self.inside.records) ≡ None = ap (λ (h : Holding). find (λ (x : State). same_key x.key c.args.state.key) h.states) c.self.view_is ∙ c.requires.fresh in
     rw (c.in_ok-spot.ensures.records, c.in_ok-spot.ensures.nodes)
     (tied-came c.self.inside.config c.self.inside.records c.self.inside.keys c.self.inside.counts.items c.self.inside.nodes c.self.inside.pairs c.insert.new.self c.place.new.pairs

@@ -1,17 +1,15 @@
-use Rattle.std.proofs.Common.{◌≡◌, ◌∙◌, ◌≤◌, Option, Some, None, is_some, List, [], length, map, ap, refl, subst, sym, arith}
+use Rattle.std.proofs.Common.{◌≡◌, ◌∙◌, ◌≤◌, is_some, [], length, map, ap, subst, sym, arith}
 use Rattle.std.specs.HashMap as hash
-use Rattle.std.specs.List.{find, list_any, AllByRecursion}
+use Rattle.std.specs.List.{find, list_any}
 use Rattle.pfs_addr.specs.Keys.{key_of}
 use Rattle.pfs_addr.specs.Sameness.{same_key}
 use Rattle.pfs_conf_rules.specs.Configs.{Conf, options_of}
 use Rattle.pfs_store_plain.specs.Counts.{node_scope_of}
 use Rattle.pfs_store_plain.specs.Touching.{completes_at, connections_in, nodes_touched, renewed, score_in}
 use Rattle.pfs_store_plain.specs.Worlds.{IsUpToNow, lists}
-use Rattle.pfs_store_plain.specs.declared.records.Node.{Node}
 use Rattle.pfs_store_plain.specs.declared.records.State.{State}
-use Rattle.pfs_store_records.specs.Records.{Placed, states_of}
+use Rattle.pfs_store_records.specs.Records.{states_of}
 use Rattle.pfs_store_records.specs.Tallies.{is_tally, nodes_of}
-use Rattle.pfs_store_records.specs.declared.nodes.Tally.{Tally}
 use Rattle.pfs_store_index.specs.Holdings.{Holding}
 use Rattle.pfs_store_index.specs.Ties.{HasTally, IsCounted, IsFew, at_node, met_by}
 use Rattle.pfs_store_index.proofs.Comings.{few-counted}
@@ -67,9 +65,9 @@ invariant_of-self g c =
     let q = read-is k c.in-Some.entry.now c.read_at-state.result rs h c.read_at-state.ensures.value in
     let f = number-found k c.in-Some.entry.now s rs h q c.len-count.ensures.rising in
     let w : c.write_at.new.self ≡ map (renewed_record s.number c.args.packet.now c.args.now) c.self.inside.records =
-        c.write_at.ensures.records ∙ written k c.in-Some.entry.now c.args.packet.now c.args.now s _ rs h q c.len-count.ensures.rising c.stepped-completed.ensures.state in
+    c.write_at.ensures.records ∙ written k c.in-Some.entry.now c.args.packet.now c.args.now s _ rs h q c.len-count.ensures.rising c.stepped-completed.ensures.state in
     let m : c.meet-met.new.nodes ≡ map (at_node (node_scope_of c.self.inside.config s.rule.0) s.source (met_by (options_of c.self.inside.config s.rule.0).max_src_conn_rate c.args.now (completes_at c.args.packet.now s))) c.self.inside.nodes =
-        c.meet-met.ensures.nodes ∙ ap (λ b. map (at_node (node_scope_of c.self.inside.config s.rule.0) s.source (met_by (options_of c.self.inside.config s.rule.0).max_src_conn_rate c.args.now b)) c.self.inside.nodes) c.stepped-completed.ensures.completes in
+    c.meet-met.ensures.nodes ∙ ap (λ b. map (at_node (node_scope_of c.self.inside.config s.rule.0) s.source (met_by (options_of c.self.inside.config s.rule.0).max_src_conn_rate c.args.now b)) c.self.inside.nodes) c.stepped-completed.ensures.completes in
     rw (w, m)
     (tied-met c.self.inside.config rs c.self.inside.keys c.self.inside.counts.items c.self.inside.nodes c.self.inside.pairs s.number c.args.packet.now c.args.now s c.self.invariant c.len-count.ensures.rising f (counts-done s c.args.packet.now))
 
@@ -89,14 +87,14 @@ returns-clause-states g c =
     let h = entry-record k c.in-Some.entry.now c.self.inside.records (c.in-Some.ensures.value ∙ ap (hash.get same_key c.self.inside.keys) c.of.ensures ∙ c.self.invariant.by_key k) in
     let q = read-is k c.in-Some.entry.now c.read_at-state.result rs h c.read_at-state.ensures.value in
     let w : c.write_at.new.self ≡ map (renewed_record s.number c.args.packet.now c.args.now) c.self.inside.records =
-        c.write_at.ensures.records ∙ written k c.in-Some.entry.now c.args.packet.now c.args.now s _ rs h q c.len-count.ensures.rising c.stepped-completed.ensures.state in
+    c.write_at.ensures.records ∙ written k c.in-Some.entry.now c.args.packet.now c.args.now s _ rs h q c.len-count.ensures.rising c.stepped-completed.ensures.state in
     ap states_of w ∙ states-renewed s.number c.args.packet.now c.args.now rs ∙ ap (λ (x : Holding). map (renewed s.number c.args.packet.now c.args.now) x.states) c.self.view_is
 
 pub returns-clause-nodes : goal.returns-clause-nodes
 returns-clause-nodes g c =
     let s = c.read_at-state.result in
     let m : c.meet-met.new.nodes ≡ map (at_node (node_scope_of c.self.inside.config s.rule.0) s.source (met_by (options_of c.self.inside.config s.rule.0).max_src_conn_rate c.args.now (completes_at c.args.packet.now s))) c.self.inside.nodes =
-        c.meet-met.ensures.nodes ∙ ap (λ b. map (at_node (node_scope_of c.self.inside.config s.rule.0) s.source (met_by (options_of c.self.inside.config s.rule.0).max_src_conn_rate c.args.now b)) c.self.inside.nodes) c.stepped-completed.ensures.completes in
+    c.meet-met.ensures.nodes ∙ ap (λ b. map (at_node (node_scope_of c.self.inside.config s.rule.0) s.source (met_by (options_of c.self.inside.config s.rule.0).max_src_conn_rate c.args.now b)) c.self.inside.nodes) c.stepped-completed.ensures.completes in
     ap nodes_of m ∙ nodes-met c.self.inside.config s c.args.now (completes_at c.args.packet.now s) c.self.inside.nodes
     ∙ ap (λ (x : Holding). nodes_touched x.config x.nodes s c.args.now (completes_at c.args.packet.now s)) c.self.view_is
 
@@ -108,7 +106,7 @@ returns-clause-told g c =
     let rate = (options_of conf s.rule.0).max_src_conn_rate in
     let sc = node_scope_of conf s.rule.0 in
     let m : c.meet-met.new.nodes ≡ map (at_node (node_scope_of c.self.inside.config s.rule.0) s.source (met_by (options_of c.self.inside.config s.rule.0).max_src_conn_rate c.args.now (completes_at c.args.packet.now s))) c.self.inside.nodes =
-        c.meet-met.ensures.nodes ∙ ap (λ b. map (at_node (node_scope_of c.self.inside.config s.rule.0) s.source (met_by (options_of c.self.inside.config s.rule.0).max_src_conn_rate c.args.now b)) c.self.inside.nodes) c.stepped-completed.ensures.completes in
+    c.meet-met.ensures.nodes ∙ ap (λ b. map (at_node (node_scope_of c.self.inside.config s.rule.0) s.source (met_by (options_of c.self.inside.config s.rule.0).max_src_conn_rate c.args.now b)) c.self.inside.nodes) c.stepped-completed.ensures.completes in
     let tied = invariant_of-self g c in
     let k = key_of c.args.packet.now in
     let rs = c.self.inside.records in
@@ -116,15 +114,15 @@ returns-clause-told g c =
     let q = read-is k c.in-Some.entry.now s rs h c.read_at-state.ensures.value in
     let f = number-found k c.in-Some.entry.now s rs h q c.len-count.ensures.rising in
     let has : HasTally c.self.inside.config c.self.inside.nodes s =
-        all-found state_number (HasTally c.self.inside.config c.self.inside.nodes) s.number s (states_of rs) c.self.invariant.noded f in
+    all-found state_number (HasTally c.self.inside.config c.self.inside.nodes) s.number s (states_of rs) c.self.invariant.noded f in
     let n = c.meet-met.ensures.connections
-        ∙ told-connections conf sc s.source (states_of c.write_at.new.self) c.meet-met.new.nodes tied.counted
-        (λ own e. ap (list_any (is_tally own s.source)) m ∙ tally-at own s.source sc s.source (met_by rate c.args.now done) (met-faithful rate c.args.now done) c.self.inside.nodes ∙ has own e)
-        ∙ ap (λ xs. connections_in conf s.source xs sc) (returns-clause-states g c)
-        ∙ ap (λ (x : Conf). connections_in x s.source (map (renewed s.number c.args.packet.now c.args.now) c.args.self.now.states) (node_scope_of x s.rule.0)) (ap (λ (x : Holding). x.config) c.self.view_is) in
+    ∙ told-connections conf sc s.source (states_of c.write_at.new.self) c.meet-met.new.nodes tied.counted
+    (λ own e. ap (list_any (is_tally own s.source)) m ∙ tally-at own s.source sc s.source (met_by rate c.args.now done) (met-faithful rate c.args.now done) c.self.inside.nodes ∙ has own e)
+    ∙ ap (λ xs. connections_in conf s.source xs sc) (returns-clause-states g c)
+    ∙ ap (λ (x : Conf). connections_in x s.source (map (renewed s.number c.args.packet.now c.args.now) c.args.self.now.states) (node_scope_of x s.rule.0)) (ap (λ (x : Holding). x.config) c.self.view_is) in
     let z = c.meet-met.ensures.score ∙ told-score sc s.source c.meet-met.new.nodes
-        ∙ ap (λ ns. score_in s.source ns sc) (returns-clause-nodes g c)
-        ∙ ap (λ (x : Conf). score_in s.source (nodes_touched c.args.self.now.config c.args.self.now.nodes s c.args.now (completes_at c.args.packet.now s)) (node_scope_of x s.rule.0)) (ap (λ (x : Holding). x.config) c.self.view_is) in
+    ∙ ap (λ ns. score_in s.source ns sc) (returns-clause-nodes g c)
+    ∙ ap (λ (x : Conf). score_in s.source (nodes_touched c.args.self.now.config c.args.self.now.nodes s c.args.now (completes_at c.args.packet.now s)) (node_scope_of x s.rule.0)) (ap (λ (x : Holding). x.config) c.self.view_is) in
     (λ j. record { rule = s.rule; source = s.source; completed = c.stepped-completed.ensures.completes j; connections = n j; score = z j })
 
 pub unreachable-requires : goal.unreachable-requires

@@ -1,12 +1,11 @@
-use Rattle.std.proofs.Common.{◌≡◌, ◌∙◌, ◌<◌, Option, Some, length, filter, map, ap, sym, rules}
+use Rattle.std.proofs.Common.{◌≡◌, ◌∙◌, ◌<◌, Option, Some, length, map, ap, sym, rules}
 use Rattle.std.specs.List.{find}
 use Rattle.std.proofs.lemmas.List.{get_or_read}
-use Rattle.pfs_store_plain.specs.Counts.{node_scope_of}
 use Rattle.pfs_store_plain.specs.declared.records.NodeScope.{NodeScope}
 use Rattle.pfs_store_records.specs.Records.{states_of}
 use Rattle.pfs_store_records.specs.Tallies.{nodes_of}
 use Rattle.pfs_store_index.specs.Holdings.{Holding}
-use Rattle.pfs_store_index.specs.Ties.{HasRule, at_node, left_at, left_of}
+use Rattle.pfs_store_index.specs.Ties.{at_node, left_at, left_of}
 use Rattle.pfs_store_index.proofs.Leavings.{nodes-left, rule-held, state_number}
 use Rattle.pfs_store_index.proofs.Removals.{find-in}
 use Rattle.pfs_store_index.proofs.Tying.{rule-within, tied-left}
@@ -36,7 +35,7 @@ invariant_of-self g c =
     let f : find (has_number state_number c.args.state.number) (states_of c.self.inside.records) ≡ Some c.args.state = ap (λ (h : Holding). find (has_number state_number c.args.state.number) h.states) c.self.view_is ∙ c.requires in
     let w : c.args.state.rule.0 < length c.self.inside.counts.items = rule-within c.self.inside.config c.self.inside.records c.self.inside.keys c.self.inside.counts.items c.self.inside.nodes c.self.inside.pairs c.args.state c.self.invariant f in
     let at : c.leave.new.nodes ≡ map (left_at c.self.inside.config s c.args.now) c.self.inside.nodes =
-        c.leave.ensures ∙ ap (λ (o : Option NodeScope). map (at_node o s.source (left_of s c.args.now)) c.self.inside.nodes) c.node_scope-scope.ensures in
+    c.leave.ensures ∙ ap (λ (o : Option NodeScope). map (at_node o s.source (left_of s c.args.now)) c.self.inside.nodes) c.node_scope-scope.ensures in
     rw (c.remove-3.ensures.records, at)
     (tied-left c.self.inside.config c.self.inside.records c.self.inside.keys c.self.inside.counts.items c.self.inside.nodes c.self.inside.pairs c.remove.new.self c.remove-2.new.self s c.args.now _
     c.self.invariant c.len-count.ensures.rising f (get_or_read c.self.inside.counts.items _ _ w c.index_mut.ensures.value 0) c.remove.ensures.updates.0 c.remove-2.ensures.updates.0)
@@ -46,5 +45,5 @@ returns-clause-nodes g c =
     let s = c.args.state in
     let f : find (has_number state_number c.args.state.number) (states_of c.self.inside.records) ≡ Some c.args.state = ap (λ (h : Holding). find (has_number state_number c.args.state.number) h.states) c.self.view_is ∙ c.requires in
     let at : c.leave.new.nodes ≡ map (left_at c.self.inside.config s c.args.now) c.self.inside.nodes =
-        c.leave.ensures ∙ ap (λ (o : Option NodeScope). map (at_node o s.source (left_of s c.args.now)) c.self.inside.nodes) c.node_scope-scope.ensures in
+    c.leave.ensures ∙ ap (λ (o : Option NodeScope). map (at_node o s.source (left_of s c.args.now)) c.self.inside.nodes) c.node_scope-scope.ensures in
     rw (sym c.self.view_is) (ap nodes_of at ∙ nodes-left c.self.inside.config s c.args.now (states_of c.self.inside.records) c.self.inside.nodes c.len-count.ensures.rising f c.self.invariant.scoped c.self.invariant.counted)

@@ -25,9 +25,9 @@ returns-clause-answer g c =
     let h = c.self.inside.indexes in
     let s : c.share_of-share.result ≡ node_share c.self.inside.indexes.config = search rules in
     let w = world-node_slice c.args.now c.share_of-share.result h c.walk_nodes-steps.new.indexes c.self.inside.states_round.cursor c.self.inside.states_round.mark
-        c.self.inside.nodes_round.cursor c.self.inside.nodes_round.mark c.walk_nodes-steps.result.cursor c.node_round-round.result.mark c.self.inside.made
-        (waiting c.node_round-round.result.cursor c.node_round-round.result.mark (node_numbers h.nodes)) s c.node_round-round.ensures.waiting
-        c.walk_nodes-steps.ensures.states c.walk_nodes-steps.ensures.nodes c.walk_nodes-steps.ensures.waiting in
+    c.self.inside.nodes_round.cursor c.self.inside.nodes_round.mark c.walk_nodes-steps.result.cursor c.node_round-round.result.mark c.self.inside.made
+    (waiting c.node_round-round.result.cursor c.node_round-round.result.mark (node_numbers h.nodes)) s c.node_round-round.ensures.waiting
+    c.walk_nodes-steps.ensures.states c.walk_nodes-steps.ensures.nodes c.walk_nodes-steps.ensures.waiting in
     let e = c.walk_nodes-steps.ensures.examined ∙ (λ j. length (take (s j) (c.node_round-round.ensures.waiting j))) in
     let r = c.walk_nodes-steps.ensures.removed ∙ ap (λ (v : World). length h.nodes - length v.nodes) w in
     (λ j. record { examined = e j; removed = r j }) ∙ ap (λ (p : Plain). node_slice_of p.config p.world c.args.now) c.self.view_is

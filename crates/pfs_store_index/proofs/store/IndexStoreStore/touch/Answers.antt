@@ -1,9 +1,9 @@
-use Rattle.std.proofs.Common.{◌≡◌, ◌∙◌, Bool, true, Option, Some, None, ap, is_some, option_map, refl, sym, arith}
+use Rattle.std.proofs.Common.{◌≡◌, ◌∙◌, true, Option, Some, None, ap, is_some, option_map, refl, sym, arith}
 use Rattle.std.specs.List.{find}
 use Rattle.pfs_addr.specs.Keys.{key_of}
 use Rattle.pfs_addr.specs.Sameness.{same_key}
 use Rattle.pfs_store_plain.specs.Plain.{Plain}
-use Rattle.pfs_store_plain.specs.Touching.{touch_of, touched, world_touched}
+use Rattle.pfs_store_plain.specs.Touching.{touch_of, world_touched}
 use Rattle.pfs_store_plain.specs.Worlds.{number_of, state_with}
 use Rattle.pfs_store_plain.specs.declared.records.State.{State}
 use Rattle.pfs_store_plain.specs.declared.records.StateNo.{StateNo}
