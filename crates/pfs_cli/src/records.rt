@@ -16,11 +16,10 @@ ghost use Rattle.pfs_cli.specs.Traces.{events_of, events_from, records_of, recor
 use crate::events::{has_columns, read_event};
 use crate::faults::TraceFault;
 use crate::lines::{EndLine, Line};
-use crate::machine::take;
+use crate::machine::{TraceEngine, take};
 use csv::{ByteRecord, Reader, ReaderBuilder};
 use pfs_cli_streams::{Sink, write_whole};
-use pfs_engine::{Engine, Event};
-use pfs_store::PlainStore;
+use pfs_engine::Event;
 use std::alloc::Global;
 use std::io::{Read, Write};
 
@@ -64,7 +63,7 @@ fn write_row<W: Write>(row: Line, line: &mut String, out: &mut Sink<W>) -> Resul
 }
 
 // The last line, with what is held.
-fn end_line(rows: u64, engine: &Engine<PlainStore>) -> EndLine
+fn end_line(rows: u64, engine: &TraceEngine) -> EndLine
     ensures { end_text result.rows result.states result.nodes result.entries ≡ end_of rows engine.now.machine }
 {
     EndLine {
@@ -92,7 +91,7 @@ fn write_end<W: Write>(end: EndLine, room: &mut String, out: &mut Sink<W>) -> Re
 fn take_event<W: Write>(
     row: u64,
     event: &Event,
-    engine: &mut Engine<PlainStore>,
+    engine: &mut TraceEngine,
     line: &mut String,
     out: &mut Sink<W>,
 ) -> Result<(), Stop>
@@ -115,7 +114,7 @@ fn take_event<W: Write>(
 fn take_record<W: Write>(
     row: u64,
     fields: &ByteRecord,
-    engine: &mut Engine<PlainStore>,
+    engine: &mut TraceEngine,
     line: &mut String,
     out: &mut Sink<W>,
 ) -> Result<(), Stop>
@@ -136,7 +135,7 @@ fn take_record<W: Write>(
 fn tell_rows<S: Read, W: Write>(
     reader: &mut Reader<S>,
     fields: &mut ByteRecord,
-    engine: &mut Engine<PlainStore>,
+    engine: &mut TraceEngine,
     line: &mut String,
     out: &mut Sink<W>,
 ) -> Result<(), Stop>
@@ -171,7 +170,7 @@ fn tell_rows<S: Read, W: Write>(
 fn tell_trace<S: Read, W: Write>(
     reader: &mut Reader<S>,
     fields: &mut ByteRecord,
-    engine: &mut Engine<PlainStore>,
+    engine: &mut TraceEngine,
     line: &mut String,
     out: &mut Sink<W>,
 ) -> Result<(), Stop>
@@ -201,7 +200,7 @@ fn tell_trace<S: Read, W: Write>(
 pub(crate) fn tell_records<S: Read + Drop, W: Write>(
     alloc: Global,
     source: S,
-    engine: &mut Engine<PlainStore>,
+    engine: &mut TraceEngine,
     out: &mut Sink<W>,
 ) -> Result<(), Stop>
     requires first { engine.old.machine ≡ start engine.old.config }

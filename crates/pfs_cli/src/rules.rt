@@ -7,17 +7,15 @@ ghost use Rattle.pfs_cli.specs.Checks.{fault_of};
 ghost use Rattle.pfs_cli.specs.Replays.{RefusesRules};
 
 use crate::faults::ReplayFault;
-use crate::machine::first_machine;
+use crate::machine::{TraceEngine, first_machine};
 use pfs_conf::{Kind, LoadFault, load};
-use pfs_engine::Engine;
-use pfs_store::PlainStore;
 use std::alloc::Global;
 
 /// The most bytes of a rules text.
 pub(crate) const RULES_LIMIT: usize = 1_048_576;
 
 /// The machine of a rules text, before the first event.
-pub(crate) fn load_machine(alloc: Global, text: Vec<u8>) -> Result<Engine<PlainStore>, ReplayFault>
+pub(crate) fn load_machine(alloc: Global, text: Vec<u8>) -> Result<TraceEngine, ReplayFault>
     ensures ok { IfOk result (λ e. Reads text.items e.config) }
     ensures first { IfOk result (λ e. e.machine ≡ start e.config) }
     ensures taken { IfOk result (λ e. e.taken ≡ 0) }

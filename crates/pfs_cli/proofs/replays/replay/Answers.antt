@@ -1,4 +1,4 @@
-use Rattle.std.proofs.Common.{[]}
+use Rattle.std.proofs.Common.{[], inr}
 use Rattle.pfs_cli.proofs.Replaying.{Appends-kept, kept-reads, rules-refused, handed-on}
 use Rattle.pfs_cli.proofs.Telling.{Appends-nothing}
 use Rattle.pfs_cli.proofs.replays.replay.Goals as goal
@@ -14,3 +14,6 @@ pub returns-in_err-engine-clause-reports : goal.returns-in_err-engine-clause-rep
 returns-in_err-engine-clause-reports g c rs ts er et =
     let told = rules-refused c.in_ok-text.text.items rs ts c.in_err-engine.field-0.0 (c.in_ok-text.ensures.text rs er) c.in_err-engine.ensures.err in
     ([], Appends-nothing _, handed-on rs ts [] c.in_err-engine.field-0.0 c.from_residual-in_err-engine.result c.from_residual-in_err-engine.ensures.1 told)
+
+pub returns-clause-read : goal.returns-clause-read
+returns-clause-read g c is = inr (c.finish.ensures.read is)

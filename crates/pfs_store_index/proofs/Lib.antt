@@ -1,0 +1,14 @@
+mod Comings
+mod Dropping
+mod Idling
+mod Leavings
+mod Meetings
+mod OneNode
+mod Removals
+mod Renewing
+mod Searches
+mod Sources
+mod Stands
+mod Storing
+mod Tying
+mod Walks

@@ -1,0 +1,137 @@
+-- The record that the index by key leads to, what a packet makes of it, and what is told of its node.
+use Rattle.std.proofs.Common.{◌≡◌, ◌∙◌, ◌+◌, ◌==◌, ◌||◌, ℕ, Bool, true, false, cond, if◌then◌else◌, Option, Some, None, is_some, unwrap_or, List, map, option_map, refl, ap, sym, subst, arith}
+use Rattle.std.specs.List.{find, list_any, AllByRecursion}
+use Rattle.std.proofs.lemmas.Bool.Decides.{nat_tests}
+use Rattle.pfs_addr.specs.Packets.{Header}
+use Rattle.pfs_addr.specs.Sameness.{same_key}
+use Rattle.pfs_addr.specs.declared.addresses.Addr.{Addr}
+use Rattle.pfs_addr.specs.declared.packets.FlowKey.{FlowKey}
+use Rattle.pfs_conf_rules.specs.Configs.{Conf}
+use Rattle.pfs_track.specs.Scores.{zero_score}
+use Rattle.pfs_track.specs.StatePhases.{completes, is_done, phase_after}
+use Rattle.pfs_track.specs.TcpPhases.{tcp_completes, tcp_completes-once}
+use Rattle.pfs_track.specs.declared.scores.Score.{Score}
+use Rattle.pfs_track.specs.declared.state_phases.StatePhase.{StatePhase}
+use Rattle.pfs_track.specs.declared.state_phases.StatePhase.TheVariants.{Tcp, Udp, Other}
+use Rattle.pfs_store_plain.specs.Counts.{is_node, node_connections}
+use Rattle.pfs_store_plain.specs.Purging.{state_numbers}
+use Rattle.pfs_store_plain.specs.Touching.{connections_in, goes_forward, renewed, score_in, stepped}
+use Rattle.pfs_store_plain.specs.declared.records.Node.{Node}
+use Rattle.pfs_store_plain.specs.declared.records.NodeScope.{NodeScope}
+use Rattle.pfs_store_plain.specs.declared.records.State.{State}
+use Rattle.pfs_store_records.specs.Records.{IsRecordAt, IsRising, Placed, is_placed, put, stands_at, states_of}
+use Rattle.pfs_store_records.specs.Tallies.{is_tally, nodes_of}
+use Rattle.pfs_store_records.specs.declared.nodes.Tally.{Tally}
+use Rattle.pfs_store_index.specs.declared.indexes.Entry.{Entry}
+use Rattle.pfs_store_index.specs.Ties.{IsCounted, connections_at, entry_of, has_key, score_at}
+use Rattle.pfs_store_index.proofs.Leavings.{record_number, state_number}
+use Rattle.pfs_store_index.proofs.Meetings.{CountsDone, key-number, put-renewed, renewed_record}
+use Rattle.pfs_store_index.proofs.OneNode.{and_both, scope_is, source_is}
+use Rattle.pfs_store_index.proofs.Searches.{any-also, any-found, find-part, found-all, found-passes}
+use Rattle.pfs_store_index.proofs.Stands.{rising-records}
+use Rattle.pfs_store_index.proofs.Walks.{has_number}
+
+-- the record to which an entry of the index leads
+pub record IsEntryOf (k : FlowKey) (e : Entry) (rs : List Placed) : Type 0 where
+  pub record_of : Placed
+  pub found : find (has_key k) rs ≡ Some record_of
+  pub place : record_of.place ≡ e.place
+
+pub entry-record : (k : FlowKey) (e : Entry) (rs : List Placed) → Some e ≡ option_map entry_of (find (has_key k) rs) → IsEntryOf k e rs
+entry-record k e rs h = go (find (has_key k) rs) refl
+  where
+    go : (o : Option Placed) → find (has_key k) rs ≡ o → IsEntryOf k e rs
+    go None f = let z : Some e ≡ None = h ∙ ap (option_map entry_of) f in absurd (cc z)
+    go (Some p) f =
+        let z : Some e ≡ Some (entry_of p) = h ∙ ap (option_map entry_of) f in
+        let q : e ≡ entry_of p = cc in
+        record { record_of = p; found = f; place = sym (ap (λ (x : Entry). x.place) q) }
+
+same_self : (n : ℕ) → (n == n) ≡ true
+same_self n = grind (arith, nat_tests)
+
+pub read-held : (k : FlowKey) (e : Entry) (rs : List Placed) → IsEntryOf k e rs → list_any (stands_at e.place) rs ≡ true
+read-held k e rs h =
+    any-also (has_key k) (stands_at e.place) h.record_of rs h.found (ap (λ n. n == e.place) h.place ∙ same_self e.place)
+
+pub read-is : (k : FlowKey) (e : Entry) (s : State) (rs : List Placed) (h : IsEntryOf k e rs) → IsRecordAt e.place s rs → h.record_of.state ≡ s
+read-is k e s rs h at = found-all (λ (p : Placed). p.place ≡ e.place → p.state ≡ s) (has_key k) h.record_of rs at h.found h.place
+
+pub write-held : (k : FlowKey) (e : Entry) (n : ℕ) (rs : List Placed) (h : IsEntryOf k e rs) → h.record_of.state.number ≡ n → list_any (is_placed n e.place) rs ≡ true
+write-held k e n rs h q =
+    any-also (has_key k) (is_placed n e.place) h.record_of rs h.found
+    (and_both (h.record_of.state.number == n) (h.record_of.place == e.place) (ap (λ m. m == n) q ∙ same_self n) (ap (λ m. m == e.place) h.place ∙ same_self e.place))
+
+pub state-found : (k : FlowKey) (e : Entry) (s : State) (rs : List Placed) (h : IsEntryOf k e rs) → h.record_of.state ≡ s → find (λ (x : State). same_key x.key k) (states_of rs) ≡ Some s
+state-found k e s rs h q = find-part (λ (p : Placed). p.state) (λ (x : State). same_key x.key k) rs ∙ ap (option_map (λ (p : Placed). p.state)) h.found ∙ ap Some q
+
+pub number-found : (k : FlowKey) (e : Entry) (s : State) (rs : List Placed) (h : IsEntryOf k e rs) → h.record_of.state ≡ s → IsRising (state_numbers (states_of rs))
+    → find (has_number state_number s.number) (states_of rs) ≡ Some s
+number-found k e s rs h q r =
+    let f : find (has_number record_number s.number) rs ≡ Some h.record_of =
+    subst (λ (x : State). find (has_number record_number x.number) rs ≡ Some h.record_of) q (key-number k h.record_of rs (rising-records rs r) h.found) in
+    find-part (λ (p : Placed). p.state) (has_number state_number s.number) rs ∙ ap (option_map (λ (p : Placed). p.state)) f ∙ ap Some q
+
+renewed-self : (p : Header) (now : ℕ) (s : State) → renewed s.number p now s ≡ stepped p now s
+renewed-self p now s = ap (λ (b : Bool). if b then stepped p now s else s) (same_self s.number)
+
+pub written : (k : FlowKey) (e : Entry) (p : Header) (now : ℕ) (s after : State) (rs : List Placed) (h : IsEntryOf k e rs) → h.record_of.state ≡ s → IsRising (state_numbers (states_of rs))
+    → after ≡ stepped p now s → map (put after) rs ≡ map (renewed_record s.number p now) rs
+written k e p now s after rs h q r a =
+    let f : find (has_number record_number s.number) rs ≡ Some h.record_of =
+    subst (λ (x : State). find (has_number record_number x.number) rs ≡ Some h.record_of) q (key-number k h.record_of rs (rising-records rs r) h.found) in
+    put-renewed s.number p now h.record_of after rs (rising-records rs r) f (a ∙ sym (renewed-self p now s) ∙ ap (renewed s.number p now) (sym q)) (ap (λ (x : State). x.number) a)
+
+-- ---- a handshake is counted once
+
+done_more : (a b : Bool) → (b ≡ true → a ≡ false) → ◌≡◌ {A = ℕ} (cond (a || b) 1 0) (cond a 1 0 + cond b 1 0)
+done_more true true h = let z = h refl in absurd (cc z)
+done_more true false h = refl
+done_more false true h = refl
+done_more false false h = refl
+
+pub counts-done : (s : State) (p : Header) → CountsDone s p
+counts-done s p = go s.phase
+  where
+    go : (ph : StatePhase) → ◌≡◌ {A = ℕ} (cond (is_done (phase_after ph (goes_forward p s) p.flags)) 1 0) (cond (is_done ph) 1 0 + cond (completes ph (goes_forward p s) p.flags) 1 0)
+    go (Tcp t) = done_more t.complete (tcp_completes t (goes_forward p s) p.flags) (λ h. (tcp_completes-once t (goes_forward p s) p.flags h).0)
+    go (Udp t) = refl
+    go (Other t) = refl
+
+-- ---- what is told of the node
+
+pub told-connections : (conf : Conf) (o : Option NodeScope) (a : Addr) (xs : List State) (ts : List Tally) → AllByRecursion (IsCounted conf xs) ts
+    → ((sc : NodeScope) → o ≡ Some sc → list_any (is_tally sc a) ts ≡ true) → connections_at o a ts ≡ connections_in conf a xs o
+told-connections conf None a xs ts h has = refl
+told-connections conf (Some sc) a xs ts h has = go (find (is_tally sc a) ts) refl
+  where
+    go : (o : Option Tally) → find (is_tally sc a) ts ≡ o → connections_at (Some sc) a ts ≡ node_connections conf sc a xs
+    go None f =
+        let z : false ≡ true = ap is_some (sym f) ∙ any-found (is_tally sc a) ts ∙ has sc refl in
+        absurd (cc z)
+    go (Some t) f =
+        let c = found-all (IsCounted conf xs) (is_tally sc a) t ts h f in
+        let i = found-passes (is_tally sc a) t ts f in
+        let p = scope_is sc a t i in
+        let q = source_is sc a t i in
+        ap (λ (o : Option Tally). unwrap_or (option_map (λ (t : Tally). t.connections) o) 0) f ∙ ap (λ (u : Tally). u.connections) c ∙ (λ j. node_connections conf (p j) (q j) xs)
+
+pub told-score : (o : Option NodeScope) (a : Addr) (ts : List Tally) → score_at o a ts ≡ score_in a (nodes_of ts) o
+told-score None a ts = refl
+told-score (Some sc) a ts =
+    ap (λ (o : Option Score). unwrap_or o zero_score)
+    (parts (find (is_tally sc a) ts) ∙ ap (option_map (λ (n : Node). n.score)) (sym (find-part (λ (t : Tally). t.node) (is_node sc a) ts)))
+  where
+    parts : (o : Option Tally) → option_map (λ (t : Tally). t.node.score) o ≡ option_map (λ (n : Node). n.score) (option_map (λ (t : Tally). t.node) o)
+    parts None = refl
+    parts (Some t) = refl
+
+-- where the index has no entry, no state has the key
+pub none-entry : (k : FlowKey) (rs : List Placed) → None ≡ option_map entry_of (find (has_key k) rs) → is_some (find (λ (s : State). same_key s.key k) (states_of rs)) ≡ true → ⊥
+none-entry k rs h held = go (find (has_key k) rs) refl
+  where
+    go : (o : Option Placed) → find (has_key k) rs ≡ o → ⊥
+    go None f =
+        let z : false ≡ true = sym (ap is_some (find-part (λ (p : Placed). p.state) (λ (s : State). same_key s.key k) rs ∙ ap (option_map (λ (p : Placed). p.state)) f)) ∙ held in
+        absurd (cc z)
+    go (Some p) f = let z : None ≡ Some (entry_of p) = h ∙ ap (option_map entry_of) f in absurd (cc z)

@@ -1,0 +1,269 @@
+-- The pairs of one source in the ordered set, by number, are its states.
+use Rattle.std.proofs.Common.{◌≡◌, ◌∙◌, ◌<◌, ◌≤◌, ◌==◌, ◌&&◌, ◌||◌, ℕ, Bool, true, false, cond, Some, None, List, [], ◌∷◌, slice_get, refl, ap, sym, subst, arith}
+use Rattle.std.specs.Cmp.{IsTotalOrder}
+use Rattle.std.specs.List.{list_any}
+use Rattle.std.specs.BTreeMap.{is_at as is_found}
+use Rattle.std.specs.Ordering.{is_eq, is_gt, nat_cmp, ordering_reverse, ordering_then}
+use Rattle.std.specs.declared.cmp.Ordering.{Ordering}
+use Rattle.std.specs.declared.cmp.Ordering.TheVariants.{Less, Equal, Greater}
+use Rattle.std.proofs.lemmas.Bool.Decides.{nat_tests}
+use Rattle.pfs_addr.proofs.SameLaws.{same_addr_self, same_addr_true}
+use Rattle.pfs_addr.specs.Sameness.{same_addr}
+use Rattle.pfs_addr.specs.contracts.addresses.AddrOrd.TheImpl.Laws.{matches_eq-law, total-law}
+use Rattle.std.proofs.Common.{IfSome}
+use Rattle.std.specs.BTreeSet as tree
+use Rattle.std.specs.BTreeSet.{BTreeSet}
+use Rattle.std.specs.declared.ops.Bound.TheVariants.{Excluded, Included}
+use Rattle.pfs_addr.specs.declared.addresses.Addr.{Addr}
+use Rattle.pfs_store_plain.specs.Counts.{is_of_source}
+use Rattle.pfs_store_plain.specs.declared.records.State.{State}
+use Rattle.pfs_store_records.specs.Records.{between}
+use Rattle.pfs_store_index.specs.Rounds.{waiting_of}
+use Rattle.pfs_store_index.specs.Ties.{addr_cmp, is_pair, pair_cmp}
+use Rattle.pfs_store_index.proofs.Leavings.{state_number}
+use Rattle.pfs_store_index.proofs.OneNode.{and_both, and_left, and_right}
+use Rattle.pfs_store_index.proofs.Walks.{Above, IsRisingBy, head-above, rest-rising}
+
+-- ---- the order of pairs
+
+addr_total : IsTotalOrder addr_cmp
+addr_total = total-law
+
+addr_equal : (a b : Addr) → addr_cmp a b ≡ Equal → same_addr a b ≡ true
+addr_equal a b h = matches_eq-law a b ∙ ap is_eq h
+
+addr_itself : (a : Addr) → addr_cmp a a ≡ Equal
+addr_itself a = go (addr_cmp a a) refl
+  where
+    go : (o : Ordering) → addr_cmp a a ≡ o → addr_cmp a a ≡ Equal
+    go Less e = absurd (cc (addr_total.antisymm a a, e, ap ordering_reverse e))
+    go Equal e = e
+    go Greater e = absurd (cc (addr_total.antisymm a a, e, ap ordering_reverse e))
+
+nat_upto : (a b : ℕ) → a ≤ b → is_gt (nat_cmp a b) ≡ false
+nat_upto a b h = grind (arith, nat_tests)
+
+nat_not_gt : (a b : ℕ) → is_gt (nat_cmp a b) ≡ false → a ≤ b
+nat_not_gt a b h = grind (arith, nat_tests)
+
+nat_less : (a b : ℕ) → nat_cmp a b ≡ Less → a < b
+nat_less a b h = grind (arith, nat_tests)
+
+less_nat : (a b : ℕ) → a < b → nat_cmp a b ≡ Less
+less_nat a b h = grind (arith, nat_tests)
+
+-- a range of one source runs forward
+pub pairs-forward : (a : Addr) (m n : ℕ) → m ≤ n → is_gt (pair_cmp (a, m) (a, n)) ≡ false
+pairs-forward a m n h = ap (λ o. is_gt (ordering_then o (nat_cmp m n))) (addr_itself a) ∙ nat_upto m n h
+
+-- the pair of a number above one and up to another is in the range
+pub in-range : (a : Addr) (above most n : ℕ) → above < n → n ≤ most
+    → (pair_cmp (a, above) (a, n) ≡ Less) × (is_gt (pair_cmp (a, n) (a, most)) ≡ false)
+in-range a above most n l m =
+    (ap (λ o. ordering_then o (nat_cmp above n)) (addr_itself a) ∙ less_nat above n l, pairs-forward a n most m)
+
+-- what is in the range is of the source
+pub record IsOfRange (a : Addr) (above most : ℕ) (b : Addr) (n : ℕ) : Type 0 where
+  pub source : b ≡ a
+  pub above_it : above < n
+  pub most_it : n ≤ most
+
+pub of-range : (a : Addr) (above most : ℕ) (b : Addr) (n : ℕ) → pair_cmp (a, above) (b, n) ≡ Less → is_gt (pair_cmp (b, n) (a, most)) ≡ false → IsOfRange a above most b n
+of-range a above most b n l m = go (addr_cmp a b) refl (addr_cmp b a) refl
+  where
+    go : (o : Ordering) → addr_cmp a b ≡ o → (p : Ordering) → addr_cmp b a ≡ p → IsOfRange a above most b n
+    go Less e Less f = absurd (cc (addr_total.antisymm a b, e, f, ap ordering_reverse f))
+    go Less e Equal f = absurd (cc (addr_total.antisymm a b, e, f, ap ordering_reverse f))
+    go Less e Greater f =
+        let z : is_gt (ordering_then Greater (nat_cmp n most)) ≡ false = ap (λ o. is_gt (ordering_then o (nat_cmp n most))) (sym f) ∙ m in
+        absurd (cc z)
+    go Greater e p f =
+        let z : ordering_then Greater (nat_cmp above n) ≡ Less = ap (λ o. ordering_then o (nat_cmp above n)) (sym e) ∙ l in
+        absurd (cc z)
+    go Equal e Less f = absurd (cc (addr_total.antisymm a b, e, f, ap ordering_reverse f))
+    go Equal e Greater f = absurd (cc (addr_total.antisymm a b, e, f, ap ordering_reverse f))
+    go Equal e Equal f =
+        record {
+          source = sym (same_addr_true a b (addr_equal a b e));
+          above_it = nat_less above n (ap (λ o. ordering_then o (nat_cmp above n)) (sym e) ∙ l);
+          most_it = nat_not_gt n most (ap (λ o. is_gt (ordering_then o (nat_cmp n most))) (sym f) ∙ m);
+        }
+
+-- ---- a pair is found where it is one of a state
+
+pair_number : (a b : Addr) (m n : ℕ) → pair_cmp (a, m) (b, n) ≡ Equal → (a ≡ b) × (m ≡ n)
+pair_number a b m n h = go (addr_cmp a b) refl
+  where
+    nat_equal : (x y : ℕ) → nat_cmp x y ≡ Equal → x ≡ y
+    nat_equal x y k = grind (arith, nat_tests)
+
+    go : (o : Ordering) → addr_cmp a b ≡ o → (a ≡ b) × (m ≡ n)
+    go Less e = let z : Less ≡ Equal = ap (λ o. ordering_then o (nat_cmp m n)) (sym e) ∙ h in absurd (cc z)
+    go Greater e = let z : Greater ≡ Equal = ap (λ o. ordering_then o (nat_cmp m n)) (sym e) ∙ h in absurd (cc z)
+    go Equal e = (same_addr_true a b (addr_equal a b e), nat_equal m n (ap (λ o. ordering_then o (nat_cmp m n)) (sym e) ∙ h))
+
+pub pair_found : (p q : Addr × ℕ) → is_found (pair_cmp p) q ≡ true → p ≡ q
+pair_found p q h = go (pair_cmp p q) refl
+  where
+    go : (o : Ordering) → pair_cmp p q ≡ o → p ≡ q
+    go Less e = let z : is_found (λ (x : Addr × ℕ). Less) q ≡ true = ap (λ (o : Ordering). is_found (λ (x : Addr × ℕ). o) q) (sym e) ∙ h in absurd (cc z)
+    go Greater e = let z : is_found (λ (x : Addr × ℕ). Greater) q ≡ true = ap (λ (o : Ordering). is_found (λ (x : Addr × ℕ). o) q) (sym e) ∙ h in absurd (cc z)
+    go Equal e = let w = pair_number p.0 q.0 p.1 q.1 e in (λ i. (w.0 i, w.1 i))
+
+pub pair_test : (s : State) (a : Addr) (n : ℕ) → is_found (pair_cmp (s.source, s.number)) (a, n) ≡ is_pair a n s
+pair_test s a n = go (is_found (pair_cmp (s.source, s.number)) (a, n)) refl (is_pair a n s) refl
+  where
+    same_self : (k : ℕ) → (k == k) ≡ true
+    same_self k = grind (arith, nat_tests)
+
+    same_number : (k m : ℕ) → (k == m) ≡ true → k ≡ m
+    same_number k m h = grind (arith, nat_tests)
+
+    nat_itself : (k : ℕ) → nat_cmp k k ≡ Equal
+    nat_itself k = grind (arith, nat_tests)
+
+    found_self : (b : Addr) (k : ℕ) → is_found (pair_cmp (b, k)) (b, k) ≡ true
+    found_self b k =
+        let z : pair_cmp (b, k) (b, k) ≡ Equal = ap (λ o. ordering_then o (nat_cmp k k)) (addr_itself b) ∙ nat_itself k in
+        ap (λ (o : Ordering). is_found (λ (x : Addr × ℕ). o) (b, k)) z
+
+    go : (x : Bool) → is_found (pair_cmp (s.source, s.number)) (a, n) ≡ x → (y : Bool) → is_pair a n s ≡ y → is_found (pair_cmp (s.source, s.number)) (a, n) ≡ is_pair a n s
+    go true e true f = e ∙ sym f
+    go false e false f = e ∙ sym f
+    go true e false f =
+        let w = pair_found (s.source, s.number) (a, n) e in
+        let z : is_pair a n s ≡ true = and_both _ _ (ap (λ (p : Addr × ℕ). same_addr s.source p.0) (sym w) ∙ same_addr_self s.source) (ap (λ (p : Addr × ℕ). s.number == p.1) (sym w) ∙ same_self s.number) in
+        absurd (cc (z, f))
+    go false e true f =
+        let p = same_addr_true s.source a (and_left (is_of_source a s) (s.number == n) f) in
+        let q = same_number s.number n (and_right (is_of_source a s) (s.number == n) f) in
+        let z : is_found (pair_cmp (s.source, s.number)) (a, n) ≡ true = ap (λ (x : Addr × ℕ). is_found (pair_cmp (s.source, s.number)) x) (λ i. (sym p i, sym q i)) ∙ found_self s.source s.number in
+        absurd (cc (z, e))
+
+-- ---- the first of the states of a source
+
+-- a number is the least above one and up to another of the states of a source
+pub record IsFirstOf (a : Addr) (above most n : ℕ) (xs : List State) : Type 0 where
+  pub held : list_any (is_pair a n) xs ≡ true
+  pub above_it : above < n
+  pub most_it : n ≤ most
+  pub least : (k : ℕ) → list_any (is_pair a k) xs ≡ true → above < k → k ≤ most → n ≤ k
+
+same_self : (k : ℕ) → (k == k) ≡ true
+same_self k = grind (arith, nat_tests)
+
+between_true : (above most n : ℕ) → above < n → n ≤ most → between above most n ≡ true
+between_true above most n l m = grind (arith, nat_tests)
+
+between_low : (above most n : ℕ) → between above most n ≡ true → above < n
+between_low above most n h = grind (arith, nat_tests)
+
+between_high : (above most n : ℕ) → between above most n ≡ true → n ≤ most
+between_high above most n h = grind (arith, nat_tests)
+
+or_other : (b c : Bool) → b ≡ false → (b || c) ≡ true → c ≡ true
+or_other true c e h = absurd (cc e)
+or_other false c e h = h
+
+number_true : (k n : ℕ) → (k == n) ≡ true → k ≡ n
+number_true k n h = grind (arith, nat_tests)
+
+pair_above : (a : Addr) (k n : ℕ) (xs : List State) → Above state_number k xs → list_any (is_pair a n) xs ≡ true → k < n
+pair_above a k n [] h any = absurd (cc any)
+pair_above a k n (x ∷ xs) (h, hs) any = go (pair_above a k n xs hs) (is_pair a n x) refl
+  where
+    go : (list_any (is_pair a n) xs ≡ true → k < n) → (b : Bool) → is_pair a n x ≡ b → k < n
+    go more true e = let q = number_true x.number n (and_right (is_of_source a x) (x.number == n) e) in omega (arith, h, q)
+    go more false e = more (or_other (is_pair a n x) (list_any (is_pair a n) xs) e any)
+
+pub first-some : (a : Addr) (above most n : ℕ) (xs : List State) → IsRisingBy state_number xs → IsFirstOf a above most n xs → slice_get (waiting_of a above most xs) 0 ≡ Some n
+first-some a above most n [] r f = let h = f.held in absurd (cc h)
+first-some a above most n (x ∷ xs) r f = go (first-some a above most n xs (rest-rising state_number x xs r)) (is_of_source a x && between above most x.number) refl
+  where
+    self-held : is_of_source a x ≡ true → list_any (is_pair a x.number) (x ∷ xs) ≡ true
+    self-held s = ap (λ b. b || list_any (is_pair a x.number) xs) (and_both (is_of_source a x) (x.number == x.number) s (same_self x.number))
+
+    go : (IsFirstOf a above most n xs → slice_get (waiting_of a above most xs) 0 ≡ Some n) → (b : Bool) → (is_of_source a x && between above most x.number) ≡ b → slice_get (waiting_of a above most (x ∷ xs)) 0 ≡ Some n
+    go more true e =
+        let s = and_left (is_of_source a x) (between above most x.number) e in
+        let w = and_right (is_of_source a x) (between above most x.number) e in
+        let le : n ≤ x.number = f.least x.number (self-held s) (between_low above most x.number w) (between_high above most x.number w) in
+        rw e (ap Some (same (is_pair a n x) refl le))
+      where
+        same : (b : Bool) → is_pair a n x ≡ b → n ≤ x.number → x.number ≡ n
+        same true i le = number_true x.number n (and_right (is_of_source a x) (x.number == n) i)
+        same false i le =
+            let later = or_other (is_pair a n x) (list_any (is_pair a n) xs) i f.held in
+            let lo = pair_above a x.number n xs (head-above state_number x xs r) later in
+            absurd (omega (arith, lo, le))
+    go more false e =
+        rw e (more (record {
+          held = or_other (is_pair a n x) (list_any (is_pair a n) xs) (apart (is_pair a n x) refl) f.held;
+          above_it = f.above_it;
+          most_it = f.most_it;
+          least = λ k any l m. f.least k (later k any) l m;
+        }))
+      where
+        or_true : (b : Bool) → (b || true) ≡ true
+        or_true true = refl
+        or_true false = refl
+
+        later : (k : ℕ) → list_any (is_pair a k) xs ≡ true → list_any (is_pair a k) (x ∷ xs) ≡ true
+        later k any = ap (λ b. is_pair a k x || b) any ∙ or_true (is_pair a k x)
+
+        apart : (b : Bool) → is_pair a n x ≡ b → is_pair a n x ≡ false
+        apart true i =
+            let s = and_left (is_of_source a x) (x.number == n) i in
+            let q = number_true x.number n (and_right (is_of_source a x) (x.number == n) i) in
+            let w : between above most x.number ≡ true = ap (between above most) q ∙ between_true above most n f.above_it f.most_it in
+            let z = and_both (is_of_source a x) (between above most x.number) s w in
+            absurd (cc (z, e))
+        apart false i = i
+
+pub first-none : (a : Addr) (above most : ℕ) (xs : List State) → ((n : ℕ) → above < n → n ≤ most → list_any (is_pair a n) xs ≡ false) → slice_get (waiting_of a above most xs) 0 ≡ None
+first-none a above most [] h = refl
+first-none a above most (x ∷ xs) h = go (first-none a above most xs) (is_of_source a x && between above most x.number) refl
+  where
+    or_no : (b c : Bool) → (b || c) ≡ false → c ≡ false
+    or_no true c e = absurd (cc e)
+    or_no false c e = e
+
+    go : (((n : ℕ) → above < n → n ≤ most → list_any (is_pair a n) xs ≡ false) → slice_get (waiting_of a above most xs) 0 ≡ None) → (b : Bool) → (is_of_source a x && between above most x.number) ≡ b → slice_get (waiting_of a above most (x ∷ xs)) 0 ≡ None
+    go more true e =
+        let s = and_left (is_of_source a x) (between above most x.number) e in
+        let w = and_right (is_of_source a x) (between above most x.number) e in
+        let z = h x.number (between_low above most x.number w) (between_high above most x.number w) in
+        let y : list_any (is_pair a x.number) (x ∷ xs) ≡ true = ap (λ b. b || list_any (is_pair a x.number) xs) (and_both (is_of_source a x) (x.number == x.number) s (same_self x.number)) in
+        absurd (cc (y, z))
+    go more false e = rw e (more (λ n l m. or_no (is_pair a n x) (list_any (is_pair a n) xs) (h n l m)))
+
+-- a pair that was placed is taken out again
+pub pair-undone : (p q : Addr × ℕ) (a b c : Bool) → a ≡ false → b ≡ cond (is_found (pair_cmp p) q) true c → (is_found (pair_cmp p) q ≡ true → c ≡ a) → cond (is_found (pair_cmp p) q) false b ≡ c
+pair-undone p q a b c z e h = go (is_found (pair_cmp p) q) refl
+  where
+    go : (t : Bool) → is_found (pair_cmp p) q ≡ t → cond (is_found (pair_cmp p) q) false b ≡ c
+    go true i = rw i (sym (h i ∙ z))
+    go false i = let e' : b ≡ c = (rw i at e) in rw i e'
+
+-- ---- what a range over the pairs of a source tells
+
+pub first-of-range : (a : Addr) (above most : ℕ) (xs : List State) (pairs : BTreeSet (Addr × ℕ)) (k : Addr × ℕ) (r r' : List (Addr × ℕ))
+    → ((b : Addr) (n : ℕ) → tree.contains pair_cmp pairs (b, n) ≡ list_any (is_pair b n) xs) → r ≡ k ∷ r'
+    → tree.IsKeyRangeOf pair_cmp (Excluded (a, above)) (Included (a, most)) pairs r → IsFirstOf a above most k.1 xs
+first-of-range a above most xs pairs k r r' paired e h =
+    let first = subst (λ z. IfSome (slice_get z 0) (tree.IsKeyInRange pair_cmp (Excluded (a, above)) (Included (a, most)) pairs)) e h.1 in
+    let o = of-range a above most k.0 k.1 first.0.0 first.0.1 in
+    record {
+      held = sym (paired a k.1) ∙ ap (λ (b : Addr). tree.contains pair_cmp pairs (b, k.1)) (sym o.source) ∙ first.1;
+      above_it = o.above_it;
+      most_it = o.most_it;
+      least = λ n any l m.
+          let z : is_gt (pair_cmp k (a, n)) ≡ false =
+          subst (λ z. IfSome (slice_get z 0) (λ (q : Addr × ℕ). is_gt (pair_cmp q (a, n)) ≡ false)) e (h.2 (a, n) (in-range a above most n l m) (paired a n ∙ any)) in
+          nat_not_gt k.1 n (ap (λ o. is_gt (ordering_then o (nat_cmp k.1 n))) (sym (addr_itself a) ∙ ap (λ (b : Addr). addr_cmp b a) (sym o.source)) ∙ z);
+    }
+
+pub none-of-range : (a : Addr) (above most : ℕ) (xs : List State) (pairs : BTreeSet (Addr × ℕ)) (r : List (Addr × ℕ))
+    → ((b : Addr) (n : ℕ) → tree.contains pair_cmp pairs (b, n) ≡ list_any (is_pair b n) xs) → r ≡ []
+    → tree.IsKeyRangeOf pair_cmp (Excluded (a, above)) (Included (a, most)) pairs r → (n : ℕ) → above < n → n ≤ most → list_any (is_pair a n) xs ≡ false
+none-of-range a above most xs pairs r paired e h n l m = sym (paired a n) ∙ h.5 e (a, n) (in-range a above most n l m)

@@ -1,0 +1,105 @@
+-- The records of states as the states themselves, by number and by key.
+use Rattle.std.proofs.Common.{◌≡◌, ◌∙◌, ◌<◌, ◌≤◌, ◌==◌, ℕ, Bool, true, false, if◌then◌else◌, not, Option, Some, None, List, [], ◌∷◌, length, map, filter, option_map, refl, ap, sym, subst}
+use Rattle.std.specs.List.{find}
+use Rattle.pfs_addr.specs.Sameness.{same_key}
+use Rattle.pfs_addr.specs.declared.packets.FlowKey.{FlowKey}
+use Rattle.std.proofs.Common.{◌⊎◌, inl, inr, IsSome}
+use Rattle.std.specs.Option.{option_and_then}
+use Rattle.std.proofs.lemmas.Bool.{cases_lt}
+use Rattle.std.proofs.lemmas.Option.{slice_get_past}
+use Rattle.pfs_conf_rules.specs.Configs.{Conf, options_at, options_in, rule_in as rule_in_item}
+use Rattle.pfs_conf_rules.specs.declared.items.Item.{Item}
+use Rattle.pfs_conf_rules.specs.declared.items.Rule.{Rule}
+use Rattle.pfs_store_plain.specs.Leaving.{other_than}
+use Rattle.pfs_store_plain.specs.Purging.{node_numbers, state_numbers}
+use Rattle.pfs_store_plain.specs.Worlds.{number_of, rule_in}
+use Rattle.pfs_store_plain.specs.declared.records.State.{State}
+use Rattle.pfs_store_records.specs.Records.{IsAbove, IsRising, Placed, leaves_number, states_of}
+use Rattle.pfs_store_records.specs.Tallies.{nodes_of}
+use Rattle.pfs_store_records.specs.declared.nodes.Tally.{Tally}
+use Rattle.pfs_store_index.specs.declared.indexes.Entry.{Entry}
+use Rattle.pfs_store_index.specs.Ties.{entry_of, has_key}
+use Rattle.pfs_store_index.proofs.Leavings.{record_number}
+use Rattle.pfs_store_index.proofs.Searches.{find-part}
+use Rattle.pfs_store_index.proofs.Walks.{IsRisingBy}
+
+pub numbers-records : (rs : List Placed) → map record_number rs ≡ state_numbers (states_of rs)
+numbers-records [] = refl
+numbers-records (r ∷ rs) = ap (λ ns. r.state.number ∷ ns) (numbers-records rs)
+
+pub numbers-tallies : (ts : List Tally) → map (λ (t : Tally). t.node.number) ts ≡ node_numbers (nodes_of ts)
+numbers-tallies [] = refl
+numbers-tallies (t ∷ ts) = ap (λ ns. t.node.number ∷ ns) (numbers-tallies ts)
+
+pub rising-records : (rs : List Placed) → IsRising (state_numbers (states_of rs)) → IsRisingBy record_number rs
+rising-records rs h = subst IsRising (sym (numbers-records rs)) h
+
+pub rising-tallies : (ts : List Tally) → IsRising (node_numbers (nodes_of ts)) → IsRisingBy (λ (t : Tally). t.node.number) ts
+rising-tallies ts h = subst IsRising (sym (numbers-tallies ts)) h
+
+pub above-records : (n : ℕ) (rs : List Placed) → IsAbove n (state_numbers (states_of rs)) → IsAbove n (map record_number rs)
+above-records n rs h = subst (IsAbove n) (sym (numbers-records rs)) h
+
+-- the record of a state that was found
+pub record IsRecordOf (test : State → Bool) (s : State) (rs : List Placed) : Type 0 where
+  pub record_of : Placed
+  pub found : find (λ (p : Placed). test p.state) rs ≡ Some record_of
+  pub same : record_of.state ≡ s
+
+pub record-found : (test : State → Bool) (s : State) (rs : List Placed) → find test (states_of rs) ≡ Some s → IsRecordOf test s rs
+record-found test s rs f = go (find (λ (p : Placed). test p.state) rs) refl
+  where
+    go : (o : Option Placed) → find (λ (p : Placed). test p.state) rs ≡ o → IsRecordOf test s rs
+    go None e =
+        let z : None ≡ Some s = sym (find-part (λ (p : Placed). p.state) test rs ∙ ap (option_map (λ (p : Placed). p.state)) e) ∙ f in
+        absurd (cc z)
+    go (Some p) e =
+        let z : Some p.state ≡ Some s = sym (find-part (λ (p : Placed). p.state) test rs ∙ ap (option_map (λ (p : Placed). p.state)) e) ∙ f in
+        let q : p.state ≡ s = cc in
+        record { record_of = p; found = e; same = q }
+
+pub none-found : (test : State → Bool) (rs : List Placed) → find test (states_of rs) ≡ None → find (λ (p : Placed). test p.state) rs ≡ None
+none-found test rs f = go (find (λ (p : Placed). test p.state) rs) refl
+  where
+    go : (o : Option Placed) → find (λ (p : Placed). test p.state) rs ≡ o → find (λ (p : Placed). test p.state) rs ≡ None
+    go None e = e
+    go (Some p) e =
+        let z : Some p.state ≡ None = sym (find-part (λ (p : Placed). p.state) test rs ∙ ap (option_map (λ (p : Placed). p.state)) e) ∙ f in
+        absurd (cc z)
+
+-- what the index by key tells of the state with a key
+pub number-at : (k : FlowKey) (rs : List Placed) (g : Option Entry) → g ≡ option_map entry_of (find (has_key k) rs)
+    → option_map (λ (e : Entry). record { 0 = e.number }) g ≡ option_map number_of (find (λ (s : State). same_key s.key k) (states_of rs))
+number-at k rs g e = ap (option_map (λ (e : Entry). record { 0 = e.number })) e ∙ go (find (has_key k) rs) ∙ ap (option_map number_of) (sym (find-part (λ (p : Placed). p.state) (λ (s : State). same_key s.key k) rs))
+  where
+    go : (o : Option Placed) → option_map (λ (e : Entry). record { 0 = e.number }) (option_map entry_of o) ≡ option_map number_of (option_map (λ (p : Placed). p.state) o)
+    go None = refl
+    go (Some p) = refl
+
+pub rule-at : (k : FlowKey) (rs : List Placed) (g : Option Entry) → g ≡ option_map entry_of (find (has_key k) rs)
+    → option_map (λ (e : Entry). e.rule) g ≡ option_map rule_in (find (λ (s : State). same_key s.key k) (states_of rs))
+rule-at k rs g e = ap (option_map (λ (e : Entry). e.rule)) e ∙ go (find (has_key k) rs) ∙ ap (option_map rule_in) (sym (find-part (λ (p : Placed). p.state) (λ (s : State). same_key s.key k) rs))
+  where
+    go : (o : Option Placed) → option_map (λ (e : Entry). e.rule) (option_map entry_of o) ≡ option_map rule_in (option_map (λ (p : Placed). p.state) o)
+    go None = refl
+    go (Some p) = refl
+
+pub states-left : (n : ℕ) (rs : List Placed) → states_of (filter (leaves_number n) rs) ≡ filter (other_than n) (states_of rs)
+states-left n [] = refl
+states-left n (r ∷ rs) = go (r.state.number == n) (states-left n rs)
+  where
+    go : (b : Bool) → states_of (filter (leaves_number n) rs) ≡ filter (other_than n) (states_of rs)
+        → states_of (if not b then r ∷ filter (leaves_number n) rs else filter (leaves_number n) rs) ≡ (if not b then r.state ∷ filter (other_than n) (states_of rs) else filter (other_than n) (states_of rs))
+    go true e = e
+    go false e = ap (λ xs. r.state ∷ xs) e
+
+-- a rule that keeps state is one of the items
+pub rule-known : (conf : Conf) (rule : ℕ) → IsSome (options_at conf rule) → rule < length conf.items
+rule-known conf rule h = by (cases_lt rule (length conf.items))
+  where
+    by : ((rule < length conf.items) ⊎ (length conf.items ≤ rule)) → rule < length conf.items
+    by (inl within) = within
+    by (inr past) =
+        let z : options_at conf rule ≡ None =
+        ap (λ (i : Option Item). option_and_then (λ (r : Rule). options_in r.action) (option_and_then (λ (i : Item). rule_in_item i.what) i)) (slice_get_past conf.items rule past) in
+        let e : false ≡ true = subst IsSome z h in absurd (cc e)

@@ -1,0 +1,439 @@
+-- The world of a store after each change of what is held, and what every store keeps.
+use Rattle.std.proofs.Common.{◌≡◌, ◌∙◌, ◌+◌, ◌-◌, ◌<◌, ◌≤◌, ◌==◌, ◌&&◌, ◌||◌, ℕ, nat_lt, Bool, true, false, not, if◌then◌else◌, Option, Some, None, is_some, List, [], ◌∷◌, ◌++◌, length, map, filter, take, drop, slice_get, refl, ap, sym, subst, arith}
+use Rattle.std.specs.List.{AllByRecursion}
+use Rattle.std.proofs.lemmas.Bool.Decides.{nat_tests}
+use Rattle.pfs_addr.specs.Packets.{Header}
+use Rattle.pfs_addr.specs.declared.addresses.Addr.{Addr}
+use Rattle.pfs_conf_rules.specs.Configs.{Conf}
+use Rattle.pfs_conf_rules.specs.declared.actions.Rate.{Rate}
+use Rattle.pfs_conf_rules.specs.declared.items.RuleNo.{RuleNo}
+use Rattle.pfs_track.specs.Lifetimes.{is_expired, scaled_lifetime}
+use Rattle.pfs_track.specs.Scores.{score_after}
+use Rattle.pfs_store_plain.specs.Admission.{new_node, nodes_with}
+use Rattle.pfs_store_plain.specs.Counts.{has_node, is_node, is_of_source, node_scope_of, node_states, source_states}
+use Rattle.pfs_store_plain.specs.Leaving.{idled, is_flushed, stays_unflushed, without}
+use Rattle.pfs_store_plain.specs.Plain.{AreCounts}
+use Rattle.pfs_store_plain.specs.Purging.{has_expired, is_among, node_numbers, node_share, node_slice, node_stays, round, state_numbers, state_share, state_slice, stays}
+use Rattle.pfs_store_plain.specs.Touching.{completes_at, nodes_scored, nodes_touched, renewed, rescored, touched}
+use Rattle.pfs_store_plain.specs.Worlds.{holds_number, lists}
+use Rattle.pfs_store_plain.specs.declared.records.Node.{Node}
+use Rattle.pfs_store_plain.specs.declared.records.NodeScope.{NodeScope}
+use Rattle.pfs_store_plain.specs.declared.records.State.{State}
+use Rattle.pfs_store_records.specs.Records.{IsAbove, between}
+use Rattle.pfs_store_index.specs.Holdings.{Holding}
+use Rattle.pfs_store_index.specs.Rounds.{waiting}
+use Rattle.pfs_store_index.specs.Stored.{IsNumbered, IsStored, is_due, world_of}
+use Rattle.pfs_store_index.specs.Ties.{HasRule}
+use Rattle.pfs_store_index.proofs.Leavings.{state_number}
+use Rattle.pfs_store_index.proofs.Meetings.{blind, map-blind}
+use Rattle.pfs_store_index.proofs.Searches.{all-push, map-push}
+use Rattle.pfs_store_index.proofs.Walks.{Above, Apart, IsRisingBy, head-above, head-apart, rest-rising, stays_by}
+
+-- ---- numbers
+
+node_number : Node → ℕ
+node_number n = n.number
+
+numbered-filter : {X : Type 0} (number : X → ℕ) (p : X → Bool) (made : ℕ) (xs : List X) → IsNumbered made (map number xs) → IsNumbered made (map number (filter p xs))
+numbered-filter number p made [] h = tt
+numbered-filter number p made (x ∷ xs) (h, hs) = go (p x) (numbered-filter number p made xs hs)
+  where
+    go : (b : Bool) → IsNumbered made (map number (filter p xs)) → IsNumbered made (map number (if b then x ∷ filter p xs else filter p xs))
+    go true m = (h, m)
+    go false m = m
+
+numbered-later : (made : ℕ) (numbers : List ℕ) → IsNumbered made numbers → IsNumbered (made + 1) numbers
+numbered-later made [] h = tt
+numbered-later made (n ∷ ns) (h, hs) = ((h.0, omega (arith, h.1)), numbered-later made ns hs)
+
+numbers-idled : (conf : Conf) (before after : List State) (now : ℕ) (ns : List Node) → node_numbers (map (idled conf before after now) ns) ≡ node_numbers ns
+numbers-idled conf before after now [] = refl
+numbers-idled conf before after now (n ∷ ns) = (λ i. go (nat_lt 0 (node_states conf n.scope n.source before) && (node_states conf n.scope n.source after == 0)) i ∷ numbers-idled conf before after now ns i)
+  where
+    go : (b : Bool) → (if b then record n { idle = now } else n).number ≡ n.number
+    go true = refl
+    go false = refl
+
+pub numbers-renewed : (n : ℕ) (p : Header) (now : ℕ) (xs : List State) → state_numbers (map (renewed n p now) xs) ≡ state_numbers xs
+numbers-renewed n p now xs = map-blind n p now (λ (s : State). s.number) xs (blind n p now (λ (s : State). s.number) (λ s. refl))
+
+numbers-scored : (ns : List Node) (a : Addr) (now : ℕ) (sc : Option NodeScope) (rate : Option Rate) → node_numbers (nodes_scored ns a now sc rate) ≡ node_numbers ns
+numbers-scored ns a now None rate = refl
+numbers-scored ns a now (Some sc) None = refl
+numbers-scored ns a now (Some sc) (Some rate) = each ns
+  where
+    each : (ns : List Node) → node_numbers (map (rescored sc a rate.seconds now) ns) ≡ node_numbers ns
+    each [] = refl
+    each (n ∷ ns) = (λ i. go (is_node sc a n) i ∷ each ns i)
+      where
+        go : (b : Bool) → (if b then record n { score = score_after rate.seconds n.score now } else n).number ≡ n.number
+        go true = refl
+        go false = refl
+
+-- at most as many as were made
+few-above : (low made : ℕ) (xs : List State) → IsRisingBy state_number xs → Above state_number low xs → IsNumbered made (state_numbers xs) → low ≤ made → length xs + low ≤ made
+few-above low made [] r a h l = omega arith
+few-above low made (x ∷ xs) r (a, more) (h, hs) l =
+    let m = few-above x.number made xs (rest-rising state_number x xs r) (head-above state_number x xs r) hs h.1 in omega (arith, m, a)
+
+above-zero : (made : ℕ) (xs : List State) → IsNumbered made (state_numbers xs) → Above state_number 0 xs
+above-zero made [] h = tt
+above-zero made (x ∷ xs) (h, hs) = (omega (arith, h.0), above-zero made xs hs)
+
+pub few-numbered : (made : ℕ) (xs : List State) → IsRisingBy state_number xs → IsNumbered made (state_numbers xs) → length xs ≤ made
+few-numbered made xs r h = omega (arith, few-above 0 made xs r (above-zero made xs h) h (omega arith))
+
+pub made-above : (made : ℕ) (numbers : List ℕ) → IsNumbered made numbers → IsAbove (made + 1) numbers
+made-above made [] h = tt
+made-above made (n ∷ ns) (h, hs) = (omega (arith, h.1), made-above made ns hs)
+
+-- ---- a new round
+
+between_all : (made n : ℕ) → 1 ≤ n → n ≤ made → between 0 made n ≡ true
+between_all made n l m = grind (arith, nat_tests)
+
+numbered-waiting : (made : ℕ) (numbers : List ℕ) → IsNumbered made numbers → waiting 0 made numbers ≡ numbers
+numbered-waiting made [] h = refl
+numbered-waiting made (n ∷ ns) (h, hs) = rw (between_all made n h.0 h.1) (ap (λ ys. n ∷ ys) (numbered-waiting made ns hs))
+
+pub round-begins : (made : ℕ) (numbers pending : List ℕ) → IsNumbered made numbers → slice_get pending 0 ≡ None → waiting 0 made numbers ≡ round numbers pending
+round-begins made numbers [] h e = numbered-waiting made numbers h
+round-begins made numbers (p ∷ ps) h e = absurd cc
+
+pub round-goes : (n : ℕ) (numbers pending : List ℕ) → slice_get pending 0 ≡ Some n → pending ≡ round numbers pending
+round-goes n numbers [] e = absurd cc
+round-goes n numbers (p ∷ ps) e = refl
+
+-- ---- what is pending where states leave
+
+same_self : (k : ℕ) → (k == k) ≡ true
+same_self k = grind (arith, nat_tests)
+
+apart-none : (p : State → Bool) (n : ℕ) (xs : List State) → Apart state_number n xs → holds_number (filter p xs) n ≡ false
+apart-none p n [] a = refl
+apart-none p n (x ∷ xs) (a, more) = go (p x) (apart-none p n xs more)
+  where
+    go : (b : Bool) → holds_number (filter p xs) n ≡ false → holds_number (if b then x ∷ filter p xs else filter p xs) n ≡ false
+    go true m = ap (λ b. b || holds_number (filter p xs) n) a ∙ m
+    go false m = m
+
+flip_no : (a b : ℕ) → (a == b) ≡ false → (b == a) ≡ false
+flip_no a b h = grind (arith, nat_tests)
+
+-- a number is held among those that stay where its state stays
+hold-stays : (p : State → Bool) (xs : List State) → IsRisingBy state_number xs → AllByRecursion (λ (x : State). holds_number (filter p xs) x.number ≡ p x) xs
+hold-stays p [] r = tt
+hold-stays p (x ∷ xs) r = (own (p x) refl, later xs (head-apart state_number x xs r) (hold-stays p xs (rest-rising state_number x xs r)))
+  where
+    own : (b : Bool) → p x ≡ b → holds_number (filter p (x ∷ xs)) x.number ≡ p x
+    own true e = rw (e, same_self x.number) refl
+    own false e = rw e (apart-none p x.number xs (head-apart state_number x xs r))
+
+    drop_head : (b : Bool) (k : ℕ) → (k == x.number) ≡ false → holds_number (if b then x ∷ filter p xs else filter p xs) k ≡ holds_number (filter p xs) k
+    drop_head true k d = ap (λ b. b || holds_number (filter p xs) k) (flip_no k x.number d)
+    drop_head false k d = refl
+
+    later : (ys : List State) → Apart state_number x.number ys → AllByRecursion (λ (y : State). holds_number (filter p xs) y.number ≡ p y) ys
+        → AllByRecursion (λ (y : State). holds_number (filter p (x ∷ xs)) y.number ≡ p y) ys
+    later [] a h = tt
+    later (y ∷ ys) (a, more) (h, hs) = (drop_head (p x) y.number a ∙ h, later ys more hs)
+
+waiting-held : (c m : ℕ) (held : ℕ → Bool) (p : State → Bool) (xs : List State) → AllByRecursion (λ (x : State). held x.number ≡ p x) xs
+    → waiting c m (state_numbers (filter p xs)) ≡ filter held (waiting c m (state_numbers xs))
+waiting-held c m held p [] h = refl
+waiting-held c m held p (x ∷ xs) (h, hs) = go (waiting-held c m held p xs hs) (p x) refl (between c m x.number) refl
+  where
+    go : waiting c m (state_numbers (filter p xs)) ≡ filter held (waiting c m (state_numbers xs)) → (a : Bool) → p x ≡ a → (b : Bool) → between c m x.number ≡ b
+        → waiting c m (state_numbers (filter p (x ∷ xs))) ≡ filter held (waiting c m (state_numbers (x ∷ xs)))
+    go e true t true u = let k : held x.number ≡ true = h ∙ t in rw (t, u, k) (ap (λ ys. x.number ∷ ys) e)
+    go e true t false u = rw (t, u) e
+    go e false t true u = let k : held x.number ≡ false = h ∙ t in rw (t, u, k) e
+    go e false t false u = rw (t, u) e
+
+pub waiting-without : (c m : ℕ) (p : State → Bool) (xs : List State) → IsRisingBy state_number xs
+    → waiting c m (state_numbers (filter p xs)) ≡ filter (holds_number (filter p xs)) (waiting c m (state_numbers xs))
+waiting-without c m p xs r = waiting-held c m (holds_number (filter p xs)) p xs (hold-stays p xs r)
+
+-- ---- states leave
+
+pub world-without : (p : State → Bool) (now : ℕ) (h h' : Holding) (c m c' m' made : ℕ) → IsRisingBy state_number h.states → h'.states ≡ filter p h.states
+    → h'.nodes ≡ map (idled h.config h.states h'.states now) h.nodes → world_of h' c m c' m' made ≡ without h.config (world_of h c m c' m' made) p now
+world-without p now h h' c m c' m' made r e f =
+    let ns : h'.nodes ≡ map (idled h.config h.states (filter p h.states) now) h.nodes = f ∙ ap (λ xs. map (idled h.config h.states xs now) h.nodes) e in
+    let ps : waiting c m (state_numbers h'.states) ≡ filter (holds_number (filter p h.states)) (waiting c m (state_numbers h.states)) =
+    ap (λ xs. waiting c m (state_numbers xs)) e ∙ waiting-without c m p h.states r in
+    let qs : waiting c' m' (node_numbers h'.nodes) ≡ waiting c' m' (node_numbers h.nodes) =
+    ap (waiting c' m') (ap node_numbers ns ∙ numbers-idled h.config h.states (filter p h.states) now h.nodes) in
+    (λ i. lists (e i) (ns i) (ps i) (qs i) made)
+
+pub stored-without : (p : State → Bool) (now : ℕ) (h h' : Holding) (c m c' m' c2 m2 made places : ℕ) → h'.config ≡ h.config → h'.states ≡ filter p h.states
+    → h'.nodes ≡ map (idled h.config h.states h'.states now) h.nodes → IsStored h c m c' m' made places → c2 ≤ m2 → m2 ≤ made → IsStored h' c2 m2 c' m' made places
+stored-without p now h h' c m c' m' c2 m2 made places g e f i l k = record {
+  order = l;
+  mark_made = k;
+  node_order = i.node_order;
+  node_mark_made = i.node_mark_made;
+  few = i.few;
+  numbered = subst (λ xs. IsNumbered made (state_numbers xs)) (sym e) (numbered-filter (λ (s : State). s.number) p made h.states i.numbered);
+  node_numbered = subst (IsNumbered made) (sym (ap node_numbers f ∙ numbers-idled h.config h.states h'.states now h.nodes)) i.node_numbered;
+  places = i.places ∙ ap (λ (conf : Conf). length conf.items) (sym g);
+}
+
+-- ---- a slice of the states
+
+pub world-slice : (now share : ℕ) (h h' : Holding) (b k c m c' m' made : ℕ) (rs : List ℕ) → share ≡ state_share h.config
+    → rs ≡ round (state_numbers h.states) (waiting b k (state_numbers h.states))
+    → h'.states ≡ filter (stays h.config h.states now (take share rs)) h.states → h'.nodes ≡ map (idled h.config h.states h'.states now) h.nodes
+    → waiting c m (state_numbers h'.states) ≡ drop share rs → world_of h' c m c' m' made ≡ state_slice h.config (world_of h b k c' m' made) now
+world-slice now share h h' b k c m c' m' made rs s r e f w =
+    let xs : h'.states ≡ filter (stays h.config h.states now (take (state_share h.config) (round (state_numbers h.states) (waiting b k (state_numbers h.states))))) h.states =
+    e ∙ (λ i. filter (stays h.config h.states now (take (s i) (r i))) h.states) in
+    let ns : h'.nodes ≡ map (idled h.config h.states (filter (stays h.config h.states now (take (state_share h.config) (round (state_numbers h.states) (waiting b k (state_numbers h.states))))) h.states) now) h.nodes =
+    f ∙ ap (λ ys. map (idled h.config h.states ys now) h.nodes) xs in
+    let qs : waiting c' m' (node_numbers h'.nodes) ≡ waiting c' m' (node_numbers h.nodes) =
+    ap (waiting c' m') (ap node_numbers f ∙ numbers-idled h.config h.states h'.states now h.nodes) in
+    (λ i. lists (xs i) (ns i) ((w ∙ (λ j. drop (s j) (r j))) i) (qs i) made)
+
+-- ---- a slice of the nodes
+
+pub world-node_slice : (now share : ℕ) (h h' : Holding) (c m b k c' m' made : ℕ) (rs : List ℕ) → share ≡ node_share h.config
+    → rs ≡ round (node_numbers h.nodes) (waiting b k (node_numbers h.nodes)) → h'.states ≡ h.states
+    → h'.nodes ≡ filter (node_stays h.config h.states now (take share rs)) h.nodes
+    → waiting c' m' (node_numbers h'.nodes) ≡ drop share rs → world_of h' c m c' m' made ≡ node_slice h.config (world_of h c m b k made) now
+world-node_slice now share h h' c m b k c' m' made rs s r e f w =
+    let ns : h'.nodes ≡ filter (node_stays h.config h.states now (take (node_share h.config) (round (node_numbers h.nodes) (waiting b k (node_numbers h.nodes))))) h.nodes =
+    f ∙ (λ i. filter (node_stays h.config h.states now (take (s i) (r i))) h.nodes) in
+    (λ i. lists (e i) (ns i) (waiting c m (state_numbers (e i))) ((w ∙ (λ j. drop (s j) (r j))) i) made)
+
+pub stored-nodes : (p : Node → Bool) (h h' : Holding) (c m c' m' c2 m2 made places : ℕ) → h'.config ≡ h.config → h'.states ≡ h.states → h'.nodes ≡ filter p h.nodes
+    → IsStored h c m c' m' made places → c2 ≤ m2 → m2 ≤ made → IsStored h' c m c2 m2 made places
+stored-nodes p h h' c m c' m' c2 m2 made places g e f i l k = record {
+  order = i.order;
+  mark_made = i.mark_made;
+  node_order = l;
+  node_mark_made = k;
+  few = i.few;
+  numbered = subst (λ xs. IsNumbered made (state_numbers xs)) (sym e) i.numbered;
+  node_numbered = subst (λ ns. IsNumbered made (node_numbers ns)) (sym f) (numbered-filter (λ (n : Node). n.number) p made h.nodes i.node_numbered);
+  places = i.places ∙ ap (λ (conf : Conf). length conf.items) (sym g);
+}
+
+-- ---- a packet of a state
+
+pub world-touched : (s : State) (p : Header) (now : ℕ) (h h' : Holding) (c m c' m' made : ℕ) → h'.states ≡ map (renewed s.number p now) h.states
+    → h'.nodes ≡ nodes_touched h.config h.nodes s now (completes_at p s) → world_of h' c m c' m' made ≡ touched h.config (world_of h c m c' m' made) s p now
+world-touched s p now h h' c m c' m' made e f =
+    (λ i. lists (e i) (f i) ((ap (λ xs. waiting c m (state_numbers xs)) e ∙ ap (waiting c m) (numbers-renewed s.number p now h.states)) i)
+    ((ap (λ ns. waiting c' m' (node_numbers ns)) f ∙ ap (waiting c' m') (same (completes_at p s))) i) made)
+  where
+    same : (b : Bool) → node_numbers (nodes_touched h.config h.nodes s now b) ≡ node_numbers h.nodes
+    same true = numbers-scored h.nodes s.source now (node_scope_of h.config s.rule.0) _
+    same false = refl
+
+pub stored-touched : (s : State) (p : Header) (now : ℕ) (h h' : Holding) (c m c' m' made places : ℕ) → h'.config ≡ h.config → h'.states ≡ map (renewed s.number p now) h.states
+    → h'.nodes ≡ nodes_touched h.config h.nodes s now (completes_at p s) → IsStored h c m c' m' made places → IsStored h' c m c' m' made places
+stored-touched s p now h h' c m c' m' made places g e f i = record {
+  order = i.order;
+  mark_made = i.mark_made;
+  node_order = i.node_order;
+  node_mark_made = i.node_mark_made;
+  few = i.few;
+  numbered = subst (IsNumbered made) (sym (ap state_numbers e ∙ numbers-renewed s.number p now h.states)) i.numbered;
+  node_numbered = subst (IsNumbered made) (sym (ap node_numbers f ∙ same (completes_at p s))) i.node_numbered;
+  places = i.places ∙ ap (λ (conf : Conf). length conf.items) (sym g);
+}
+  where
+    same : (b : Bool) → node_numbers (nodes_touched h.config h.nodes s now b) ≡ node_numbers h.nodes
+    same true = numbers-scored h.nodes s.source now (node_scope_of h.config s.rule.0) _
+    same false = refl
+
+-- ---- a state comes
+
+past_mark : (c m made : ℕ) → m ≤ made → between c m (made + 1) ≡ false
+past_mark c m made l = grind (arith, nat_tests)
+
+waiting-came : (c m made : ℕ) (numbers : List ℕ) → m ≤ made → waiting c m (numbers ++ (made + 1) ∷ []) ≡ waiting c m numbers
+waiting-came c m made [] l = rw (past_mark c m made l) refl
+waiting-came c m made (n ∷ ns) l = go (between c m n) (waiting-came c m made ns l)
+  where
+    go : (b : Bool) → waiting c m (ns ++ (made + 1) ∷ []) ≡ waiting c m ns
+        → (if b then n ∷ waiting c m (ns ++ (made + 1) ∷ []) else waiting c m (ns ++ (made + 1) ∷ [])) ≡ (if b then n ∷ waiting c m ns else waiting c m ns)
+    go true e = ap (λ ys. n ∷ ys) e
+    go false e = e
+
+numbers-with : (ns : List Node) (number : ℕ) (a : Addr) (sc : Option NodeScope) (P : List ℕ → Type 0) → P (node_numbers ns) → P (node_numbers ns ++ number ∷ []) → P (node_numbers (nodes_with ns number a sc))
+numbers-with ns number a None P h k = h
+numbers-with ns number a (Some sc) P h k = go (has_node sc a ns)
+  where
+    go : (b : Bool) → P (node_numbers (if b then ns else ns ++ new_node number sc a ∷ []))
+    go true = h
+    go false = subst P (sym (map-push (λ (n : Node). n.number) (new_node number sc a) ns)) k
+
+pub world-came : (s : State) (h h' : Holding) (c m c' m' made places : ℕ) → IsStored h c m c' m' made places → s.number ≡ made + 1 → h'.states ≡ h.states ++ s ∷ []
+    → h'.nodes ≡ nodes_with h.nodes (made + 1) s.source (node_scope_of h.config s.rule.0)
+    → world_of h' c m c' m' (made + 1) ≡ lists (h.states ++ s ∷ []) (nodes_with h.nodes (made + 1) s.source (node_scope_of h.config s.rule.0))
+    (waiting c m (state_numbers h.states)) (waiting c' m' (node_numbers h.nodes)) (made + 1)
+world-came s h h' c m c' m' made places i n e f =
+    (λ j. lists (e j) (f j)
+    ((ap (λ xs. waiting c m (state_numbers xs)) e ∙ ap (waiting c m) (map-push (λ (x : State). x.number) s h.states ∙ ap (λ k. state_numbers h.states ++ k ∷ []) n) ∙ waiting-came c m made (state_numbers h.states) i.mark_made) j)
+    ((ap (λ ns. waiting c' m' (node_numbers ns)) f
+    ∙ numbers-with h.nodes (made + 1) s.source (node_scope_of h.config s.rule.0) (λ ks. waiting c' m' ks ≡ waiting c' m' (node_numbers h.nodes)) refl (waiting-came c' m' made (node_numbers h.nodes) i.node_mark_made)) j)
+    (made + 1))
+
+pub stored-came : (s : State) (h h' : Holding) (c m c' m' made places : ℕ) → made < 1000000000 → IsStored h c m c' m' made places → s.number ≡ made + 1 → h'.config ≡ h.config
+    → h'.states ≡ h.states ++ s ∷ [] → h'.nodes ≡ nodes_with h.nodes (made + 1) s.source (node_scope_of h.config s.rule.0) → IsStored h' c m c' m' (made + 1) places
+stored-came s h h' c m c' m' made places l i n g e f = record {
+  order = i.order;
+  mark_made = omega (arith, i.mark_made);
+  node_order = i.node_order;
+  node_mark_made = omega (arith, i.node_mark_made);
+  few = omega arith;
+  numbered = subst (IsNumbered (made + 1)) (sym (ap state_numbers e ∙ map-push (λ (x : State). x.number) s h.states ∙ ap (λ k. state_numbers h.states ++ k ∷ []) n)) (grown (state_numbers h.states) i.numbered);
+  node_numbered = subst (λ ns. IsNumbered (made + 1) (node_numbers ns)) (sym f)
+      (numbers-with h.nodes (made + 1) s.source (node_scope_of h.config s.rule.0) (IsNumbered (made + 1)) (numbered-later made (node_numbers h.nodes) i.node_numbered) (grown (node_numbers h.nodes) i.node_numbered));
+  places = i.places ∙ ap (λ (conf : Conf). length conf.items) (sym g);
+}
+  where
+    grown : (numbers : List ℕ) → IsNumbered made numbers → IsNumbered (made + 1) (numbers ++ (made + 1) ∷ [])
+    grown numbers k = all-push (λ k. (1 ≤ k) × (k ≤ made + 1)) (made + 1) numbers (numbered-later made numbers k) (omega arith, omega arith)
+
+-- ---- a slice under the counts before it
+
+due-expired : (conf : Conf) (counts : List ℕ) (xs : List State) (now : ℕ) (s : State) → AreCounts counts xs → s.rule.0 < length counts
+    → is_due conf counts (length xs) now s ≡ has_expired conf xs now s
+due-expired conf counts xs now s h l = ap (λ count. is_expired (scaled_lifetime conf s.rule.0 s.phase count (length xs)) s.last now) (h s.rule.0 l)
+
+filter-agree : (p q : State → Bool) (xs : List State) → AllByRecursion (λ x. p x ≡ q x) xs → filter p xs ≡ filter q xs
+filter-agree p q [] h = refl
+filter-agree p q (x ∷ xs) (h, hs) = (λ i. if h i then x ∷ filter-agree p q xs hs i else filter-agree p q xs hs i)
+
+pub due-stays : (conf : Conf) (counts : List ℕ) (all : List State) (now : ℕ) (examined : List ℕ) (xs : List State) → AreCounts counts all → AllByRecursion (HasRule (length counts)) xs
+    → filter (stays_by state_number (is_due conf counts (length all) now) examined) xs ≡ filter (stays conf all now examined) xs
+due-stays conf counts all now examined xs h r =
+    filter-agree (stays_by state_number (is_due conf counts (length all) now) examined) (stays conf all now examined) xs (each xs r)
+  where
+    each : (ys : List State) → AllByRecursion (HasRule (length counts)) ys
+        → AllByRecursion (λ (y : State). stays_by state_number (is_due conf counts (length all) now) examined y ≡ stays conf all now examined y) ys
+    each [] k = tt
+    each (y ∷ ys) (k, ks) = (ap (λ b. not (is_among examined y.number && b)) (due-expired conf counts all now y h k), each ys ks)
+
+-- ---- the states of a source
+
+pub flushed-source : (a : Addr) (rule : Option RuleNo) (s : State) → is_flushed a rule s ≡ true → is_of_source a s ≡ true
+flushed-source a None s h = h
+flushed-source a (Some r) s h = second (s.rule.0 == r.0) (is_of_source a s) h
+  where
+    second : (x y : Bool) → (x && y) ≡ true → y ≡ true
+    second true y e = e
+    second false y e = absurd cc
+
+abbrev from : Addr → ℕ → State → Bool
+from a made s = is_of_source a s && between 0 made s.number
+
+from-source : (a : Addr) (made : ℕ) (xs : List State) → IsNumbered made (state_numbers xs) → filter (from a made) xs ≡ filter (is_of_source a) xs
+from-source a made xs h = filter-agree (from a made) (is_of_source a) xs (each xs h)
+  where
+    and_true : (b c : Bool) → c ≡ true → (b && c) ≡ b
+    and_true true c e = e
+    and_true false c e = refl
+
+    each : (ys : List State) → IsNumbered made (state_numbers ys) → AllByRecursion (λ (y : State). from a made y ≡ is_of_source a y) ys
+    each [] k = tt
+    each (y ∷ ys) (k, ks) = (and_true (is_of_source a y) (between 0 made y.number) (between_all made y.number k.0 k.1), each ys ks)
+
+numbers-length : {X : Type 0} (number : X → ℕ) (xs : List X) → length (map number xs) ≡ length xs
+numbers-length number [] = refl
+numbers-length number (x ∷ xs) = omega (arith, numbers-length number xs)
+
+pub source-count : (a : Addr) (made : ℕ) (xs : List State) → IsNumbered made (state_numbers xs) → length (map (λ (s : State). s.number) (filter (from a made) xs)) ≡ source_states a xs
+source-count a made xs h = numbers-length (λ (s : State). s.number) (filter (from a made) xs) ∙ ap length (from-source a made xs h)
+
+or_true : (b : Bool) → (b || true) ≡ true
+or_true true = refl
+or_true false = refl
+
+-- every state of the source is among those examined in the end
+pub flushed-stays : (a : Addr) (rule : Option RuleNo) (made : ℕ) (xs : List State) → IsNumbered made (state_numbers xs)
+    → filter (stays_by state_number (is_flushed a rule) (map (λ (s : State). s.number) (filter (from a made) xs))) xs ≡ filter (stays_unflushed a rule) xs
+flushed-stays a rule made xs h =
+    filter-agree (stays_by state_number (is_flushed a rule) (map (λ (s : State). s.number) (filter (from a made) xs))) (stays_unflushed a rule) xs (each xs h (members xs))
+  where
+    ns : List ℕ
+    ns = map (λ (s : State). s.number) (filter (from a made) xs)
+
+    among : List State → State → Type 0
+    among ys y = from a made y ≡ true → is_among (map (λ (s : State). s.number) (filter (from a made) ys)) y.number ≡ true
+
+    later : (y : State) (ys zs : List State) → AllByRecursion (among ys) zs → AllByRecursion (among (y ∷ ys)) zs
+    later y ys [] k = tt
+    later y ys (z ∷ zs) (k, ks) = ((λ f. go (from a made y) (k f)), later y ys zs ks)
+      where
+        go : (b : Bool) → is_among (map (λ (s : State). s.number) (filter (from a made) ys)) z.number ≡ true
+            → is_among (map (λ (s : State). s.number) (if b then y ∷ filter (from a made) ys else filter (from a made) ys)) z.number ≡ true
+        go true e = ap (λ b. (y.number == z.number) || b) e ∙ or_true (y.number == z.number)
+        go false e = e
+
+    members : (ys : List State) → AllByRecursion (among ys) ys
+    members [] = tt
+    members (y ∷ ys) = ((λ f. rw (f, same_self y.number) refl), later y ys ys (members ys))
+
+    each : (ys : List State) → IsNumbered made (state_numbers ys) → AllByRecursion (among xs) ys
+        → AllByRecursion (λ (y : State). stays_by state_number (is_flushed a rule) (map (λ (s : State). s.number) (filter (from a made) xs)) y ≡ stays_unflushed a rule y) ys
+    each [] k m = tt
+    each (y ∷ ys) (k, ks) (m, ms) = (go (is_flushed a rule y) refl, each ys ks ms)
+      where
+        go : (b : Bool) → is_flushed a rule y ≡ b → stays_by state_number (is_flushed a rule) (map (λ (s : State). s.number) (filter (from a made) xs)) y ≡ stays_unflushed a rule y
+        go true e =
+            let s = flushed-source a rule y e in
+            let f : from a made y ≡ true = (λ i. s i && between_all made y.number k.0 k.1 i) in
+            rw (m f, e) refl
+        go false e = rw e (no (is_among (map (λ (s : State). s.number) (filter (from a made) xs)) y.number))
+          where
+            no : (b : Bool) → not (b && false) ≡ true
+            no true = refl
+            no false = refl
+
+-- how many are flushed
+pub flushed-count : (a : Addr) (rule : Option RuleNo) (xs : List State) → length xs - length (filter (stays_unflushed a rule) xs) ≡ length (filter (is_flushed a rule) xs)
+flushed-count a rule xs = omega (arith, both xs)
+  where
+    both : (ys : List State) → length (filter (is_flushed a rule) ys) + length (filter (stays_unflushed a rule) ys) ≡ length ys
+    both [] = refl
+    both (y ∷ ys) = go (is_flushed a rule y) (both ys)
+      where
+        go : (b : Bool) → length (filter (is_flushed a rule) ys) + length (filter (stays_unflushed a rule) ys) ≡ length ys
+            → length (if b then y ∷ filter (is_flushed a rule) ys else filter (is_flushed a rule) ys) + length (if not b then y ∷ filter (stays_unflushed a rule) ys else filter (stays_unflushed a rule) ys) ≡ length (y ∷ ys)
+        go true e = omega (arith, e)
+        go false e = omega (arith, e)
+
+pub flushed-le : (a : Addr) (rule : Option RuleNo) (xs : List State) → length (filter (is_flushed a rule) xs) ≤ source_states a xs
+flushed-le a rule [] = omega arith
+flushed-le a rule (x ∷ xs) = go (flushed-le a rule xs) (is_flushed a rule x) refl (is_of_source a x) refl
+  where
+    go : length (filter (is_flushed a rule) xs) ≤ source_states a xs → (b : Bool) → is_flushed a rule x ≡ b → (c : Bool) → is_of_source a x ≡ c
+        → length (filter (is_flushed a rule) (x ∷ xs)) ≤ source_states a (x ∷ xs)
+    go m true t true u = rw (t, u) (omega (arith, m))
+    go m true t false u = absurd (cc (flushed-source a rule x t, u))
+    go m false t true u = rw (t, u) (omega (arith, m))
+    go m false t false u = rw (t, u) m
+
+-- ---- a number is held where it waits just above the one before
+
+pub held-next : (n : ℕ) (xs : List State) → 1 ≤ n → is_some (slice_get (waiting (n - 1) n (state_numbers xs)) 0) ≡ holds_number xs n
+held-next n [] l = refl
+held-next n (x ∷ xs) l = rw (same x.number) (go (x.number == n) (held-next n xs l))
+  where
+    same : (k : ℕ) → between (n - 1) n k ≡ (k == n)
+    same k = grind (arith, nat_tests)
+
+    go : (b : Bool) → is_some (slice_get (waiting (n - 1) n (state_numbers xs)) 0) ≡ holds_number xs n
+        → is_some (slice_get (if b then x.number ∷ waiting (n - 1) n (state_numbers xs) else waiting (n - 1) n (state_numbers xs)) 0) ≡ (b || holds_number xs n)
+    go true e = refl
+    go false e = e
+
+pub held-zero : (made : ℕ) (xs : List State) → IsNumbered made (state_numbers xs) → holds_number xs 0 ≡ false
+held-zero made [] h = refl
+held-zero made (x ∷ xs) (h, hs) = rw (differs x.number h.0) (held-zero made xs hs)
+  where
+    differs : (k : ℕ) → 1 ≤ k → (k == 0) ≡ false
+    differs k l = grind (arith, nat_tests)

@@ -1,0 +1,71 @@
+use Rattle.std.proofs.Common.{◌≡◌, ◌∙◌, sym, ap, refl, filter, take, map, arith}
+use Rattle.std.proofs.lemmas.List.{take_all}
+use Rattle.pfs_store_plain.specs.Counts.{is_of_source}
+use Rattle.pfs_store_plain.specs.Leaving.{idled, is_flushed}
+use Rattle.pfs_store_index.specs.Rounds.{state_survives, waiting_of}
+use Rattle.pfs_store_index.proofs.Idling.{idled-same, step-nodes}
+use Rattle.pfs_store_index.proofs.Leavings.{state_number}
+use Rattle.pfs_store_index.proofs.Storing.{flushed-stays, source-count}
+use Rattle.pfs_store_index.proofs.Walks.{all-examined, at_next, stays-none, stays_by, step-stays, waiting-fewer, waiting-in, waiting-next}
+use Rattle.pfs_store_index.proofs.flushing.flush.Goals as goal
+
+pub loop-number-init : goal.loop-number-init
+loop-number-init g c = record {
+  config = refl;
+  order = omega arith;
+  within = omega arith;
+  states = stays-none state_number (is_flushed c.args.source c.args.rule) c.args.indexes.now.states;
+  nodes = idled-same c.args.indexes.now.config c.args.indexes.now.states c.args.now c.args.indexes.now.nodes;
+  rest = refl;
+  looks = omega arith;
+}
+
+pub strike-requires-clause-held : goal.strike-requires-clause-held
+strike-requires-clause-held g c =
+    (waiting-in state_number (is_of_source c.args.source) c.loop-number.cursor c.args.made c.in-Some.number c.loop-number.indexes.states (sym c.in-Some.ensures)).held
+
+pub strike-requires-clause-room : goal.strike-requires-clause-room
+strike-requires-clause-room g c =
+    let i = c.loop-number.invariant in
+    omega (arith, i.looks, i.within, waiting-fewer state_number (is_of_source c.args.source) 0 c.args.made c.args.indexes.now.states, c.requires.few, c.requires.room)
+
+pub overflow_add-examined : goal.overflow_add-examined
+overflow_add-examined g c =
+    omega (arith, c.loop-number.invariant.within, waiting-fewer state_number (is_of_source c.args.source) 0 c.args.made c.args.indexes.now.states, c.requires.few)
+
+pub loop-number-preserved : goal.loop-number-preserved
+loop-number-preserved g c =
+    let i = c.loop-number.invariant in
+    let n = c.in-Some.number in
+    let conf = c.args.indexes.now.config in
+    let test = is_of_source c.args.source in
+    let ws = waiting_of c.args.source 0 c.args.made c.args.indexes.now.states in
+    let leaves = is_flushed c.args.source c.args.rule in
+    let q = waiting-in state_number test c.loop-number.cursor c.args.made n c.loop-number.indexes.states (sym c.in-Some.ensures) in
+    let x = at_next c.loop-number.examined n ws (waiting_of c.args.source c.loop-number.cursor c.args.made c.loop-number.indexes.states) i.rest (sym c.in-Some.ensures) in
+    let m : c.strike.new.indexes.nodes ≡ map (idled conf c.loop-number.indexes.states c.strike.new.indexes.states c.args.now) c.loop-number.indexes.nodes =
+    c.strike.ensures.nodes ∙ (λ j. map (idled (i.config j) c.loop-number.indexes.states c.strike.new.indexes.states c.args.now) c.loop-number.indexes.nodes) in
+    record {
+      config = c.strike.ensures.config ∙ i.config;
+      order = q.most;
+      within = omega (arith, x.within);
+      states = step-stays state_number leaves n c.loop-number.examined ws c.args.indexes.now.states c.loop-number.indexes.states c.strike.new.indexes.states i.states c.strike.ensures.states x.taken;
+      nodes = step-nodes conf (stays_by state_number leaves (take c.loop-number.examined ws)) (state_survives leaves n) c.args.now c.args.indexes.now.states c.loop-number.indexes.states c.strike.new.indexes.states c.args.indexes.now.nodes c.loop-number.indexes.nodes _ i.states c.strike.ensures.states i.nodes m;
+      rest = ap (waiting_of c.args.source n c.args.made) c.strike.ensures.states ∙ waiting-next state_number test leaves c.loop-number.cursor c.args.made n _ c.loop-number.indexes.states c.strike.ensures.rising x.first;
+      looks = omega (arith, c.strike.ensures.looks, i.looks);
+    }
+
+pub returns-clause-states : goal.returns-clause-states
+returns-clause-states g c =
+    let i = c.loop-number.invariant in
+    let ws = waiting_of c.args.source 0 c.args.made c.args.indexes.now.states in
+    let l = all-examined c.loop-number.examined ws (waiting_of c.args.source c.loop-number.cursor c.args.made c.loop-number.indexes.states) i.rest (sym c.next_of_source.ensures ∙ c.in_default.is) in
+    i.states ∙ ap (λ zs. filter (stays_by state_number (is_flushed c.args.source c.args.rule) zs) c.args.indexes.now.states) (take_all c.loop-number.examined ws l)
+    ∙ flushed-stays c.args.source c.args.rule c.args.made c.args.indexes.now.states c.requires.numbered
+
+pub returns-clause-looks : goal.returns-clause-looks
+returns-clause-looks g c =
+    let i = c.loop-number.invariant in
+    let ws = waiting_of c.args.source 0 c.args.made c.args.indexes.now.states in
+    let l = all-examined c.loop-number.examined ws (waiting_of c.args.source c.loop-number.cursor c.args.made c.loop-number.indexes.states) i.rest (sym c.next_of_source.ensures ∙ c.in_default.is) in
+    omega (arith, i.looks, i.within, l, source-count c.args.source c.args.made c.args.indexes.now.states c.requires.numbered)

@@ -1,0 +1,132 @@
+use Rattle.std.proofs.Common.{◌≡◌, ◌∙◌, ◌≤◌, is_some, [], length, map, ap, subst, sym, arith}
+use Rattle.std.specs.HashMap as hash
+use Rattle.std.specs.List.{find, list_any}
+use Rattle.pfs_addr.specs.Keys.{key_of}
+use Rattle.pfs_addr.specs.Sameness.{same_key}
+use Rattle.pfs_conf_rules.specs.Configs.{Conf, options_of}
+use Rattle.pfs_store_plain.specs.Counts.{node_scope_of}
+use Rattle.pfs_store_plain.specs.Touching.{completes_at, connections_in, nodes_touched, renewed, score_in}
+use Rattle.pfs_store_plain.specs.Worlds.{IsUpToNow, lists}
+use Rattle.pfs_store_plain.specs.declared.records.State.{State}
+use Rattle.pfs_store_records.specs.Records.{states_of}
+use Rattle.pfs_store_records.specs.Tallies.{is_tally, nodes_of}
+use Rattle.pfs_store_index.specs.Holdings.{Holding}
+use Rattle.pfs_store_index.specs.Ties.{HasTally, IsCounted, IsFew, at_node, met_by}
+use Rattle.pfs_store_index.proofs.Comings.{few-counted}
+use Rattle.pfs_store_index.proofs.Leavings.{state_number}
+use Rattle.pfs_store_index.proofs.Meetings.{met-faithful, nodes-met, renewed_record, states-renewed}
+use Rattle.pfs_store_index.proofs.OneNode.{tally-at}
+use Rattle.pfs_store_index.proofs.Removals.{all-found}
+use Rattle.pfs_store_index.proofs.Renewing.{counts-done, entry-record, none-entry, number-found, read-held, read-is, state-found, told-connections, told-score, write-held, written}
+use Rattle.pfs_store_index.proofs.Searches.{all-weaker}
+use Rattle.pfs_store_index.proofs.Tying.{tied-met}
+use Rattle.pfs_store_index.proofs.indexes.Indexes.renew.Goals as goal
+
+pub read_at-state-requires-clause-held : goal.read_at-state-requires-clause-held
+read_at-state-requires-clause-held g c =
+    let k = key_of c.args.packet.now in
+    let h = entry-record k c.in-Some.entry.now c.self.inside.records (c.in-Some.ensures.value ∙ ap (hash.get same_key c.self.inside.keys) c.of.ensures ∙ c.self.invariant.by_key k) in
+    read-held k c.in-Some.entry.now c.self.inside.records h
+
+pub write_at-requires : goal.write_at-requires
+write_at-requires g c =
+    let k = key_of c.args.packet.now in
+    let rs = c.self.inside.records in
+    let h = entry-record k c.in-Some.entry.now c.self.inside.records (c.in-Some.ensures.value ∙ ap (hash.get same_key c.self.inside.keys) c.of.ensures ∙ c.self.invariant.by_key k) in
+    let q = read-is k c.in-Some.entry.now c.read_at-state.result rs h c.read_at-state.ensures.value in
+    write-held k c.in-Some.entry.now _ rs h (ap (λ (s : State). s.number) (q) ∙ sym (ap (λ (s : State). s.number) c.stepped-completed.ensures.state))
+
+pub meet-met-requires-clause-has : goal.meet-met-requires-clause-has
+meet-met-requires-clause-has g c =
+    let k = key_of c.args.packet.now in
+    let rs = c.self.inside.records in
+    let h = entry-record k c.in-Some.entry.now c.self.inside.records (c.in-Some.ensures.value ∙ ap (hash.get same_key c.self.inside.keys) c.of.ensures ∙ c.self.invariant.by_key k) in
+    let q = read-is k c.in-Some.entry.now c.read_at-state.result rs h c.read_at-state.ensures.value in
+    let f = number-found k c.in-Some.entry.now c.read_at-state.result rs h q c.len-count.ensures.rising in
+    all-found state_number (HasTally c.self.inside.config c.self.inside.nodes) c.read_at-state.result.number c.read_at-state.result (states_of rs) c.self.invariant.noded f
+
+pub meet-met-requires-clause-few : goal.meet-met-requires-clause-few
+meet-met-requires-clause-few g c =
+    let l : length (states_of c.self.inside.records) ≤ 1000000000 = omega (arith, ap (λ (h : Holding). length h.states) c.self.view_is, c.requires.few) in
+    all-weaker (IsCounted c.self.inside.config (states_of c.self.inside.records)) IsFew (λ t h. few-counted c.self.inside.config (states_of c.self.inside.records) t l h) c.self.inside.nodes c.self.invariant.counted
+
+pub meet-met-requires-clause-scored : goal.meet-met-requires-clause-scored
+meet-met-requires-clause-scored g c = c.self.invariant.scored
+
+pub meet-met-requires-clause-order : goal.meet-met-requires-clause-order
+meet-met-requires-clause-order g c = subst (λ (h : Holding). IsUpToNow c.args.now (lists [] h.nodes [] [] 0)) (sym c.self.view_is) c.requires.order
+
+pub invariant_of-self : goal.invariant_of-self
+invariant_of-self g c =
+    let k = key_of c.args.packet.now in
+    let rs = c.self.inside.records in
+    let s = c.read_at-state.result in
+    let h = entry-record k c.in-Some.entry.now c.self.inside.records (c.in-Some.ensures.value ∙ ap (hash.get same_key c.self.inside.keys) c.of.ensures ∙ c.self.invariant.by_key k) in
+    let q = read-is k c.in-Some.entry.now c.read_at-state.result rs h c.read_at-state.ensures.value in
+    let f = number-found k c.in-Some.entry.now s rs h q c.len-count.ensures.rising in
+    let w : c.write_at.new.self ≡ map (renewed_record s.number c.args.packet.now c.args.now) c.self.inside.records =
+    c.write_at.ensures.records ∙ written k c.in-Some.entry.now c.args.packet.now c.args.now s _ rs h q c.len-count.ensures.rising c.stepped-completed.ensures.state in
+    let m : c.meet-met.new.nodes ≡ map (at_node (node_scope_of c.self.inside.config s.rule.0) s.source (met_by (options_of c.self.inside.config s.rule.0).max_src_conn_rate c.args.now (completes_at c.args.packet.now s))) c.self.inside.nodes =
+    c.meet-met.ensures.nodes ∙ ap (λ b. map (at_node (node_scope_of c.self.inside.config s.rule.0) s.source (met_by (options_of c.self.inside.config s.rule.0).max_src_conn_rate c.args.now b)) c.self.inside.nodes) c.stepped-completed.ensures.completes in
+    rw (w, m)
+    (tied-met c.self.inside.config rs c.self.inside.keys c.self.inside.counts.items c.self.inside.nodes c.self.inside.pairs s.number c.args.packet.now c.args.now s c.self.invariant c.len-count.ensures.rising f (counts-done s c.args.packet.now))
+
+pub returns-clause-before : goal.returns-clause-before
+returns-clause-before g c =
+    let k = key_of c.args.packet.now in
+    let rs = c.self.inside.records in
+    let h = entry-record k c.in-Some.entry.now c.self.inside.records (c.in-Some.ensures.value ∙ ap (hash.get same_key c.self.inside.keys) c.of.ensures ∙ c.self.invariant.by_key k) in
+    let q = read-is k c.in-Some.entry.now c.read_at-state.result rs h c.read_at-state.ensures.value in
+    ap (λ (x : Holding). find (λ (s : State). same_key s.key (key_of c.args.packet.now)) x.states) (sym c.self.view_is) ∙ state-found k c.in-Some.entry.now c.read_at-state.result rs h q
+
+pub returns-clause-states : goal.returns-clause-states
+returns-clause-states g c =
+    let k = key_of c.args.packet.now in
+    let rs = c.self.inside.records in
+    let s = c.read_at-state.result in
+    let h = entry-record k c.in-Some.entry.now c.self.inside.records (c.in-Some.ensures.value ∙ ap (hash.get same_key c.self.inside.keys) c.of.ensures ∙ c.self.invariant.by_key k) in
+    let q = read-is k c.in-Some.entry.now c.read_at-state.result rs h c.read_at-state.ensures.value in
+    let w : c.write_at.new.self ≡ map (renewed_record s.number c.args.packet.now c.args.now) c.self.inside.records =
+    c.write_at.ensures.records ∙ written k c.in-Some.entry.now c.args.packet.now c.args.now s _ rs h q c.len-count.ensures.rising c.stepped-completed.ensures.state in
+    ap states_of w ∙ states-renewed s.number c.args.packet.now c.args.now rs ∙ ap (λ (x : Holding). map (renewed s.number c.args.packet.now c.args.now) x.states) c.self.view_is
+
+pub returns-clause-nodes : goal.returns-clause-nodes
+returns-clause-nodes g c =
+    let s = c.read_at-state.result in
+    let m : c.meet-met.new.nodes ≡ map (at_node (node_scope_of c.self.inside.config s.rule.0) s.source (met_by (options_of c.self.inside.config s.rule.0).max_src_conn_rate c.args.now (completes_at c.args.packet.now s))) c.self.inside.nodes =
+    c.meet-met.ensures.nodes ∙ ap (λ b. map (at_node (node_scope_of c.self.inside.config s.rule.0) s.source (met_by (options_of c.self.inside.config s.rule.0).max_src_conn_rate c.args.now b)) c.self.inside.nodes) c.stepped-completed.ensures.completes in
+    ap nodes_of m ∙ nodes-met c.self.inside.config s c.args.now (completes_at c.args.packet.now s) c.self.inside.nodes
+    ∙ ap (λ (x : Holding). nodes_touched x.config x.nodes s c.args.now (completes_at c.args.packet.now s)) c.self.view_is
+
+pub returns-clause-told : goal.returns-clause-told
+returns-clause-told g c =
+    let s = c.read_at-state.result in
+    let conf = c.self.inside.config in
+    let done = completes_at c.args.packet.now s in
+    let rate = (options_of conf s.rule.0).max_src_conn_rate in
+    let sc = node_scope_of conf s.rule.0 in
+    let m : c.meet-met.new.nodes ≡ map (at_node (node_scope_of c.self.inside.config s.rule.0) s.source (met_by (options_of c.self.inside.config s.rule.0).max_src_conn_rate c.args.now (completes_at c.args.packet.now s))) c.self.inside.nodes =
+    c.meet-met.ensures.nodes ∙ ap (λ b. map (at_node (node_scope_of c.self.inside.config s.rule.0) s.source (met_by (options_of c.self.inside.config s.rule.0).max_src_conn_rate c.args.now b)) c.self.inside.nodes) c.stepped-completed.ensures.completes in
+    let tied = invariant_of-self g c in
+    let k = key_of c.args.packet.now in
+    let rs = c.self.inside.records in
+    let h = entry-record k c.in-Some.entry.now c.self.inside.records (c.in-Some.ensures.value ∙ ap (hash.get same_key c.self.inside.keys) c.of.ensures ∙ c.self.invariant.by_key k) in
+    let q = read-is k c.in-Some.entry.now s rs h c.read_at-state.ensures.value in
+    let f = number-found k c.in-Some.entry.now s rs h q c.len-count.ensures.rising in
+    let has : HasTally c.self.inside.config c.self.inside.nodes s =
+    all-found state_number (HasTally c.self.inside.config c.self.inside.nodes) s.number s (states_of rs) c.self.invariant.noded f in
+    let n = c.meet-met.ensures.connections
+    ∙ told-connections conf sc s.source (states_of c.write_at.new.self) c.meet-met.new.nodes tied.counted
+    (λ own e. ap (list_any (is_tally own s.source)) m ∙ tally-at own s.source sc s.source (met_by rate c.args.now done) (met-faithful rate c.args.now done) c.self.inside.nodes ∙ has own e)
+    ∙ ap (λ xs. connections_in conf s.source xs sc) (returns-clause-states g c)
+    ∙ ap (λ (x : Conf). connections_in x s.source (map (renewed s.number c.args.packet.now c.args.now) c.args.self.now.states) (node_scope_of x s.rule.0)) (ap (λ (x : Holding). x.config) c.self.view_is) in
+    let z = c.meet-met.ensures.score ∙ told-score sc s.source c.meet-met.new.nodes
+    ∙ ap (λ ns. score_in s.source ns sc) (returns-clause-nodes g c)
+    ∙ ap (λ (x : Conf). score_in s.source (nodes_touched c.args.self.now.config c.args.self.now.nodes s c.args.now (completes_at c.args.packet.now s)) (node_scope_of x s.rule.0)) (ap (λ (x : Holding). x.config) c.self.view_is) in
+    (λ j. record { rule = s.rule; source = s.source; completed = c.stepped-completed.ensures.completes j; connections = n j; score = z j })
+
+pub unreachable-requires : goal.unreachable-requires
+unreachable-requires g c =
+    let k = key_of c.args.packet.now in
+    none-entry k c.self.inside.records (c.in-None.ensures.value ∙ ap (hash.get same_key c.self.inside.keys) c.of.ensures ∙ c.self.invariant.by_key k)
+    (ap (λ (x : Holding). is_some (find (λ (s : State). same_key s.key (key_of c.args.packet.now)) x.states)) c.self.view_is ∙ c.requires.held)

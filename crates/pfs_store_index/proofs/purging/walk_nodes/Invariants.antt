@@ -1,0 +1,23 @@
+use Rattle.std.proofs.Common.{◌≡◌, ◌-◌, ◌≤◌, length, filter, take, drop}
+use Rattle.pfs_store_plain.specs.Purging.{is_over, node_numbers}
+use Rattle.pfs_store_index.specs.Rounds.{waiting}
+use Rattle.pfs_store_index.proofs.Idling.{node_number}
+use Rattle.pfs_store_index.proofs.Walks.{stays_by}
+use Rattle.pfs_store_index.proofs.purging.walk_nodes.Given as goal
+
+-- of the numbers that waited, the first are examined and the others wait
+abbrev pub invariant-loop-examined : goal.invariant-loop-examined
+invariant-loop-examined g l = record {
+  config : l.indexes.config ≡ l.fn.indexes.config;
+  kept : l.indexes.states ≡ l.fn.indexes.states;
+  held : l.held ≡ length l.fn.indexes.nodes;
+  order : l.cursor ≤ l.round.mark;
+  share : l.examined ≤ l.share;
+  within : l.examined ≤ length (waiting l.round.cursor l.round.mark (node_numbers l.fn.indexes.nodes));
+  nodes : l.indexes.nodes
+      ≡ filter (stays_by node_number (is_over l.fn.indexes.config l.fn.indexes.states l.now) (take l.examined (waiting l.round.cursor l.round.mark (node_numbers l.fn.indexes.nodes)))) l.fn.indexes.nodes;
+  rest : waiting l.cursor l.round.mark (node_numbers l.indexes.nodes) ≡ drop l.examined (waiting l.round.cursor l.round.mark (node_numbers l.fn.indexes.nodes));
+}
+
+abbrev pub decreases-loop-examined : goal.decreases-loop-examined
+decreases-loop-examined g l = l.share - l.examined

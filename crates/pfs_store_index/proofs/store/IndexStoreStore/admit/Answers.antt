@@ -1,0 +1,45 @@
+use Rattle.std.proofs.Common.{◌≡◌, ◌∙◌, ◌+◌, ◌<◌, ◌++◌, ◌∷◌, [], None, Option, ap, refl, sym, arith}
+use Rattle.pfs_store_plain.specs.Admission.{limit_at, limit_met, new_state, nodes_with, world_at}
+use Rattle.pfs_store_plain.specs.Counts.{node_scope_of}
+use Rattle.pfs_store_plain.specs.Plain.{Plain}
+use Rattle.pfs_store_plain.specs.Purging.{node_numbers, state_numbers}
+use Rattle.pfs_store_plain.specs.Worlds.{World, lists}
+use Rattle.pfs_store_plain.specs.declared.records.Limit.{Limit}
+use Rattle.pfs_store_plain.specs.declared.records.State.{State}
+use Rattle.pfs_track.specs.StatePhases.{first_phase}
+use Rattle.pfs_store_index.specs.Rounds.{waiting}
+use Rattle.pfs_store_index.specs.Stored.{world_of}
+use Rattle.pfs_store_index.proofs.Storing.{few-numbered, made-above, stored-came, world-came}
+use Rattle.pfs_store_index.proofs.store.IndexStoreStore.admit.Goals as goal
+
+pub put-requires-clause-above : goal.put-requires-clause-above
+put-requires-clause-above g c = made-above c.self.inside.made _ c.self.invariant.numbered
+
+pub put-requires-clause-nodes_above : goal.put-requires-clause-nodes_above
+put-requires-clause-nodes_above g c = made-above c.self.inside.made _ c.self.invariant.node_numbered
+
+pub put-requires-clause-few : goal.put-requires-clause-few
+put-requires-clause-few g c =
+    omega (arith, few-numbered c.self.inside.made c.self.inside.indexes.states c.state_count-count.ensures.rising c.self.invariant.numbered, c.self.invariant.few)
+
+pub invariant_of-self : goal.invariant_of-self
+invariant_of-self g c =
+    let s : State = record { number = c.self.inside.made + 1; key = c.of.result; dir = c.dir.result; source = c.src-source.result; rule = c.args.rule; phase = c.first.result; last = c.args.now } in
+    let l : c.self.inside.made < 1000000000 = omega (arith, ap (λ (p : Plain). p.world.made) c.self.view_is, c.requires.room) in
+    stored-came s c.self.inside.indexes c.put.new.self c.self.inside.states_round.cursor c.self.inside.states_round.mark c.self.inside.nodes_round.cursor c.self.inside.nodes_round.mark c.self.inside.made _ l c.self.invariant refl
+    c.in-Ok.ensures.config c.in-Ok.ensures.states c.in-Ok.ensures.nodes
+
+pub returns-in-Ok-clause-ok : goal.returns-in-Ok-clause-ok
+returns-in-Ok-clause-ok g c =
+    let h = c.self.inside.indexes in
+    let m = c.self.inside.made in
+    let w : World = world_of c.self.inside.indexes c.self.inside.states_round.cursor c.self.inside.states_round.mark c.self.inside.nodes_round.cursor c.self.inside.nodes_round.mark c.self.inside.made in
+    let s : State = record { number = c.self.inside.made + 1; key = c.of.result; dir = c.dir.result; source = c.src-source.result; rule = c.args.rule; phase = c.first.result; last = c.args.now } in
+    let q : s ≡ new_state (c.self.inside.made + 1) c.args.packet.now c.args.rule.0 c.args.now =
+    (λ j. record { number = c.self.inside.made + 1; key = c.of.ensures j; dir = c.dir.ensures j; source = c.src-source.ensures j; rule = c.args.rule; phase = (c.first.ensures ∙ ap first_phase c.proto.ensures) j; last = c.args.now }) in
+    let n : None ≡ limit_at c.self.inside.indexes.config w c.args.packet.now c.args.rule.0 =
+    sym c.in_default.is ∙ c.limit_met.ensures ∙ ap (limit_met c.self.inside.indexes.config w c.args.rule.0) c.src-source.ensures in
+    world-came s h c.put.new.self c.self.inside.states_round.cursor c.self.inside.states_round.mark c.self.inside.nodes_round.cursor c.self.inside.nodes_round.mark m _ c.self.invariant refl c.in-Ok.ensures.states c.in-Ok.ensures.nodes
+    ∙ ap (λ (x : State). lists (h.states ++ x ∷ []) (nodes_with h.nodes (m + 1) x.source (node_scope_of h.config x.rule.0)) (waiting c.self.inside.states_round.cursor c.self.inside.states_round.mark (state_numbers h.states)) (waiting c.self.inside.nodes_round.cursor c.self.inside.nodes_round.mark (node_numbers h.nodes)) (m + 1)) q
+    ∙ ap (λ (o : Option Limit). world_at h.config w c.args.packet.now c.args.rule.0 c.args.now o) n
+    ∙ ap (λ (p : Plain). world_at p.config p.world c.args.packet.now c.args.rule.0 c.args.now (limit_at p.config p.world c.args.packet.now c.args.rule.0)) c.self.view_is

@@ -1,0 +1,17 @@
+use Rattle.std.proofs.Common.{◌≡◌, ◌∙◌, ◌≤◌, ap, is_some, sym, arith}
+use Rattle.pfs_store_plain.specs.Plain.{Plain}
+use Rattle.pfs_store_plain.specs.Worlds.{holds_number}
+use Rattle.pfs_store_index.proofs.Storing.{held-next, held-zero}
+use Rattle.pfs_store_index.proofs.store.IndexStoreStore.holds.Goals as goal
+
+pub returns-then-number-eq0 : goal.returns-then-number-eq0
+returns-then-number-eq0 g c =
+    let z : c.args.number.0 ≡ 0 = omega arith in
+    sym (ap (holds_number c.self.inside.indexes.states) z ∙ held-zero c.self.inside.made c.self.inside.indexes.states c.self.invariant.numbered)
+    ∙ ap (λ (p : Plain). holds_number p.world.states c.args.number.0) c.self.view_is
+
+pub returns-else-number-eq0 : goal.returns-else-number-eq0
+returns-else-number-eq0 g c =
+    let l : 1 ≤ c.args.number.0 = omega arith in
+    c.is_some.ensures ∙ ap is_some c.next_between.ensures ∙ held-next c.args.number.0 c.self.inside.indexes.states l
+    ∙ ap (λ (p : Plain). holds_number p.world.states c.args.number.0) c.self.view_is

@@ -1,0 +1,42 @@
+use Rattle.std.proofs.Common.{◌≡◌, ◌∙◌, true, Option, Some, None, ap, is_some, option_map, refl, sym, arith}
+use Rattle.std.specs.List.{find}
+use Rattle.pfs_addr.specs.Keys.{key_of}
+use Rattle.pfs_addr.specs.Sameness.{same_key}
+use Rattle.pfs_store_plain.specs.Plain.{Plain}
+use Rattle.pfs_store_plain.specs.Touching.{touch_of, world_touched}
+use Rattle.pfs_store_plain.specs.Worlds.{number_of, state_with}
+use Rattle.pfs_store_plain.specs.declared.records.State.{State}
+use Rattle.pfs_store_plain.specs.declared.records.StateNo.{StateNo}
+use Rattle.pfs_store_index.specs.Stored.{world_of}
+use Rattle.pfs_store_index.proofs.Storing.{few-numbered, stored-touched, world-touched}
+use Rattle.pfs_store_index.proofs.store.IndexStoreStore.touch.Goals as goal
+
+some_of : (o : Option State) (n : StateNo) → option_map number_of o ≡ Some n → is_some o ≡ true
+some_of None n h = absurd cc
+some_of (Some s) n h = refl
+
+pub renew-requires-clause-held : goal.renew-requires-clause-held
+renew-requires-clause-held g c =
+    some_of (find (λ (s : State). same_key s.key (key_of c.args.packet.now)) c.self.inside.indexes.states) c.args._number
+    (ap (λ (p : Plain). option_map number_of (state_with (key_of c.args.packet.now) p.world)) c.self.view_is ∙ c.requires.held)
+
+pub renew-requires-clause-few : goal.renew-requires-clause-few
+renew-requires-clause-few g c =
+    omega (arith, few-numbered c.self.inside.made c.self.inside.indexes.states c.state_count-count.ensures.rising c.self.invariant.numbered, c.self.invariant.few)
+
+pub invariant_of-self : goal.invariant_of-self
+invariant_of-self g c =
+    stored-touched c.renew.result.before c.args.packet.now c.args.now c.self.inside.indexes c.renew.new.self _ _ _ _ _ _ c.renew.ensures.config c.renew.ensures.states c.renew.ensures.nodes c.self.invariant
+
+pub returns-clause-world : goal.returns-clause-world
+returns-clause-world g c =
+    world-touched c.renew.result.before c.args.packet.now c.args.now c.self.inside.indexes c.renew.new.self c.self.inside.states_round.cursor c.self.inside.states_round.mark c.self.inside.nodes_round.cursor c.self.inside.nodes_round.mark c.self.inside.made
+    c.renew.ensures.states c.renew.ensures.nodes
+    ∙ ap (λ (o : Option State). world_touched c.self.inside.indexes.config (world_of c.self.inside.indexes c.self.inside.states_round.cursor c.self.inside.states_round.mark c.self.inside.nodes_round.cursor c.self.inside.nodes_round.mark c.self.inside.made) c.args.packet.now c.args.now o) (sym c.renew.ensures.before)
+    ∙ ap (λ (p : Plain). world_touched p.config p.world c.args.packet.now c.args.now (state_with (key_of c.args.packet.now) p.world)) c.self.view_is
+
+pub returns-clause-answer : goal.returns-clause-answer
+returns-clause-answer g c =
+    ap Some c.renew.ensures.told
+    ∙ ap (λ (o : Option State). option_map (touch_of c.self.inside.indexes.config (world_of c.self.inside.indexes c.self.inside.states_round.cursor c.self.inside.states_round.mark c.self.inside.nodes_round.cursor c.self.inside.nodes_round.mark c.self.inside.made) c.args.packet.now c.args.now) o) (sym c.renew.ensures.before)
+    ∙ ap (λ (p : Plain). option_map (touch_of p.config p.world c.args.packet.now c.args.now) (state_with (key_of c.args.packet.now) p.world)) c.self.view_is

@@ -1,0 +1,4 @@
+pub mod Holdings
+pub mod Rounds
+pub mod Stored
+pub mod Ties

@@ -1,0 +1,22 @@
+-- Rounds of the purge as two numbers: those above the cursor and up to the mark are still to be examined.
+use Rattle.std.specs.Prelude.{ℕ, ◌==◌, ◌&&◌, not, Bool, List, filter, map}
+use Rattle.pfs_addr.specs.declared.addresses.Addr.{Addr}
+use Rattle.pfs_store_plain.specs.Counts.{is_of_source}
+use Rattle.pfs_store_plain.specs.declared.records.Node.{Node}
+use Rattle.pfs_store_plain.specs.declared.records.State.{State}
+use Rattle.pfs_store_records.specs.Records.{between}
+
+-- the numbers that a round with this cursor and mark has still to examine
+abbrev pub waiting : ℕ → ℕ → List ℕ → List ℕ
+waiting cursor mark numbers = filter (between cursor mark) numbers
+
+-- the numbers above one, and up to another, of the states of a source
+abbrev pub waiting_of : Addr → ℕ → ℕ → List State → List ℕ
+waiting_of source above most states = map (λ (s : State). s.number) (filter (λ (s : State). is_of_source source s && between above most s.number) states)
+
+-- a state, or a node, stays when one number is examined: it has another, or does not leave
+abbrev pub state_survives : (State → Bool) → ℕ → State → Bool
+state_survives leaves n s = not ((n == s.number) && leaves s)
+
+abbrev pub node_survives : (Node → Bool) → ℕ → Node → Bool
+node_survives leaves n node = not ((n == node.number) && leaves node)

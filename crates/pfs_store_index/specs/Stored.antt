@@ -1,0 +1,34 @@
+-- A store of what is held, and of two rounds of the purge, each of which is two numbers. (own)
+use Rattle.std.specs.Prelude.{ℕ, ◌≡◌, ◌≤◌, Bool, List, length, slice_index}
+use Rattle.std.specs.List.{AllByRecursion}
+use Rattle.pfs_conf_rules.specs.Configs.{Conf}
+use Rattle.pfs_track.specs.Lifetimes.{is_expired, scaled_lifetime}
+use Rattle.pfs_store_plain.specs.Purging.{node_numbers, state_numbers}
+use Rattle.pfs_store_plain.specs.Worlds.{World, lists}
+use Rattle.pfs_store_plain.specs.declared.records.State.{State}
+use Rattle.pfs_store_index.specs.Holdings.{Holding}
+use Rattle.pfs_store_index.specs.Rounds.{waiting}
+
+-- numbers from 1 to those made
+abbrev pub IsNumbered : ℕ → List ℕ → Type 0
+IsNumbered made numbers = AllByRecursion (λ n. (1 ≤ n) × (n ≤ made)) numbers
+
+-- the world of what is held, in rounds with these cursors and marks
+abbrev pub world_of : Holding → ℕ → ℕ → ℕ → ℕ → ℕ → World
+world_of h cursor mark node_cursor node_mark made =
+    lists h.states h.nodes (waiting cursor mark (state_numbers h.states)) (waiting node_cursor node_mark (node_numbers h.nodes)) made
+
+-- a state is expired, where the rules had these counts of states and so many were held
+abbrev pub is_due : Conf → List ℕ → ℕ → ℕ → State → Bool
+is_due conf counts held now s = is_expired (scaled_lifetime conf s.rule.0 s.phase (slice_index counts s.rule.0) held) s.last now
+
+-- what every store keeps
+pub record IsStored (h : Holding) (cursor mark node_cursor node_mark made room : ℕ) : Type 0 where
+  pub order : cursor ≤ mark
+  pub mark_made : mark ≤ made
+  pub node_order : node_cursor ≤ node_mark
+  pub node_mark_made : node_mark ≤ made
+  pub few : made ≤ 1000000000
+  pub numbered : IsNumbered made (state_numbers h.states)
+  pub node_numbered : IsNumbered made (node_numbers h.nodes)
+  pub places : room ≡ length h.config.items

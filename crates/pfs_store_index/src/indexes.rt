@@ -1,0 +1,345 @@
+//! What is held, and what finds it: each index and each count is tied to the records.
+
+ghost use Rattle.std.specs.Prelude.{◌≡◌, ◌+◌, ◌-◌, ◌<◌, ◌≤◌, ◌^◌, ◌==◌, ◌++◌, ◌∷◌, [], IfOk, IfSome, IsSome, None, OnErr, OnOk, Some, filter, is_some, length, map, not, option_map, slice_get, true};
+ghost use Rattle.std.specs.List.{AllByRecursion, find};
+ghost use Rattle.pfs_addr.specs.Keys.{key_of};
+ghost use Rattle.pfs_conf_rules.specs.Configs.{options_at};
+ghost use Rattle.pfs_store_plain.specs.Admission.{nodes_with};
+ghost use Rattle.pfs_store_plain.specs.Counts.{has_node, node_scope_of, node_states, rule_states, scope_nodes};
+ghost use Rattle.pfs_store_plain.specs.Leaving.{idled, other_than};
+ghost use Rattle.pfs_store_plain.specs.Plain.{AreCounts};
+ghost use Rattle.pfs_store_plain.specs.Purging.{node_numbers, state_numbers};
+ghost use Rattle.pfs_store_plain.specs.Touching.{completes_at, nodes_touched, renewed, touch_of};
+ghost use Rattle.pfs_store_plain.specs.Worlds.{IsUpToNow, holds_number, lists, number_of, rule_in, state_with};
+ghost use Rattle.pfs_store_records.specs.Records.{IsAbove, IsRising, placed_at};
+ghost use Rattle.pfs_store_index.specs.Holdings.{IsUncompleted};
+ghost use Rattle.pfs_store_index.specs.Rounds.{waiting, waiting_of};
+ghost use Rattle.pfs_store_index.specs.Ties.{HasRule, entry_of};
+
+use crate::placing::place;
+use crate::stepping::stepped;
+use crate::tallying::{leave, meet};
+use pfs_addr::{Addr, FlowKey, Meter, NoMemory, Packet};
+use pfs_conf_rules::{Config, RuleNo, Scope};
+use pfs_store_plain::{Node, NodeScope, State, StateNo, Touched};
+use pfs_store_records::{Nodes, Records, Tally};
+use std::alloc::{AllocError, Global};
+use std::collections::{BTreeSet, HashMap};
+use std::hash::BuildHasher;
+use std::marker::Model;
+use std::ops::Bound;
+
+/// What the index by key has of a state: its number, its rule, and the place of its record.
+#[derive(Debug, Clone, Copy, PartialEq, Eq)]
+pub(crate) struct Entry {
+    pub(crate) number: u64,
+    pub(crate) rule: RuleNo,
+    pub(crate) place: usize,
+}
+
+/// A state before its packet, and what is told of the packet.
+#[derive(Debug, Clone, Copy, PartialEq, Eq)]
+pub(crate) struct Renewed {
+    pub(crate) before: State,
+    pub(crate) touched: Touched,
+}
+
+/// The states and the source nodes that are held for a configuration, with what finds and counts them. Callers see them as
+/// two lists by rising number.
+#[derive(Drop)]
+pub(crate) struct Indexes<S: BuildHasher> {
+    config: Config,
+    records: Records,
+    keys: HashMap<FlowKey, Entry, S>,
+    counts: Vec<u64>,
+    nodes: Nodes<S>,
+    pairs: BTreeSet<(Addr, u64)>,
+}
+
+impl<S: BuildHasher> Model for Indexes<S> {
+    ghost use Rattle.pfs_store_records.specs.Records.{states_of};
+    ghost use Rattle.pfs_store_records.specs.Tallies.{nodes_of};
+    ghost use Rattle.pfs_store_index.specs.Holdings.{Holding};
+    ghost use Rattle.pfs_store_index.specs.Ties.{IsTied};
+
+    ghost Value = { Holding };
+
+    ghost view = { λ x. record { config = x.config; states = states_of x.records; nodes = nodes_of x.nodes } };
+
+    ghost invariant = { λ x. IsTied x.config x.records x.keys x.counts.items x.nodes x.pairs };
+}
+
+impl<S: BuildHasher> Indexes<S> {
+    /// Nothing is held. The index by key hashes with the first hasher, and that of the nodes with the second.
+    pub(crate) fn new(
+        alloc: Global,
+        config: Config,
+        by_key: S,
+        by_source: S,
+    ) -> Result<Indexes<S>, AllocError>
+    where
+        S: Drop,
+        ensures { IfOk result (λ x. x ≡ record { config = config; states = []; nodes = [] }) }
+    {
+        let counts = vec![in alloc; 0; config.item_count() as usize]?;
+        Ok(Indexes {
+            config,
+            records: Records::new(alloc),
+            keys: HashMap::with_hasher(alloc, by_key),
+            counts,
+            nodes: Nodes::new(alloc, by_source),
+            pairs: BTreeSet::new(alloc),
+        })
+    }
+
+    /// The configuration.
+    pub(crate) fn config(&self) -> &Config
+        ensures { result.now ≡ self.now.config }
+    {
+        &self.config
+    }
+
+    /// How many states are held.
+    pub(crate) fn state_count(&self) -> u64
+        ensures value { result ≡ length self.now.states }
+        ensures rising { IsRising (state_numbers self.now.states) }
+        ensures ruled { AllByRecursion (HasRule (length self.now.config.items)) self.now.states }
+    {
+        self.records.len()
+    }
+
+    /// How many source nodes are held.
+    pub(crate) fn node_count(&self) -> u64
+        ensures value { result ≡ length self.now.nodes }
+        ensures rising { IsRising (node_numbers self.now.nodes) }
+    {
+        self.nodes.len()
+    }
+
+    /// The number of the state that has a key.
+    pub(crate) fn find(&self, key: &FlowKey) -> Option<StateNo>
+        ensures { result ≡ option_map number_of (state_with key.now (lists self.now.states [] [] [] 0)) }
+    {
+        match self.keys.get(key) {
+            Some(entry) => Some(StateNo(entry.number)),
+            None => None,
+        }
+    }
+
+    /// The rule of the state that has a key.
+    pub(crate) fn rule_at(&self, key: &FlowKey) -> Option<RuleNo>
+        ensures { result ≡ option_map rule_in (state_with key.now (lists self.now.states [] [] [] 0)) }
+    {
+        match self.keys.get(key) {
+            Some(entry) => Some(entry.rule),
+            None => None,
+        }
+    }
+
+    /// How many states a rule has that keeps state.
+    pub(crate) fn rule_count(&self, rule: RuleNo) -> u64
+        requires { IsSome (options_at self.now.config rule.0) }
+        ensures { result ≡ rule_states rule.0 self.now.states }
+    {
+        self.counts[rule.0 as usize]
+    }
+
+    /// How many states each rule has.
+    pub(crate) fn rule_counts(&self) -> &[u64]
+        ensures counts { AreCounts result.now self.now.states }
+        ensures size { length result.now ≡ length self.now.config.items }
+    {
+        &self.counts
+    }
+
+    /// How many source nodes a scope has.
+    pub(crate) fn scope_count(&self, scope: NodeScope) -> u64
+        ensures { result ≡ scope_nodes scope self.now.nodes }
+    {
+        self.nodes.count(scope)
+    }
+
+    /// How many states the node of a scope and a source has, if there is one.
+    pub(crate) fn source_count(&self, scope: NodeScope, source: Addr) -> Option<u64>
+        ensures some { is_some result ≡ has_node scope source self.now.nodes }
+        ensures value { IfSome result (λ count. count ≡ node_states self.now.config scope source self.now.states) }
+    {
+        match self.nodes.get(scope, source) {
+            Some(tally) => Some(tally.states),
+            None => None,
+        }
+    }
+
+    /// The least number of a state above one, and up to another.
+    pub(crate) fn next_between(&self, above: u64, most: u64) -> Option<u64>
+        requires { above ≤ most }
+        ensures { result ≡ slice_get (waiting above most (state_numbers self.now.states)) 0 }
+    {
+        self.records.next_between(above, most)
+    }
+
+    /// The least number above one, and up to another, of the states of a source.
+    pub(crate) fn next_of_source(&self, source: Addr, above: u64, most: u64) -> Option<u64>
+        requires { above ≤ most }
+        ensures { result ≡ slice_get (waiting_of source above most self.now.states) 0 }
+    {
+        let _count = self.records.len();
+        match self
+            .pairs
+            .range((
+                Bound::Excluded((source, above)),
+                Bound::Included((source, most)),
+            ))
+            .next()
+        {
+            Some((_, number)) => Some(*number),
+            None => None,
+        }
+    }
+
+    /// The tally of the node of the least number above one, and up to another.
+    pub(crate) fn next_node(&self, above: u64, most: u64) -> Option<Tally>
+        requires { above ≤ most }
+        ensures number { option_map (λ t. t.node.number) result ≡ slice_get (waiting above most (node_numbers self.now.nodes)) 0 }
+        ensures node { IfSome result (λ t. find (λ n. n.number == t.node.number) self.now.nodes ≡ Some t.node) }
+        ensures states { IfSome result (λ t. t.states ≡ node_states self.now.config t.node.scope t.node.source self.now.states) }
+    {
+        self.nodes.next_between(above, most)
+    }
+
+    /// The record of a number: one look.
+    pub(crate) fn read(&self, number: u64, meter: &mut Meter) -> State
+        requires held { holds_number self.now.states number ≡ true }
+        requires room { meter.old < 2 ^ 64 - 1 }
+        ensures value { find (λ s. s.number == number) self.now.states ≡ Some result }
+        ensures looks { meter.new ≡ meter.old + 1 }
+    {
+        self.records.read(number, meter)
+    }
+
+    /// A state comes, and with it the node of its source where its rule tracks sources and the source has none. `NoMemory`
+    /// where room for them is refused, and then nothing changes.
+    pub(crate) fn put(&mut self, state: State) -> Result<(), NoMemory>
+        requires above { IsAbove state.number (state_numbers self.old.states) }
+        requires nodes_above { IsAbove state.number (node_numbers self.old.nodes) }
+        requires fresh { state_with state.key (lists self.old.states [] [] [] 0) ≡ None }
+        requires rule { IsSome (options_at self.old.config state.rule.0) }
+        requires phase { IsUncompleted state }
+        requires few { length self.old.states ≤ 1000000000 }
+        ensures config { self.new.config ≡ self.old.config }
+        ensures states { OnOk result (self.new.states ≡ self.old.states ++ state ∷ []) }
+        ensures nodes { OnOk result (self.new.nodes
+            ≡ nodes_with self.old.nodes state.number state.source (node_scope_of self.old.config state.rule.0)) }
+        ensures err { OnErr result (self.new ≡ self.old) }
+    {
+        let rule = state.rule.0 as usize;
+        let scope = node_scope(&self.config, state.rule);
+        if self.keys.reserve(1).is_err() {
+            return Err(NoMemory);
+        }
+        let spot = place(
+            &mut self.records,
+            &mut self.pairs,
+            &mut self.nodes,
+            state,
+            scope,
+        )?;
+        self.counts[rule] += 1;
+        let key = state.key;
+        let entry = entry_of(&state, spot);
+        match self.keys.insert(key, entry) {
+            Ok(_) => Ok(()),
+            Err(_) => unreachable!(),
+        }
+    }
+
+    /// Takes a packet of the state that has its key: one look, and one search by key.
+    pub(crate) fn renew(&mut self, packet: &Packet, now: u64, meter: &mut Meter) -> Renewed
+        requires held { is_some (state_with (key_of packet.now) (lists self.old.states [] [] [] 0)) ≡ true }
+        requires order { IsUpToNow now (lists [] self.old.nodes [] [] 0) }
+        requires few { length self.old.states ≤ 1000000000 }
+        requires room { meter.old < 2 ^ 64 - 1 }
+        ensures before { state_with (key_of packet.now) (lists self.old.states [] [] [] 0) ≡ Some result.before }
+        ensures states { self.new.states ≡ map (renewed result.before.number packet.now now) self.old.states }
+        ensures nodes { self.new.nodes
+            ≡ nodes_touched self.old.config self.old.nodes result.before now (completes_at packet.now result.before) }
+        ensures told { result.touched
+            ≡ touch_of self.old.config (lists self.old.states self.old.nodes [] [] 0) packet.now now result.before }
+        ensures config { self.new.config ≡ self.old.config }
+        ensures looks { meter.new ≡ meter.old + 1 }
+    {
+        let _count = self.records.len();
+        match self.keys.get(&FlowKey::of(packet)) {
+            Some(entry) => {
+                let place = entry.place;
+                let state = self.records.read_at(place, meter);
+                let (after, completed) = stepped(&state, packet, now);
+                self.records.write_at(place, after);
+                let met = meet(&self.config, &mut self.nodes, &state, completed, now);
+                Renewed {
+                    before: state,
+                    touched: Touched {
+                        rule: state.rule,
+                        source: state.source,
+                        completed,
+                        connections: met.connections,
+                        score: met.score,
+                    },
+                }
+            }
+            None => unreachable!(),
+        }
+    }
+
+    /// A state leaves. Its node, where it was the last, has been idle since now.
+    pub(crate) fn take_out(&mut self, state: State, now: u64)
+        requires { find (λ s. s.number == state.number) self.old.states ≡ Some state }
+        ensures config { self.new.config ≡ self.old.config }
+        ensures states { self.new.states ≡ filter (other_than state.number) self.old.states }
+        ensures nodes { self.new.nodes
+            ≡ map (idled self.old.config self.old.states (filter (other_than state.number) self.old.states) now) self.old.nodes }
+    {
+        let _count = self.records.len();
+        let rule = state.rule.0 as usize;
+        let scope = node_scope(&self.config, state.rule);
+        self.keys.remove(&state.key);
+        self.pairs.remove(&(state.source, state.number));
+        self.counts[rule] -= 1;
+        leave(&mut self.nodes, scope, &state, now);
+        self.records.remove(state.number);
+    }
+
+    /// The node of a number goes, which has no states.
+    pub(crate) fn drop_node(&mut self, node: Node)
+        requires held { find (λ n. n.number == node.number) self.old.nodes ≡ Some node }
+        requires stateless { node_states self.old.config node.scope node.source self.old.states ≡ 0 }
+        ensures config { self.new.config ≡ self.old.config }
+        ensures states { self.new.states ≡ self.old.states }
+        ensures nodes { self.new.nodes ≡ filter (λ n. not (n.number == node.number)) self.old.nodes }
+    {
+        let _count = self.nodes.len();
+        self.nodes.remove(node.number);
+    }
+}
+
+/// What the index by key has of a state whose record stands at this place.
+fn entry_of(state: &State, place: usize) -> Entry
+    ensures { result ≡ entry_of (placed_at place state.now) }
+{
+    Entry {
+        number: state.number,
+        rule: state.rule,
+        place,
+    }
+}
+
+/// The scope of a rule's nodes, if it tracks sources.
+pub(crate) fn node_scope(config: &Config, rule: RuleNo) -> Option<NodeScope>
+    ensures { result ≡ node_scope_of config.now rule.0 }
+{
+    match config.scope(rule) {
+        None => None,
+        Some(Scope::Rule) => Some(NodeScope::Rule(rule)),
+        Some(Scope::Global) => Some(NodeScope::Global),
+    }
+}

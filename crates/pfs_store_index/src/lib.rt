@@ -1,0 +1,13 @@
+//! The store that finds what it holds by indexes: a packet's cost does not grow with what is held.
+#![tactic(auto)]
+
+mod flushing;
+mod indexes;
+mod limits;
+mod placing;
+mod purging;
+mod stepping;
+mod store;
+mod tallying;
+
+pub use store::IndexStore;

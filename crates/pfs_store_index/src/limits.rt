@@ -1,0 +1,96 @@
+//! The limits that a new state meets, by the counts that are kept.
+
+ghost use Rattle.std.specs.Prelude.{◌≡◌, [], IsSome};
+ghost use Rattle.pfs_conf_rules.specs.Configs.{options_at, options_of};
+ghost use Rattle.pfs_store_plain.specs.Admission.{limit_met, new_node_limit, source_limit};
+ghost use Rattle.pfs_store_plain.specs.Counts.{reached};
+ghost use Rattle.pfs_store_plain.specs.Worlds.{lists};
+
+use crate::indexes::{Indexes, node_scope};
+use pfs_addr::Addr;
+use pfs_conf_rules::{Config, LimitName, RuleNo, StateOptions};
+use pfs_store_plain::{Limit, NodeScope};
+use std::hash::BuildHasher;
+
+/// The first limit that a state of this rule and source would meet.
+pub(crate) fn limit_met<S: BuildHasher>(
+    indexes: &Indexes<S>,
+    rule: RuleNo,
+    source: Addr,
+) -> Option<Limit>
+    requires { IsSome (options_at indexes.now.config rule.0) }
+    ensures { result ≡ limit_met indexes.now.config (lists indexes.now.states indexes.now.nodes [] [] 0) rule.0 source }
+{
+    let options = options_for(indexes.config(), rule);
+    if is_reached(options.max, indexes.rule_count(rule)) {
+        return Some(Limit::Max);
+    }
+    if let Some(scope) = node_scope(indexes.config(), rule)
+        && let Some(limit) = source_limit(indexes, &options, scope, source)
+    {
+        return Some(limit);
+    }
+    if indexes.config().limit(LimitName::States) <= indexes.state_count() {
+        return Some(Limit::States);
+    }
+    None
+}
+
+fn options_for(config: &Config, rule: RuleNo) -> StateOptions
+    requires { IsSome (options_at config.now rule.0) }
+    ensures { result ≡ options_of config.now rule.0 }
+{
+    match config.options(rule) {
+        Some(options) => *options,
+        None => unreachable!(),
+    }
+}
+
+/// The limit that a source meets in the scope of a rule with these options.
+fn source_limit<S: BuildHasher>(
+    indexes: &Indexes<S>,
+    options: &StateOptions,
+    scope: NodeScope,
+    source: Addr,
+) -> Option<Limit>
+    ensures { result
+        ≡ source_limit indexes.now.config (lists indexes.now.states indexes.now.nodes [] [] 0) options.now source (Some scope) }
+{
+    match indexes.source_count(scope, source) {
+        Some(count) => {
+            if is_reached(options.max_src_states, count) {
+                Some(Limit::MaxSrcStates)
+            } else {
+                None
+            }
+        }
+        None => new_node_limit(indexes, options, scope),
+    }
+}
+
+fn new_node_limit<S: BuildHasher>(
+    indexes: &Indexes<S>,
+    options: &StateOptions,
+    scope: NodeScope,
+) -> Option<Limit>
+    ensures { result
+        ≡ new_node_limit indexes.now.config (lists indexes.now.states indexes.now.nodes [] [] 0) options.now scope }
+{
+    if is_reached(options.max_src_nodes, indexes.scope_count(scope)) {
+        Some(Limit::MaxSrcNodes)
+    } else if indexes.config().limit(LimitName::SrcNodes) <= indexes.node_count() {
+        Some(Limit::SrcNodes)
+    } else {
+        None
+    }
+}
+
+/// Whether a maximum, if there is one, is reached.
+fn is_reached(most: Option<u32>, count: u64) -> bool
+    ensures { result ≡ reached most count }
+{
+    match most {
+        Some(most) => u64::from(most) <= count,
+        None => false,
+    }
+}

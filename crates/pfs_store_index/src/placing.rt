@@ -1,0 +1,55 @@
+//! A new state takes its place in the records, in the index by source and in its node, or in none of them.
+
+ghost use Rattle.std.specs.Prelude.{◌≡◌, ◌++◌, ◌∷◌, [], IfOk, OnErr, OnOk, false, Some};
+ghost use Rattle.std.specs.BTreeSet.{contains};
+ghost use Rattle.std.specs.List.{AllByRecursion};
+ghost use Rattle.pfs_store_plain.specs.Purging.{node_numbers, state_numbers};
+ghost use Rattle.pfs_store_records.specs.Records.{IsAbove, placed_at, states_of};
+ghost use Rattle.pfs_store_records.specs.Tallies.{nodes_of};
+ghost use Rattle.pfs_store_index.specs.Ties.{HasPair, IsFew, SamePairs, joined, pair_cmp};
+
+use crate::tallying::join;
+use pfs_addr::{Addr, NoMemory};
+use pfs_store_plain::{NodeScope, State};
+use pfs_store_records::{Nodes, Records};
+use std::collections::BTreeSet;
+use std::hash::BuildHasher;
+
+/// Places a state whose number is above all others, and answers the place of its record. Where room is refused, nothing is
+/// placed.
+pub(crate) fn place<S: BuildHasher>(
+    records: &mut Records,
+    pairs: &mut BTreeSet<(Addr, u64)>,
+    nodes: &mut Nodes<S>,
+    state: State,
+    scope: Option<NodeScope>,
+) -> Result<usize, NoMemory>
+    requires few { AllByRecursion IsFew nodes.old }
+    requires above { IsAbove state.number (state_numbers (states_of records.old)) }
+    requires nodes_above { IsAbove state.number (node_numbers (nodes_of nodes.old)) }
+    requires absent { contains pair_cmp pairs.old (state.source, state.number) ≡ false }
+    ensures records { IfOk result (λ place. records.new ≡ records.old ++ placed_at place state ∷ []) }
+    ensures pairs { OnOk result (HasPair (state.source, state.number) pairs.old pairs.new) }
+    ensures nodes { OnOk result (nodes.new ≡ joined scope state nodes.old) }
+    ensures same_records { OnErr result (records.new ≡ records.old) }
+    ensures same_pairs { OnErr result (SamePairs pairs.old pairs.new) }
+    ensures same_nodes { OnErr result (nodes.new ≡ nodes.old) }
+{
+    match pairs.insert((state.source, state.number)) {
+        Err(_) => Err(NoMemory),
+        Ok(_) => match records.push(&state) {
+            Err(_) => {
+                pairs.remove(&(state.source, state.number));
+                Err(NoMemory)
+            }
+            Ok(place) => match join(nodes, scope, &state) {
+                Err(_) => {
+                    records.remove(state.number);
+                    pairs.remove(&(state.source, state.number));
+                    Err(NoMemory)
+                }
+                Ok(_) => Ok(place),
+            },
+        },
+    }
+}

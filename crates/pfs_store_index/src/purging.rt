@@ -1,0 +1,261 @@
+//! The walks of the purge: a slice of the round of the states, and a slice of that of the nodes.
+
+ghost use Rattle.std.specs.Prelude.{◌≡◌, ◌+◌, ◌-◌, ◌<◌, ◌≤◌, ◌^◌, ◌==◌, ◌&&◌, Some, drop, filter, length, map, nat_le, slice_index, take, true};
+ghost use Rattle.std.specs.List.{find};
+ghost use Rattle.pfs_conf_rules.specs.Configs.{rule_retention, timeout_of};
+ghost use Rattle.pfs_conf_rules.specs.declared.timeouts.TimeoutName.TheVariants as timeout;
+ghost use Rattle.pfs_store_plain.specs.Counts.{node_states};
+ghost use Rattle.pfs_store_plain.specs.Leaving.{idled};
+ghost use Rattle.pfs_store_plain.specs.Plain.{AreCounts};
+ghost use Rattle.pfs_store_plain.specs.Purging.{is_over, node_numbers, node_retention, node_stays, round, share, state_numbers, stays};
+ghost use Rattle.pfs_store_plain.specs.Worlds.{holds_number};
+ghost use Rattle.pfs_store_records.specs.Records.{IsRising};
+ghost use Rattle.pfs_store_index.specs.Stored.{IsNumbered, is_due};
+ghost use Rattle.pfs_store_index.specs.Rounds.{node_survives, state_survives, waiting};
+
+use crate::indexes::Indexes;
+use pfs_addr::Meter;
+use pfs_conf_rules::{Config, StateOptions, TimeoutName};
+use pfs_store_plain::{NodeScope, State};
+use pfs_store_records::Tally;
+use pfs_track::{is_expired, lifetime};
+use std::hash::BuildHasher;
+
+/// What has a number above the cursor, and up to the mark, is still to be examined.
+#[derive(Debug, Clone, Copy, PartialEq, Eq)]
+pub(crate) struct Round {
+    pub(crate) cursor: u64,
+    pub(crate) mark: u64,
+}
+
+/// What a walk did: up to where it went, how many it examined, and how many of them left.
+#[derive(Debug, Clone, Copy, PartialEq, Eq)]
+pub(crate) struct Steps {
+    pub(crate) cursor: u64,
+    pub(crate) examined: u64,
+    pub(crate) removed: u64,
+}
+
+/// How many a slice examines, where at most so many are held.
+pub(crate) fn share_of(config: &Config, limit: u64) -> u64
+    requires { limit < 2 ^ 32 }
+    ensures { result ≡ share limit (timeout_of config.now timeout.Interval) }
+{
+    1 + limit / config.timeout(TimeoutName::Interval)
+}
+
+// ---- states
+
+/// The round of the states that is under way, or a new one of all that are held.
+pub(crate) fn state_round<S: BuildHasher>(indexes: &Indexes<S>, begun: Round, made: u64) -> Round
+    requires order { begun.cursor ≤ begun.mark }
+    requires mark { begun.mark ≤ made }
+    requires numbered { IsNumbered made (state_numbers indexes.now.states) }
+    ensures order { result.cursor ≤ result.mark }
+    ensures mark { result.mark ≤ made }
+    ensures waiting { waiting result.cursor result.mark (state_numbers indexes.now.states)
+        ≡ round (state_numbers indexes.now.states) (waiting begun.cursor begun.mark (state_numbers indexes.now.states)) }
+{
+    match indexes.next_between(begun.cursor, begun.mark) {
+        Some(_) => begun,
+        None => Round {
+            cursor: 0,
+            mark: made,
+        },
+    }
+}
+
+/// Examines the next states of a round, so many at most. The counts of the rules are those before the walk.
+pub(crate) fn walk_states<S: BuildHasher>(
+    indexes: &mut Indexes<S>,
+    counts: &[u64],
+    round: Round,
+    share: u64,
+    now: u64,
+    meter: &mut Meter,
+) -> Steps
+    requires order { round.cursor ≤ round.mark }
+    requires few { length indexes.old.states ≤ 1000000000 }
+    requires room { meter.old ≤ 2 ^ 63 }
+    requires counts { AreCounts counts.now indexes.old.states }
+    requires size { length counts.now ≡ length indexes.old.config.items }
+    ensures config { indexes.new.config ≡ indexes.old.config }
+    ensures examined { result.examined ≡ length (take share (waiting round.cursor round.mark (state_numbers indexes.old.states))) }
+    ensures states { indexes.new.states
+        ≡ filter (stays indexes.old.config indexes.old.states now (take share (waiting round.cursor round.mark (state_numbers indexes.old.states)))) indexes.old.states }
+    ensures nodes { indexes.new.nodes ≡ map (idled indexes.old.config indexes.old.states indexes.new.states now) indexes.old.nodes }
+    ensures waiting { waiting result.cursor round.mark (state_numbers indexes.new.states)
+        ≡ drop share (waiting round.cursor round.mark (state_numbers indexes.old.states)) }
+    ensures order { result.cursor ≤ round.mark }
+    ensures removed { result.removed ≡ length indexes.old.states - length indexes.new.states }
+    ensures looks { meter.new ≡ meter.old + result.examined }
+{
+    let held = indexes.state_count();
+    let mut cursor = round.cursor;
+    let mut examined = 0;
+    while examined < share {
+        let Some(number) = indexes.next_between(cursor, round.mark) else {
+            break;
+        };
+        examine(indexes, counts, number, held, now, meter);
+        cursor = number;
+        examined += 1;
+    }
+    Steps {
+        cursor,
+        examined,
+        removed: held.saturating_sub(indexes.state_count()),
+    }
+}
+
+/// Examines the state of a number: it leaves where it has expired.
+fn examine<S: BuildHasher>(
+    indexes: &mut Indexes<S>,
+    counts: &[u64],
+    number: u64,
+    held: u64,
+    now: u64,
+    meter: &mut Meter,
+)
+    requires held { holds_number indexes.old.states number ≡ true }
+    requires room { meter.old < 2 ^ 64 - 1 }
+    ensures config { indexes.new.config ≡ indexes.old.config }
+    ensures states { indexes.new.states ≡ filter (state_survives (is_due indexes.old.config counts.now held now) number) indexes.old.states }
+    ensures nodes { indexes.new.nodes ≡ map (idled indexes.old.config indexes.old.states indexes.new.states now) indexes.old.nodes }
+    ensures looks { meter.new ≡ meter.old + 1 }
+    ensures rising { IsRising (state_numbers indexes.old.states) }
+{
+    let _count = indexes.state_count();
+    let state = indexes.read(number, meter);
+    if is_due(indexes.config(), counts, held, &state, now) {
+        indexes.take_out(state, now);
+    }
+}
+
+fn is_due(config: &Config, counts: &[u64], held: u64, state: &State, now: u64) -> bool
+    ensures { result ≡ is_due config.now counts.now held now state.now }
+{
+    let count = count_at(counts, state.rule.0 as usize);
+    let seconds = lifetime(config, state.rule, state.phase, count, held);
+    is_expired(seconds, state.last, now)
+}
+
+fn count_at(counts: &[u64], place: usize) -> u64
+    ensures { result ≡ slice_index counts.now place }
+{
+    if place < counts.len() {
+        counts[place]
+    } else {
+        0
+    }
+}
+
+// ---- nodes
+
+/// The round of the nodes that is under way, or a new one of all that are held.
+pub(crate) fn node_round<S: BuildHasher>(indexes: &Indexes<S>, begun: Round, made: u64) -> Round
+    requires order { begun.cursor ≤ begun.mark }
+    requires mark { begun.mark ≤ made }
+    requires numbered { IsNumbered made (node_numbers indexes.now.nodes) }
+    ensures order { result.cursor ≤ result.mark }
+    ensures mark { result.mark ≤ made }
+    ensures waiting { waiting result.cursor result.mark (node_numbers indexes.now.nodes)
+        ≡ round (node_numbers indexes.now.nodes) (waiting begun.cursor begun.mark (node_numbers indexes.now.nodes)) }
+{
+    match indexes.next_node(begun.cursor, begun.mark) {
+        Some(_) => begun,
+        None => Round {
+            cursor: 0,
+            mark: made,
+        },
+    }
+}
+
+/// Examines the next nodes of a round, so many at most.
+pub(crate) fn walk_nodes<S: BuildHasher>(
+    indexes: &mut Indexes<S>,
+    round: Round,
+    share: u64,
+    now: u64,
+) -> Steps
+    requires order { round.cursor ≤ round.mark }
+    ensures config { indexes.new.config ≡ indexes.old.config }
+    ensures states { indexes.new.states ≡ indexes.old.states }
+    ensures examined { result.examined ≡ length (take share (waiting round.cursor round.mark (node_numbers indexes.old.nodes))) }
+    ensures nodes { indexes.new.nodes
+        ≡ filter (node_stays indexes.old.config indexes.old.states now (take share (waiting round.cursor round.mark (node_numbers indexes.old.nodes)))) indexes.old.nodes }
+    ensures waiting { waiting result.cursor round.mark (node_numbers indexes.new.nodes)
+        ≡ drop share (waiting round.cursor round.mark (node_numbers indexes.old.nodes)) }
+    ensures order { result.cursor ≤ round.mark }
+    ensures removed { result.removed ≡ length indexes.old.nodes - length indexes.new.nodes }
+{
+    let held = indexes.node_count();
+    let mut cursor = round.cursor;
+    let mut examined = 0;
+    while examined < share {
+        let Some(tally) = indexes.next_node(cursor, round.mark) else {
+            break;
+        };
+        examine_node(indexes, &tally, now);
+        cursor = tally.node.number;
+        examined += 1;
+    }
+    Steps {
+        cursor,
+        examined,
+        removed: held.saturating_sub(indexes.node_count()),
+    }
+}
+
+/// Examines a node: it leaves where it has no state, and its retention is over.
+fn examine_node<S: BuildHasher>(indexes: &mut Indexes<S>, tally: &Tally, now: u64)
+    requires held { find (λ n. n.number == tally.now.node.number) indexes.old.nodes ≡ Some tally.now.node }
+    requires states { tally.now.states ≡ node_states indexes.old.config tally.now.node.scope tally.now.node.source indexes.old.states }
+    ensures config { indexes.new.config ≡ indexes.old.config }
+    ensures states { indexes.new.states ≡ indexes.old.states }
+    ensures nodes { indexes.new.nodes
+        ≡ filter (node_survives (is_over indexes.old.config indexes.old.states now) tally.now.node.number) indexes.old.nodes }
+    ensures rising { IsRising (node_numbers indexes.old.nodes) }
+{
+    let _count = indexes.node_count();
+    if is_over(indexes.config(), tally, now) {
+        indexes.drop_node(tally.node);
+    }
+}
+
+/// Whether a node has no state, and its retention is over.
+fn is_over(config: &Config, tally: &Tally, now: u64) -> bool
+    ensures { result
+        ≡ ((tally.now.states == 0) && nat_le (tally.now.node.idle + node_retention config.now tally.now.node.scope) now) }
+{
+    let retention = node_retention(config, tally.node.scope);
+    tally.states == 0 && retention <= now && tally.node.idle <= now - retention
+}
+
+/// How long a node without states is kept.
+fn node_retention(config: &Config, scope: NodeScope) -> u64
+    ensures { result ≡ node_retention config.now scope }
+{
+    let global = config.timeout(TimeoutName::SrcTrack);
+    match scope {
+        NodeScope::Rule(rule) => match config.options(rule) {
+            Some(options) => rule_retention(options, global),
+            None => global,
+        },
+        NodeScope::Global => global,
+    }
+}
+
+/// The greater of `src.track` and of the seconds of the rate, in the options of a rule.
+fn rule_retention(options: &StateOptions, global: u64) -> u64
+    ensures { result ≡ rule_retention global options.now }
+{
+    let seconds = match options.timeouts.get(TimeoutName::SrcTrack) {
+        Some(seconds) => u64::from(seconds),
+        None => global,
+    };
+    match options.max_src_conn_rate {
+        Some(rate) => seconds.max(u64::from(rate.seconds)),
+        None => seconds,
+    }
+}

@@ -1,0 +1,203 @@
+//! A store by indexes.
+
+ghost use Rattle.std.specs.Prelude.{◌≡◌, IfOk, true};
+ghost use Rattle.pfs_store_plain.specs.Worlds.{empty_world};
+
+use crate::flushing::flush;
+use crate::indexes::Indexes;
+use crate::limits::limit_met;
+use crate::purging::{Round, node_round, share_of, state_round, walk_nodes, walk_states};
+use pfs_addr::{Addr, FlowKey, Meter, NoMemory, Packet};
+use pfs_conf_rules::{Config, LimitName, RuleNo};
+use pfs_store_plain::{Limit, Slice, State, StateNo, Store, Touched};
+use pfs_track::StatePhase;
+use std::alloc::Global;
+use std::hash::{BuildHasher, BuildHasherDefault, FoldHasher};
+use std::marker::Model;
+
+/// A store that finds states by their keys, by their numbers and by their sources, and source nodes by scope and source. The
+/// cost of a call does not grow with what is held, but for the states of a source that are flushed and for the slices of the
+/// purge. It counts looks.
+///
+/// Clauses see a `Plain`: the configuration that it was made for, and its world.
+#[derive(Drop)]
+pub struct IndexStore<S: BuildHasher> {
+    indexes: Indexes<S>,
+    made: u64,
+    states_round: Round,
+    nodes_round: Round,
+    counts: Vec<u64>,
+}
+
+impl<S: BuildHasher> Model for IndexStore<S> {
+    ghost use Rattle.std.specs.Prelude.{length};
+    ghost use Rattle.pfs_store_plain.specs.Plain.{Plain};
+    ghost use Rattle.pfs_store_index.specs.Stored.{IsStored, world_of};
+
+    ghost Value = { Plain };
+
+    ghost view = { λ s. record {
+      config = s.indexes.config;
+      world = world_of s.indexes s.states_round.cursor s.states_round.mark s.nodes_round.cursor s.nodes_round.mark s.made;
+    } };
+
+    ghost invariant = { λ s.
+        IsStored s.indexes s.states_round.cursor s.states_round.mark s.nodes_round.cursor s.nodes_round.mark s.made (length s.counts.items) };
+}
+
+impl IndexStore<BuildHasherDefault<FoldHasher>> {
+    /// An empty store, made for this configuration, of which it keeps a copy. Its hashes have a fixed seed. `NoMemory` where
+    /// memory for the copy is refused.
+    pub fn new(
+        alloc: Global,
+        config: &Config,
+    ) -> Result<IndexStore<BuildHasherDefault<FoldHasher>>, NoMemory>
+        ensures { IfOk result (λ s. s ≡ record { config = config.now; world = empty_world }) }
+    {
+        IndexStore::with_hashers(
+            alloc,
+            config,
+            BuildHasherDefault::new(),
+            BuildHasherDefault::new(),
+        )
+    }
+}
+
+impl<S: BuildHasher> IndexStore<S> {
+    /// An empty store as `new` makes it, whose index by key hashes with the first of these, and that of the source nodes with
+    /// the second: a random seed keeps who chooses keys from making them collide.
+    pub fn with_hashers(
+        alloc: Global,
+        config: &Config,
+        by_key: S,
+        by_source: S,
+    ) -> Result<IndexStore<S>, NoMemory>
+    where
+        S: Drop,
+        ensures { IfOk result (λ s. s ≡ record { config = config.now; world = empty_world }) }
+    {
+        let counts = vec![in alloc; 0; config.item_count() as usize]?;
+        Ok(IndexStore {
+            indexes: Indexes::new(alloc, config.copy()?, by_key, by_source)?,
+            made: 0,
+            states_round: Round { cursor: 0, mark: 0 },
+            nodes_round: Round { cursor: 0, mark: 0 },
+            counts,
+        })
+    }
+}
+
+impl<S: BuildHasher> Store for IndexStore<S> {
+    ghost world = { λ s. s.world };
+
+    ghost config = { λ s. s.config };
+
+    ghost counts = { true };
+
+    fn find(&self, key: &FlowKey) -> Option<StateNo> {
+        self.indexes.find(key)
+    }
+
+    fn rule_at(&self, key: &FlowKey) -> Option<RuleNo> {
+        self.indexes.rule_at(key)
+    }
+
+    fn holds(&self, number: StateNo) -> bool {
+        if number.0 == 0 {
+            false
+        } else {
+            self.indexes.next_between(number.0 - 1, number.0).is_some()
+        }
+    }
+
+    fn state_count(&self) -> u64 {
+        self.indexes.state_count()
+    }
+
+    fn node_count(&self) -> u64 {
+        self.indexes.node_count()
+    }
+
+    fn made(&self) -> u64 {
+        self.made
+    }
+
+    fn admit(
+        &mut self,
+        packet: &Packet,
+        rule: RuleNo,
+        now: u64,
+    ) -> Result<Result<StateNo, Limit>, NoMemory> {
+        let source = packet.src();
+        if let Some(limit) = limit_met(&self.indexes, rule, source) {
+            return Ok(Err(limit));
+        }
+        let _count = self.indexes.state_count();
+        let number = self.made + 1;
+        let state = State {
+            number,
+            key: FlowKey::of(packet),
+            dir: packet.dir(),
+            source,
+            rule,
+            phase: StatePhase::first(packet.proto()),
+            last: now,
+        };
+        match self.indexes.put(state) {
+            Ok(()) => {
+                self.made = number;
+                Ok(Ok(StateNo(number)))
+            }
+            Err(_) => Err(NoMemory),
+        }
+    }
+
+    fn touch(&mut self, _number: StateNo, packet: &Packet, now: u64, meter: &mut Meter) -> Touched {
+        let _count = self.indexes.state_count();
+        self.indexes.renew(packet, now, meter).touched
+    }
+
+    fn kill(&mut self, number: StateNo, now: u64, meter: &mut Meter) {
+        let _count = self.indexes.state_count();
+        let state = self.indexes.read(number.0, meter);
+        self.indexes.take_out(state, now);
+    }
+
+    fn flush(&mut self, source: Addr, rule: Option<RuleNo>, now: u64, meter: &mut Meter) -> u64 {
+        let held = self.indexes.state_count();
+        flush(&mut self.indexes, source, rule, self.made, now, meter);
+        held.saturating_sub(self.indexes.state_count())
+    }
+
+    fn purge_states(&mut self, now: u64, meter: &mut Meter) -> Slice {
+        let _count = self.indexes.state_count();
+        self.counts.copy_from_slice(self.indexes.rule_counts());
+        let config = self.indexes.config();
+        let share = share_of(config, config.limit(LimitName::States));
+        let round = state_round(&self.indexes, self.states_round, self.made);
+        let steps = walk_states(&mut self.indexes, &self.counts, round, share, now, meter);
+        self.states_round = Round {
+            cursor: steps.cursor,
+            mark: round.mark,
+        };
+        Slice {
+            examined: steps.examined,
+            removed: steps.removed,
+        }
+    }
+
+    fn purge_nodes(&mut self, now: u64) -> Slice {
+        let config = self.indexes.config();
+        let share = share_of(config, config.limit(LimitName::SrcNodes));
+        let round = node_round(&self.indexes, self.nodes_round, self.made);
+        let steps = walk_nodes(&mut self.indexes, round, share, now);
+        self.nodes_round = Round {
+            cursor: steps.cursor,
+            mark: round.mark,
+        };
+        Slice {
+            examined: steps.examined,
+            removed: steps.removed,
+        }
+    }
+}
