@@ -6,8 +6,6 @@ mod handshakes;
 pub mod laws;
 mod packets;
 mod purges;
-#[cfg(test)]
-mod tests;
 mod works;
 
 pub use engine::Engine;

@@ -13,6 +13,3 @@ mod touching;
 pub use plain::PlainStore;
 pub use records::{Limit, Node, NodeScope, Slice, State, StateNo, Touched};
 pub use store::Store;
-
-#[cfg(test)]
-mod tests;

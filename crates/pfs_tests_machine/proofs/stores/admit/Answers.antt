@@ -1,5 +1,5 @@
 use Rattle.pfs_store_plain.proofs.MomentLaws.{world_at-up_to_now}
-use Rattle.pfs_store_plain.proofs.tests.admit.Goals as goal
+use Rattle.pfs_tests_machine.proofs.stores.admit.Goals as goal
 
 pub returns-clause-order : goal.returns-clause-order
 returns-clause-order g c =

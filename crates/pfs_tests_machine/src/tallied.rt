@@ -1,17 +1,17 @@
-// Any store, with a count of the calls that change it.
+//! Any store, with a count of the calls that change it.
 
 ghost use Rattle.std.specs.Prelude.{◌≡◌};
 
-use crate::Limit;
 use pfs_addr::{Addr, FlowKey, Meter, NoMemory, Packet};
-use pfs_conf_rules::RuleNo;
-use pfs_store_plain::{Slice, StateNo, Store, Touched};
+use pfs_conf::RuleNo;
+use pfs_store_plain::{Limit, Slice, StateNo, Store, Touched};
 
 /// Any store, with a count of the calls that change it.
 #[derive(Drop)]
 pub struct Tallied<S: Store> {
     inner: S,
-    calls: u64,
+    /// How many calls changed it, or might have.
+    pub calls: u64,
 }
 
 impl<S: Store> Tallied<S> {

@@ -1,5 +1,5 @@
 use Rattle.std.proofs.Common.{ℕ, length}
-use Rattle.pfs_engine.proofs.tests.scripts.+is_in_order.Given as goal
+use Rattle.pfs_tests_machine.proofs.engines.+is_in_order.Given as goal
 
 -- the events that are left
 abbrev pub decreases-is_in_order : goal.decreases-is_in_order

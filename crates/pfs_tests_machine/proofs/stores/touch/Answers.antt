@@ -1,5 +1,5 @@
 use Rattle.pfs_store_plain.proofs.MomentLaws.{world_touched-up_to_now}
-use Rattle.pfs_store_plain.proofs.tests.touch.Goals as goal
+use Rattle.pfs_tests_machine.proofs.stores.touch.Goals as goal
 
 pub returns-clause-order : goal.returns-clause-order
 returns-clause-order g c =

@@ -1,0 +1,79 @@
+//! Packets on em0 between sources and a server.
+
+ghost use Rattle.std.specs.Prelude.{◌≡◌, true};
+ghost use Rattle.pfs_addr.specs.Protocols.{has_ports};
+
+use pfs_addr::{Addr, Dir, Endpoint, Flags, Packet, Proto, parse_ifname};
+use std::test::Fail;
+
+/// Two sources.
+pub const A1: Addr = Addr::V4([198, 51, 100, 1]);
+
+pub const A2: Addr = Addr::V4([198, 51, 100, 2]);
+
+pub const SERVER: Addr = Addr::V4([192, 0, 2, 1]);
+
+/// No flag, and those of a connection.
+pub const NONE: Flags = Flags {
+    fin: false,
+    syn: false,
+    rst: false,
+    psh: false,
+    ack: false,
+    urg: false,
+    ece: false,
+    cwr: false,
+};
+
+pub const SYN: Flags = Flags { syn: true, ..NONE };
+
+pub const SYN_ACK: Flags = Flags { ack: true, ..SYN };
+
+pub const ACK: Flags = Flags { ack: true, ..NONE };
+
+pub const FIN_ACK: Flags = Flags { fin: true, ..ACK };
+
+pub const RST: Flags = Flags { rst: true, ..NONE };
+
+/// What passes between a port of a source and the server.
+#[derive(Clone, Copy)]
+pub enum Sent {
+    /// A UDP packet to this port of the server.
+    Udp(u16),
+    /// A TCP packet to this port, with these flags.
+    Tcp(u16, Flags),
+    /// A TCP packet of the server's port 80, with these flags.
+    Answer(Flags),
+    /// A UDP packet that goes out to this port of the server.
+    Out(u16),
+}
+
+/// A packet of the source, or to it.
+pub fn packet(sent: &Sent, source: Addr, port: u16) -> Result<Packet, Fail> {
+    let client = Endpoint { addr: source, port };
+    match *sent {
+        Sent::Udp(to) => between(Dir::In, Proto::Udp, client, server(to), NONE),
+        Sent::Tcp(to, flags) => between(Dir::In, Proto::Tcp, client, server(to), flags),
+        Sent::Answer(flags) => between(Dir::Out, Proto::Tcp, server(80), client, flags),
+        Sent::Out(to) => between(Dir::Out, Proto::Udp, client, server(to), NONE),
+    }
+}
+
+/// A port of the server.
+fn server(port: u16) -> Endpoint {
+    Endpoint { addr: SERVER, port }
+}
+
+/// A packet on em0.
+fn between(
+    dir: Dir,
+    proto: Proto,
+    from: Endpoint,
+    to: Endpoint,
+    flags: Flags,
+) -> Result<Packet, Fail>
+    requires { has_ports proto ≡ true }
+{
+    let ifname = parse_ifname(b"em0").ok_or("no name")?;
+    Ok(Packet::new(dir, ifname, proto, from, to, flags))
+}
