@@ -46,7 +46,7 @@ fn program<'a>(alloc: Global) -> Command<'a>
             "Tells beforehand what pf's limits do to a packet trace: which packets make states, which limit drops them, and whose states are killed.",
         )
         .after_help(
-            "Without a command it reads rules and trace from standard input, with a line %% between them, and writes the report:\n  cat rules separator trace | pfsrc\nStatus: 0 done, 1 a fault in the trace, 2 words that are not understood, 3 a fault in the rules, 4 reading, writing or memory failed.",
+            "Without a command it reads rules and trace from standard input, with a line %% between them, and writes the report:\n  cat rules separator trace | pfsrc\npfsrc --version tells which program this is.\nStatus: 0 done, 1 a fault in the trace, 2 words that are not understood, 3 a fault in the rules, 4 reading, writing or memory failed.",
         )
 }
 
