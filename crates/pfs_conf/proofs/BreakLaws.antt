@@ -1,13 +1,13 @@
 -- Where reading tells that a load rule is broken, the text breaks it, and breaks none before.
 use Rattle.std.proofs.Common.{◌≡◌, ℕ, zero, suc, ◌==◌, Bool, true, false, cond, List, length, Option, Some, None, Result, Ok, Err, refl, ap, subst, ◌∙◌, inl, inr}
-use Rattle.pfs_conf_tokens.specs.Tokens.{Tok, head, rest}
+use Rattle.pfs_conf_tokens.specs.Tokens.{Tok, head}
+use Rattle.pfs_conf_tokens.specs.Reading.{rest, ends_text, Refused, stop, broken, Act, take, stay, refuse, act, on_front, done, chain, perhaps, turns, left_there, until_all, ended}
 use Rattle.pfs_conf_tokens.specs.declared.keys.Key.{Key}
 use Rattle.pfs_conf_tokens.specs.declared.keys.Key.TheVariants as key
 use Rattle.pfs_conf_tokens.specs.declared.refusals.LoadRule.{LoadRule}
 use Rattle.pfs_conf_tokens.specs.declared.refusals.Why.TheVariants as why
-use Rattle.pfs_conf_tokens.specs.Keys.{ends_line, ends_text, is_word_key}
+use Rattle.pfs_conf_tokens.specs.Keys.{ends_line, is_word_key}
 use Rattle.pfs_conf_tokens.specs.Grammar.{Word}
-use Rattle.pfs_conf_tokens.specs.Reading.{Refused, stop, broken, Act, take, stay, refuse, act, on_front, done, chain, perhaps, turns, left_there, until_all, ended}
 use Rattle.pfs_conf_tokens.proofs.Laws.{bind_err}
 use Rattle.pfs_conf_tokens.proofs.ReaderLaws.{word_is}
 use Rattle.pfs_addr.specs.Names.{name_of}

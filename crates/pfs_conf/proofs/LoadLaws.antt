@@ -2,9 +2,8 @@
 use Rattle.std.proofs.Common.{◌≡◌, ◌≤◌, ℕ, false, List, ◌∷◌, ◌++◌, length, Option, Some, None, Result, Ok, Err, refl, sym, ap, subst, ◌∙◌, arith, inl, inr, ◌⊎◌}
 use Rattle.std.specs.Prelude.{IfOk, IfErr, MatchResult}
 use Rattle.pfs_conf_tokens.specs.Tokens.{Tok, head}
-use Rattle.pfs_conf_tokens.specs.Keys.{ends_text}
+use Rattle.pfs_conf_tokens.specs.Reading.{ends_text, Refused, stop, broken, up_to_all}
 use Rattle.pfs_conf_tokens.specs.Lexis.{tokens_of}
-use Rattle.pfs_conf_tokens.specs.Reading.{Refused, stop, broken, up_to_all}
 use Rattle.pfs_conf_tokens.specs.Giving.{refused, GivesOrMemory}
 use Rattle.pfs_conf_tokens.specs.declared.refusals.LoadRule.{LoadRule}
 use Rattle.pfs_conf_tokens.specs.declared.refusals.Why.{Why}

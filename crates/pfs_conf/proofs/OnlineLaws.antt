@@ -6,8 +6,8 @@ use Rattle.pfs_conf_tokens.specs.declared.keys.Key.TheVariants as key
 use Rattle.pfs_conf_tokens.specs.declared.refusals.LoadRule.{LoadRule}
 use Rattle.pfs_conf_tokens.specs.declared.refusals.Why.{Why}
 use Rattle.pfs_conf_tokens.specs.declared.refusals.Why.TheVariants as why
-use Rattle.pfs_conf_tokens.specs.Keys.{in_line, before_end, ends_line, ends_text, is_word_key}
-use Rattle.pfs_conf_tokens.specs.Reading.{Refused, stop, broken, Reader, Act, take, stay, refuse, on_front, done, chain, perhaps, until_all, ended}
+use Rattle.pfs_conf_tokens.specs.Keys.{in_line, before_end, ends_line, is_word_key}
+use Rattle.pfs_conf_tokens.specs.Reading.{ends_text, Refused, stop, broken, Reader, Act, take, stay, refuse, on_front, done, chain, perhaps, until_all, ended}
 use Rattle.pfs_conf_tokens.proofs.Laws.{Reach, inside, line, across, passes_more, Online, online_across, online_done, online_chain, OnlineAct, Taking, online_front, online_taking, once_taking, Shrinks, front_shrinks, chain_shrinks, online_perhaps, online_until_all, online_up_to_all, online_ended}
 use Rattle.pfs_conf_tokens.proofs.ReaderLaws.{line_end_before_end, word_in_line}
 use Rattle.pfs_addr.specs.Names.{name_of}

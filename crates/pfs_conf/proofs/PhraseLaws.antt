@@ -1,15 +1,15 @@
 -- What is read of a statement is one of the grammar.
 use Rattle.std.proofs.Common.{◌≡◌, ℕ, ◌≤◌, ◌==◌, Bool, true, false, cond, List, [], ◌∷◌, Option, Some, None, IfSome, IfOk, Result, Ok, Err, refl, sym, ap, subst, ◌∙◌, arith, codes}
 use Rattle.std.proofs.lemmas.Bool.{eqb-true, eqb-false}
-use Rattle.pfs_conf_tokens.specs.Tokens.{Tok, token, head, rest}
+use Rattle.pfs_conf_tokens.specs.Tokens.{Tok, token, head}
+use Rattle.pfs_conf_tokens.specs.Reading.{rest, ends_text, Refused, take, stay, refuse, act, on_front, done, chain, perhaps, once, until_all, ended}
 use Rattle.pfs_conf_tokens.specs.declared.keys.Key.{Key}
 use Rattle.pfs_conf_tokens.specs.declared.keys.Key.TheVariants as key
 use Rattle.pfs_conf_tokens.specs.declared.refusals.LoadRule.{LoadRule}
 use Rattle.pfs_conf_tokens.specs.declared.refusals.Refusal.{Refusal}
 use Rattle.pfs_conf_tokens.specs.declared.refusals.Why.TheVariants as why
-use Rattle.pfs_conf_tokens.specs.Keys.{ends_line, ends_text, is_word_key}
+use Rattle.pfs_conf_tokens.specs.Keys.{ends_line, is_word_key}
 use Rattle.pfs_conf_tokens.specs.Grammar.{Word, Perhaps, absent, present, Until, ends, goes, UpTo}
-use Rattle.pfs_conf_tokens.specs.Reading.{Refused, take, stay, refuse, act, on_front, done, chain, perhaps, once, until_all, ended}
 use Rattle.pfs_conf_tokens.specs.Giving.{Gives}
 use Rattle.pfs_conf_tokens.proofs.Laws.{chain_ok, ok_parts}
 use Rattle.pfs_conf_tokens.proofs.ReaderLaws.{line_end_key, ends_text_key, word_is, ended_is, perhaps_is, until_is, up_to_is}

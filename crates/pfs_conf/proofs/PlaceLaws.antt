@@ -1,14 +1,14 @@
 -- Where reading stops, all before is read: statements, and then the tokens of one that is begun.
 use Rattle.std.proofs.Common.{◌≡◌, ℕ, zero, suc, ◌==◌, ◌&&◌, ◌||◌, Bool, true, false, cond, List, [], ◌∷◌, length, Option, Some, None, Ok, Err, refl, ap, subst, ◌∙◌, inl, inr}
-use Rattle.pfs_conf_tokens.specs.Tokens.{Tok, head, rest}
-use Rattle.pfs_conf_tokens.specs.Keys.{in_line, ends_line, ends_text}
+use Rattle.pfs_conf_tokens.specs.Tokens.{Tok, head}
+use Rattle.pfs_conf_tokens.specs.Reading.{rest, ends_text, stop, Act, take, stay, refuse, act, done, chain, turns, left_there, until_all, ended_by, ended}
+use Rattle.pfs_conf_tokens.specs.Keys.{in_line, ends_line}
 use Rattle.pfs_conf_tokens.specs.Grammar.{UpTo, stands, steps, Passes, stays, over}
 use Rattle.pfs_conf_tokens.specs.declared.keys.Key.{Key}
 use Rattle.pfs_conf_tokens.specs.declared.keys.Key.TheVariants as key
 use Rattle.pfs_conf_tokens.specs.declared.refusals.LoadRule.{LoadRule}
 use Rattle.pfs_conf_tokens.specs.declared.refusals.Why.{Why}
 use Rattle.pfs_conf_tokens.specs.declared.refusals.Why.TheVariants as why
-use Rattle.pfs_conf_tokens.specs.Reading.{stop, Act, take, stay, refuse, act, done, chain, turns, left_there, until_all, ended_by, ended}
 use Rattle.pfs_conf_tokens.proofs.Laws.{bind_err, ok_parts, line, passes_then, online_until_all}
 use Rattle.pfs_conf_tokens.proofs.ReaderLaws.{line_end_before_end}
 use Rattle.pfs_conf_rules.specs.Drafts.{finished}

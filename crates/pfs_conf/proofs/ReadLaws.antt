@@ -5,9 +5,9 @@ use Rattle.pfs_conf_tokens.specs.Tokens.{Tok, head}
 use Rattle.pfs_conf_tokens.specs.declared.keys.Key.{Key}
 use Rattle.pfs_conf_tokens.specs.declared.keys.Key.TheVariants as key
 use Rattle.pfs_conf_tokens.specs.declared.refusals.LoadRule.{LoadRule}
-use Rattle.pfs_conf_tokens.specs.Keys.{ends_line, ends_text}
+use Rattle.pfs_conf_tokens.specs.Keys.{ends_line}
+use Rattle.pfs_conf_tokens.specs.Reading.{ends_text, Refused, broken}
 use Rattle.pfs_conf_tokens.specs.Grammar.{Word, Perhaps, absent, present, Until, ends, goes, UpTo}
-use Rattle.pfs_conf_tokens.specs.Reading.{Refused, broken}
 use Rattle.pfs_conf_tokens.proofs.ReaderLaws.{word_head, ended_reads, perhaps_reads, Reads, until_reads, up_to_reads}
 use Rattle.pfs_conf_rules.specs.Configs.{Conf}
 use Rattle.pfs_conf_rules.specs.Drafts.{Drafted, finished}

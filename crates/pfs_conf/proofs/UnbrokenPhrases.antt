@@ -5,8 +5,8 @@ use Rattle.pfs_conf_tokens.specs.declared.keys.Key.{Key}
 use Rattle.pfs_conf_tokens.specs.declared.keys.Key.TheVariants as key
 use Rattle.pfs_conf_tokens.specs.declared.refusals.Why.{Why}
 use Rattle.pfs_conf_tokens.specs.declared.refusals.Why.TheVariants as why
-use Rattle.pfs_conf_tokens.specs.Keys.{is_word_key, closes_parens, closes_braces, ends_line}
-use Rattle.pfs_conf_tokens.specs.Reading.{Reader, Act, refuse, on_front, done, chain, skipping, number_at}
+use Rattle.pfs_conf_tokens.specs.Keys.{is_word_key, ends_line}
+use Rattle.pfs_conf_tokens.specs.Reading.{closes_parens, closes_braces, Reader, Act, refuse, on_front, done, chain, skipping, number_at}
 use Rattle.pfs_addr.specs.Names.{name_of}
 use Rattle.pfs_addr.specs.Prefixes.{Network}
 use Rattle.pfs_addr.specs.Protocols.{proto_in}

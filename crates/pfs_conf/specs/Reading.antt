@@ -2,8 +2,8 @@
 -- each looks no further than the token in front of what it leaves. (own)
 use Rattle.std.specs.Prelude.{ℕ, ◌==◌, ◌||◌, Bool, true, false, if◌then◌else◌, Option, Some, None, is_some, List, Result, Ok, Err}
 use Rattle.pfs_conf_tokens.specs.Tokens.{Tok, head}
-use Rattle.pfs_conf_tokens.specs.Keys.{is_word_key, ends_line, ends_text}
-use Rattle.pfs_conf_tokens.specs.Reading.{Refused, stop, broken, Reader, Act, take, stay, refuse, on_front, done, chain, perhaps, once, until_all, up_to_all, ended}
+use Rattle.pfs_conf_tokens.specs.Keys.{is_word_key, ends_line}
+use Rattle.pfs_conf_tokens.specs.Reading.{ends_text, Refused, stop, broken, Reader, Act, take, stay, refuse, on_front, done, chain, perhaps, once, until_all, up_to_all, ended}
 use Rattle.pfs_conf_tokens.specs.declared.keys.Key.{Key}
 use Rattle.pfs_conf_tokens.specs.declared.keys.Key.TheVariants as key
 use Rattle.pfs_conf_tokens.specs.declared.refusals.LoadRule.{LoadRule}

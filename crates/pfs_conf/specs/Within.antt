@@ -2,7 +2,7 @@
 use Rattle.std.specs.Prelude.{◌≡◌, ℕ, true, IfSome, List, [], ◌∷◌}
 use Rattle.pfs_conf_tokens.specs.Tokens.{Tok}
 use Rattle.pfs_conf_tokens.specs.Keys.{is_word_key}
-use Rattle.pfs_conf_tokens.specs.Words.{key_of}
+use Rattle.pfs_conf_tokens.specs.Words.{key_of_text}
 use Rattle.pfs_addr.specs.Names.{is_name}
 use Rattle.pfs_conf_rules.specs.LoadRules.{IsInterface, IsProto, IsSide, IsFlagTest}
 use Rattle.pfs_conf_filters.specs.declared.phrases.Parameters.{Parameters}
@@ -14,7 +14,7 @@ use Rattle.pfs_conf.specs.Statements.{state_options}
 
 -- the key of a word is that of its text: so it is of every token of a text
 abbrev pub IsLexed : Tok → Type 0
-IsLexed t = is_word_key t.key ≡ true → t.key ≡ key_of t.text
+IsLexed t = is_word_key t.key ≡ true → t.key ≡ key_of_text t.text
 
 pub data AreLexed : List Tok → Type 0 where
   none : AreLexed []

@@ -4,12 +4,11 @@ use Rattle.std.specs.Prelude.{codes, decimal, slice_index}
 use Rattle.std.proofs.lemmas.Bool.{cond-false}
 use Rattle.pfs_conf_tokens.specs.declared.keys.Key.{Key}
 use Rattle.pfs_conf_tokens.specs.declared.keys.Key.TheVariants as key
-use Rattle.pfs_conf_tokens.specs.Grammar.{Word}
+use Rattle.pfs_conf_tokens.specs.Grammar.{Word, skip_lines}
 use Rattle.pfs_conf_tokens.specs.Keys.{ends_line}
 use Rattle.pfs_conf_tokens.specs.Lexis.{tokens}
-use Rattle.pfs_conf_tokens.specs.Reading.{skip_lines}
 use Rattle.pfs_conf_tokens.specs.Tokens.{Tok, token}
-use Rattle.pfs_conf_tokens.specs.Words.{key_of}
+use Rattle.pfs_conf_tokens.specs.Words.{key_of_text}
 use Rattle.pfs_conf_tokens.proofs.ShownLaws.{breaks, is_word_text, mark_then, space_then}
 use Rattle.pfs_conf_tokens.proofs.WordKeys.{key_of-Limit, key_of-Set, key_of-SrcNodes, key_of-States, key_of-TableEntries, key_of-Tables, key_of-Timeout, key_of-TcpFirst, key_of-TcpOpening, key_of-TcpEstablished, key_of-TcpClosing, key_of-TcpFinwait, key_of-TcpClosed, key_of-UdpFirst, key_of-UdpSingle, key_of-UdpMultiple, key_of-OtherFirst, key_of-OtherSingle, key_of-OtherMultiple, key_of-SrcTrack, key_of-Interval, key_of-AdaptiveStart, key_of-AdaptiveEnd}
 use Rattle.pfs_conf_rules.specs.Configs.{AreLimits}
@@ -121,7 +120,7 @@ limits_line d l line more h =
 -- ---- timeouts
 
 -- the word of a timeout names it
-word_key : (n : TimeoutName) → timeout_named (key_of (timeout_word n)) ≡ Some n
+word_key : (n : TimeoutName) → timeout_named (key_of_text (timeout_word n)) ≡ Some n
 word_key name.TcpFirst = ap timeout_named key_of-TcpFirst
 word_key name.TcpOpening = ap timeout_named key_of-TcpOpening
 word_key name.TcpEstablished = ap timeout_named key_of-TcpEstablished

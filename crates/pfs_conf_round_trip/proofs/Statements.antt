@@ -8,7 +8,7 @@ use Rattle.pfs_conf_tokens.specs.declared.keys.Key.TheVariants as key
 use Rattle.pfs_conf_tokens.specs.Grammar.{UpTo, stands, steps}
 use Rattle.pfs_conf_tokens.specs.Lexis.{tokens}
 use Rattle.pfs_conf_tokens.specs.Tokens.{Tok, head, token}
-use Rattle.pfs_conf_tokens.specs.Words.{key_of}
+use Rattle.pfs_conf_tokens.specs.Words.{key_of_text}
 use Rattle.pfs_conf_tokens.proofs.ShownLaws.{end_then}
 use Rattle.pfs_conf_tokens.proofs.WordKeys.{key_of-Table}
 use Rattle.pfs_conf_rules.specs.Configs.{IsTable, table_names}
@@ -81,7 +81,7 @@ table_reads d t line lines more h new =
     subst P (sym (table_parts (codes "table ") (angled t.name) (const_text t.is_const) body (codes "\n") more))
     (subst Q (table_again t.name t.is_const t.entries)
     (table t.name (parts_said t.is_const t.entries) refl (word_space false line (codes "table") (angled t.name ++ parts) refl key_of-Table) (record {
-      t = token line (key_of t.name) t.name;
+      t = token line (key_of_text t.name) t.name;
       behind_open = at line (t.name ++ 62 ∷ parts);
       behind_name = at line (62 ∷ parts);
       opens = angle_opens true line t.name parts;

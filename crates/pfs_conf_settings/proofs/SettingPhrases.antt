@@ -2,10 +2,10 @@
 use Rattle.std.proofs.Common.{◌≡◌, ℕ, Bool, true, false, List, [], ◌∷◌, Option, Some, None, Ok, refl, sym, ap, subst}
 use Rattle.pfs_conf_tokens.specs.declared.keys.Key.{Key}
 use Rattle.pfs_conf_tokens.specs.declared.keys.Key.TheVariants as key
-use Rattle.pfs_conf_tokens.specs.Tokens.{Tok, head, rest}
-use Rattle.pfs_conf_tokens.specs.Keys.{closes_braces, ends_line}
-use Rattle.pfs_conf_tokens.specs.Grammar.{Word}
-use Rattle.pfs_conf_tokens.specs.Reading.{stay, act, chain, done, skip_lines, skipping}
+use Rattle.pfs_conf_tokens.specs.Tokens.{Tok, head}
+use Rattle.pfs_conf_tokens.specs.Reading.{rest, closes_braces, stay, act, chain, done, skipping}
+use Rattle.pfs_conf_tokens.specs.Keys.{ends_line}
+use Rattle.pfs_conf_tokens.specs.Grammar.{Word, skip_lines}
 use Rattle.pfs_conf_tokens.proofs.Laws.{ok_parts, chain_ok}
 use Rattle.pfs_conf_tokens.proofs.ReaderLaws.{word_head, word_is, number_is, number_reads, list_is, list_reads, ReadsList, no_comma}
 use Rattle.pfs_conf_tokens.proofs.LineLaws.{skip_stays}

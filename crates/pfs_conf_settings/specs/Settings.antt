@@ -3,8 +3,7 @@ use Rattle.std.specs.Prelude.{ℕ, Bool, true, false, Option, Some, None}
 use Rattle.pfs_conf_tokens.specs.declared.keys.Key.{Key}
 use Rattle.pfs_conf_tokens.specs.declared.keys.Key.TheVariants as key
 use Rattle.pfs_conf_tokens.specs.declared.refusals.Why.TheVariants as why
-use Rattle.pfs_conf_tokens.specs.Keys.{closes_braces}
-use Rattle.pfs_conf_tokens.specs.Reading.{Reader, Act, take, stay, refuse, on_front, done, chain, list_all, skipping, number_at}
+use Rattle.pfs_conf_tokens.specs.Reading.{closes_braces, Reader, Act, take, stay, refuse, on_front, done, chain, list_all, skipping, number_at}
 use Rattle.pfs_conf_rules.specs.declared.limits.LimitName.{LimitName}
 use Rattle.pfs_conf_rules.specs.declared.limits.LimitName.TheVariants as limit
 use Rattle.pfs_conf_rules.specs.declared.timeouts.TimeoutName.{TimeoutName}

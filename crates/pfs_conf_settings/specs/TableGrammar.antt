@@ -4,8 +4,7 @@ use Rattle.std.specs.Prelude.{◌≡◌, Bool, true, false, Some, None, List, []
 use Rattle.pfs_conf_tokens.specs.declared.keys.Key.TheVariants as key
 use Rattle.pfs_conf_tokens.specs.Tokens.{Tok}
 use Rattle.pfs_conf_tokens.specs.Keys.{is_word_key}
-use Rattle.pfs_conf_tokens.specs.Grammar.{Word, ListOf, UpTo}
-use Rattle.pfs_conf_tokens.specs.Reading.{skip_lines}
+use Rattle.pfs_conf_tokens.specs.Grammar.{Word, ListOf, UpTo, skip_lines}
 use Rattle.pfs_addr.specs.Prefixes.{Network}
 use Rattle.pfs_addr.specs.Texts.{prefix_of}
 use Rattle.pfs_conf_rules.specs.Entries.{Entry, sign_of}

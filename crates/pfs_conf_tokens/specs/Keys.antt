@@ -65,15 +65,3 @@ before_end _ = true
 abbrev pub ends_line : Key → Bool
 ends_line key.LineEnd = true
 ends_line _ = false
-
-abbrev pub ends_text : Key → Bool
-ends_text key.End = true
-ends_text _ = false
-
-abbrev pub closes_braces : Key → Bool
-closes_braces key.CloseBrace = true
-closes_braces _ = false
-
-abbrev pub closes_parens : Key → Bool
-closes_parens key.CloseParen = true
-closes_parens _ = false
