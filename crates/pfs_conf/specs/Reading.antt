@@ -15,7 +15,7 @@ use Rattle.pfs_conf_rules.specs.Drafts.{Drafted, finished, is_defined}
 use Rattle.pfs_conf_rules.specs.Siblings.{has_sibling}
 use Rattle.pfs_conf_rules.specs.declared.filters.FlagTest.{FlagTest}
 use Rattle.pfs_conf_filters.specs.Reading.{verb_at, parameters_at, flags_at, begins_flags}
-use Rattle.pfs_conf_filters.specs.Sides.{repeats, repeats_policy}
+use Rattle.pfs_conf_filters.specs.Repeats.{repeats, repeats_policy}
 use Rattle.pfs_conf_filters.specs.declared.phrases.Parameters.{Parameters}
 use Rattle.pfs_conf_filters.specs.declared.phrases.Statement.TheVariants as statement
 use Rattle.pfs_conf_filters.specs.declared.phrases.Verb.{Verb}

@@ -61,7 +61,7 @@ abbrev pub before_end : Key → Bool
 before_end key.End = false
 before_end _ = true
 
--- what ends a line, a text, and what is in braces, parentheses and angle brackets
+-- a line end
 abbrev pub ends_line : Key → Bool
 ends_line key.LineEnd = true
 ends_line _ = false

@@ -31,11 +31,12 @@ pub data Refused : Type 0 where
   stop : List Tok → Why → Refused
   broken : LoadRule → ℕ → Refused
 
--- the tokens behind it
+-- the tokens behind the one in front
 abbrev pub rest : List Tok → List Tok
 rest [] = []
 rest (t ∷ ts) = ts
 
+-- what ends a text, and what is in braces and in parentheses
 abbrev pub ends_text : Key → Bool
 ends_text key.End = true
 ends_text _ = false
