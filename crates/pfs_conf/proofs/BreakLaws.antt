@@ -25,9 +25,10 @@ use Rattle.pfs_conf.specs.declared.phrases.Clauses.{Clauses}
 use Rattle.pfs_conf.specs.declared.phrases.RuleText.{RuleText}
 use Rattle.pfs_conf.specs.declared.phrases.AnchorText.{AnchorText}
 use Rattle.pfs_conf.specs.declared.progress.Progress.{Progress}
-use Rattle.pfs_conf.specs.Grammar.{names_anchor, RuleOf, AnchorOf, StatementOf, Statements, none, before, Breaks, at_rule, at_anchor, at_end}
-use Rattle.pfs_conf.specs.Statements.{nothing, with_draft, closed, no_clauses, with_rule, with_anchor, with_definition, rule_breaks, anchor_breaks, text_breaks}
-use Rattle.pfs_conf.specs.Reading.{told, clause_by, clause_at, rule_text_at, rule_at, anchor_named, anchor_name_by, anchor_name_at, brace_by, brace_at, anchor_parts_at, in_head, anchor_text_at, anchor_at, set_at, open_by, close_by, table_named, table_name_by, table_name_at, table_at, statement_by, statement_at, all_closed, told_of, statements_at, text_at}
+use Rattle.pfs_conf.specs.Grammar.{names_anchor, RuleOf, AnchorOf, StatementOf}
+use Rattle.pfs_conf.specs.Faults.{Statements, none, before, Breaks, at_rule, at_anchor, at_end}
+use Rattle.pfs_conf.specs.Statements.{nothing, no_clauses, with_rule, with_anchor, with_definition, rule_breaks, anchor_breaks, text_breaks}
+use Rattle.pfs_conf.specs.Reading.{with_draft, closed, told, clause_by, clause_at, rule_text_at, rule_at, anchor_named, anchor_name_by, anchor_name_at, brace_by, brace_at, anchor_parts_at, in_head, anchor_text_at, anchor_at, set_at, open_by, close_by, table_named, table_name_by, table_name_at, table_at, statement_by, statement_at, all_closed, told_of, statements_at, text_at}
 use Rattle.pfs_conf.proofs.OnlineLaws.{ruled, anchored}
 use Rattle.pfs_conf.proofs.PhraseLaws.{rule_text_is, anchor_text_is, statement_is, statements_are, closed_ok}
 use Rattle.pfs_conf.proofs.UnbrokenLaws.{Unbroken, UnbrokenAct, unbroken_done, unbroken_chain, unbroken_front, unbroken_if, unbroken_once, unbroken_perhaps, unbroken_until, unbroken_ended}

@@ -20,12 +20,14 @@ use Rattle.pfs_conf.specs.declared.kinds.Kind.{Kind}
 use Rattle.pfs_conf.specs.Kinds.{no_memory, fault, kind_of_rule, IsKindAt}
 use Rattle.pfs_conf.specs.Places.{IsBegun}
 use Rattle.pfs_conf.specs.Stopping.{fault_of, kind_of}
-use Rattle.pfs_conf.specs.Grammar.{TextOf, Statements, none, before, Breaks, at_rule, at_anchor, at_end}
+use Rattle.pfs_conf.specs.Grammar.{TextOf}
+use Rattle.pfs_conf.specs.Faults.{Statements, none, before, Breaks, at_rule, at_anchor, at_end, StopsAt, IsFault}
 use Rattle.pfs_conf.specs.Giving.{Comes}
 use Rattle.pfs_conf.specs.Statements.{nothing}
 use Rattle.pfs_conf.specs.Reading.{statement_at, statements_at, text_at}
-use Rattle.pfs_conf.specs.Reads.{Reads, most_bytes, StopsAt, IsFault, IsTold}
-use Rattle.pfs_conf.specs.Reads as faults
+use Rattle.pfs_conf.specs.Reads.{Reads, most_bytes}
+use Rattle.pfs_conf.specs.Answers.{IsTold}
+use Rattle.pfs_conf.specs.Faults as faults
 use Rattle.pfs_conf.specs.Loads.{IsFaultRead, long, memory, breaks, stops, IsLoad}
 use Rattle.pfs_conf.proofs.OnlineLaws.{online_text, statement_shrinks}
 use Rattle.pfs_conf.proofs.BreakLaws.{text_breaks_is}

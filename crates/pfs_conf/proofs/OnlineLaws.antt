@@ -30,8 +30,8 @@ use Rattle.pfs_conf.specs.declared.phrases.RuleText.{RuleText}
 use Rattle.pfs_conf.specs.declared.phrases.AnchorText.{AnchorText}
 use Rattle.pfs_conf.specs.declared.progress.Progress.{Progress}
 use Rattle.pfs_conf.specs.Grammar.{names_anchor}
-use Rattle.pfs_conf.specs.Statements.{nothing, with_draft, closed, no_clauses, with_rule, with_anchor, with_definition, rule_breaks, anchor_breaks, text_breaks}
-use Rattle.pfs_conf.specs.Reading.{told, clause_by, clause_at, rule_text_at, rule_at, anchor_named, anchor_name_by, anchor_name_at, brace_by, brace_at, anchor_parts_at, why_in_head, in_head, anchor_text_at, anchor_at, set_at, open_by, close_by, table_named, table_name_by, table_name_at, table_at, statement_by, statement_at, all_closed, told_of, statements_at, text_at}
+use Rattle.pfs_conf.specs.Statements.{nothing, no_clauses, with_rule, with_anchor, with_definition, rule_breaks, anchor_breaks, text_breaks}
+use Rattle.pfs_conf.specs.Reading.{with_draft, closed, told, clause_by, clause_at, rule_text_at, rule_at, anchor_named, anchor_name_by, anchor_name_at, brace_by, brace_at, anchor_parts_at, why_in_head, in_head, anchor_text_at, anchor_at, set_at, open_by, close_by, table_named, table_name_by, table_name_at, table_at, statement_by, statement_at, all_closed, told_of, statements_at, text_at}
 
 -- ---- forms
 

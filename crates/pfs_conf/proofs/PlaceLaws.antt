@@ -23,10 +23,11 @@ use Rattle.pfs_conf.specs.declared.progress.Progress.{Progress}
 use Rattle.pfs_conf.specs.declared.kinds.Kind.TheVariants as kind
 use Rattle.pfs_conf.specs.Kinds.{is_number_key, is_foreign, IsKindAt, duplicate, number, unsupported, syntax}
 use Rattle.pfs_conf.specs.Stopping.{is_again, wants_number, is_left_out, kind_at}
-use Rattle.pfs_conf.specs.Grammar.{StatementOf, Statements, none, before}
-use Rattle.pfs_conf.specs.Statements.{nothing, with_draft, closed, no_clauses, with_rule, with_anchor, with_definition, rule_breaks, anchor_breaks, text_breaks}
+use Rattle.pfs_conf.specs.Grammar.{StatementOf}
+use Rattle.pfs_conf.specs.Faults.{Statements, none, before}
+use Rattle.pfs_conf.specs.Statements.{nothing, no_clauses, with_rule, with_anchor, with_definition, rule_breaks, anchor_breaks, text_breaks}
+use Rattle.pfs_conf.specs.Reading.{with_draft, closed, told, clause_at, rule_text_at, rule_at, anchor_text_at, anchor_at, set_at, table_name_at, table_at, statement_by, statement_at, all_closed, told_of, statements_at, text_at}
 use Rattle.pfs_conf.specs.Places.{InBraces, has_braces, IsBegun, in_a_line, with_braces}
-use Rattle.pfs_conf.specs.Reading.{told, clause_at, rule_text_at, rule_at, anchor_text_at, anchor_at, set_at, table_name_at, table_at, statement_by, statement_at, all_closed, told_of, statements_at, text_at}
 use Rattle.pfs_conf.proofs.OnlineLaws.{online_clause, clause_shrinks, online_anchor_text, ruled}
 use Rattle.pfs_conf.proofs.PhraseLaws.{statement_is, statements_are}
 use Rattle.pfs_conf.proofs.BreakLaws.{and_then}

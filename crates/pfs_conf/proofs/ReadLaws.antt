@@ -33,8 +33,8 @@ use Rattle.pfs_conf.specs.declared.phrases.RuleText.{RuleText}
 use Rattle.pfs_conf.specs.declared.phrases.AnchorText.{AnchorText}
 use Rattle.pfs_conf.specs.declared.progress.Progress.{Progress}
 use Rattle.pfs_conf.specs.Grammar.{ClauseOf, flags, state, RuleOf, names_anchor, AnchorNameOf, unnamed, named, AnchorOf, NewTableOf, StatementOf, blank, set, table, rule, anchor, close, TextOf}
-use Rattle.pfs_conf.specs.Statements.{nothing, with_draft, closed, with_rule, with_anchor, with_definition, rule_breaks, anchor_breaks, text_breaks}
-use Rattle.pfs_conf.specs.Reading.{clause_at, rule_text_at, rule_at, anchor_name_at, brace_at, anchor_parts_at, in_head, anchor_text_at, anchor_at, set_at, table_name_at, table_at, statement_at, statements_at, text_at}
+use Rattle.pfs_conf.specs.Statements.{nothing, with_rule, with_anchor, with_definition, rule_breaks, anchor_breaks, text_breaks}
+use Rattle.pfs_conf.specs.Reading.{with_draft, closed, clause_at, rule_text_at, rule_at, anchor_name_at, brace_at, anchor_parts_at, in_head, anchor_text_at, anchor_at, set_at, table_name_at, table_at, statement_at, statements_at, text_at}
 use Rattle.pfs_conf.proofs.OnlineLaws.{clause_shrinks, statement_shrinks}
 
 -- ---- rules

@@ -125,7 +125,7 @@ port_by_good text key.Domain = omega arith
 port_by_good text key.Www = omega arith
 port_by_good text key.Http = omega arith
 port_by_good text key.Https = omega arith
-port_by_good text key.Number = port_numbered_good (text_numbers.number_of text)
+port_by_good text key.Number = port_numbered_good (text_numbers.number_written text)
 port_by_good text _ = tt
 
 port_good : (text : List ℕ) → IfSome (port_of text) IsPort

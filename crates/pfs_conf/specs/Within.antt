@@ -7,7 +7,7 @@ use Rattle.pfs_addr.specs.Names.{is_name}
 use Rattle.pfs_conf_rules.specs.LoadRules.{IsInterface, IsProto, IsSide, IsFlagTest}
 use Rattle.pfs_conf_filters.specs.declared.phrases.Parameters.{Parameters}
 use Rattle.pfs_conf_filters.specs.Sides.{source_of, destination_of}
-use Rattle.pfs_conf_options.specs.Options.{AreRead}
+use Rattle.pfs_conf_options.specs.Bounds.{AreRead}
 use Rattle.pfs_conf.specs.declared.phrases.RuleText.{RuleText}
 use Rattle.pfs_conf.specs.declared.phrases.AnchorText.{AnchorText}
 use Rattle.pfs_conf.specs.Statements.{state_options}

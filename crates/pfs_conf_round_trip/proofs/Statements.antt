@@ -1,6 +1,6 @@
 -- The statements of a canonical text: each is read, and leads to what the text says up to there.
 use Rattle.std.proofs.Common.{◌≡◌, ◌∙◌, ◌≤◌, ◌<◌, ◌-◌, ◌+◌, ℕ, zero, suc, Bool, true, false, All, List, [], ◌∷◌, ◌++◌, length, map, Option, refl, sym, ap, subst, arith, append_assoc, append-nil, length-append}
-use Rattle.std.specs.Prelude.{codes}
+use Rattle.std.specs.Prelude.{codes, unwrap_or}
 use Rattle.std.specs.List.{IsDistinct, flat_map}
 use Rattle.std.specs.Str.{bytes_eq}
 use Rattle.std.proofs.lemmas.List.Elements.{All-head, All-tail}
@@ -25,7 +25,7 @@ use Rattle.pfs_conf_rules.specs.declared.items.What.TheVariants as what
 use Rattle.pfs_conf_rules.specs.declared.limits.Limits.{Limits}
 use Rattle.pfs_conf_rules.specs.declared.tables.TableDef.{TableDef}
 use Rattle.pfs_conf.specs.Grammar.{StatementOf, anchor, close, rule, table}
-use Rattle.pfs_conf.specs.Statements.{anchor_said, entries_or_none, name_hosts, name_rule, rule_said}
+use Rattle.pfs_conf.specs.Statements.{anchor_said, name_hosts, name_rule, rule_said}
 use Rattle.pfs_conf.specs.declared.progress.Progress.{Progress}
 use Rattle.pfs_conf_show.specs.Pieces.{bracketed}
 use Rattle.pfs_conf_show.specs.Tables.{angled, const_text, entry_text, table_text}
@@ -67,7 +67,7 @@ table_parts word name c body end more = simp append_assoc
 
 -- the parts that are read mean the table
 table_again : (name : List ℕ) (c : Bool) (es : List Entry)
-    → ◌≡◌ {A = TableDef} (record { name = name; is_const = (parts_said c es).is_const; entries = entries_or_none (parts_said c es).entries }) (record { name = name; is_const = c; entries = es })
+    → ◌≡◌ {A = TableDef} (record { name = name; is_const = (parts_said c es).is_const; entries = unwrap_or (parts_said c es).entries [] }) (record { name = name; is_const = c; entries = es })
 table_again name c [] = refl
 table_again name c (e ∷ es) = refl
 

@@ -18,8 +18,7 @@ use Rattle.pfs_addr.specs.Prefixes.{IsNetwork, Network}
 use Rattle.pfs_addr.specs.declared.addresses.Addr.{Addr}
 use Rattle.pfs_addr.specs.declared.addresses.Addr.TheVariants.{V4}
 use Rattle.pfs_conf_rules.specs.Entries.{Entry, same_addr, same_network, sign_of}
-use Rattle.pfs_conf_settings.specs.TableGrammar.{EntryOf, PartOf, PartsOf, PrefixOf, SignOf, comes, constant, entries, negated, plain, some}
-use Rattle.pfs_conf_settings.specs.Tables.{no_parts}
+use Rattle.pfs_conf_settings.specs.TableGrammar.{EntryOf, PartOf, PartsOf, PrefixOf, SignOf, comes, constant, entries, negated, plain, some, no_parts}
 use Rattle.pfs_conf_show.specs.Pieces.{bracketed, going_on, prefix_text}
 use Rattle.pfs_conf_show.specs.Tables.{const_text, entry_text}
 use Rattle.pfs_conf_round_trip.proofs.Said.{parts_said}

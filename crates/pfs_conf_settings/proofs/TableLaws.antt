@@ -12,7 +12,8 @@ use Rattle.pfs_addr.specs.Prefixes.{Network}
 use Rattle.pfs_addr.specs.Texts.{prefix_of}
 use Rattle.pfs_conf_rules.specs.Entries.{Entry, sign_of}
 use Rattle.pfs_conf_settings.specs.declared.tables.Parts.{Parts}
-use Rattle.pfs_conf_settings.specs.Tables.{negation_by, negation_at, again, joined, entered, entry_by, entry_at, lined_entry_at, entries_by, entries_at, unless, part_by, part_at, parts_at, no_parts}
+use Rattle.pfs_conf_settings.specs.Tables.{negation_by, negation_at, again, joined, entered, entry_by, entry_at, lined_entry_at, entries_by, entries_at, unless, part_by, part_at, parts_at}
+use Rattle.pfs_conf_settings.specs.TableGrammar.{no_parts}
 
 -- ---- an entry
 

@@ -8,7 +8,6 @@ use Rattle.pfs_conf_tokens.specs.Grammar.{Word, ListOf, UpTo, skip_lines}
 use Rattle.pfs_addr.specs.Prefixes.{Network}
 use Rattle.pfs_addr.specs.Texts.{prefix_of}
 use Rattle.pfs_conf_rules.specs.Entries.{Entry, sign_of}
-use Rattle.pfs_conf_settings.specs.Tables.{no_parts}
 use Rattle.pfs_conf_settings.specs.declared.tables.Parts.{Parts}
 
 -- a sign: `!`, or none
@@ -20,6 +19,10 @@ pub data SignOf : List Tok → Bool → List Tok → Type 0 where
 pub data Enters (entries : List Entry) (negated : Bool) (p : Network) : List Entry → Type 0 where
   comes : sign_of entries p ≡ None → Enters entries negated p (entries ++ (p, negated) ∷ [])
   stands : sign_of entries p ≡ Some negated → Enters entries negated p entries
+
+-- no part
+abbrev pub no_parts : Parts
+no_parts = record { persist = false; is_const = false; counters = false; entries = None }
 
 -- the word of a prefix
 pub record PrefixOf (ts : List Tok) (p : Network) (left : List Tok) : Type 0 where
