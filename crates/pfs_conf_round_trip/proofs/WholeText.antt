@@ -89,7 +89,7 @@ no_position p items h =
     cond-false (nat_lt (position_or_len p items) (length items)) _ _ (le-ltb (position_or_len p items) (length items) (omega (arith, at)))
 
 none_of_texts : (a b c : Bool) → a ≡ false → b ≡ false → c ≡ false
-    → option_map (λ (r : LoadRule). (r, 0)) (first_broken ((load_rule.AdaptivePair, a) ∷ (load_rule.TooManyTables, b) ∷ (load_rule.TooManyEntries, c) ∷ [])) ≡ None
+    → option_map {U = LoadRule × ℕ} (λ (r : LoadRule). (r, 0)) (first_broken ((load_rule.AdaptivePair, a) ∷ (load_rule.TooManyTables, b) ∷ (load_rule.TooManyEntries, c) ∷ [])) ≡ None
 none_of_texts a b c h i j = rw (h, i, j) refl
 
 text_kept : (p : Progress) (d : Drafted) → p.draft ≡ d → const_overload d ≡ None → has_broken_pair d ≡ false → has_too_many_tables d ≡ false → has_too_many_entries d ≡ false
