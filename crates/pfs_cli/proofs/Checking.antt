@@ -4,7 +4,8 @@ use Rattle.std.specs.Prelude.{OnOk, OnErr, IfErr}
 use Rattle.std.specs.Io.KnownBytes.{Appends}
 use Rattle.pfs_conf_rules.specs.Configs.{Conf}
 use Rattle.pfs_conf.specs.Kinds.{no_memory}
-use Rattle.pfs_conf.specs.Reads.{Reads, IsFault}
+use Rattle.pfs_conf.specs.Reads.{Reads}
+use Rattle.pfs_conf.specs.Faults.{IsFault}
 use Rattle.pfs_conf.specs.declared.faults.LoadFault.{LoadFault}
 use Rattle.pfs_conf.specs.declared.kinds.Kind.{Kind}
 use Rattle.pfs_conf.specs.declared.kinds.Kind.TheVariants as kind

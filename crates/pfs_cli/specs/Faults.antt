@@ -1,7 +1,7 @@
 -- What the faults of a replay print, and the exit statuses that they give. (own)
 use Rattle.std.specs.Prelude.{◌++◌, ℕ, List, codes}
 use Rattle.std.specs.Fmt.{decimal}
-use Rattle.pfs_conf.specs.Kinds.{kind_name}
+use Rattle.pfs_conf.specs.KindNames.{kind_name}
 use Rattle.pfs_cli.specs.declared.faults.TraceFault.{TraceFault}
 use Rattle.pfs_cli.specs.declared.faults.TraceFault.TheVariants as trace
 use Rattle.pfs_cli.specs.declared.faults.ReplayFault.{ReplayFault}

@@ -3,7 +3,8 @@ use Rattle.std.specs.Prelude.{◌≡◌, ◌≢◌, ◌<◌, ◌≤◌, ℕ, Lis
 use Rattle.pfs_conf_rules.specs.Configs.{Conf}
 use Rattle.pfs_conf.specs.declared.faults.LoadFault.{LoadFault}
 use Rattle.pfs_conf.specs.Kinds.{no_memory}
-use Rattle.pfs_conf.specs.Reads.{Reads, IsFault}
+use Rattle.pfs_conf.specs.Reads.{Reads}
+use Rattle.pfs_conf.specs.Faults.{IsFault}
 
 -- the most bytes of a rules text
 abbrev pub rules_limit : ℕ

@@ -1,13 +1,14 @@
 -- Readers that end no line, with braces open or not: each part of a reader keeps it.
 use Rattle.std.proofs.Common.{◌≡◌, ℕ, zero, suc, Bool, true, false, cond, leb, ◌&&◌, List, [], ◌∷◌, length, Option, Some, None, Result, Ok, Err, refl, subst, inl, inr}
 use Rattle.pfs_conf_tokens.specs.Tokens.{Tok, head}
-use Rattle.pfs_conf_tokens.specs.Keys.{is_word_key, ends_line, closes_braces}
-use Rattle.pfs_conf_tokens.specs.Numbers.{number_of}
+use Rattle.pfs_conf_tokens.specs.Keys.{is_word_key, ends_line}
+use Rattle.pfs_conf_tokens.specs.Reading.{closes_braces, Refused, stop, Reader, Act, take, stay, refuse, act, on_front, done, chain, once, turns, taken, left_there, until_all, up_to_all, comma_by, comma_at, next_of, list_all, skipping, number_in, number_by, number_at}
+use Rattle.pfs_conf_tokens.specs.Numbers.{number_written}
 use Rattle.pfs_conf_tokens.specs.declared.keys.Key.{Key}
 use Rattle.pfs_conf_tokens.specs.declared.keys.Key.TheVariants as key
 use Rattle.pfs_conf_tokens.specs.declared.refusals.Why.{Why}
 use Rattle.pfs_conf_tokens.specs.declared.refusals.Why.TheVariants as why
-use Rattle.pfs_conf_tokens.specs.Reading.{Refused, stop, Reader, Act, take, stay, refuse, act, on_front, done, chain, once, turns, taken, left_there, until_all, up_to_all, comma_by, comma_at, next_of, list_all, skip_lines, skipping, number_in, number_by, number_at}
+use Rattle.pfs_conf_tokens.specs.Grammar.{skip_lines}
 use Rattle.pfs_conf_tokens.proofs.Laws.{bind_ok, bind_err, ok_parts}
 use Rattle.pfs_conf.specs.Places.{braces_behind, ends_no_line, InBraces, so_far, over}
 
@@ -96,7 +97,7 @@ number_in_acts braced low high None = tt
 number_in_acts braced low high (Some n) = keeps_if braced braced key.Number (leb low n && leb n high) (take (done n)) (refuse why.Number) (λ e. keeps_word braced braced key.Number (done n) refl (keeps_done n)) (λ e. tt)
 
 number_acts : (braced : Bool) (low high : ℕ) (text : List ℕ) (k : Key) → KeepsAct braced braced k (number_by low high text k)
-number_acts braced low high text key.Number = number_in_acts braced low high (number_of text)
+number_acts braced low high text key.Number = number_in_acts braced low high (number_written text)
 number_acts braced low high text _ = tt
 
 pub keeps_number : (braced : Bool) (low high : ℕ) → Keeps braced braced (number_at low high)

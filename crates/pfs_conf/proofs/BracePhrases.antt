@@ -14,7 +14,8 @@ use Rattle.pfs_conf_rules.specs.declared.limits.LimitName.TheVariants as limit
 use Rattle.pfs_conf_rules.specs.declared.timeouts.TimeoutName.{TimeoutName}
 use Rattle.pfs_conf_rules.specs.Drafts.{Drafted, with_limit, with_timeout, is_defined}
 use Rattle.pfs_conf_settings.specs.Settings.{timeout_named, value_at, limited, limit_by, limit_at, least_value, greatest_value, unkept, timed, time_by, time_at, lined_limit_at, lined_time_at, limits_by, limits_at, times_by, times_at, settings_by, settings_at}
-use Rattle.pfs_conf_settings.specs.Tables.{negation_by, negation_at, again, joined, entered, entry_by, entry_at, lined_entry_at, entries_by, entries_at, unless, part_by, part_at, parts_at, no_parts}
+use Rattle.pfs_conf_settings.specs.Tables.{negation_by, negation_at, again, joined, entered, entry_by, entry_at, lined_entry_at, entries_by, entries_at, unless, part_by, part_at, parts_at}
+use Rattle.pfs_conf_settings.specs.TableGrammar.{no_parts}
 use Rattle.pfs_conf_settings.specs.declared.tables.Parts.{Parts}
 use Rattle.pfs_conf.specs.Reading.{open_by, close_by, table_named, table_name_by, table_name_at}
 use Rattle.pfs_conf.proofs.BraceLaws.{Keeps, KeepsAct, keeps_done, keeps_chain, keeps_front, keeps_if, keeps_once, keeps_word, keeps_number, keeps_up_to_line, keeps_list, keeps_skipping}

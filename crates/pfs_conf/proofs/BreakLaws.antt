@@ -1,13 +1,13 @@
 -- Where reading tells that a load rule is broken, the text breaks it, and breaks none before.
 use Rattle.std.proofs.Common.{◌≡◌, ℕ, zero, suc, ◌==◌, Bool, true, false, cond, List, length, Option, Some, None, Result, Ok, Err, refl, ap, subst, ◌∙◌, inl, inr}
-use Rattle.pfs_conf_tokens.specs.Tokens.{Tok, head, rest}
+use Rattle.pfs_conf_tokens.specs.Tokens.{Tok, head}
+use Rattle.pfs_conf_tokens.specs.Reading.{rest, ends_text, Refused, stop, broken, Act, take, stay, refuse, act, on_front, done, chain, perhaps, turns, left_there, until_all, ended}
 use Rattle.pfs_conf_tokens.specs.declared.keys.Key.{Key}
 use Rattle.pfs_conf_tokens.specs.declared.keys.Key.TheVariants as key
 use Rattle.pfs_conf_tokens.specs.declared.refusals.LoadRule.{LoadRule}
 use Rattle.pfs_conf_tokens.specs.declared.refusals.Why.TheVariants as why
-use Rattle.pfs_conf_tokens.specs.Keys.{ends_line, ends_text, is_word_key}
+use Rattle.pfs_conf_tokens.specs.Keys.{ends_line, is_word_key}
 use Rattle.pfs_conf_tokens.specs.Grammar.{Word}
-use Rattle.pfs_conf_tokens.specs.Reading.{Refused, stop, broken, Act, take, stay, refuse, act, on_front, done, chain, perhaps, turns, left_there, until_all, ended}
 use Rattle.pfs_conf_tokens.proofs.Laws.{bind_err}
 use Rattle.pfs_conf_tokens.proofs.ReaderLaws.{word_is}
 use Rattle.pfs_addr.specs.Names.{name_of}
@@ -25,9 +25,10 @@ use Rattle.pfs_conf.specs.declared.phrases.Clauses.{Clauses}
 use Rattle.pfs_conf.specs.declared.phrases.RuleText.{RuleText}
 use Rattle.pfs_conf.specs.declared.phrases.AnchorText.{AnchorText}
 use Rattle.pfs_conf.specs.declared.progress.Progress.{Progress}
-use Rattle.pfs_conf.specs.Grammar.{names_anchor, RuleOf, AnchorOf, StatementOf, Statements, none, before, Breaks, at_rule, at_anchor, at_end}
-use Rattle.pfs_conf.specs.Statements.{nothing, with_draft, closed, no_clauses, with_rule, with_anchor, with_definition, rule_breaks, anchor_breaks, text_breaks}
-use Rattle.pfs_conf.specs.Reading.{told, clause_by, clause_at, rule_text_at, rule_at, anchor_named, anchor_name_by, anchor_name_at, brace_by, brace_at, anchor_parts_at, in_head, anchor_text_at, anchor_at, set_at, open_by, close_by, table_named, table_name_by, table_name_at, table_at, statement_by, statement_at, all_closed, told_of, statements_at, text_at}
+use Rattle.pfs_conf.specs.Grammar.{names_anchor, RuleOf, AnchorOf, StatementOf}
+use Rattle.pfs_conf.specs.Faults.{Statements, none, before, Breaks, at_rule, at_anchor, at_end}
+use Rattle.pfs_conf.specs.Statements.{nothing, no_clauses, with_rule, with_anchor, with_definition, rule_breaks, anchor_breaks, text_breaks}
+use Rattle.pfs_conf.specs.Reading.{with_draft, closed, told, clause_by, clause_at, rule_text_at, rule_at, anchor_named, anchor_name_by, anchor_name_at, brace_by, brace_at, anchor_parts_at, in_head, anchor_text_at, anchor_at, set_at, open_by, close_by, table_named, table_name_by, table_name_at, table_at, statement_by, statement_at, all_closed, told_of, statements_at, text_at}
 use Rattle.pfs_conf.proofs.OnlineLaws.{ruled, anchored}
 use Rattle.pfs_conf.proofs.PhraseLaws.{rule_text_is, anchor_text_is, statement_is, statements_are, closed_ok}
 use Rattle.pfs_conf.proofs.UnbrokenLaws.{Unbroken, UnbrokenAct, unbroken_done, unbroken_chain, unbroken_front, unbroken_if, unbroken_once, unbroken_perhaps, unbroken_until, unbroken_ended}

@@ -1,5 +1,6 @@
 -- What keeps the load rules, with its tables by their numbers, is such as a configuration has.
 use Rattle.std.proofs.Common.{◌≡◌, ℕ, ◌<◌, ◌≤◌, Bool, true, false, cond, leb, List, [], ◌∷◌, ◌++◌, length, Option, Some, None, IfSome, refl, ◌∙◌, arith, length-append}
+use Rattle.std.specs.Prelude.{unwrap_or}
 use Rattle.std.proofs.lemmas.Bool.{leb-false}
 use Rattle.pfs_conf_tokens.specs.declared.refusals.LoadRule.{LoadRule}
 use Rattle.pfs_conf_tokens.specs.declared.refusals.LoadRule.TheVariants as load_rule
@@ -23,11 +24,12 @@ use Rattle.pfs_conf_filters.specs.Sides.{lacks_proto, source_of, destination_of}
 use Rattle.pfs_conf_options.specs.declared.clauses.OverloadText.{OverloadText}
 use Rattle.pfs_conf_options.specs.declared.clauses.StateClause.{StateClause}
 use Rattle.pfs_conf_options.specs.declared.clauses.StateClause.TheVariants as clause
-use Rattle.pfs_conf_options.specs.Options.{no_options, has_overload_alone, has_global_connections, has_global_retention, has_broken_pair, AreRead}
+use Rattle.pfs_conf_options.specs.Options.{no_options, has_overload_alone, has_global_connections, has_global_retention, has_broken_pair}
+use Rattle.pfs_conf_options.specs.Bounds.{AreRead}
 use Rattle.pfs_conf_options.proofs.ReadLaws.{resolved_are}
 use Rattle.pfs_conf.specs.declared.phrases.RuleText.{RuleText}
 use Rattle.pfs_conf.specs.declared.phrases.AnchorText.{AnchorText}
-use Rattle.pfs_conf.specs.Statements.{name_host, number_host, number_side, name_overload, number_overload, filter_of, name_hosts, state_options, action_of, default_flags, flags_or, name_rule, rule_action, rule_said, anchor_said, keeps_on_block, is_full, rule_breaks, anchor_breaks}
+use Rattle.pfs_conf.specs.Statements.{name_host, number_host, number_side, name_overload, number_overload, filter_of, name_hosts, state_options, action_of, default_flags, name_rule, rule_action, rule_said, anchor_said, keeps_on_block, is_full, rule_breaks, anchor_breaks}
 use Rattle.pfs_conf.specs.Within.{IsTableName, AreParameters, IsRuleText, IsAnchorText}
 
 -- ---- tables
@@ -134,7 +136,7 @@ default_kept action.Block = tt
 default_kept action.Pass = tt
 default_kept (action.Keep o) = refl
 
-flags_kept : (f : FlagTest) (o : Option FlagTest) → IsFlagTest f → IfSome o IsFlagTest → IsFlagTest (flags_or f o)
+flags_kept : (f : FlagTest) (o : Option FlagTest) → IsFlagTest f → IfSome o IsFlagTest → IsFlagTest (unwrap_or o f)
 flags_kept f None k h = k
 flags_kept f (Some g) k h = h
 
@@ -145,7 +147,7 @@ rule_is_kept d r k e =
     let tables = length (name_rule r d).tables in
     let more = overload_more (state_options r.clauses.state).overload (name_hosts r.parameters.hosts d) in
     record {
-      filter = filter_kept tables r.parameters (flags_or (default_flags (rule_action r d)) r.clauses.flags) d k.parameters
+      filter = filter_kept tables r.parameters (unwrap_or r.clauses.flags (default_flags (rule_action r d))) d k.parameters
           (flags_kept (default_flags (rule_action r d)) r.clauses.flags (default_kept (rule_action r d)) k.flags) h.proto more;
       action = action_kept tables r.verb r.clauses.state (number_overload (state_options r.clauses.state).overload (name_hosts r.parameters.hosts d)) k.options
           (overload_known (state_options r.clauses.state).overload (name_hosts r.parameters.hosts d)) h.alone h.connections h.retention h.pair;
@@ -169,6 +171,6 @@ anchor_is_shallow depth d a e = leb-false 16 depth (anchor_kept depth d a e).1
 -- the head of an anchor that keeps the load rules
 pub anchor_is_kept : (depth : ℕ) (d : Drafted) (a : AnchorText) → IsAnchorText a → anchor_breaks depth d a ≡ None → IsAnchor (length (name_hosts a.parameters.hosts d).tables) (anchor_said a d)
 anchor_is_kept depth d a k e = record {
-  filter = filter_kept (length (name_hosts a.parameters.hosts d).tables) a.parameters (flags_or test.Any a.flags) d k.parameters (flags_kept test.Any a.flags tt k.flags) (anchor_kept depth d a e).0 (omega arith);
+  filter = filter_kept (length (name_hosts a.parameters.hosts d).tables) a.parameters (unwrap_or a.flags test.Any) d k.parameters (flags_kept test.Any a.flags tt k.flags) (anchor_kept depth d a e).0 (omega arith);
   name = k.name;
 }

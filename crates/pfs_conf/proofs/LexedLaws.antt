@@ -4,7 +4,7 @@ use Rattle.pfs_conf_tokens.specs.declared.keys.Key.{Key}
 use Rattle.pfs_conf_tokens.specs.declared.lexer.Run.TheVariants as run
 use Rattle.pfs_conf_tokens.specs.Tokens.{Tok, token}
 use Rattle.pfs_conf_tokens.specs.Keys.{is_word_key}
-use Rattle.pfs_conf_tokens.specs.Lexis.{is_word_byte, is_space, mark_key, run_of, is_closed, in_front, piece, taken, tokens, tokens_of}
+use Rattle.pfs_conf_tokens.specs.Lexis.{is_word_byte, is_space, mark_key, run_of, is_closed, in_front, piece, bytes_behind, tokens, tokens_of}
 use Rattle.pfs_conf_tokens.specs.Grammar.{Passes, stays, over}
 use Rattle.pfs_conf_tokens.specs.Reading.{Reader}
 use Rattle.pfs_conf_tokens.proofs.Laws.{Reach, Online}
@@ -49,7 +49,7 @@ lexed_from zero busy line (b ∷ bs) =
     pick_all (is_space b) _ _ (lexed_from 0 busy line bs) (
     pick_all (b == 10) _ _ (no_word_more refl (lexed_from 0 false (suc line) bs)) (
     pick_all (b == 35) _ _ (lexed_from (run_of run.Comment bs) busy line bs) (
-    pick_all (b == 92 && in_front 10 bs) _ _ (lexed_from 1 busy (suc line) bs) (more (piece_lexed line b bs) (lexed_from (taken b bs) true line bs)))))
+    pick_all (b == 92 && in_front 10 bs) _ _ (lexed_from 1 busy (suc line) bs) (more (piece_lexed line b bs) (lexed_from (bytes_behind b bs) true line bs)))))
 
 pub tokens_lexed : (text : List ℕ) → AreLexed (tokens_of text)
 tokens_lexed text = lexed_from 0 false 1 text

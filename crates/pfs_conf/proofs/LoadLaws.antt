@@ -2,9 +2,8 @@
 use Rattle.std.proofs.Common.{◌≡◌, ◌≤◌, ℕ, false, List, ◌∷◌, ◌++◌, length, Option, Some, None, Result, Ok, Err, refl, sym, ap, subst, ◌∙◌, arith, inl, inr, ◌⊎◌}
 use Rattle.std.specs.Prelude.{IfOk, IfErr, MatchResult}
 use Rattle.pfs_conf_tokens.specs.Tokens.{Tok, head}
-use Rattle.pfs_conf_tokens.specs.Keys.{ends_text}
+use Rattle.pfs_conf_tokens.specs.Reading.{ends_text, Refused, stop, broken, up_to_all}
 use Rattle.pfs_conf_tokens.specs.Lexis.{tokens_of}
-use Rattle.pfs_conf_tokens.specs.Reading.{Refused, stop, broken, up_to_all}
 use Rattle.pfs_conf_tokens.specs.Giving.{refused, GivesOrMemory}
 use Rattle.pfs_conf_tokens.specs.declared.refusals.LoadRule.{LoadRule}
 use Rattle.pfs_conf_tokens.specs.declared.refusals.Why.{Why}
@@ -21,12 +20,14 @@ use Rattle.pfs_conf.specs.declared.kinds.Kind.{Kind}
 use Rattle.pfs_conf.specs.Kinds.{no_memory, fault, kind_of_rule, IsKindAt}
 use Rattle.pfs_conf.specs.Places.{IsBegun}
 use Rattle.pfs_conf.specs.Stopping.{fault_of, kind_of}
-use Rattle.pfs_conf.specs.Grammar.{TextOf, Statements, none, before, Breaks, at_rule, at_anchor, at_end}
+use Rattle.pfs_conf.specs.Grammar.{TextOf}
+use Rattle.pfs_conf.specs.Faults.{Statements, none, before, Breaks, at_rule, at_anchor, at_end, StopsAt, IsFault}
 use Rattle.pfs_conf.specs.Giving.{Comes}
 use Rattle.pfs_conf.specs.Statements.{nothing}
 use Rattle.pfs_conf.specs.Reading.{statement_at, statements_at, text_at}
-use Rattle.pfs_conf.specs.Reads.{Reads, most_bytes, StopsAt, IsFault, IsTold}
-use Rattle.pfs_conf.specs.Reads as faults
+use Rattle.pfs_conf.specs.Reads.{Reads, most_bytes}
+use Rattle.pfs_conf.specs.Answers.{IsTold}
+use Rattle.pfs_conf.specs.Faults as faults
 use Rattle.pfs_conf.specs.Loads.{IsFaultRead, long, memory, breaks, stops, IsLoad}
 use Rattle.pfs_conf.proofs.OnlineLaws.{online_text, statement_shrinks}
 use Rattle.pfs_conf.proofs.BreakLaws.{text_breaks_is}

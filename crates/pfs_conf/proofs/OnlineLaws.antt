@@ -6,8 +6,8 @@ use Rattle.pfs_conf_tokens.specs.declared.keys.Key.TheVariants as key
 use Rattle.pfs_conf_tokens.specs.declared.refusals.LoadRule.{LoadRule}
 use Rattle.pfs_conf_tokens.specs.declared.refusals.Why.{Why}
 use Rattle.pfs_conf_tokens.specs.declared.refusals.Why.TheVariants as why
-use Rattle.pfs_conf_tokens.specs.Keys.{in_line, before_end, ends_line, ends_text, is_word_key}
-use Rattle.pfs_conf_tokens.specs.Reading.{Refused, stop, broken, Reader, Act, take, stay, refuse, on_front, done, chain, perhaps, until_all, ended}
+use Rattle.pfs_conf_tokens.specs.Keys.{in_line, before_end, ends_line, is_word_key}
+use Rattle.pfs_conf_tokens.specs.Reading.{ends_text, Refused, stop, broken, Reader, Act, take, stay, refuse, on_front, done, chain, perhaps, until_all, ended}
 use Rattle.pfs_conf_tokens.proofs.Laws.{Reach, inside, line, across, passes_more, Online, online_across, online_done, online_chain, OnlineAct, Taking, online_front, online_taking, once_taking, Shrinks, front_shrinks, chain_shrinks, online_perhaps, online_until_all, online_up_to_all, online_ended}
 use Rattle.pfs_conf_tokens.proofs.ReaderLaws.{line_end_before_end, word_in_line}
 use Rattle.pfs_addr.specs.Names.{name_of}
@@ -30,8 +30,8 @@ use Rattle.pfs_conf.specs.declared.phrases.RuleText.{RuleText}
 use Rattle.pfs_conf.specs.declared.phrases.AnchorText.{AnchorText}
 use Rattle.pfs_conf.specs.declared.progress.Progress.{Progress}
 use Rattle.pfs_conf.specs.Grammar.{names_anchor}
-use Rattle.pfs_conf.specs.Statements.{nothing, with_draft, closed, no_clauses, with_rule, with_anchor, with_definition, rule_breaks, anchor_breaks, text_breaks}
-use Rattle.pfs_conf.specs.Reading.{told, clause_by, clause_at, rule_text_at, rule_at, anchor_named, anchor_name_by, anchor_name_at, brace_by, brace_at, anchor_parts_at, why_in_head, in_head, anchor_text_at, anchor_at, set_at, open_by, close_by, table_named, table_name_by, table_name_at, table_at, statement_by, statement_at, all_closed, told_of, statements_at, text_at}
+use Rattle.pfs_conf.specs.Statements.{nothing, no_clauses, with_rule, with_anchor, with_definition, rule_breaks, anchor_breaks, text_breaks}
+use Rattle.pfs_conf.specs.Reading.{with_draft, closed, told, clause_by, clause_at, rule_text_at, rule_at, anchor_named, anchor_name_by, anchor_name_at, brace_by, brace_at, anchor_parts_at, why_in_head, in_head, anchor_text_at, anchor_at, set_at, open_by, close_by, table_named, table_name_by, table_name_at, table_at, statement_by, statement_at, all_closed, told_of, statements_at, text_at}
 
 -- ---- forms
 

@@ -1,14 +1,14 @@
 -- Where reading stops, all before is read: statements, and then the tokens of one that is begun.
 use Rattle.std.proofs.Common.{◌≡◌, ℕ, zero, suc, ◌==◌, ◌&&◌, ◌||◌, Bool, true, false, cond, List, [], ◌∷◌, length, Option, Some, None, Ok, Err, refl, ap, subst, ◌∙◌, inl, inr}
-use Rattle.pfs_conf_tokens.specs.Tokens.{Tok, head, rest}
-use Rattle.pfs_conf_tokens.specs.Keys.{in_line, ends_line, ends_text}
+use Rattle.pfs_conf_tokens.specs.Tokens.{Tok, head}
+use Rattle.pfs_conf_tokens.specs.Reading.{rest, ends_text, stop, Act, take, stay, refuse, act, done, chain, turns, left_there, until_all, ended_by, ended}
+use Rattle.pfs_conf_tokens.specs.Keys.{in_line, ends_line}
 use Rattle.pfs_conf_tokens.specs.Grammar.{UpTo, stands, steps, Passes, stays, over}
 use Rattle.pfs_conf_tokens.specs.declared.keys.Key.{Key}
 use Rattle.pfs_conf_tokens.specs.declared.keys.Key.TheVariants as key
 use Rattle.pfs_conf_tokens.specs.declared.refusals.LoadRule.{LoadRule}
 use Rattle.pfs_conf_tokens.specs.declared.refusals.Why.{Why}
 use Rattle.pfs_conf_tokens.specs.declared.refusals.Why.TheVariants as why
-use Rattle.pfs_conf_tokens.specs.Reading.{stop, Act, take, stay, refuse, act, done, chain, turns, left_there, until_all, ended_by, ended}
 use Rattle.pfs_conf_tokens.proofs.Laws.{bind_err, ok_parts, line, passes_then, online_until_all}
 use Rattle.pfs_conf_tokens.proofs.ReaderLaws.{line_end_before_end}
 use Rattle.pfs_conf_rules.specs.Drafts.{finished}
@@ -23,10 +23,11 @@ use Rattle.pfs_conf.specs.declared.progress.Progress.{Progress}
 use Rattle.pfs_conf.specs.declared.kinds.Kind.TheVariants as kind
 use Rattle.pfs_conf.specs.Kinds.{is_number_key, is_foreign, IsKindAt, duplicate, number, unsupported, syntax}
 use Rattle.pfs_conf.specs.Stopping.{is_again, wants_number, is_left_out, kind_at}
-use Rattle.pfs_conf.specs.Grammar.{StatementOf, Statements, none, before}
-use Rattle.pfs_conf.specs.Statements.{nothing, with_draft, closed, no_clauses, with_rule, with_anchor, with_definition, rule_breaks, anchor_breaks, text_breaks}
+use Rattle.pfs_conf.specs.Grammar.{StatementOf}
+use Rattle.pfs_conf.specs.Faults.{Statements, none, before}
+use Rattle.pfs_conf.specs.Statements.{nothing, no_clauses, with_rule, with_anchor, with_definition, rule_breaks, anchor_breaks, text_breaks}
+use Rattle.pfs_conf.specs.Reading.{with_draft, closed, told, clause_at, rule_text_at, rule_at, anchor_text_at, anchor_at, set_at, table_name_at, table_at, statement_by, statement_at, all_closed, told_of, statements_at, text_at}
 use Rattle.pfs_conf.specs.Places.{InBraces, has_braces, IsBegun, in_a_line, with_braces}
-use Rattle.pfs_conf.specs.Reading.{told, clause_at, rule_text_at, rule_at, anchor_text_at, anchor_at, set_at, table_name_at, table_at, statement_by, statement_at, all_closed, told_of, statements_at, text_at}
 use Rattle.pfs_conf.proofs.OnlineLaws.{online_clause, clause_shrinks, online_anchor_text, ruled}
 use Rattle.pfs_conf.proofs.PhraseLaws.{statement_is, statements_are}
 use Rattle.pfs_conf.proofs.BreakLaws.{and_then}

@@ -1,12 +1,13 @@
 -- Readers that ask no load rule: what they refuse, they refuse at a token.
 use Rattle.std.proofs.Common.{◌≡◌, ℕ, zero, suc, ◌&&◌, Bool, true, false, cond, leb, List, length, Option, Some, None, Result, Err, inl, inr}
-use Rattle.pfs_conf_tokens.specs.Tokens.{Tok, head, rest}
+use Rattle.pfs_conf_tokens.specs.Tokens.{Tok, head}
+use Rattle.pfs_conf_tokens.specs.Reading.{rest, Refused, broken, Reader, Act, take, stay, refuse, act, on_front, done, chain, perhaps, once, turns, taken, left_there, until_all, up_to_all, comma_by, comma_at, next_of, list_all, ended_by, ended, skipping, number_in, number_by, number_at}
 use Rattle.pfs_conf_tokens.specs.declared.keys.Key.{Key}
 use Rattle.pfs_conf_tokens.specs.declared.keys.Key.TheVariants as key
 use Rattle.pfs_conf_tokens.specs.declared.refusals.LoadRule.{LoadRule}
 use Rattle.pfs_conf_tokens.specs.declared.refusals.Why.TheVariants as why
-use Rattle.pfs_conf_tokens.specs.Numbers.{number_of}
-use Rattle.pfs_conf_tokens.specs.Reading.{Refused, broken, Reader, Act, take, stay, refuse, act, on_front, done, chain, perhaps, once, turns, taken, left_there, until_all, up_to_all, comma_by, comma_at, next_of, list_all, ended_by, ended, skip_lines, skipping, number_in, number_by, number_at}
+use Rattle.pfs_conf_tokens.specs.Numbers.{number_written}
+use Rattle.pfs_conf_tokens.specs.Grammar.{skip_lines}
 use Rattle.pfs_conf_tokens.proofs.Laws.{bind_err}
 
 pub record Unbroken {A : Type 0} (f : List Tok → Result (A × List Tok) Refused) : Type 0 where
@@ -85,7 +86,7 @@ number_in_acts low high None = tt
 number_in_acts low high (Some n) = unbroken_if (leb low n && leb n high) (take (done n)) (refuse why.Number) (unbroken_done n) tt
 
 number_acts : (low high : ℕ) (text : List ℕ) (k : Key) → UnbrokenAct (number_by low high text k)
-number_acts low high text key.Number = number_in_acts low high (number_of text)
+number_acts low high text key.Number = number_in_acts low high (number_written text)
 number_acts low high text _ = tt
 
 pub unbroken_number : (low high : ℕ) → Unbroken (number_at low high)

@@ -5,8 +5,8 @@ use Rattle.pfs_conf_tokens.specs.declared.keys.Key.{Key}
 use Rattle.pfs_conf_tokens.specs.declared.keys.Key.TheVariants as key
 use Rattle.pfs_conf_tokens.specs.declared.refusals.Why.{Why}
 use Rattle.pfs_conf_tokens.specs.declared.refusals.Why.TheVariants as why
-use Rattle.pfs_conf_tokens.specs.Keys.{is_word_key, closes_parens, closes_braces, ends_line}
-use Rattle.pfs_conf_tokens.specs.Reading.{Reader, Act, refuse, on_front, done, chain, skipping, number_at}
+use Rattle.pfs_conf_tokens.specs.Keys.{is_word_key, ends_line}
+use Rattle.pfs_conf_tokens.specs.Reading.{closes_parens, closes_braces, Reader, Act, refuse, on_front, done, chain, skipping, number_at}
 use Rattle.pfs_addr.specs.Names.{name_of}
 use Rattle.pfs_addr.specs.Prefixes.{Network}
 use Rattle.pfs_addr.specs.Protocols.{proto_in}
@@ -37,7 +37,8 @@ use Rattle.pfs_conf_options.specs.declared.clauses.StateClause.TheVariants as st
 use Rattle.pfs_conf_settings.specs.Settings as setting
 use Rattle.pfs_conf_settings.specs.Settings.{timeout_named, limited, limit_by, limit_at, least_value, greatest_value, unkept, timed, time_by, time_at, lined_limit_at, lined_time_at, limits_by, limits_at, times_by, times_at, settings_by, settings_at}
 use Rattle.pfs_conf_settings.specs.Tables as tables
-use Rattle.pfs_conf_settings.specs.Tables.{again, joined, entered, entry_by, entry_at, lined_entry_at, entries_by, entries_at, unless, part_by, part_at, no_parts, parts_at}
+use Rattle.pfs_conf_settings.specs.Tables.{again, joined, entered, entry_by, entry_at, lined_entry_at, entries_by, entries_at, unless, part_by, part_at, parts_at}
+use Rattle.pfs_conf_settings.specs.TableGrammar.{no_parts}
 use Rattle.pfs_conf_settings.specs.declared.tables.Parts.{Parts}
 use Rattle.pfs_conf.proofs.UnbrokenLaws.{Unbroken, UnbrokenAct, unbroken_done, unbroken_chain, unbroken_front, unbroken_if, unbroken_once, unbroken_perhaps, unbroken_up_to, unbroken_list, unbroken_skipping, unbroken_number}
 

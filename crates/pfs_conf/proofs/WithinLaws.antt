@@ -7,7 +7,7 @@ use Rattle.pfs_conf_tokens.specs.Tokens.{Tok}
 use Rattle.pfs_conf_tokens.specs.declared.keys.Key.{Key}
 use Rattle.pfs_conf_tokens.specs.declared.keys.Key.TheVariants as key
 use Rattle.pfs_conf_tokens.specs.Keys.{is_word_key}
-use Rattle.pfs_conf_tokens.specs.Words.{key_of}
+use Rattle.pfs_conf_tokens.specs.Words.{key_of_text}
 use Rattle.pfs_conf_tokens.specs.Numbers.{split_around}
 use Rattle.pfs_conf_tokens.specs.Grammar.{Word, Perhaps, absent, present, Until, ends, goes, NextOf, plain, comma}
 use Rattle.pfs_conf_tokens.proofs.WordKeys.{key_of-Any, key_of-Rdomain}
@@ -67,14 +67,14 @@ may_is_word key.Rdomain e = absurd cc
 may_is_word _ e = e
 
 -- a word that may name an interface is not one of the two that may not
-other_word : (t : Tok) (text : List ℕ) (k : Key) → IsLexed t → may_name_interface t.key ≡ true → may_name_interface k ≡ false → key_of text ≡ k → bytes_eq t.text text ≡ false
+other_word : (t : Tok) (text : List ℕ) (k : Key) → IsLexed t → may_name_interface t.key ≡ true → may_name_interface k ≡ false → key_of_text text ≡ k → bytes_eq t.text text ≡ false
 other_word t text k l may not_k e = choose (bytes_eq t.text text) refl
   where
     choose : (b : Bool) → bytes_eq t.text text ≡ b → bytes_eq t.text text ≡ false
     choose false g = g
     choose true g =
         let same : t.text ≡ text = (bytes_eq-Decides t.text text).0 g in
-        let keyed : t.key ≡ k = l (may_is_word t.key may) ∙ ap key_of same ∙ e in
+        let keyed : t.key ≡ k = l (may_is_word t.key may) ∙ ap key_of_text same ∙ e in
         let bad : true ≡ false = sym may ∙ ap may_name_interface keyed ∙ not_k in
         absurd cc
 
@@ -125,12 +125,12 @@ port_by_good text key.Domain = omega arith
 port_by_good text key.Www = omega arith
 port_by_good text key.Http = omega arith
 port_by_good text key.Https = omega arith
-port_by_good text key.Number = port_numbered_good (text_numbers.number_of text)
+port_by_good text key.Number = port_numbered_good (text_numbers.number_written text)
 port_by_good text _ = tt
 
 port_good : (text : List ℕ) → IfSome (port_of text) IsPort
 unfolding port_of
-port_good text = port_by_good text (key_of text)
+port_good text = port_by_good text (key_of_text text)
 
 one_good : (o : Option ℕ) → IfSome o IsPort → IfSome (one_port o) ArePorts
 one_good None h = tt

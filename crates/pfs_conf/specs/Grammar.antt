@@ -1,12 +1,11 @@
 -- The grammar of statements: which tokens write them, what they add to what the statements before them say, and which tokens
 -- they leave. (pf.conf(5), GRAMMAR)
-use Rattle.std.specs.Prelude.{◌≡◌, ℕ, ◌≤◌, Bool, true, false, Option, Some, None, List, ◌∷◌}
+use Rattle.std.specs.Prelude.{◌≡◌, ℕ, ◌≤◌, ◌-◌, Bool, true, false, Option, Some, None, List, ◌∷◌}
 use Rattle.pfs_conf_tokens.specs.Tokens.{Tok, head}
 use Rattle.pfs_conf_tokens.specs.Keys.{is_word_key}
 use Rattle.pfs_conf_tokens.specs.Grammar.{Word, Perhaps, Until, UpTo}
 use Rattle.pfs_conf_tokens.specs.declared.keys.Key.{Key}
 use Rattle.pfs_conf_tokens.specs.declared.keys.Key.TheVariants as key
-use Rattle.pfs_conf_tokens.specs.declared.refusals.LoadRule.{LoadRule}
 use Rattle.pfs_addr.specs.Names.{name_of}
 use Rattle.pfs_conf_rules.specs.Configs.{Conf}
 use Rattle.pfs_conf_rules.specs.Drafts.{Drafted, finished, is_defined}
@@ -23,7 +22,7 @@ use Rattle.pfs_conf.specs.declared.phrases.Clauses.{Clauses}
 use Rattle.pfs_conf.specs.declared.phrases.RuleText.{RuleText}
 use Rattle.pfs_conf.specs.declared.phrases.AnchorText.{AnchorText}
 use Rattle.pfs_conf.specs.declared.progress.Progress.{Progress}
-use Rattle.pfs_conf.specs.Statements.{nothing, with_draft, closed, no_clauses, with_definition, with_rule, with_anchor, rule_breaks, anchor_breaks, text_breaks}
+use Rattle.pfs_conf.specs.Statements.{nothing, no_clauses, with_definition, with_rule, with_anchor, rule_breaks, anchor_breaks, text_breaks}
 
 -- `flags` or a state clause is added to clauses that lack it
 pub data ClauseOf : Clauses → List Tok → Clauses → List Tok → Type 0 where
@@ -88,18 +87,13 @@ pub record NewTableOf (d : Drafted) (ts : List Tok) (name : List ℕ) (left : Li
 -- anchors
 pub data StatementOf : Progress → List Tok → Progress → List Tok → Type 0 where
   blank : {p : Progress} {ts left : List Tok} → Word key.LineEnd ts left → StatementOf p ts p left
-  set : {p : Progress} {d : Drafted} {ts a b left : List Tok} → p.depth ≡ 0 → Word key.Set ts a → SettingOf p.draft a d b → Word key.LineEnd b left → StatementOf p ts (with_draft d p) left
+  set : {p : Progress} {d : Drafted} {ts a b left : List Tok} → p.depth ≡ 0 → Word key.Set ts a → SettingOf p.draft a d b → Word key.LineEnd b left → StatementOf p ts (record p { draft = d }) left
   table : {p : Progress} {ts a b c left : List Tok} (name : List ℕ) (parts : Parts) → p.depth ≡ 0 → Word key.Table ts a → NewTableOf p.draft a name b
       → PartsOf b parts c → Word key.LineEnd c left → StatementOf p ts (with_definition name parts p) left
   rule : {p : Progress} {ts left : List Tok} (r : RuleText) → RuleOf ts r left → rule_breaks p.draft r ≡ None → StatementOf p ts (with_rule (head ts).line r p) left
   anchor : {p : Progress} {ts mid left : List Tok} (a : AnchorText) → AnchorOf p ts a mid → anchor_breaks p.depth p.draft a ≡ None
       → Word key.LineEnd mid left → StatementOf p ts (with_anchor (head ts).line a p) left
-  close : {p : Progress} {ts mid left : List Tok} → 1 ≤ p.depth → Word key.CloseBrace ts mid → Word key.LineEnd mid left → StatementOf p ts (closed p) left
-
--- statements one behind another, as far as these tokens are left
-pub data Statements : Progress → List Tok → Progress → List Tok → Type 0 where
-  none : {p : Progress} {ts : List Tok} → Statements p ts p ts
-  before : {p q r : Progress} {ts mid left : List Tok} → StatementOf p ts q mid → Statements q mid r left → Statements p ts r left
+  close : {p : Progress} {ts mid left : List Tok} → 1 ≤ p.depth → Word key.CloseBrace ts mid → Word key.LineEnd mid left → StatementOf p ts (record p { depth = p.depth - 1 }) left
 
 -- a text: statements that keep the load rules, up to the end, with each anchor closed; and all of them together keep those
 -- of a text. The configuration is what they say
@@ -110,14 +104,3 @@ pub record TextOf (ts : List Tok) (conf : Conf) : Type 0 where
   pub all_closed : said.depth ≡ 0
   pub keeps : text_breaks said ≡ None
   pub says : finished said.draft ≡ conf
-
--- the first load rule that a text breaks, with the line at which it is told. All statements before are read and keep the load
--- rules: then stands a rule, or the head of an anchor, that breaks one, and its line is that of its first token; or no
--- statement does, and the text as a whole breaks one
-pub data Breaks (ts : List Tok) : LoadRule → ℕ → Type 0 where
-  at_rule : {p : Progress} {mid left : List Tok} {broken : LoadRule} (r : RuleText) → Statements nothing ts p mid → RuleOf mid r left
-      → rule_breaks p.draft r ≡ Some broken → Breaks ts broken (head mid).line
-  at_anchor : {p : Progress} {mid left : List Tok} {broken : LoadRule} (a : AnchorText) → Statements nothing ts p mid → AnchorOf p mid a left
-      → anchor_breaks p.depth p.draft a ≡ Some broken → Breaks ts broken (head mid).line
-  at_end : {p : Progress} {left : List Tok} {broken : LoadRule} {line : ℕ} → UpTo key.End StatementOf nothing ts p left → p.depth ≡ 0
-      → text_breaks p ≡ Some (broken, line) → Breaks ts broken line

@@ -1,5 +1,5 @@
 -- The kinds of faults, and what a kind says of the token at which it is told. (own)
-use Rattle.std.specs.Prelude.{◌≡◌, ℕ, Bool, true, false, ◌&&◌, ◌||◌, ◌==◌, List, codes}
+use Rattle.std.specs.Prelude.{◌≡◌, ℕ, Bool, true, false, ◌&&◌, ◌||◌, ◌==◌, List}
 use Rattle.std.specs.List.{list_any}
 use Rattle.pfs_conf_tokens.specs.Tokens.{Tok}
 use Rattle.pfs_conf_tokens.specs.Keys.{is_word_key, is_unsupported_key}
@@ -10,26 +10,6 @@ use Rattle.pfs_conf_tokens.specs.declared.refusals.LoadRule.TheVariants as load_
 use Rattle.pfs_conf.specs.declared.kinds.Kind.{Kind}
 use Rattle.pfs_conf.specs.declared.kinds.Kind.TheVariants as kind
 use Rattle.pfs_conf.specs.declared.faults.LoadFault.{LoadFault}
-
--- a kind is printed by its name
-abbrev pub kind_name : Kind → List ℕ
-kind_name kind.Syntax = codes "Syntax"
-kind_name kind.Unsupported = codes "Unsupported"
-kind_name kind.Number = codes "Number"
-kind_name kind.Duplicate = codes "Duplicate"
-kind_name kind.GlobalConn = codes "GlobalConn"
-kind_name kind.GlobalRetention = codes "GlobalRetention"
-kind_name kind.OverloadAlone = codes "OverloadAlone"
-kind_name kind.AdaptivePair = codes "AdaptivePair"
-kind_name kind.PortWithoutProto = codes "PortWithoutProto"
-kind_name kind.ConstOverload = codes "ConstOverload"
-kind_name kind.StateOnBlock = codes "StateOnBlock"
-kind_name kind.TooDeep = codes "TooDeep"
-kind_name kind.TooManyRules = codes "TooManyRules"
-kind_name kind.TooManyTables = codes "TooManyTables"
-kind_name kind.TooManyEntries = codes "TooManyEntries"
-kind_name kind.TooLong = codes "TooLong"
-kind_name kind.Memory = codes "Memory"
 
 -- a broken load rule is told by its own name
 abbrev pub kind_of_rule : LoadRule → Kind

@@ -1,4 +1,5 @@
 pub mod Kinds
+pub mod KindNames
 pub mod Stopping
 pub mod Statements
 pub mod Grammar
@@ -7,4 +8,6 @@ pub mod Giving
 pub mod Within
 pub mod Places
 pub mod Reads
+pub mod Faults
+pub mod Answers
 pub mod Loads

@@ -1,9 +1,9 @@
 -- Reading statements from left to right: one definition for each reader of the code, made of the parts of pfs_conf_tokens, so that
 -- each looks no further than the token in front of what it leaves. (own)
-use Rattle.std.specs.Prelude.{ℕ, ◌==◌, ◌||◌, Bool, true, false, if◌then◌else◌, Option, Some, None, is_some, List, Result, Ok, Err}
+use Rattle.std.specs.Prelude.{ℕ, ◌==◌, ◌||◌, Bool, true, false, if◌then◌else◌, Option, Some, None, is_some, List, Result, Ok, Err, ◌-◌}
 use Rattle.pfs_conf_tokens.specs.Tokens.{Tok, head}
-use Rattle.pfs_conf_tokens.specs.Keys.{is_word_key, ends_line, ends_text}
-use Rattle.pfs_conf_tokens.specs.Reading.{Refused, stop, broken, Reader, Act, take, stay, refuse, on_front, done, chain, perhaps, once, until_all, up_to_all, ended}
+use Rattle.pfs_conf_tokens.specs.Keys.{is_word_key, ends_line}
+use Rattle.pfs_conf_tokens.specs.Reading.{ends_text, Refused, stop, broken, Reader, Act, take, stay, refuse, on_front, done, chain, perhaps, once, until_all, up_to_all, ended}
 use Rattle.pfs_conf_tokens.specs.declared.keys.Key.{Key}
 use Rattle.pfs_conf_tokens.specs.declared.keys.Key.TheVariants as key
 use Rattle.pfs_conf_tokens.specs.declared.refusals.LoadRule.{LoadRule}
@@ -15,7 +15,7 @@ use Rattle.pfs_conf_rules.specs.Drafts.{Drafted, finished, is_defined}
 use Rattle.pfs_conf_rules.specs.Siblings.{has_sibling}
 use Rattle.pfs_conf_rules.specs.declared.filters.FlagTest.{FlagTest}
 use Rattle.pfs_conf_filters.specs.Reading.{verb_at, parameters_at, flags_at, begins_flags}
-use Rattle.pfs_conf_filters.specs.Sides.{repeats, repeats_policy}
+use Rattle.pfs_conf_filters.specs.Repeats.{repeats, repeats_policy}
 use Rattle.pfs_conf_filters.specs.declared.phrases.Parameters.{Parameters}
 use Rattle.pfs_conf_filters.specs.declared.phrases.Statement.TheVariants as statement
 use Rattle.pfs_conf_filters.specs.declared.phrases.Verb.{Verb}
@@ -27,12 +27,20 @@ use Rattle.pfs_conf.specs.declared.phrases.RuleText.{RuleText}
 use Rattle.pfs_conf.specs.declared.phrases.AnchorText.{AnchorText}
 use Rattle.pfs_conf.specs.declared.progress.Progress.{Progress}
 use Rattle.pfs_conf.specs.Grammar.{names_anchor}
-use Rattle.pfs_conf.specs.Statements.{nothing, with_draft, closed, no_clauses, with_rule, with_anchor, with_definition, rule_breaks, anchor_breaks, text_breaks}
+use Rattle.pfs_conf.specs.Statements.{nothing, no_clauses, with_rule, with_anchor, with_definition, rule_breaks, anchor_breaks, text_breaks}
 
 -- a broken load rule is told at a line
 abbrev pub told : Option LoadRule → ℕ → Reader (Unit {0})
 told None line ts = Ok (tt, ts)
 told (Some rule) line ts = Err (broken rule line)
+
+-- what the statements say is this
+abbrev pub with_draft : Drafted → Progress → Progress
+with_draft d p = record { draft = d; depth = p.depth; lines = p.lines }
+
+-- an anchor is closed
+abbrev pub closed : Progress → Progress
+closed p = record { draft = p.draft; depth = p.depth - 1; lines = p.lines }
 
 -- a word that no statement goes on with: one that begins what is there already is told so
 abbrev pub repeated : Bool → Why

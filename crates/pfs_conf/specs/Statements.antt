@@ -1,5 +1,5 @@
 -- What statements say, and which load rules they break. (pf.conf(5), PACKET FILTERING, ANCHORS and TABLES)
-use Rattle.std.specs.Prelude.{ℕ, ◌+◌, ◌-◌, Bool, true, false, if◌then◌else◌, nat_le, Option, Some, None, List, [], ◌∷◌, ◌++◌, length, slice_index_or}
+use Rattle.std.specs.Prelude.{ℕ, ◌+◌, Bool, true, false, if◌then◌else◌, nat_le, Option, Some, None, List, [], ◌∷◌, ◌++◌, length, slice_index_or, unwrap_or}
 use Rattle.std.specs.Option.{option_map}
 use Rattle.pfs_conf_tokens.specs.declared.refusals.LoadRule.{LoadRule}
 use Rattle.pfs_conf_tokens.specs.declared.refusals.LoadRule.TheVariants as load_rule
@@ -26,7 +26,6 @@ use Rattle.pfs_conf_options.specs.declared.clauses.OverloadText.{OverloadText}
 use Rattle.pfs_conf_options.specs.declared.clauses.StateClause.{StateClause}
 use Rattle.pfs_conf_options.specs.declared.clauses.StateClause.TheVariants as clause
 use Rattle.pfs_conf_options.specs.Options.{no_options, options_of, has_overload_alone, has_global_connections, has_global_retention, has_broken_pair as rule_has_broken_pair, resolved}
-use Rattle.pfs_conf_rules.specs.Entries.{Entry}
 use Rattle.pfs_conf_settings.specs.declared.tables.Parts.{Parts}
 use Rattle.pfs_conf.specs.declared.phrases.Clauses.{Clauses}
 use Rattle.pfs_conf.specs.declared.phrases.RuleText.{RuleText}
@@ -38,14 +37,6 @@ use Rattle.pfs_conf.specs.declared.progress.Progress.{Progress}
 -- nothing is read
 abbrev pub nothing : Progress
 nothing = record { draft = empty_draft; depth = 0; lines = [] }
-
--- what the statements say is this
-abbrev pub with_draft : Drafted → Progress → Progress
-with_draft d p = record { draft = d; depth = p.depth; lines = p.lines }
-
--- an anchor is closed
-abbrev pub closed : Progress → Progress
-closed p = record { draft = p.draft; depth = p.depth - 1; lines = p.lines }
 
 -- ---- tables by their numbers: they are numbered by the first place in the text that names them
 
@@ -121,10 +112,6 @@ default_flags action.Block = flag_test.Any
 default_flags action.Pass = flag_test.Any
 default_flags (action.Keep o) = opening_flags
 
-abbrev pub flags_or : FlagTest → Option FlagTest → FlagTest
-flags_or f None = f
-flags_or f (Some given) = given
-
 -- the draft in which a rule's tables are used: from, to, overload
 abbrev pub name_rule : RuleText → Drafted → Drafted
 name_rule r d = name_overload (state_options r.clauses.state).overload (name_hosts r.parameters.hosts d)
@@ -137,17 +124,14 @@ rule_action r d = action_of r.verb r.clauses.state (number_overload (state_optio
 abbrev pub rule_said : RuleText → Drafted → Rule
 rule_said r d = record {
   quick = r.parameters.head.marks.quick;
-  filter = filter_of r.parameters (flags_or (default_flags (rule_action r d)) r.clauses.flags) d;
+  filter = filter_of r.parameters (unwrap_or r.clauses.flags (default_flags (rule_action r d))) d;
   action = rule_action r d;
 }
 
 -- a rule that begins on a line is put behind the other items
 abbrev pub with_rule : ℕ → RuleText → Progress → Progress
-with_rule line r p = record {
-  draft = with_item (record { depth = p.depth; what = what.Rule (rule_said r p.draft) }) (name_rule r p.draft);
-  depth = p.depth;
-  lines = p.lines ++ line ∷ [];
-}
+with_rule line r p =
+    record p { draft = with_item (record { depth = p.depth; what = what.Rule (rule_said r p.draft) }) (name_rule r p.draft); lines = p.lines ++ line ∷ [] }
 
 -- ---- anchors (pf.conf(5), ANCHORS)
 
@@ -156,7 +140,7 @@ abbrev pub anchor_said : AnchorText → Drafted → Anchor
 anchor_said a d = record {
   name = a.name;
   quick = a.parameters.head.marks.quick;
-  filter = filter_of a.parameters (flags_or flag_test.Any a.flags) d;
+  filter = filter_of a.parameters (unwrap_or a.flags flag_test.Any) d;
 }
 
 -- an anchor that begins on a line is put behind the other items, and what follows stands in it
@@ -169,14 +153,9 @@ with_anchor line a p = record {
 
 -- ---- tables (pf.conf(5), TABLES)
 
--- a table without braces has no entries
-abbrev pub entries_or_none : Option (List Entry) → List Entry
-entries_or_none None = []
-entries_or_none (Some entries) = entries
-
--- a table is defined; `persist` and `counters` are read without effect
+-- a table is defined; without braces it has no entries; `persist` and `counters` are read without effect
 abbrev pub with_definition : List ℕ → Parts → Progress → Progress
-with_definition name parts p = with_draft (with_table (record { name = name; is_const = parts.is_const; entries = entries_or_none parts.entries }) p.draft) p
+with_definition name parts p = record p { draft = with_table (record { name = name; is_const = parts.is_const; entries = unwrap_or parts.entries [] }) p.draft }
 
 -- ---- load rules (own)
 
@@ -214,14 +193,11 @@ anchor_breaks depth d a = first_broken (
     ∷ (load_rule.TooManyRules, is_full d)
     ∷ [])
 
--- a load rule of the text as a whole, which is told at line 0
-abbrev pub at_no_line : LoadRule → LoadRule × ℕ
-at_no_line r = (r, 0)
-
--- the load rules of a text, with the line at which they are told: an `overload` into a `const` table at the first such rule
+-- the load rules of a text, with the line at which they are told: an `overload` into a `const` table at the first such rule, the
+-- others at line 0
 abbrev pub text_breaks_by : Progress → Option ℕ → Option (LoadRule × ℕ)
 text_breaks_by p (Some n) = Some (load_rule.ConstOverload, slice_index_or p.lines n 0)
-text_breaks_by p None = option_map at_no_line (first_broken (
+text_breaks_by p None = option_map (λ r. (r, 0)) (first_broken (
     (load_rule.AdaptivePair, has_broken_pair p.draft)
     ∷ (load_rule.TooManyTables, has_too_many_tables p.draft)
     ∷ (load_rule.TooManyEntries, has_too_many_entries p.draft)

@@ -1,6 +1,7 @@
 -- The kind of the fault at the token at which reading stops, by what was wanted there. (own)
 use Rattle.std.specs.Prelude.{ℕ, Bool, true, false, ◌&&◌, ◌||◌, nat_le, if◌then◌else◌, List, [], ◌∷◌}
-use Rattle.pfs_conf_tokens.specs.Tokens.{Tok, head, rest}
+use Rattle.pfs_conf_tokens.specs.Tokens.{Tok, head}
+use Rattle.pfs_conf_tokens.specs.Reading.{rest}
 use Rattle.pfs_conf_tokens.specs.Keys.{is_word_key, ends_line}
 use Rattle.pfs_conf_tokens.specs.declared.keys.Key.{Key}
 use Rattle.pfs_conf_tokens.specs.declared.keys.Key.TheVariants as key

@@ -2,19 +2,19 @@
 use Rattle.std.specs.Prelude.{◌≡◌, ℕ, true, IfSome, List, [], ◌∷◌}
 use Rattle.pfs_conf_tokens.specs.Tokens.{Tok}
 use Rattle.pfs_conf_tokens.specs.Keys.{is_word_key}
-use Rattle.pfs_conf_tokens.specs.Words.{key_of}
+use Rattle.pfs_conf_tokens.specs.Words.{key_of_text}
 use Rattle.pfs_addr.specs.Names.{is_name}
 use Rattle.pfs_conf_rules.specs.LoadRules.{IsInterface, IsProto, IsSide, IsFlagTest}
 use Rattle.pfs_conf_filters.specs.declared.phrases.Parameters.{Parameters}
 use Rattle.pfs_conf_filters.specs.Sides.{source_of, destination_of}
-use Rattle.pfs_conf_options.specs.Options.{AreRead}
+use Rattle.pfs_conf_options.specs.Bounds.{AreRead}
 use Rattle.pfs_conf.specs.declared.phrases.RuleText.{RuleText}
 use Rattle.pfs_conf.specs.declared.phrases.AnchorText.{AnchorText}
 use Rattle.pfs_conf.specs.Statements.{state_options}
 
 -- the key of a word is that of its text: so it is of every token of a text
 abbrev pub IsLexed : Tok → Type 0
-IsLexed t = is_word_key t.key ≡ true → t.key ≡ key_of t.text
+IsLexed t = is_word_key t.key ≡ true → t.key ≡ key_of_text t.text
 
 pub data AreLexed : List Tok → Type 0 where
   none : AreLexed []

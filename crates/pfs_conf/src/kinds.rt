@@ -1,7 +1,8 @@
 //! The kinds of faults of a rules text.
 
 ghost use Rattle.std.specs.Prelude.{◌≡◌, Some};
-ghost use Rattle.pfs_conf.specs.Kinds.{kind_name, kind_of_rule};
+ghost use Rattle.pfs_conf.specs.Kinds.{kind_of_rule};
+ghost use Rattle.pfs_conf.specs.KindNames.{kind_name};
 
 use pfs_conf_tokens::LoadRule;
 use std::fmt;

@@ -5,9 +5,10 @@ ghost use Rattle.pfs_conf_tokens.specs.Lexis.{tokens_of};
 ghost use Rattle.pfs_conf_tokens.specs.declared.refusals.LoadRule.{LoadRule};
 ghost use Rattle.pfs_conf_rules.specs.Configs.{Conf};
 ghost use Rattle.pfs_conf.specs.Kinds.{fault, kind_of_rule, no_memory};
-ghost use Rattle.pfs_conf.specs.Grammar.{Breaks};
+ghost use Rattle.pfs_conf.specs.Faults.{Breaks, IsFault};
 ghost use Rattle.pfs_conf.specs.Loads.{IsLoad};
-ghost use Rattle.pfs_conf.specs.Reads.{Reads, IsFault, IsTold, IsTooLong, most_bytes};
+ghost use Rattle.pfs_conf.specs.Reads.{Reads, most_bytes};
+ghost use Rattle.pfs_conf.specs.Answers.{IsTold, IsTooLong};
 
 use crate::faults::LoadFault;
 use crate::kinds::Kind;

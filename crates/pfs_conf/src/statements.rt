@@ -3,8 +3,7 @@
 ghost use Rattle.std.specs.Prelude.{◌≡◌, ◌≤◌, OnOk};
 ghost use Rattle.pfs_conf_tokens.specs.Giving.{GivesOrMemory};
 ghost use Rattle.pfs_conf_tokens.specs.Reading.{ended};
-ghost use Rattle.pfs_conf.specs.Statements.{closed};
-ghost use Rattle.pfs_conf.specs.Reading.{statement_at, statements_at, text_at};
+ghost use Rattle.pfs_conf.specs.Reading.{closed, statement_at, statements_at, text_at};
 ghost use Rattle.pfs_conf.specs.Giving.{Comes, IsInOrder};
 ghost use Rattle.pfs_conf.specs.Within.{AreLexed};
 

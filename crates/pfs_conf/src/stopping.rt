@@ -1,7 +1,8 @@
 //! The fault at the token at which reading stops, and its kind.
 
 ghost use Rattle.std.specs.Prelude.{◌≡◌};
-ghost use Rattle.pfs_conf_tokens.specs.Tokens.{head, rest};
+ghost use Rattle.pfs_conf_tokens.specs.Tokens.{head};
+ghost use Rattle.pfs_conf_tokens.specs.Reading.{rest};
 ghost use Rattle.pfs_conf.specs.Kinds.{has_byte, has_dollar, is_foreign, is_number_key, opens};
 ghost use Rattle.pfs_conf.specs.Stopping.{begins_with_letter, fault_of, is_equals, is_left_out, is_named_value, kind_of, wants_number};
 

@@ -3,8 +3,8 @@
 -- A crate above imports them as `use Rattle.pfs_conf_filters.proofs.OnlineLaws.{online_verb, ..}`.
 use Rattle.std.proofs.Common.{◌≡◌, ℕ, Bool, true, false, cond, List, Option, Some, None, refl}
 use Rattle.pfs_conf_tokens.specs.Tokens.{Tok}
-use Rattle.pfs_conf_tokens.specs.Keys.{in_line, is_word_key, closes_parens}
-use Rattle.pfs_conf_tokens.specs.Reading.{Reader, on_front, done, chain, next_of}
+use Rattle.pfs_conf_tokens.specs.Keys.{in_line, is_word_key}
+use Rattle.pfs_conf_tokens.specs.Reading.{closes_parens, Reader, on_front, done, chain, next_of}
 use Rattle.pfs_conf_tokens.specs.declared.keys.Key.{Key}
 use Rattle.pfs_conf_tokens.specs.declared.keys.Key.TheVariants as key
 use Rattle.pfs_conf_tokens.specs.declared.refusals.Why.{Why}

@@ -2,10 +2,10 @@
 --
 -- A crate above imports them as `use Rattle.pfs_conf_filters.proofs.PhraseLaws.{verb_is, parameters_are, flags_are}`.
 use Rattle.std.proofs.Common.{◌≡◌, ℕ, Bool, true, false, cond, List, [], ◌∷◌, Option, Some, None, Ok, refl, sym, ap, subst, ◌∙◌}
-use Rattle.pfs_conf_tokens.specs.Tokens.{Tok, head, rest}
-use Rattle.pfs_conf_tokens.specs.Keys.{in_line, closes_parens}
+use Rattle.pfs_conf_tokens.specs.Tokens.{Tok, head}
+use Rattle.pfs_conf_tokens.specs.Reading.{rest, closes_parens, Reader, stay, act, on_front, done, chain}
+use Rattle.pfs_conf_tokens.specs.Keys.{in_line}
 use Rattle.pfs_conf_tokens.specs.Grammar.{Word, Perhaps}
-use Rattle.pfs_conf_tokens.specs.Reading.{Reader, stay, act, on_front, done, chain}
 use Rattle.pfs_conf_tokens.specs.declared.keys.Key.{Key}
 use Rattle.pfs_conf_tokens.specs.declared.keys.Key.TheVariants as key
 use Rattle.pfs_conf_tokens.specs.declared.refusals.Why.{Why}

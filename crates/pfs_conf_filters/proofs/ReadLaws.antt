@@ -3,9 +3,9 @@
 -- A crate above imports them as `use Rattle.pfs_conf_filters.proofs.ReadLaws.{verb_reads, parameters_read, flags_read}`.
 use Rattle.std.proofs.Common.{◌≡◌, ℕ, Bool, true, false, List, Option, Some, Ok, refl, ap, ◌∙◌}
 use Rattle.pfs_conf_tokens.specs.Tokens.{Tok, head}
-use Rattle.pfs_conf_tokens.specs.Keys.{is_word_key, closes_parens}
+use Rattle.pfs_conf_tokens.specs.Keys.{is_word_key}
+use Rattle.pfs_conf_tokens.specs.Reading.{closes_parens, Reader, stay, on_front, done, chain}
 use Rattle.pfs_conf_tokens.specs.Grammar.{Word, Perhaps, absent, present}
-use Rattle.pfs_conf_tokens.specs.Reading.{Reader, stay, on_front, done, chain}
 use Rattle.pfs_conf_tokens.specs.declared.keys.Key.{Key}
 use Rattle.pfs_conf_tokens.specs.declared.keys.Key.TheVariants as key
 use Rattle.pfs_conf_tokens.specs.declared.refusals.Why.{Why}

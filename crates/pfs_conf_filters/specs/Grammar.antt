@@ -1,6 +1,6 @@
 -- The grammar of the parameters: a phrase stands in the tokens, has a value, and leaves the tokens behind it.
 -- (pf.conf(5), PARAMETERS and GRAMMAR)
-use Rattle.std.specs.Prelude.{◌≡◌, ℕ, Bool, true, false, List, ◌∷◌, Option, Some}
+use Rattle.std.specs.Prelude.{◌≡◌, ℕ, Bool, true, false, List, ◌∷◌, Option, Some, None}
 use Rattle.pfs_conf_tokens.specs.Tokens.{Tok}
 use Rattle.pfs_conf_tokens.specs.Grammar.{Word, Perhaps, ListOf}
 use Rattle.pfs_conf_tokens.specs.declared.keys.Key.{Key}
@@ -27,7 +27,6 @@ use Rattle.pfs_conf_filters.specs.declared.phrases.Parameters.{Parameters}
 use Rattle.pfs_addr.specs.Texts.{prefix_of}
 use Rattle.pfs_addr.specs.Protocols.{proto_in}
 use Rattle.pfs_conf_filters.specs.Values.{in_word, in_plain_word, interface_name, table_name, ports_of, flag_test}
-use Rattle.pfs_conf_filters.specs.Reading.{marked, interface, side, all_hosts, given_hosts}
 
 -- a token that says a value
 abbrev pub Says : {A : Type 0} → (Tok → Option A) → List Tok → A → List Tok → Type 0
@@ -77,9 +76,9 @@ pub data QuickOf : List Tok → Bool → List Tok → Type 0 where
 
 -- `log` and `quick` of a rule, in either order; an anchor has no `log`
 pub data MarksOf : Statement → List Tok → Marks → List Tok → Type 0 where
-  log_first : {ts mid left : List Tok} {l q : Bool} → LogOf ts l mid → QuickOf mid q left → MarksOf statement.Rule ts (marked l q) left
-  quick_first : {ts mid left : List Tok} → Word key.Quick ts mid → LogOf mid true left → MarksOf statement.Rule ts (marked true true) left
-  of_anchor : {ts left : List Tok} {q : Bool} → QuickOf ts q left → MarksOf statement.Anchor ts (marked false q) left
+  log_first : {ts mid left : List Tok} {l q : Bool} → LogOf ts l mid → QuickOf mid q left → MarksOf statement.Rule ts (record { log = l; quick = q }) left
+  quick_first : {ts mid left : List Tok} → Word key.Quick ts mid → LogOf mid true left → MarksOf statement.Rule ts (record { log = true; quick = true }) left
+  of_anchor : {ts left : List Tok} {q : Bool} → QuickOf ts q left → MarksOf statement.Anchor ts (record { log = false; quick = q }) left
 
 pub data NegationOf : List Tok → Bool → List Tok → Type 0 where
   affirmed : {ts : List Tok} → NegationOf ts false ts
@@ -87,7 +86,7 @@ pub data NegationOf : List Tok → Bool → List Tok → Type 0 where
 
 -- behind `on`
 pub data OnOf : List Tok → Interface → List Tok → Type 0 where
-  on : {ts mid left : List Tok} {b : Bool} {n : List ℕ} → NegationOf ts b mid → Says interface_name mid n left → OnOf ts (interface n b) left
+  on : {ts mid left : List Tok} {b : Bool} {n : List ℕ} → NegationOf ts b mid → Says interface_name mid n left → OnOf ts (record { name = n; negated = b }) left
 
 -- behind `inet`: nothing
 pub data InetOf : List Tok → Family → List Tok → Type 0 where
@@ -117,12 +116,12 @@ pub data PortsOf : List Tok → Ports → List Tok → Type 0 where
 
 -- behind `from` and `to`: a host, with ports or without, or ports alone
 pub data SideOf : List Tok → Side (List ℕ) → List Tok → Type 0 where
-  hosted : {ts mid left : List Tok} {h : Host (List ℕ)} {p : Option Ports} → HostOf ts h mid → Perhaps (Behind key.Port PortsOf) mid p left → SideOf ts (side h p) left
-  ported : {ts left : List Tok} {p : Ports} → Behind key.Port PortsOf ts p left → SideOf ts (side host.Any (Some p)) left
+  hosted : {ts mid left : List Tok} {h : Host (List ℕ)} {p : Option Ports} → HostOf ts h mid → Perhaps (Behind key.Port PortsOf) mid p left → SideOf ts (record { host = h; ports = p }) left
+  ported : {ts left : List Tok} {p : Ports} → Behind key.Port PortsOf ts p left → SideOf ts (record { host = host.Any; ports = Some p }) left
 
 pub data HostsOf : List Tok → Hosts → List Tok → Type 0 where
-  every : {ts left : List Tok} → Word key.All ts left → HostsOf ts all_hosts left
-  sides : {ts mid left : List Tok} {f t : Option (Side (List ℕ))} → Perhaps (Behind key.From SideOf) ts f mid → Perhaps (Behind key.To SideOf) mid t left → HostsOf ts (given_hosts f t) left
+  every : {ts left : List Tok} → Word key.All ts left → HostsOf ts (record { all = true; from = None; to = None }) left
+  sides : {ts mid left : List Tok} {f t : Option (Side (List ℕ))} → Perhaps (Behind key.From SideOf) ts f mid → Perhaps (Behind key.To SideOf) mid t left → HostsOf ts (record { all = false; from = f; to = t }) left
 
 -- the parameters of a rule or an anchor, up to its hosts
 pub record ParametersOf (s : Statement) (ts : List Tok) (p : Parameters) (left : List Tok) : Type 0 where

@@ -1,4 +1,5 @@
 pub mod Grammar
 pub mod Reading
+pub mod Repeats
 pub mod Sides
 pub mod Values

@@ -2,8 +2,7 @@
 -- alone, so that each looks no further than the token in front of what it leaves. (own)
 use Rattle.std.specs.Prelude.{ℕ, Bool, true, false, List, Option, Some, None}
 use Rattle.pfs_conf_tokens.specs.Tokens.{Tok}
-use Rattle.pfs_conf_tokens.specs.Keys.{closes_parens}
-use Rattle.pfs_conf_tokens.specs.Reading.{Reader, Act, take, stay, refuse, on_front, done, chain, perhaps, list_all}
+use Rattle.pfs_conf_tokens.specs.Reading.{closes_parens, Reader, Act, take, stay, refuse, on_front, done, chain, perhaps, list_all}
 use Rattle.pfs_conf_tokens.specs.declared.keys.Key.{Key}
 use Rattle.pfs_conf_tokens.specs.declared.keys.Key.TheVariants as key
 use Rattle.pfs_conf_tokens.specs.declared.refusals.Why.{Why}

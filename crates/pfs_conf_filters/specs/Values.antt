@@ -2,8 +2,8 @@
 use Rattle.std.specs.Prelude.{ℕ, Bool, true, false, List, length, Option, Some, None, nat_le, nat_lt, ◌==◌, if◌then◌else◌}
 use Rattle.pfs_conf_tokens.specs.Tokens.{Tok}
 use Rattle.pfs_conf_tokens.specs.Keys.{is_word_key}
-use Rattle.pfs_conf_tokens.specs.Words.{key_of}
-use Rattle.pfs_conf_tokens.specs.Numbers.{number_of, split_around}
+use Rattle.pfs_conf_tokens.specs.Words.{key_of_text}
+use Rattle.pfs_conf_tokens.specs.Numbers.{number_written, split_around}
 use Rattle.pfs_conf_tokens.specs.declared.keys.Key.{Key}
 use Rattle.pfs_conf_tokens.specs.declared.keys.Key.TheVariants as key
 use Rattle.pfs_addr.specs.Names.{name_of}
@@ -53,11 +53,11 @@ port_by text key.Domain = Some 53
 port_by text key.Www = Some 80
 port_by text key.Http = Some 80
 port_by text key.Https = Some 443
-port_by text key.Number = port_numbered (number_of text)
+port_by text key.Number = port_numbered (number_written text)
 port_by text _ = None
 
 unfoldable pub port_of : List ℕ → Option ℕ
-port_of text = port_by text (key_of text)
+port_of text = port_by text (key_of_text text)
 
 -- one port is a range of its own
 abbrev pub one_port : Option ℕ → Option Ports

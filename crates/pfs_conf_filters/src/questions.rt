@@ -1,7 +1,8 @@
 // What is asked of parameters that have been read.
 
 ghost use Rattle.std.specs.Prelude.{◌≡◌};
-ghost use Rattle.pfs_conf_filters.specs.Sides.{source_of, destination_of, gives_ports, lacks_proto, repeats, repeats_policy};
+ghost use Rattle.pfs_conf_filters.specs.Sides.{source_of, destination_of, gives_ports, lacks_proto};
+ghost use Rattle.pfs_conf_filters.specs.Repeats.{repeats, repeats_policy};
 
 use crate::phrases::{Hosts, Parameters, Verb};
 use pfs_conf_rules::{Host, Side, TableName};

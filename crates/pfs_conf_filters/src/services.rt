@@ -2,8 +2,8 @@
 
 ghost use Rattle.std.specs.Prelude.{◌≡◌, ◌<◌};
 ghost use Rattle.pfs_conf_tokens.specs.Giving.{Gives};
-ghost use Rattle.pfs_conf_tokens.specs.Words.{key_of};
-ghost use Rattle.pfs_conf_tokens.specs.Numbers.{number_of};
+ghost use Rattle.pfs_conf_tokens.specs.Words.{key_of_text};
+ghost use Rattle.pfs_conf_tokens.specs.Numbers.{number_written};
 ghost use Rattle.pfs_conf_filters.specs.Values.{port_of, port_by, port_numbered, one_port, port_range, ports_of};
 ghost use Rattle.pfs_conf_filters.specs.Reading.{proto_at, proto_part_at, ports_at, ports_part_at};
 

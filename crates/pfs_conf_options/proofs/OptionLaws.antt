@@ -5,8 +5,8 @@ use Rattle.pfs_conf_tokens.specs.Tokens.{Tok}
 use Rattle.pfs_conf_tokens.specs.declared.keys.Key.{Key}
 use Rattle.pfs_conf_tokens.specs.declared.keys.Key.TheVariants as key
 use Rattle.pfs_conf_tokens.specs.declared.refusals.Why.TheVariants as why
-use Rattle.pfs_conf_tokens.specs.Keys.{closes_parens, timeout_place, in_line, is_word_key}
-use Rattle.pfs_conf_tokens.specs.Reading.{Refused, Act, refuse, done, number_at, next_of}
+use Rattle.pfs_conf_tokens.specs.Keys.{timeout_place, in_line, is_word_key}
+use Rattle.pfs_conf_tokens.specs.Reading.{closes_parens, Refused, Act, refuse, done, number_at, next_of}
 use Rattle.pfs_conf_tokens.proofs.Laws.{Taking, OnlineAct, Online, inside, online_done, online_chain, online_front, online_taking, once_taking, front_shrinks, Shrinks}
 use Rattle.pfs_conf_tokens.proofs.ReaderLaws.{online_number, online_list, next_shrinks, timeout_in_line, word_in_line}
 use Rattle.pfs_addr.specs.Names.{name_of}

@@ -4,14 +4,14 @@
 -- part that may lack, it is read before every key of `ends_x`.
 use Rattle.std.proofs.Common.{◌≡◌, ℕ, ◌≤◌, Bool, true, false, cond, List, [], ◌∷◌, Option, Some, None, Result, Ok, refl, sym, ap, subst, ◌∙◌, leb, ◌&&◌, slice_index_or, slice_set}
 use Rattle.std.proofs.lemmas.Bool.{and_parts, leb-true, le-leb}
-use Rattle.pfs_conf_tokens.specs.Tokens.{Tok, head, rest}
+use Rattle.pfs_conf_tokens.specs.Tokens.{Tok, head}
+use Rattle.pfs_conf_tokens.specs.Reading.{rest, closes_parens, Refused, Reader, Act, take, stay, refuse, act, done, chain, once, number_at}
 use Rattle.pfs_conf_tokens.specs.declared.keys.Key.{Key}
 use Rattle.pfs_conf_tokens.specs.declared.keys.Key.TheVariants as key
 use Rattle.pfs_conf_tokens.specs.declared.refusals.Why.TheVariants as why
-use Rattle.pfs_conf_tokens.specs.Keys.{closes_parens, is_word_key}
-use Rattle.pfs_conf_tokens.specs.Numbers.{number_of, split_around}
+use Rattle.pfs_conf_tokens.specs.Keys.{is_word_key}
+use Rattle.pfs_conf_tokens.specs.Numbers.{number_written, split_around}
 use Rattle.pfs_conf_tokens.specs.Grammar.{Word, Number, ListOf}
-use Rattle.pfs_conf_tokens.specs.Reading.{Refused, Reader, Act, take, stay, refuse, act, done, chain, once, number_at}
 use Rattle.pfs_conf_tokens.proofs.Laws.{ok_parts, chain_ok}
 use Rattle.pfs_conf_tokens.proofs.ReaderLaws.{word_head, word_is, number_is, number_reads, list_is, list_reads, ReadsList, no_comma}
 use Rattle.pfs_addr.specs.Names.{name_of}
@@ -104,8 +104,8 @@ rate_text_is text r e = by_parts (split_around 47 text) refl e
     by_numbers parts g (Some n) None a b h = absurd cc
     by_numbers parts g (Some n) (Some s) a b h =
         let same : ◌≡◌ {A = Rate} (record { limit = n; seconds = s }) r = cc in
-        let p = count_is 4294967 (number_of parts.0) n a in
-        let q = count_is 2147483647 (number_of parts.1) s b in
+        let p = count_is 4294967 (number_written parts.0) n a in
+        let q = count_is 2147483647 (number_written parts.1) s b in
         subst (λ (z : Rate). IsRateText text z) same (record { before = parts.0; behind = parts.1; slash = g; limit = p.0; seconds = q.0; bounds = (p.1, p.2, q.1, q.2) })
 
     by_parts : (o : Option (List ℕ × List ℕ)) → split_around 47 text ≡ o → rate_parts o ≡ Some r → IsRateText text r

@@ -20,7 +20,8 @@ use Rattle.pfs_conf_options.specs.declared.clauses.Track.TheVariants as track
 use Rattle.pfs_conf_options.specs.declared.clauses.OverloadText.{OverloadText}
 use Rattle.pfs_conf_options.specs.declared.clauses.Options.{Options}
 use Rattle.pfs_conf_options.specs.declared.clauses.StateClause.{StateClause}
-use Rattle.pfs_conf_options.specs.Options.{no_options, options_of, rule_place, has_connection_limit, scope_by_track, states_global, has_overload_alone, has_global_connections, has_global_retention, has_broken_pair, overload_to, resolved, AreRead}
+use Rattle.pfs_conf_options.specs.Options.{no_options, options_of, rule_place, has_connection_limit, scope_by_track, states_global, has_overload_alone, has_global_connections, has_global_retention, has_broken_pair, overload_to, resolved}
+use Rattle.pfs_conf_options.specs.Bounds.{AreRead}
 use Rattle.pfs_conf_options.specs.Grammar.{TableOf, OptionOf, max, source_track, max_src_nodes, max_src_states, max_src_conn, max_src_conn_rate, overload, sloppy, floating, no_sync, timeout, plainly, listed, StateOf, no, keep}
 use Rattle.pfs_conf_options.proofs.OptionLaws.{timeout_place_below, rule_place_is}
 

@@ -5,7 +5,7 @@ use Rattle.pfs_conf_tokens.specs.declared.keys.Key.{Key}
 use Rattle.pfs_conf_tokens.specs.declared.keys.Key.TheVariants as key
 use Rattle.pfs_conf_tokens.specs.Tokens.{Tok}
 use Rattle.pfs_conf_tokens.specs.Keys.{is_word_key}
-use Rattle.pfs_conf_tokens.specs.Numbers.{number_of, split_around}
+use Rattle.pfs_conf_tokens.specs.Numbers.{number_written, split_around}
 use Rattle.pfs_conf_tokens.specs.Grammar.{Word, Number, ListOf}
 use Rattle.pfs_addr.specs.Names.{name_of}
 use Rattle.pfs_conf_rules.specs.LoadRules.{greatest_timeout, IsRate}
@@ -31,8 +31,8 @@ pub record IsRateText (text : List ℕ) (r : Rate) : Type 0 where
   pub before : List ℕ
   pub behind : List ℕ
   pub slash : split_around 47 text ≡ Some (before, behind)
-  pub limit : number_of before ≡ Some r.limit
-  pub seconds : number_of behind ≡ Some r.seconds
+  pub limit : number_written before ≡ Some r.limit
+  pub seconds : number_written behind ≡ Some r.seconds
   pub bounds : IsRate r
 
 -- a rate is one word

@@ -1,3 +1,4 @@
 pub mod Options
+pub mod Bounds
 pub mod Reading
 pub mod Grammar

@@ -1,11 +1,10 @@
 -- What the options of a state clause mean, and which load rules they break.
-use Rattle.std.specs.Prelude.{◌≡◌, ℕ, Bool, true, false, ◌&&◌, ◌||◌, not, if◌then◌else◌, Option, Some, None, is_some, IfSome, length, slice_index_or}
+use Rattle.std.specs.Prelude.{ℕ, Bool, true, false, ◌&&◌, ◌||◌, not, if◌then◌else◌, Option, Some, None, is_some, slice_index_or}
 use Rattle.pfs_conf_tokens.specs.declared.keys.Key.{Key}
 use Rattle.pfs_conf_tokens.specs.declared.keys.Key.TheVariants as key
 use Rattle.pfs_conf_tokens.specs.Keys.{timeout_place}
 use Rattle.pfs_conf_rules.specs.Timeouts.{place_of, no_timeouts}
-use Rattle.pfs_conf_rules.specs.LoadRules.{broken_rule_pair, is_global, IsCount, IsRate, IsTimeout}
-use Rattle.pfs_addr.specs.Names.{is_name}
+use Rattle.pfs_conf_rules.specs.LoadRules.{broken_rule_pair, is_global}
 use Rattle.pfs_conf_rules.specs.declared.timeouts.TimeoutName.{TimeoutName}
 use Rattle.pfs_conf_rules.specs.declared.timeouts.TimeoutName.TheVariants as timeout
 use Rattle.pfs_conf_rules.specs.declared.actions.Scope.{Scope}
@@ -120,15 +119,3 @@ resolved o table = record {
 }
 
 -- ---- what is read
-
--- options within their bounds, without `interval`: what every state clause that is read has
-pub record AreRead (o : Options) : Type 0 where
-  pub max : IfSome o.max IsCount
-  pub max_src_nodes : IfSome o.max_src_nodes IsCount
-  pub max_src_states : IfSome o.max_src_states IsCount
-  pub max_src_conn : IfSome o.max_src_conn IsCount
-  pub max_src_conn_rate : IfSome o.max_src_conn_rate IsRate
-  pub overload : IfSome o.overload (λ v. is_name 31 v.table ≡ true)
-  pub no_interval : given_for timeout.Interval o ≡ None
-  pub timeouts : (place : ℕ) → IfSome (slice_index_or o.timeouts place None) (IsTimeout place)
-  pub size : length o.timeouts ≡ 16

@@ -3,9 +3,9 @@ use Rattle.std.specs.Prelude.{ℕ, Bool, true, false, List, Option, Some, None, 
 use Rattle.pfs_conf_tokens.specs.declared.keys.Key.{Key}
 use Rattle.pfs_conf_tokens.specs.declared.keys.Key.TheVariants as key
 use Rattle.pfs_conf_tokens.specs.declared.refusals.Why.TheVariants as why
-use Rattle.pfs_conf_tokens.specs.Keys.{is_word_key, closes_parens}
-use Rattle.pfs_conf_tokens.specs.Numbers.{number_of, split_around}
-use Rattle.pfs_conf_tokens.specs.Reading.{Reader, Act, take, stay, refuse, on_front, done, chain, once, list_all, number_at}
+use Rattle.pfs_conf_tokens.specs.Keys.{is_word_key}
+use Rattle.pfs_conf_tokens.specs.Reading.{closes_parens, Reader, Act, take, stay, refuse, on_front, done, chain, once, list_all, number_at}
+use Rattle.pfs_conf_tokens.specs.Numbers.{number_written, split_around}
 use Rattle.pfs_addr.specs.Names.{name_of}
 use Rattle.pfs_conf_rules.specs.LoadRules.{greatest_timeout}
 use Rattle.pfs_conf_rules.specs.declared.actions.Rate.{Rate}
@@ -37,7 +37,7 @@ count_in high (Some n) = if nat_le 1 n && nat_le n high then Some n else None
 
 -- the number from 1 to a greatest that a text writes
 abbrev pub counted : ℕ → List ℕ → Option ℕ
-counted high text = count_in high (number_of text)
+counted high text = count_in high (number_written text)
 
 -- N/S as one word: N is 1 to 4294967, S is 1 to 2147483647
 abbrev pub rate_with : Option ℕ → Option ℕ → Option Rate

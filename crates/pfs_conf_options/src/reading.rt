@@ -2,10 +2,10 @@
 // token that goes on no statement.
 
 ghost use Rattle.std.specs.Prelude.{◌≡◌, ◌<◌, ◌≤◌, IfOk, IfSome, MatchBool, Ok, Err};
-ghost use Rattle.pfs_conf_tokens.specs.Keys.{closes_parens};
-ghost use Rattle.pfs_conf_tokens.specs.Reading.{act, until_all, next_of, list_all, number_at};
+ghost use Rattle.pfs_conf_tokens.specs.Reading.{closes_parens, act, until_all, next_of, list_all, number_at};
 ghost use Rattle.pfs_conf_tokens.specs.Giving.{Gives};
-ghost use Rattle.pfs_conf_options.specs.Options.{rule_place, options_of, AreRead};
+ghost use Rattle.pfs_conf_options.specs.Options.{rule_place, options_of};
+ghost use Rattle.pfs_conf_options.specs.Bounds.{AreRead};
 ghost use Rattle.pfs_conf_rules.specs.LoadRules.{greatest_timeout};
 ghost use Rattle.pfs_conf_options.specs.Reading.{track_at, counted, rate_of, rate_at, table_name_at, table_at, flush_at, overload_at, mark_at, timeout_at, connection_at, option_at, options_at, kept_at, state_at};
 

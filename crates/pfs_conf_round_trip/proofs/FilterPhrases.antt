@@ -12,7 +12,7 @@ use Rattle.pfs_conf_tokens.specs.Grammar.{Perhaps, Word, absent, present}
 use Rattle.pfs_conf_tokens.specs.Keys.{is_word_key}
 use Rattle.pfs_conf_tokens.specs.Lexis.{is_word_byte, tokens}
 use Rattle.pfs_conf_tokens.specs.Tokens.{Tok, token}
-use Rattle.pfs_conf_tokens.specs.Words.{key_of}
+use Rattle.pfs_conf_tokens.specs.Words.{key_of_text}
 use Rattle.pfs_conf_tokens.proofs.ShownLaws.{breaks, decimal_text, is_word_text, mark_then, split_around-append, word_then}
 use Rattle.pfs_conf_tokens.proofs.WordKeys.{key_of-All, key_of-Any, key_of-Flags, key_of-From, key_of-In, key_of-Inet, key_of-On, key_of-Out, key_of-Port, key_of-Proto, key_of-Quick, key_of-To}
 use Rattle.pfs_addr.specs.FlagSets.{flags_of}
@@ -54,9 +54,9 @@ use Rattle.pfs_conf_round_trip.proofs.Numbers.{no_word, ports_again, ports_word,
 use Rattle.pfs_conf_round_trip.proofs.Pieces.{all-append, at, mark, text-append, word, word_between}
 
 -- a word that says a value
-says : {A : Type 0} (value : Tok → Option A) (line : ℕ) (w more : List ℕ) (x : A) → is_word_text w ≡ true → breaks more ≡ true → value (token line (key_of w) w) ≡ Some x
+says : {A : Type 0} (value : Tok → Option A) (line : ℕ) (w more : List ℕ) (x : A) → is_word_text w ≡ true → breaks more ≡ true → value (token line (key_of_text w) w) ≡ Some x
     → Says value (at line (w ++ more)) x (at line more)
-says value line w more x h b e = (token line (key_of w) w, word_then true line w more h b, e)
+says value line w more x h b e = (token line (key_of_text w) w, word_then true line w more h b, e)
 
 -- ---- direction, quick, interface, family, protocol
 
@@ -77,7 +77,7 @@ interface_says : (n : List ℕ) (line : ℕ) (more : List ℕ) → is_name 15 n 
     → Says interface_name (at line (n ++ more)) n (at line more)
 interface_says n line more h a r b =
     says interface_name line n more n (name_text 15 n h) b
-    (cond-true (may_name_interface (key_of n)) (name_of 15 n) None (may_name n a r) ∙ name_again 15 n h)
+    (cond-true (may_name_interface (key_of_text n)) (name_of 15 n) None (may_name n a r) ∙ name_again 15 n h)
 
 on_behind : (n : List ℕ) (negation : Bool) (line : ℕ) (more : List ℕ) → is_name 15 n ≡ true → bytes_eq n (codes "any") ≡ false → bytes_eq n (codes "rdomain") ≡ false → breaks more ≡ true
     → OnOf (at line ((not_text negation ++ n) ++ more)) (interface n negation) (at line more)
@@ -99,7 +99,7 @@ family_reads (Some family.Inet) line more b = present (at line more, word line (
 
 word_says : {A : Type 0} (value : List ℕ → Option A) (line : ℕ) (w more : List ℕ) (x : A) → is_word_text w ≡ true → breaks more ≡ true → value w ≡ Some x
     → Says (in_word value) (at line (w ++ more)) x (at line more)
-word_says value line w more x h b e = says (in_word value) line w more x h b (cond-true (is_word_key (key_of w)) (value w) None (key_of_word w) ∙ e)
+word_says value line w more x h b e = says (in_word value) line w more x h b (cond-true (is_word_key (key_of_text w)) (value w) None (key_of_word w) ∙ e)
 
 proto_behind : {A : Type 0} (P : List Tok → A → List Tok → Type 0) (x : A) (line : ℕ) (w more : List ℕ) → P (at line (w ++ more)) x (at line more)
     → Behind key.Proto P (at line (32 ∷ 112 ∷ 114 ∷ 111 ∷ 116 ∷ 111 ∷ 32 ∷ (w ++ more))) x (at line more)
@@ -131,14 +131,14 @@ angle_opens busy line n more = (
   refl,
 )
 
-pub angle_names : (line : ℕ) (n more : List ℕ) → is_name 31 n ≡ true → at line (n ++ 62 ∷ more) ≡ token line (key_of n) n ∷ at line (62 ∷ more)
+pub angle_names : (line : ℕ) (n more : List ℕ) → is_name 31 n ≡ true → at line (n ++ 62 ∷ more) ≡ token line (key_of_text n) n ∷ at line (62 ∷ more)
 angle_names line n more h = word_then true line n (62 ∷ more) (name_text 31 n h) refl
 
 pub angle_closes : (line : ℕ) (more : List ℕ) → Word key.CloseAngle (at line (62 ∷ more)) (at line more)
 angle_closes line more = mark true line 62 more refl
 
 table_says : (line : ℕ) (n more : List ℕ) → is_name 31 n ≡ true → Says table_name (at line (n ++ 62 ∷ more)) n (at line (62 ∷ more))
-table_says line n more h = (token line (key_of n) n, angle_names line n more h, cond-true (is_word_key (key_of n)) (name_of 31 n) None (key_of_word n) ∙ name_again 31 n h)
+table_says line n more h = (token line (key_of_text n) n, angle_names line n more h, cond-true (is_word_key (key_of_text n)) (name_of 31 n) None (key_of_word n) ∙ name_again 31 n h)
 
 prefix_says : (line : ℕ) (p : Network) (more : List ℕ) → IsNetwork p → breaks more ≡ true → Says (in_plain_word prefix_of) (at line (prefix_text p ++ more)) p (at line more)
 prefix_says line p more h b =
@@ -157,7 +157,7 @@ table_reads n false line more h = table affirmed (angle_opens true line n more) 
 
 pub host_reads : (tables : List TableDef) (h : Host TableNo) (line : ℕ) (more : List ℕ) → All IsTable tables → IsHost (IsTableNo (length tables)) h → breaks more ≡ true
     → HostOf (at line (host_text tables h ++ more)) (host_said tables h) (at line more)
-host_reads tables host.Any line more t h b = any (token line (key_of (codes "any")) (codes "any"), word_then true line (codes "any") more refl b, key_of-Any)
+host_reads tables host.Any line more t h b = any (token line (key_of_text (codes "any")) (codes "any"), word_then true line (codes "any") more refl b, key_of-Any)
 host_reads tables (host.Prefix p negation) line more t h b = prefix_reads p negation line more h b
 host_reads tables (host.Table n negation) line more t h b = table_reads (table_said tables n) negation line more (table_named tables n t h)
 
@@ -232,12 +232,12 @@ by_other : (text : List ℕ) (k : Key) → is_other k ≡ true → is_word_key k
 by_other text key.Any h g = absurd (cc h)
 by_other text k h g = cond-true (is_word_key k) (flag_test_of text) None g
 
-pair_says : (set among : Flags) → has_a_flag among ≡ true → flag_test_by (pair_text set among) (key_of (pair_text set among)) ≡ Some (flag_test.Exactly set among)
+pair_says : (set among : Flags) → has_a_flag among ≡ true → flag_test_by (pair_text set among) (key_of_text (pair_text set among)) ≡ Some (flag_test.Exactly set among)
 pair_says set among h =
     let w = pair_text set among in
-    by_other w (key_of w) (not_any w (pair_not_any set among)) (key_of_word w) ∙ pair_again set among h
+    by_other w (key_of_text w) (not_any w (pair_not_any set among)) (key_of_word w) ∙ pair_again set among h
 
-any_says : flag_test_by (codes "any") (key_of (codes "any")) ≡ Some flag_test.Any
+any_says : flag_test_by (codes "any") (key_of_text (codes "any")) ≡ Some flag_test.Any
 any_says = ap (flag_test_by (codes "any")) key_of-Any
 
 pub flags_read : (f : FlagTest) (line : ℕ) (more : List ℕ) → IsFlagTest f → breaks more ≡ true → FlagsOf (at line (flags_text f ++ more)) f (at line more)

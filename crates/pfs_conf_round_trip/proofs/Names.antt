@@ -11,8 +11,10 @@ use Rattle.pfs_conf_tokens.specs.declared.keys.Key.TheVariants as key
 use Rattle.pfs_conf_tokens.specs.declared.lexer.Run.TheVariants as run
 use Rattle.pfs_conf_tokens.specs.Keys.{is_word_key}
 use Rattle.pfs_conf_tokens.specs.Lexis.{goes_on, is_word_byte}
-use Rattle.pfs_conf_tokens.specs.Words.{key_of, find_word, or_else, starts_with_digit, setting_words, action_words, filter_words, state_words, option_words, tcp_timeout_words, other_timeout_words, protocol_words, service_words, foreign_statement_words, foreign_option_words, foreign_other_words}
+use Rattle.pfs_conf_tokens.specs.Words.{key_of_text, find_word, starts_with_digit}
+use Rattle.pfs_conf_tokens.specs.WordGroups.{key_by_groups, or_else, setting_words, action_words, filter_words, state_words, option_words, tcp_timeout_words, other_timeout_words, protocol_words, service_words, foreign_statement_words, foreign_option_words, foreign_other_words}
 use Rattle.pfs_conf_tokens.proofs.ShownLaws.{is_word_text}
+use Rattle.pfs_conf_tokens.proofs.WordGroups.{key_in_groups}
 use Rattle.pfs_addr.specs.Names.{is_name, is_name_byte, name_of}
 use Rattle.pfs_conf_filters.specs.Values.{may_name_interface}
 
@@ -97,10 +99,11 @@ pub key_passes : (g : Key → Bool) (w : List ℕ) → g key.Number ≡ true →
     → list_all (passes g w) state_words ≡ true → list_all (passes g w) option_words ≡ true → list_all (passes g w) tcp_timeout_words ≡ true
     → list_all (passes g w) other_timeout_words ≡ true → list_all (passes g w) protocol_words ≡ true → list_all (passes g w) service_words ≡ true
     → list_all (passes g w) foreign_statement_words ≡ true → list_all (passes g w) foreign_option_words ≡ true → list_all (passes g w) foreign_other_words ≡ true
-    → g (key_of w) ≡ true
-unfolding key_of
+    → g (key_of_text w) ≡ true
+unfolding key_by_groups
 key_passes g w number name h1 h2 h3 h4 h5 h6 h7 h8 h9 h10 h11 h12 =
-    if_digit g (starts_with_digit w) _ number
+    ap g (key_in_groups w)
+    ∙ if_digit g (starts_with_digit w) _ number
     (or_found g (find_word setting_words w) _ (found g w setting_words h1)
     (or_found g (find_word action_words w) _ (found g w action_words h2)
     (or_found g (find_word filter_words w) _ (found g w filter_words h3)
@@ -115,7 +118,7 @@ key_passes g w number name h1 h2 h3 h4 h5 h6 h7 h8 h9 h10 h11 h12 =
     (or_found g (find_word foreign_other_words w) key.Name (found g w foreign_other_words h12) name))))))))))))
 
 -- every word has the key of a word
-pub key_of_word : (w : List ℕ) → is_word_key (key_of w) ≡ true
+pub key_of_word : (w : List ℕ) → is_word_key (key_of_text w) ≡ true
 key_of_word w =
     key_passes is_word_key w refl refl (all_pass is_word_key w setting_words refl) (all_pass is_word_key w action_words refl)
     (all_pass is_word_key w filter_words refl) (all_pass is_word_key w state_words refl) (all_pass is_word_key w option_words refl)
@@ -138,7 +141,7 @@ last_part : (x : Bool) → x ≡ false → (not x || false) ≡ true
 last_part x h = ap (λ (b : Bool). not b || false) h
 
 -- a word that is neither `any` nor `rdomain` may name an interface
-pub may_name : (w : List ℕ) → bytes_eq w (codes "any") ≡ false → bytes_eq w (codes "rdomain") ≡ false → may_name_interface (key_of w) ≡ true
+pub may_name : (w : List ℕ) → bytes_eq w (codes "any") ≡ false → bytes_eq w (codes "rdomain") ≡ false → may_name_interface (key_of_text w) ≡ true
 may_name w any rdomain =
     let g = may_name_interface in
     key_passes g w refl refl (all_pass g w setting_words refl) (all_pass g w action_words refl) (all_pass g w filter_words refl)
@@ -161,7 +164,7 @@ is_other key.Any = false
 is_other k = true
 
 -- a word that is not `any` has not its key
-pub not_any : (w : List ℕ) → bytes_eq w (codes "any") ≡ false → is_other (key_of w) ≡ true
+pub not_any : (w : List ℕ) → bytes_eq w (codes "any") ≡ false → is_other (key_of_text w) ≡ true
 not_any w any =
     let g = is_other in
     key_passes g w refl refl (all_pass g w setting_words refl) (all_pass g w action_words refl) (all_pass g w filter_words refl)

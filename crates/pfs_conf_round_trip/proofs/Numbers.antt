@@ -8,8 +8,8 @@ use Rattle.std.proofs.lemmas.Bool.Decides.{nat_tests}
 use Rattle.std.proofs.lemmas.List.Elements.{All-get_or}
 use Rattle.pfs_conf_tokens.specs.declared.keys.Key.TheVariants as key
 use Rattle.pfs_conf_tokens.specs.Lexis.{is_word_byte}
-use Rattle.pfs_conf_tokens.specs.Numbers.{parts_at, split_around}
-use Rattle.pfs_conf_tokens.specs.Words.{key_of}
+use Rattle.pfs_conf_tokens.specs.Numbers.{parts_around, split_around}
+use Rattle.pfs_conf_tokens.specs.Words.{key_of_text}
 use Rattle.pfs_conf_tokens.proofs.ShownLaws.{decimal_text, is_word_text, key_of-decimal, number_of-decimal, split_around-append}
 use Rattle.pfs_addr.specs.Addresses.{IsAddr, addr_text, width_of}
 use Rattle.pfs_addr.specs.Numbers.{is_digit}
@@ -65,10 +65,10 @@ pub split_around-none : (byte : ℕ) (w : List ℕ) → list_all (λ b. not (b =
 unfolding split_around
 split_around-none byte w h =
     let whole : prefix_len (λ b. not (b == byte)) w ≡ length w = prefix_whole (λ b. not (b == byte)) w h in
-    ap (parts_at w) (cond-false (nat_lt (prefix_len (λ b. not (b == byte)) w) (length w)) _ _ (le-ltb (prefix_len (λ b. not (b == byte)) w) (length w) (omega (arith, whole))))
+    ap (parts_around w) (cond-false (nat_lt (prefix_len (λ b. not (b == byte)) w) (length w)) _ _ (le-ltb (prefix_len (λ b. not (b == byte)) w) (length w) (omega (arith, whole))))
 
-pub key_of_number : (n : ℕ) → n < 2 ^ 64 → key_of (decimal n) ≡ key.Number
-key_of_number n h = ap key_of (sym (append-nil (decimal n))) ∙ key_of-decimal n [] h
+pub key_of_number : (n : ℕ) → n < 2 ^ 64 → key_of_text (decimal n) ≡ key.Number
+key_of_number n h = ap key_of_text (sym (append-nil (decimal n))) ∙ key_of-decimal n [] h
 
 -- ---- prefixes
 
@@ -112,10 +112,10 @@ numbered_text w v h g =
     ∙ (ap is_word_text (append_assoc (decimal h.number) h.behind v)
     ∙ text-append (decimal h.number) (h.behind ++ v) (decimal_text h.number h.small) (all-append is_word_byte h.behind v h.bytes g))
 
-numbered_key : (w v : List ℕ) → IsNumbered w → key_of (w ++ v) ≡ key.Number
+numbered_key : (w v : List ℕ) → IsNumbered w → key_of_text (w ++ v) ≡ key.Number
 numbered_key w v h =
-    ap (λ (z : List ℕ). key_of (z ++ v)) h.spelled
-    ∙ (ap key_of (append_assoc (decimal h.number) h.behind v) ∙ key_of-decimal h.number (h.behind ++ v) h.small)
+    ap (λ (z : List ℕ). key_of_text (z ++ v)) h.spelled
+    ∙ (ap key_of_text (append_assoc (decimal h.number) h.behind v) ∙ key_of-decimal h.number (h.behind ++ v) h.small)
 
 bits_small : (a : Addr) (n : ℕ) → n ≤ width_of a → n < 2 ^ 64
 bits_small (V4 bytes) n h = omega arith
@@ -123,7 +123,7 @@ bits_small (V4 bytes) n h = omega arith
 pub prefix_word : (p : Network) → IsNetwork p → is_word_text (prefix_text p) ≡ true
 prefix_word p h = numbered_text (addr_text p.addr) (bits_text p) (addr_numbered p.addr h.addr) (bits_all p (bits_small p.addr p.bits h.short))
 
-pub prefix_key : (p : Network) → IsNetwork p → key_of (prefix_text p) ≡ key.Number
+pub prefix_key : (p : Network) → IsNetwork p → key_of_text (prefix_text p) ≡ key.Number
 prefix_key p h = numbered_key (addr_text p.addr) (bits_text p) (addr_numbered p.addr h.addr)
 
 -- the text of a prefix is read as that prefix

@@ -7,7 +7,7 @@ use Rattle.pfs_conf_tokens.specs.declared.keys.Key.{Key}
 use Rattle.pfs_conf_tokens.specs.declared.keys.Key.TheVariants as key
 use Rattle.pfs_conf_tokens.specs.Grammar.{Number}
 use Rattle.pfs_conf_tokens.specs.Tokens.{token}
-use Rattle.pfs_conf_tokens.specs.Words.{key_of}
+use Rattle.pfs_conf_tokens.specs.Words.{key_of_text}
 use Rattle.pfs_conf_tokens.proofs.ShownLaws.{breaks, decimal_text, is_word_text, key_of-decimal, number_of-decimal, split_around-append, word_then}
 use Rattle.pfs_conf_tokens.proofs.WordKeys.{key_of-Flush, key_of-Global, key_of-Keep, key_of-Max, key_of-MaxSrcConn, key_of-MaxSrcConnRate, key_of-MaxSrcNodes, key_of-MaxSrcStates, key_of-No, key_of-Overload, key_of-Rule, key_of-SourceTrack, key_of-State, key_of-TcpFirst, key_of-TcpOpening, key_of-TcpEstablished, key_of-TcpClosing, key_of-TcpFinwait, key_of-TcpClosed, key_of-UdpFirst, key_of-UdpSingle, key_of-UdpMultiple, key_of-OtherFirst, key_of-OtherSingle, key_of-OtherMultiple, key_of-SrcTrack, key_of-AdaptiveStart, key_of-AdaptiveEnd}
 use Rattle.pfs_addr.specs.Names.{is_name}
@@ -65,7 +65,7 @@ rate_says r line more h b =
     let seconds_small : r.seconds < 2 ^ 64 = omega (arith, h.3) in
     let w = decimal r.limit ++ 47 ∷ decimal r.seconds in
     let is_text : is_word_text w ≡ true = text-append (decimal r.limit) (47 ∷ decimal r.seconds) (decimal_text r.limit limit_small) (decimal_all r.seconds seconds_small) in (
-      token line (key_of w) w,
+      token line (key_of_text w) w,
       word_then true line w more is_text b,
       key_of-decimal r.limit (47 ∷ decimal r.seconds) limit_small,
       record {
@@ -96,7 +96,7 @@ overload_reads tables v line more t h b =
         inner = at line (n ++ 62 ∷ left);
         behind = at line (62 ∷ left);
         opens = angle_opens true line n left;
-        named = (token line (key_of n) n, angle_names line n left named, key_of_word n, name_again 31 n named);
+        named = (token line (key_of_text n) n, angle_names line n left named, key_of_word n, name_again 31 n named);
         closes = angle_closes line left;
       };
       flush = flush_reads v.flush line more b;
@@ -159,7 +159,7 @@ give_overload tables m t n s c r (Some v) g h =
     (overload_reads tables v line more g h b)) done
 
 -- a timeout of the rule
-give_timeout : (w : List ℕ) (k : Key) (place : ℕ) (o : Options) (c : Option ℕ) → is_word_text w ≡ true → key_of w ≡ k → rule_place k ≡ Some place
+give_timeout : (w : List ℕ) (k : Key) (place : ℕ) (o : Options) (c : Option ℕ) → is_word_text w ≡ true → key_of_text w ≡ k → rule_place k ≡ Some place
     → slice_index_or o.timeouts place None ≡ None → slice_set o.timeouts place None ≡ o.timeouts → greatest_timeout place ≤ 4294967295 → IfSome c (IsTimeout place)
     → OptionChain (given (worded w) c) o (record o { timeouts = slice_set o.timeouts place c })
 give_timeout w k place o None is_text key at_place fresh same high h =

@@ -9,7 +9,7 @@ use Rattle.pfs_conf_tokens.specs.declared.keys.Key.TheVariants as key
 use Rattle.pfs_conf_tokens.specs.Grammar.{Word, Number}
 use Rattle.pfs_conf_tokens.specs.Lexis.{is_mark, is_word_byte, mark_key, tokens}
 use Rattle.pfs_conf_tokens.specs.Tokens.{Tok, token}
-use Rattle.pfs_conf_tokens.specs.Words.{key_of}
+use Rattle.pfs_conf_tokens.specs.Words.{key_of_text}
 use Rattle.pfs_conf_tokens.proofs.ShownLaws.{breaks, decimal_text, is_word_text, key_of-decimal, line_then, mark_then, number_of-decimal, space_then, word_then}
 
 -- the tokens of a text behind others of its line
@@ -19,26 +19,26 @@ at line text = tokens 0 true line text
 -- ---- words
 
 -- a word that begins a line or not
-pub word_first : (busy : Bool) (line : ℕ) (w more : List ℕ) {k : Key} → is_word_text w ≡ true → breaks more ≡ true → key_of w ≡ k → Word k (tokens 0 busy line (w ++ more)) (at line more)
-word_first busy line w more h b e = (token line (key_of w) w, word_then busy line w more h b, e)
+pub word_first : (busy : Bool) (line : ℕ) (w more : List ℕ) {k : Key} → is_word_text w ≡ true → breaks more ≡ true → key_of_text w ≡ k → Word k (tokens 0 busy line (w ++ more)) (at line more)
+word_first busy line w more h b e = (token line (key_of_text w) w, word_then busy line w more h b, e)
 
 -- a word behind a space
-pub word : (line : ℕ) (w more : List ℕ) {k : Key} → is_word_text w ≡ true → breaks more ≡ true → key_of w ≡ k → Word k (at line (32 ∷ (w ++ more))) (at line more)
-word line w more h b e = (token line (key_of w) w, space_then true line (w ++ more) ∙ word_then true line w more h b, e)
+pub word : (line : ℕ) (w more : List ℕ) {k : Key} → is_word_text w ≡ true → breaks more ≡ true → key_of_text w ≡ k → Word k (at line (32 ∷ (w ++ more))) (at line more)
+word line w more h b e = (token line (key_of_text w) w, space_then true line (w ++ more) ∙ word_then true line w more h b, e)
 
 -- a word and the space behind it
-pub word_space : (busy : Bool) (line : ℕ) (w more : List ℕ) {k : Key} → is_word_text w ≡ true → key_of w ≡ k → Word k (tokens 0 busy line (w ++ 32 ∷ more)) (at line more)
+pub word_space : (busy : Bool) (line : ℕ) (w more : List ℕ) {k : Key} → is_word_text w ≡ true → key_of_text w ≡ k → Word k (tokens 0 busy line (w ++ 32 ∷ more)) (at line more)
 word_space busy line w more h e =
-    (token line (key_of w) w, word_then busy line w (32 ∷ more) h refl ∙ ap (λ (z : List Tok). token line (key_of w) w ∷ z) (space_then true line more), e)
+    (token line (key_of_text w) w, word_then busy line w (32 ∷ more) h refl ∙ ap (λ (z : List Tok). token line (key_of_text w) w ∷ z) (space_then true line more), e)
 
 -- a word and the space behind it, in front of a number
-pub word_number : (line : ℕ) (w : List ℕ) (n : ℕ) (more : List ℕ) {k : Key} → is_word_text w ≡ true → key_of w ≡ k → Word k (at line ((w ++ 32 ∷ decimal n) ++ more)) (at line (decimal n ++ more))
+pub word_number : (line : ℕ) (w : List ℕ) (n : ℕ) (more : List ℕ) {k : Key} → is_word_text w ≡ true → key_of_text w ≡ k → Word k (at line ((w ++ 32 ∷ decimal n) ++ more)) (at line (decimal n ++ more))
 word_number line w n more h e =
     let p = word_space true line w (decimal n ++ more) h e in
     (p.0, ap (at line) (append_assoc w (32 ∷ decimal n) more) ∙ p.1, p.2)
 
 -- a word between spaces
-pub word_between : (line : ℕ) (w more : List ℕ) {k : Key} → is_word_text w ≡ true → key_of w ≡ k → Word k (at line (32 ∷ (w ++ 32 ∷ more))) (at line more)
+pub word_between : (line : ℕ) (w more : List ℕ) {k : Key} → is_word_text w ≡ true → key_of_text w ≡ k → Word k (at line (32 ∷ (w ++ 32 ∷ more))) (at line more)
 word_between line w more h e =
     let p = word_space true line w more h e in
     (p.0, space_then true line (w ++ 32 ∷ more) ∙ p.1, p.2)
@@ -92,5 +92,5 @@ text-append (b ∷ v) w h g =
 pub number : (busy : Bool) (line low high n : ℕ) (more : List ℕ) → low ≤ n → n ≤ high → n < 10 ^ 10 → breaks more ≡ true → Number low high (tokens 0 busy line (decimal n ++ more)) n (at line more)
 number busy line low high n more l h lt b =
     let small : n < 2 ^ 64 = omega arith in
-    let k : key_of (decimal n) ≡ key.Number = ap key_of (sym (append-nil (decimal n))) ∙ key_of-decimal n [] small in
-    (token line (key_of (decimal n)) (decimal n), word_then busy line (decimal n) more (decimal_text n small) b, k, number_of-decimal n lt, l, h)
+    let k : key_of_text (decimal n) ≡ key.Number = ap key_of_text (sym (append-nil (decimal n))) ∙ key_of-decimal n [] small in
+    (token line (key_of_text (decimal n)) (decimal n), word_then busy line (decimal n) more (decimal_text n small) b, k, number_of-decimal n lt, l, h)

@@ -4,12 +4,11 @@ use Rattle.std.specs.Prelude.{codes, decimal, slice_index}
 use Rattle.std.proofs.lemmas.Bool.{cond-false}
 use Rattle.pfs_conf_tokens.specs.declared.keys.Key.{Key}
 use Rattle.pfs_conf_tokens.specs.declared.keys.Key.TheVariants as key
-use Rattle.pfs_conf_tokens.specs.Grammar.{Word}
+use Rattle.pfs_conf_tokens.specs.Grammar.{Word, skip_lines}
 use Rattle.pfs_conf_tokens.specs.Keys.{ends_line}
 use Rattle.pfs_conf_tokens.specs.Lexis.{tokens}
-use Rattle.pfs_conf_tokens.specs.Reading.{skip_lines}
 use Rattle.pfs_conf_tokens.specs.Tokens.{Tok, token}
-use Rattle.pfs_conf_tokens.specs.Words.{key_of}
+use Rattle.pfs_conf_tokens.specs.Words.{key_of_text}
 use Rattle.pfs_conf_tokens.proofs.ShownLaws.{breaks, is_word_text, mark_then, space_then}
 use Rattle.pfs_conf_tokens.proofs.WordKeys.{key_of-Limit, key_of-Set, key_of-SrcNodes, key_of-States, key_of-TableEntries, key_of-Tables, key_of-Timeout, key_of-TcpFirst, key_of-TcpOpening, key_of-TcpEstablished, key_of-TcpClosing, key_of-TcpFinwait, key_of-TcpClosed, key_of-UdpFirst, key_of-UdpSingle, key_of-UdpMultiple, key_of-OtherFirst, key_of-OtherSingle, key_of-OtherMultiple, key_of-SrcTrack, key_of-Interval, key_of-AdaptiveStart, key_of-AdaptiveEnd}
 use Rattle.pfs_conf_rules.specs.Configs.{AreLimits}
@@ -20,7 +19,8 @@ use Rattle.pfs_conf_rules.specs.declared.limits.LimitName.TheVariants as limit_n
 use Rattle.pfs_conf_rules.specs.declared.limits.Limits.{Limits}
 use Rattle.pfs_conf_rules.specs.declared.timeouts.TimeoutName.{TimeoutName}
 use Rattle.pfs_conf_rules.specs.declared.timeouts.TimeoutName.TheVariants as name
-use Rattle.pfs_conf_settings.specs.SettingGrammar.{LinedLimitOf, LinedTimeOf, SettingOf, TimeOf, ValueOf, kept, limits, lined, src_nodes, states, table_entries, tables, timeouts}
+use Rattle.pfs_conf_settings.proofs.TimeoutKeys.{placed}
+use Rattle.pfs_conf_settings.specs.SettingGrammar.{AmongLines, LimitOf, SettingOf, TimeOf, ValueOf, kept, limits, lined, src_nodes, states, table_entries, tables, timeouts}
 use Rattle.pfs_conf_settings.specs.Settings.{greatest_value, least_value, timeout_named}
 use Rattle.pfs_conf_show.specs.Pieces.{begun_after, bracketed, worded}
 use Rattle.pfs_conf_show.specs.Settings.{limit_texts, limits_text, timeout_text, timeout_word, timeouts_text}
@@ -63,24 +63,24 @@ value_reads line low high n more l h lt b =
 count_reads : (line n : ℕ) (more : List ℕ) → IsCount n → breaks more ≡ true → ValueOf 1 4294967295 true (at line (decimal n ++ more)) n (at line more)
 count_reads line n more h b = value_reads line 1 4294967295 n more h.0 h.1 (omega (arith, h.1)) b
 
-give_states : (d : Drafted) (n : ℕ) → IsCount n → (line : ℕ) (more : List ℕ) → Lined line more → LinedLimitOf d (at line (worded (codes "states") n ++ more)) (with_limit limit_name.States n d) (at line more)
+give_states : (d : Drafted) (n : ℕ) → IsCount n → (line : ℕ) (more : List ℕ) → Lined line more → (AmongLines (LimitOf true)) d (at line (worded (codes "states") n ++ more)) (with_limit limit_name.States n d) (at line more)
 give_states d n h line more f =
-    record { mid = at line more; pair = states (skip_word (word_number line (codes "states") n more refl key_of-States) refl) (count_reads line n more h f.0); behind = sym f.1 }
+    record { mid = at line more; item = states (skip_word (word_number line (codes "states") n more refl key_of-States) refl) (count_reads line n more h f.0); behind = sym f.1 }
 
-give_src_nodes : (d : Drafted) (n : ℕ) → IsCount n → (line : ℕ) (more : List ℕ) → Lined line more → LinedLimitOf d (at line (worded (codes "src-nodes") n ++ more)) (with_limit limit_name.SrcNodes n d) (at line more)
+give_src_nodes : (d : Drafted) (n : ℕ) → IsCount n → (line : ℕ) (more : List ℕ) → Lined line more → (AmongLines (LimitOf true)) d (at line (worded (codes "src-nodes") n ++ more)) (with_limit limit_name.SrcNodes n d) (at line more)
 give_src_nodes d n h line more f =
-    record { mid = at line more; pair = src_nodes (skip_word (word_number line (codes "src-nodes") n more refl key_of-SrcNodes) refl) (count_reads line n more h f.0); behind = sym f.1 }
+    record { mid = at line more; item = src_nodes (skip_word (word_number line (codes "src-nodes") n more refl key_of-SrcNodes) refl) (count_reads line n more h f.0); behind = sym f.1 }
 
-give_tables : (d : Drafted) (n : ℕ) → IsCount n → (line : ℕ) (more : List ℕ) → Lined line more → LinedLimitOf d (at line (worded (codes "tables") n ++ more)) (with_limit limit_name.Tables n d) (at line more)
+give_tables : (d : Drafted) (n : ℕ) → IsCount n → (line : ℕ) (more : List ℕ) → Lined line more → (AmongLines (LimitOf true)) d (at line (worded (codes "tables") n ++ more)) (with_limit limit_name.Tables n d) (at line more)
 give_tables d n h line more f =
-    record { mid = at line more; pair = tables (skip_word (word_number line (codes "tables") n more refl key_of-Tables) refl) (count_reads line n more h f.0); behind = sym f.1 }
+    record { mid = at line more; item = tables (skip_word (word_number line (codes "tables") n more refl key_of-Tables) refl) (count_reads line n more h f.0); behind = sym f.1 }
 
 give_table_entries : (d : Drafted) (n : ℕ) → IsCount n → (line : ℕ) (more : List ℕ) → Lined line more
-    → LinedLimitOf d (at line (worded (codes "table-entries") n ++ more)) (with_limit limit_name.TableEntries n d) (at line more)
+    → (AmongLines (LimitOf true)) d (at line (worded (codes "table-entries") n ++ more)) (with_limit limit_name.TableEntries n d) (at line more)
 give_table_entries d n h line more f =
-    record { mid = at line more; pair = table_entries (skip_word (word_number line (codes "table-entries") n more refl key_of-TableEntries) refl) (count_reads line n more h f.0); behind = sym f.1 }
+    record { mid = at line more; item = table_entries (skip_word (word_number line (codes "table-entries") n more refl key_of-TableEntries) refl) (count_reads line n more h f.0); behind = sym f.1 }
 
-limits_chain : (d : Drafted) (l : Limits) → AreLimits l → Chain LinedLimitOf Lined (limit_texts l) d (record d { limits = l })
+limits_chain : (d : Drafted) (l : Limits) → AreLimits l → Chain (AmongLines (LimitOf true)) Lined (limit_texts l) d (record d { limits = l })
 limits_chain d l h =
     next (give_states d l.states h.states)
     (next (give_src_nodes (with_limit limit_name.States l.states d) l.src_nodes h.src_nodes)
@@ -114,14 +114,14 @@ limits_line d l line more h =
       before_end = at line (10 ∷ more);
       set = word_space false line (codes "set") _ refl key_of-Set;
       setting = limits (word_first true line (codes "limit") _ refl refl key_of-Limit) (mark_between line 123 _ refl)
-          (listed_again LinedLimitOf Lined key.CloseBrace (codes " { ") (codes " }") (braces LinedLimitOf) x xs d (record d { limits = l }) line (10 ∷ more) (limits_chain d l h));
+          (listed_again (AmongLines (LimitOf true)) Lined key.CloseBrace (codes " { ") (codes " }") (braces (AmongLines (LimitOf true))) x xs d (record d { limits = l }) line (10 ∷ more) (limits_chain d l h));
       ended = line_end true line more;
     })
 
 -- ---- timeouts
 
 -- the word of a timeout names it
-word_key : (n : TimeoutName) → timeout_named (key_of (timeout_word n)) ≡ Some n
+word_key : (n : TimeoutName) → timeout_named (key_of_text (timeout_word n)) ≡ Some n
 word_key name.TcpFirst = ap timeout_named key_of-TcpFirst
 word_key name.TcpOpening = ap timeout_named key_of-TcpOpening
 word_key name.TcpEstablished = ap timeout_named key_of-TcpEstablished
@@ -168,7 +168,7 @@ greatest_small name.AdaptiveEnd = omega arith
 greatest_small _ = omega arith
 
 give_time : (d : Drafted) (n : TimeoutName) (v : ℕ) → least_value n ≤ v → v ≤ greatest_value n → (line : ℕ) (more : List ℕ) → Lined line more
-    → LinedTimeOf d (at line (worded (timeout_word n) v ++ more)) (with_timeout n v d) (at line more)
+    → (AmongLines (TimeOf true)) d (at line (worded (timeout_word n) v ++ more)) (with_timeout n v d) (at line more)
 give_time d n v low high line more f =
     let w = timeout_word n in
     let p = word_number line w v more (word_is n) refl in
@@ -179,7 +179,7 @@ give_time d n v low high line more f =
     let P : List Tok → Type 0 = λ z. TimeOf true d z (with_timeout n v d) (at line more) in
     record {
       mid = at line more;
-      pair = subst P (sym front) (kept n named (value_reads line (least_value n) (greatest_value n) v more low high (omega (arith, high, small)) f.0));
+      item = subst P (sym front) (kept n (placed p.0.key n named) (value_reads line (least_value n) (greatest_value n) v more low high (omega (arith, high, small)) f.0));
       behind = sym f.1;
     }
 
@@ -194,7 +194,7 @@ pub record AreGiven (v : TimeoutName → ℕ) : Type 0 where
   pub high : (n : TimeoutName) → v n ≤ greatest_value n
 
 times_chain : (names : List TimeoutName) (v : TimeoutName → ℕ) (d : Drafted) → AreGiven v
-    → Chain LinedTimeOf Lined (map (λ (n : TimeoutName). worded (timeout_word n) (v n)) names) d (set_all names v d)
+    → Chain (AmongLines (TimeOf true)) Lined (map (λ (n : TimeoutName). worded (timeout_word n) (v n)) names) d (set_all names v d)
 times_chain [] v d h = done
 times_chain (n ∷ names) v d h = next (give_time d n (v n) (h.low n) (h.high n)) (times_chain names v (with_timeout n (v n) d) h)
 
@@ -209,7 +209,7 @@ timeouts_line d ts line more h = go (map (timeout_text ts) timeout_names) refl (
     e : Drafted
     e = set_all timeout_names (value_in ts) d
 
-    go : (xs : List (List ℕ)) → begun_after false xs ≡ true → Chain LinedTimeOf Lined xs d e
+    go : (xs : List (List ℕ)) → begun_after false xs ≡ true → Chain (AmongLines (TimeOf true)) Lined xs d e
         → SettingLine d (tokens 0 false line ((codes "set timeout" ++ (bracketed (codes " { ") (codes " }") xs ++ codes "\n")) ++ more)) e (tokens 0 false (suc line) more)
     go [] some p = absurd (cc some)
     go (x ∷ xs) some p =
@@ -219,6 +219,6 @@ timeouts_line d ts line more h = go (map (timeout_text ts) timeout_names) refl (
           before_end = at line (10 ∷ more);
           set = word_space false line (codes "set") _ refl key_of-Set;
           setting = timeouts (word_first true line (codes "timeout") _ refl refl key_of-Timeout) (mark_between line 123 _ refl)
-              (listed_again LinedTimeOf Lined key.CloseBrace (codes " { ") (codes " }") (braces LinedTimeOf) x xs d e line (10 ∷ more) p);
+              (listed_again (AmongLines (TimeOf true)) Lined key.CloseBrace (codes " { ") (codes " }") (braces (AmongLines (TimeOf true))) x xs d e line (10 ∷ more) p);
           ended = line_end true line more;
         })

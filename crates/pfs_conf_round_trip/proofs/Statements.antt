@@ -1,6 +1,6 @@
 -- The statements of a canonical text: each is read, and leads to what the text says up to there.
 use Rattle.std.proofs.Common.{◌≡◌, ◌∙◌, ◌≤◌, ◌<◌, ◌-◌, ◌+◌, ℕ, zero, suc, Bool, true, false, All, List, [], ◌∷◌, ◌++◌, length, map, Option, refl, sym, ap, subst, arith, append_assoc, append-nil, length-append}
-use Rattle.std.specs.Prelude.{codes}
+use Rattle.std.specs.Prelude.{codes, unwrap_or}
 use Rattle.std.specs.List.{IsDistinct, flat_map}
 use Rattle.std.specs.Str.{bytes_eq}
 use Rattle.std.proofs.lemmas.List.Elements.{All-head, All-tail}
@@ -8,7 +8,7 @@ use Rattle.pfs_conf_tokens.specs.declared.keys.Key.TheVariants as key
 use Rattle.pfs_conf_tokens.specs.Grammar.{UpTo, stands, steps}
 use Rattle.pfs_conf_tokens.specs.Lexis.{tokens}
 use Rattle.pfs_conf_tokens.specs.Tokens.{Tok, head, token}
-use Rattle.pfs_conf_tokens.specs.Words.{key_of}
+use Rattle.pfs_conf_tokens.specs.Words.{key_of_text}
 use Rattle.pfs_conf_tokens.proofs.ShownLaws.{end_then}
 use Rattle.pfs_conf_tokens.proofs.WordKeys.{key_of-Table}
 use Rattle.pfs_conf_rules.specs.Configs.{IsTable, table_names}
@@ -25,7 +25,7 @@ use Rattle.pfs_conf_rules.specs.declared.items.What.TheVariants as what
 use Rattle.pfs_conf_rules.specs.declared.limits.Limits.{Limits}
 use Rattle.pfs_conf_rules.specs.declared.tables.TableDef.{TableDef}
 use Rattle.pfs_conf.specs.Grammar.{StatementOf, anchor, close, rule, table}
-use Rattle.pfs_conf.specs.Statements.{anchor_said, entries_or_none, name_hosts, name_rule, rule_said}
+use Rattle.pfs_conf.specs.Statements.{anchor_said, name_hosts, name_rule, rule_said}
 use Rattle.pfs_conf.specs.declared.progress.Progress.{Progress}
 use Rattle.pfs_conf_show.specs.Pieces.{bracketed}
 use Rattle.pfs_conf_show.specs.Tables.{angled, const_text, entry_text, table_text}
@@ -67,7 +67,7 @@ table_parts word name c body end more = simp append_assoc
 
 -- the parts that are read mean the table
 table_again : (name : List ℕ) (c : Bool) (es : List Entry)
-    → ◌≡◌ {A = TableDef} (record { name = name; is_const = (parts_said c es).is_const; entries = entries_or_none (parts_said c es).entries }) (record { name = name; is_const = c; entries = es })
+    → ◌≡◌ {A = TableDef} (record { name = name; is_const = (parts_said c es).is_const; entries = unwrap_or (parts_said c es).entries [] }) (record { name = name; is_const = c; entries = es })
 table_again name c [] = refl
 table_again name c (e ∷ es) = refl
 
@@ -81,7 +81,7 @@ table_reads d t line lines more h new =
     subst P (sym (table_parts (codes "table ") (angled t.name) (const_text t.is_const) body (codes "\n") more))
     (subst Q (table_again t.name t.is_const t.entries)
     (table t.name (parts_said t.is_const t.entries) refl (word_space false line (codes "table") (angled t.name ++ parts) refl key_of-Table) (record {
-      t = token line (key_of t.name) t.name;
+      t = token line (key_of_text t.name) t.name;
       behind_open = at line (t.name ++ 62 ∷ parts);
       behind_name = at line (62 ∷ parts);
       opens = angle_opens true line t.name parts;

@@ -8,19 +8,17 @@ use Rattle.std.proofs.lemmas.Bool.Decides.{nat_tests}
 use Rattle.std.proofs.lemmas.List.Elements.{All-head, All-tail}
 use Rattle.std.proofs.lemmas.Map.Keys.{IsDistinct-head, IsDistinct-tail}
 use Rattle.pfs_conf_tokens.specs.declared.keys.Key.TheVariants as key
-use Rattle.pfs_conf_tokens.specs.Grammar.{ListOf, UpTo, stands, steps}
+use Rattle.pfs_conf_tokens.specs.Grammar.{ListOf, UpTo, stands, steps, skip_lines}
 use Rattle.pfs_conf_tokens.specs.Keys.{ends_line}
-use Rattle.pfs_conf_tokens.specs.Reading.{skip_lines}
 use Rattle.pfs_conf_tokens.specs.Tokens.{Tok, head, token}
-use Rattle.pfs_conf_tokens.specs.Words.{key_of}
+use Rattle.pfs_conf_tokens.specs.Words.{key_of_text}
 use Rattle.pfs_conf_tokens.proofs.ShownLaws.{breaks, line_then, mark_then, word_then}
 use Rattle.pfs_conf_tokens.proofs.WordKeys.{key_of-Const}
 use Rattle.pfs_addr.specs.Prefixes.{IsNetwork, Network}
 use Rattle.pfs_addr.specs.declared.addresses.Addr.{Addr}
 use Rattle.pfs_addr.specs.declared.addresses.Addr.TheVariants.{V4}
 use Rattle.pfs_conf_rules.specs.Entries.{Entry, same_addr, same_network, sign_of}
-use Rattle.pfs_conf_settings.specs.TableGrammar.{EntryOf, PartOf, PartsOf, PrefixOf, SignOf, comes, constant, entries, negated, plain, some}
-use Rattle.pfs_conf_settings.specs.Tables.{no_parts}
+use Rattle.pfs_conf_settings.specs.TableGrammar.{EntryOf, PartOf, PartsOf, PrefixOf, SignOf, comes, constant, entries, negated, plain, some, no_parts}
 use Rattle.pfs_conf_show.specs.Pieces.{bracketed, going_on, prefix_text}
 use Rattle.pfs_conf_show.specs.Tables.{const_text, entry_text}
 use Rattle.pfs_conf_round_trip.proofs.Said.{parts_said}
@@ -34,7 +32,7 @@ use Rattle.pfs_conf_round_trip.proofs.SettingPhrases.{Lined, braces, stays}
 
 prefix_front : (line : ℕ) (p : Network) (more : List ℕ) → IsNetwork p → breaks more ≡ true → skip_lines (at line (prefix_text p ++ more)) ≡ at line (prefix_text p ++ more)
 prefix_front line p more h b =
-    stays (at line (prefix_text p ++ more)) (token line (key_of (prefix_text p)) (prefix_text p)) (at line more) (word_then true line (prefix_text p) more (prefix_word p h) b)
+    stays (at line (prefix_text p ++ more)) (token line (key_of_text (prefix_text p)) (prefix_text p)) (at line more) (word_then true line (prefix_text p) more (prefix_word p h) b)
     (ap ends_line (prefix_key p h))
 
 not_front : (line : ℕ) (more : List ℕ) → skip_lines (at line (33 ∷ more)) ≡ at line (33 ∷ more)
@@ -50,7 +48,7 @@ prefix_reads : (line : ℕ) (p : Network) (more : List ℕ) → IsNetwork p → 
 prefix_reads line p more h b =
     let w = prefix_text p in
     record {
-      t = token line (key_of w) w;
+      t = token line (key_of_text w) w;
       front = prefix_front line p more h b ∙ word_then true line w more (prefix_word p h) b;
       is_word = key_of_word w;
       says = prefix_again p h;

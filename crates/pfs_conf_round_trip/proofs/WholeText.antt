@@ -5,6 +5,7 @@ use Rattle.std.specs.List.{flat_map, list_any, position_or_len}
 use Rattle.std.specs.Option.{option_map}
 use Rattle.std.proofs.lemmas.Bool.{cond-true, cond-false, le-ltb}
 use Rattle.std.proofs.lemmas.Bool.Decides.{nat_tests}
+use Rattle.pfs_conf_tokens.specs.declared.refusals.LoadRule.{LoadRule}
 use Rattle.pfs_conf_tokens.specs.declared.refusals.LoadRule.TheVariants as load_rule
 use Rattle.pfs_conf_tokens.specs.Lexis.{tokens, tokens_of}
 use Rattle.pfs_conf_tokens.specs.Tokens.{Tok}
@@ -17,7 +18,7 @@ use Rattle.pfs_conf_rules.specs.declared.timeouts.TimeoutName.TheVariants as nam
 use Rattle.pfs_conf_settings.specs.Settings.{greatest_value, least_value}
 use Rattle.pfs_conf.specs.Grammar.{StatementOf, set}
 use Rattle.pfs_conf.specs.Reads.{Reads}
-use Rattle.pfs_conf.specs.Statements.{at_no_line, first_broken, nothing, text_breaks, text_breaks_by}
+use Rattle.pfs_conf.specs.Statements.{first_broken, nothing, text_breaks, text_breaks_by}
 use Rattle.pfs_conf.specs.declared.progress.Progress.{Progress}
 use Rattle.pfs_conf.proofs.LoadLaws.{one_text}
 use Rattle.pfs_conf_show.specs.Settings.{timeouts_text}
@@ -88,7 +89,7 @@ no_position p items h =
     cond-false (nat_lt (position_or_len p items) (length items)) _ _ (le-ltb (position_or_len p items) (length items) (omega (arith, at)))
 
 none_of_texts : (a b c : Bool) → a ≡ false → b ≡ false → c ≡ false
-    → option_map at_no_line (first_broken ((load_rule.AdaptivePair, a) ∷ (load_rule.TooManyTables, b) ∷ (load_rule.TooManyEntries, c) ∷ [])) ≡ None
+    → option_map {U = LoadRule × ℕ} (λ (r : LoadRule). (r, 0)) (first_broken ((load_rule.AdaptivePair, a) ∷ (load_rule.TooManyTables, b) ∷ (load_rule.TooManyEntries, c) ∷ [])) ≡ None
 none_of_texts a b c h i j = rw (h, i, j) refl
 
 text_kept : (p : Progress) (d : Drafted) → p.draft ≡ d → const_overload d ≡ None → has_broken_pair d ≡ false → has_too_many_tables d ≡ false → has_too_many_entries d ≡ false

@@ -3,3 +3,4 @@ pub mod SettingPhrases
 mod Stopping
 pub mod TableLaws
 pub mod TablePhrases
+pub mod TimeoutKeys

@@ -2,8 +2,8 @@
 use Rattle.std.proofs.Common.{◌≡◌, ℕ, Bool, true, false, Option, Some, None, refl}
 use Rattle.pfs_conf_tokens.specs.declared.keys.Key.{Key}
 use Rattle.pfs_conf_tokens.specs.declared.keys.Key.TheVariants as key
-use Rattle.pfs_conf_tokens.specs.Keys.{closes_braces, before_end}
-use Rattle.pfs_conf_tokens.specs.Reading.{chain, done, next_of, skipping, number_at}
+use Rattle.pfs_conf_tokens.specs.Keys.{before_end}
+use Rattle.pfs_conf_tokens.specs.Reading.{closes_braces, chain, done, next_of, skipping, number_at}
 use Rattle.pfs_conf_tokens.proofs.Laws.{Taking, OnlineAct, Online, across, online_done, online_chain, online_taking, online_front, front_shrinks, chain_shrinks, Shrinks, online_across}
 use Rattle.pfs_conf_tokens.proofs.ReaderLaws.{online_list, next_shrinks, online_skipping, skipping_shrinks, online_number}
 use Rattle.pfs_conf_rules.specs.declared.limits.LimitName.{LimitName}

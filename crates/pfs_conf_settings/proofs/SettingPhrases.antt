@@ -2,10 +2,10 @@
 use Rattle.std.proofs.Common.{◌≡◌, ℕ, Bool, true, false, List, [], ◌∷◌, Option, Some, None, Ok, refl, sym, ap, subst}
 use Rattle.pfs_conf_tokens.specs.declared.keys.Key.{Key}
 use Rattle.pfs_conf_tokens.specs.declared.keys.Key.TheVariants as key
-use Rattle.pfs_conf_tokens.specs.Tokens.{Tok, head, rest}
-use Rattle.pfs_conf_tokens.specs.Keys.{closes_braces, ends_line}
-use Rattle.pfs_conf_tokens.specs.Grammar.{Word}
-use Rattle.pfs_conf_tokens.specs.Reading.{stay, act, chain, done, skip_lines, skipping}
+use Rattle.pfs_conf_tokens.specs.Tokens.{Tok, head}
+use Rattle.pfs_conf_tokens.specs.Reading.{rest, closes_braces, stay, act, chain, done, skipping}
+use Rattle.pfs_conf_tokens.specs.Keys.{ends_line}
+use Rattle.pfs_conf_tokens.specs.Grammar.{Word, skip_lines}
 use Rattle.pfs_conf_tokens.proofs.Laws.{ok_parts, chain_ok}
 use Rattle.pfs_conf_tokens.proofs.ReaderLaws.{word_head, word_is, number_is, number_reads, list_is, list_reads, ReadsList, no_comma}
 use Rattle.pfs_conf_tokens.proofs.LineLaws.{skip_stays}
@@ -13,8 +13,9 @@ use Rattle.pfs_conf_rules.specs.declared.limits.LimitName.TheVariants as limit_n
 use Rattle.pfs_conf_rules.specs.declared.timeouts.TimeoutName.{TimeoutName}
 use Rattle.pfs_conf_rules.specs.Drafts.{Drafted, with_limit, with_timeout}
 use Rattle.pfs_conf_settings.specs.Settings.{timeout_named, value_at, limit_by, limit_at, least_value, greatest_value, timed, time_by, time_at, lined_limit_at, lined_time_at, limits_by, limits_at, times_by, times_at, settings_by, settings_at}
-use Rattle.pfs_conf_settings.specs.SettingGrammar.{ValueOf, plain, lined, LimitOf, states, src_nodes, tables, table_entries, frags, TimeOf, kept, frag, tsdiff, icmp_first, icmp_error, LinedLimitOf, LinedTimeOf, SettingOf, limit, limits, timeout, timeouts}
+use Rattle.pfs_conf_settings.specs.SettingGrammar.{ValueOf, plain, lined, LimitOf, states, src_nodes, tables, table_entries, frags, TimeOf, kept, frag, tsdiff, icmp_first, icmp_error, AmongLines, SettingOf, limit, limits, timeout, timeouts}
 use Rattle.pfs_conf_settings.proofs.SettingLaws.{lined_limit_shrinks, lined_time_shrinks}
+use Rattle.pfs_conf_settings.proofs.TimeoutKeys.{placed, named}
 
 -- ---- is
 
@@ -48,7 +49,7 @@ timed_is inside d ts e left None g q = absurd cc
 timed_is inside d [] e left (Some name) g q = absurd cc
 timed_is inside d (t ∷ ts) e left (Some name) g q =
     let p = pair_is inside (least_value name) (greatest_value name) (λ n. with_timeout name n d) ts e left q in
-    subst (λ (z : Drafted). TimeOf inside d (t ∷ ts) z left) p.2 (kept name g p.1)
+    subst (λ (z : Drafted). TimeOf inside d (t ∷ ts) z left) p.2 (kept name (placed t.key name g) p.1)
 
 pub time_is : (inside : Bool) (d : Drafted) (ts : List Tok) (e : Drafted) (left : List Tok) → time_at inside d ts ≡ Ok (e, left) → TimeOf inside d ts e left
 unfolding time_at
@@ -61,19 +62,19 @@ time_is inside d ts e left h = by_key (head ts).key refl h
     by_key key.IcmpError g q = let p = pair_is inside 0 2147483647 (λ n. d) (rest ts) e left q in subst (λ (z : Drafted). TimeOf inside d ts z left) p.2 (icmp_error (word_is key.IcmpError ts g (λ r. cc)) p.1)
     by_key k g q = timed_is inside d ts e left (timeout_named k) (ap timeout_named g) q
 
-pub lined_limit_is : (d : Drafted) (ts : List Tok) (e : Drafted) (left : List Tok) → lined_limit_at d ts ≡ Ok (e, left) → LinedLimitOf d ts e left
+pub lined_limit_is : (d : Drafted) (ts : List Tok) (e : Drafted) (left : List Tok) → lined_limit_at d ts ≡ Ok (e, left) → (AmongLines (LimitOf true)) d ts e left
 unfolding lined_limit_at
 lined_limit_is d ts e left h =
     let c = chain_ok (limit_at true d) (λ x. skipping (done x)) (skip_lines ts) e left h in
     let q = ok_parts c.0 e (skip_lines c.1) left c.3 in
-    record { mid = c.1; pair = subst (λ (z : Drafted). LimitOf true d (skip_lines ts) z c.1) q.0 (limit_is true d (skip_lines ts) c.0 c.1 c.2); behind = sym q.1 }
+    record { mid = c.1; item = subst (λ (z : Drafted). LimitOf true d (skip_lines ts) z c.1) q.0 (limit_is true d (skip_lines ts) c.0 c.1 c.2); behind = sym q.1 }
 
-pub lined_time_is : (d : Drafted) (ts : List Tok) (e : Drafted) (left : List Tok) → lined_time_at d ts ≡ Ok (e, left) → LinedTimeOf d ts e left
+pub lined_time_is : (d : Drafted) (ts : List Tok) (e : Drafted) (left : List Tok) → lined_time_at d ts ≡ Ok (e, left) → (AmongLines (TimeOf true)) d ts e left
 unfolding lined_time_at
 lined_time_is d ts e left h =
     let c = chain_ok (time_at true d) (λ x. skipping (done x)) (skip_lines ts) e left h in
     let q = ok_parts c.0 e (skip_lines c.1) left c.3 in
-    record { mid = c.1; pair = subst (λ (z : Drafted). TimeOf true d (skip_lines ts) z c.1) q.0 (time_is true d (skip_lines ts) c.0 c.1 c.2); behind = sym q.1 }
+    record { mid = c.1; item = subst (λ (z : Drafted). TimeOf true d (skip_lines ts) z c.1) q.0 (time_is true d (skip_lines ts) c.0 c.1 c.2); behind = sym q.1 }
 
 closing : (k : Key) → closes_braces k ≡ true → k ≡ key.CloseBrace
 closing key.CloseBrace e = refl
@@ -84,7 +85,7 @@ unfolding limits_at
 limits_are d ts a e left w h = by_key (head a).key refl h
   where
     by_key : (k : Key) → (head a).key ≡ k → act (limits_by d k) a ≡ Ok (e, left) → SettingOf d ts e left
-    by_key key.OpenBrace g q = limits w (word_is key.OpenBrace a g (λ r. cc)) (list_is key.CloseBrace closes_braces LinedLimitOf lined_limit_at closing (λ r. cc) lined_limit_is d (rest a) e left q)
+    by_key key.OpenBrace g q = limits w (word_is key.OpenBrace a g (λ r. cc)) (list_is key.CloseBrace closes_braces (AmongLines (LimitOf true)) lined_limit_at closing (λ r. cc) lined_limit_is d (rest a) e left q)
     by_key _ g q = limit w (limit_is false d a e left q)
 
 times_are : (d : Drafted) (ts a : List Tok) (e : Drafted) (left : List Tok) → Word key.Timeout ts a → times_at d a ≡ Ok (e, left) → SettingOf d ts e left
@@ -92,7 +93,7 @@ unfolding times_at
 times_are d ts a e left w h = by_key (head a).key refl h
   where
     by_key : (k : Key) → (head a).key ≡ k → act (times_by d k) a ≡ Ok (e, left) → SettingOf d ts e left
-    by_key key.OpenBrace g q = timeouts w (word_is key.OpenBrace a g (λ r. cc)) (list_is key.CloseBrace closes_braces LinedTimeOf lined_time_at closing (λ r. cc) lined_time_is d (rest a) e left q)
+    by_key key.OpenBrace g q = timeouts w (word_is key.OpenBrace a g (λ r. cc)) (list_is key.CloseBrace closes_braces (AmongLines (TimeOf true)) lined_time_at closing (λ r. cc) lined_time_is d (rest a) e left q)
     by_key _ g q = timeout w (time_is false d a e left q)
 
 pub settings_are : (d : Drafted) (ts : List Tok) (e : Drafted) (left : List Tok) → settings_at d ts ≡ Ok (e, left) → SettingOf d ts e left
@@ -129,19 +130,19 @@ kept_by inside d _ name e = ap (timed inside d) e
 
 pub time_reads : {inside : Bool} {d e : Drafted} {ts left : List Tok} → TimeOf inside d ts e left → time_at inside d ts ≡ Ok (e, left)
 unfolding time_at
-time_reads {inside = inside} {d = d} (kept {t = t} name e v) = rw (kept_by inside d t.key name e, value_reads v) refl
+time_reads {inside = inside} {d = d} (kept {t = t} name e v) = rw (kept_by inside d t.key name (named t.key name e), value_reads v) refl
 time_reads (frag w v) = let h = word_head w in rw (h.0, h.1, value_reads v) refl
 time_reads (tsdiff w v) = let h = word_head w in rw (h.0, h.1, value_reads v) refl
 time_reads (icmp_first w v) = let h = word_head w in rw (h.0, h.1, value_reads v) refl
 time_reads (icmp_error w v) = let h = word_head w in rw (h.0, h.1, value_reads v) refl
 
-lined_limit_reads : {d e : Drafted} {ts left : List Tok} → LinedLimitOf d ts e left → lined_limit_at d ts ≡ Ok (e, left)
+lined_limit_reads : {d e : Drafted} {ts left : List Tok} → (AmongLines (LimitOf true)) d ts e left → lined_limit_at d ts ≡ Ok (e, left)
 unfolding lined_limit_at
-lined_limit_reads {e = e} q = rw (limit_reads q.pair) (ap (λ (z : List Tok). Ok (e, z)) (sym q.behind))
+lined_limit_reads {e = e} q = rw (limit_reads q.item) (ap (λ (z : List Tok). Ok (e, z)) (sym q.behind))
 
-lined_time_reads : {d e : Drafted} {ts left : List Tok} → LinedTimeOf d ts e left → lined_time_at d ts ≡ Ok (e, left)
+lined_time_reads : {d e : Drafted} {ts left : List Tok} → (AmongLines (TimeOf true)) d ts e left → lined_time_at d ts ≡ Ok (e, left)
 unfolding lined_time_at
-lined_time_reads {e = e} q = rw (time_reads q.pair) (ap (λ (z : List Tok). Ok (e, z)) (sym q.behind))
+lined_time_reads {e = e} q = rw (time_reads q.item) (ap (λ (z : List Tok). Ok (e, z)) (sym q.behind))
 
 -- what begins a pair, behind line ends or not
 abbrev Begins : Key → Type 0
@@ -160,7 +161,7 @@ named_begins key.Comma name e = absurd cc
 named_begins _ name e = (refl, refl, refl)
 
 time_begins : {inside : Bool} {d e : Drafted} {ts left : List Tok} → TimeOf inside d ts e left → Begins (head ts).key
-time_begins (kept {t = t} name e v) = named_begins t.key name e
+time_begins (kept {t = t} name e v) = named_begins t.key name (named t.key name e)
 time_begins (frag w v) = rw (word_head w).0 (refl, refl, refl)
 time_begins (tsdiff w v) = rw (word_head w).0 (refl, refl, refl)
 time_begins (icmp_first w v) = rw (word_head w).0 (refl, refl, refl)
@@ -180,13 +181,13 @@ lined_begins ts h = go (ends_line (head ts).key) refl
 anything : Key → Bool
 anything k = true
 
-limits_readable : ReadsList key.CloseBrace closes_braces anything LinedLimitOf lined_limit_at
+limits_readable : ReadsList key.CloseBrace closes_braces anything (AmongLines (LimitOf true)) lined_limit_at
 unfolding anything
-limits_readable = record { closes = refl; close_follows = refl; comma_goes = refl; comma_follows = refl; begins = λ {a} {b} {ts} {left} q. lined_begins ts (limit_begins q.pair); reads = λ q f. lined_limit_reads q; shrinks = lined_limit_shrinks }
+limits_readable = record { closes = refl; close_follows = refl; comma_goes = refl; comma_follows = refl; begins = λ {a} {b} {ts} {left} q. lined_begins ts (limit_begins q.item); reads = λ q f. lined_limit_reads q; shrinks = lined_limit_shrinks }
 
-times_readable : ReadsList key.CloseBrace closes_braces anything LinedTimeOf lined_time_at
+times_readable : ReadsList key.CloseBrace closes_braces anything (AmongLines (TimeOf true)) lined_time_at
 unfolding anything
-times_readable = record { closes = refl; close_follows = refl; comma_goes = refl; comma_follows = refl; begins = λ {a} {b} {ts} {left} q. lined_begins ts (time_begins q.pair); reads = λ q f. lined_time_reads q; shrinks = lined_time_shrinks }
+times_readable = record { closes = refl; close_follows = refl; comma_goes = refl; comma_follows = refl; begins = λ {a} {b} {ts} {left} q. lined_begins ts (time_begins q.item); reads = λ q f. lined_time_reads q; shrinks = lined_time_shrinks }
 
 -- what begins a pair is no brace
 limits_stay : (d : Drafted) {inside : Bool} {e : Drafted} {ts left : List Tok} → LimitOf inside d ts e left → limits_by d (head ts).key ≡ stay (limit_at false d)
@@ -201,7 +202,7 @@ named_stay d key.OpenBrace name e = absurd cc
 named_stay d _ name e = refl
 
 times_stay : (d : Drafted) {inside : Bool} {e : Drafted} {ts left : List Tok} → TimeOf inside d ts e left → times_by d (head ts).key ≡ stay (time_at false d)
-times_stay d (kept {t = t} name e v) = named_stay d t.key name e
+times_stay d (kept {t = t} name e v) = named_stay d t.key name (named t.key name e)
 times_stay d (frag w v) = rw (word_head w).0 refl
 times_stay d (tsdiff w v) = rw (word_head w).0 refl
 times_stay d (icmp_first w v) = rw (word_head w).0 refl

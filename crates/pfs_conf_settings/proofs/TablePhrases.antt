@@ -4,10 +4,10 @@ use Rattle.std.proofs.lemmas.Bool.{cond-true}
 use Rattle.pfs_conf_tokens.specs.declared.keys.Key.{Key}
 use Rattle.pfs_conf_tokens.specs.declared.keys.Key.TheVariants as key
 use Rattle.pfs_conf_tokens.specs.declared.refusals.Why.TheVariants as why
-use Rattle.pfs_conf_tokens.specs.Tokens.{Tok, head, rest}
-use Rattle.pfs_conf_tokens.specs.Keys.{closes_braces, ends_line, is_word_key}
-use Rattle.pfs_conf_tokens.specs.Grammar.{Word}
-use Rattle.pfs_conf_tokens.specs.Reading.{Act, take, stay, refuse, act, chain, done, once, list_all, skip_lines, skipping}
+use Rattle.pfs_conf_tokens.specs.Tokens.{Tok, head}
+use Rattle.pfs_conf_tokens.specs.Reading.{rest, closes_braces, Act, take, stay, refuse, act, chain, done, once, list_all, skipping}
+use Rattle.pfs_conf_tokens.specs.Keys.{ends_line, is_word_key}
+use Rattle.pfs_conf_tokens.specs.Grammar.{Word, skip_lines}
 use Rattle.pfs_conf_tokens.proofs.Laws.{ok_parts, chain_ok}
 use Rattle.pfs_conf_tokens.proofs.ReaderLaws.{word_head, word_is, list_is, list_reads, ReadsList, no_comma, skip_head, up_to_is, up_to_reads, Reads}
 use Rattle.pfs_conf_tokens.proofs.LineLaws.{skip_stays}
@@ -15,8 +15,8 @@ use Rattle.pfs_addr.specs.Prefixes.{Network}
 use Rattle.pfs_addr.specs.Texts.{prefix_of}
 use Rattle.pfs_conf_rules.specs.Entries.{Entry, sign_of}
 use Rattle.pfs_conf_settings.specs.declared.tables.Parts.{Parts}
-use Rattle.pfs_conf_settings.specs.Tables.{negation_by, negation_at, again, joined, entered, entry_by, entry_at, lined_entry_at, entries_by, entries_at, unless, part_by, part_at, parts_at, no_parts}
-use Rattle.pfs_conf_settings.specs.TableGrammar.{SignOf, plain, negated, Enters, comes, stands, PrefixOf, EntryOf, EntriesOf, none, some, PartOf, persist, constant, counters, entries, PartsOf}
+use Rattle.pfs_conf_settings.specs.Tables.{negation_by, negation_at, again, joined, entered, entry_by, entry_at, lined_entry_at, entries_by, entries_at, unless, part_by, part_at, parts_at}
+use Rattle.pfs_conf_settings.specs.TableGrammar.{no_parts, SignOf, plain, negated, Enters, comes, stands, PrefixOf, EntryOf, EntriesOf, none, some, PartOf, persist, constant, counters, entries, PartsOf}
 use Rattle.pfs_conf_settings.proofs.TableLaws.{lined_entry_shrinks, part_shrinks}
 
 -- ---- is

@@ -3,12 +3,13 @@
 use Rattle.std.specs.Prelude.{◌≡◌, ℕ, Bool, true, false, Some, List, ◌∷◌}
 use Rattle.pfs_conf_tokens.specs.declared.keys.Key.TheVariants as key
 use Rattle.pfs_conf_tokens.specs.Tokens.{Tok}
-use Rattle.pfs_conf_tokens.specs.Grammar.{Word, Number, ListOf}
-use Rattle.pfs_conf_tokens.specs.Reading.{skip_lines}
+use Rattle.pfs_conf_tokens.specs.Keys.{timeout_place}
+use Rattle.pfs_conf_tokens.specs.Grammar.{Word, Number, ListOf, skip_lines}
 use Rattle.pfs_conf_rules.specs.declared.limits.LimitName.TheVariants as limit_name
 use Rattle.pfs_conf_rules.specs.declared.timeouts.TimeoutName.{TimeoutName}
 use Rattle.pfs_conf_rules.specs.Drafts.{Drafted, with_limit, with_timeout}
-use Rattle.pfs_conf_settings.specs.Settings.{timeout_named, least_value, greatest_value}
+use Rattle.pfs_conf_rules.specs.LoadRules.{least_timeout, greatest_timeout}
+use Rattle.pfs_conf_rules.specs.Timeouts.{place_of}
 
 -- a number; in braces behind line ends
 pub data ValueOf (low high : ℕ) : Bool → List Tok → ℕ → List Tok → Type 0 where
@@ -25,27 +26,22 @@ pub data LimitOf (inside : Bool) : Drafted → List Tok → Drafted → List Tok
 
 -- time := TIMENAME NUM, where the timeouts of fragments, of timestamps and of ICMP are not kept
 pub data TimeOf (inside : Bool) : Drafted → List Tok → Drafted → List Tok → Type 0 where
-  kept : {d : Drafted} {t : Tok} {ts left : List Tok} {n : ℕ} (name : TimeoutName) → timeout_named t.key ≡ Some name
-      → ValueOf (least_value name) (greatest_value name) inside ts n left → TimeOf inside d (t ∷ ts) (with_timeout name n d) left
+  kept : {d : Drafted} {t : Tok} {ts left : List Tok} {n : ℕ} (name : TimeoutName) → timeout_place t.key ≡ Some (place_of name)
+      → ValueOf (least_timeout (place_of name)) (greatest_timeout (place_of name)) inside ts n left → TimeOf inside d (t ∷ ts) (with_timeout name n d) left
   frag : {d : Drafted} {ts mid left : List Tok} {n : ℕ} → Word key.Frag ts mid → ValueOf 0 2147483647 inside mid n left → TimeOf inside d ts d left
   tsdiff : {d : Drafted} {ts mid left : List Tok} {n : ℕ} → Word key.TcpTsdiff ts mid → ValueOf 0 2147483647 inside mid n left → TimeOf inside d ts d left
   icmp_first : {d : Drafted} {ts mid left : List Tok} {n : ℕ} → Word key.IcmpFirst ts mid → ValueOf 0 2147483647 inside mid n left → TimeOf inside d ts d left
   icmp_error : {d : Drafted} {ts mid left : List Tok} {n : ℕ} → Word key.IcmpError ts mid → ValueOf 0 2147483647 inside mid n left → TimeOf inside d ts d left
 
--- the same among line ends
-pub record LinedLimitOf (d : Drafted) (ts : List Tok) (e : Drafted) (left : List Tok) : Type 0 where
+-- an item behind line ends, and the line ends behind it
+pub record AmongLines {A : Type 0} (Item : A → List Tok → A → List Tok → Type 0) (a : A) (ts : List Tok) (c : A) (left : List Tok) : Type 0 where
   pub mid : List Tok
-  pub pair : LimitOf true d (skip_lines ts) e mid
-  pub behind : left ≡ skip_lines mid
-
-pub record LinedTimeOf (d : Drafted) (ts : List Tok) (e : Drafted) (left : List Tok) : Type 0 where
-  pub mid : List Tok
-  pub pair : TimeOf true d (skip_lines ts) e mid
+  pub item : Item a (skip_lines ts) c mid
   pub behind : left ≡ skip_lines mid
 
 -- "limit" limit | "limit" "{" list(limit) "}" | "timeout" time | "timeout" "{" list(time) "}"
 pub data SettingOf : Drafted → List Tok → Drafted → List Tok → Type 0 where
   limit : {d e : Drafted} {ts a left : List Tok} → Word key.Limit ts a → LimitOf false d a e left → SettingOf d ts e left
-  limits : {d e : Drafted} {ts a b left : List Tok} → Word key.Limit ts a → Word key.OpenBrace a b → ListOf key.CloseBrace LinedLimitOf d b e left → SettingOf d ts e left
+  limits : {d e : Drafted} {ts a b left : List Tok} → Word key.Limit ts a → Word key.OpenBrace a b → ListOf key.CloseBrace (AmongLines (LimitOf true)) d b e left → SettingOf d ts e left
   timeout : {d e : Drafted} {ts a left : List Tok} → Word key.Timeout ts a → TimeOf false d a e left → SettingOf d ts e left
-  timeouts : {d e : Drafted} {ts a b left : List Tok} → Word key.Timeout ts a → Word key.OpenBrace a b → ListOf key.CloseBrace LinedTimeOf d b e left → SettingOf d ts e left
+  timeouts : {d e : Drafted} {ts a b left : List Tok} → Word key.Timeout ts a → Word key.OpenBrace a b → ListOf key.CloseBrace (AmongLines (TimeOf true)) d b e left → SettingOf d ts e left

@@ -3,13 +3,14 @@ use Rattle.std.specs.Prelude.{ℕ, Bool, true, false, Option, Some, None}
 use Rattle.pfs_conf_tokens.specs.declared.keys.Key.{Key}
 use Rattle.pfs_conf_tokens.specs.declared.keys.Key.TheVariants as key
 use Rattle.pfs_conf_tokens.specs.declared.refusals.Why.TheVariants as why
-use Rattle.pfs_conf_tokens.specs.Keys.{closes_braces}
-use Rattle.pfs_conf_tokens.specs.Reading.{Reader, Act, take, stay, refuse, on_front, done, chain, list_all, skipping, number_at}
+use Rattle.pfs_conf_tokens.specs.Reading.{closes_braces, Reader, Act, take, stay, refuse, on_front, done, chain, list_all, skipping, number_at}
 use Rattle.pfs_conf_rules.specs.declared.limits.LimitName.{LimitName}
 use Rattle.pfs_conf_rules.specs.declared.limits.LimitName.TheVariants as limit
 use Rattle.pfs_conf_rules.specs.declared.timeouts.TimeoutName.{TimeoutName}
 use Rattle.pfs_conf_rules.specs.declared.timeouts.TimeoutName.TheVariants as timeout
 use Rattle.pfs_conf_rules.specs.Drafts.{Drafted, with_limit, with_timeout}
+use Rattle.pfs_conf_rules.specs.LoadRules.{least_timeout, greatest_timeout}
+use Rattle.pfs_conf_rules.specs.Timeouts.{place_of}
 
 -- the timeout that a key names, if it is one of those that are kept
 abbrev pub timeout_named : Key → Option TimeoutName
@@ -51,15 +52,12 @@ limit_by inside d _ = refuse why.Plain
 unfoldable pub limit_at : Bool → Drafted → Reader Drafted
 limit_at inside d ts = on_front (λ t. limit_by inside d t.key) ts
 
--- the least and the greatest value of a timeout: `interval` is at least 1, the adaptive ones count states
+-- the least and the greatest value of a timeout
 abbrev pub least_value : TimeoutName → ℕ
-least_value timeout.Interval = 1
-least_value _ = 0
+least_value name = least_timeout (place_of name)
 
 abbrev pub greatest_value : TimeoutName → ℕ
-greatest_value timeout.AdaptiveStart = 4294967295
-greatest_value timeout.AdaptiveEnd = 4294967295
-greatest_value _ = 2147483647
+greatest_value name = greatest_timeout (place_of name)
 
 -- a timeout: a name and a number; those of fragments, of timestamps and of ICMP are not kept
 abbrev pub unkept : Bool → Drafted → Act Drafted

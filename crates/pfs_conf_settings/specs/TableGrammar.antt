@@ -4,12 +4,10 @@ use Rattle.std.specs.Prelude.{◌≡◌, Bool, true, false, Some, None, List, []
 use Rattle.pfs_conf_tokens.specs.declared.keys.Key.TheVariants as key
 use Rattle.pfs_conf_tokens.specs.Tokens.{Tok}
 use Rattle.pfs_conf_tokens.specs.Keys.{is_word_key}
-use Rattle.pfs_conf_tokens.specs.Grammar.{Word, ListOf, UpTo}
-use Rattle.pfs_conf_tokens.specs.Reading.{skip_lines}
+use Rattle.pfs_conf_tokens.specs.Grammar.{Word, ListOf, UpTo, skip_lines}
 use Rattle.pfs_addr.specs.Prefixes.{Network}
 use Rattle.pfs_addr.specs.Texts.{prefix_of}
 use Rattle.pfs_conf_rules.specs.Entries.{Entry, sign_of}
-use Rattle.pfs_conf_settings.specs.Tables.{no_parts}
 use Rattle.pfs_conf_settings.specs.declared.tables.Parts.{Parts}
 
 -- a sign: `!`, or none
@@ -21,6 +19,10 @@ pub data SignOf : List Tok → Bool → List Tok → Type 0 where
 pub data Enters (entries : List Entry) (negated : Bool) (p : Network) : List Entry → Type 0 where
   comes : sign_of entries p ≡ None → Enters entries negated p (entries ++ (p, negated) ∷ [])
   stands : sign_of entries p ≡ Some negated → Enters entries negated p entries
+
+-- no part
+abbrev pub no_parts : Parts
+no_parts = record { persist = false; is_const = false; counters = false; entries = None }
 
 -- the word of a prefix
 pub record PrefixOf (ts : List Tok) (p : Network) (left : List Tok) : Type 0 where

@@ -4,12 +4,13 @@ use Rattle.pfs_conf_tokens.specs.declared.keys.Key.{Key}
 use Rattle.pfs_conf_tokens.specs.declared.keys.Key.TheVariants as key
 use Rattle.pfs_conf_tokens.specs.declared.refusals.Why.TheVariants as why
 use Rattle.pfs_conf_tokens.specs.Tokens.{Tok}
-use Rattle.pfs_conf_tokens.specs.Keys.{is_word_key, closes_braces, ends_line}
-use Rattle.pfs_conf_tokens.specs.Reading.{Reader, Act, take, stay, refuse, on_front, done, chain, once, list_all, up_to_all, skipping}
+use Rattle.pfs_conf_tokens.specs.Keys.{is_word_key, ends_line}
+use Rattle.pfs_conf_tokens.specs.Reading.{closes_braces, Reader, Act, take, stay, refuse, on_front, done, chain, once, list_all, up_to_all, skipping}
 use Rattle.pfs_addr.specs.Prefixes.{Network}
 use Rattle.pfs_addr.specs.Texts.{prefix_of}
 use Rattle.pfs_conf_rules.specs.Entries.{Entry, sign_of}
 use Rattle.pfs_conf_settings.specs.declared.tables.Parts.{Parts}
+use Rattle.pfs_conf_settings.specs.TableGrammar.{no_parts}
 
 -- whether a `!` stands in front
 abbrev pub negation_by : Key → Act Bool
@@ -65,10 +66,6 @@ part_by p _ = refuse why.Plain
 
 unfoldable pub part_at : Parts → Reader Parts
 part_at p ts = on_front (λ t. part_by p t.key) ts
-
--- no part
-abbrev pub no_parts : Parts
-no_parts = record { persist = false; is_const = false; counters = false; entries = None }
 
 -- the parts up to the line end, which stays
 unfoldable pub parts_at : Reader Parts

@@ -1,8 +1,7 @@
 // What stands behind the word `set`.
 
 ghost use Rattle.std.specs.Prelude.{◌≡◌, ◌≤◌, Some, IfOk};
-ghost use Rattle.pfs_conf_tokens.specs.Keys.{closes_braces};
-ghost use Rattle.pfs_conf_tokens.specs.Reading.{act, number_at, until_all, next_of};
+ghost use Rattle.pfs_conf_tokens.specs.Reading.{closes_braces, act, number_at, until_all, next_of};
 ghost use Rattle.pfs_conf_tokens.specs.Giving.{Gives};
 ghost use Rattle.pfs_conf_settings.specs.Draws.{Draws};
 ghost use Rattle.pfs_conf_settings.specs.Settings.{timeout_named, value_at, least_value, greatest_value, limited, timed, limit_at, time_at, lined_limit_at, lined_time_at, limits_at, times_at, settings_at};

@@ -1,8 +1,8 @@
 // The parts of a table's definition.
 
 ghost use Rattle.std.specs.Prelude.{◌≡◌, []};
-ghost use Rattle.pfs_conf_tokens.specs.Keys.{closes_braces, ends_line};
-ghost use Rattle.pfs_conf_tokens.specs.Reading.{until_all, up_to_all, next_of};
+ghost use Rattle.pfs_conf_tokens.specs.Keys.{ends_line};
+ghost use Rattle.pfs_conf_tokens.specs.Reading.{closes_braces, until_all, up_to_all, next_of};
 ghost use Rattle.pfs_conf_tokens.specs.Giving.{GivesOrMemory};
 ghost use Rattle.pfs_conf_settings.specs.Tables.{entry_at, lined_entry_at, entries_at, part_at, parts_at};
 ghost use Rattle.pfs_conf_settings.specs.Extending.{Extends};

@@ -17,15 +17,20 @@
 -- What follows from it, once for a whole text: reading that stops at a token stops there whatever stands behind that token
 -- (`no_text`), and the tokens before it are told by their keys (`stops_at`).
 use Rattle.std.proofs.Common.{◌≡◌, ℕ, zero, suc, ◌+◌, ◌≤◌, ◌<◌, Bool, true, false, cond, List, [], ◌∷◌, ◌++◌, length, Option, Some, None, Result, Ok, Err, refl, sym, ap, subst, ◌∙◌, arith, inl, inr, ◌⊎◌, length-append}
-use Rattle.pfs_conf_tokens.specs.Tokens.{Tok, head, rest}
+use Rattle.pfs_conf_tokens.specs.Tokens.{Tok, head}
+use Rattle.pfs_conf_tokens.specs.Reading.{rest, Refused, stop, Reader, ◌>>=◌, Act, take, stay, refuse, act, on_front, done, chain, perhaps, once, turns, taken, left_there, until_all, up_to_all, ended_by, ended, judged}
 use Rattle.pfs_conf_tokens.specs.declared.keys.Key.{Key}
 use Rattle.pfs_conf_tokens.specs.declared.keys.Key.TheVariants as key
 use Rattle.pfs_conf_tokens.specs.declared.refusals.Why.{Why}
 use Rattle.pfs_conf_tokens.specs.declared.refusals.Why.TheVariants as why
 use Rattle.pfs_conf_tokens.specs.declared.refusals.LoadRule.{LoadRule}
 use Rattle.pfs_conf_tokens.specs.Keys.{in_line, before_end}
-use Rattle.pfs_conf_tokens.specs.Grammar.{Passes, stays, over, AllKeys, no_keys, a_key}
-use Rattle.pfs_conf_tokens.specs.Reading.{Refused, stop, Reader, ◌>>=◌, Act, take, stay, refuse, act, on_front, done, chain, perhaps, once, turns, taken, left_there, until_all, up_to_all, ended_by, ended, judged}
+use Rattle.pfs_conf_tokens.specs.Grammar.{Passes, stays, over}
+
+-- each of the tokens has a key that passes
+pub data AllKeys (p : Key → Bool) : List Tok → Type 0 where
+  no_keys : AllKeys p []
+  a_key : {t : Tok} {ts : List Tok} → p t.key ≡ true → AllKeys p ts → AllKeys p (t ∷ ts)
 
 -- ---- results
 

@@ -5,10 +5,10 @@ use Rattle.pfs_conf_tokens.specs.Tokens.{Tok, token}
 use Rattle.pfs_conf_tokens.specs.declared.keys.Key.{Key}
 use Rattle.pfs_conf_tokens.specs.declared.keys.Key.TheVariants as key
 use Rattle.pfs_conf_tokens.specs.declared.lexer.Run.TheVariants as run
-use Rattle.pfs_conf_tokens.specs.Words.{key_of}
-use Rattle.pfs_conf_tokens.specs.Lexis.{is_word_byte, mark_key, run_of, is_closed, piece, taken, tokens, in_front, is_space}
+use Rattle.pfs_conf_tokens.specs.Words.{key_of_text}
+use Rattle.pfs_conf_tokens.specs.Lexis.{is_word_byte, mark_key, run_of, is_closed, piece, bytes_behind, tokens, in_front, is_space}
 
-pub word_piece : (line b : ℕ) (bs text word : List ℕ) (k : Key) (n : ℕ) → text ≡ b ∷ bs → is_word_byte b ≡ true → n ≡ run_of run.Word bs → word ≡ take (n + 1) text → k ≡ key_of word → token line k word ≡ piece line b bs
+pub word_piece : (line b : ℕ) (bs text word : List ℕ) (k : Key) (n : ℕ) → text ≡ b ∷ bs → is_word_byte b ≡ true → n ≡ run_of run.Word bs → word ≡ take (n + 1) text → k ≡ key_of_text word → token line k word ≡ piece line b bs
 word_piece line b bs text word k n ht hb hn hw hk =
     let w : word ≡ b ∷ take (run_of run.Word bs) bs = rw (hw, ht, hn, add-one) refl in
     rw (hb, hk, w) refl
@@ -44,9 +44,9 @@ pub tokens_joined : (busy : Bool) (line b : ℕ) (bytes bs : List ℕ) → bytes
 unfolding tokens
 tokens_joined busy line b bytes bs e s h f lt = rw (e, s, h, f) (tokens_skip 1 busy (suc line) bs lt)
 
-pub tokens_piece : (busy : Bool) (line b : ℕ) (bytes bs : List ℕ) → bytes ≡ b ∷ bs → is_space b ≡ false → (b == 10) ≡ false → (b == 35) ≡ false → (b == 92 && in_front 10 bs) ≡ false → taken b bs ≤ length bs → tokens 0 busy line bytes ≡ piece line b bs ∷ tokens 0 true line (drop (taken b bs) bs)
+pub tokens_piece : (busy : Bool) (line b : ℕ) (bytes bs : List ℕ) → bytes ≡ b ∷ bs → is_space b ≡ false → (b == 10) ≡ false → (b == 35) ≡ false → (b == 92 && in_front 10 bs) ≡ false → bytes_behind b bs ≤ length bs → tokens 0 busy line bytes ≡ piece line b bs ∷ tokens 0 true line (drop (bytes_behind b bs) bs)
 unfolding tokens
-tokens_piece busy line b bytes bs e s h1 h2 h3 le = rw e (cond-false (is_space b) _ _ s ∙ (cond-false (b == 10) _ _ h1 ∙ (cond-false (b == 35) _ _ h2 ∙ (cond-false (b == 92 && in_front 10 bs) _ _ h3 ∙ ap (λ (z : List Tok). piece line b bs ∷ z) (tokens_skip (taken b bs) true line bs le)))))
+tokens_piece busy line b bytes bs e s h1 h2 h3 le = rw e (cond-false (is_space b) _ _ s ∙ (cond-false (b == 10) _ _ h1 ∙ (cond-false (b == 35) _ _ h2 ∙ (cond-false (b == 92 && in_front 10 bs) _ _ h3 ∙ ap (λ (z : List Tok). piece line b bs ∷ z) (tokens_skip (bytes_behind b bs) true line bs le)))))
 
 pub tokens_none : (busy : Bool) (line : ℕ) (bytes : List ℕ) → bytes ≡ [] → tokens 0 busy line bytes ≡ cond busy (token line key.LineEnd [] ∷ token line key.End [] ∷ []) (token line key.End [] ∷ [])
 unfolding tokens

@@ -4,4 +4,5 @@ pub mod NumberLaws
 pub mod Laws
 pub mod ReaderLaws
 pub mod ShownLaws
+pub mod WordGroups
 pub mod WordKeys

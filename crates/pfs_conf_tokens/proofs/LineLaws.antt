@@ -1,8 +1,9 @@
 -- Going over line ends.
 use Rattle.std.proofs.Common.{◌≡◌, true, false, List, [], ◌∷◌, refl}
-use Rattle.pfs_conf_tokens.specs.Tokens.{Tok, head, rest}
+use Rattle.pfs_conf_tokens.specs.Tokens.{Tok, head}
+use Rattle.pfs_conf_tokens.specs.Reading.{rest}
 use Rattle.pfs_conf_tokens.specs.Keys.{ends_line}
-use Rattle.pfs_conf_tokens.specs.Reading.{skip_lines}
+use Rattle.pfs_conf_tokens.specs.Grammar.{skip_lines}
 
 -- a line end in front is gone over
 pub skip_over : (ts : List Tok) → ends_line (head ts).key ≡ true → skip_lines (rest ts) ≡ skip_lines ts

@@ -4,15 +4,15 @@
 -- beside its `online`: `x_is`, that what is read is a phrase of the grammar, and `x_reads`, that each phrase is read.
 use Rattle.std.proofs.Common.{◌≡◌, ℕ, zero, suc, ◌≤◌, Bool, true, false, cond, List, [], ◌∷◌, length, Option, Some, None, Result, Ok, refl, sym, ap, subst, ◌∙◌, arith, leb, ◌&&◌}
 use Rattle.std.proofs.lemmas.Bool.{and_parts, leb-true, le-leb}
-use Rattle.pfs_conf_tokens.specs.Tokens.{Tok, head, rest}
+use Rattle.pfs_conf_tokens.specs.Tokens.{Tok, head}
+use Rattle.pfs_conf_tokens.specs.Reading.{rest, ends_text, closes_parens, closes_braces, Refused, Reader, take, stay, refuse, act, done, chain, perhaps, turns, taken, left_there, until_all, up_to_all, comma_by, comma_at, next_of, list_all, ended_by, ended, skipping, number_in, number_by, number_at}
 use Rattle.pfs_conf_tokens.specs.declared.keys.Key.{Key}
 use Rattle.pfs_conf_tokens.specs.declared.keys.Key.TheVariants as key
 use Rattle.pfs_conf_tokens.specs.declared.refusals.Why.TheVariants as why
-use Rattle.pfs_conf_tokens.specs.Keys.{in_line, before_end, ends_line, ends_text, closes_parens, closes_braces, is_word_key, timeout_place}
-use Rattle.pfs_conf_tokens.specs.Numbers.{number_of}
-use Rattle.pfs_conf_tokens.specs.Grammar.{Word, Number, Perhaps, absent, present, Until, ends, goes, UpTo, stands, steps, NextOf, plain, comma, ListOf, Lines, none, more, Passes, stays, over}
-use Rattle.pfs_conf_tokens.specs.Reading.{Refused, Reader, take, stay, refuse, act, done, chain, perhaps, turns, taken, left_there, until_all, up_to_all, comma_by, comma_at, next_of, list_all, ended_by, ended, skip_lines, skipping, number_in, number_by, number_at}
-use Rattle.pfs_conf_tokens.proofs.LineLaws.{skip_over, skip_stays}
+use Rattle.pfs_conf_tokens.specs.Keys.{in_line, before_end, ends_line, is_word_key, timeout_place}
+use Rattle.pfs_conf_tokens.specs.Numbers.{number_written}
+use Rattle.pfs_conf_tokens.specs.Grammar.{Word, Number, Perhaps, absent, present, Until, ends, goes, UpTo, stands, steps, NextOf, plain, comma, ListOf, Passes, stays, over, skip_lines}
+use Rattle.pfs_conf_tokens.proofs.LineLaws.{skip_stays}
 use Rattle.pfs_conf_tokens.proofs.Laws.{passes_then, passes_less, bind_ok, ok_parts, chain_ok, Reach, inside, line, across, stopping, taking, first, Share, here, next, Online, online_done, online_chain, online_front, online_taking, OnlineAct, Taking, Shrinks, chain_shrinks_behind, front_shrinks, online_until_all, until_goes_on, until_stops, up_to_goes_on, up_to_stops}
 
 -- ---- keys
@@ -69,7 +69,7 @@ choose_number low high n true = (refl, online_done n)
 choose_number low high n false = tt
 
 number_taking : (low high : ℕ) (text : List ℕ) (k : Key) → Taking inside k (number_by low high text k)
-number_taking low high text key.Number = within (number_of text)
+number_taking low high text key.Number = within (number_written text)
   where
     within : (o : Option ℕ) → Taking inside key.Number (number_in low high o)
     within None = tt
@@ -162,19 +162,6 @@ online_skipping f h = record {
 pub skipping_shrinks : {A : Type 0} (f : Reader A) → Shrinks f → Shrinks (skipping f)
 skipping_shrinks f s = record { less = λ ts x left e. let l1 = passes_less (lines_passes ts) in let l2 = s.less (skip_lines ts) x left e in omega arith }
 
-pub lines_are : (ts : List Tok) → Lines ts (skip_lines ts)
-unfolding skip_lines
-lines_are [] = none
-lines_are (t ∷ ts) = turn (lines_are ts) (ends_line t.key) refl
-  where
-    turn : Lines ts (skip_lines ts) → (b : Bool) → ends_line t.key ≡ b → Lines (t ∷ ts) (cond b (skip_lines ts) (t ∷ ts))
-    turn h true e = more (t, refl, line_end_key t.key e) h
-    turn h false e = none
-
-pub lines_skip : {ts left : List Tok} → Lines ts left → ends_line (head left).key ≡ false → skip_lines ts ≡ left
-lines_skip {ts = ts} none e = sym (skip_stays ts e)
-lines_skip {ts = ts} (more w l) e = let h = word_head w in sym (skip_over ts (rw h.0 refl)) ∙ (ap skip_lines h.1 ∙ lines_skip l e)
-
 -- ---- words
 
 -- a token that is no end stands in front
@@ -213,7 +200,7 @@ number_is low high [] n left e = absurd cc
 number_is low high (t ∷ ts) n left e = by_key t.key refl e
   where
     by_key : (k : Key) → t.key ≡ k → act (number_by low high t.text k) (t ∷ ts) ≡ Ok (n, left) → Number low high (t ∷ ts) n left
-    by_key key.Number g h = let b = in_bounds low high n (number_of t.text) (t ∷ ts) left h in (t, ap (λ z. t ∷ z) b.3, g, b.0, b.1, b.2)
+    by_key key.Number g h = let b = in_bounds low high n (number_written t.text) (t ∷ ts) left h in (t, ap (λ z. t ∷ z) b.3, g, b.0, b.1, b.2)
     by_key _ g h = absurd cc
 
 pub number_reads : (low high : ℕ) {ts : List Tok} {n : ℕ} {left : List Tok} → Number low high ts n left → number_at low high ts ≡ Ok (n, left)

@@ -17,9 +17,9 @@ use Rattle.pfs_conf_tokens.specs.Tokens.{Tok, token}
 use Rattle.pfs_conf_tokens.specs.declared.keys.Key.{Key}
 use Rattle.pfs_conf_tokens.specs.declared.keys.Key.TheVariants as key
 use Rattle.pfs_conf_tokens.specs.declared.lexer.Run.TheVariants as run
-use Rattle.pfs_conf_tokens.specs.Words.{key_of}
-use Rattle.pfs_conf_tokens.specs.Numbers.{number_of, digits_from, split_around, parts_at}
-use Rattle.pfs_conf_tokens.specs.Lexis.{is_word_byte, is_space, is_mark, mark_key, goes_on, run_of, is_closed, piece, taken, tokens, tokens_of, in_front}
+use Rattle.pfs_conf_tokens.specs.Words.{key_of_text}
+use Rattle.pfs_conf_tokens.specs.Numbers.{number_written, digits_from, split_around, parts_around}
+use Rattle.pfs_conf_tokens.specs.Lexis.{is_word_byte, is_space, is_mark, mark_key, goes_on, run_of, is_closed, piece, bytes_behind, tokens, tokens_of, in_front}
 use Rattle.pfs_conf_tokens.proofs.LexisLaws.{tokens_piece, tokens_space, tokens_line}
 use Rattle.pfs_conf_tokens.proofs.Laws.{HasEnd, end_here, end_behind}
 
@@ -37,7 +37,7 @@ have_end zero busy line (b ∷ bs) =
     if_has (is_space b) _ _ (have_end 0 busy line bs) (
     if_has (b == 10) _ _ (end_behind (have_end 0 false (suc line) bs)) (
     if_has (b == 35) _ _ (have_end (run_of run.Comment bs) busy line bs) (
-    if_has (b == 92 && in_front 10 bs) _ _ (have_end 1 busy (suc line) bs) (end_behind (have_end (taken b bs) true line bs)))))
+    if_has (b == 92 && in_front 10 bs) _ _ (have_end 1 busy (suc line) bs) (end_behind (have_end (bytes_behind b bs) true line bs)))))
 
 -- the tokens of a text have an end
 pub tokens_have_end : (text : List ℕ) → HasEnd (tokens_of text)
@@ -84,20 +84,20 @@ word_plain b more e =
     }
 
 word_from : (busy : Bool) (line b : ℕ) (w more : List ℕ) → is_word_byte b ≡ true → list_all is_word_byte w ≡ true → breaks more ≡ true
-    → tokens 0 busy line (b ∷ (w ++ more)) ≡ token line (key_of (b ∷ w)) (b ∷ w) ∷ tokens 0 true line more
+    → tokens 0 busy line (b ∷ (w ++ more)) ≡ token line (key_of_text (b ∷ w)) (b ∷ w) ∷ tokens 0 true line more
 word_from busy line b w more hb hw hm =
     let n = run_word w more hw hm in
-    let t : taken b (w ++ more) ≡ length w = rw hb n in
-    let le : taken b (w ++ more) ≤ length (w ++ more) = omega (arith, t, length-append w more) in
+    let t : bytes_behind b (w ++ more) ≡ length w = rw hb n in
+    let le : bytes_behind b (w ++ more) ≤ length (w ++ more) = omega (arith, t, length-append w more) in
     let p = word_plain b (w ++ more) hb in
     let one = tokens_piece busy line b (b ∷ (w ++ more)) (w ++ more) refl p.space p.line p.comment p.joined le in
-    let made : piece line b (w ++ more) ≡ token line (key_of (b ∷ w)) (b ∷ w) = rw (hb, n, take_at w more (length w) refl) refl in
-    let left : drop (taken b (w ++ more)) (w ++ more) ≡ more = rw (t, drop_at w more (length w) refl) refl in
+    let made : piece line b (w ++ more) ≡ token line (key_of_text (b ∷ w)) (b ∷ w) = rw (hb, n, take_at w more (length w) refl) refl in
+    let left : drop (bytes_behind b (w ++ more)) (w ++ more) ≡ more = rw (t, drop_at w more (length w) refl) refl in
     one ∙ rw (made, left) refl
 
 -- a word, in front of what ends a word
 pub word_then : (busy : Bool) (line : ℕ) (w more : List ℕ) → is_word_text w ≡ true → breaks more ≡ true
-    → tokens 0 busy line (w ++ more) ≡ token line (key_of w) w ∷ tokens 0 true line more
+    → tokens 0 busy line (w ++ more) ≡ token line (key_of_text w) w ∷ tokens 0 true line more
 word_then busy line [] more h e = absurd cc
 word_then busy line (b ∷ w) more h e = let p = and_parts (is_word_byte b) (list_all is_word_byte w) h in word_from busy line b w more p.0 p.1 e
 
@@ -144,8 +144,8 @@ digits_text : (ds : List ℕ) → all_ascii_digits ds ≡ true → 0 < length ds
 digits_text [] e lt = absurd (omega arith)
 digits_text (c ∷ cs) e lt = digits_word (c ∷ cs) e
 
-digits_key : (ds more : List ℕ) → all_ascii_digits ds ≡ true → 0 < length ds → key_of (ds ++ more) ≡ key.Number
-unfolding key_of
+digits_key : (ds more : List ℕ) → all_ascii_digits ds ≡ true → 0 < length ds → key_of_text (ds ++ more) ≡ key.Number
+unfolding key_of_text
 digits_key [] more e lt = absurd (omega arith)
 digits_key (c ∷ cs) more e lt = let p = and_parts (is_ascii_digit c) (all_ascii_digits cs) e in cond-true (is_ascii_digit c) _ _ p.0
 
@@ -154,12 +154,12 @@ pub decimal_text : (n : ℕ) → n < 2 ^ 64 → is_word_text (decimal n) ≡ tru
 decimal_text n lt = digits_text (decimal n) (digits_decimal own n lt) (decimal_nonempty n lt)
 
 -- a word that begins with a written number has the key of numbers
-pub key_of-decimal : (n : ℕ) (more : List ℕ) → n < 2 ^ 64 → key_of (decimal n ++ more) ≡ key.Number
+pub key_of-decimal : (n : ℕ) (more : List ℕ) → n < 2 ^ 64 → key_of_text (decimal n ++ more) ≡ key.Number
 key_of-decimal n more lt = digits_key (decimal n) more (digits_decimal own n lt) (decimal_nonempty n lt)
 
 -- what is written of a number is read as it
-pub number_of-decimal : (n : ℕ) → n < 10 ^ 10 → number_of (decimal n) ≡ Some n
-unfolding number_of
+pub number_of-decimal : (n : ℕ) → n < 10 ^ 10 → number_written (decimal n) ≡ Some n
+unfolding number_written
 number_of-decimal n lt =
     let small : n < 2 ^ 64 = omega arith in
     let some : 0 < length (decimal n) = decimal_nonempty n small in
@@ -171,7 +171,7 @@ number_of-decimal n lt =
 pub number_then : (busy : Bool) (line n : ℕ) (more : List ℕ) → n < 2 ^ 64 → breaks more ≡ true
     → tokens 0 busy line (decimal n ++ more) ≡ token line key.Number (decimal n) ∷ tokens 0 true line more
 number_then busy line n more lt e =
-    let k : key_of (decimal n) ≡ key.Number = ap key_of (sym (append-nil (decimal n))) ∙ key_of-decimal n [] lt in
+    let k : key_of_text (decimal n) ≡ key.Number = ap key_of_text (sym (append-nil (decimal n))) ∙ key_of-decimal n [] lt in
     word_then busy line (decimal n) more (decimal_text n lt) e ∙ ap (λ (z : Key). token line z (decimal n) ∷ tokens 0 true line more) k
 
 -- ---- the parts of a word
@@ -194,7 +194,7 @@ split_around-append byte front behind e =
     let f : take (length front) text ≡ front = take_at front (byte ∷ behind) (length front) refl in
     let b : drop (length front + 1) text ≡ behind = sym (drop-drop 1 (length front) text) ∙ ap (λ (z : List ℕ). drop 1 z) (drop_at front (byte ∷ behind) (length front) refl) in
     let parts : ◌≡◌ {A = List ℕ × List ℕ} (take (length front) text, drop (length front + 1) text) (front, behind) = rw (f, b) refl in
-    ap (parts_at text) found ∙ ap (λ (z : List ℕ × List ℕ). Some z) parts
+    ap (parts_around text) found ∙ ap (λ (z : List ℕ × List ℕ). Some z) parts
 
 -- ---- marks, spaces, quoted names, line ends
 
@@ -218,7 +218,7 @@ mark_then busy line b more e =
     let p = mark_plain b more e in
     let w = mark_no_word b e in
     let q : (b == 34 && is_closed more) ≡ false = and_left (b == 34) (is_closed more) (mark_no_quote b e) in
-    let t : taken b more ≡ 0 = cond-false (is_word_byte b) _ _ w ∙ cond-false (b == 34 && is_closed more) _ _ q in
+    let t : bytes_behind b more ≡ 0 = cond-false (is_word_byte b) _ _ w ∙ cond-false (b == 34 && is_closed more) _ _ q in
     let made : piece line b more ≡ token line (mark_key b) (b ∷ []) = cond-false (is_word_byte b) _ _ w ∙ cond-false (b == 34 && is_closed more) _ _ q in
     let one = tokens_piece busy line b (b ∷ more) more refl p.space p.line p.comment p.joined (omega (arith, t)) in
     one ∙ rw (made, t) refl
@@ -249,7 +249,7 @@ quoted_then busy line w more h =
     let n : run_of run.Quote bs ≡ length w = run_quote w more h in
     let behind : drop (length w) bs ≡ 34 ∷ more = drop_at w (34 ∷ more) (length w) refl in
     let closed : is_closed bs ≡ true = rw (n, behind) refl in
-    let t : taken 34 bs ≡ suc (length w) = rw (closed, n) refl in
+    let t : bytes_behind 34 bs ≡ suc (length w) = rw (closed, n) refl in
     let long : length bs ≡ length w + suc (length more) = length-append w (34 ∷ more) in
     let one = tokens_piece busy line 34 (34 ∷ bs) bs refl refl refl refl refl (omega (arith, t, long)) in
     let made : piece line 34 bs ≡ token line key.Quoted w = rw (closed, n, take_at w (34 ∷ more) (length w) refl) refl in

@@ -1,9 +1,10 @@
 -- The grammar's own forms: a phrase stands in the tokens, has a value, and leaves the tokens behind it. (own)
-use Rattle.std.specs.Prelude.{◌≡◌, ℕ, ◌≤◌, Bool, true, List, [], ◌∷◌, Option, Some, None}
+use Rattle.std.specs.Prelude.{◌≡◌, ℕ, ◌≤◌, Bool, true, List, [], ◌∷◌, Option, Some, None, if◌then◌else◌}
 use Rattle.pfs_conf_tokens.specs.declared.keys.Key.{Key}
 use Rattle.pfs_conf_tokens.specs.declared.keys.Key.TheVariants as key
 use Rattle.pfs_conf_tokens.specs.Tokens.{Tok, head}
-use Rattle.pfs_conf_tokens.specs.Numbers.{number_of}
+use Rattle.pfs_conf_tokens.specs.Numbers.{number_written}
+use Rattle.pfs_conf_tokens.specs.Keys.{ends_line}
 
 -- one token of a key
 abbrev pub Word : Key → List Tok → List Tok → Type 0
@@ -11,7 +12,7 @@ Word k ts left = (t : Tok) × (ts ≡ t ∷ left) × (t.key ≡ k)
 
 -- a number within bounds
 abbrev pub Number : ℕ → ℕ → List Tok → ℕ → List Tok → Type 0
-Number low high ts n left = (t : Tok) × (ts ≡ t ∷ left) × (t.key ≡ key.Number) × (number_of t.text ≡ Some n) × (low ≤ n) × (n ≤ high)
+Number low high ts n left = (t : Tok) × (ts ≡ t ∷ left) × (t.key ≡ key.Number) × (number_written t.text ≡ Some n) × (low ≤ n) × (n ≤ high)
 
 -- a phrase that may lack
 pub data Perhaps {A : Type 0} (P : List Tok → A → List Tok → Type 0) : List Tok → Option A → List Tok → Type 0 where
@@ -40,17 +41,12 @@ pub record ListOf {A : Type 0} (closer : Key) (Item : A → List Tok → A → L
   pub begins : Item a ts first mid
   pub others : Until closer (NextOf Item) first mid c left
 
--- line ends, or none
-pub data Lines : List Tok → List Tok → Type 0 where
-  none : {ts : List Tok} → Lines ts ts
-  more : {ts mid left : List Tok} → Word key.LineEnd ts mid → Lines mid left → Lines ts left
-
 -- from these tokens on, up to where these are left, each key passes: what lies between is told by its keys
 pub data Passes (p : Key → Bool) : List Tok → List Tok → Type 0 where
   stays : {ts : List Tok} → Passes p ts ts
   over : {t : Tok} {ts left : List Tok} → p t.key ≡ true → Passes p ts left → Passes p (t ∷ ts) left
 
--- each of the tokens has a key that passes
-pub data AllKeys (p : Key → Bool) : List Tok → Type 0 where
-  no_keys : AllKeys p []
-  a_key : {t : Tok} {ts : List Tok} → p t.key ≡ true → AllKeys p ts → AllKeys p (t ∷ ts)
+-- the tokens behind the line ends in front
+unfoldable pub skip_lines : List Tok → List Tok
+skip_lines [] = []
+skip_lines (t ∷ ts) = if ends_line t.key then skip_lines ts else t ∷ ts

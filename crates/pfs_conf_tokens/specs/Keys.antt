@@ -61,19 +61,7 @@ abbrev pub before_end : Key → Bool
 before_end key.End = false
 before_end _ = true
 
--- what ends a line, a text, and what is in braces, parentheses and angle brackets
+-- a line end
 abbrev pub ends_line : Key → Bool
 ends_line key.LineEnd = true
 ends_line _ = false
-
-abbrev pub ends_text : Key → Bool
-ends_text key.End = true
-ends_text _ = false
-
-abbrev pub closes_braces : Key → Bool
-closes_braces key.CloseBrace = true
-closes_braces _ = false
-
-abbrev pub closes_parens : Key → Bool
-closes_parens key.CloseParen = true
-closes_parens _ = false

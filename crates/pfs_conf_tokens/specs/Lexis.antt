@@ -5,7 +5,7 @@ use Rattle.pfs_conf_tokens.specs.declared.keys.Key.TheVariants as key
 use Rattle.pfs_conf_tokens.specs.declared.lexer.Run.{Run}
 use Rattle.pfs_conf_tokens.specs.declared.lexer.Run.TheVariants as run
 use Rattle.pfs_conf_tokens.specs.Tokens.{Tok, token}
-use Rattle.pfs_conf_tokens.specs.Words.{key_of}
+use Rattle.pfs_conf_tokens.specs.Words.{key_of_text}
 
 -- space, tab and carriage return separate tokens
 abbrev pub is_space : ℕ → Bool
@@ -51,13 +51,13 @@ is_closed bs = in_front 34 (drop (run_of run.Quote bs) bs)
 -- the token that begins with b: a word, a quoted string, or b alone
 abbrev pub piece : ℕ → ℕ → List ℕ → Tok
 piece line b bs =
-    if is_word_byte b then (let w = b ∷ take (run_of run.Word bs) bs in token line (key_of w) w)
+    if is_word_byte b then (let w = b ∷ take (run_of run.Word bs) bs in token line (key_of_text w) w)
     else if b == 34 && is_closed bs then token line key.Quoted (take (run_of run.Quote bs) bs)
     else token line (mark_key b) (b ∷ [])
 
 -- how many bytes behind b belong to it
-abbrev pub taken : ℕ → List ℕ → ℕ
-taken b bs =
+abbrev pub bytes_behind : ℕ → List ℕ → ℕ
+bytes_behind b bs =
     if is_word_byte b then run_of run.Word bs
     else if b == 34 && is_closed bs then suc (run_of run.Quote bs)
     else 0
@@ -73,7 +73,7 @@ tokens zero busy line (b ∷ bs) =
     else if b == 10 then token line key.LineEnd [] ∷ tokens 0 false (suc line) bs
     else if b == 35 then tokens (run_of run.Comment bs) busy line bs
     else if b == 92 && in_front 10 bs then tokens 1 busy (suc line) bs
-    else piece line b bs ∷ tokens (taken b bs) true line bs
+    else piece line b bs ∷ tokens (bytes_behind b bs) true line bs
 
 -- the tokens of a text, from line 1 on
 abbrev pub tokens_of : List ℕ → List Tok

@@ -15,21 +15,39 @@
 --     ended x                    the end of the line
 --     skipping f                 reads f behind any line ends
 --     judged rule broken line x  gives x unless the load rule is broken; tells the line then
-use Rattle.std.specs.Prelude.{ℕ, zero, suc, Bool, true, false, List, [], ◌∷◌, length, Option, Some, None, Result, Ok, Err, nat_le, ◌&&◌, if◌then◌else◌}
+use Rattle.std.specs.Prelude.{ℕ, zero, suc, Bool, true, false, List, length, Option, Some, None, Result, Ok, Err, nat_le, ◌&&◌, if◌then◌else◌, [], ◌∷◌}
 use Rattle.pfs_conf_tokens.specs.declared.keys.Key.{Key}
 use Rattle.pfs_conf_tokens.specs.declared.keys.Key.TheVariants as key
 use Rattle.pfs_conf_tokens.specs.declared.refusals.Why.{Why}
 use Rattle.pfs_conf_tokens.specs.declared.refusals.Why.TheVariants as why
 use Rattle.pfs_conf_tokens.specs.declared.refusals.LoadRule.{LoadRule}
-use Rattle.pfs_conf_tokens.specs.Tokens.{Tok, head, rest}
-use Rattle.pfs_conf_tokens.specs.Keys.{ends_line}
-use Rattle.pfs_conf_tokens.specs.Numbers.{number_of}
+use Rattle.pfs_conf_tokens.specs.Tokens.{Tok, head}
+use Rattle.pfs_conf_tokens.specs.Numbers.{number_written}
+use Rattle.pfs_conf_tokens.specs.Grammar.{skip_lines}
 
 -- why nothing is read: no accepted statement goes on with the first of these tokens, or a load rule is broken, by the line
 -- of its statement
 pub data Refused : Type 0 where
   stop : List Tok → Why → Refused
   broken : LoadRule → ℕ → Refused
+
+-- the tokens behind the one in front
+abbrev pub rest : List Tok → List Tok
+rest [] = []
+rest (t ∷ ts) = ts
+
+-- what ends a text, and what is in braces and in parentheses
+abbrev pub ends_text : Key → Bool
+ends_text key.End = true
+ends_text _ = false
+
+abbrev pub closes_braces : Key → Bool
+closes_braces key.CloseBrace = true
+closes_braces _ = false
+
+abbrev pub closes_parens : Key → Bool
+closes_parens key.CloseParen = true
+closes_parens _ = false
 
 -- what reads a value from the tokens that are left
 abbrev pub Reader : Type 0 → Type 0
@@ -113,11 +131,6 @@ ended_by x _ = refuse why.Plain
 abbrev pub ended : {A : Type 0} → A → Reader A
 ended x ts = on_front (λ t. ended_by x t.key) ts
 
--- the tokens behind the line ends in front
-unfoldable pub skip_lines : List Tok → List Tok
-skip_lines [] = []
-skip_lines (t ∷ ts) = if ends_line t.key then skip_lines ts else t ∷ ts
-
 abbrev pub skipping : {A : Type 0} → Reader A → Reader A
 skipping f ts = f (skip_lines ts)
 
@@ -132,7 +145,7 @@ number_in low high None = refuse why.Number
 number_in low high (Some n) = if nat_le low n && nat_le n high then take (done n) else refuse why.Number
 
 abbrev pub number_by : ℕ → ℕ → List ℕ → Key → Act ℕ
-number_by low high text key.Number = number_in low high (number_of text)
+number_by low high text key.Number = number_in low high (number_written text)
 number_by low high text _ = refuse why.Number
 
 unfoldable pub number_at : ℕ → ℕ → Reader ℕ

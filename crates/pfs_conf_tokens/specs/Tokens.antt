@@ -15,8 +15,3 @@ token line k text = record { line = line; key = k; text = text }
 abbrev pub head : List Tok → Tok
 head [] = token 0 key.End []
 head (t ∷ ts) = t
-
--- the tokens behind it
-abbrev pub rest : List Tok → List Tok
-rest [] = []
-rest (t ∷ ts) = ts

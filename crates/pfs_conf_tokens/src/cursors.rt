@@ -1,8 +1,9 @@
 // A place in a rules text: the tokens from there on.
 
 ghost use Rattle.std.specs.Prelude.{◌≡◌, ◌<◌, ◌^◌, length, MatchBool, OnOk, IfErr};
-ghost use Rattle.pfs_conf_tokens.specs.Tokens.{head, rest};
-ghost use Rattle.pfs_conf_tokens.specs.Keys.{ends_line, ends_text, closes_braces, closes_parens};
+ghost use Rattle.pfs_conf_tokens.specs.Tokens.{head};
+ghost use Rattle.pfs_conf_tokens.specs.Reading.{rest, ends_text, closes_braces, closes_parens};
+ghost use Rattle.pfs_conf_tokens.specs.Keys.{ends_line};
 ghost use Rattle.pfs_conf_tokens.specs.Lexis.{tokens_of};
 
 use crate::keys::Key;

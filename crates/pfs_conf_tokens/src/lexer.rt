@@ -1,7 +1,7 @@
 // Tokens from bytes: the first token of a text, and what is left behind it.
 
 ghost use Rattle.std.specs.Prelude.{◌≡◌, ◌+◌, ◌<◌, ◌≤◌, ◌^◌, ◌∷◌, List, [], true, drop, length, IsTrue, MatchOption};
-ghost use Rattle.pfs_conf_tokens.specs.Lexis.{is_mark, mark_key, is_word_byte, is_space, goes_on, run_of, is_closed, piece, taken, tokens, in_front};
+ghost use Rattle.pfs_conf_tokens.specs.Lexis.{is_mark, mark_key, is_word_byte, is_space, goes_on, run_of, is_closed, piece, bytes_behind, tokens, in_front};
 ghost use Rattle.pfs_conf_tokens.specs.Scanning.{scanned};
 
 use crate::keys::Key;
@@ -113,7 +113,7 @@ fn is_closed(bytes: &[u8]) -> bool
 fn piece<'a>(line: u64, text: &'a [u8], b: u8, behind: &'a [u8]) -> (Token<'a>, usize)
     requires { text.now ≡ b ∷ behind.now }
     ensures token { result.0 ≡ piece line b behind.now }
-    ensures taken { result.1 ≡ taken b behind.now }
+    ensures taken { result.1 ≡ bytes_behind b behind.now }
     ensures within { result.1 ≤ length behind.now }
 {
     if is_word_byte(b) {
@@ -142,8 +142,8 @@ fn split_front(bytes: &[u8]) -> Option<(u8, &[u8])>
 /// The token that begins with `b`, and what is left behind it.
 fn scan_piece<'a>(line: u64, text: &'a [u8], b: u8, behind: &'a [u8]) -> Scan<'a>
     requires { text.now ≡ b ∷ behind.now }
-    ensures tokens { scanned result ≡ piece line b behind.now ∷ tokens 0 true line (drop (taken b behind.now) behind.now) }
-    ensures within { taken b behind.now ≤ length behind.now }
+    ensures tokens { scanned result ≡ piece line b behind.now ∷ tokens 0 true line (drop (bytes_behind b behind.now) behind.now) }
+    ensures within { bytes_behind b behind.now ≤ length behind.now }
     ensures room { result.line + length result.rest.now ≤ line + length behind.now }
 {
     let (token, n) = piece(line, text, b, behind);

@@ -1,8 +1,9 @@
 // Numbers, and what stands between the parts of a statement.
 
 ghost use Rattle.std.specs.Prelude.{◌≡◌, ◌<◌, ◌==◌, length, position, IfSome, MatchOption, Some, None};
-ghost use Rattle.pfs_conf_tokens.specs.Numbers.{number_of, split_around};
-ghost use Rattle.pfs_conf_tokens.specs.Reading.{number_at, skip_lines};
+ghost use Rattle.pfs_conf_tokens.specs.Numbers.{number_written, split_around};
+ghost use Rattle.pfs_conf_tokens.specs.Reading.{number_at};
+ghost use Rattle.pfs_conf_tokens.specs.Grammar.{skip_lines};
 ghost use Rattle.pfs_conf_tokens.specs.Giving.{Gives};
 
 use crate::cursors::Cursor;
@@ -10,9 +11,9 @@ use crate::keys::Key;
 use crate::refusals::{Refusal, Why};
 
 /// The number that a text of 1 to 10 decimal digits writes; leading zeros are read. None for any other text.
-#[tactic(auto, unfolding(crate::specs::Numbers::number_of, crate::specs::Numbers::digits_from))]
+#[tactic(auto, unfolding(crate::specs::Numbers::number_written, crate::specs::Numbers::digits_from))]
 pub fn digits(text: &[u8]) -> Option<u64>
-    ensures { result ≡ number_of text.now }
+    ensures { result ≡ number_written text.now }
 {
     if text.is_empty() || text.len() > 10 {
         return None;

@@ -1,7 +1,8 @@
 // Which word has which key.
 
 ghost use Rattle.std.specs.Prelude.{◌≡◌};
-ghost use Rattle.pfs_conf_tokens.specs.Words.{find_word, key_of, starts_with_digit, setting_words, action_words, filter_words, state_words, option_words, tcp_timeout_words, other_timeout_words, protocol_words, service_words, foreign_statement_words, foreign_option_words, foreign_other_words};
+ghost use Rattle.pfs_conf_tokens.specs.Words.{find_word, key_of_text, starts_with_digit};
+ghost use Rattle.pfs_conf_tokens.specs.WordGroups.{key_by_groups, setting_words, action_words, filter_words, state_words, option_words, tcp_timeout_words, other_timeout_words, protocol_words, service_words, foreign_statement_words, foreign_option_words, foreign_other_words};
 
 use crate::keys::Key;
 
@@ -250,9 +251,16 @@ fn starts_with_digit(word: &[u8]) -> bool
 
 /// The key of a word of a rules text, which is given without the bytes around it: `Number` if it begins with a digit,
 /// the word's own key if the grammar has it, `Foreign` if only pf has it, and else `Name`. (pf.conf(5), GRAMMAR)
-#[tactic(auto, unfolding(crate::specs::Words::key_of))]
+#[tactic(auto, using(crate::proofs::WordGroups::key_in_groups))]
 pub fn key_of(word: &[u8]) -> Key
-    ensures { result ≡ key_of word.now }
+    ensures { result ≡ key_of_text word.now }
+{
+    key_by_groups(word)
+}
+
+#[tactic(auto, unfolding(crate::specs::WordGroups::key_by_groups))]
+fn key_by_groups(word: &[u8]) -> Key
+    ensures { result ≡ key_by_groups word.now }
 {
     if starts_with_digit(word) {
         return Key::Number;

@@ -9,7 +9,8 @@ use Rattle.pfs_addr.specs.declared.packets.FlowKey.{FlowKey}
 use Rattle.pfs_conf_rules.specs.Configs.{Conf}
 use Rattle.pfs_track.specs.Scores.{zero_score}
 use Rattle.pfs_track.specs.StatePhases.{completes, is_done, phase_after}
-use Rattle.pfs_track.specs.TcpPhases.{tcp_completes, tcp_completes-once}
+use Rattle.pfs_track.specs.TcpPhases.{tcp_completes}
+use Rattle.pfs_track.specs.PhaseLaws.{tcp_completes-once}
 use Rattle.pfs_track.specs.declared.scores.Score.{Score}
 use Rattle.pfs_track.specs.declared.state_phases.StatePhase.{StatePhase}
 use Rattle.pfs_track.specs.declared.state_phases.StatePhase.TheVariants.{Tcp, Udp, Other}

@@ -1,5 +1,4 @@
-use Rattle.std.specs.Prelude.{ℕ, Bool, true, false, ◌≤◌}
-use Rattle.std.proofs.Common.{lit≤}
+use Rattle.std.specs.Prelude.{ℕ, Bool, true, false}
 use Rattle.pfs_conf_rules.specs.declared.timeouts.TimeoutName.{TimeoutName}
 use Rattle.pfs_conf_rules.specs.declared.timeouts.TimeoutName.TheVariants.{UdpFirst, UdpSingle, UdpMultiple, OtherFirst, OtherSingle, OtherMultiple}
 use Rattle.pfs_track.specs.declared.datagrams.DatagramPhase.{DatagramPhase}
@@ -26,17 +25,6 @@ once_answered Silent = Silent
 once_answered Single = Multiple
 once_answered Multiple = Multiple
 
--- neither lowers it
-once_sent-rises : (t : Traffic) → traffic_number t ≤ traffic_number (once_sent t)
-once_sent-rises Silent = lit≤ tt
-once_sent-rises Single = lit≤ tt
-once_sent-rises Multiple = lit≤ tt
-
-once_answered-rises : (t : Traffic) → traffic_number t ≤ traffic_number (once_answered t)
-once_answered-rises Silent = lit≤ tt
-once_answered-rises Single = lit≤ tt
-once_answered-rises Multiple = lit≤ tt
-
 -- both at MULTIPLE is the stage `multiple`, and else a later packet leaves the stage `single`
 abbrev pub stage_of : Traffic → Traffic → Stage
 stage_of Multiple Multiple = MultipleStage
@@ -53,15 +41,6 @@ first_datagram = record { maker = Single; other = Silent; stage = FirstStage }
 abbrev pub udp_step : DatagramPhase → Bool → DatagramPhase
 udp_step p true = record { maker = once_sent p.maker; other = once_answered p.other; stage = stage_of (once_sent p.maker) (once_answered p.other) }
 udp_step p false = record { maker = once_answered p.maker; other = once_sent p.other; stage = stage_of (once_answered p.maker) (once_sent p.other) }
-
--- no packet lowers what was seen of the maker, nor of the other
-pub udp_step-maker : (p : DatagramPhase) (forward : Bool) → traffic_number p.maker ≤ traffic_number (udp_step p forward).maker
-udp_step-maker p true = once_sent-rises p.maker
-udp_step-maker p false = once_answered-rises p.maker
-
-pub udp_step-other : (p : DatagramPhase) (forward : Bool) → traffic_number p.other ≤ traffic_number (udp_step p forward).other
-udp_step-other p true = once_answered-rises p.other
-udp_step-other p false = once_sent-rises p.other
 
 -- the timeouts of UDP and of the other protocols by their stages (pf.conf(5), OPTIONS, "set timeout")
 abbrev pub udp_slot : Stage → TimeoutName

@@ -1,8 +1,10 @@
 pub mod Datagrams
 pub mod Lifetimes
+pub mod PhaseLaws
 pub mod Protocols
 pub mod Scores
 pub mod StatePhases
+pub mod TcpEstablished
 pub mod TcpLaws
 pub mod TcpPhases
 pub mod TcpRanks

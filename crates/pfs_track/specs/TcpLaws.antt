@@ -1,5 +1,6 @@
-use Rattle.std.specs.Prelude.{Bool, true, false, ◌≡◌, ◌≤◌, ◌||◌}
-use Rattle.std.proofs.Common.{arith, refl, lit≤}
+-- What the rules of TCP ranks keep: no packet lowers a rank, and where the handshake completes both peers are at least at ESTABLISHED.
+use Rattle.std.specs.Prelude.{Bool, true, false, ◌≡◌, ◌≤◌}
+use Rattle.std.proofs.Common.{arith, lit≤}
 use Rattle.std.proofs.lemmas.Bool.{false≢true}
 use Rattle.pfs_addr.specs.declared.flag_sets.Flags.{Flags}
 use Rattle.pfs_track.specs.declared.tcp_ranks.Ends.{Ends}
@@ -110,14 +111,3 @@ peers-complete true flags maker other h =
     let c = acted-completes true flags maker other h in record { both = (c.from, c.to); first = λ b. c.first b.0 b.1 }
 peers-complete false flags maker other h =
     let c = acted-completes false flags other maker h in record { both = (c.to, c.from); first = λ b. c.first b.1 b.0 }
-
--- after a handshake that completes now or has completed, both ranks are at least at ESTABLISHED
-pub peers_established : (complete forward : Bool) (flags : Flags) (maker other : TcpRank)
-    → (complete ≡ true → IsEstablished maker × IsEstablished other)
-    → (complete || (peers_after forward flags maker other).completes) ≡ true
-    → IsEstablished (peers_after forward flags maker other).maker × IsEstablished (peers_after forward flags maker other).other
-peers_established true forward flags maker other were h =
-    let rise = peers-rise forward flags maker other in
-    let before = were refl in
-    (omega (arith, rise.first, before.0), omega (arith, rise.second, before.1))
-peers_established false forward flags maker other were h = (peers-complete forward flags maker other h).both

@@ -81,7 +81,8 @@ impl Phases for Tcp {
     type Phase = TcpPhase;
 
     ghost use Rattle.std.specs.Prelude.{refl};
-    ghost use Rattle.pfs_track.specs.TcpPhases.{first_tcp, tcp_step, tcp_completes, tcp_step-maker, tcp_step-other, tcp_completes-once, tcp_step-complete};
+    ghost use Rattle.pfs_track.specs.TcpPhases.{first_tcp, tcp_step, tcp_completes};
+    ghost use Rattle.pfs_track.specs.PhaseLaws.{tcp_step-maker, tcp_step-other, tcp_completes-once, tcp_step-complete};
     ghost use Rattle.pfs_track.specs.TcpRanks.{rank_number};
 
     ghost first = { first_tcp };
@@ -126,7 +127,8 @@ impl Phases for Udp {
 
     ghost use Rattle.std.specs.Prelude.{false, refl};
     ghost use Rattle.std.proofs.lemmas.Bool.{false≢true};
-    ghost use Rattle.pfs_track.specs.Datagrams.{first_datagram, udp_step, udp_slot, traffic_number, udp_step-maker, udp_step-other};
+    ghost use Rattle.pfs_track.specs.Datagrams.{first_datagram, udp_step, udp_slot, traffic_number};
+    ghost use Rattle.pfs_track.specs.PhaseLaws.{udp_step-maker, udp_step-other};
 
     ghost first = { first_datagram };
 
@@ -174,7 +176,8 @@ impl Phases for Other {
 
     ghost use Rattle.std.specs.Prelude.{false, refl};
     ghost use Rattle.std.proofs.lemmas.Bool.{false≢true};
-    ghost use Rattle.pfs_track.specs.Datagrams.{first_datagram, udp_step, other_slot, traffic_number, udp_step-maker, udp_step-other};
+    ghost use Rattle.pfs_track.specs.Datagrams.{first_datagram, udp_step, other_slot, traffic_number};
+    ghost use Rattle.pfs_track.specs.PhaseLaws.{udp_step-maker, udp_step-other};
 
     ghost first = { first_datagram };
 

@@ -1,5 +1,6 @@
 use Rattle.std.proofs.Common.{ℕ, List, subst, sym}
-use Rattle.pfs_conf.specs.Reads.{Reads, IsFault}
+use Rattle.pfs_conf.specs.Reads.{Reads}
+use Rattle.pfs_conf.specs.Faults.{IsFault}
 use Rattle.pfs_cli.specs.Checks.{RefusesText}
 use Rattle.pfs_cli.proofs.Checking.{kept-told}
 use Rattle.pfs_cli.proofs.Replaying.{kept-reads}

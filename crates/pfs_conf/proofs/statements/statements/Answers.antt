@@ -1,6 +1,6 @@
 use Rattle.std.proofs.Common.{sym, ◌∙◌}
 use Rattle.std.proofs.lemmas.Result.{err_from_is_err_and}
-use Rattle.pfs_conf_tokens.specs.Keys.{ends_text}
+use Rattle.pfs_conf_tokens.specs.Reading.{ends_text}
 use Rattle.pfs_conf_tokens.proofs.Laws.{up_to_goes_on, up_to_stops}
 use Rattle.pfs_conf.specs.Reading.{statement_at, statements_at}
 use Rattle.pfs_conf.proofs.OnlineLaws.{online_statement, statement_shrinks}

@@ -1,6 +1,5 @@
 use Rattle.std.proofs.Common.{◌≡◌, length}
-use Rattle.pfs_conf_tokens.specs.Keys.{ends_text}
-use Rattle.pfs_conf_tokens.specs.Reading.{up_to_all}
+use Rattle.pfs_conf_tokens.specs.Reading.{ends_text, up_to_all}
 use Rattle.pfs_conf.specs.Statements.{nothing}
 use Rattle.pfs_conf.specs.Reading.{statement_at}
 use Rattle.pfs_conf.specs.Giving.{IsInOrder}

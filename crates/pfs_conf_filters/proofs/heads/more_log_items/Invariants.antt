@@ -1,6 +1,5 @@
 use Rattle.std.proofs.Common.{◌≡◌, length}
-use Rattle.pfs_conf_tokens.specs.Keys.{closes_parens}
-use Rattle.pfs_conf_tokens.specs.Reading.{until_all, next_of}
+use Rattle.pfs_conf_tokens.specs.Reading.{closes_parens, until_all, next_of}
 use Rattle.pfs_conf_filters.specs.Reading.{log_item_at}
 use Rattle.pfs_conf_filters.proofs.heads.more_log_items.Given as goal
 

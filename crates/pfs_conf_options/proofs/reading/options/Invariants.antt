@@ -1,6 +1,5 @@
 use Rattle.std.proofs.Common.{◌≡◌, length}
-use Rattle.pfs_conf_tokens.specs.Keys.{closes_parens}
-use Rattle.pfs_conf_tokens.specs.Reading.{until_all, next_of, list_all}
+use Rattle.pfs_conf_tokens.specs.Reading.{closes_parens, until_all, next_of, list_all}
 use Rattle.pfs_conf_options.specs.Reading.{option_at}
 use Rattle.pfs_conf_options.proofs.reading.options.Given as goal
 

@@ -1,6 +1,5 @@
 use Rattle.std.proofs.Common.{sym, ◌∙◌}
-use Rattle.pfs_conf_tokens.specs.Keys.{closes_braces}
-use Rattle.pfs_conf_tokens.specs.Reading.{next_of}
+use Rattle.pfs_conf_tokens.specs.Reading.{closes_braces, next_of}
 use Rattle.pfs_conf_tokens.specs.Giving.{refused}
 use Rattle.pfs_conf_tokens.proofs.Laws.{until_goes_on, until_stops, until_fails}
 use Rattle.pfs_conf_settings.specs.Settings.{lined_limit_at}

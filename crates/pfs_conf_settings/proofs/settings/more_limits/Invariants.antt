@@ -1,6 +1,5 @@
 use Rattle.std.proofs.Common.{◌≡◌, length}
-use Rattle.pfs_conf_tokens.specs.Keys.{closes_braces}
-use Rattle.pfs_conf_tokens.specs.Reading.{until_all, next_of}
+use Rattle.pfs_conf_tokens.specs.Reading.{closes_braces, until_all, next_of}
 use Rattle.pfs_conf_settings.specs.Settings.{lined_limit_at}
 use Rattle.pfs_conf_settings.proofs.settings.more_limits.Given as goal
 

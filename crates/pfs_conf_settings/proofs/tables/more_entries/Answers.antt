@@ -1,7 +1,6 @@
 use Rattle.std.proofs.Common.{sym, ◌∙◌, Err, subst, Result, List}
 use Rattle.pfs_conf_tokens.specs.Tokens.{Tok}
-use Rattle.pfs_conf_tokens.specs.Keys.{closes_braces}
-use Rattle.pfs_conf_tokens.specs.Reading.{next_of, Refused}
+use Rattle.pfs_conf_tokens.specs.Reading.{closes_braces, next_of, Refused}
 use Rattle.pfs_conf_tokens.proofs.Laws.{until_goes_on, until_stops}
 use Rattle.pfs_conf_rules.specs.Entries.{Entry}
 use Rattle.pfs_conf_settings.specs.Extending.{Extends}

@@ -1,6 +1,5 @@
 use Rattle.std.proofs.Common.{◌≡◌, length}
-use Rattle.pfs_conf_tokens.specs.Keys.{closes_braces}
-use Rattle.pfs_conf_tokens.specs.Reading.{until_all, next_of}
+use Rattle.pfs_conf_tokens.specs.Reading.{closes_braces, until_all, next_of}
 use Rattle.pfs_conf_settings.specs.Tables.{lined_entry_at}
 use Rattle.pfs_conf_settings.proofs.tables.more_entries.Given as goal
 

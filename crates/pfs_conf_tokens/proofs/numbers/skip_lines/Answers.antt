@@ -1,5 +1,5 @@
 use Rattle.std.proofs.Common.{sym, ap, ◌∙◌}
-use Rattle.pfs_conf_tokens.specs.Reading.{skip_lines}
+use Rattle.pfs_conf_tokens.specs.Grammar.{skip_lines}
 use Rattle.pfs_conf_tokens.proofs.LineLaws.{skip_over, skip_stays}
 use Rattle.pfs_conf_tokens.proofs.numbers.skip_lines.Goals as goal
 

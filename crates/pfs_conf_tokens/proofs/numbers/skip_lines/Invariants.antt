@@ -1,5 +1,5 @@
 use Rattle.std.proofs.Common.{◌≡◌, length}
-use Rattle.pfs_conf_tokens.specs.Reading.{skip_lines}
+use Rattle.pfs_conf_tokens.specs.Grammar.{skip_lines}
 use Rattle.pfs_conf_tokens.proofs.numbers.skip_lines.Given as goal
 
 abbrev pub invariant-loop-cursor : goal.invariant-loop-cursor

@@ -3,7 +3,7 @@ use Rattle.std.proofs.Props.{props}
 use Rattle.pfs_addr.specs.declared.flag_sets.Flags.{Flags}
 use Rattle.pfs_conf_rules.specs.declared.timeouts.TimeoutName.{TimeoutName}
 use Rattle.pfs_track.proofs.tcp_phases.TcpPhase.step.Goals as goal
-use Rattle.pfs_track.specs.TcpLaws.{peers_established}
+use Rattle.pfs_track.specs.TcpEstablished.{peers_established}
 use Rattle.pfs_track.specs.TcpPhases.{tcp_peers, tcp_step}
 use Rattle.pfs_track.specs.TcpRanks.{IsEstablished, tcp_timeout}
 use Rattle.pfs_track.specs.declared.tcp_phases.TcpPhase.{TcpPhase}

@@ -1,0 +1,36 @@
+-- Which words begin once more what the parameters have already: these are told as a repeat. (own)
+use Rattle.std.specs.Prelude.{Bool, false, is_some}
+use Rattle.pfs_conf_tokens.specs.declared.keys.Key.{Key}
+use Rattle.pfs_conf_tokens.specs.declared.keys.Key.TheVariants as key
+use Rattle.pfs_conf_filters.specs.declared.phrases.Verb.{Verb}
+use Rattle.pfs_conf_filters.specs.declared.phrases.Verb.TheVariants as verb
+use Rattle.pfs_conf_filters.specs.declared.phrases.Parameters.{Parameters}
+use Rattle.pfs_conf_filters.specs.Sides.{gives_ports}
+
+-- whether a word begins a part that the parameters have already
+abbrev pub repeats : Parameters → Key → Bool
+repeats p key.In = is_some p.head.dir
+repeats p key.Out = is_some p.head.dir
+repeats p key.Log = p.head.marks.log
+repeats p key.Quick = p.head.marks.quick
+repeats p key.On = is_some p.head.on
+repeats p key.Inet = is_some p.head.family
+repeats p key.Proto = is_some p.head.proto
+repeats p key.All = p.hosts.all
+repeats p key.From = is_some p.hosts.from
+repeats p key.To = is_some p.hosts.to
+repeats p key.Port = gives_ports p.hosts
+repeats p _ = false
+
+abbrev pub policed : Verb → Bool
+policed verb.Pass = false
+policed (verb.Block p) = p
+
+-- whether a word says once more how a packet is blocked
+abbrev pub repeats_policy : Verb → Key → Bool
+repeats_policy v key.Drop = policed v
+repeats_policy v key.Return = policed v
+repeats_policy v key.ReturnRst = policed v
+repeats_policy v key.ReturnIcmp = policed v
+repeats_policy v key.ReturnIcmp6 = policed v
+repeats_policy v _ = false
