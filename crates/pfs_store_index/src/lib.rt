@@ -1,6 +1,7 @@
 //! The store that finds what it holds by indexes: a packet's cost does not grow with what is held.
 #![tactic(auto)]
 
+mod expiring;
 mod flushing;
 mod indexes;
 mod limits;
