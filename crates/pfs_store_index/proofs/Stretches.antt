@@ -1,12 +1,12 @@
 -- A stretch of a slice: states that stay, one after another, and then one that leaves.
-use Rattle.std.proofs.Common.{◌≡◌, ◌∙◌, ◌+◌, ◌<◌, ◌≤◌, ◌==◌, ◌&&◌, ◌||◌, ℕ, Bool, true, false, not, if◌then◌else◌, Some, None, List, [], ◌∷◌, ◌++◌, length, map, filter, take, drop, nat_lt, refl, ap, sym, subst, arith, length-take, length-drop, take-add, drop-drop}
+use Rattle.std.proofs.Common.{◌≡◌, ◌∙◌, ◌+◌, ◌-◌, ◌<◌, ◌≤◌, ◌==◌, ◌&&◌, ◌||◌, ℕ, Bool, true, false, not, if◌then◌else◌, Option, Some, None, List, [], ◌∷◌, ◌++◌, length, map, filter, take, drop, nat_lt, refl, ap, sym, subst, arith, length-take, length-drop, take-add, drop-drop}
 use Rattle.std.specs.List.{AllByRecursion}
 use Rattle.std.proofs.lemmas.Bool.Decides.{nat_tests}
 use Rattle.pfs_store_plain.specs.Leaving.{other_than}
 use Rattle.pfs_store_plain.specs.Purging.{is_among, state_numbers}
 use Rattle.pfs_store_plain.specs.declared.records.State.{State}
 use Rattle.pfs_store_records.specs.Records.{between}
-use Rattle.pfs_store_records.specs.Walks.{IsWalk}
+use Rattle.pfs_store_records.specs.Walks.{IsLeaver, IsNext, IsWalk}
 use Rattle.pfs_store_index.specs.Rounds.{waiting}
 use Rattle.pfs_store_index.proofs.Leavings.{state_number}
 use Rattle.pfs_store_index.proofs.Walks.{IsRisingBy, all-in, all-next, at_next, filter-twice, same_number, stay_more, stays_by, step-stays, survive-removed, survives}
@@ -43,33 +43,35 @@ pub record IsStretch (leaves : State → Bool) (above most cursor examined : ℕ
   pub to : cursor ≤ most
 
 -- none of them leaves
-pub stretch-stays : (leaves : State → Bool) (above most share stayed last : ℕ) (xs : List State) → IsWalk leaves xs above most share stayed last None
-    → IsStretch leaves above most last stayed xs xs
-stretch-stays leaves above most share stayed last xs w = record {
+pub stretch-stays : (leaves : State → Bool) (above most share stayed last : ℕ) (o : Option State) (xs : List State) → o ≡ None
+    → IsWalk leaves xs above most share stayed last o → IsStretch leaves above most last stayed xs xs
+stretch-stays leaves above most share stayed last o xs q w = record {
   stay = passed-stay leaves above last (state_numbers xs) xs w.stay ∙ ap (λ zs. filter (stays_by state_number leaves zs) xs) w.passed;
   rest = w.rest;
   to = w.to;
 }
 
--- and the last one leaves
-pub stretch-leaves : (leaves : State → Bool) (above most share stayed last : ℕ) (s : State) (xs xs' : List State) → IsRisingBy state_number xs
-    → IsWalk leaves xs above most share stayed last (Some s) → xs' ≡ filter (other_than s.number) xs → IsStretch leaves above most s.number (stayed + 1) xs xs'
-stretch-leaves leaves above most share stayed last s xs xs' r w e =
+-- the last one leaves
+pub stretch-leaves : (leaves : State → Bool) (above most share stayed last : ℕ) (o : Option State) (s : State) (xs xs' : List State) → o ≡ Some s
+    → IsRisingBy state_number xs → IsWalk leaves xs above most share stayed last o → xs' ≡ filter (other_than s.number) xs
+    → IsStretch leaves above most s.number (stayed + 1) xs xs'
+stretch-leaves leaves above most share stayed last o s xs xs' q r w e =
     let ws = waiting above most (state_numbers xs) in
+    let n : IsNext leaves xs last most stayed share s = subst (IsLeaver leaves xs last most stayed share) q w.leaver in
     let before : xs ≡ filter (stays_by state_number leaves (take stayed ws)) xs =
     passed-stay leaves above last (state_numbers xs) xs w.stay ∙ ap (λ zs. filter (stays_by state_number leaves zs) xs) w.passed in
-    let x = at_next stayed s.number ws (waiting last most (state_numbers xs)) w.rest w.leaver.next in
-    let f : xs' ≡ filter (survives state_number leaves s.number) xs = e ∙ survive-removed state_number leaves s.number s xs r w.leaver.found w.leaver.passes in
+    let x = at_next stayed s.number ws (waiting last most (state_numbers xs)) w.rest n.next in
+    let f : xs' ≡ filter (survives state_number leaves s.number) xs = e ∙ survive-removed state_number leaves s.number s xs r n.found n.passes in
     record {
       stay = step-stays state_number leaves s.number stayed ws xs xs xs' before f x.taken;
       rest = ap (λ ys. waiting s.number most (state_numbers ys)) f ∙ all-next state_number leaves last most s.number _ xs r x.first;
-      to = (all-in state_number last most s.number xs w.leaver.next).most;
+      to = (all-in state_number last most s.number xs n.next).most;
     }
 
 -- ---- how many are examined
 
-pub passed-fewer : (stayed : ℕ) (passed ws : List ℕ) → stayed ≡ length passed → passed ≡ take stayed ws → stayed ≤ length ws
-passed-fewer stayed passed ws c p = omega (arith, c, ap length p, length-take stayed ws)
+passed_fewer : (stayed : ℕ) (passed ws : List ℕ) → stayed ≡ length passed → passed ≡ take stayed ws → stayed ≤ length ws
+passed_fewer stayed passed ws c p = omega (arith, c, ap length p, length-take stayed ws)
 
 is_less : (n m : ℕ) → nat_lt n m ≡ true → n < m
 is_less n m h = grind (arith, nat_tests)
@@ -77,15 +79,22 @@ is_less n m h = grind (arith, nat_tests)
 is_not_less : (n m : ℕ) → nat_lt n m ≡ false → m ≤ n
 is_not_less n m h = grind (arith, nat_tests)
 
--- where none leaves, all that the share allows are examined
-pub all-passed : (share stayed : ℕ) (ws zs : List ℕ) → stayed ≤ share → stayed ≤ length ws → zs ≡ drop stayed ws → (stayed < share → zs ≡ []) → stayed ≡ length (take share ws)
-all-passed share stayed ws zs s w e h = go (nat_lt stayed share) refl
+all_passed : (share stayed : ℕ) (ws zs : List ℕ) → stayed ≤ share → stayed ≤ length ws → zs ≡ drop stayed ws → (stayed < share → zs ≡ []) → stayed ≡ length (take share ws)
+all_passed share stayed ws zs s w e h = go (nat_lt stayed share) refl
   where
     go : (b : Bool) → nat_lt stayed share ≡ b → stayed ≡ length (take share ws)
     go true t =
         let l = is_less stayed share t in
         omega (arith, l, w, ap length (h l), ap length e, length-drop stayed ws, length-take share ws)
     go false t = omega (arith, s, w, is_not_less stayed share t, length-take share ws)
+
+-- where none leaves, all that the share allows are examined
+pub all-passed : (leaves : State → Bool) (above most share stayed last : ℕ) (o : Option State) (xs : List State) → o ≡ None
+    → IsWalk leaves xs above most share stayed last o → stayed ≡ length (take share (waiting above most (state_numbers xs)))
+all-passed leaves above most share stayed last o xs q w =
+    all_passed share stayed (waiting above most (state_numbers xs)) (waiting last most (state_numbers xs)) w.within
+    (passed_fewer stayed (waiting above last (state_numbers xs)) (waiting above most (state_numbers xs)) w.count w.passed) w.rest
+    (subst (IsLeaver leaves xs last most stayed share) q w.leaver)
 
 -- ---- one stretch after another
 

@@ -9,6 +9,7 @@ ghost use Rattle.pfs_store_plain.specs.Leaving.{idled};
 ghost use Rattle.pfs_store_plain.specs.Plain.{AreCounts};
 ghost use Rattle.pfs_store_plain.specs.Purging.{is_over, node_numbers, node_retention, node_stays, round, share, state_numbers, stays};
 ghost use Rattle.pfs_store_records.specs.Records.{IsRising};
+ghost use Rattle.pfs_store_records.specs.Walks.{IsWalk, looks_of};
 ghost use Rattle.pfs_store_index.specs.Stored.{IsNumbered, is_due};
 ghost use Rattle.pfs_store_index.specs.Rounds.{node_survives, states_survive, waiting};
 
@@ -17,7 +18,7 @@ use crate::indexes::Indexes;
 use pfs_addr::Meter;
 use pfs_conf_rules::{Config, StateOptions, TimeoutName};
 use pfs_store_plain::NodeScope;
-use pfs_store_records::Tally;
+use pfs_store_records::{Tally, Walk};
 use std::hash::BuildHasher;
 
 /// What has a number above the cursor, and up to the mark, is still to be examined.
@@ -147,28 +148,48 @@ fn examine<S: BuildHasher>(
     ensures looks { meter.new ≡ meter.old + result.examined }
 {
     let _count = indexes.state_count();
+    let walk = walk_to_due(indexes, counts, round, share, held, now, meter);
+    let stayed = walk.stayed;
+    match walk.leaver {
+        Some(state) => {
+            let cursor = state.number;
+            indexes.take_out(state, now);
+            Stretch {
+                cursor,
+                examined: stayed + 1,
+                left: share - stayed - 1,
+            }
+        }
+        None => Stretch {
+            cursor: walk.last,
+            examined: stayed,
+            left: 0,
+        },
+    }
+}
+
+/// Walks over the next states of a round, so many at most, up to the first that has expired.
+fn walk_to_due<S: BuildHasher>(
+    indexes: &Indexes<S>,
+    counts: &[u64],
+    round: Round,
+    share: u64,
+    held: u64,
+    now: u64,
+    meter: &mut Meter,
+) -> Walk
+    requires order { round.cursor ≤ round.mark }
+    requires room { meter.old + share < 2 ^ 64 }
+    ensures walk { IsWalk (is_due indexes.now.config counts.now held now) indexes.now.states round.cursor round.mark share result.stayed result.last result.leaver }
+    ensures looks { meter.new ≡ meter.old + looks_of result.stayed result.leaver }
+{
     let test = Due {
         config: indexes.config(),
         counts,
         held,
         now,
     };
-    let walk = indexes.walk(round.cursor, round.mark, share, &test, meter);
-    match walk.leaver {
-        Some(state) => {
-            indexes.take_out(state, now);
-            Stretch {
-                cursor: state.number,
-                examined: walk.stayed + 1,
-                left: share - walk.stayed - 1,
-            }
-        }
-        None => Stretch {
-            cursor: walk.last,
-            examined: walk.stayed,
-            left: 0,
-        },
-    }
+    indexes.walk(round.cursor, round.mark, share, &test, meter)
 }
 
 // ---- nodes
