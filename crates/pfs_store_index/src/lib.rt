@@ -4,6 +4,7 @@
 mod expiring;
 mod flushing;
 mod indexes;
+mod laws;
 mod limits;
 mod placing;
 mod purging;
@@ -11,4 +12,5 @@ mod stepping;
 mod store;
 mod tallying;
 
+pub use laws::looks_are_counted;
 pub use store::IndexStore;
