@@ -10,5 +10,6 @@ mod Searches
 mod Sources
 mod Stands
 mod Storing
+mod Stretches
 mod Tying
 mod Walks

@@ -141,7 +141,7 @@ among-push (m ∷ ns) n k = go (m == k) (among-push ns n k)
     go true h = refl
     go false h = h
 
-stay_more : (a b e : Bool) → (not (a && e) && not (b && e)) ≡ not ((a || b) && e)
+pub stay_more : (a b e : Bool) → (not (a && e) && not (b && e)) ≡ not ((a || b) && e)
 stay_more true b true = refl
 stay_more true true false = refl
 stay_more true false false = refl

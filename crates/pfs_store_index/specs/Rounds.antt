@@ -2,6 +2,7 @@
 use Rattle.std.specs.Prelude.{ℕ, ◌==◌, ◌&&◌, not, Bool, List, filter, map}
 use Rattle.pfs_addr.specs.declared.addresses.Addr.{Addr}
 use Rattle.pfs_store_plain.specs.Counts.{is_of_source}
+use Rattle.pfs_store_plain.specs.Purging.{is_among}
 use Rattle.pfs_store_plain.specs.declared.records.Node.{Node}
 use Rattle.pfs_store_plain.specs.declared.records.State.{State}
 use Rattle.pfs_store_records.specs.Records.{between}
@@ -17,6 +18,10 @@ waiting_of source above most states = map (λ (s : State). s.number) (filter (λ
 -- a state, or a node, stays when one number is examined: it has another, or does not leave
 abbrev pub state_survives : (State → Bool) → ℕ → State → Bool
 state_survives leaves n s = not ((n == s.number) && leaves s)
+
+-- a state stays when these numbers are examined
+abbrev pub states_survive : (State → Bool) → List ℕ → State → Bool
+states_survive leaves examined s = not (is_among examined s.number && leaves s)
 
 abbrev pub node_survives : (Node → Bool) → ℕ → Node → Bool
 node_survives leaves n node = not ((n == node.number) && leaves node)

@@ -12,6 +12,7 @@ ghost use Rattle.pfs_store_plain.specs.Purging.{node_numbers, state_numbers};
 ghost use Rattle.pfs_store_plain.specs.Touching.{completes_at, nodes_touched, renewed, touch_of};
 ghost use Rattle.pfs_store_plain.specs.Worlds.{IsUpToNow, holds_number, lists, number_of, rule_in, state_with};
 ghost use Rattle.pfs_store_records.specs.Records.{IsAbove, IsRising, placed_at};
+ghost use Rattle.pfs_store_records.specs.Walks.{IsWalk, looks_of};
 ghost use Rattle.pfs_store_index.specs.Holdings.{IsUncompleted};
 ghost use Rattle.pfs_store_index.specs.Rounds.{waiting, waiting_of};
 ghost use Rattle.pfs_store_index.specs.Ties.{HasRule, entry_of};
@@ -22,7 +23,7 @@ use crate::tallying::{leave, meet};
 use pfs_addr::{Addr, FlowKey, Meter, NoMemory, Packet};
 use pfs_conf_rules::{Config, RuleNo, Scope};
 use pfs_store_plain::{Node, NodeScope, State, StateNo, Touched};
-use pfs_store_records::{Nodes, Records, Tally};
+use pfs_store_records::{Nodes, Records, StateTest, Tally, Walk};
 use std::alloc::{AllocError, Global};
 use std::collections::{BTreeSet, HashMap};
 use std::hash::BuildHasher;
@@ -215,6 +216,24 @@ impl<S: BuildHasher> Indexes<S> {
         ensures looks { meter.new ≡ meter.old + 1 }
     {
         self.records.read(number, meter)
+    }
+
+    /// Walks over the states whose numbers are above one and up to another, from the least on: over at most so many of them,
+    /// and up to the first that passes the test. Each is one look.
+    pub(crate) fn walk<T: StateTest>(
+        &self,
+        above: u64,
+        most: u64,
+        share: u64,
+        test: &T,
+        meter: &mut Meter,
+    ) -> Walk
+        requires range { above ≤ most }
+        requires room { meter.old + share < 2 ^ 64 }
+        ensures walk { IsWalk (T.passes test.now) self.now.states above most share result.stayed result.last result.leaver }
+        ensures looks { meter.new ≡ meter.old + looks_of result.stayed result.leaver }
+    {
+        self.records.walk(above, most, share, test, meter)
     }
 
     /// A state comes, and with it the node of its source where its rule tracks sources and the source has none. `NoMemory`

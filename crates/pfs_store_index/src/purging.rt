@@ -1,6 +1,6 @@
 //! The walks of the purge: a slice of the round of the states, and a slice of that of the nodes.
 
-ghost use Rattle.std.specs.Prelude.{◌≡◌, ◌+◌, ◌-◌, ◌<◌, ◌≤◌, ◌^◌, ◌==◌, ◌&&◌, Some, drop, filter, length, map, nat_le, slice_index, take, true};
+ghost use Rattle.std.specs.Prelude.{◌≡◌, ◌+◌, ◌-◌, ◌<◌, ◌≤◌, ◌^◌, ◌==◌, ◌&&◌, Some, drop, filter, length, map, nat_le, take, true};
 ghost use Rattle.std.specs.List.{find};
 ghost use Rattle.pfs_conf_rules.specs.Configs.{rule_retention, timeout_of};
 ghost use Rattle.pfs_conf_rules.specs.declared.timeouts.TimeoutName.TheVariants as timeout;
@@ -8,17 +8,17 @@ ghost use Rattle.pfs_store_plain.specs.Counts.{node_states};
 ghost use Rattle.pfs_store_plain.specs.Leaving.{idled};
 ghost use Rattle.pfs_store_plain.specs.Plain.{AreCounts};
 ghost use Rattle.pfs_store_plain.specs.Purging.{is_over, node_numbers, node_retention, node_stays, round, share, state_numbers, stays};
-ghost use Rattle.pfs_store_plain.specs.Worlds.{holds_number};
 ghost use Rattle.pfs_store_records.specs.Records.{IsRising};
+ghost use Rattle.pfs_store_records.specs.Walks.{IsWalk, looks_of};
 ghost use Rattle.pfs_store_index.specs.Stored.{IsNumbered, is_due};
-ghost use Rattle.pfs_store_index.specs.Rounds.{node_survives, state_survives, waiting};
+ghost use Rattle.pfs_store_index.specs.Rounds.{node_survives, states_survive, waiting};
 
+use crate::expiring::Due;
 use crate::indexes::Indexes;
 use pfs_addr::Meter;
 use pfs_conf_rules::{Config, StateOptions, TimeoutName};
-use pfs_store_plain::{NodeScope, State};
-use pfs_store_records::Tally;
-use pfs_track::{is_expired, lifetime};
+use pfs_store_plain::NodeScope;
+use pfs_store_records::{Tally, Walk};
 use std::hash::BuildHasher;
 
 /// What has a number above the cursor, and up to the mark, is still to be examined.
@@ -36,10 +36,19 @@ pub(crate) struct Steps {
     pub(crate) removed: u64,
 }
 
+/// What a walk did up to a state that left: up to where it went, how many it examined, and how many more it may examine.
+#[derive(Debug, Clone, Copy, PartialEq, Eq)]
+struct Stretch {
+    cursor: u64,
+    examined: u64,
+    left: u64,
+}
+
 /// How many a slice examines, where at most so many are held.
 pub(crate) fn share_of(config: &Config, limit: u64) -> u64
     requires { limit < 2 ^ 32 }
-    ensures { result ≡ share limit (timeout_of config.now timeout.Interval) }
+    ensures value { result ≡ share limit (timeout_of config.now timeout.Interval) }
+    ensures most { result ≤ 2 ^ 32 }
 {
     1 + limit / config.timeout(TimeoutName::Interval)
 }
@@ -75,7 +84,7 @@ pub(crate) fn walk_states<S: BuildHasher>(
     meter: &mut Meter,
 ) -> Steps
     requires order { round.cursor ≤ round.mark }
-    requires few { length indexes.old.states ≤ 1000000000 }
+    requires share { share ≤ 2 ^ 32 }
     requires room { meter.old ≤ 2 ^ 63 }
     requires counts { AreCounts counts.now indexes.old.states }
     requires size { length counts.now ≡ length indexes.old.config.items }
@@ -93,13 +102,16 @@ pub(crate) fn walk_states<S: BuildHasher>(
     let held = indexes.state_count();
     let mut cursor = round.cursor;
     let mut examined = 0;
-    while examined < share {
-        let Some(number) = indexes.next_between(cursor, round.mark) else {
-            break;
+    let mut left = share;
+    while left > 0 {
+        let rest = Round {
+            cursor,
+            mark: round.mark,
         };
-        examine(indexes, counts, number, held, now, meter);
-        cursor = number;
-        examined += 1;
+        let stretch = examine(indexes, counts, rest, left, held, now, meter);
+        cursor = stretch.cursor;
+        examined += stretch.examined;
+        left = stretch.left;
     }
     Steps {
         cursor,
@@ -108,46 +120,76 @@ pub(crate) fn walk_states<S: BuildHasher>(
     }
 }
 
-/// Examines the state of a number: it leaves where it has expired.
+/// Examines the next states of a round, so many at most, in one walk up to the first that has expired, which leaves.
 fn examine<S: BuildHasher>(
     indexes: &mut Indexes<S>,
     counts: &[u64],
-    number: u64,
+    round: Round,
+    share: u64,
     held: u64,
     now: u64,
     meter: &mut Meter,
-)
-    requires held { holds_number indexes.old.states number ≡ true }
-    requires room { meter.old < 2 ^ 64 - 1 }
+) -> Stretch
+    requires order { round.cursor ≤ round.mark }
+    requires some { 0 < share }
+    requires room { meter.old + share < 2 ^ 64 }
     ensures config { indexes.new.config ≡ indexes.old.config }
-    ensures states { indexes.new.states ≡ filter (state_survives (is_due indexes.old.config counts.now held now) number) indexes.old.states }
+    ensures states { indexes.new.states
+        ≡ filter (states_survive (is_due indexes.old.config counts.now held now) (take result.examined (waiting round.cursor round.mark (state_numbers indexes.old.states)))) indexes.old.states }
     ensures nodes { indexes.new.nodes ≡ map (idled indexes.old.config indexes.old.states indexes.new.states now) indexes.old.nodes }
-    ensures looks { meter.new ≡ meter.old + 1 }
-    ensures rising { IsRising (state_numbers indexes.old.states) }
+    ensures waiting { waiting result.cursor round.mark (state_numbers indexes.new.states)
+        ≡ drop result.examined (waiting round.cursor round.mark (state_numbers indexes.old.states)) }
+    ensures order { result.cursor ≤ round.mark }
+    ensures within { result.examined ≤ length (waiting round.cursor round.mark (state_numbers indexes.old.states)) }
+    ensures share { result.examined + result.left ≤ share }
+    ensures less { result.left < share }
+    ensures goes { 0 < result.left → result.examined + result.left ≡ share }
+    ensures ends { result.left ≡ 0 → result.examined ≡ length (take share (waiting round.cursor round.mark (state_numbers indexes.old.states))) }
+    ensures looks { meter.new ≡ meter.old + result.examined }
 {
     let _count = indexes.state_count();
-    let state = indexes.read(number, meter);
-    if is_due(indexes.config(), counts, held, &state, now) {
-        indexes.take_out(state, now);
+    let walk = walk_to_due(indexes, counts, round, share, held, now, meter);
+    let stayed = walk.stayed;
+    match walk.leaver {
+        Some(state) => {
+            let cursor = state.number;
+            indexes.take_out(state, now);
+            Stretch {
+                cursor,
+                examined: stayed + 1,
+                left: share - stayed - 1,
+            }
+        }
+        None => Stretch {
+            cursor: walk.last,
+            examined: stayed,
+            left: 0,
+        },
     }
 }
 
-fn is_due(config: &Config, counts: &[u64], held: u64, state: &State, now: u64) -> bool
-    ensures { result ≡ is_due config.now counts.now held now state.now }
+/// Walks over the next states of a round, so many at most, up to the first that has expired.
+fn walk_to_due<S: BuildHasher>(
+    indexes: &Indexes<S>,
+    counts: &[u64],
+    round: Round,
+    share: u64,
+    held: u64,
+    now: u64,
+    meter: &mut Meter,
+) -> Walk
+    requires order { round.cursor ≤ round.mark }
+    requires room { meter.old + share < 2 ^ 64 }
+    ensures walk { IsWalk (is_due indexes.now.config counts.now held now) indexes.now.states round.cursor round.mark share result.stayed result.last result.leaver }
+    ensures looks { meter.new ≡ meter.old + looks_of result.stayed result.leaver }
 {
-    let count = count_at(counts, state.rule.0 as usize);
-    let seconds = lifetime(config, state.rule, state.phase, count, held);
-    is_expired(seconds, state.last, now)
-}
-
-fn count_at(counts: &[u64], place: usize) -> u64
-    ensures { result ≡ slice_index counts.now place }
-{
-    if place < counts.len() {
-        counts[place]
-    } else {
-        0
-    }
+    let test = Due {
+        config: indexes.config(),
+        counts,
+        held,
+        now,
+    };
+    indexes.walk(round.cursor, round.mark, share, &test, meter)
 }
 
 // ---- nodes

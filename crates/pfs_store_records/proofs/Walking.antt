@@ -270,6 +270,7 @@ is-walk passes slab es left above last most share stayed leaver k w s l = record
   from = w.from;
   to = w.to;
   stay = stay-states passes slab above last es k.placed w.stay;
+  count = rw numbers length_is;
   passed = rw (numbers, split, length_is) (sym (take-front (filter (between above last) (keys_of es)) (filter (between last most) (keys_of es))));
   rest = rw (numbers, split, length_is) (sym (drop-front (filter (between above last) (keys_of es)) (filter (between last most) (keys_of es))));
   within = s;

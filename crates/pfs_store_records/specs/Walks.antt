@@ -1,6 +1,6 @@
 -- A walk over the records in a range of numbers, from the least on: up to the first whose state passes a test, or to a share
 -- of them. (own)
-use Rattle.std.specs.Prelude.{◌≡◌, ℕ, ◌+◌, ◌<◌, ◌≤◌, ◌==◌, Bool, true, false, Option, Some, None, List, [], filter, slice_get, take, drop}
+use Rattle.std.specs.Prelude.{◌≡◌, ℕ, ◌+◌, ◌<◌, ◌≤◌, ◌==◌, Bool, true, false, Option, Some, None, List, [], filter, length, slice_get, take, drop}
 use Rattle.std.specs.List.{AllByRecursion, find}
 use Rattle.pfs_store_plain.specs.Purging.{state_numbers}
 use Rattle.pfs_store_plain.specs.declared.records.State.{State}
@@ -23,6 +23,7 @@ pub record IsWalk (test : State → Bool) (states : List State) (above most shar
   pub from : above ≤ last
   pub to : last ≤ most
   pub stay : AllByRecursion (λ (s : State). between above last s.number ≡ true → test s ≡ false) states
+  pub count : stayed ≡ length (filter (between above last) (state_numbers states))
   pub passed : filter (between above last) (state_numbers states) ≡ take stayed (filter (between above most) (state_numbers states))
   pub rest : filter (between last most) (state_numbers states) ≡ drop stayed (filter (between above most) (state_numbers states))
   pub within : stayed ≤ share

@@ -9,8 +9,10 @@ use crate::tallied::Tallied;
 use pfs_addr::Packet;
 use pfs_conf::{Config, load};
 use pfs_engine::{Engine, Event, Outcome, What};
+use pfs_store::IndexStore;
 use pfs_store_plain::{PlainStore, Store};
 use std::alloc::{AllocGlobal, Global};
+use std::hash::{BuildHasherDefault, FoldHasher};
 use std::process::Abort;
 use std::test::Fail;
 
@@ -31,6 +33,17 @@ pub fn plain(alloc: Global, first: &[u8], rules: &[u8]) -> Result<Engine<PlainSt
     Ok(Engine::new(alloc, config, store)?)
 }
 
+/// An engine over a store by indexes.
+pub fn indexed(
+    alloc: Global,
+    first: &[u8],
+    rules: &[u8],
+) -> Result<Engine<IndexStore<BuildHasherDefault<FoldHasher>>>, Fail> {
+    let config = configured(alloc, first, rules)?;
+    let store = IndexStore::new(alloc, &config)?;
+    Ok(Engine::new(alloc, config, store)?)
+}
+
 /// An engine over a plain store whose changes are counted.
 pub fn tallied(
     alloc: Global,
@@ -48,7 +61,9 @@ pub fn tell(rt: &(impl Abort + AllocGlobal), first: &[u8], case: &Case) -> Resul
     let script = Script::of(alloc, case.rows)?;
     ends(rt, plain(alloc, first, case.rules)?, &script, case)?;
     ends(rt, tallied(alloc, first, case.rules)?, &script, case)?;
-    runs(rt, plain(alloc, first, case.rules)?, &script, case)
+    ends(rt, indexed(alloc, first, case.rules)?, &script, case)?;
+    runs(rt, plain(alloc, first, case.rules)?, &script, case)?;
+    runs(rt, indexed(alloc, first, case.rules)?, &script, case)
 }
 
 /// Tells each case, without a shorter life under load.

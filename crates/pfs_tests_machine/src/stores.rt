@@ -8,6 +8,7 @@ use crate::packets::{A1, A2, ACK, SYN, SYN_ACK, Sent, packet};
 use crate::tallied::Tallied;
 use pfs_addr::{Addr, FlowKey, Meter, Packet};
 use pfs_conf::{Config, RuleNo};
+use pfs_store::IndexStore;
 use pfs_store_plain::{Limit, PlainStore, Slice, StateNo, Store, Touched};
 use pfs_track::Score;
 use std::process::Abort;
@@ -272,7 +273,8 @@ fn tell(rt: &(impl Abort + AllocGlobal), rules: &[u8], rows: &[Row]) -> Result<(
     let mut tallied = Tallied::new(PlainStore::new(alloc, &config)?);
     follow(rt, &mut tallied, &config, rows)?;
     assert_eq!(rt; tallied.calls, all_changes(rows));
-    Ok(())
+    let mut indexed = IndexStore::new(alloc, &config)?;
+    follow(rt, &mut indexed, &config, rows)
 }
 
 const NUMBERED: &[Row] = &[

@@ -1,10 +1,10 @@
 //! How much work a packet is, and a lapse of time.
 
-use crate::engines::{UNSCALED, held, pass_time, plain, take};
-use crate::packets::{A1, A2, SYN, Sent, packet};
+use crate::engines::{UNSCALED, held, indexed, pass_time, plain, take};
+use crate::packets::{A1, A2, ACK, SYN, SYN_ACK, Sent, packet};
 use pfs_addr::Addr;
 use pfs_conf::RuleNo;
-use pfs_engine::{Engine, Outcome, Work};
+use pfs_engine::{Added, Engine, Limit, Outcome, Work};
 use pfs_store_plain::Store;
 use std::process::Abort;
 use std::test::Fail;
@@ -24,30 +24,43 @@ enum Step {
     Packet(Sent, Addr, u16, Outcome),
 }
 
-// What comes, and the work of it: visits, slices, the most states and the most nodes of one slice.
-type Row = (Step, [u64; 4]);
+// What comes, and the work of it: visits, looks, slices, the most states and the most nodes of one slice.
+type Row = (Step, [u64; 5]);
 
-fn work_of(row: &[u64; 4]) -> Work {
+// The work of a row, over a store that counts looks or over one that does not
+fn work_of(row: &[u64; 5], counts: bool) -> Work {
     Work {
         visits: row[0],
-        looks: 0,
-        slices: row[1],
-        most_states: row[2],
-        most_nodes: row[3],
+        looks: if counts { row[1] } else { 0 },
+        slices: row[2],
+        most_states: row[3],
+        most_nodes: row[4],
     }
 }
 
-// Rules, what comes, and what is held in the end
+// Rules, what comes, and what is held in the end, over each kind of store
 fn works(
     rt: &(impl Abort + AllocGlobal),
     rules: &[u8],
     rows: &[Row],
     end: (u64, u64, u64),
 ) -> Result<(), Fail> {
-    let mut engine = plain(rt.alloc(), UNSCALED, rules)?;
-    assert_eq!(rt; engine.work(), work_of(&[0, 0, 0, 0]));
+    let alloc = rt.alloc();
+    follow(rt, plain(alloc, UNSCALED, rules)?, rows, false, end)?;
+    follow(rt, indexed(alloc, UNSCALED, rules)?, rows, true, end)
+}
+
+fn follow<S: Store + Drop>(
+    rt: &impl Abort,
+    engine: Engine<S>,
+    rows: &[Row],
+    counts: bool,
+    end: (u64, u64, u64),
+) -> Result<(), Fail> {
+    let mut engine = engine;
+    assert_eq!(rt; engine.work(), work_of(&[0; 5], counts));
     for (step, work) in rows {
-        act(rt, &mut engine, step, work)?;
+        act(rt, &mut engine, step, work_of(work, counts))?;
     }
     assert_eq!(rt; held(&engine), end);
     Ok(())
@@ -57,7 +70,7 @@ fn act<S: Store>(
     rt: &impl Abort,
     engine: &mut Engine<S>,
     step: &Step,
-    wanted: &[u64; 4],
+    wanted: Work,
 ) -> Result<(), Fail> {
     match *step {
         Step::Until(time) => {
@@ -69,7 +82,7 @@ fn act<S: Store>(
             assert_eq!(rt; take(rt, engine, &packet)?, outcome);
         }
     }
-    assert_eq!(rt; engine.work(), work_of(wanted));
+    assert_eq!(rt; engine.work(), wanted);
     Ok(())
 }
 
@@ -88,26 +101,26 @@ pass in proto udp no state
 ";
 
 const PATHS: &[Row] = &[
-    (Step::Until(0), [0, 0, 0, 0]),
+    (Step::Until(0), [0, 0, 0, 0, 0]),
     (
         Step::Packet(UDP, A1, 1, Outcome::Pass(Some(RuleNo(2)))),
-        [3, 0, 0, 0],
+        [3, 0, 0, 0, 0],
     ),
     (
         Step::Packet(Sent::Tcp(22, SYN), A1, 1, Outcome::Pass(Some(RuleNo(7)))),
-        [7, 0, 0, 0],
+        [7, 0, 0, 0, 0],
     ),
     (
         Step::Packet(Sent::Tcp(80, SYN), A1, 1, Outcome::Pass(Some(RuleNo(5)))),
-        [8, 0, 0, 0],
+        [8, 0, 0, 0, 0],
     ),
     (
         Step::Packet(Sent::Udp(99), A1, 1, Outcome::Pass(Some(RuleNo(8)))),
-        [7, 0, 0, 0],
+        [7, 0, 0, 0, 0],
     ),
     (
         Step::Packet(Sent::Out(53), A1, 1, Outcome::Block(RuleNo(0))),
-        [4, 0, 0, 0],
+        [4, 0, 0, 0, 0],
     ),
 ];
 
@@ -117,10 +130,10 @@ fn a_packet_visits_the_items_on_its_path(rt: HostRuntime) -> Result<(), Fail> {
 }
 
 const HELD: &[Row] = &[
-    (Step::Until(7), [0, 0, 0, 0]),
-    (Step::Packet(UDP, A1, 1, NEW), [1, 0, 0, 0]),
-    (Step::Packet(UDP, A1, 1, STATE), [0, 0, 0, 0]),
-    (Step::Packet(UDP, A1, 1, STATE), [0, 0, 0, 0]),
+    (Step::Until(7), [0, 0, 0, 0, 0]),
+    (Step::Packet(UDP, A1, 1, NEW), [1, 0, 0, 0, 0]),
+    (Step::Packet(UDP, A1, 1, STATE), [0, 1, 0, 0, 0]),
+    (Step::Packet(UDP, A1, 1, STATE), [0, 1, 0, 0, 0]),
 ];
 
 #[test]
@@ -128,21 +141,98 @@ fn a_packet_of_a_held_state_visits_nothing(rt: HostRuntime) -> Result<(), Fail> 
     works(&rt, b"pass in proto udp all", HELD, (1, 0, 0))
 }
 
+const FIRST: Sent = Sent::Tcp(80, SYN);
+
+const SECOND: Sent = Sent::Answer(SYN_ACK);
+
+const THIRD: Sent = Sent::Tcp(80, ACK);
+
+// The second connection of the source is killed alone, and a third state is one too many
+const KILLED: &[Row] = &[
+    (Step::Until(0), [0, 0, 0, 0, 0]),
+    (Step::Packet(FIRST, A1, 1, NEW), [1, 0, 0, 0, 0]),
+    (Step::Packet(SECOND, A1, 1, STATE), [0, 1, 0, 0, 0]),
+    (Step::Packet(THIRD, A1, 1, STATE), [0, 1, 0, 0, 0]),
+    (Step::Packet(FIRST, A1, 2, NEW), [1, 0, 0, 0, 0]),
+    (Step::Packet(SECOND, A1, 2, STATE), [0, 1, 0, 0, 0]),
+    (
+        Step::Packet(FIRST, A2, 1, Outcome::Drop(RuleNo(0), Limit::Max)),
+        [1, 0, 0, 0, 0],
+    ),
+    (Step::Packet(THIRD, A1, 2, ALONE), [0, 2, 0, 0, 0]),
+];
+
+const ALONE: Outcome = Outcome::Kill {
+    rule: RuleNo(0),
+    conn: true,
+    rate: false,
+    overload: None,
+    killed: 1,
+};
+
+const SHAKEN: Outcome = Outcome::State(RuleNo(2));
+
+// With it leave the other states of its source, and at no state of another source is looked
+const FLUSHED: &[Row] = &[
+    (Step::Until(0), [0, 0, 0, 0, 0]),
+    (
+        Step::Packet(UDP, A1, 9, Outcome::New(RuleNo(1))),
+        [3, 0, 0, 0, 0],
+    ),
+    (
+        Step::Packet(UDP, A2, 9, Outcome::New(RuleNo(1))),
+        [3, 0, 0, 0, 0],
+    ),
+    (
+        Step::Packet(FIRST, A1, 1, Outcome::New(RuleNo(2))),
+        [3, 0, 0, 0, 0],
+    ),
+    (Step::Packet(SECOND, A1, 1, SHAKEN), [0, 1, 0, 0, 0]),
+    (Step::Packet(THIRD, A1, 1, SHAKEN), [0, 1, 0, 0, 0]),
+    (
+        Step::Packet(FIRST, A1, 2, Outcome::New(RuleNo(2))),
+        [3, 0, 0, 0, 0],
+    ),
+    (Step::Packet(SECOND, A1, 2, SHAKEN), [0, 1, 0, 0, 0]),
+    (Step::Packet(THIRD, A1, 2, ALL), [0, 4, 0, 0, 0]),
+    (
+        Step::Packet(FIRST, A1, 3, Outcome::Block(RuleNo(0))),
+        [1, 0, 0, 0, 0],
+    ),
+];
+
+const ALL: Outcome = Outcome::Kill {
+    rule: RuleNo(2),
+    conn: true,
+    rate: false,
+    overload: Some(Added::New),
+    killed: 3,
+};
+
+#[test]
+fn a_packet_looks_at_its_state_and_at_those_it_kills(rt: HostRuntime) -> Result<(), Fail> {
+    let rules = b"pass in proto tcp to any port 80 keep state (max 2, max-src-conn 1)";
+    works(&rt, rules, KILLED, (1, 1, 0))?;
+    let rules = b"block quick from <bad>\npass in proto udp all\n\
+        pass in proto tcp to any port 80 keep state (max-src-conn 1, overload <bad> flush global)";
+    works(&rt, rules, FLUSHED, (1, 1, 1))
+}
+
 // Six states and four nodes may be held: a slice examines at most two states and one node. The
 // first moment purges nothing
 const SHARES: &[Row] = &[
-    (Step::Until(100), [0, 0, 0, 0]),
-    (Step::Packet(UDP, A1, 1, NEW), [1, 0, 0, 0]),
-    (Step::Packet(UDP, A2, 1, NEW), [1, 0, 0, 0]),
-    (Step::Packet(UDP, A1, 2, NEW), [1, 0, 0, 0]),
-    (Step::Packet(UDP, A2, 2, NEW), [1, 0, 0, 0]),
-    (Step::Packet(UDP, A1, 3, NEW), [1, 0, 0, 0]),
-    (Step::Packet(UDP, A2, 3, NEW), [1, 0, 0, 0]),
-    (Step::Until(100), [0, 0, 0, 0]),
-    (Step::Until(101), [0, 2, 2, 1]),
-    (Step::Until(103), [0, 4, 2, 1]),
-    (Step::Until(200), [0, 194, 2, 1]),
-    (Step::Until(210), [0, 20, 0, 0]),
+    (Step::Until(100), [0, 0, 0, 0, 0]),
+    (Step::Packet(UDP, A1, 1, NEW), [1, 0, 0, 0, 0]),
+    (Step::Packet(UDP, A2, 1, NEW), [1, 0, 0, 0, 0]),
+    (Step::Packet(UDP, A1, 2, NEW), [1, 0, 0, 0, 0]),
+    (Step::Packet(UDP, A2, 2, NEW), [1, 0, 0, 0, 0]),
+    (Step::Packet(UDP, A1, 3, NEW), [1, 0, 0, 0, 0]),
+    (Step::Packet(UDP, A2, 3, NEW), [1, 0, 0, 0, 0]),
+    (Step::Until(100), [0, 0, 0, 0, 0]),
+    (Step::Until(101), [0, 2, 2, 2, 1]),
+    (Step::Until(103), [0, 2, 4, 2, 1]),
+    (Step::Until(200), [0, 2, 194, 2, 1]),
+    (Step::Until(210), [0, 0, 20, 0, 0]),
 ];
 
 #[test]
@@ -153,15 +243,15 @@ fn a_slice_examines_at_most_its_share(rt: HostRuntime) -> Result<(), Fail> {
 }
 
 const EMPTY: &[Row] = &[
-    (Step::Until(0), [0, 0, 0, 0]),
-    (Step::Until(4_294_967_295), [0, 8_589_934_590, 0, 0]),
+    (Step::Until(0), [0, 0, 0, 0, 0]),
+    (Step::Until(4_294_967_295), [0, 0, 8_589_934_590, 0, 0]),
 ];
 
 // A state that lives for 60 seconds leaves
 const ONE_STATE: &[Row] = &[
-    (Step::Until(0), [0, 0, 0, 0]),
-    (Step::Packet(UDP, A1, 1, NEW), [1, 0, 0, 0]),
-    (Step::Until(4_294_967_295), [0, 8_589_934_590, 1, 0]),
+    (Step::Until(0), [0, 0, 0, 0, 0]),
+    (Step::Packet(UDP, A1, 1, NEW), [1, 0, 0, 0, 0]),
+    (Step::Until(4_294_967_295), [0, 1, 8_589_934_590, 1, 0]),
 ];
 
 #[test]

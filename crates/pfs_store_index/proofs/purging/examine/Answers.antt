@@ -1,27 +1,43 @@
-use Rattle.std.proofs.Common.{◌≡◌, ◌∙◌, Some, sym, ap, filter, subst}
-use Rattle.std.specs.List.{find}
-use Rattle.pfs_conf_rules.specs.Configs.{Conf}
-use Rattle.pfs_store_index.specs.Stored.{is_due}
+use Rattle.std.proofs.Common.{◌≡◌, ◌∙◌, ◌+◌, ◌≤◌, sym, ap, subst, filter}
 use Rattle.pfs_store_plain.specs.Leaving.{other_than}
+use Rattle.pfs_store_plain.specs.Purging.{state_numbers}
+use Rattle.pfs_store_plain.specs.declared.records.State.{State}
+use Rattle.pfs_store_index.specs.Rounds.{waiting}
+use Rattle.pfs_store_index.specs.Stored.{is_due}
 use Rattle.pfs_store_index.proofs.Idling.{idled-same}
-use Rattle.pfs_store_index.proofs.Leavings.{state_number}
-use Rattle.pfs_store_index.proofs.Walks.{found-number, has_number, survive-kept, survive-removed}
+use Rattle.pfs_store_index.proofs.Stretches.{IsStretch, all-passed, stretch-leaves, stretch-stays}
 use Rattle.pfs_store_index.proofs.purging.examine.Goals as goal
 
-pub take_out-requires : goal.take_out-requires
-take_out-requires g c =
-    let f = c.read-state.ensures.value in
-    subst (λ k. find (has_number state_number k) c.args.indexes.now.states ≡ Some c.read-state.result) (sym (found-number state_number c.args.number c.read-state.result c.args.indexes.now.states f)) f
+stretch : (g : _) (c : goal.After-take_out g)
+    → IsStretch (is_due c.args.indexes.now.config c.args.counts.now c.args.held c.args.now) c.args.round.cursor c.args.round.mark c.in-Some.state.number (c.walk_to_due-walk.result.stayed + 1)
+    c.args.indexes.now.states c.take_out.new.self.states
+stretch g c =
+    let k = c.walk_to_due-walk.result in
+    let xs = c.args.indexes.now.states in
+    stretch-leaves (is_due c.args.indexes.now.config c.args.counts.now c.args.held c.args.now) c.args.round.cursor c.args.round.mark c.args.share k.stayed k.last k.leaver c.in-Some.state xs c.take_out.new.self.states c.in-Some.is c.state_count-count.ensures.rising c.walk_to_due-walk.ensures.walk
+    (c.take_out.ensures.states ∙ ap (λ (s : State). filter (other_than s.number) xs) c.in-Some.state-is)
 
-pub returns-then-is_due-clause-states : goal.returns-then-is_due-clause-states
-returns-then-is_due-clause-states g c =
-    let f = c.read-state.ensures.value in
-    c.take_out.ensures.states ∙ ap (λ n. filter (other_than n) c.args.indexes.now.states) (found-number state_number c.args.number c.read-state.result c.args.indexes.now.states f)
-    ∙ survive-removed state_number (is_due c.args.indexes.now.config c.args.counts.now c.args.held c.args.now) c.args.number c.read-state.result c.args.indexes.now.states c.state_count-count.ensures.rising f (ap (λ (k : Conf). is_due k c.args.counts.now c.args.held c.args.now c.read-state.result) (sym c.config.ensures) ∙ sym c.if-is_due.ensures)
+pub returns-in-Some-clause-states : goal.returns-in-Some-clause-states
+returns-in-Some-clause-states g c = (stretch g c).stay
 
-pub returns-else-is_due-clause-states : goal.returns-else-is_due-clause-states
-returns-else-is_due-clause-states g c =
-    survive-kept state_number (is_due c.args.indexes.now.config c.args.counts.now c.args.held c.args.now) c.args.number c.read-state.result c.args.indexes.now.states c.state_count-count.ensures.rising c.read-state.ensures.value (ap (λ (k : Conf). is_due k c.args.counts.now c.args.held c.args.now c.read-state.result) (sym c.config.ensures) ∙ sym c.if-is_due.ensures)
+pub returns-in-Some-clause-waiting : goal.returns-in-Some-clause-waiting
+returns-in-Some-clause-waiting g c =
+    ap (λ (s : State). waiting s.number c.args.round.mark (state_numbers c.take_out.new.self.states)) c.in-Some.state-is ∙ (stretch g c).rest
 
-pub returns-else-is_due-clause-nodes : goal.returns-else-is_due-clause-nodes
-returns-else-is_due-clause-nodes g c = idled-same c.args.indexes.now.config c.args.indexes.now.states c.args.now c.args.indexes.now.nodes
+pub returns-in-Some-clause-order : goal.returns-in-Some-clause-order
+returns-in-Some-clause-order g c = subst (λ (s : State). s.number ≤ c.args.round.mark) (sym c.in-Some.state-is) (stretch g c).to
+
+pub returns-in-None-clause-states : goal.returns-in-None-clause-states
+returns-in-None-clause-states g c =
+    let k = c.walk_to_due-walk.result in
+    (stretch-stays (is_due c.args.indexes.now.config c.args.counts.now c.args.held c.args.now) c.args.round.cursor c.args.round.mark c.args.share k.stayed k.last k.leaver c.args.indexes.now.states
+    c.in-None.is c.walk_to_due-walk.ensures.walk).stay
+
+pub returns-in-None-clause-nodes : goal.returns-in-None-clause-nodes
+returns-in-None-clause-nodes g c = idled-same c.args.indexes.now.config c.args.indexes.now.states c.args.now c.args.indexes.now.nodes
+
+pub returns-in-None-clause-ends : goal.returns-in-None-clause-ends
+returns-in-None-clause-ends g c = λ _.
+    let k = c.walk_to_due-walk.result in
+    all-passed (is_due c.args.indexes.now.config c.args.counts.now c.args.held c.args.now) c.args.round.cursor c.args.round.mark c.args.share k.stayed k.last k.leaver c.args.indexes.now.states
+    c.in-None.is c.walk_to_due-walk.ensures.walk

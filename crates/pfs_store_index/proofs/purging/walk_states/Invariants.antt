@@ -1,4 +1,4 @@
-use Rattle.std.proofs.Common.{◌≡◌, ◌+◌, ◌-◌, ◌≤◌, length, filter, map, take, drop}
+use Rattle.std.proofs.Common.{◌≡◌, ◌+◌, ◌≤◌, ◌<◌, length, filter, map, take, drop}
 use Rattle.pfs_store_plain.specs.Leaving.{idled}
 use Rattle.pfs_store_plain.specs.Purging.{state_numbers}
 use Rattle.pfs_store_index.specs.Rounds.{waiting}
@@ -8,12 +8,14 @@ use Rattle.pfs_store_index.proofs.Walks.{stays_by}
 use Rattle.pfs_store_index.proofs.purging.walk_states.Given as goal
 
 -- of the numbers that waited, the first are examined and the others wait
-abbrev pub invariant-loop-examined : goal.invariant-loop-examined
-invariant-loop-examined g l = record {
+abbrev pub invariant-loop-left : goal.invariant-loop-left
+invariant-loop-left g l = record {
   config : l.indexes.config ≡ l.fn.indexes.config;
   held : l.held ≡ length l.fn.indexes.states;
   order : l.cursor ≤ l.round.mark;
-  share : l.examined ≤ l.share;
+  share : l.examined + l.left ≤ l.share;
+  goes : 0 < l.left → l.examined + l.left ≡ l.share;
+  ends : l.left ≡ 0 → l.examined ≡ length (take l.share (waiting l.round.cursor l.round.mark (state_numbers l.fn.indexes.states)));
   within : l.examined ≤ length (waiting l.round.cursor l.round.mark (state_numbers l.fn.indexes.states));
   states : l.indexes.states
       ≡ filter (stays_by state_number (is_due l.fn.indexes.config l.counts (length l.fn.indexes.states) l.now) (take l.examined (waiting l.round.cursor l.round.mark (state_numbers l.fn.indexes.states)))) l.fn.indexes.states;
@@ -22,5 +24,5 @@ invariant-loop-examined g l = record {
   looks : l.meter ≡ l.fn.meter + l.examined;
 }
 
-abbrev pub decreases-loop-examined : goal.decreases-loop-examined
-decreases-loop-examined g l = l.share - l.examined
+abbrev pub decreases-loop-left : goal.decreases-loop-left
+decreases-loop-left g l = l.left

@@ -13,10 +13,6 @@ use Rattle.pfs_store_index.proofs.store.IndexStoreStore.purge_states.Goals as go
 length-take_le : (n : ℕ) (ns : List ℕ) → length (take n ns) ≤ length ns
 length-take_le n ns = omega (arith, length-take n ns)
 
-pub walk_states-steps-requires-clause-few : goal.walk_states-steps-requires-clause-few
-walk_states-steps-requires-clause-few g c =
-    omega (arith, few-numbered c.self.inside.made c.self.inside.indexes.states c.state_count-count.ensures.rising c.self.invariant.numbered, c.self.invariant.few)
-
 pub invariant_of-self : goal.invariant_of-self
 invariant_of-self g c =
     let l : length c.self.inside.counts.items ≡ length c.copy_from_slice.new.self.items =

@@ -1,0 +1,126 @@
+-- A stretch of a slice: states that stay, one after another, and then one that leaves.
+use Rattle.std.proofs.Common.{◌≡◌, ◌∙◌, ◌+◌, ◌-◌, ◌<◌, ◌≤◌, ◌==◌, ◌&&◌, ◌||◌, ℕ, Bool, true, false, not, if◌then◌else◌, Option, Some, None, List, [], ◌∷◌, ◌++◌, length, map, filter, take, drop, nat_lt, refl, ap, sym, subst, arith, length-take, length-drop, take-add, drop-drop}
+use Rattle.std.specs.List.{AllByRecursion}
+use Rattle.std.proofs.lemmas.Bool.Decides.{nat_tests}
+use Rattle.pfs_store_plain.specs.Leaving.{other_than}
+use Rattle.pfs_store_plain.specs.Purging.{is_among, state_numbers}
+use Rattle.pfs_store_plain.specs.declared.records.State.{State}
+use Rattle.pfs_store_records.specs.Records.{between}
+use Rattle.pfs_store_records.specs.Walks.{IsLeaver, IsNext, IsWalk}
+use Rattle.pfs_store_index.specs.Rounds.{waiting}
+use Rattle.pfs_store_index.proofs.Leavings.{state_number}
+use Rattle.pfs_store_index.proofs.Walks.{IsRisingBy, all-in, all-next, at_next, filter-twice, same_number, stay_more, stays_by, step-stays, survive-removed, survives}
+
+-- ---- those that were passed by stay
+
+among-between : (a l k : ℕ) (ns : List ℕ) → is_among (filter (between a l) ns) k ≡ true → between a l k ≡ true
+among-between a l k [] h = absurd cc
+among-between a l k (n ∷ ns) h = go (among-between a l k ns) (between a l n) refl (n == k) refl
+  where
+    go : (is_among (filter (between a l) ns) k ≡ true → between a l k ≡ true) → (b : Bool) → between a l n ≡ b → (c : Bool) → (n == k) ≡ c → between a l k ≡ true
+    go more true t true e = subst (λ m. between a l m ≡ true) (same_number k n e) t
+    go more true t false e = more (rw (t, e) at h)
+    go more false t c e = more (rw t at h)
+
+passed-stay : (leaves : State → Bool) (a l : ℕ) (ns : List ℕ) (xs : List State) → AllByRecursion (λ (x : State). between a l x.number ≡ true → leaves x ≡ false) xs
+    → xs ≡ filter (stays_by state_number leaves (filter (between a l) ns)) xs
+passed-stay leaves a l ns [] h = refl
+passed-stay leaves a l ns (x ∷ xs) (h, hs) = (λ i. if sym kept i then x ∷ passed-stay leaves a l ns xs hs i else passed-stay leaves a l ns xs hs i)
+  where
+    go : (b : Bool) → is_among (filter (between a l) ns) x.number ≡ b → not (b && leaves x) ≡ true
+    go true e = ap not (h (among-between a l x.number ns e))
+    go false e = refl
+
+    kept : not (is_among (filter (between a l) ns) x.number && leaves x) ≡ true
+    kept = go (is_among (filter (between a l) ns) x.number) refl
+
+-- ---- one stretch
+
+-- so many of those that waited are examined, the last of them below the cursor or at it
+pub record IsStretch (leaves : State → Bool) (above most cursor examined : ℕ) (xs xs' : List State) : Type 0 where
+  pub stay : xs' ≡ filter (stays_by state_number leaves (take examined (waiting above most (state_numbers xs)))) xs
+  pub rest : waiting cursor most (state_numbers xs') ≡ drop examined (waiting above most (state_numbers xs))
+  pub to : cursor ≤ most
+
+-- none of them leaves
+pub stretch-stays : (leaves : State → Bool) (above most share stayed last : ℕ) (o : Option State) (xs : List State) → o ≡ None
+    → IsWalk leaves xs above most share stayed last o → IsStretch leaves above most last stayed xs xs
+stretch-stays leaves above most share stayed last o xs q w = record {
+  stay = passed-stay leaves above last (state_numbers xs) xs w.stay ∙ ap (λ zs. filter (stays_by state_number leaves zs) xs) w.passed;
+  rest = w.rest;
+  to = w.to;
+}
+
+-- the last one leaves
+pub stretch-leaves : (leaves : State → Bool) (above most share stayed last : ℕ) (o : Option State) (s : State) (xs xs' : List State) → o ≡ Some s
+    → IsRisingBy state_number xs → IsWalk leaves xs above most share stayed last o → xs' ≡ filter (other_than s.number) xs
+    → IsStretch leaves above most s.number (stayed + 1) xs xs'
+stretch-leaves leaves above most share stayed last o s xs xs' q r w e =
+    let ws = waiting above most (state_numbers xs) in
+    let n : IsNext leaves xs last most stayed share s = subst (IsLeaver leaves xs last most stayed share) q w.leaver in
+    let before : xs ≡ filter (stays_by state_number leaves (take stayed ws)) xs =
+    passed-stay leaves above last (state_numbers xs) xs w.stay ∙ ap (λ zs. filter (stays_by state_number leaves zs) xs) w.passed in
+    let x = at_next stayed s.number ws (waiting last most (state_numbers xs)) w.rest n.next in
+    let f : xs' ≡ filter (survives state_number leaves s.number) xs = e ∙ survive-removed state_number leaves s.number s xs r n.found n.passes in
+    record {
+      stay = step-stays state_number leaves s.number stayed ws xs xs xs' before f x.taken;
+      rest = ap (λ ys. waiting s.number most (state_numbers ys)) f ∙ all-next state_number leaves last most s.number _ xs r x.first;
+      to = (all-in state_number last most s.number xs n.next).most;
+    }
+
+-- ---- how many are examined
+
+passed_fewer : (stayed : ℕ) (passed ws : List ℕ) → stayed ≡ length passed → passed ≡ take stayed ws → stayed ≤ length ws
+passed_fewer stayed passed ws c p = omega (arith, c, ap length p, length-take stayed ws)
+
+is_less : (n m : ℕ) → nat_lt n m ≡ true → n < m
+is_less n m h = grind (arith, nat_tests)
+
+is_not_less : (n m : ℕ) → nat_lt n m ≡ false → m ≤ n
+is_not_less n m h = grind (arith, nat_tests)
+
+all_passed : (share stayed : ℕ) (ws zs : List ℕ) → stayed ≤ share → stayed ≤ length ws → zs ≡ drop stayed ws → (stayed < share → zs ≡ []) → stayed ≡ length (take share ws)
+all_passed share stayed ws zs s w e h = go (nat_lt stayed share) refl
+  where
+    go : (b : Bool) → nat_lt stayed share ≡ b → stayed ≡ length (take share ws)
+    go true t =
+        let l = is_less stayed share t in
+        omega (arith, l, w, ap length (h l), ap length e, length-drop stayed ws, length-take share ws)
+    go false t = omega (arith, s, w, is_not_less stayed share t, length-take share ws)
+
+-- where none leaves, all that the share allows are examined
+pub all-passed : (leaves : State → Bool) (above most share stayed last : ℕ) (o : Option State) (xs : List State) → o ≡ None
+    → IsWalk leaves xs above most share stayed last o → stayed ≡ length (take share (waiting above most (state_numbers xs)))
+all-passed leaves above most share stayed last o xs q w =
+    all_passed share stayed (waiting above most (state_numbers xs)) (waiting last most (state_numbers xs)) w.within
+    (passed_fewer stayed (waiting above last (state_numbers xs)) (waiting above most (state_numbers xs)) w.count w.passed) w.rest
+    (subst (IsLeaver leaves xs last most stayed share) q w.leaver)
+
+-- ---- one stretch after another
+
+among-append : (xs ys : List ℕ) (k : ℕ) → is_among (xs ++ ys) k ≡ (is_among xs k || is_among ys k)
+among-append [] ys k = refl
+among-append (x ∷ xs) ys k = go (x == k) (among-append xs ys k)
+  where
+    go : (b : Bool) → is_among (xs ++ ys) k ≡ (is_among xs k || is_among ys k) → (b || is_among (xs ++ ys) k) ≡ ((b || is_among xs k) || is_among ys k)
+    go true h = refl
+    go false h = h
+
+stays-append : (leaves : State → Bool) (ns ms : List ℕ) (xs : List State)
+    → filter (stays_by state_number leaves ms) (filter (stays_by state_number leaves ns) xs) ≡ filter (stays_by state_number leaves (ns ++ ms)) xs
+stays-append leaves ns ms xs =
+    filter-twice (stays_by state_number leaves ms) (stays_by state_number leaves ns) (stays_by state_number leaves (ns ++ ms))
+    (λ (x : State). stay_more (is_among ns x.number) (is_among ms x.number) (leaves x) ∙ ap (λ b. not (b && leaves x)) (sym (among-append ns ms x.number))) xs
+
+pub stretch-more : (leaves : State → Bool) (i j : ℕ) (ws zs : List ℕ) (xs0 xs xs' : List State) → xs ≡ filter (stays_by state_number leaves (take i ws)) xs0
+    → zs ≡ drop i ws → xs' ≡ filter (stays_by state_number leaves (take j zs)) xs → xs' ≡ filter (stays_by state_number leaves (take (i + j) ws)) xs0
+stretch-more leaves i j ws zs xs0 xs xs' e d e' =
+    e' ∙ (λ k. filter (stays_by state_number leaves (take j (d k))) (e k)) ∙ stays-append leaves (take i ws) (take j (drop i ws)) xs0
+    ∙ ap (λ ns. filter (stays_by state_number leaves ns) xs0) (sym (take-add i j ws))
+
+pub rest-more : (i j : ℕ) (ws zs rest : List ℕ) → zs ≡ drop i ws → rest ≡ drop j zs → rest ≡ drop (i + j) ws
+rest-more i j ws zs rest d e = e ∙ ap (drop j) d ∙ drop-drop j i ws
+
+-- how many are examined in all
+pub all-more : (share i j : ℕ) (ws zs : List ℕ) → i ≤ share → i ≤ length ws → zs ≡ drop i ws → j ≡ length (take (share - i) zs) → i + j ≡ length (take share ws)
+all-more share i j ws zs s w d e = omega (arith, s, w, e, length-take (share - i) zs, ap length d, length-drop i ws, length-take share ws)
