@@ -1,8 +1,11 @@
 /* Stands between a built program and the C library, and lets one of its calls fail: the Nth growth of memory (PFSRC_GROWTH=N), the
- * Nth read or write (PFSRC_IO=N), or the Nth read or write of several bytes, which then moves one (PFSRC_SHORT=N).
+ * Nth read or write (PFSRC_IO=N), the Nth write, which then takes no byte (PFSRC_NONE=N), or the Nth read or write of several bytes,
+ * which then moves one (PFSRC_SHORT=N).
  *
- * Where the call strikes, the file that PFSRC_STRUCK names is made, so that a script knows when it has come past the last one.
- * Used by faults/run alone, through LD_PRELOAD. */
+ * Where the call strikes, the file that PFSRC_STRUCK names is made, so that a script knows when it has come past the last one, and
+ * where PFSRC_MARK is set a line `struck` goes to standard output, so that the place of the call is seen among what the program
+ * writes. Into the file that PFSRC_PEAK names goes, at the end, the most memory that the program held, as the system's line has it.
+ * Used by the scripts of this folder, through LD_PRELOAD. */
 #define _GNU_SOURCE
 #include <dlfcn.h>
 #include <errno.h>
@@ -13,7 +16,7 @@
 #include <sys/syscall.h>
 #include <unistd.h>
 
-static long growth, io, shorter;
+static long growth, io, none, shorter;
 static int is_ready;
 
 static long number(const char *name)
@@ -26,6 +29,7 @@ __attribute__((constructor)) static void begin(void)
 {
     growth = number("PFSRC_GROWTH");
     io = number("PFSRC_IO");
+    none = number("PFSRC_NONE");
     shorter = number("PFSRC_SHORT");
     is_ready = 1;
 }
@@ -39,7 +43,27 @@ static int strikes(long *left)
     path = getenv("PFSRC_STRUCK");
     if (path != NULL)
         close((int)syscall(SYS_openat, AT_FDCWD, path, O_CREAT | O_WRONLY, 0600));
+    if (getenv("PFSRC_MARK") != NULL)
+        syscall(SYS_write, 1, "struck\n", 7);
     return 1;
+}
+
+/* The line of the system that tells the most memory that was held goes into a file of its own. */
+__attribute__((destructor)) static void end(void)
+{
+    static char status[8192];
+    const char *path = getenv("PFSRC_PEAK"), *line;
+    int file;
+    if (path == NULL)
+        return;
+    file = (int)syscall(SYS_openat, AT_FDCWD, "/proc/self/status", O_RDONLY);
+    syscall(SYS_read, file, status, sizeof status - 1);
+    close(file);
+    line = strstr(status, "VmHWM:");
+    file = (int)syscall(SYS_openat, AT_FDCWD, path, O_CREAT | O_WRONLY, 0600);
+    if (line != NULL)
+        syscall(SYS_write, file, line, strcspn(line, "\n") + 1);
+    close(file);
 }
 
 /* The C library's own allocator, by names that nothing stands before. */
@@ -95,6 +119,8 @@ ssize_t read(int file, void *bytes, size_t size)
 
 ssize_t __write(int file, const void *bytes, size_t size)
 {
+    if (strikes(&none))
+        return 0;
     if (strikes(&io)) {
         errno = EIO;
         return -1;
