@@ -1,4 +1,4 @@
-use Rattle.std.specs.Prelude.{ℕ, ◌≡◌, ◌<◌, ◌≤◌, ◌^◌, ◌==◌, ◌&&◌, ◌||◌, nat_lt, max, Bool, true, false, Option, Some, None, unwrap_or, List, [], length, map, All, slice_get, slice_index, slice_index_or}
+use Rattle.std.specs.Prelude.{ℕ, ◌≡◌, ◌<◌, ◌≤◌, ◌^◌, ◌==◌, ◌&&◌, ◌||◌, nat_lt, max, Bool, true, false, Option, Some, None, unwrap_or, List, [], length, map, All, option_map, position, slice_get, slice_index, slice_index_or}
 use Rattle.std.specs.List.{IsDistinct, list_any, sum_by}
 use Rattle.std.specs.Option.{option_and_then}
 use Rattle.std.specs.Str.{bytes_eq}
@@ -146,6 +146,14 @@ entries_in tables = sum_by (λ (t : TableDef). length t.entries) tables
 -- how many entries the tables of a configuration have
 abbrev pub entry_count_of : Conf → ℕ
 entry_count_of conf = entries_in conf.tables
+
+-- whether this is the name of a table
+abbrev pub has_name : List ℕ → TableDef → Bool
+has_name name t = bytes_eq t.name name
+
+-- the number of the table of a name, if there is one (pf.conf(5), TABLES)
+abbrev pub table_named : Conf → List ℕ → Option TableNo
+table_named conf name = option_map (λ n. record { 0 = n }) (position (has_name name) conf.tables)
 
 -- ---- what every configuration keeps
 

@@ -1,8 +1,8 @@
 // What a rules text says, and how it is read.
 
-ghost use Rattle.std.specs.Prelude.{◌≡◌, ◌<◌, ◌≤◌, IfOk, IfSome, IsSome, length, slice_get};
+ghost use Rattle.std.specs.Prelude.{◌≡◌, ◌<◌, ◌≤◌, IfOk, IfSome, IsSome, length, position, slice_get};
 ghost use Rattle.std.specs.Option.{option_copied};
-ghost use Rattle.pfs_conf_rules.specs.Configs.{IsConfig, IsCounted, IsTable, conf_of, entry_count_of, limit_of, options_at, rate_seconds, retention_in, retention_of, rule_at, rule_timeout_of, scope_of, timeout_of};
+ghost use Rattle.pfs_conf_rules.specs.Configs.{IsConfig, IsCounted, IsTable, conf_of, entry_count_of, has_name, is_const_table, limit_of, options_at, rate_seconds, retention_in, retention_of, rule_at, rule_timeout_of, scope_of, table_named, timeout_of};
 ghost use Rattle.pfs_conf_rules.specs.LoadRules.{AreOptions, IsItem, IsRule};
 
 use crate::actions::{Action, Rate, Scope, StateOptions};
@@ -18,7 +18,7 @@ use std::marker::Model;
 ///
 /// Clauses see a `Conf`. Every one keeps `IsConfig`, the load rules; `limit`, `item_count` and `table_count` tell it to
 /// callers, and `item`, `rule`, `options` and `table` what they give keeps of it. No reader takes memory, and each takes
-/// constant time.
+/// constant time but for `table_named`, which goes through the tables.
 #[derive(Debug, Drop)]
 pub struct Config {
     limits: Limits,
@@ -115,6 +115,25 @@ impl Config {
         self.tables.get(number.0 as usize)
     }
 
+    /// The number of the table of this name, if there is one: each that the text names, defined or not. It compares the
+    /// name with those of the tables, one after another. (pf.conf(5), TABLES)
+    pub fn table_named(&self, name: &[u8]) -> Option<TableNo>
+        ensures value { result ≡ table_named self.now name.now }
+        ensures known { IfSome result (λ t. t.0 < length self.now.tables) }
+    {
+        let place = place_named(&self.tables, name)?;
+        Some(TableNo(place as u32))
+    }
+
+    /// Whether the table of this number is `const`: then no source is added to it, and no entry leaves it.
+    /// (pf.conf(5), TABLES, "const")
+    pub fn is_const(&self, number: TableNo) -> bool
+        requires { number.0 < length self.now.tables }
+        ensures { result ≡ is_const_table (slice_get self.now.tables number.0) }
+    {
+        self.tables[number.0 as usize].is_const
+    }
+
     /// How many entries all tables have together: at most the limit on entries.
     pub fn entry_count(&self) -> u64
         ensures value { result ≡ entry_count_of self.now }
@@ -182,6 +201,20 @@ impl Config {
             items: Vec::from_slice(alloc, &self.items)?,
         })
     }
+}
+
+// The place of the table of this name.
+fn place_named(tables: &[TableDef], name: &[u8]) -> Option<usize>
+    ensures value { result ≡ position (has_name name.now) tables.now }
+    ensures within { IfSome result (λ place. place < length tables.now) }
+{
+    tables.iter().position(|table| has_name(table, name))
+}
+
+fn has_name(table: &TableDef, name: &[u8]) -> bool
+    ensures { result ≡ has_name name.now table.now }
+{
+    table.name.as_bytes() == name
 }
 
 // The retention of a source node of a rule with these options, where this is the global `src.track`.

@@ -10,9 +10,9 @@ use Rattle.pfs_engine_machine.specs.Kept.{IsKept, moment_of}
 use Rattle.pfs_engine_machine.specs.Machine.{Machine, held_of}
 use Rattle.pfs_engine.specs.declared.works.Work.{Work}
 
--- the machine of what a store and the tables hold, and of a last moment
-abbrev pub machine_at : World → List (List Entry) → Option ℕ → Machine
-machine_at world tables last = record { held = held_of world tables; last = last }
+-- the machine of what a store and the tables hold, and of a first and a last moment
+abbrev pub machine_at : World → List (List Entry) → Option ℕ → Option ℕ → Machine
+machine_at world tables first last = record { held = held_of world tables; first = first; last = last }
 
 -- the configuration, the machine, how many packets were answered, and the work of the latest call
 pub record View : Type 0 where
@@ -29,4 +29,5 @@ pub record IsWhole (conf store : Conf) (book : List Item) (tables : Holdings) (m
   pub kept : IsKept conf machine.held (moment_of machine.last)
   pub made : machine.held.world.made ≤ taken
   pub few : taken ≤ 1000000000
+  pub moments : moment_of machine.first ≤ moment_of machine.last
   pub config : IsConfig conf

@@ -13,15 +13,15 @@ ghost use Rattle.pfs_store_plain.specs.declared.records.Limit.{Limit};
 ghost use Rattle.pfs_engine_machine.specs.Kept.{IsWithinLimits, IsWithinShared, moment_of};
 ghost use Rattle.pfs_engine_machine.specs.Looks.{AreLooks, states_beside};
 ghost use Rattle.pfs_engine_machine.specs.Refusals.{IsFree, IsRefused};
-ghost use Rattle.pfs_engine_machine.specs.Machine.{advanced, answered, due, entries_held, most_nodes, most_states, nodes_held, start, states_held, step};
-ghost use Rattle.pfs_engine_machine.specs.Runs.{IsInOrder, IsRefusedIn, IsStopped, machine_after, outcomes_of, packets_in, taken_by};
+ghost use Rattle.pfs_engine_machine.specs.Machine.{MayCome, MayExpire, advanced, answered, due, entries_held, expired, most_nodes, most_states, nodes_held, start, states_held, step};
+ghost use Rattle.pfs_engine_machine.specs.Runs.{AreAllowed, IsInOrder, IsRefusedIn, IsStopped, machine_after, outcomes_of, packets_in, taken_by};
 ghost use Rattle.pfs_engine_machine.specs.Visits.{AreVisits};
 
 use crate::packets::{Meters, answer};
 use crate::purges::purge_due;
 use crate::works::Work;
 use pfs_addr::{Meter, NoMemory, Packet};
-use pfs_conf_rules::{Config, LimitName};
+use pfs_conf_rules::{Config, LimitName, TableNo};
 use pfs_engine_machine::{Event, Outcome, What};
 use pfs_eval::{Book, Tables};
 use pfs_store_plain::Store;
@@ -31,7 +31,7 @@ use std::marker::Model;
 /// A machine that runs events under a configuration, over any store.
 ///
 /// Clauses see a `View`: the configuration, the machine (what the store holds, the entries of the tables, and the
-/// last moment), how many packets were answered, and the work of the latest call. What is held is at all times within
+/// first and the last moment), how many packets were answered, and the work of the latest call. What is held is at all times within
 /// the limits, as each call that changes it says.
 #[derive(Drop)]
 pub struct Engine<S: Store> {
@@ -39,6 +39,7 @@ pub struct Engine<S: Store> {
     book: Book,
     tables: Tables,
     store: S,
+    first: Option<u64>,
     last: Option<u64>,
     taken: u64,
     work: Work,
@@ -51,12 +52,12 @@ impl<S: Store> Model for Engine<S> {
 
     ghost view = { λ e. record {
       config = e.config;
-      machine = machine_at (S.world e.store) e.tables.entries e.last;
+      machine = machine_at (S.world e.store) e.tables.entries e.first e.last;
       taken = e.taken;
       work = e.work;
     } };
 
-    ghost invariant = { λ e. IsWhole e.config (S.config e.store) e.book e.tables (machine_at (S.world e.store) e.tables.entries e.last) e.taken };
+    ghost invariant = { λ e. IsWhole e.config (S.config e.store) e.book e.tables (machine_at (S.world e.store) e.tables.entries e.first e.last) e.taken };
 }
 
 impl<S: Store + Drop> Engine<S> {
@@ -79,6 +80,7 @@ impl<S: Store + Drop> Engine<S> {
             book,
             tables,
             store,
+            first: None,
             last: None,
             taken: 0,
             work: Work::none(),
@@ -87,6 +89,20 @@ impl<S: Store + Drop> Engine<S> {
 }
 
 impl<S: Store> Engine<S> {
+    /// The configuration that it runs.
+    pub fn config(&self) -> &Config
+        ensures { result.now ≡ self.now.config }
+    {
+        &self.config
+    }
+
+    /// The moment of the first event, in seconds; none before it.
+    pub fn first(&self) -> Option<u64>
+        ensures { result ≡ self.now.machine.first }
+    {
+        self.first
+    }
+
     /// The moment of the last event, in seconds; none before the first.
     pub fn last(&self) -> Option<u64>
         ensures { result ≡ self.now.machine.last }
@@ -150,6 +166,7 @@ impl<S: Store> Engine<S> {
         ensures taken { self.new.taken ≡ self.old.taken }
     {
         self.work = purge_due(&mut self.store, self.last, now);
+        self.first = Some(self.first.unwrap_or(now));
         self.last = Some(now);
     }
 
@@ -162,6 +179,7 @@ impl<S: Store> Engine<S> {
         requires room { self.old.taken < 1000000000 }
         ensures ok { IfOk result (λ o. (o, self.new.machine.held) ≡ answered self.old.config self.old.machine.held packet.now (moment_of self.old.machine.last)) }
         ensures err { OnErr result (self.new.machine ≡ self.old.machine) }
+        ensures first { self.new.machine.first ≡ self.old.machine.first }
         ensures last { self.new.machine.last ≡ self.old.machine.last }
         ensures limits { IsWithinLimits self.new.config self.new.machine.held }
         ensures config { self.new.config ≡ self.old.config }
@@ -211,13 +229,35 @@ impl<S: Store> Engine<S> {
         outcome
     }
 
-    /// Takes events in turn, and appends the outcome of each. Moments do not fall, from the last one on, and all events
-    /// together fit into the 1,000,000,000 packets. `NoMemory` where memory was refused at an event: the outcomes are
+    /// Takes out of a table, at the last moment, the entries that were added so many seconds before it or earlier; those
+    /// that the rules text says count as added at the first moment. It answers how many left. The table is one of the
+    /// configuration's, and not `const`. It goes through the entries of that table, takes no memory, and is no packet: what
+    /// was taken, and the work of the latest call, stay. (pfctl(8), "-T expire"; which moments count is own to this profile)
+    pub fn expire(&mut self, table: TableNo, seconds: u64) -> u64
+        requires started { IsSome self.old.machine.last }
+        requires table { MayExpire self.old.config table.0 }
+        ensures answer { (Outcome.Expire result, self.new.machine.held)
+            ≡ expired self.old.machine.held (moment_of self.old.machine.first) (moment_of self.old.machine.last) table.0 seconds }
+        ensures first { self.new.machine.first ≡ self.old.machine.first }
+        ensures last { self.new.machine.last ≡ self.old.machine.last }
+        ensures limits { IsWithinLimits self.new.config self.new.machine.held }
+        ensures config { self.new.config ≡ self.old.config }
+        ensures taken { self.new.taken ≡ self.old.taken }
+        ensures work { self.new.work ≡ self.old.work }
+    {
+        let first = self.first.unwrap_or(0);
+        let now = self.last.unwrap_or(0);
+        self.tables.expire(table, first, now, seconds)
+    }
+
+    /// Takes events in turn, and appends the outcome of each. Moments do not fall, from the last one on, all events
+    /// together fit into the 1,000,000,000 packets, and entries are taken out of no table that is `const`. `NoMemory` where memory was refused at an event: the outcomes are
     /// those of the events before it. If it was refused for the outcome, the engine stands where these leave it; if in the
     /// event's packet, which needs memory then, at the event's moment.
     pub fn run(&mut self, events: &[Event], outcomes: &mut Vec<Outcome>) -> Result<(), NoMemory>
         requires order { IsInOrder self.old.machine.last events.now }
         requires room { self.old.taken + length events.now ≤ 1000000000 }
+        requires tables { AreAllowed self.old.config events.now }
         ensures outcomes { OnOk result (outcomes.new.items ≡ outcomes.old.items ++ outcomes_of self.old.config self.old.machine events.now) }
         ensures machine { OnOk result (self.new.machine ≡ machine_after self.old.config self.old.machine events.now) }
         ensures err { OnErr result (IsStopped self.old.config self.old.machine events.now outcomes.old.items outcomes.new.items self.new.machine self.old.taken self.new.taken) }
@@ -245,6 +285,7 @@ impl<S: Store> Engine<S> {
         requires order { ForSome self.old.machine.last (λ m. m ≤ event.now.time) }
         requires moment { event.now.time < 2 ^ 32 }
         requires room { self.old.taken < 1000000000 }
+        requires table { MayCome self.old.config event.now.what }
         ensures ok { IfOk result (λ o. (o, self.new.machine) ≡ step self.old.config self.old.machine event.now) }
         ensures err { OnErr result ((packet : Header) × IsRefusedIn self.old.config self.old.machine event.now packet self.new.machine) }
         ensures limits { IsWithinLimits self.new.config self.new.machine.held }
@@ -258,6 +299,7 @@ impl<S: Store> Engine<S> {
         match &event.what {
             What::Packet(packet) => self.packet(packet),
             What::Skip => Ok(Outcome::Skip),
+            What::Expire { table, seconds } => Ok(Outcome::Expire(self.expire(*table, *seconds))),
         }
     }
 }

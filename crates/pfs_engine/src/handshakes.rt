@@ -138,7 +138,7 @@ fn complete_handshake<S: Store>(
     if !conn && !rate {
         return Outcome::State(touched.rule);
     }
-    let added = add_source(tables, options.overload, touched.source);
+    let added = add_source(tables, options.overload, touched.source, now);
     let killed = kill_with(
         store,
         number,
@@ -182,14 +182,19 @@ fn flush_of(overload: Option<Overload>) -> Option<Scope>
 }
 
 // Adds a source to an overload table, if there is one, where there is room for it.
-fn add_source(tables: &mut Tables, overload: Option<Overload>, source: Addr) -> Option<Added>
+fn add_source(
+    tables: &mut Tables,
+    overload: Option<Overload>,
+    source: Addr,
+    now: u64,
+) -> Option<Added>
     requires { HasRoomFor tables.old overload }
     ensures answer { (conf : Conf) → tables.old.limit ≡ limit_of conf LimitName.TableEntries → result ≡ added_by conf tables.old.entries source overload }
-    ensures entries { (conf : Conf) → tables.old.limit ≡ limit_of conf LimitName.TableEntries → tables.new.entries ≡ tables_by conf tables.old.entries source overload }
+    ensures entries { (conf : Conf) → tables.old.limit ≡ limit_of conf LimitName.TableEntries → tables.new.entries ≡ tables_by conf tables.old.entries source now overload }
     ensures limit { tables.new.limit ≡ tables.old.limit }
 {
     let overload = overload?;
-    match tables.add_host(overload.table, source) {
+    match tables.add_host(overload.table, source, now) {
         Ok(added) => Some(added),
         Err(_) => unreachable!(),
     }

@@ -29,7 +29,7 @@ use Rattle.pfs_track.specs.declared.scores.Score.{Score}
 use Rattle.pfs_engine_machine.proofs.Counts.{any-push, count-filter_le, count-push}
 use Rattle.pfs_engine_machine.proofs.Scopes.{same_scope_self, same_scope_true}
 use Rattle.pfs_engine_machine.specs.Kept.{moment_of, own_scope}
-use Rattle.pfs_engine_machine.specs.Machine.{Held, Machine, acted, advanced, answered, by_hit, by_state, by_touch, due, held_of, purged, start, step}
+use Rattle.pfs_engine_machine.specs.Machine.{Held, Machine, acted, advanced, answered, by_hit, by_state, by_touch, due, first_by, held_of, purged, start, step}
 use Rattle.pfs_engine_machine.specs.Rates.{Handshake, completed_by, folded, handshake_at, handshake_by, handshakes, history_score, is_from, moments_of, with_handshake}
 use Rattle.pfs_engine_machine.specs.Runs.{IsInOrder, machine_after, outcomes_of}
 use Rattle.pfs_engine_machine.specs.declared.events.Event.{Event}
@@ -204,11 +204,12 @@ due-in conf rule source x history i w (Some last) now h r =
 
 -- ---- an event
 
-acted-in : (conf : Conf) (rule : ℕ) (source : Addr) (x : Rate) (now : ℕ) (history : Score) (h : Held) → IsRated conf rule x → (what : What)
+acted-in : (conf : Conf) (rule : ℕ) (source : Addr) (x : Rate) (first now : ℕ) (history : Score) (h : Held) → IsRated conf rule x → (what : What)
     → RemembersIn conf rule source x.seconds now history h.world
-    → RemembersIn conf rule source x.seconds now (heard rule source x.seconds history now (handshake_by h.world what)) (acted conf h now what).1.world
-acted-in conf rule source x now history h i what.Skip r = r
-acted-in conf rule source x now history h i (what.Packet p) r =
+    → RemembersIn conf rule source x.seconds now (heard rule source x.seconds history now (handshake_by h.world what)) (acted conf h first now what).1.world
+acted-in conf rule source x first now history h i what.Skip r = r
+acted-in conf rule source x first now history h i (what.Expire table seconds) r = r
+acted-in conf rule source x first now history h i (what.Packet p) r =
     answered_has conf h p now (RemembersIn conf rule source x.seconds now (heard rule source x.seconds history now (completed_by p (state_with (key_of p) h.world))))
     (packet-in conf rule source x now history h.world p i r)
 
@@ -220,7 +221,7 @@ step-in : (conf : Conf) (rule : ℕ) (source : Addr) (x : Rate) (history : Score
     → RemembersAt conf rule source x.seconds (heard rule source x.seconds history e.time (handshake_at conf m e)) (step conf m e).1
 unfolding step
 step-in conf rule source x history m e i h r =
-    acted-in conf rule source x e.time history (advanced conf m e.time).held i e.what (due-in conf rule source x history i m.held.world m.last e.time h r)
+    acted-in conf rule source x (first_by m.first e.time) e.time history (advanced conf m e.time).held i e.what (due-in conf rule source x history i m.held.world m.last e.time h r)
 
 -- ---- the history
 
@@ -319,13 +320,15 @@ hit-in conf x now h p s i e =
 score-at : (conf : Conf) (x : Rate) (now : ℕ) (history : Score) (w : World) (what : What) (s : State) → IsRated conf s.rule.0 x → handshake_by w what ≡ Some s
     → RemembersIn conf s.rule.0 s.source x.seconds now history w → score_compared conf w now what s ≡ score_after x.seconds history now
 score-at conf x now history w what.Skip s i e r = cc
+score-at conf x now history w (what.Expire table seconds) s i e r = cc
 score-at conf x now history w (what.Packet p) s i e r =
     let q = completed-is p (state_with (key_of p) w) s e in score-in conf x now history w p s i q.0 q.1 r
 
-hit-at : (conf : Conf) (x : Rate) (now : ℕ) (h : Held) (what : What) (s : State) → IsRated conf s.rule.0 x → handshake_by h.world what ≡ Some s
-    → rate_hit (acted conf h now what).0 ≡ nat_lt (1000 * x.limit) (score_compared conf h.world now what s).value
-hit-at conf x now h what.Skip s i e = cc
-hit-at conf x now h (what.Packet p) s i e = hit-in conf x now h p s i e
+hit-at : (conf : Conf) (x : Rate) (first now : ℕ) (h : Held) (what : What) (s : State) → IsRated conf s.rule.0 x → handshake_by h.world what ≡ Some s
+    → rate_hit (acted conf h first now what).0 ≡ nat_lt (1000 * x.limit) (score_compared conf h.world now what s).value
+hit-at conf x first now h what.Skip s i e = cc
+hit-at conf x first now h (what.Expire table seconds) s i e = cc
+hit-at conf x first now h (what.Packet p) s i e = hit-in conf x now h p s i e
 
 pub score-is-remembered : (conf : Conf) (events : List Event) → IsConfig conf → IsInOrder None events → ScoreIsRemembered conf events
 score-is-remembered conf events sound order before e s rate is =
@@ -356,7 +359,7 @@ outcome-hit : (conf : Conf) (events : List Event) → IsConfig conf → IsInOrde
 unfolding step
 outcome-hit conf events sound order before e s rate is =
     let m : Machine = machine_after conf (start conf) before in
-    hit-at conf rate e.time (advanced conf m e.time).held e.what s (rated conf sound s.rule.0 rate is.rated) is.completes
+    hit-at conf rate (first_by m.first e.time) e.time (advanced conf m e.time).held e.what s (rated conf sound s.rule.0 rate is.rated) is.completes
     ∙ ap (λ (y : Score). nat_lt (1000 * rate.limit) y.value) (score-is-remembered conf events sound order before e s rate is)
 
 pub rate-is-remembered : (conf : Conf) (events : List Event) → IsConfig conf → IsInOrder None events → RateIsRemembered conf events

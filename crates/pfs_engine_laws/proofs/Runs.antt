@@ -2,12 +2,12 @@
 use Rattle.std.proofs.Common.{◌≡◌, ℕ, List, [], ◌∷◌, ◌++◌, map, refl, sym, ◌∙◌, Some}
 use Rattle.pfs_conf_rules.specs.Configs.{Conf}
 use Rattle.pfs_store_plain.specs.Purging.{purge}
-use Rattle.pfs_engine_machine.specs.Machine.{Held, Machine, acted, advanced, due, held_of, purged, step}
+use Rattle.pfs_engine_machine.specs.Machine.{Held, Machine, acted, advanced, due, first_by, held_of, purged, step}
 use Rattle.pfs_engine_machine.specs.Runs.{machine_after}
 use Rattle.pfs_engine_machine.specs.declared.events.Event.{Event}
 use Rattle.pfs_engine_machine.specs.declared.events.What.{What}
 use Rattle.pfs_engine_machine.specs.declared.events.What.TheVariants as what
-use Rattle.pfs_engine_laws.specs.Acts.{Act, Purge, acts_of, arrivals, done, done_all}
+use Rattle.pfs_engine_laws.specs.Acts.{Act, Purge, acts_from, arrivals, done, done_all}
 
 pub done_all-append : (conf : Conf) (h : Held) (xs ys : List Act) → done_all conf h (xs ++ ys) ≡ done_all conf (done_all conf h xs) ys
 done_all-append conf h [] ys = refl
@@ -18,14 +18,17 @@ purges-done : (conf : Conf) (h : Held) (ss : List ℕ) (rest : List Act)
 purges-done conf h [] rest = refl
 purges-done conf h (s ∷ ss) rest = purges-done conf (held_of (purge conf h.world s) h.tables) ss rest
 
-arrivals-done : (conf : Conf) (h : Held) (now : ℕ) (what : What) (rest : List Act)
-    → done_all conf h (arrivals now what ++ rest) ≡ done_all conf (acted conf h now what).1 rest
-arrivals-done conf h now what.Skip rest = refl
-arrivals-done conf h now (what.Packet p) rest = refl
+arrivals-done : (conf : Conf) (h : Held) (first now : ℕ) (what : What) (rest : List Act)
+    → done_all conf h (arrivals first now what ++ rest) ≡ done_all conf (acted conf h first now what).1 rest
+arrivals-done conf h first now what.Skip rest = refl
+arrivals-done conf h first now (what.Packet p) rest = refl
+arrivals-done conf h first now (what.Expire table seconds) rest = refl
 
-pub acts-done : (conf : Conf) (m : Machine) (es : List Event) → (machine_after conf m es).held ≡ done_all conf m.held (acts_of m.last es)
+pub acts-done : (conf : Conf) (m : Machine) (es : List Event) → (machine_after conf m es).held ≡ done_all conf m.held (acts_from m.first m.last es)
 unfolding machine_after step
 acts-done conf m [] = refl
 acts-done conf m (e ∷ es) =
+    let first = first_by m.first e.time in
+    let rest = acts_from (Some first) (Some e.time) es in
     acts-done conf (step conf m e).1 es
-    ∙ sym (purges-done conf m.held (due m.last e.time) (arrivals e.time e.what ++ acts_of (Some e.time) es) ∙ arrivals-done conf (advanced conf m e.time).held e.time e.what (acts_of (Some e.time) es))
+    ∙ sym (purges-done conf m.held (due m.last e.time) (arrivals first e.time e.what ++ rest) ∙ arrivals-done conf (advanced conf m e.time).held first e.time e.what rest)

@@ -23,7 +23,7 @@ use Rattle.pfs_engine_machine.specs.Machine.{Held}
 use Rattle.pfs_engine_laws.proofs.Changes.{answered_keeps}
 use Rattle.pfs_engine_laws.proofs.Numbers.{among-same, made-more, numbers-idled, numbers-renewed, numbers-touched, was}
 use Rattle.pfs_engine_laws.proofs.Rounds.{length-filter-le}
-use Rattle.pfs_engine_laws.specs.Acts.{Act, Arrive, Purge, done, done_all}
+use Rattle.pfs_engine_laws.specs.Acts.{Act, Arrive, Expire, Purge, done, done_all}
 
 abbrev pub state_limit : Conf → ℕ
 state_limit conf = limit_of conf limit_name.States
@@ -162,6 +162,7 @@ pub small-done : (conf : Conf) (m : Held) (a : Act) → IsSmall conf m.world →
 small-done conf m (Purge s) k = small-nodes conf (state_slice conf m.world s) s (small-states conf m.world s k)
 small-done conf m (Arrive now p) k =
     answered_keeps conf (IsSmall conf) (record { touches = small-touched conf; kills = small-without conf; admits = small-admitted conf }) m p now k
+small-done conf m (Expire first now table seconds) k = k
 
 pub small-done_all : (conf : Conf) (m : Held) (acts : List Act) → IsSmall conf m.world → IsSmall conf (done_all conf m acts).world
 small-done_all conf m [] k = k

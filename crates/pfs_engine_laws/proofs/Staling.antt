@@ -24,7 +24,7 @@ use Rattle.pfs_engine_laws.proofs.Numbers.{any-number, gone, numbers-idled, numb
 use Rattle.pfs_engine_laws.proofs.Rounds.{IsDue, due-end, due-filter, due-slice, due-start, share-enough}
 use Rattle.pfs_engine_laws.proofs.Runs.{done_all-append}
 use Rattle.pfs_engine_laws.proofs.Small.{IsSmall, node_limit, small-done, small-done_all, small-empty, small-states, state_limit}
-use Rattle.pfs_engine_laws.specs.Acts.{Act, Arrive, Purge, after, done, done_all, purges}
+use Rattle.pfs_engine_laws.specs.Acts.{Act, Arrive, Expire, Purge, after, done, done_all, purges}
 use Rattle.pfs_engine_laws.specs.Staleness.{IsOver, NodesGo}
 
 abbrev pub interval_of : Conf → ℕ
@@ -134,6 +134,9 @@ state-goes conf n m (Arrive now p ∷ acts) one small h all =
     state-goes conf n (done conf m (Arrive now p)) acts one (small-done conf m (Arrive now p) small)
     (answered_keeps conf (StateAwaits conf (purges acts) n) (state-packets conf (purges acts) n) m p now h)
     (λ before rest t e. all (Arrive now p ∷ before) rest t (ap (λ (xs : List Act). Arrive now p ∷ xs) e))
+state-goes conf n m (Expire first now table seconds ∷ acts) one small h all =
+    state-goes conf n (done conf m (Expire first now table seconds)) acts one small h
+    (λ before rest t e. all (Expire first now table seconds ∷ before) rest t (ap (λ (xs : List Act). Expire first now table seconds ∷ xs) e))
 
 -- in any 2 * interval purges in a row, the state of a number that is made by then, and expired at each of them, goes
 pub numbered-go : (conf : Conf) (earlier meanwhile : List Act) (n : ℕ) → IsConfig conf → purges meanwhile ≡ 2 * interval_of conf
@@ -220,6 +223,9 @@ node-goes conf n m (Arrive now p ∷ acts) one small h all =
     node-goes conf n (done conf m (Arrive now p)) acts one (small-done conf m (Arrive now p) small)
     (answered_keeps conf (NodeAwaits conf (purges acts) n) (node-packets conf (purges acts) n) m p now h)
     (λ before rest t e. all (Arrive now p ∷ before) rest t (ap (λ (xs : List Act). Arrive now p ∷ xs) e))
+node-goes conf n m (Expire first now table seconds ∷ acts) one small h all =
+    node-goes conf n (done conf m (Expire first now table seconds)) acts one small h
+    (λ before rest t e. all (Expire first now table seconds ∷ before) rest t (ap (λ (xs : List Act). Expire first now table seconds ∷ xs) e))
 
 pub nodes-go : (conf : Conf) (events : List Event) → IsConfig conf → NodesGo conf events
 nodes-go conf events sound earlier meanwhile later n rounds all held =

@@ -24,7 +24,7 @@ use Rattle.pfs_engine_laws.proofs.Numbers.{any-number}
 use Rattle.pfs_engine_laws.proofs.Runs.{done_all-append}
 use Rattle.pfs_engine_laws.proofs.Small.{IsSmall, small-done_all, small-empty}
 use Rattle.pfs_engine_laws.proofs.Staling.{IsExpiredThroughout, numbered-go}
-use Rattle.pfs_engine_laws.specs.Acts.{Act, Arrive, Purge, after, done, done_all}
+use Rattle.pfs_engine_laws.specs.Acts.{Act, Arrive, Expire, Purge, after, done, done_all}
 use Rattle.pfs_engine_laws.specs.Staleness.{StatesGo, brings}
 
 -- ---- numbers rise
@@ -49,6 +49,7 @@ numbered-all conf m (Purge s ∷ acts) h =
     numbered-all conf (done conf m (Purge s)) acts (record { rise = Rise-filter (stays conf m.world.states s (take (state_share conf) (state_round m.world))) 0 m.world.made m.world.states h.rise })
 numbered-all conf m (Arrive now p ∷ acts) h =
     numbered-all conf (done conf m (Arrive now p)) acts (answered_keeps conf AreNumbered (numbered-packets conf) m p now h)
+numbered-all conf m (Expire first now table seconds ∷ acts) h = numbered-all conf (done conf m (Expire first now table seconds)) acts h
 
 above : (low high : ℕ) (ss : List State) → Rise low ss high → AllByRecursion (λ (t : State). low < t.number) ss
 above low high [] r = tt
@@ -122,6 +123,7 @@ before-done conf s m (Purge now) apart h = record {
   same = each-filter (λ (t : State). t.number ≡ s.number → t ≡ s) (stays conf m.world.states now (take (state_share conf) (state_round m.world))) m.world.states h.same;
 }
 before-done conf s m (Arrive now p) apart h = answered_has conf m p now (IsAsBefore s) (before-packet conf s m.world p now apart h)
+before-done conf s m (Expire first now table seconds) apart h = h
 
 before-all : (conf : Conf) (s : State) (m : Held) (acts rest : List Act) → AllByRecursion (λ (a : Act). brings s.key a ≡ false) (acts ++ rest) → IsAsBefore s m.world
     → IsAsBefore s (done_all conf m acts).world

@@ -4,29 +4,38 @@ use Rattle.pfs_addr.specs.Packets.{Header}
 use Rattle.pfs_conf_rules.specs.Configs.{Conf}
 use Rattle.pfs_store_plain.specs.Purging.{purge}
 use Rattle.pfs_engine_machine.specs.Kept.{IsWithinLimits}
-use Rattle.pfs_engine_machine.specs.Machine.{Held, answered, due, held_of, start}
+use Rattle.pfs_engine_machine.specs.Machine.{Held, answered, due, expired, first_by, held_of, start}
 use Rattle.pfs_engine_machine.specs.declared.events.Event.{Event}
 use Rattle.pfs_engine_machine.specs.declared.events.What.{What}
 use Rattle.pfs_engine_machine.specs.declared.events.What.TheVariants as what
 
--- the purge of a second, or a packet that arrives at a moment
+-- the purge of a second, a packet that arrives at a moment, or old entries that leave a table, in a run that began at the first
+-- of these moments, at the second, by its number and these seconds
 pub data Act : Type 0 where
   Purge : ℕ → Act
   Arrive : ℕ → Header → Act
+  Expire : ℕ → ℕ → ℕ → ℕ → Act
 
-abbrev pub arrivals : ℕ → What → List Act
-arrivals now what.Skip = []
-arrivals now (what.Packet p) = Arrive now p ∷ []
+abbrev pub arrivals : ℕ → ℕ → What → List Act
+arrivals first now what.Skip = []
+arrivals first now (what.Packet p) = Arrive now p ∷ []
+arrivals first now (what.Expire table seconds) = Expire first now table.0 seconds ∷ []
 
--- what these events make a run do, from its last moment on: before each event the purges due
+-- what these events make a run do, from its first moment and its last one on: before each event the purges due
+abbrev pub acts_from : Option ℕ → Option ℕ → List Event → List Act
+acts_from first last [] = []
+acts_from first last (e ∷ es) =
+    map (λ s. Purge s) (due last e.time) ++ (arrivals (first_by first e.time) e.time e.what ++ acts_from (Some (first_by first e.time)) (Some e.time) es)
+
+-- from its last moment on, where it has none before
 abbrev pub acts_of : Option ℕ → List Event → List Act
-acts_of last [] = []
-acts_of last (e ∷ es) = map (λ s. Purge s) (due last e.time) ++ (arrivals e.time e.what ++ acts_of (Some e.time) es)
+acts_of last es = acts_from None last es
 
 -- what is held after one of them, after all of them, and after the first of a run
 abbrev pub done : Conf → Held → Act → Held
 done conf h (Purge s) = held_of (purge conf h.world s) h.tables
 done conf h (Arrive now p) = (answered conf h p now).1
+done conf h (Expire first now table seconds) = (expired h first now table seconds).1
 
 abbrev pub done_all : Conf → Held → List Act → Held
 done_all conf h [] = h
@@ -40,8 +49,9 @@ abbrev pub purges : List Act → ℕ
 purges [] = 0
 purges (Purge s ∷ acts) = suc (purges acts)
 purges (Arrive now p ∷ acts) = purges acts
+purges (Expire first now table seconds ∷ acts) = purges acts
 
--- after each purge and each packet of a run, what is held is within the limits
+-- after each purge, each packet and each expiry of a run, what is held is within the limits
 abbrev pub StaysWithinLimits : Conf → List Event → Type 0
 StaysWithinLimits conf events =
     (earlier later : List Act) → acts_of None events ≡ earlier ++ later → IsWithinLimits conf (after conf earlier)

@@ -27,6 +27,7 @@ pub record IsHandshake (conf : Conf) (events before : List Event) (e : Event) (s
 abbrev pub score_compared : Conf → World → ℕ → What → State → Score
 score_compared conf w now what.Skip s = zero_score
 score_compared conf w now (what.Packet p) s = (touch_of conf w p now s).score
+score_compared conf w now (what.Expire table seconds) s = zero_score
 
 -- at each handshake of a rule with a rate, that score is the one of the whole history of its source's handshakes
 abbrev pub ScoreIsRemembered : Conf → List Event → Type 0

@@ -76,6 +76,7 @@ is_of_held (outcome.Block r) = false
 is_of_held (outcome.Drop r l) = false
 is_of_held (outcome.Kill r c h o k) = true
 is_of_held outcome.Skip = false
+is_of_held (outcome.Expire n) = false
 
 hit_held : (conf : Conf) (m : Held) (number now : ℕ) (t : Touched) (o : Option Overload) (conn rate hit : Bool)
     → is_of_held (by_hit conf m number now t o conn rate hit).0 ≡ true

@@ -170,30 +170,30 @@ kept_but_without conf m stays at now k =
     }
 
 -- the tables: one entry more at most, and only below the limit
-tables_by-size : (conf : Conf) (tables : List (List Entry)) (source : Addr) (overload : Option Overload)
-    → length (tables_by conf tables source overload) ≡ length tables
-tables_by-size conf tables source None = refl
-tables_by-size conf tables source (Some v) =
-    entries_after-size tables v.table.0 source (added_to tables (limit_of conf limit_name.TableEntries) v.table.0 source)
+tables_by-size : (conf : Conf) (tables : List (List Entry)) (source : Addr) (now : ℕ) (overload : Option Overload)
+    → length (tables_by conf tables source now overload) ≡ length tables
+tables_by-size conf tables source now None = refl
+tables_by-size conf tables source now (Some v) =
+    entries_after-size tables v.table.0 source now (added_to tables (limit_of conf limit_name.TableEntries) v.table.0 source)
 
-tables_by-within : (conf : Conf) (tables : List (List Entry)) (source : Addr) (overload : Option Overload)
-    → entry_count tables ≤ limit_of conf limit_name.TableEntries → entry_count (tables_by conf tables source overload) ≤ limit_of conf limit_name.TableEntries
-tables_by-within conf tables source None le = le
-tables_by-within conf tables source (Some v) le = entries_after-within tables (limit_of conf limit_name.TableEntries) v.table.0 source le
+tables_by-within : (conf : Conf) (tables : List (List Entry)) (source : Addr) (now : ℕ) (overload : Option Overload)
+    → entry_count tables ≤ limit_of conf limit_name.TableEntries → entry_count (tables_by conf tables source now overload) ≤ limit_of conf limit_name.TableEntries
+tables_by-within conf tables source now None le = le
+tables_by-within conf tables source now (Some v) le = entries_after-within tables (limit_of conf limit_name.TableEntries) v.table.0 source now le
 
 kept_but_added : (conf : Conf) (m : Held) (source : Addr) (overload : Option Overload) (now : ℕ) → IsKeptBut conf m now
-    → IsKeptBut conf (held_of m.world (tables_by conf m.tables source overload)) now
+    → IsKeptBut conf (held_of m.world (tables_by conf m.tables source now overload)) now
 kept_but_added conf m source overload now k = record {
   states = k.states;
   nodes = k.nodes;
-  entries = tables_by-within conf m.tables source overload k.entries;
+  entries = tables_by-within conf m.tables source now overload k.entries;
   of_rules = k.of_rules;
   source_nodes = k.source_nodes;
   source_states = k.source_states;
   numbers = k.numbers;
   noded = k.noded;
   phases = k.phases;
-  tables = tables_by-size conf m.tables source overload ∙ k.tables;
+  tables = tables_by-size conf m.tables source now overload ∙ k.tables;
   moments = k.moments;
 }
 
@@ -211,7 +211,7 @@ kept_killed conf m p now s overload conn rate found k =
     let stays = stays_at_kill (flush_of overload) s.number t in
     let first = held_of (touched conf m.world s p now) m.tables in
     let second = held_of (without conf first.world stays now) first.tables in
-    kept_whole conf (held_of second.world (tables_by conf second.tables t.source overload)) now
+    kept_whole conf (held_of second.world (tables_by conf second.tables t.source now overload)) now
     (kept_but_added conf second t.source overload now (kept_but_without conf first stays now now (kept_but_touched conf m p now s k)))
     (few_killed conf m p now s overload found k)
 

@@ -20,11 +20,12 @@ use Rattle.pfs_store_plain.specs.Worlds.{World}
 use Rattle.pfs_store_plain.specs.declared.records.Node.{Node}
 use Rattle.pfs_store_plain.specs.declared.records.NodeScope.{NodeScope}
 use Rattle.pfs_store_plain.specs.declared.records.State.{State}
+use Rattle.pfs_engine_machine.proofs.Additions.{entries_expired-fewer, entries_expired-size}
 use Rattle.pfs_engine_machine.proofs.Numbers.{Rise-filter}
 use Rattle.pfs_engine_machine.proofs.Counts.{any-filter, any-map, count-at, count-filter_le, count-map, count_le}
 use Rattle.pfs_engine_machine.proofs.Scopes.{and_left, and_right, is_of_node-own, same_scope_true}
 use Rattle.pfs_engine_machine.specs.Kept.{HasNode, IsKept, IsPhaseOf, IsWithin, moment_of, own_scope}
-use Rattle.pfs_engine_machine.specs.Machine.{Held, Machine, advanced, due, held_of, purged, start}
+use Rattle.pfs_engine_machine.specs.Machine.{Held, Machine, advanced, due, expired, first_by, held_of, purged, start}
 
 -- ---- the start
 
@@ -168,6 +169,39 @@ kept_advanced conf m now later k =
     by : (last : Option ℕ) → ForSome last (λ last. last ≤ now) → moment_of last ≤ now
     by None h = omega arith
     by (Some last) h = h last refl
+
+-- ---- old entries leave a table
+
+pub kept_expired : (conf : Conf) (h : Held) (first at table seconds now : ℕ) → IsKept conf h now → IsKept conf (expired h first at table seconds).1 now
+kept_expired conf h first at table seconds now k = record {
+  limits = record {
+    states = k.limits.states;
+    nodes = k.limits.nodes;
+    entries = omega (arith, entries_expired-fewer h.tables table first at seconds, k.limits.entries);
+    rule_states = k.limits.rule_states;
+    source_nodes = k.limits.source_nodes;
+    source_states = k.limits.source_states;
+    source_connections = k.limits.source_connections;
+  };
+  numbers = k.numbers;
+  noded = k.noded;
+  phases = k.phases;
+  tables = entries_expired-size h.tables table first at seconds ∙ k.tables;
+  moments = k.moments;
+}
+
+-- the first moment is not after the last one
+pub first_advanced : (conf : Conf) (m : Machine) (now : ℕ) → ForSome m.last (λ last. last ≤ now) → moment_of m.first ≤ moment_of m.last
+    → moment_of (advanced conf m now).first ≤ now
+first_advanced conf m now later h = by m.first h (moment_within m.last later)
+  where
+    moment_within : (last : Option ℕ) → ForSome last (λ l. l ≤ now) → moment_of last ≤ now
+    moment_within None k = omega arith
+    moment_within (Some last) k = k last refl
+
+    by : (first : Option ℕ) → moment_of first ≤ moment_of m.last → moment_of m.last ≤ now → first_by first now ≤ now
+    by None k l = omega arith
+    by (Some first) k l = omega (arith, k, l)
 
 -- ---- no second makes a state
 

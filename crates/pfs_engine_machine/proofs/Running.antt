@@ -4,8 +4,8 @@ use Rattle.std.proofs.lemmas.List.{append-nil, take_more}
 use Rattle.pfs_conf_rules.specs.Configs.{Conf}
 use Rattle.pfs_engine_machine.specs.declared.events.Event.{Event}
 use Rattle.pfs_engine_machine.specs.declared.events.Outcome.{Outcome}
-use Rattle.pfs_engine_machine.specs.Machine.{Machine, step}
-use Rattle.pfs_engine_machine.specs.Runs.{IsInOrder, machine_after, outcomes_of, packets_in, taken_by}
+use Rattle.pfs_engine_machine.specs.Machine.{Machine, MayCome, step}
+use Rattle.pfs_engine_machine.specs.Runs.{AreAllowed, IsInOrder, machine_after, outcomes_of, packets_in, taken_by}
 
 -- one event more
 pub machine_after-push : (conf : Conf) (m : Machine) (xs : List Event) (e : Event) → machine_after conf m (xs ++ e ∷ []) ≡ (step conf (machine_after conf m xs) e).1
@@ -30,6 +30,12 @@ outcomes_next conf first m m' before out o es i d h s e f =
 
 pub order_next : (last : Option ℕ) (es : List Event) (i : ℕ) (d : Event) → i < length es → IsInOrder last (drop i es) → IsInOrder (Some (get_or es i d).time) (drop (i + 1) es)
 order_next last es i d h o = let P : List Event → Type 0 = IsInOrder last in rw add-one ((subst P (drop-cons es i d h) o).2)
+
+pub allowed_here : (conf : Conf) (es : List Event) (i : ℕ) (d : Event) → i < length es → AreAllowed conf (drop i es) → MayCome conf (get_or es i d).what
+allowed_here conf es i d h a = let P : List Event → Type 0 = AreAllowed conf in (subst P (drop-cons es i d h) a).0
+
+pub allowed_next : (conf : Conf) (es : List Event) (i : ℕ) (d : Event) → i < length es → AreAllowed conf (drop i es) → AreAllowed conf (drop (i + 1) es)
+allowed_next conf es i d h a = let P : List Event → Type 0 = AreAllowed conf in rw add-one ((subst P (drop-cons es i d h) a).1)
 
 pub machine_none : (conf : Conf) (m : Machine) → m ≡ machine_after conf m []
 unfolding machine_after

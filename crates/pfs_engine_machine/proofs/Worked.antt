@@ -12,6 +12,7 @@ use Rattle.pfs_addr.specs.declared.protocols.Proto.TheVariants.{Tcp, Udp}
 use Rattle.pfs_eval.specs.Matching.{matches_item}
 use Rattle.pfs_eval.specs.Tables.{table_answer}
 use Rattle.pfs_eval.specs.Verdict.{verdict}
+use Rattle.pfs_eval.specs.declared.tables.Added.{Added}
 use Rattle.pfs_eval.specs.declared.tables.Added.TheVariants as added
 use Rattle.pfs_conf_rules.specs.Configs.{Conf, any_packet, any_side, no_options}
 use Rattle.pfs_conf_rules.specs.declared.actions.Action.{Action}
@@ -32,7 +33,7 @@ use Rattle.pfs_engine_machine.specs.Runs.{machine_after, outcomes_of}
 use Rattle.pfs_engine_machine.specs.declared.events.Event.{Event}
 use Rattle.pfs_engine_machine.specs.declared.events.Outcome.{Outcome}
 use Rattle.pfs_engine_machine.specs.declared.events.Outcome.TheVariants as outcome
-use Rattle.pfs_engine_machine.specs.declared.events.What.TheVariants.{Packet, Skip}
+use Rattle.pfs_engine_machine.specs.declared.events.What.TheVariants.{Expire, Packet, Skip}
 
 -- ---- configurations: limits of states and nodes, the timeouts that differ, tables and items
 
@@ -89,6 +90,9 @@ comes now p = record { time = now; what = Packet p }
 
 abbrev nothing : ℕ → Event
 nothing now = record { time = now; what = Skip }
+
+abbrev expire : ℕ → ℕ → ℕ → Event
+expire now table seconds = record { time = now; what = Expire (record { 0 = table }) seconds }
 
 abbrev udp : ℕ → ℕ → ℕ → Event
 udp now n port = comes now (to_server Udp n port 53 (flagged false false false))
@@ -284,3 +288,46 @@ expired_matches : run_of (conf 100 100 (record usual { udp = 0 }) [] (rule false
     ≡ (made 0 ∷ of_state 0 ∷ [], (1, 0, 0))
 unfolding outcomes_of machine_after step verdict matches_item table_answer
 expired_matches = refl
+
+-- ---- table entries expire: an entry of the text counts from the first event, one that was added from its packet, and one that
+-- was held keeps its moment
+
+abbrev expiring : Conf
+expiring =
+    conf 100 100 usual (record { name = 98 ∷ []; is_const = false; entries = (record { addr = V4 (203 ∷ 0 ∷ 113 ∷ 9 ∷ []); bits = 32 }, false) ∷ [] } ∷ [])
+    (rule false (of_proto Tcp) (action.Keep (record no_options { scope = Some scope.Rule; max_src_conn = Some 1; overload = Some (record { table = record { 0 = 0 }; flush = None }) })) ∷ [])
+
+abbrev killed_as : Added → Outcome
+killed_as a = outcome.Kill (number 0) true false (Some a) 1
+
+entries_expire : run_of expiring
+    (nothing 100
+    ∷ (handshake 104 1 1000
+    ++ (handshake 104 1 1001
+    ++ (handshake 106 1 1002 ++ expire 108 0 5 ∷ expire 109 0 5 ∷ []))))
+    ≡ (
+      outcome.Skip
+          ∷ made 0
+          ∷ of_state 0
+          ∷ of_state 0
+          ∷ made 0
+          ∷ of_state 0
+          ∷ killed_as added.New
+          ∷ made 0
+          ∷ of_state 0
+          ∷ killed_as added.Held
+          ∷ outcome.Expire 1
+          ∷ outcome.Expire 1
+          ∷ [],
+      (1, 1, 0),
+    )
+unfolding outcomes_of machine_after step verdict matches_item table_answer covers cleared
+entries_expire = refl
+
+text_entries_stay : run_of expiring (nothing 100 ∷ expire 100 0 5 ∷ []) ≡ (outcome.Skip ∷ outcome.Expire 0 ∷ [], (0, 0, 1))
+unfolding outcomes_of machine_after step verdict matches_item table_answer
+text_entries_stay = refl
+
+first_expires : run_of expiring (expire 100 0 0 ∷ []) ≡ (outcome.Expire 1 ∷ [], (0, 0, 0))
+unfolding outcomes_of machine_after step verdict matches_item table_answer
+first_expires = refl

@@ -30,3 +30,4 @@ AreLooks conf of_source (outcome.Pass rule) looks = looks ≡ 0
 AreLooks conf of_source (outcome.Block rule) looks = looks ≡ 0
 AreLooks conf of_source (outcome.Drop rule limit) looks = looks ≡ 0
 AreLooks conf of_source outcome.Skip looks = looks ≡ 0
+AreLooks conf of_source (outcome.Expire removed) looks = looks ≡ 0

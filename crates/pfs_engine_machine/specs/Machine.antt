@@ -1,15 +1,15 @@
 -- The machine: what is held, and what one event does to it. (pf.conf(5), STATEFUL FILTERING and STATEFUL TRACKING OPTIONS)
-use Rattle.std.specs.Prelude.{ℕ, ◌+◌, ◌-◌, ◌||◌, not, max, Bool, true, false, Option, Some, None, List, [], ◌∷◌, length, filter}
+use Rattle.std.specs.Prelude.{ℕ, ◌≡◌, ◌<◌, ◌+◌, ◌-◌, ◌||◌, not, max, Bool, true, false, Option, Some, None, List, [], ◌∷◌, length, filter, slice_get, unwrap_or}
 use Rattle.std.specs.List.{range_with_len}
 use Rattle.pfs_addr.specs.Keys.{key_of}
 use Rattle.pfs_addr.specs.Packets.{Header}
 use Rattle.pfs_addr.specs.declared.addresses.Addr.{Addr}
 use Rattle.pfs_eval.specs.Entries.{Entry}
 use Rattle.pfs_eval.specs.Matching.{matches_item}
-use Rattle.pfs_eval.specs.Tables.{added_to, config_entries, entries_after, entry_count}
+use Rattle.pfs_eval.specs.Tables.{added_to, config_entries, entries_after, entries_expired, entry_count, expired_count}
 use Rattle.pfs_eval.specs.Verdict.{verdict}
 use Rattle.pfs_eval.specs.declared.tables.Added.{Added}
-use Rattle.pfs_conf_rules.specs.Configs.{Conf, limit_of, options_of, rule_of}
+use Rattle.pfs_conf_rules.specs.Configs.{Conf, is_const_table, limit_of, options_of, rule_of}
 use Rattle.pfs_conf_rules.specs.declared.actions.Action.{Action}
 use Rattle.pfs_conf_rules.specs.declared.actions.Action.TheVariants as action
 use Rattle.pfs_conf_rules.specs.declared.actions.Overload.{Overload}
@@ -39,14 +39,15 @@ pub record Held : Type 0 where
 abbrev pub held_of : World → List (List Entry) → Held
 held_of world tables = record { world = world; tables = tables }
 
--- what is held, and the moment of the last event
+-- what is held, and the moments of the first event and of the last
 pub record Machine : Type 0 where
   pub held : Held
+  pub first : Option ℕ
   pub last : Option ℕ
 
 -- before the first event: no state, and the tables as the rules text fills them
 abbrev pub start : Conf → Machine
-start conf = record { held = held_of empty_world (config_entries conf); last = None }
+start conf = record { held = held_of empty_world (config_entries conf); first = None; last = None }
 
 -- how many states, source nodes and entries are held
 abbrev pub states_held : Machine → ℕ
@@ -83,10 +84,17 @@ abbrev pub most_nodes : Conf → World → List ℕ → ℕ
 most_nodes conf w [] = 0
 most_nodes conf w (s ∷ ss) = max (node_slice_of conf (state_slice conf w s) s).examined (most_nodes conf (purge conf w s) ss)
 
+-- the first moment, once an event has come at this one
+abbrev pub first_by : Option ℕ → ℕ → ℕ
+first_by first now = unwrap_or first now
+
 -- the machine at a moment: all purges due are done
 abbrev pub advanced : Conf → Machine → ℕ → Machine
-advanced conf m now =
-    record { held = held_of (purged conf m.held.world (due m.last now)) m.held.tables; last = Some now }
+advanced conf m now = record {
+  held = held_of (purged conf m.held.world (due m.last now)) m.held.tables;
+  first = Some (first_by m.first now);
+  last = Some now;
+}
 
 -- ---- a completed handshake
 
@@ -95,9 +103,9 @@ abbrev pub added_by : Conf → List (List Entry) → Addr → Option Overload �
 added_by conf tables source None = None
 added_by conf tables source (Some v) = Some (added_to tables (limit_of conf limit_name.TableEntries) v.table.0 source)
 
-abbrev pub tables_by : Conf → List (List Entry) → Addr → Option Overload → List (List Entry)
-tables_by conf tables source None = tables
-tables_by conf tables source (Some v) = entries_after tables v.table.0 source (added_to tables (limit_of conf limit_name.TableEntries) v.table.0 source)
+abbrev pub tables_by : Conf → List (List Entry) → Addr → ℕ → Option Overload → List (List Entry)
+tables_by conf tables source now None = tables
+tables_by conf tables source now (Some v) = entries_after tables v.table.0 source now (added_to tables (limit_of conf limit_name.TableEntries) v.table.0 source)
 
 -- a state stays where the one of this number is killed, with those that its rule flushes
 abbrev pub stays_at_kill : Option Scope → ℕ → Touched → State → Bool
@@ -111,7 +119,7 @@ killed_count w flush number t = length (filter (goes_with flush number t) w.stat
 abbrev pub by_hit : Conf → Held → ℕ → ℕ → Touched → Option Overload → Bool → Bool → Bool → Outcome × Held
 by_hit conf h number now t overload conn rate false = (outcome.State t.rule, h)
 by_hit conf h number now t overload conn rate true =
-    (outcome.Kill t.rule conn rate (added_by conf h.tables t.source overload) (killed_count h.world (flush_of overload) number t), held_of (without conf h.world (stays_at_kill (flush_of overload) number t) now) (tables_by conf h.tables t.source overload))
+    (outcome.Kill t.rule conn rate (added_by conf h.tables t.source overload) (killed_count h.world (flush_of overload) number t), held_of (without conf h.world (stays_at_kill (flush_of overload) number t) now) (tables_by conf h.tables t.source now overload))
 
 -- what the handshake hits of the options of its rule
 abbrev pub by_options : Conf → Held → ℕ → ℕ → Touched → StateOptions → Outcome × Held
@@ -157,15 +165,34 @@ answered conf h p now = by_state conf h p now (state_with (key_of p) h.world)
 
 -- ---- one event
 
--- what comes
-abbrev pub acted : Conf → Held → ℕ → What → Outcome × Held
-acted conf h now what.Skip = (outcome.Skip, h)
-acted conf h now (what.Packet p) = answered conf h p now
+-- the old entries leave a table, where the run began at the first of these moments (pfctl(8), "-T expire")
+abbrev pub expired : Held → ℕ → ℕ → ℕ → ℕ → Outcome × Held
+expired h first now table seconds =
+    (outcome.Expire (expired_count h.tables table first now seconds), held_of h.world (entries_expired h.tables table first now seconds))
 
--- what it leaves is held, and its moment is the last
-abbrev pub at_moment : ℕ → Outcome × Held → Outcome × Machine
-at_moment now a = (a.0, record { held = a.1; last = Some now })
+-- what comes
+abbrev pub acted : Conf → Held → ℕ → ℕ → What → Outcome × Held
+acted conf h first now what.Skip = (outcome.Skip, h)
+acted conf h first now (what.Packet p) = answered conf h p now
+acted conf h first now (what.Expire table seconds) = expired h first now table.0 seconds
+
+-- what it leaves is held
+abbrev pub leaving : Machine → Outcome × Held → Outcome × Machine
+leaving m a = (a.0, record { held = a.1; first = m.first; last = m.last })
 
 -- the purges due, and then what comes
 unfoldable pub step : Conf → Machine → Event → Outcome × Machine
-step conf m e = at_moment e.time (acted conf (advanced conf m e.time).held e.time e.what)
+step conf m e =
+    leaving (advanced conf m e.time) (acted conf (advanced conf m e.time).held (first_by m.first e.time) e.time e.what)
+
+-- ---- what may come
+
+-- a table that the text names, and that is not `const`
+pub record MayExpire (conf : Conf) (table : ℕ) : Type 0 where
+  pub known : table < length conf.tables
+  pub changes : is_const_table (slice_get conf.tables table) ≡ false
+
+-- entries are taken out of such tables alone
+abbrev pub MayCome : Conf → What → Type 0
+MayCome conf (what.Expire table seconds) = MayExpire conf table.0
+MayCome conf _ = Unit {0}

@@ -30,6 +30,7 @@ completed_by p (Some s) = if completes_at p s then Some s else None
 abbrev pub handshake_by : World → What → Option State
 handshake_by w what.Skip = None
 handshake_by w (what.Packet p) = completed_by p (state_with (key_of p) w)
+handshake_by w (what.Expire table seconds) = None
 
 -- the state whose handshake an event completes
 abbrev pub handshake_at : Conf → Machine → Event → Option State

@@ -9,7 +9,7 @@ use Rattle.pfs_engine_machine.specs.declared.events.Event.{Event}
 use Rattle.pfs_engine_machine.specs.declared.events.Outcome.{Outcome}
 use Rattle.pfs_engine_machine.specs.declared.events.What.{What}
 use Rattle.pfs_engine_machine.specs.declared.events.What.TheVariants as what
-use Rattle.pfs_engine_machine.specs.Machine.{Machine, advanced, step}
+use Rattle.pfs_engine_machine.specs.Machine.{Machine, MayCome, advanced, step}
 use Rattle.pfs_engine_machine.specs.Refusals.{IsFree}
 
 -- the outcome of each event in turn
@@ -26,6 +26,7 @@ machine_after conf m (e ∷ es) = machine_after conf (step conf m e).1 es
 abbrev pub taken_by : What → ℕ
 taken_by (what.Packet p) = 1
 taken_by what.Skip = 0
+taken_by (what.Expire table seconds) = 0
 
 -- how many of these events are packets
 unfoldable pub packets_in : List Event → ℕ
@@ -36,6 +37,11 @@ packets_in (e ∷ es) = taken_by e.what + packets_in es
 abbrev pub IsInOrder : Option ℕ → List Event → Type 0
 IsInOrder last [] = Unit {0}
 IsInOrder last (e ∷ es) = ForSome last (λ m. m ≤ e.time) × (e.time < 2 ^ 32) × IsInOrder (Some e.time) es
+
+-- entries are taken out of no table that is `const`, nor of one that is not there
+abbrev pub AreAllowed : Conf → List Event → Type 0
+AreAllowed conf [] = Unit {0}
+AreAllowed conf (e ∷ es) = MayCome conf e.what × AreAllowed conf es
 
 -- memory was refused in the packet of this event, which needs memory there: the machine is at the event's moment
 pub record IsRefusedIn (conf : Conf) (m : Machine) (e : Event) (p : Header) (new : Machine) : Type 0 where

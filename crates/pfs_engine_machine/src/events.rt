@@ -1,7 +1,7 @@
 //! What comes, and what the machine does with it.
 
 use pfs_addr::Packet;
-use pfs_conf_rules::RuleNo;
+use pfs_conf_rules::{RuleNo, TableNo};
 use pfs_eval::Added;
 use pfs_store_plain::Limit;
 
@@ -12,6 +12,13 @@ pub enum What {
     Packet(Packet),
     /// A record that no state is made of: ICMP or ICMPv6, of which a trace does not tell enough.
     Skip,
+    /// The administrator takes out of a table the entries that are so many seconds old. (pfctl(8), "-T expire")
+    Expire {
+        /// The table: one that the text names, and not `const`.
+        table: TableNo,
+        /// The seconds: 0 to 4294967295.
+        seconds: u64,
+    },
 }
 
 /// What comes, and when.
@@ -49,6 +56,8 @@ pub enum Outcome {
         /// How many states were killed.
         killed: u64,
     },
-    /// The event is no packet.
+    /// A record that no state is made of.
     Skip,
+    /// So many entries left their table.
+    Expire(u64),
 }

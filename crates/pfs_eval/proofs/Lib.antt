@@ -1,6 +1,7 @@
 pub mod Bounds
 pub mod Cuts
 pub mod Deciding
+pub mod Expiring
 pub mod LinesMade
 pub mod Narrowest
 pub mod Paths

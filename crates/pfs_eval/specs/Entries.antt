@@ -11,9 +11,9 @@ use Rattle.pfs_eval.specs.declared.entries.Mark.{Mark}
 abbrev pub Entry : Type 0
 Entry = Network × Mark
 
--- the entry that a rules text says
+-- the entry that a rules text says: it was added at no moment
 abbrev pub entry_of : TextEntry → Entry
-entry_of e = (e.0, record { negated = e.1 })
+entry_of e = (e.0, record { negated = e.1; moment = None })
 
 -- of an entry and one that stands behind it, the one with more bits
 abbrev pub narrower : Entry → Option Entry → Entry

@@ -1,4 +1,4 @@
-use Rattle.std.specs.Prelude.{ℕ, Bool, false, nat_le, nat_lt, if◌then◌else◌, List, [], ◌∷◌, ◌++◌, length, map, unwrap_or, slice_get, slice_set, slice_index}
+use Rattle.std.specs.Prelude.{ℕ, ◌+◌, Bool, false, not, nat_le, nat_lt, if◌then◌else◌, Some, List, [], ◌∷◌, ◌++◌, filter, length, map, unwrap_or, slice_get, slice_set, slice_index}
 use Rattle.std.specs.List.{sum_by}
 use Rattle.pfs_addr.specs.declared.addresses.Addr.{Addr}
 use Rattle.pfs_addr.specs.Addresses.{width_of}
@@ -6,6 +6,7 @@ use Rattle.pfs_addr.specs.Prefixes.{network_of}
 use Rattle.pfs_conf_rules.specs.Configs.{Conf}
 use Rattle.pfs_conf_rules.specs.declared.tables.TableDef.{TableDef}
 use Rattle.pfs_eval.specs.Entries.{Entry, answer_of, entry_of, holds_host}
+use Rattle.pfs_eval.specs.declared.entries.Mark.{Mark}
 use Rattle.pfs_eval.specs.declared.tables.Added.{Added}
 use Rattle.pfs_eval.specs.declared.tables.Added.TheVariants.{New, Held, Full}
 
@@ -30,9 +31,9 @@ entry_count tables = sum_by (λ (es : List Entry). length es) tables
 
 -- ---- a host is added (own)
 
--- the entry of a single host
-abbrev pub host_entry : Addr → Entry
-host_entry a = (network_of a (width_of a), record { negated = false })
+-- the entry of a single host that is added at a moment
+abbrev pub host_entry : Addr → ℕ → Entry
+host_entry a now = (network_of a (width_of a), record { negated = false; moment = Some now })
 
 -- what becomes of a host: held where the table has an entry for exactly that host, negated or not; else full where the
 -- tables together have as many entries as the limit; else new
@@ -40,11 +41,36 @@ abbrev pub added_to : List (List Entry) → ℕ → ℕ → Addr → Added
 added_to tables limit t a =
     if holds_host (entries_at tables t) a then Held else (if nat_le limit (entry_count tables) then Full else New)
 
--- the entries after that: a new host stands last in its table, and else nothing changes
-abbrev pub entries_after : List (List Entry) → ℕ → Addr → Added → List (List Entry)
-entries_after tables t a New = slice_set tables t (entries_at tables t ++ host_entry a ∷ [])
-entries_after tables t a Held = tables
-entries_after tables t a Full = tables
+-- the entries after that: a new host stands last in its table, and else nothing changes; a host that is held keeps the moment
+-- at which it was added
+abbrev pub entries_after : List (List Entry) → ℕ → Addr → ℕ → Added → List (List Entry)
+entries_after tables t a now New = slice_set tables t (entries_at tables t ++ host_entry a now ∷ [])
+entries_after tables t a now Held = tables
+entries_after tables t a now Full = tables
+
+-- ---- entries expire (pfctl(8), "-T expire"; which moments count is own)
+
+-- an entry was added so many seconds ago, or before that. For one that the rules text says the first moment counts
+abbrev pub is_old : ℕ → ℕ → ℕ → Mark → Bool
+is_old first now seconds m = nat_le (unwrap_or m.moment first + seconds) now
+
+-- the entries of a table that are not so old, in their order
+abbrev pub young : ℕ → ℕ → ℕ → List Entry → List Entry
+young first now seconds es = filter (λ (e : Entry). not (is_old first now seconds e.1)) es
+
+-- how many are so old
+abbrev pub old_count : ℕ → ℕ → ℕ → List Entry → ℕ
+old_count first now seconds es = length (filter (λ (e : Entry). is_old first now seconds e.1) es)
+
+-- the entries of the tables after the old ones of a table left
+abbrev pub entries_expired : List (List Entry) → ℕ → ℕ → ℕ → ℕ → List (List Entry)
+entries_expired tables t first now seconds = slice_set tables t (young first now seconds (entries_at tables t))
+
+-- how many left
+abbrev pub expired_count : List (List Entry) → ℕ → ℕ → ℕ → ℕ → ℕ
+expired_count tables t first now seconds = old_count first now seconds (entries_at tables t)
+
+-- ---- room
 
 -- whether one more entry fits into a table without memory. room: how many fit into each
 abbrev pub has_room : List ℕ → ℕ → Bool

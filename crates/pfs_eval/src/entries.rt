@@ -1,10 +1,11 @@
 // The entries of one table: prefixes in the order in which they came, each with its mark.
 
-ghost use Rattle.std.specs.Prelude.{◌≡◌, ◌<◌, ◌≤◌, ◌++◌, [], ◌∷◌, IfOk, IsOk, OnErr, OnOk, map, nat_lt, false};
+ghost use Rattle.std.specs.Prelude.{◌≡◌, ◌<◌, ◌≤◌, ◌++◌, [], ◌∷◌, IfOk, IsOk, OnErr, OnOk, map, nat_lt, not, false};
 ghost use Rattle.pfs_addr.specs.Addresses.{width_of};
 ghost use Rattle.pfs_addr.specs.Prefixes.{network_of};
 ghost use Rattle.pfs_eval.specs.Holdings.{AreKept};
 ghost use Rattle.pfs_eval.specs.Entries.{answer_of, entry_of, holds_host, holds_prefix, mark_at};
+ghost use Rattle.pfs_eval.specs.Tables.{is_old, old_count, young};
 
 use indexmap::IndexMap;
 use pfs_addr::{Addr, Prefix};
@@ -17,6 +18,8 @@ use std::marker::Model;
 pub struct Mark {
     /// Whether a `!` stands before the prefix.
     pub negated: bool,
+    /// The moment at which it was added, in seconds; none of one that the rules text says.
+    pub moment: Option<u64>,
 }
 
 /// The lengths that a prefix of any family may have: 0 to 128.
@@ -26,7 +29,7 @@ const LENGTHS: usize = 129;
 #[derive(Drop)]
 pub struct Table {
     map: IndexMap<Prefix, Mark>,
-    /// For each length of a prefix, whether an entry has it. Other lengths are not looked up.
+    /// For each length of a prefix, whether an entry has or had it. Other lengths are not looked up.
     lengths: [bool; LENGTHS],
 }
 
@@ -59,13 +62,17 @@ impl Table {
         let mut table = Table::new(alloc);
         for place in 0..entries.len() {
             let (prefix, negated) = entries.at(place).unwrap();
-            table.add(prefix.addr(), prefix.bits(), Mark { negated })?;
+            let mark = Mark {
+                negated,
+                moment: None,
+            };
+            table.add(prefix.addr(), prefix.bits(), mark)?;
         }
         Ok(table)
     }
 
     /// Whether the narrowest entry that covers the address is there and not negated. One look-up is made for each length
-    /// that an entry has.
+    /// that an entry has or had.
     pub fn matches(&self, addr: Addr) -> bool
         ensures { result ≡ answer_of self.now.entries addr }
     {
@@ -107,6 +114,29 @@ impl Table {
         self.lengths[usize::from(bits)] = true;
         Ok(())
     }
+
+    /// The entries leave that were added so many seconds ago or before that, where for those of the rules text `first`
+    /// counts; the others keep their order. It answers how many left, goes through all entries once, and takes no memory.
+    pub fn expire(&mut self, first: u64, now: u64, seconds: u64) -> u64
+        ensures answer { result ≡ old_count first now seconds self.old.entries }
+        ensures entries { self.new.entries ≡ young first now seconds self.old.entries }
+        ensures room { self.old.spare ≤ self.new.spare }
+    {
+        let before = self.map.len();
+        self.map.retain(
+            |_prefix: &Prefix, mark: &mut Mark| -> bool
+                ensures { (result ≡ not (is_old first now seconds mark.old)) × (mark.new ≡ mark.old) }
+            { !is_old(*mark, first, now, seconds) },
+        );
+        (before - self.map.len()) as u64
+    }
+}
+
+/// Whether an entry was added so many seconds ago, or before that.
+fn is_old(mark: Mark, first: u64, now: u64, seconds: u64) -> bool
+    ensures { result ≡ is_old first now seconds mark }
+{
+    seconds <= now && mark.moment.unwrap_or(first) <= now - seconds
 }
 
 /// The answer for an address: of its prefixes, from the longest on, the first that is an entry says.

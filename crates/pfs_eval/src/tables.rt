@@ -2,7 +2,7 @@
 
 ghost use Rattle.std.specs.Prelude.{◌≡◌, ◌<◌, ◌≤◌, ◌⊎◌, IfOk, IsOk, OnErr, OnOk, Some, length, nat_le, option_map, slice_get, true};
 ghost use Rattle.pfs_conf_rules.specs.Configs.{limit_of};
-ghost use Rattle.pfs_eval.specs.Tables.{added_to, config_entries, entries_after, entry_count, has_room, table_answer};
+ghost use Rattle.pfs_eval.specs.Tables.{added_to, config_entries, entries_after, entries_expired, entry_count, expired_count, has_room, table_answer};
 
 use crate::entries::{Mark, Table};
 use pfs_addr::{Addr, NoMemory};
@@ -65,7 +65,7 @@ impl Tables {
 
     /// The answer of a table for an address: of its entries that cover the address the one with most bits says; yes if
     /// there is one and it is not negated. A table that is not there answers no. It takes no memory, and makes
-    /// one look-up at most for each length that an entry of the table has. (pf.conf(5), TABLES)
+    /// one look-up at most for each length that an entry of the table has or had. (pf.conf(5), TABLES)
     pub fn matches(&self, table: TableNo, addr: Addr) -> bool
         ensures { result ≡ table_answer self.now.entries table.0 addr }
     {
@@ -91,8 +91,8 @@ impl Tables {
     }
 
     /// Takes memory for one more entry of a table, where that does not fit already and the entries are not at their
-    /// limit; after `Ok` the next `add_host` to that table is no error. No entry changes. The error says that the memory
-    /// was refused.
+    /// limit; after `Ok` the next `add_host` to that table is no error, with no `expire` between: after one, a limit that
+    /// was met may be free again. No entry changes. The error says that the memory was refused.
     pub fn make_room(&mut self, table: TableNo) -> Result<(), NoMemory>
         requires { table.0 < length self.old.entries }
         ensures entries { self.new.entries ≡ self.old.entries }
@@ -108,14 +108,14 @@ impl Tables {
         Ok(())
     }
 
-    /// Adds a single host to a table: not if the table has an entry for exactly that host, negated or not, and not if all
+    /// Adds a single host to a table at a moment, in seconds: not if the table has an entry for exactly that host, negated or not, and not if all
     /// tables together have as many entries as the limit allows. The error says that memory was refused; it comes only
-    /// where the host is new and does not fit without memory. On an error, and where the host is not new, nothing changes.
-    /// (own to this profile)
-    pub fn add_host(&mut self, table: TableNo, host: Addr) -> Result<Added, NoMemory>
+    /// where the host is new and does not fit without memory. On an error, and where the host is not new, nothing changes:
+    /// a host that is held keeps its moment. (own to this profile)
+    pub fn add_host(&mut self, table: TableNo, host: Addr, now: u64) -> Result<Added, NoMemory>
         requires { table.0 < length self.old.entries }
         ensures answer { IfOk result (λ a. a ≡ added_to self.old.entries self.old.limit table.0 host) }
-        ensures ok { IfOk result (λ a. self.new.entries ≡ entries_after self.old.entries table.0 host a) }
+        ensures ok { IfOk result (λ a. self.new.entries ≡ entries_after self.old.entries table.0 host now a) }
         ensures err { OnErr result (self.new.entries ≡ self.old.entries) }
         ensures tables { length self.new.entries ≡ length self.old.entries }
         ensures only_new { OnErr result (added_to self.old.entries self.old.limit table.0 host ≡ Added.New) }
@@ -130,9 +130,30 @@ impl Tables {
         if self.is_full() {
             return Ok(Added::Full);
         }
-        self.tables[place].add(host, host.width(), Mark { negated: false })?;
+        let mark = Mark {
+            negated: false,
+            moment: Some(now),
+        };
+        self.tables[place].add(host, host.width(), mark)?;
         self.count += 1;
         Ok(Added::New)
+    }
+
+    /// Takes out of a table the entries that were added `seconds` before `now`, or before that; for those that the rules
+    /// text says, the moment `first` counts. It answers how many left. The others keep their order, and no other table
+    /// changes. It goes through the entries of that table alone, and takes no memory. (pfctl(8), "-T expire"; which
+    /// moments count is own to this profile)
+    pub fn expire(&mut self, table: TableNo, first: u64, now: u64, seconds: u64) -> u64
+        requires table { table.0 < length self.old.entries }
+        requires moments { first ≤ now }
+        ensures answer { result ≡ expired_count self.old.entries table.0 first now seconds }
+        ensures entries { self.new.entries ≡ entries_expired self.old.entries table.0 first now seconds }
+        ensures tables { length self.new.entries ≡ length self.old.entries }
+        ensures limit { self.new.limit ≡ self.old.limit }
+    {
+        let left = self.tables[table.0 as usize].expire(first, now, seconds);
+        self.count -= left;
+        left
     }
 
     /// Whether all tables together have as many entries as the limit allows.

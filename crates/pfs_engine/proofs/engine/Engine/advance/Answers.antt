@@ -4,7 +4,7 @@ use Rattle.pfs_store_plain.specs.Worlds.{World}
 use Rattle.pfs_engine_machine.specs.Kept.{IsKept, IsWithinLimits}
 use Rattle.pfs_engine_machine.specs.Machine.{due, held_of, most_nodes, most_states, purged}
 use Rattle.pfs_engine.specs.Views.{View, machine_at}
-use Rattle.pfs_engine_machine.proofs.KeptTime.{kept_advanced, made_purged}
+use Rattle.pfs_engine_machine.proofs.KeptTime.{first_advanced, kept_advanced, made_purged}
 use Rattle.pfs_engine_machine.proofs.Shares.{most_nodes-share, most_states-share}
 use Rattle.pfs_engine.proofs.engine.Engine.advance.Goals as goal
 
@@ -14,7 +14,7 @@ invariant_of-self g c =
     let i = c.self.invariant in
     let w = g.S.Store.world inside.store in
     let seconds = due inside.last c.args.now in
-    let before = machine_at w inside.tables.entries inside.last in
+    let before = machine_at w inside.tables.entries inside.first inside.last in
     let is : g.S.Store.world c.purge_due-self-inside.new.store ≡ purged inside.config w seconds =
     c.purge_due-self-inside.ensures.world ∙ ap (λ (k : Conf). purged k w seconds) i.made_for in
     record {
@@ -24,6 +24,7 @@ invariant_of-self g c =
       kept = subst (λ (v : World). IsKept inside.config (held_of v inside.tables.entries) c.args.now) (sym is) (kept_advanced inside.config before c.args.now (λ last e. c.requires.order last (sym (ap (λ (v : View). v.machine.last) c.self.view_is) ∙ e)) i.kept);
       made = omega (arith, ap (λ (v : World). v.made) is, made_purged inside.config w seconds, i.made);
       few = i.few;
+      moments = omega (arith, c.unwrap_or.ensures, first_advanced inside.config before c.args.now (λ last e. c.requires.order last (sym (ap (λ (v : View). v.machine.last) c.self.view_is) ∙ e)) i.moments);
       config = i.config;
     }
 
@@ -33,7 +34,7 @@ returns-clause-limits g c =
     let i = c.self.invariant in
     let w = g.S.Store.world inside.store in
     let seconds = due inside.last c.args.now in
-    let before = machine_at w inside.tables.entries inside.last in
+    let before = machine_at w inside.tables.entries inside.first inside.last in
     let is : g.S.Store.world c.purge_due-self-inside.new.store ≡ purged inside.config w seconds =
     c.purge_due-self-inside.ensures.world ∙ ap (λ (k : Conf). purged k w seconds) i.made_for in
     let kept = kept_advanced inside.config before c.args.now (λ last e. c.requires.order last (sym (ap (λ (v : View). v.machine.last) c.self.view_is) ∙ e)) i.kept in

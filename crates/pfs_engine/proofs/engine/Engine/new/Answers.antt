@@ -11,6 +11,7 @@ invariant_of-result g c = record {
   kept = rw (c.requires.empty, c.in_ok-tables.ensures.entries) (kept_start c.args.config c.limit-limit.ensures.sound);
   made = omega (arith, ap (λ (w : World). w.made) c.requires.empty);
   few = omega arith;
+  moments = omega arith;
   config = c.limit-limit.ensures.sound;
 }
 

@@ -29,6 +29,7 @@ invariant_of-self g c =
       kept = subst (IsKept inside.config (held_of after entries)) moment kept;
       made = made_result inside.config w after tables entries p now inside.taken c.taken_after-self-inside.result c.answer-outcome.result a.ok a.world t.ok t.err i.made;
       few = few_result inside.taken c.taken_after-self-inside.result c.answer-outcome.result (omega (arith, same_taken, c.requires.room)) t.ok t.err;
+      moments = i.moments;
       config = i.config;
     }
 
@@ -43,7 +44,7 @@ returns-clause-refused_only g c =
     let refused = refused_result inside.config c.args.self.now.machine.held before after c.args.packet.now c.unwrap_or-now.result c.answer-outcome.result same_held c.answer-outcome.ensures.ok in
     rw (sym same_config) (λ rule limit e.
     let told = refused rule limit e in
-    (told.0, ap (λ (h : Held). machine_at h.world h.tables inside.last) told.1 ∙ same_machine))
+    (told.0, ap (λ (h : Held). machine_at h.world h.tables inside.first inside.last) told.1 ∙ same_machine))
 
 pub returns-clause-shared : goal.returns-clause-shared
 returns-clause-shared g c =

@@ -4,7 +4,7 @@ use Rattle.pfs_engine_machine.specs.declared.events.Event.{Event}
 use Rattle.pfs_engine_machine.specs.declared.events.Outcome.{Outcome}
 use Rattle.pfs_engine_machine.specs.Kept.{IsWithinLimits}
 use Rattle.pfs_engine.specs.Views.{View}
-use Rattle.pfs_engine_machine.proofs.Running.{machine_next, machine_none, order_next, outcomes_next, outcomes_none, taken_next, taken_none}
+use Rattle.pfs_engine_machine.proofs.Running.{allowed_here, allowed_next, machine_next, machine_none, order_next, outcomes_next, outcomes_none, taken_next, taken_none}
 use Rattle.pfs_engine.proofs.engine.Engine.run.Goals as goal
 
 pub loop-event-init : goal.loop-event-init
@@ -15,6 +15,7 @@ loop-event-init g c =
       outcomes = outcomes_none conf first c.args.outcomes.now.items;
       machine = machine_none conf first;
       config = refl;
+      allowed = c.requires.tables;
       order = c.requires.order;
       limits = subst (λ (v : View). IsWithinLimits v.config v.machine.held) c.self.view_is c.self.invariant.kept.limits;
       taken = taken_none c.args.self.now.taken;
@@ -74,7 +75,16 @@ loop-event-preserved g c =
       machine = machine_next conf first c.loop-event.self.machine _ c.in-Ok.outcome es at _ within stepped i.machine;
       config = c.event.ensures.config ∙ i.config;
       limits = c.event.ensures.limits;
+      allowed = allowed_next conf es at c.event-item.result within i.allowed;
       order = rw (c.event.ensures.last, c.event-item.is) (order_next c.loop-event.self.machine.last es at _ within i.order);
       taken = taken_next c.args.self.now.taken c.loop-event.self.taken c.event.new.self.taken es at _ within i.taken (rw c.event-item.is at k.taken);
       room = omega (arith, length-drop at es, length-drop (at + 1) es, i.room, c.event.ensures.few);
     }
+
+pub event-requires-clause-table : goal.event-requires-clause-table
+event-requires-clause-table g c =
+    let i = c.loop-event.invariant in
+    let at = c.loop-event.event-index in
+    let es = c.args.events.now in
+    let within : at < length es = omega arith in
+    rw (i.config, c.event-item.is) (allowed_here c.args.self.now.config es at _ within i.allowed)

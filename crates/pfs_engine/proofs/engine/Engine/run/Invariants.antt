@@ -1,6 +1,6 @@
 use Rattle.std.proofs.Common.{◌≡◌, ◌≤◌, ◌+◌, ◌++◌, length, take, drop}
 use Rattle.pfs_engine_machine.specs.Kept.{IsWithinLimits}
-use Rattle.pfs_engine_machine.specs.Runs.{IsInOrder, machine_after, outcomes_of, packets_in}
+use Rattle.pfs_engine_machine.specs.Runs.{AreAllowed, IsInOrder, machine_after, outcomes_of, packets_in}
 use Rattle.pfs_engine.proofs.engine.Engine.run.Given as goal
 
 -- the events so far were taken, and the others are in order
@@ -13,6 +13,7 @@ invariant-loop-event g l =
       machine : l.self.machine ≡ machine_after conf first (take l.event-index l.events);
       config : l.self.config ≡ conf;
       limits : IsWithinLimits l.self.config l.self.machine.held;
+      allowed : AreAllowed conf (drop l.event-index l.events);
       order : IsInOrder l.self.machine.last (drop l.event-index l.events);
       taken : l.self.taken ≡ l.fn.self.taken + packets_in (take l.event-index l.events);
       room : l.self.taken + length (drop l.event-index l.events) ≤ 1000000000;

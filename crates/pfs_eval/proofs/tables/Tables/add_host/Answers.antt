@@ -1,4 +1,4 @@
-use Rattle.std.proofs.Common.{◌+◌, ◌++◌, [], ◌∷◌, false, ap, sym, ◌∙◌}
+use Rattle.std.proofs.Common.{◌+◌, ◌++◌, [], ◌∷◌, false, Some, ap, sym, ◌∙◌}
 use Rattle.pfs_addr.specs.Prefixes.{network_of}
 use Rattle.pfs_eval.specs.Holdings.{Holdings}
 use Rattle.pfs_eval.specs.Tables.{entry_count, host_entry, entries_after}
@@ -27,9 +27,9 @@ pub invariant_of-self-2 : goal.invariant_of-self-2
 invariant_of-self-2 c =
     let within = within-held c.self.inside.tables.items c.args.self.now.entries c.args.table.0 (ap (λ (h : Holdings). h.entries) c.self.view_is) c.requires in
     let added = c.in_ok-add.ensures.ok
-    ∙ ap (λ n. c.index_mut.result.now.entries ++ (network_of c.args.host n, record { negated = false }) ∷ []) c.width.ensures in (
+    ∙ ap (λ n. c.index_mut.result.now.entries ++ (network_of c.args.host n, record { negated = false; moment = Some c.args.now }) ∷ []) c.width.ensures in (
       ap (λ n. n + 1) c.self.invariant.0
-          ∙ sym (count-added c.self.inside.tables.items c.args.table.0 c.index_mut.result.now c.add.new.self (host_entry c.args.host) within c.index_mut.ensures.value added),
+          ∙ sym (count-added c.self.inside.tables.items c.args.table.0 c.index_mut.result.now c.add.new.self (host_entry c.args.host c.args.now) within c.index_mut.ensures.value added),
       c.self.invariant.1,
     )
 
@@ -45,6 +45,6 @@ returns-clause-ok c =
     let view = ap (λ (h : Holdings). h.entries) c.self.view_is in
     let within = within-held c.self.inside.tables.items c.args.self.now.entries c.args.table.0 view c.requires in
     let added = c.in_ok-add.ensures.ok
-    ∙ ap (λ n. c.index_mut.result.now.entries ++ (network_of c.args.host n, record { negated = false }) ∷ []) c.width.ensures in
-    entries-added c.self.inside.tables.items c.args.table.0 c.index_mut.result.now c.add.new.self (host_entry c.args.host) within c.index_mut.ensures.value added
-    ∙ ap (λ es. entries_after es c.args.table.0 c.args.host New) view
+    ∙ ap (λ n. c.index_mut.result.now.entries ++ (network_of c.args.host n, record { negated = false; moment = Some c.args.now }) ∷ []) c.width.ensures in
+    entries-added c.self.inside.tables.items c.args.table.0 c.index_mut.result.now c.add.new.self (host_entry c.args.host c.args.now) within c.index_mut.ensures.value added
+    ∙ ap (λ es. entries_after es c.args.table.0 c.args.host c.args.now New) view

@@ -1,0 +1,36 @@
+use Rattle.std.proofs.Common.{◌≡◌, ◌+◌, ◌∙◌, ap, arith, sym, List}
+use Rattle.pfs_eval.specs.Entries.{Entry}
+use Rattle.pfs_eval.specs.Holdings.{Holdings}
+use Rattle.pfs_eval.specs.Tables.{entries_expired, expired_count, old_count}
+use Rattle.pfs_eval.proofs.Expiring.{count-expired, entries-expired}
+use Rattle.pfs_eval.proofs.Rooms.{entries_at-held, entries_of, within-held}
+use Rattle.pfs_eval.proofs.tables.Tables.expire.Goals as goal
+
+pub overflow_sub-self : goal.overflow_sub-self
+overflow_sub-self c =
+    let view = ap (λ (h : Holdings). h.entries) c.self.view_is in
+    let within = within-held c.self.inside.tables.items c.args.self.now.entries c.args.table.0 view c.requires.table in
+    let fewer = count-expired c.self.inside.tables.items c.args.table.0 c.args.first c.args.now c.args.seconds c.index_mut.result.now c.expire-left.new.self within c.index_mut.ensures.value c.expire-left.ensures.entries in
+    omega (arith, fewer, c.expire-left.ensures.answer, c.self.invariant.0)
+
+pub invariant_of-self : goal.invariant_of-self
+invariant_of-self c =
+    let view = ap (λ (h : Holdings). h.entries) c.self.view_is in
+    let within = within-held c.self.inside.tables.items c.args.self.now.entries c.args.table.0 view c.requires.table in
+    let fewer = count-expired c.self.inside.tables.items c.args.table.0 c.args.first c.args.now c.args.seconds c.index_mut.result.now c.expire-left.new.self within c.index_mut.ensures.value c.expire-left.ensures.entries in
+    (omega (arith, fewer, c.expire-left.ensures.answer, c.self.invariant.0), c.self.invariant.1)
+
+pub returns-clause-answer : goal.returns-clause-answer
+returns-clause-answer c =
+    let view = ap (λ (h : Holdings). h.entries) c.self.view_is in
+    let within = within-held c.self.inside.tables.items c.args.self.now.entries c.args.table.0 view c.requires.table in
+    c.expire-left.ensures.answer
+    ∙ ap (old_count c.args.first c.args.now c.args.seconds) (sym (entries_at-held c.self.inside.tables.items c.args.table.0 c.index_mut.result.now within c.index_mut.ensures.value))
+    ∙ ap (λ (es : List (List Entry)). expired_count es c.args.table.0 c.args.first c.args.now c.args.seconds) view
+
+pub returns-clause-entries : goal.returns-clause-entries
+returns-clause-entries c =
+    let view = ap (λ (h : Holdings). h.entries) c.self.view_is in
+    let within = within-held c.self.inside.tables.items c.args.self.now.entries c.args.table.0 view c.requires.table in
+    entries-expired c.self.inside.tables.items c.args.table.0 c.args.first c.args.now c.args.seconds c.index_mut.result.now c.expire-left.new.self within c.index_mut.ensures.value c.expire-left.ensures.entries
+    ∙ ap (λ (es : List (List Entry)). entries_expired es c.args.table.0 c.args.first c.args.now c.args.seconds) view
