@@ -13,29 +13,29 @@ use Rattle.pfs_conf_rules.specs.declared.limits.LimitName.{LimitName}
 use Rattle.pfs_conf_rules.specs.declared.limits.LimitName.TheVariants as limit
 use Rattle.pfs_conf_rules.specs.declared.timeouts.TimeoutName.{TimeoutName}
 use Rattle.pfs_conf_rules.specs.Drafts.{Drafted, with_limit, with_timeout, is_defined}
-use Rattle.pfs_conf_settings.specs.Settings.{timeout_named, value_at, limited, limit_by, limit_at, least_value, greatest_value, unkept, timed, time_by, time_at, lined_limit_at, lined_time_at, limits_by, limits_at, times_by, times_at, settings_by, settings_at}
-use Rattle.pfs_conf_settings.specs.Tables.{negation_by, negation_at, again, joined, entered, entry_by, entry_at, lined_entry_at, entries_by, entries_at, unless, part_by, part_at, parts_at}
+use Rattle.pfs_conf_settings.specs.Settings.{timeout_named, bounded_at, limited, limit_by, limit_at, least_value, greatest_value, unkept, timed, time_by, time_at, lined_limit_at, lined_time_at, limits_by, limits_at, times_by, times_at, settings_by, settings_at}
+use Rattle.pfs_conf_settings.specs.Tables.{sign_by, sign_at, again, joined, entered, entry_by, entry_at, lined_entry_at, entries_by, entries_at, unless, part_by, part_at, parts_at}
 use Rattle.pfs_conf_settings.specs.TableGrammar.{no_parts}
 use Rattle.pfs_conf_settings.specs.declared.tables.Parts.{Parts}
-use Rattle.pfs_conf.specs.Reading.{open_by, close_by, table_named, table_name_by, table_name_at}
+use Rattle.pfs_conf.specs.Reading.{open_by, angle_by, table_named, new_name_by, new_name_at}
 use Rattle.pfs_conf.proofs.BraceLaws.{Keeps, KeepsAct, keeps_done, keeps_chain, keeps_front, keeps_if, keeps_once, keeps_word, keeps_number, keeps_up_to_line, keeps_list, keeps_skipping}
 
 -- ---- options (pf.conf(5), OPTIONS)
 
-keeps_value : (lined : Bool) (low high : ℕ) → Keeps lined lined (value_at lined low high)
-unfolding value_at
+keeps_value : (lined : Bool) (low high : ℕ) → Keeps lined lined (bounded_at lined low high)
+unfolding bounded_at
 keeps_value true low high = keeps_skipping (number_at low high) (keeps_number true low high)
 keeps_value false low high = keeps_number false low high
 
 limited_acts : (lined : Bool) (name : LimitName) (d : Drafted) (k : Key) → is_word_key k ≡ true → KeepsAct lined lined k (limited lined name d)
-limited_acts lined name d k e = keeps_word lined lined k _ e (keeps_chain (value_at lined 1 4294967295) (λ n. done (with_limit name n d)) (keeps_value lined 1 4294967295) (λ n. keeps_done (with_limit name n d)))
+limited_acts lined name d k e = keeps_word lined lined k _ e (keeps_chain (bounded_at lined 1 4294967295) (λ n. done (with_limit name n d)) (keeps_value lined 1 4294967295) (λ n. keeps_done (with_limit name n d)))
 
 limit_acts : (lined : Bool) (d : Drafted) (k : Key) → KeepsAct lined lined k (limit_by lined d k)
 limit_acts lined d key.States = limited_acts lined limit.States d key.States refl
 limit_acts lined d key.SrcNodes = limited_acts lined limit.SrcNodes d key.SrcNodes refl
 limit_acts lined d key.Tables = limited_acts lined limit.Tables d key.Tables refl
 limit_acts lined d key.TableEntries = limited_acts lined limit.TableEntries d key.TableEntries refl
-limit_acts lined d key.Frags = keeps_word lined lined key.Frags _ refl (keeps_chain (value_at lined 1 4294967295) (λ n. done d) (keeps_value lined 1 4294967295) (λ n. keeps_done d))
+limit_acts lined d key.Frags = keeps_word lined lined key.Frags _ refl (keeps_chain (bounded_at lined 1 4294967295) (λ n. done d) (keeps_value lined 1 4294967295) (λ n. keeps_done d))
 limit_acts lined d _ = tt
 
 keeps_limit : (lined : Bool) (d : Drafted) → Keeps lined lined (limit_at lined d)
@@ -61,10 +61,10 @@ named_is_word _ name e = refl
 timed_acts : (lined : Bool) (d : Drafted) (k : Key) (o : Option TimeoutName) → timeout_named k ≡ o → KeepsAct lined lined k (timed lined d o)
 timed_acts lined d k None e = tt
 timed_acts lined d k (Some name) e = keeps_word lined lined k _ (named_is_word k name e)
-    (keeps_chain (value_at lined (least_value name) (greatest_value name)) (λ n. done (with_timeout name n d)) (keeps_value lined (least_value name) (greatest_value name)) (λ n. keeps_done (with_timeout name n d)))
+    (keeps_chain (bounded_at lined (least_value name) (greatest_value name)) (λ n. done (with_timeout name n d)) (keeps_value lined (least_value name) (greatest_value name)) (λ n. keeps_done (with_timeout name n d)))
 
 unkept_acts : (lined : Bool) (d : Drafted) (k : Key) → is_word_key k ≡ true → KeepsAct lined lined k (unkept lined d)
-unkept_acts lined d k e = keeps_word lined lined k _ e (keeps_chain (value_at lined 0 2147483647) (λ n. done d) (keeps_value lined 0 2147483647) (λ n. keeps_done d))
+unkept_acts lined d k e = keeps_word lined lined k _ e (keeps_chain (bounded_at lined 0 2147483647) (λ n. done d) (keeps_value lined 0 2147483647) (λ n. keeps_done d))
 
 time_acts : (lined : Bool) (d : Drafted) (k : Key) → KeepsAct lined lined k (time_by lined d k)
 time_acts lined d key.Frag = unkept_acts lined d key.Frag refl
@@ -115,13 +115,13 @@ keeps_settings d = keeps_front (λ t. settings_by d t.key) (λ t. settings_acts 
 
 -- ---- tables (pf.conf(5), TABLES)
 
-negation_acts : (k : Key) → KeepsAct true true k (negation_by k)
+negation_acts : (k : Key) → KeepsAct true true k (sign_by k)
 negation_acts key.Not = (refl, keeps_done true)
 negation_acts _ = keeps_done false
 
-keeps_negation : Keeps true true negation_at
-unfolding negation_at
-keeps_negation = keeps_front (λ t. negation_by t.key) (λ t. negation_acts t.key)
+keeps_negation : Keeps true true sign_at
+unfolding sign_at
+keeps_negation = keeps_front (λ t. sign_by t.key) (λ t. negation_acts t.key)
 
 held_acts : (k : Key) (entries : List Entry) → is_word_key k ≡ true → KeepsAct true true k (take (done entries))
 held_acts k entries e = keeps_word true true k (done entries) e (keeps_done entries)
@@ -151,8 +151,8 @@ keeps_signed entries negated = keeps_skipping (chain (entry_at entries negated) 
 keeps_lined_entry : (entries : List Entry) → Keeps true true (lined_entry_at entries)
 unfolding lined_entry_at
 keeps_lined_entry entries =
-    keeps_skipping (chain negation_at (λ negated. skipping (chain (entry_at entries negated) (λ more. skipping (done more)))))
-    (keeps_chain negation_at (λ negated. skipping (chain (entry_at entries negated) (λ more. skipping (done more)))) keeps_negation (keeps_signed entries))
+    keeps_skipping (chain sign_at (λ negated. skipping (chain (entry_at entries negated) (λ more. skipping (done more)))))
+    (keeps_chain sign_at (λ negated. skipping (chain (entry_at entries negated) (λ more. skipping (done more)))) keeps_negation (keeps_signed entries))
 
 entries_acts : (k : Key) → KeepsAct true false k (entries_by k)
 entries_acts key.CloseBrace = (refl, keeps_done [])
@@ -185,7 +185,7 @@ open_acts : (k : Key) → KeepsAct false false k (open_by k)
 open_acts key.OpenAngle = (refl, keeps_done tt)
 open_acts _ = tt
 
-close_acts : (k : Key) → KeepsAct false false k (close_by k)
+close_acts : (k : Key) → KeepsAct false false k (angle_by k)
 close_acts key.CloseAngle = (refl, keeps_done tt)
 close_acts _ = tt
 
@@ -193,10 +193,10 @@ named_acts : (d : Drafted) (k : Key) (o : Option (List ℕ)) → is_word_key k �
 named_acts d k None e = tt
 named_acts d k (Some name) e = keeps_if false false k (is_defined name d) (refuse why.Again) (take (done name)) (λ h. tt) (λ h. keeps_word false false k (done name) e (keeps_done name))
 
-pub keeps_table_name : (d : Drafted) → Keeps false false (table_name_at d)
-unfolding table_name_at
-keeps_table_name d = keeps_chain (on_front (λ t. open_by t.key)) (λ u. chain (on_front (λ t. table_name_by d t)) (λ n. chain (on_front (λ t. close_by t.key)) (λ v. done n)))
+pub keeps_table_name : (d : Drafted) → Keeps false false (new_name_at d)
+unfolding new_name_at
+keeps_table_name d = keeps_chain (on_front (λ t. open_by t.key)) (λ u. chain (on_front (λ t. new_name_by d t)) (λ n. chain (on_front (λ t. angle_by t.key)) (λ v. done n)))
     (keeps_front (λ t. open_by t.key) (λ t. open_acts t.key))
-    (λ u. keeps_chain (on_front (λ t. table_name_by d t)) (λ n. chain (on_front (λ t. close_by t.key)) (λ v. done n))
-    (keeps_front (λ t. table_name_by d t) (λ t. keeps_if false false t.key (is_word_key t.key) (table_named d (name_of 31 t.text)) (refuse why.Plain) (λ e. named_acts d t.key (name_of 31 t.text) e) (λ e. tt)))
-    (λ n. keeps_chain (on_front (λ t. close_by t.key)) (λ v. done n) (keeps_front (λ t. close_by t.key) (λ t. close_acts t.key)) (λ v. keeps_done n)))
+    (λ u. keeps_chain (on_front (λ t. new_name_by d t)) (λ n. chain (on_front (λ t. angle_by t.key)) (λ v. done n))
+    (keeps_front (λ t. new_name_by d t) (λ t. keeps_if false false t.key (is_word_key t.key) (table_named d (name_of 31 t.text)) (refuse why.Plain) (λ e. named_acts d t.key (name_of 31 t.text) e) (λ e. tt)))
+    (λ n. keeps_chain (on_front (λ t. angle_by t.key)) (λ v. done n) (keeps_front (λ t. angle_by t.key) (λ t. close_acts t.key)) (λ v. keeps_done n)))

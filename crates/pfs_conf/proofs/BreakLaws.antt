@@ -28,7 +28,7 @@ use Rattle.pfs_conf.specs.declared.progress.Progress.{Progress}
 use Rattle.pfs_conf.specs.Grammar.{names_anchor, RuleOf, AnchorOf, StatementOf}
 use Rattle.pfs_conf.specs.Faults.{Statements, none, before, Breaks, at_rule, at_anchor, at_end}
 use Rattle.pfs_conf.specs.Statements.{nothing, no_clauses, with_rule, with_anchor, with_definition, rule_breaks, anchor_breaks, text_breaks}
-use Rattle.pfs_conf.specs.Reading.{with_draft, closed, told, clause_by, clause_at, rule_text_at, rule_at, anchor_named, anchor_name_by, anchor_name_at, brace_by, brace_at, anchor_parts_at, in_head, anchor_text_at, anchor_at, set_at, open_by, close_by, table_named, table_name_by, table_name_at, table_at, statement_by, statement_at, all_closed, told_of, statements_at, text_at}
+use Rattle.pfs_conf.specs.Reading.{with_draft, anchor_closed, told, clause_by, clause_at, rule_text_at, rule_at, anchor_named, anchor_name_by, anchor_name_at, brace_by, brace_at, anchor_parts_at, in_head, anchor_text_at, anchor_at, set_at, open_by, angle_by, table_named, new_name_by, new_name_at, definition_at, statement_by, statement_at, all_closed, told_of, statements_at, text_at}
 use Rattle.pfs_conf.proofs.OnlineLaws.{ruled, anchored}
 use Rattle.pfs_conf.proofs.PhraseLaws.{rule_text_is, anchor_text_is, statement_is, statements_are, closed_ok}
 use Rattle.pfs_conf.proofs.UnbrokenLaws.{Unbroken, UnbrokenAct, unbroken_done, unbroken_chain, unbroken_front, unbroken_if, unbroken_once, unbroken_perhaps, unbroken_until, unbroken_ended}
@@ -92,7 +92,7 @@ open_acts : (k : Key) → UnbrokenAct (open_by k)
 open_acts key.OpenAngle = unbroken_done tt
 open_acts _ = tt
 
-close_acts : (k : Key) → UnbrokenAct (close_by k)
+close_acts : (k : Key) → UnbrokenAct (angle_by k)
 close_acts key.CloseAngle = unbroken_done tt
 close_acts _ = tt
 
@@ -100,17 +100,17 @@ table_acts : (d : Drafted) (o : Option (List ℕ)) → UnbrokenAct (table_named 
 table_acts d None = tt
 table_acts d (Some name) = unbroken_if (is_defined name d) (refuse why.Again) (take (done name)) tt (unbroken_done name)
 
-unbroken_table_name : (d : Drafted) → Unbroken (table_name_at d)
-unfolding table_name_at
-unbroken_table_name d = unbroken_chain (on_front (λ t. open_by t.key)) (λ u. chain (on_front (λ t. table_name_by d t)) (λ n. chain (on_front (λ t. close_by t.key)) (λ v. done n)))
+unbroken_table_name : (d : Drafted) → Unbroken (new_name_at d)
+unfolding new_name_at
+unbroken_table_name d = unbroken_chain (on_front (λ t. open_by t.key)) (λ u. chain (on_front (λ t. new_name_by d t)) (λ n. chain (on_front (λ t. angle_by t.key)) (λ v. done n)))
     (unbroken_front (λ t. open_by t.key) (λ t. open_acts t.key))
-    (λ u. unbroken_chain (on_front (λ t. table_name_by d t)) (λ n. chain (on_front (λ t. close_by t.key)) (λ v. done n))
-    (unbroken_front (λ t. table_name_by d t) (λ t. unbroken_if (is_word_key t.key) (table_named d (name_of 31 t.text)) (refuse why.Plain) (table_acts d (name_of 31 t.text)) tt))
-    (λ n. unbroken_chain (on_front (λ t. close_by t.key)) (λ v. done n) (unbroken_front (λ t. close_by t.key) (λ t. close_acts t.key)) (λ v. unbroken_done n)))
+    (λ u. unbroken_chain (on_front (λ t. new_name_by d t)) (λ n. chain (on_front (λ t. angle_by t.key)) (λ v. done n))
+    (unbroken_front (λ t. new_name_by d t) (λ t. unbroken_if (is_word_key t.key) (table_named d (name_of 31 t.text)) (refuse why.Plain) (table_acts d (name_of 31 t.text)) tt))
+    (λ n. unbroken_chain (on_front (λ t. angle_by t.key)) (λ v. done n) (unbroken_front (λ t. angle_by t.key) (λ t. close_acts t.key)) (λ v. unbroken_done n)))
 
-unbroken_table : (p : Progress) → Unbroken (table_at p)
-unfolding table_at
-unbroken_table p = unbroken_chain (table_name_at p.draft) (λ n. chain parts_at (λ parts. ended (with_definition n parts p))) (unbroken_table_name p.draft)
+unbroken_table : (p : Progress) → Unbroken (definition_at p)
+unfolding definition_at
+unbroken_table p = unbroken_chain (new_name_at p.draft) (λ n. chain parts_at (λ parts. ended (with_definition n parts p))) (unbroken_table_name p.draft)
     (λ n. unbroken_chain parts_at (λ parts. ended (with_definition n parts p)) unbroken_parts (λ parts. unbroken_ended (with_definition n parts p)))
 
 -- ---- the statement that breaks a rule
@@ -158,11 +158,11 @@ statement_breaks {all = all} p ts c n s e = by_key (head ts).key refl e
     by_key : (k : Key) → (head ts).key ≡ k → act (statement_by p (head ts).line k) ts ≡ Err (broken c n) → Breaks all c n
     by_key key.LineEnd g h = absurd ((unbroken_done p).never (rest ts) c n h)
     by_key key.Set g h = absurd (if_never (p.depth == 0) (take (set_at p)) (refuse why.Inner) (unbroken_set p) tt ts c n h)
-    by_key key.Table g h = absurd (if_never (p.depth == 0) (take (table_at p)) (refuse why.Inner) (unbroken_table p) tt ts c n h)
+    by_key key.Table g h = absurd (if_never (p.depth == 0) (take (definition_at p)) (refuse why.Inner) (unbroken_table p) tt ts c n h)
     by_key key.Pass g h = let r = rule_breaks_is (head ts).line p ts c n h in subst (λ (z : ℕ). Breaks all c z) r.4 (at_rule r.0 s r.2 r.3)
     by_key key.Block g h = let r = rule_breaks_is (head ts).line p ts c n h in subst (λ (z : ℕ). Breaks all c z) r.4 (at_rule r.0 s r.2 r.3)
     by_key key.Anchor g h = let a = anchor_breaks_is (head ts).line p ts (rest ts) (word_is key.Anchor ts g (λ q. cc)) c n h in subst (λ (z : ℕ). Breaks all c z) a.4 (at_anchor a.0 s a.2 a.3)
-    by_key key.CloseBrace g h = absurd (if_never (p.depth == 0) (refuse why.Statement) (take (ended (closed p))) tt (unbroken_ended (closed p)) ts c n h)
+    by_key key.CloseBrace g h = absurd (if_never (p.depth == 0) (refuse why.Statement) (take (ended (anchor_closed p))) tt (unbroken_ended (anchor_closed p)) ts c n h)
     by_key _ g h = absurd cc
 
 -- ---- the text

@@ -24,12 +24,12 @@ use Rattle.pfs_conf_filters.specs.Sides.{lacks_proto, source_of, destination_of}
 use Rattle.pfs_conf_options.specs.declared.clauses.OverloadText.{OverloadText}
 use Rattle.pfs_conf_options.specs.declared.clauses.StateClause.{StateClause}
 use Rattle.pfs_conf_options.specs.declared.clauses.StateClause.TheVariants as clause
-use Rattle.pfs_conf_options.specs.Options.{no_options, has_overload_alone, has_global_connections, has_global_retention, has_broken_pair}
+use Rattle.pfs_conf_options.specs.Options.{none_given, has_overload_alone, has_global_connections, has_global_retention, has_broken_rule_pair}
 use Rattle.pfs_conf_options.specs.Bounds.{AreRead}
 use Rattle.pfs_conf_options.proofs.ReadLaws.{resolved_are}
 use Rattle.pfs_conf.specs.declared.phrases.RuleText.{RuleText}
 use Rattle.pfs_conf.specs.declared.phrases.AnchorText.{AnchorText}
-use Rattle.pfs_conf.specs.Statements.{name_host, number_host, number_side, name_overload, number_overload, filter_of, name_hosts, state_options, action_of, default_flags, name_rule, rule_action, rule_said, anchor_said, keeps_on_block, is_full, rule_breaks, anchor_breaks}
+use Rattle.pfs_conf.specs.Statements.{name_host, number_host, number_side, name_overload, number_overload, filter_said, name_hosts, state_options, action_of, default_flags, name_rule, rule_action, rule_said, anchor_said, keeps_on_block, is_full, rule_breaks, anchor_breaks}
 use Rattle.pfs_conf.specs.Within.{IsTableName, AreParameters, IsRuleText, IsAnchorText}
 
 -- ---- tables
@@ -82,7 +82,7 @@ overload_known : (v : Option OverloadText) (d : Drafted) → IfSome (number_over
 overload_known None d = tt
 overload_known (Some v) d = number_within (place_in v.table d.tables) (length (name_overload (Some v) d).tables) (naming-IsPlaced v.table (tables_of d)).within
 
-filter_kept : (tables : ℕ) (p : Parameters) (f : FlagTest) (d : Drafted) → AreParameters p → IsFlagTest f → lacks_proto p ≡ false → length (name_hosts p.hosts d).tables ≤ tables → IsFilter tables (filter_of p f d)
+filter_kept : (tables : ℕ) (p : Parameters) (f : FlagTest) (d : Drafted) → AreParameters p → IsFlagTest f → lacks_proto p ≡ false → length (name_hosts p.hosts d).tables ≤ tables → IsFilter tables (filter_said p f d)
 filter_kept tables p f d k flags lacks more =
     let behind = host_more (destination_of p.hosts).host (name_host (source_of p.hosts).host d) in
     record {
@@ -106,7 +106,7 @@ record IsKept (d : Drafted) (r : RuleText) : Type 0 where
   alone : has_overload_alone (state_options r.clauses.state) ≡ false
   connections : has_global_connections (state_options r.clauses.state) ≡ false
   retention : has_global_retention (state_options r.clauses.state) ≡ false
-  pair : has_broken_pair (state_options r.clauses.state) ≡ false
+  pair : has_broken_rule_pair (state_options r.clauses.state) ≡ false
   room : is_full d ≡ false
 
 kept : (d : Drafted) (r : RuleText) → rule_breaks d r ≡ None → IsKept d r
@@ -116,7 +116,7 @@ kept d r e =
     let c = first_kept (has_overload_alone (state_options r.clauses.state)) load_rule.OverloadAlone _ b.1 in
     let f = first_kept (has_global_connections (state_options r.clauses.state)) load_rule.GlobalConn _ c.1 in
     let g = first_kept (has_global_retention (state_options r.clauses.state)) load_rule.GlobalRetention _ f.1 in
-    let h = first_kept (has_broken_pair (state_options r.clauses.state)) load_rule.AdaptivePair _ g.1 in
+    let h = first_kept (has_broken_rule_pair (state_options r.clauses.state)) load_rule.AdaptivePair _ g.1 in
     let i = first_kept (is_full d) load_rule.TooManyRules _ h.1 in
     record { proto = a.0; alone = c.0; connections = f.0; retention = g.0; pair = h.0; room = i.0 }
 
@@ -124,10 +124,10 @@ pub rule_has_room : (d : Drafted) (r : RuleText) → rule_breaks d r ≡ None �
 rule_has_room d r e = leb-false 10000 (length d.items) (kept d r e).room
 
 action_kept : (tables : ℕ) (v : Verb) (s : Option StateClause) (table : Option TableNo) → AreRead (state_options s) → IfSome table (IsTableNo tables)
-    → has_overload_alone (state_options s) ≡ false → has_global_connections (state_options s) ≡ false → has_global_retention (state_options s) ≡ false → has_broken_pair (state_options s) ≡ false
+    → has_overload_alone (state_options s) ≡ false → has_global_connections (state_options s) ≡ false → has_global_retention (state_options s) ≡ false → has_broken_rule_pair (state_options s) ≡ false
     → IsAction tables (action_of v s table)
 action_kept tables (verb.Block b) s table k t e1 e2 e3 e4 = tt
-action_kept tables verb.Pass None table k t e1 e2 e3 e4 = resolved_are tables no_options table k t e1 e2 e3 e4
+action_kept tables verb.Pass None table k t e1 e2 e3 e4 = resolved_are tables none_given table k t e1 e2 e3 e4
 action_kept tables verb.Pass (Some clause.No) table k t e1 e2 e3 e4 = tt
 action_kept tables verb.Pass (Some (clause.Keep o)) table k t e1 e2 e3 e4 = resolved_are tables o table k t e1 e2 e3 e4
 

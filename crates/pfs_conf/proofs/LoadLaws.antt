@@ -19,7 +19,7 @@ use Rattle.pfs_conf.specs.declared.progress.Progress.{Progress}
 use Rattle.pfs_conf.specs.declared.kinds.Kind.{Kind}
 use Rattle.pfs_conf.specs.Kinds.{no_memory, fault, kind_of_rule, IsKindAt}
 use Rattle.pfs_conf.specs.Places.{IsBegun}
-use Rattle.pfs_conf.specs.Stopping.{fault_of, kind_of}
+use Rattle.pfs_conf.specs.Stopping.{fault_told, kind_of}
 use Rattle.pfs_conf.specs.Grammar.{TextOf}
 use Rattle.pfs_conf.specs.Faults.{Statements, none, before, Breaks, at_rule, at_anchor, at_end, StopsAt, IsFault}
 use Rattle.pfs_conf.specs.Giving.{Comes}
@@ -63,7 +63,7 @@ pub not_some : {A : Type 0} (o : Option A) → ((x : A) → o ≡ Some x → ⊥
 not_some None h = refl
 not_some (Some x) h = absurd (h x refl)
 
-pub fault_read : (text : List ℕ) (ts left : List Tok) (e : ReadError) → length text ≤ most_bytes → ts ≡ tokens_of text → GivesOrMemory {X = Conf} (Err e) left (text_at ts) → IsFaultRead text (fault_of e left)
+pub fault_read : (text : List ℕ) (ts left : List Tok) (e : ReadError) → length text ≤ most_bytes → ts ≡ tokens_of text → GivesOrMemory {X = Conf} (Err e) left (text_at ts) → IsFaultRead text (fault_told e left)
 fault_read text ts left error.Memory s t h = memory s refl
 fault_read text ts left (error.Refused (refusal.Stop w)) s t h = stops s (ap text_at (sym t) ∙ h) refl
 fault_read text ts left (error.Refused (refusal.Broken rule line)) s t h = breaks s (ap text_at (sym t) ∙ h) refl

@@ -31,7 +31,7 @@ use Rattle.pfs_conf.specs.declared.phrases.AnchorText.{AnchorText}
 use Rattle.pfs_conf.specs.declared.progress.Progress.{Progress}
 use Rattle.pfs_conf.specs.Grammar.{names_anchor}
 use Rattle.pfs_conf.specs.Statements.{nothing, no_clauses, with_rule, with_anchor, with_definition, rule_breaks, anchor_breaks, text_breaks}
-use Rattle.pfs_conf.specs.Reading.{with_draft, closed, told, clause_by, clause_at, rule_text_at, rule_at, anchor_named, anchor_name_by, anchor_name_at, brace_by, brace_at, anchor_parts_at, why_in_head, in_head, anchor_text_at, anchor_at, set_at, open_by, close_by, table_named, table_name_by, table_name_at, table_at, statement_by, statement_at, all_closed, told_of, statements_at, text_at}
+use Rattle.pfs_conf.specs.Reading.{with_draft, anchor_closed, told, clause_by, clause_at, rule_text_at, rule_at, anchor_named, anchor_name_by, anchor_name_at, brace_by, brace_at, anchor_parts_at, why_in_head, in_head, anchor_text_at, anchor_at, set_at, open_by, angle_by, table_named, new_name_by, new_name_at, definition_at, statement_by, statement_at, all_closed, told_of, statements_at, text_at}
 
 -- ---- forms
 
@@ -215,29 +215,29 @@ open_taking : (k : Key) → Taking inside k (open_by k)
 open_taking key.OpenAngle = (refl, online_done tt)
 open_taking _ = tt
 
-close_taking : (k : Key) → Taking inside k (close_by k)
+close_taking : (k : Key) → Taking inside k (angle_by k)
 close_taking key.CloseAngle = (refl, online_done tt)
 close_taking _ = tt
 
-table_name_taking : (d : Drafted) (t : Tok) → Taking inside t.key (table_name_by d t)
+table_name_taking : (d : Drafted) (t : Tok) → Taking inside t.key (new_name_by d t)
 table_name_taking d t = if_takes inside t.key (is_word_key t.key) (table_named d (name_of 31 t.text)) (refuse why.Plain) (λ e. named e (name_of 31 t.text)) (λ e. tt)
   where
     named : is_word_key t.key ≡ true → (o : Option (List ℕ)) → Taking inside t.key (table_named d o)
     named e None = tt
     named e (Some name) = if_takes inside t.key (is_defined name d) (refuse why.Again) (take (done name)) (λ h. tt) (λ h. (word_in_line t.key e, online_done name))
 
-pub online_table_name : (d : Drafted) → Online inside (table_name_at d)
-unfolding table_name_at
-online_table_name d = online_chain (on_front (λ t. open_by t.key)) (λ u. chain (on_front (λ t. table_name_by d t)) (λ n. chain (on_front (λ t. close_by t.key)) (λ v. done n)))
+pub online_table_name : (d : Drafted) → Online inside (new_name_at d)
+unfolding new_name_at
+online_table_name d = online_chain (on_front (λ t. open_by t.key)) (λ u. chain (on_front (λ t. new_name_by d t)) (λ n. chain (on_front (λ t. angle_by t.key)) (λ v. done n)))
     (online_taking (λ t. open_by t.key) (λ t. open_taking t.key))
-    (λ u. online_chain (on_front (λ t. table_name_by d t)) (λ n. chain (on_front (λ t. close_by t.key)) (λ v. done n))
-    (online_taking (λ t. table_name_by d t) (λ t. table_name_taking d t))
-    (λ n. online_chain (on_front (λ t. close_by t.key)) (λ v. done n) (online_taking (λ t. close_by t.key) (λ t. close_taking t.key)) (λ v. online_done n)))
+    (λ u. online_chain (on_front (λ t. new_name_by d t)) (λ n. chain (on_front (λ t. angle_by t.key)) (λ v. done n))
+    (online_taking (λ t. new_name_by d t) (λ t. table_name_taking d t))
+    (λ n. online_chain (on_front (λ t. angle_by t.key)) (λ v. done n) (online_taking (λ t. angle_by t.key) (λ t. close_taking t.key)) (λ v. online_done n)))
 
-pub online_table : (p : Progress) → Online across (table_at p)
-unfolding table_at
-online_table p = online_chain (table_name_at p.draft) (λ n. chain parts_at (λ parts. ended (with_definition n parts p)))
-    (online_across (table_name_at p.draft) (online_table_name p.draft))
+pub online_table : (p : Progress) → Online across (definition_at p)
+unfolding definition_at
+online_table p = online_chain (new_name_at p.draft) (λ n. chain parts_at (λ parts. ended (with_definition n parts p)))
+    (online_across (new_name_at p.draft) (online_table_name p.draft))
     (λ n. online_chain parts_at (λ parts. ended (with_definition n parts p)) online_parts (λ parts. line_across (ended (with_definition n parts p)) (online_ended (with_definition n parts p))))
 
 -- ---- statements and texts
@@ -245,11 +245,11 @@ online_table p = online_chain (table_name_at p.draft) (λ n. chain parts_at (λ 
 statement_taking : (p : Progress) (n : ℕ) (k : Key) → Taking across k (statement_by p n k)
 statement_taking p n key.LineEnd = (refl, online_done p)
 statement_taking p n key.Set = if_takes across key.Set (p.depth == 0) (take (set_at p)) (refuse why.Inner) (λ e. (refl, online_set p)) (λ e. tt)
-statement_taking p n key.Table = if_takes across key.Table (p.depth == 0) (take (table_at p)) (refuse why.Inner) (λ e. (refl, online_table p)) (λ e. tt)
+statement_taking p n key.Table = if_takes across key.Table (p.depth == 0) (take (definition_at p)) (refuse why.Inner) (λ e. (refl, online_table p)) (λ e. tt)
 statement_taking p n key.Pass = (online_rule n p, rule_shrinks n p)
 statement_taking p n key.Block = (online_rule n p, rule_shrinks n p)
 statement_taking p n key.Anchor = (refl, online_anchor n p)
-statement_taking p n key.CloseBrace = if_takes across key.CloseBrace (p.depth == 0) (refuse why.Statement) (take (ended (closed p))) (λ e. tt) (λ e. (refl, line_across (ended (closed p)) (online_ended (closed p))))
+statement_taking p n key.CloseBrace = if_takes across key.CloseBrace (p.depth == 0) (refuse why.Statement) (take (ended (anchor_closed p))) (λ e. tt) (λ e. (refl, line_across (ended (anchor_closed p)) (online_ended (anchor_closed p))))
 statement_taking p n _ = tt
 
 pub online_statement : (p : Progress) → Online across (statement_at p)

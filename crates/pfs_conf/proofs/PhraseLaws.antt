@@ -27,7 +27,7 @@ use Rattle.pfs_conf_filters.specs.declared.phrases.Statement.TheVariants as stat
 use Rattle.pfs_conf_filters.specs.declared.phrases.Verb.{Verb}
 use Rattle.pfs_conf_filters.proofs.PhraseLaws.{verb_is, parameters_are, flags_are}
 use Rattle.pfs_conf_options.specs.Grammar.{no}
-use Rattle.pfs_conf_options.specs.Options.{no_options}
+use Rattle.pfs_conf_options.specs.Options.{none_given}
 use Rattle.pfs_conf_options.specs.Bounds.{AreRead}
 use Rattle.pfs_conf_options.specs.Reading.{state_at}
 use Rattle.pfs_conf_options.specs.declared.clauses.StateClause.{StateClause}
@@ -46,7 +46,7 @@ use Rattle.pfs_conf.specs.declared.phrases.AnchorText.{AnchorText}
 use Rattle.pfs_conf.specs.declared.progress.Progress.{Progress}
 use Rattle.pfs_conf.specs.Grammar.{ClauseOf, flags, state, RuleOf, names_anchor, AnchorNameOf, unnamed, named, AnchorOf, NewTableOf, StatementOf, blank, set, table, rule, anchor, close, TextOf}
 use Rattle.pfs_conf.specs.Statements.{nothing, no_clauses, state_options, with_rule, with_anchor, with_definition, rule_breaks, anchor_breaks, text_breaks}
-use Rattle.pfs_conf.specs.Reading.{with_draft, closed, told, clause_by, clause_at, rule_text_at, rule_at, anchor_named, anchor_name_at, brace_by, brace_at, anchor_parts_at, anchor_text_at, anchor_at, set_at, open_by, close_by, table_named, table_name_by, table_name_at, table_at, statement_by, statement_at, all_closed, told_of, statements_at, text_at}
+use Rattle.pfs_conf.specs.Reading.{with_draft, anchor_closed, told, clause_by, clause_at, rule_text_at, rule_at, anchor_named, anchor_name_at, brace_by, brace_at, anchor_parts_at, anchor_text_at, anchor_at, set_at, open_by, angle_by, table_named, new_name_by, new_name_at, definition_at, statement_by, statement_at, all_closed, told_of, statements_at, text_at}
 use Rattle.pfs_conf.specs.Within.{AreLexed, more, IsRuleText, IsAnchorText}
 use Rattle.pfs_conf.proofs.WithinLaws.{word_lexed, name_is, flags_within, parameters_within}
 use Rattle.pfs_conf.proofs.OnlineLaws.{ruled, anchored, in_head_ok}
@@ -100,7 +100,7 @@ rule_text_is ts r left e =
     })
 
 -- clauses that are read keep their bounds
-no_options_read : AreRead no_options
+no_options_read : AreRead none_given
 no_options_read = state_within (no {ts = token 1 key.No [] ∷ token 1 key.State [] ∷ []} {mid = token 1 key.State [] ∷ []} {left = []} (token 1 key.No [], refl, refl) (token 1 key.State [], refl, refl))
 
 record Bounded (c : Clauses) : Type 0 where
@@ -265,10 +265,10 @@ open_is ts u left e = by_key (head ts).key refl e
     by_key key.OpenAngle g h = subst (λ (z : List Tok). Word key.OpenAngle ts z) (ok_parts tt u (rest ts) left h).1 (word_is key.OpenAngle ts g (λ q. cc))
     by_key _ g h = absurd cc
 
-close_is : (ts : List Tok) (u : Unit {0}) (left : List Tok) → on_front (λ t. close_by t.key) ts ≡ Ok (u, left) → Word key.CloseAngle ts left
+close_is : (ts : List Tok) (u : Unit {0}) (left : List Tok) → on_front (λ t. angle_by t.key) ts ≡ Ok (u, left) → Word key.CloseAngle ts left
 close_is ts u left e = by_key (head ts).key refl e
   where
-    by_key : (k : Key) → (head ts).key ≡ k → act (close_by k) ts ≡ Ok (u, left) → Word key.CloseAngle ts left
+    by_key : (k : Key) → (head ts).key ≡ k → act (angle_by k) ts ≡ Ok (u, left) → Word key.CloseAngle ts left
     by_key key.CloseAngle g h = subst (λ (z : List Tok). Word key.CloseAngle ts z) (ok_parts tt u (rest ts) left h).1 (word_is key.CloseAngle ts g (λ q. cc))
     by_key _ g h = absurd cc
 
@@ -280,7 +280,7 @@ record NameWord (d : Drafted) (ts : List Tok) (name : List ℕ) (left : List Tok
   says : name_of 31 t.text ≡ Some name
   is_new : is_defined name d ≡ false
 
-name_word_is : (d : Drafted) (ts : List Tok) (name : List ℕ) (left : List Tok) → on_front (λ t. table_name_by d t) ts ≡ Ok (name, left) → NameWord d ts name left
+name_word_is : (d : Drafted) (ts : List Tok) (name : List ℕ) (left : List Tok) → on_front (λ t. new_name_by d t) ts ≡ Ok (name, left) → NameWord d ts name left
 name_word_is d [] name left e = absurd cc
 name_word_is d (t ∷ ts) name left e = may (is_word_key t.key) refl e
   where
@@ -297,30 +297,20 @@ name_word_is d (t ∷ ts) name left e = may (is_word_key t.key) refl e
     may true g h = by_name g (name_of 31 t.text) refl h
     may false g h = absurd cc
 
-pub table_name_is : (d : Drafted) (ts : List Tok) (name : List ℕ) (left : List Tok) → table_name_at d ts ≡ Ok (name, left) → NewTableOf d ts name left
-unfolding table_name_at
+pub table_name_is : (d : Drafted) (ts : List Tok) (name : List ℕ) (left : List Tok) → new_name_at d ts ≡ Ok (name, left) → NewTableOf d ts name left
+unfolding new_name_at
 table_name_is d ts name left e =
-    let a = chain_ok (on_front (λ t. open_by t.key)) (λ u. chain (on_front (λ t. table_name_by d t)) (λ n. chain (on_front (λ t. close_by t.key)) (λ v. done n))) ts name left e in
-    let b = chain_ok (on_front (λ t. table_name_by d t)) (λ n. chain (on_front (λ t. close_by t.key)) (λ v. done n)) a.1 name left a.3 in
-    let c = chain_ok (on_front (λ t. close_by t.key)) (λ v. done b.0) b.1 name left b.3 in
+    let a = chain_ok (on_front (λ t. open_by t.key)) (λ u. chain (on_front (λ t. new_name_by d t)) (λ n. chain (on_front (λ t. angle_by t.key)) (λ v. done n))) ts name left e in
+    let b = chain_ok (on_front (λ t. new_name_by d t)) (λ n. chain (on_front (λ t. angle_by t.key)) (λ v. done n)) a.1 name left a.3 in
+    let c = chain_ok (on_front (λ t. angle_by t.key)) (λ v. done b.0) b.1 name left b.3 in
     let n = name_word_is d a.1 b.0 b.1 b.2 in
-    moved (λ us x l. NewTableOf d us x l) ts {x = b.0} {l = c.1} (ok_parts b.0 name c.1 left c.3) (record {
-      t = n.t;
-      behind_open = a.1;
-      behind_name = b.1;
-      opens = open_is ts a.0 a.1 a.2;
-      front = n.front;
-      is_word = n.is_word;
-      says = n.says;
-      is_new = n.is_new;
-      closes = close_is b.1 c.0 c.1 c.2;
-    })
+    moved (λ us x l. NewTableOf d us x l) ts {x = b.0} {l = c.1} (ok_parts b.0 name c.1 left c.3) (record { inner = a.1; behind = b.1; opens = open_is ts a.0 a.1 a.2; named = (n.t, n.front, n.is_word, n.says); closes = close_is b.1 c.0 c.1 c.2 }, n.is_new)
 
-pub table_is : (p : Progress) (ts : List Tok) (q : Progress) (left : List Tok) → table_at p ts ≡ Ok (q, left)
+pub table_is : (p : Progress) (ts : List Tok) (q : Progress) (left : List Tok) → definition_at p ts ≡ Ok (q, left)
     → (name : List ℕ) × (parts : Parts) × (b : List Tok) × (c : List Tok) × NewTableOf p.draft ts name b × PartsOf b parts c × Word key.LineEnd c left × (with_definition name parts p ≡ q)
-unfolding table_at
+unfolding definition_at
 table_is p ts q left e =
-    let a = chain_ok (table_name_at p.draft) (λ n. chain parts_at (λ parts. ended (with_definition n parts p))) ts q left e in
+    let a = chain_ok (new_name_at p.draft) (λ n. chain parts_at (λ parts. ended (with_definition n parts p))) ts q left e in
     let b = chain_ok parts_at (λ parts. ended (with_definition a.0 parts p)) a.1 q left a.3 in
     let d = ended_is (with_definition a.0 b.0 p) b.1 q left b.3 in
     (a.0, b.0, a.1, b.1, table_name_is p.draft ts a.0 a.1 a.2, parts_are a.1 b.0 b.1 b.2, d.1, d.0)
@@ -338,14 +328,14 @@ statement_is p ts q left e = by_key (head ts).key refl e
     set_case k true g h = let s = set_is p (rest ts) q left h in subst (λ (z : Progress). StatementOf p ts z left) s.4 (set (eqb-true p.depth 0 g) (word_is key.Set ts k (λ q. cc)) s.2 s.3)
     set_case k false g h = absurd cc
 
-    table_case : (head ts).key ≡ key.Table → (b : Bool) → (p.depth == 0) ≡ b → act (cond b (take (table_at p)) (refuse why.Inner)) ts ≡ Ok (q, left) → StatementOf p ts q left
+    table_case : (head ts).key ≡ key.Table → (b : Bool) → (p.depth == 0) ≡ b → act (cond b (take (definition_at p)) (refuse why.Inner)) ts ≡ Ok (q, left) → StatementOf p ts q left
     table_case k true g h = let s = table_is p (rest ts) q left h in subst (λ (z : Progress). StatementOf p ts z left) s.7 (table s.0 s.1 (eqb-true p.depth 0 g) (word_is key.Table ts k (λ q. cc)) s.4 s.5 s.6)
     table_case k false g h = absurd cc
 
-    close_case : (head ts).key ≡ key.CloseBrace → (b : Bool) → (p.depth == 0) ≡ b → act (cond b (refuse why.Statement) (take (ended (closed p)))) ts ≡ Ok (q, left) → StatementOf p ts q left
+    close_case : (head ts).key ≡ key.CloseBrace → (b : Bool) → (p.depth == 0) ≡ b → act (cond b (refuse why.Statement) (take (ended (anchor_closed p)))) ts ≡ Ok (q, left) → StatementOf p ts q left
     close_case k true g h = absurd cc
     close_case k false g h =
-        let d = ended_is (closed p) (rest ts) q left h in
+        let d = ended_is (anchor_closed p) (rest ts) q left h in
         let some : p.depth ≡ 0 → ⊥ = eqb-false p.depth 0 g in
         let more : 1 ≤ p.depth = omega (arith, some) in
         subst (λ (z : Progress). StatementOf p ts z left) d.0 (close more (word_is key.CloseBrace ts k (λ q. cc)) d.1)

@@ -26,7 +26,7 @@ use Rattle.pfs_conf.specs.Stopping.{is_again, wants_number, is_left_out, kind_at
 use Rattle.pfs_conf.specs.Grammar.{StatementOf}
 use Rattle.pfs_conf.specs.Faults.{Statements, none, before}
 use Rattle.pfs_conf.specs.Statements.{nothing, no_clauses, with_rule, with_anchor, with_definition, rule_breaks, anchor_breaks, text_breaks}
-use Rattle.pfs_conf.specs.Reading.{with_draft, closed, told, clause_at, rule_text_at, rule_at, anchor_text_at, anchor_at, set_at, table_name_at, table_at, statement_by, statement_at, all_closed, told_of, statements_at, text_at}
+use Rattle.pfs_conf.specs.Reading.{with_draft, anchor_closed, told, clause_at, rule_text_at, rule_at, anchor_text_at, anchor_at, set_at, new_name_at, definition_at, statement_by, statement_at, all_closed, told_of, statements_at, text_at}
 use Rattle.pfs_conf.specs.Places.{InBraces, has_braces, IsBegun, in_a_line, with_braces}
 use Rattle.pfs_conf.proofs.OnlineLaws.{online_clause, clause_shrinks, online_anchor_text, ruled}
 use Rattle.pfs_conf.proofs.PhraseLaws.{statement_is, statements_are}
@@ -120,9 +120,9 @@ parts_stop p name ts left w e = elim (bind_err (parts_at ts) (λ x. ended (with_
   | inr b ↦ (false, further (keeps_parts.took ts b.0.0 b.0.1 b.1) (at_once (ended_stops (with_definition name b.0.0 p) b.0.1 left w b.2)))
 ]
 
-table_stops : (p : Progress) (ts left : List Tok) (w : Why) → table_at p ts ≡ Err (stop left w) → (after : Bool) × InBraces false ts after left
-unfolding table_at
-table_stops p ts left w e = elim (bind_err (table_name_at p.draft ts) (λ x. chain parts_at (λ parts. ended (with_definition x.0 parts p)) x.1) (stop left w) e) [
+table_stops : (p : Progress) (ts left : List Tok) (w : Why) → definition_at p ts ≡ Err (stop left w) → (after : Bool) × InBraces false ts after left
+unfolding definition_at
+table_stops p ts left w e = elim (bind_err (new_name_at p.draft ts) (λ x. chain parts_at (λ parts. ended (with_definition x.0 parts p)) x.1) (stop left w) e) [
   | inl h ↦ (keeps_table_name p.draft).stopped ts left w h
   | inr b ↦ let q = parts_stop p b.0.0 b.0.1 left w b.2 in (q.0, further ((keeps_table_name p.draft).took ts b.0.0 b.0.1 b.1) q.1)
 ]
@@ -155,11 +155,11 @@ statement_stops p ts left w e = by_key (head ts).key refl e
     by_key : (k : Key) → (head ts).key ≡ k → act (statement_by p (head ts).line k) ts ≡ Err (stop left w) → IsBegun ts left
     by_key key.LineEnd g h = absurd cc
     by_key key.Set g h = if_stops (p.depth == 0) (take (set_at p)) (refuse why.Inner) ts left w (λ s. in_braces key.Set ts left g refl (set_stops p (rest ts) left w s)) (λ s. refuse_stops {A = Progress} why.Inner ts left w s) h
-    by_key key.Table g h = if_stops (p.depth == 0) (take (table_at p)) (refuse why.Inner) ts left w (λ s. in_braces key.Table ts left g refl (table_stops p (rest ts) left w s)) (λ s. refuse_stops {A = Progress} why.Inner ts left w s) h
+    by_key key.Table g h = if_stops (p.depth == 0) (take (definition_at p)) (refuse why.Inner) ts left w (λ s. in_braces key.Table ts left g refl (table_stops p (rest ts) left w s)) (λ s. refuse_stops {A = Progress} why.Inner ts left w s) h
     by_key key.Pass g h = in_a_line (rule_stops (head ts).line p ts left w h)
     by_key key.Block g h = in_a_line (rule_stops (head ts).line p ts left w h)
     by_key key.Anchor g h = in_a_line (behind_word key.Anchor ts left g refl (anchor_stops (head ts).line p (rest ts) left w h))
-    by_key key.CloseBrace g h = if_stops (p.depth == 0) (refuse why.Statement) (take (ended (closed p))) ts left w (λ s. refuse_stops {A = Progress} why.Statement ts left w s) (λ s. in_a_line (behind_word key.CloseBrace ts left g refl (stay_there (ended_stops (closed p) (rest ts) left w s)))) h
+    by_key key.CloseBrace g h = if_stops (p.depth == 0) (refuse why.Statement) (take (ended (anchor_closed p))) ts left w (λ s. refuse_stops {A = Progress} why.Statement ts left w s) (λ s. in_a_line (behind_word key.CloseBrace ts left g refl (stay_there (ended_stops (anchor_closed p) (rest ts) left w s)))) h
     by_key _ g h = refuse_stops {A = Progress} why.Statement ts left w h
 
 -- ---- texts

@@ -34,7 +34,7 @@ use Rattle.pfs_conf.specs.declared.phrases.AnchorText.{AnchorText}
 use Rattle.pfs_conf.specs.declared.progress.Progress.{Progress}
 use Rattle.pfs_conf.specs.Grammar.{ClauseOf, flags, state, RuleOf, names_anchor, AnchorNameOf, unnamed, named, AnchorOf, NewTableOf, StatementOf, blank, set, table, rule, anchor, close, TextOf}
 use Rattle.pfs_conf.specs.Statements.{nothing, with_rule, with_anchor, with_definition, rule_breaks, anchor_breaks, text_breaks}
-use Rattle.pfs_conf.specs.Reading.{with_draft, closed, clause_at, rule_text_at, rule_at, anchor_name_at, brace_at, anchor_parts_at, in_head, anchor_text_at, anchor_at, set_at, table_name_at, table_at, statement_at, statements_at, text_at}
+use Rattle.pfs_conf.specs.Reading.{with_draft, anchor_closed, clause_at, rule_text_at, rule_at, anchor_name_at, brace_at, anchor_parts_at, in_head, anchor_text_at, anchor_at, set_at, new_name_at, definition_at, statement_at, statements_at, text_at}
 use Rattle.pfs_conf.proofs.OnlineLaws.{clause_shrinks, statement_shrinks}
 
 -- ---- rules
@@ -150,13 +150,16 @@ set_reads : (p : Progress) {d : Drafted} {ts mid left : List Tok} → SettingOf 
 unfolding set_at
 set_reads p {d = d} s w = rw (settings_read s) (ended_reads (with_draft d p) w)
 
-table_name_reads : {d : Drafted} {ts left : List Tok} {name : List ℕ} → NewTableOf d ts name left → table_name_at d ts ≡ Ok (name, left)
-unfolding table_name_at
-table_name_reads q = let o = word_head q.opens in let c = word_head q.closes in rw (o.0, o.1, q.front, q.is_word, q.says, q.is_new, c.0, c.1) refl
+table_name_reads : (d : Drafted) {ts left : List Tok} {name : List ℕ} → NewTableOf d ts name left → new_name_at d ts ≡ Ok (name, left)
+unfolding new_name_at
+table_name_reads d q =
+    let o = word_head q.0.opens in
+    let c = word_head q.0.closes in
+    rw (o.0, o.1, q.0.named.1, q.0.named.2, q.0.named.3, q.1, c.0, c.1) refl
 
-table_reads : (p : Progress) {ts b c left : List Tok} (name : List ℕ) (parts : Parts) → NewTableOf p.draft ts name b → PartsOf b parts c → Word key.LineEnd c left → table_at p ts ≡ Ok (with_definition name parts p, left)
-unfolding table_at
-table_reads p name parts n q w = rw (table_name_reads n, parts_read q) (ended_reads (with_definition name parts p) w)
+table_reads : (p : Progress) {ts b c left : List Tok} (name : List ℕ) (parts : Parts) → NewTableOf p.draft ts name b → PartsOf b parts c → Word key.LineEnd c left → definition_at p ts ≡ Ok (with_definition name parts p, left)
+unfolding definition_at
+table_reads p name parts n q w = rw (table_name_reads p.draft n, parts_read q) (ended_reads (with_definition name parts p) w)
 
 -- ---- statements and texts
 
@@ -183,7 +186,7 @@ statement_reads {p = p} (set e w s l) = let h = word_head w in let z : (p.depth 
 statement_reads {p = p} (table name parts e w n q l) = let h = word_head w in let z : (p.depth == 0) ≡ true = ap (λ (n : ℕ). n == 0) e in rw (h.0, z, h.1) (table_reads p name parts n q l)
 statement_reads {p = p} {ts = ts} {left = left} (rule r q e) = rule_statement p q.verb (Ok (with_rule (head ts).line r p, left)) (rule_reads (head ts).line p r q e)
 statement_reads {p = p} {ts = ts} {left = left} (anchor a q e l) = anchor_statement p q.word (Ok (with_anchor (head ts).line a p, left)) (anchor_reads (head ts).line p q e l)
-statement_reads {p = p} (close more w l) = let h = word_head w in let z : (p.depth == 0) ≡ false = ne_eqb p.depth 0 (λ e. omega arith) in rw (h.0, z, h.1) (ended_reads (closed p) l)
+statement_reads {p = p} (close more w l) = let h = word_head w in let z : (p.depth == 0) ≡ false = ne_eqb p.depth 0 (λ e. omega arith) in rw (h.0, z, h.1) (ended_reads (anchor_closed p) l)
 
 -- steps are read before any key
 abbrev pub any_key : Key → Bool

@@ -26,10 +26,10 @@ use Rattle.pfs_conf_filters.specs.declared.phrases.Statement.{Statement}
 use Rattle.pfs_conf_filters.specs.declared.phrases.Statement.TheVariants as statement
 use Rattle.pfs_conf_filters.specs.declared.phrases.Verb.TheVariants as verb
 use Rattle.pfs_conf_filters.specs.Values.{in_word, in_plain_word, interface_name, table_name, ports_of, flag_test}
-use Rattle.pfs_conf_filters.specs.Reading.{valued, value_at, behind, clause, part, begins_dir, begins_on, begins_family, begins_proto, begins_from, begins_to, begins_port, begins_flags, interface_at, table_name_at, policy_by, policy_at, verb_by, verb_at, dir_by, dir_at, log_item_by, log_item_at, log_list_by, log_list_at, log_by, log_at, quick_by, quick_at, marked, marks_by, marks_at, negation_by, negation_at, interface, on_at, on_part_at, family_part_at, proto_at, proto_part_at, head_at, close_by, close_at, place_by, place_at, host_by, host_at, equals_by, equals_at, ports_at, ports_part_at, side_host_by, side_host_at, side, side_at, from_part_at, to_part_at, all_hosts, given_hosts, hosts_by, hosts_at, parameters_at, flags_at}
-use Rattle.pfs_conf_options.specs.Options.{no_options, rule_place}
+use Rattle.pfs_conf_filters.specs.Reading.{valued, value_at, behind, clause, part, begins_dir, begins_on, begins_family, begins_proto, begins_from, begins_to, begins_port, begins_flags, interface_at, host_table_at, policy_by, policy_at, verb_by, verb_at, dir_by, dir_at, log_item_by, log_item_at, log_list_by, log_list_at, log_by, log_at, quick_by, quick_at, marked, marks_by, marks_at, negation_by, negation_at, interface, on_at, on_part_at, family_part_at, proto_at, proto_part_at, head_at, close_by, close_at, place_by, place_at, host_by, host_at, equals_by, equals_at, ports_at, ports_part_at, side_host_by, side_host_at, side, side_at, from_part_at, to_part_at, all_hosts, given_hosts, hosts_by, hosts_at, parameters_at, flags_at}
+use Rattle.pfs_conf_options.specs.Options.{none_given, rule_place}
 use Rattle.pfs_conf_options.specs.Reading as option_reading
-use Rattle.pfs_conf_options.specs.Reading.{track_by, track_at, rate_of, rate_found, rate_by, rate_at, name_found, table_name_by, closed_by, closed, table_by, table_at, flushed_by, flush_by, flush_at, overload_at, mark_once, timeout_by, mark_by, connection_by, option_by, option_at, options_at, kept_by, kept_at, kept_clause, behind_state, state_word, state_by, state_at}
+use Rattle.pfs_conf_options.specs.Reading.{track_by, track_at, rate_of, rate_found, rate_by, rate_at, name_found, table_name_by, name_closed_by, name_closed, table_by, table_at, flushed_by, flush_by, flush_at, overload_at, mark_once, timeout_by, mark_by, connection_by, option_by, option_at, options_at, kept_by, kept_at, kept_clause, behind_state, state_word, state_by, state_at}
 use Rattle.pfs_conf_options.specs.declared.clauses.Track.TheVariants as track
 use Rattle.pfs_conf_options.specs.declared.clauses.Options.{Options}
 use Rattle.pfs_conf_options.specs.declared.clauses.StateClause.{StateClause}
@@ -65,8 +65,8 @@ unbroken_interface_name : Unbroken interface_at
 unfolding interface_at
 unbroken_interface_name = unbroken_value why.Plain interface_name
 
-unbroken_table_name : Unbroken table_name_at
-unfolding table_name_at
+unbroken_table_name : Unbroken host_table_at
+unfolding host_table_at
 unbroken_table_name = unbroken_value why.Plain table_name
 
 policy_acts : (k : Key) → UnbrokenAct (policy_by k)
@@ -187,7 +187,7 @@ unfolding close_at
 unbroken_close = unbroken_front (λ t. close_by t.key) (λ t. close_acts t.key)
 
 place_acts : (b : Bool) (k : Key) → UnbrokenAct (place_by b k)
-place_acts b key.OpenAngle = unbroken_chain table_name_at _ unbroken_table_name (λ n. unbroken_chain close_at _ unbroken_close (λ u. unbroken_done (host.Table n b)))
+place_acts b key.OpenAngle = unbroken_chain host_table_at _ unbroken_table_name (λ n. unbroken_chain close_at _ unbroken_close (λ u. unbroken_done (host.Table n b)))
 place_acts b _ = unbroken_chain (value_at why.Host (in_plain_word prefix_of)) (λ p. done (host.Prefix p b)) (unbroken_value why.Host (in_plain_word prefix_of)) (λ p. unbroken_done (host.Prefix p b))
 
 unbroken_place : (b : Bool) → Unbroken (place_at b)
@@ -285,15 +285,15 @@ unbroken_option_table_name : Unbroken option_reading.table_name_at
 unfolding option_reading.table_name_at
 unbroken_option_table_name = unbroken_front (λ t. table_name_by t.text t.key) (λ t. unbroken_if (is_word_key t.key) (name_found (name_of 31 t.text)) (refuse why.Plain) (name_acts (name_of 31 t.text)) tt)
 
-closed_acts : (name : List ℕ) (k : Key) → UnbrokenAct (closed_by name k)
+closed_acts : (name : List ℕ) (k : Key) → UnbrokenAct (name_closed_by name k)
 closed_acts name key.CloseAngle = unbroken_done name
 closed_acts name _ = tt
 
-unbroken_closed : (name : List ℕ) → Unbroken (closed name)
-unbroken_closed name = unbroken_front (λ t. closed_by name t.key) (λ t. closed_acts name t.key)
+unbroken_closed : (name : List ℕ) → Unbroken (name_closed name)
+unbroken_closed name = unbroken_front (λ t. name_closed_by name t.key) (λ t. closed_acts name t.key)
 
 table_acts : (k : Key) → UnbrokenAct (table_by k)
-table_acts key.OpenAngle = unbroken_chain option_reading.table_name_at closed unbroken_option_table_name unbroken_closed
+table_acts key.OpenAngle = unbroken_chain option_reading.table_name_at name_closed unbroken_option_table_name unbroken_closed
 table_acts _ = tt
 
 unbroken_option_table : Unbroken table_at
@@ -349,11 +349,11 @@ unbroken_option o = unbroken_front (λ t. option_by t.key o) (λ t. option_acts 
 
 unbroken_options : Unbroken options_at
 unfolding options_at
-unbroken_options = unbroken_list closes_parens option_at unbroken_option no_options
+unbroken_options = unbroken_list closes_parens option_at unbroken_option none_given
 
 kept_acts : (k : Key) → UnbrokenAct (kept_by k)
 kept_acts key.OpenParen = unbroken_options
-kept_acts _ = unbroken_done no_options
+kept_acts _ = unbroken_done none_given
 
 unbroken_kept : Unbroken kept_at
 unfolding kept_at
@@ -377,20 +377,20 @@ unbroken_state = unbroken_front (λ t. state_by t.key) (λ t. state_acts t.key)
 
 -- ---- options
 
-unbroken_setting : (lined : Bool) (low high : ℕ) → Unbroken (setting.value_at lined low high)
-unfolding setting.value_at
+unbroken_setting : (lined : Bool) (low high : ℕ) → Unbroken (setting.bounded_at lined low high)
+unfolding setting.bounded_at
 unbroken_setting true low high = unbroken_skipping (number_at low high) (unbroken_number low high)
 unbroken_setting false low high = unbroken_number low high
 
 limited_acts : (lined : Bool) (name : LimitName) (d : Drafted) → UnbrokenAct (limited lined name d)
-limited_acts lined name d = unbroken_chain (setting.value_at lined 1 4294967295) _ (unbroken_setting lined 1 4294967295) (λ n. unbroken_done (with_limit name n d))
+limited_acts lined name d = unbroken_chain (setting.bounded_at lined 1 4294967295) _ (unbroken_setting lined 1 4294967295) (λ n. unbroken_done (with_limit name n d))
 
 limit_acts : (lined : Bool) (d : Drafted) (k : Key) → UnbrokenAct (limit_by lined d k)
 limit_acts lined d key.States = limited_acts lined limit.States d
 limit_acts lined d key.SrcNodes = limited_acts lined limit.SrcNodes d
 limit_acts lined d key.Tables = limited_acts lined limit.Tables d
 limit_acts lined d key.TableEntries = limited_acts lined limit.TableEntries d
-limit_acts lined d key.Frags = unbroken_chain (setting.value_at lined 1 4294967295) _ (unbroken_setting lined 1 4294967295) (λ n. unbroken_done d)
+limit_acts lined d key.Frags = unbroken_chain (setting.bounded_at lined 1 4294967295) _ (unbroken_setting lined 1 4294967295) (λ n. unbroken_done d)
 limit_acts lined d _ = tt
 
 unbroken_limit : (lined : Bool) (d : Drafted) → Unbroken (limit_at lined d)
@@ -399,10 +399,10 @@ unbroken_limit lined d = unbroken_front (λ t. limit_by lined d t.key) (λ t. li
 
 timed_acts : (lined : Bool) (d : Drafted) (o : Option TimeoutName) → UnbrokenAct (timed lined d o)
 timed_acts lined d None = tt
-timed_acts lined d (Some name) = unbroken_chain (setting.value_at lined (least_value name) (greatest_value name)) _ (unbroken_setting lined (least_value name) (greatest_value name)) (λ n. unbroken_done (with_timeout name n d))
+timed_acts lined d (Some name) = unbroken_chain (setting.bounded_at lined (least_value name) (greatest_value name)) _ (unbroken_setting lined (least_value name) (greatest_value name)) (λ n. unbroken_done (with_timeout name n d))
 
 unkept_acts : (lined : Bool) (d : Drafted) → UnbrokenAct (unkept lined d)
-unkept_acts lined d = unbroken_chain (setting.value_at lined 0 2147483647) _ (unbroken_setting lined 0 2147483647) (λ n. unbroken_done d)
+unkept_acts lined d = unbroken_chain (setting.bounded_at lined 0 2147483647) _ (unbroken_setting lined 0 2147483647) (λ n. unbroken_done d)
 
 time_acts : (lined : Bool) (d : Drafted) (k : Key) → UnbrokenAct (time_by lined d k)
 time_acts lined d key.Frag = unkept_acts lined d
@@ -453,13 +453,13 @@ unbroken_settings d = unbroken_front (λ t. settings_by d t.key) (λ t. settings
 
 -- ---- tables
 
-sign_acts : (k : Key) → UnbrokenAct (tables.negation_by k)
+sign_acts : (k : Key) → UnbrokenAct (tables.sign_by k)
 sign_acts key.Not = unbroken_done true
 sign_acts _ = unbroken_done false
 
-unbroken_sign : Unbroken tables.negation_at
-unfolding tables.negation_at
-unbroken_sign = unbroken_front (λ t. tables.negation_by t.key) (λ t. sign_acts t.key)
+unbroken_sign : Unbroken tables.sign_at
+unfolding tables.sign_at
+unbroken_sign = unbroken_front (λ t. tables.sign_by t.key) (λ t. sign_acts t.key)
 
 again_acts : (entries : List Entry) (negated held : Bool) → UnbrokenAct (again entries negated held)
 again_acts entries true true = unbroken_done entries
@@ -484,8 +484,8 @@ unbroken_entries_behind entries = unbroken_skipping (done entries) (unbroken_don
 
 unbroken_lined_entry : (entries : List Entry) → Unbroken (lined_entry_at entries)
 unfolding lined_entry_at
-unbroken_lined_entry entries = unbroken_skipping (chain tables.negation_at (λ negated. skipping (chain (entry_at entries negated) (λ more. skipping (done more)))))
-    (unbroken_chain tables.negation_at (λ negated. skipping (chain (entry_at entries negated) (λ more. skipping (done more)))) unbroken_sign
+unbroken_lined_entry entries = unbroken_skipping (chain tables.sign_at (λ negated. skipping (chain (entry_at entries negated) (λ more. skipping (done more)))))
+    (unbroken_chain tables.sign_at (λ negated. skipping (chain (entry_at entries negated) (λ more. skipping (done more)))) unbroken_sign
     (λ negated. unbroken_skipping (chain (entry_at entries negated) (λ more. skipping (done more))) (unbroken_chain (entry_at entries negated) (λ more. skipping (done more)) (unbroken_entry entries negated) unbroken_entries_behind)))
 
 entries_acts : (k : Key) → UnbrokenAct (entries_by k)

@@ -34,7 +34,7 @@ use Rattle.pfs_conf_filters.specs.declared.phrases.Parameters.{Parameters}
 use Rattle.pfs_conf_filters.specs.declared.phrases.Statement.{Statement}
 use Rattle.pfs_conf_filters.specs.Values.{in_word, is_plain_word, in_plain_word, may_name_interface, interface_name, port_numbered, port_by, port_of, one_port, port_range, ports_around, ports_of, exactly, flags_around, flag_test_of, flag_test_by, flag_test}
 use Rattle.pfs_conf_filters.specs.Grammar.{Says, Behind, NegationOf, affirmed, negated, OnOf, on, HostOf, any, prefix, table, PortsOf, plainly, equals, SideOf, hosted, ported, HostsOf, every, sides, ParametersOf, FlagsOf, DirOf, inward, outward, LogItemOf, all, matches, user, to, bare, listed, LogOf, silent, logs, QuickOf, slow, quick, MarksOf, log_first, quick_first, of_anchor}
-use Rattle.pfs_conf_filters.specs.Sides.{any_side, source_of, destination_of}
+use Rattle.pfs_conf_filters.specs.Sides.{side_not_given, source_of, destination_of}
 use Rattle.pfs_addr.specs.declared.packets.Dir.{Dir}
 use Rattle.pfs_conf_filters.specs.declared.phrases.Marks.{Marks}
 use Rattle.pfs_conf.specs.Within.{IsLexed, AreLexed, more, IsTableName, AreParameters}
@@ -225,7 +225,7 @@ side_within : {ts left : List Tok} {s : Side (List ℕ)} → SideOf ts s left �
 side_within (hosted h p) = record { host = host_within h; ports = ports_part_within p }
 side_within (ported q) = record { host = tt; ports = ports_within q.2 }
 
-any_side_within : IsSide IsTableName any_side
+any_side_within : IsSide IsTableName side_not_given
 any_side_within = record { host = tt; ports = tt }
 
 from_within : {ts left : List Tok} {f : Option (Side (List ℕ))} (t : Option (Side (List ℕ))) (a : Bool) → Perhaps (Behind key.From SideOf) ts f left → IsSide IsTableName (source_of (record { all = a; from = f; to = t }))

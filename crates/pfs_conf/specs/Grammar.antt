@@ -13,7 +13,7 @@ use Rattle.pfs_conf_rules.specs.Siblings.{has_sibling}
 use Rattle.pfs_conf_rules.specs.declared.filters.FlagTest.{FlagTest}
 use Rattle.pfs_conf_filters.specs.declared.phrases.Statement.TheVariants as statement
 use Rattle.pfs_conf_filters.specs.Grammar.{VerbOf, ParametersOf, FlagsOf}
-use Rattle.pfs_conf_options.specs.Grammar.{StateOf}
+use Rattle.pfs_conf_options.specs.Grammar.{StateOf, TableOf}
 use Rattle.pfs_conf_options.specs.declared.clauses.StateClause.{StateClause}
 use Rattle.pfs_conf_settings.specs.SettingGrammar.{SettingOf}
 use Rattle.pfs_conf_settings.specs.TableGrammar.{PartsOf}
@@ -71,17 +71,9 @@ pub record AnchorOf (p : Progress) (ts : List Tok) (a : AnchorText) (left : List
   pub flags : Perhaps FlagsOf behind_parameters a.flags brace
   pub opens : Word key.OpenBrace brace left
 
--- the name of a table that is not defined yet, in angle brackets
-pub record NewTableOf (d : Drafted) (ts : List Tok) (name : List ℕ) (left : List Tok) : Type 0 where
-  pub t : Tok
-  pub behind_open : List Tok
-  pub behind_name : List Tok
-  pub opens : Word key.OpenAngle ts behind_open
-  pub front : behind_open ≡ t ∷ behind_name
-  pub is_word : is_word_key t.key ≡ true
-  pub says : name_of 31 t.text ≡ Some name
-  pub is_new : is_defined name d ≡ false
-  pub closes : Word key.CloseAngle behind_name left
+-- the name of a table that is not defined yet
+abbrev pub NewTableOf : Drafted → List Tok → List ℕ → List Tok → Type 0
+NewTableOf d ts name left = TableOf ts name left × (is_defined name d ≡ false)
 
 -- a statement that keeps the load rules. A blank line says nothing; `}` closes an anchor; `set` and `table` stand outside of
 -- anchors

@@ -38,9 +38,9 @@ told (Some rule) line ts = Err (broken rule line)
 abbrev pub with_draft : Drafted → Progress → Progress
 with_draft d p = record { draft = d; depth = p.depth; lines = p.lines }
 
--- an anchor is closed
-abbrev pub closed : Progress → Progress
-closed p = record { draft = p.draft; depth = p.depth - 1; lines = p.lines }
+-- an anchor is anchor_closed
+abbrev pub anchor_closed : Progress → Progress
+anchor_closed p = record { draft = p.draft; depth = p.depth - 1; lines = p.lines }
 
 -- a word that no statement goes on with: one that begins what is there already is told so
 abbrev pub repeated : Bool → Why
@@ -130,9 +130,9 @@ abbrev pub open_by : Key → Act (Unit {0})
 open_by key.OpenAngle = take (done tt)
 open_by _ = refuse why.Plain
 
-abbrev pub close_by : Key → Act (Unit {0})
-close_by key.CloseAngle = take (done tt)
-close_by _ = refuse why.Plain
+abbrev pub angle_by : Key → Act (Unit {0})
+angle_by key.CloseAngle = take (done tt)
+angle_by _ = refuse why.Plain
 
 -- a name that no definition has yet
 abbrev pub new_table : Drafted → List ℕ → Act (List ℕ)
@@ -142,15 +142,15 @@ abbrev pub table_named : Drafted → Option (List ℕ) → Act (List ℕ)
 table_named d None = refuse why.Plain
 table_named d (Some name) = new_table d name
 
-abbrev pub table_name_by : Drafted → Tok → Act (List ℕ)
-table_name_by d t = if is_word_key t.key then table_named d (name_of 31 t.text) else refuse why.Plain
+abbrev pub new_name_by : Drafted → Tok → Act (List ℕ)
+new_name_by d t = if is_word_key t.key then table_named d (name_of 31 t.text) else refuse why.Plain
 
 -- a name in angle brackets
-unfoldable pub table_name_at : Drafted → Reader (List ℕ)
-table_name_at d ts = chain (on_front (λ t. open_by t.key)) (λ u. chain (on_front (λ t. table_name_by d t)) (λ n. chain (on_front (λ t. close_by t.key)) (λ v. done n))) ts
+unfoldable pub new_name_at : Drafted → Reader (List ℕ)
+new_name_at d ts = chain (on_front (λ t. open_by t.key)) (λ u. chain (on_front (λ t. new_name_by d t)) (λ n. chain (on_front (λ t. angle_by t.key)) (λ v. done n))) ts
 
-unfoldable pub table_at : Progress → Reader Progress
-table_at p ts = chain (table_name_at p.draft) (λ n. chain parts_at (λ parts. ended (with_definition n parts p))) ts
+unfoldable pub definition_at : Progress → Reader Progress
+definition_at p ts = chain (new_name_at p.draft) (λ n. chain parts_at (λ parts. ended (with_definition n parts p))) ts
 
 -- ---- statements and texts
 
@@ -165,11 +165,11 @@ inside_anchor depth a = if depth == 0 then refuse why.Statement else a
 abbrev pub statement_by : Progress → ℕ → Key → Act Progress
 statement_by p line key.LineEnd = take (done p)
 statement_by p line key.Set = outside p.depth (take (set_at p))
-statement_by p line key.Table = outside p.depth (take (table_at p))
+statement_by p line key.Table = outside p.depth (take (definition_at p))
 statement_by p line key.Pass = stay (rule_at line p)
 statement_by p line key.Block = stay (rule_at line p)
 statement_by p line key.Anchor = take (anchor_at line p)
-statement_by p line key.CloseBrace = inside_anchor p.depth (take (ended (closed p)))
+statement_by p line key.CloseBrace = inside_anchor p.depth (take (ended (anchor_closed p)))
 statement_by p line _ = refuse why.Statement
 
 unfoldable pub statement_at : Progress → Reader Progress

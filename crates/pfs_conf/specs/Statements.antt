@@ -25,7 +25,7 @@ use Rattle.pfs_conf_options.specs.declared.clauses.Options.{Options}
 use Rattle.pfs_conf_options.specs.declared.clauses.OverloadText.{OverloadText}
 use Rattle.pfs_conf_options.specs.declared.clauses.StateClause.{StateClause}
 use Rattle.pfs_conf_options.specs.declared.clauses.StateClause.TheVariants as clause
-use Rattle.pfs_conf_options.specs.Options.{no_options, options_of, has_overload_alone, has_global_connections, has_global_retention, has_broken_pair as rule_has_broken_pair, resolved}
+use Rattle.pfs_conf_options.specs.Options.{none_given, options_given, has_overload_alone, has_global_connections, has_global_retention, has_broken_rule_pair, resolved}
 use Rattle.pfs_conf_settings.specs.declared.tables.Parts.{Parts}
 use Rattle.pfs_conf.specs.declared.phrases.Clauses.{Clauses}
 use Rattle.pfs_conf.specs.declared.phrases.RuleText.{RuleText}
@@ -65,8 +65,8 @@ number_overload None d = None
 number_overload (Some v) d = Some (record { 0 = number_of v.table d })
 
 -- what the parameters and the flags ask of a packet; the source's table is named before the destination's
-abbrev pub filter_of : Parameters → FlagTest → Drafted → Filter
-filter_of p f d = record {
+abbrev pub filter_said : Parameters → FlagTest → Drafted → Filter
+filter_said p f d = record {
   dir = p.head.dir;
   on = p.head.on;
   family = p.head.family;
@@ -87,12 +87,12 @@ no_clauses = record { flags = None; state = None }
 
 -- the options of a state clause; none without one
 abbrev pub state_options : Option StateClause → Options
-state_options None = no_options
-state_options (Some s) = options_of s
+state_options None = none_given
+state_options (Some s) = options_given s
 
 -- what a rule does: a pass rule keeps state unless it says `no state`
 abbrev pub passing : Option StateClause → Option TableNo → Action
-passing None table = action.Keep (resolved no_options table)
+passing None table = action.Keep (resolved none_given table)
 passing (Some clause.No) table = action.Pass
 passing (Some (clause.Keep o)) table = action.Keep (resolved o table)
 
@@ -124,7 +124,7 @@ rule_action r d = action_of r.verb r.clauses.state (number_overload (state_optio
 abbrev pub rule_said : RuleText → Drafted → Rule
 rule_said r d = record {
   quick = r.parameters.head.marks.quick;
-  filter = filter_of r.parameters (unwrap_or r.clauses.flags (default_flags (rule_action r d))) d;
+  filter = filter_said r.parameters (unwrap_or r.clauses.flags (default_flags (rule_action r d))) d;
   action = rule_action r d;
 }
 
@@ -140,7 +140,7 @@ abbrev pub anchor_said : AnchorText → Drafted → Anchor
 anchor_said a d = record {
   name = a.name;
   quick = a.parameters.head.marks.quick;
-  filter = filter_of a.parameters (unwrap_or a.flags flag_test.Any) d;
+  filter = filter_said a.parameters (unwrap_or a.flags flag_test.Any) d;
 }
 
 -- an anchor that begins on a line is put behind the other items, and what follows stands in it
@@ -181,7 +181,7 @@ rule_breaks d r = first_broken (
     ∷ (load_rule.OverloadAlone, has_overload_alone (state_options r.clauses.state))
     ∷ (load_rule.GlobalConn, has_global_connections (state_options r.clauses.state))
     ∷ (load_rule.GlobalRetention, has_global_retention (state_options r.clauses.state))
-    ∷ (load_rule.AdaptivePair, rule_has_broken_pair (state_options r.clauses.state))
+    ∷ (load_rule.AdaptivePair, has_broken_rule_pair (state_options r.clauses.state))
     ∷ (load_rule.TooManyRules, is_full d)
     ∷ [])
 

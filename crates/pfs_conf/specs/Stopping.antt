@@ -68,7 +68,7 @@ abbrev pub kind_of : Why → List Tok → Kind
 kind_of w ts = kind_at w (head ts) (head (rest ts)).key
 
 -- the fault that a refusal tells, where reading stopped at these tokens
-abbrev pub fault_of : ReadError → List Tok → LoadFault
-fault_of error.Memory ts = no_memory
-fault_of (error.Refused (refusal.Broken rule line)) ts = fault line (kind_of_rule rule)
-fault_of (error.Refused (refusal.Stop w)) ts = fault (head ts).line (kind_of w ts)
+abbrev pub fault_told : ReadError → List Tok → LoadFault
+fault_told error.Memory ts = no_memory
+fault_told (error.Refused (refusal.Broken rule line)) ts = fault line (kind_of_rule rule)
+fault_told (error.Refused (refusal.Stop w)) ts = fault (head ts).line (kind_of w ts)

@@ -4,7 +4,7 @@ ghost use Rattle.std.specs.Prelude.{◌≡◌, IfOk, OnOk, true};
 ghost use Rattle.pfs_conf_tokens.specs.Giving.{Gives};
 ghost use Rattle.pfs_addr.specs.Names.{is_name};
 ghost use Rattle.pfs_conf.specs.Statements.{with_definition};
-ghost use Rattle.pfs_conf.specs.Reading.{set_at, table_at, table_name_at};
+ghost use Rattle.pfs_conf.specs.Reading.{set_at, definition_at, new_name_at};
 ghost use Rattle.pfs_conf.specs.Giving.{Comes, IsInOrder};
 
 use crate::progress::Progress;
@@ -27,11 +27,11 @@ pub fn set(cursor: &mut Cursor, progress: &mut Progress) -> Result<(), ReadError
 }
 
 /// Reads what stands behind `table`, with the line end. (pf.conf(5), TABLES)
-#[tactic(auto, using(crate::proofs::OrderLaws::outside_in_order), unfolding(crate::specs::Reading::table_at))]
+#[tactic(auto, using(crate::proofs::OrderLaws::outside_in_order), unfolding(crate::specs::Reading::definition_at))]
 pub fn table(alloc: Global, cursor: &mut Cursor, progress: &mut Progress) -> Result<(), ReadError>
     requires outside { progress.old.depth ≡ 0 }
     ensures order { IsInOrder progress.new }
-    ensures value { Comes result cursor.new progress.new (table_at progress.old cursor.old) }
+    ensures value { Comes result cursor.new progress.new (definition_at progress.old cursor.old) }
 {
     let name = table_name(cursor, &progress.draft)?;
     let parts = read_parts(alloc, cursor)?;
@@ -44,15 +44,15 @@ pub fn table(alloc: Global, cursor: &mut Cursor, progress: &mut Progress) -> Res
 
 /// A name in angle brackets, of a table that is not defined yet.
 fn table_name(cursor: &mut Cursor, draft: &Draft) -> Result<TableName, Refusal>
-    ensures value { Gives result cursor.new (table_name_at draft.now cursor.old) }
+    ensures value { Gives result cursor.new (new_name_at draft.now cursor.old) }
     ensures within { IfOk result (λ name. is_name 31 name ≡ true) }
 {
     read_name(cursor, draft)
 }
 
-#[tactic(auto, unfolding(crate::specs::Reading::table_name_at))]
+#[tactic(auto, unfolding(crate::specs::Reading::new_name_at))]
 fn read_name(cursor: &mut Cursor, draft: &Draft) -> Result<TableName, Refusal>
-    ensures { Gives result cursor.new (table_name_at draft.now cursor.old) }
+    ensures { Gives result cursor.new (new_name_at draft.now cursor.old) }
 {
     cursor.expect(Key::OpenAngle)?;
     if !cursor.key().is_word() {

@@ -3,7 +3,7 @@
 ghost use Rattle.std.specs.Prelude.{◌≡◌, ◌≤◌, OnOk};
 ghost use Rattle.pfs_conf_tokens.specs.Giving.{GivesOrMemory};
 ghost use Rattle.pfs_conf_tokens.specs.Reading.{ended};
-ghost use Rattle.pfs_conf.specs.Reading.{closed, statement_at, statements_at, text_at};
+ghost use Rattle.pfs_conf.specs.Reading.{anchor_closed, statement_at, statements_at, text_at};
 ghost use Rattle.pfs_conf.specs.Giving.{Comes, IsInOrder};
 ghost use Rattle.pfs_conf.specs.Within.{AreLexed};
 
@@ -85,7 +85,7 @@ fn statement(alloc: Global, cursor: &mut Cursor, progress: &mut Progress) -> Res
 /// The line end behind the brace that closes an anchor.
 fn close(cursor: &mut Cursor, progress: &mut Progress) -> Result<(), ReadError>
     requires open { 1 ≤ progress.old.depth }
-    ensures { Comes result cursor.new progress.new (ended (closed progress.old) cursor.old) }
+    ensures { Comes result cursor.new progress.new (ended (anchor_closed progress.old) cursor.old) }
 {
     cursor.expect(Key::LineEnd)?;
     progress.depth -= 1;

@@ -4,7 +4,7 @@ ghost use Rattle.std.specs.Prelude.{◌≡◌};
 ghost use Rattle.pfs_conf_tokens.specs.Tokens.{head};
 ghost use Rattle.pfs_conf_tokens.specs.Reading.{rest};
 ghost use Rattle.pfs_conf.specs.Kinds.{has_byte, has_dollar, is_foreign, is_number_key, opens};
-ghost use Rattle.pfs_conf.specs.Stopping.{begins_with_letter, fault_of, is_equals, is_left_out, is_named_value, kind_of, wants_number};
+ghost use Rattle.pfs_conf.specs.Stopping.{begins_with_letter, fault_told, is_equals, is_left_out, is_named_value, kind_of, wants_number};
 
 use crate::faults::LoadFault;
 use crate::kinds::Kind;
@@ -12,7 +12,7 @@ use pfs_conf_tokens::{Cursor, Key, ReadError, Refusal, Why};
 
 /// The fault that a refusal tells, where reading stopped at the cursor.
 pub fn fault_of(error: ReadError, cursor: &mut Cursor) -> LoadFault
-    ensures { result ≡ fault_of error cursor.old }
+    ensures { result ≡ fault_told error cursor.old }
 {
     match error {
         ReadError::Memory => LoadFault {

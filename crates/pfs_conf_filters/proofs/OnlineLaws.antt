@@ -21,7 +21,7 @@ use Rattle.pfs_conf_filters.specs.declared.phrases.Statement.TheVariants as stat
 use Rattle.pfs_addr.specs.Texts.{prefix_of}
 use Rattle.pfs_addr.specs.Protocols.{proto_in}
 use Rattle.pfs_conf_filters.specs.Values.{in_word, is_plain_word, in_plain_word, may_name_interface, interface_name, table_name, ports_of, flag_test_by, flag_test}
-use Rattle.pfs_conf_filters.specs.Reading.{valued, value_at, behind, clause, part, begins_dir, begins_on, begins_family, begins_proto, begins_from, begins_to, begins_port, begins_flags, interface_at, table_name_at, policy_by, policy_at, verb_by, verb_at, dir_by, dir_at, log_item_by, log_item_at, log_list_by, log_list_at, log_by, log_at, quick_by, quick_at, marked, marks_by, marks_at, negation_by, negation_at, interface, on_at, on_part_at, family_part_at, proto_at, proto_part_at, head_at, close_by, close_at, place_by, place_at, host_by, host_at, equals_by, equals_at, ports_at, ports_part_at, side_host_by, side_host_at, side, side_at, from_part_at, to_part_at, all_hosts, given_hosts, hosts_by, hosts_at, parameters_at, flags_at}
+use Rattle.pfs_conf_filters.specs.Reading.{valued, value_at, behind, clause, part, begins_dir, begins_on, begins_family, begins_proto, begins_from, begins_to, begins_port, begins_flags, interface_at, host_table_at, policy_by, policy_at, verb_by, verb_at, dir_by, dir_at, log_item_by, log_item_at, log_list_by, log_list_at, log_by, log_at, quick_by, quick_at, marked, marks_by, marks_at, negation_by, negation_at, interface, on_at, on_part_at, family_part_at, proto_at, proto_part_at, head_at, close_by, close_at, place_by, place_at, host_by, host_at, equals_by, equals_at, ports_at, ports_part_at, side_host_by, side_host_at, side, side_at, from_part_at, to_part_at, all_hosts, given_hosts, hosts_by, hosts_at, parameters_at, flags_at}
 
 -- ---- words that say a value
 
@@ -113,8 +113,8 @@ pub online_interface_name : Online inside interface_at
 unfolding interface_at
 online_interface_name = online_value why.Plain interface_name interface_in_line
 
-pub online_table_name : Online inside table_name_at
-unfolding table_name_at
+pub online_table_name : Online inside host_table_at
+unfolding host_table_at
 online_table_name = online_value why.Plain table_name (in_word_in_line _)
 
 -- ---- the action
@@ -254,7 +254,7 @@ unfolding close_at
 online_close = online_taking (λ t. close_by t.key) (λ t. close_taking t.key)
 
 place_taking : (b : Bool) (k : Key) → Taking inside k (place_by b k)
-place_taking b key.OpenAngle = (refl, online_chain table_name_at _ online_table_name (λ n. online_chain close_at _ online_close (λ u. online_done (host.Table n b))))
+place_taking b key.OpenAngle = (refl, online_chain host_table_at _ online_table_name (λ n. online_chain close_at _ online_close (λ u. online_done (host.Table n b))))
 place_taking b _ = (
   online_chain (value_at why.Host (in_plain_word prefix_of)) (λ p. done (host.Prefix p b)) (online_value why.Host (in_plain_word prefix_of) (in_plain_word_in_line prefix_of)) (λ p. online_done (host.Prefix p b)),
   chain_shrinks inside (value_at why.Host (in_plain_word prefix_of)) (λ p. done (host.Prefix p b)) (value_shrinks why.Host (in_plain_word prefix_of) (in_plain_word_in_line prefix_of)) (λ p. online_done (host.Prefix p b)),

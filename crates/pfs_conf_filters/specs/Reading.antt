@@ -90,8 +90,8 @@ begins_flags _ = false
 unfoldable pub interface_at : Reader (List ℕ)
 interface_at ts = value_at why.Plain interface_name ts
 
-unfoldable pub table_name_at : Reader (List ℕ)
-table_name_at ts = value_at why.Plain table_name ts
+unfoldable pub host_table_at : Reader (List ℕ)
+host_table_at ts = value_at why.Plain table_name ts
 
 -- ---- the action
 
@@ -217,7 +217,7 @@ close_at ts = on_front (λ t. close_by t.key) ts
 
 -- a table or a prefix, behind its `!` if it has one
 abbrev pub place_by : Bool → Key → Act (Host (List ℕ))
-place_by b key.OpenAngle = take (chain table_name_at (λ n. chain close_at (λ u. done (host.Table n b))))
+place_by b key.OpenAngle = take (chain host_table_at (λ n. chain close_at (λ u. done (host.Table n b))))
 place_by b _ = stay (chain (value_at why.Host (in_plain_word prefix_of)) (λ p. done (host.Prefix p b)))
 
 unfoldable pub place_at : Bool → Reader (Host (List ℕ))

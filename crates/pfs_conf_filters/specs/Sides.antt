@@ -8,14 +8,14 @@ use Rattle.pfs_conf_filters.specs.declared.phrases.Hosts.{Hosts}
 use Rattle.pfs_conf_filters.specs.declared.phrases.Parameters.{Parameters}
 
 -- a side that is not given is any host at any port
-abbrev pub any_side : Side (List ℕ)
-any_side = record { host = host.Any; ports = None }
+abbrev pub side_not_given : Side (List ℕ)
+side_not_given = record { host = host.Any; ports = None }
 
 abbrev pub source_of : Hosts → Side (List ℕ)
-source_of h = unwrap_or h.from any_side
+source_of h = unwrap_or h.from side_not_given
 
 abbrev pub destination_of : Hosts → Side (List ℕ)
-destination_of h = unwrap_or h.to any_side
+destination_of h = unwrap_or h.to side_not_given
 
 -- whether a side gives ports
 abbrev pub names_port : Side (List ℕ) → Bool

@@ -5,7 +5,7 @@ ghost use Rattle.pfs_conf_tokens.specs.Tokens.{head};
 ghost use Rattle.pfs_conf_tokens.specs.Reading.{act};
 ghost use Rattle.pfs_conf_tokens.specs.Giving.{Gives};
 ghost use Rattle.pfs_conf_filters.specs.Values.{may_name_interface};
-ghost use Rattle.pfs_conf_filters.specs.Reading.{valued, interface_at, table_name_at};
+ghost use Rattle.pfs_conf_filters.specs.Reading.{valued, interface_at, host_table_at};
 
 use pfs_addr::{IfName, Name, parse_ifname};
 use pfs_conf_rules::TableName;
@@ -47,9 +47,9 @@ fn may_name_interface(key: Key) -> bool
 }
 
 /// The name of a table: any word that is a name of 1 to 31 bytes.
-#[tactic(auto, unfolding(crate::specs::Reading::table_name_at))]
+#[tactic(auto, unfolding(crate::specs::Reading::host_table_at))]
 pub fn table_name(cursor: &mut Cursor) -> Result<TableName, Refusal>
-    ensures { Gives result cursor.new (table_name_at cursor.old) }
+    ensures { Gives result cursor.new (host_table_at cursor.old) }
 {
     if !cursor.key().is_word() {
         return Err(Refusal::Stop(Why::Plain));

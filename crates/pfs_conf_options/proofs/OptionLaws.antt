@@ -16,9 +16,9 @@ use Rattle.pfs_conf_options.specs.declared.clauses.Track.TheVariants as track
 use Rattle.pfs_conf_options.specs.declared.clauses.Options.{Options}
 use Rattle.pfs_conf_options.specs.declared.clauses.StateClause.{StateClause}
 use Rattle.pfs_conf_options.specs.declared.clauses.StateClause.TheVariants as clause
-use Rattle.pfs_conf_options.specs.Options.{no_options, rule_place}
+use Rattle.pfs_conf_options.specs.Options.{none_given, rule_place}
 use Rattle.pfs_conf_rules.specs.LoadRules.{greatest_timeout}
-use Rattle.pfs_conf_options.specs.Reading.{track_by, track_at, rate_of, rate_found, rate_by, rate_at, name_found, table_name_by, table_name_at, closed_by, closed, table_by, table_at, flushed_by, flush_by, flush_at, overload_at, mark_once, timeout_by, mark_by, connection_by, option_by, option_at, options_at, kept_by, kept_at, kept_clause, behind_state, state_word, state_by, state_at}
+use Rattle.pfs_conf_options.specs.Reading.{track_by, track_at, rate_of, rate_found, rate_by, rate_at, name_found, table_name_by, table_name_at, name_closed_by, name_closed, table_by, table_at, flushed_by, flush_by, flush_at, overload_at, mark_once, timeout_by, mark_by, connection_by, option_by, option_at, options_at, kept_by, kept_at, kept_clause, behind_state, state_word, state_by, state_at}
 
 -- ---- what stands behind an option's word
 
@@ -55,15 +55,15 @@ pub online_table_name : Online inside table_name_at
 unfolding table_name_at
 online_table_name = online_taking (λ t. table_name_by t.text t.key) (λ t. table_name_taking t.text t.key)
 
-closed_taking : (name : List ℕ) (k : Key) → Taking inside k (closed_by name k)
+closed_taking : (name : List ℕ) (k : Key) → Taking inside k (name_closed_by name k)
 closed_taking name key.CloseAngle = (refl, online_done name)
 closed_taking name _ = tt
 
-online_closed : (name : List ℕ) → Online inside (closed name)
-online_closed name = online_taking (λ t. closed_by name t.key) (λ t. closed_taking name t.key)
+online_closed : (name : List ℕ) → Online inside (name_closed name)
+online_closed name = online_taking (λ t. name_closed_by name t.key) (λ t. closed_taking name t.key)
 
 table_taking : (k : Key) → Taking inside k (table_by k)
-table_taking key.OpenAngle = (refl, online_chain table_name_at closed online_table_name online_closed)
+table_taking key.OpenAngle = (refl, online_chain table_name_at name_closed online_table_name online_closed)
 table_taking _ = tt
 
 pub online_table : Online inside table_at
@@ -152,13 +152,13 @@ closing _ e = absurd cc
 
 pub online_options : Online inside options_at
 unfolding options_at
-online_options = online_list closes_parens option_at closing option_shrinks online_option no_options
+online_options = online_list closes_parens option_at closing option_shrinks online_option none_given
 
 -- ---- the clause
 
 kept_acts : (k : Key) → OnlineAct inside k (kept_by k)
 kept_acts key.OpenParen = (refl, online_options)
-kept_acts _ = online_done no_options
+kept_acts _ = online_done none_given
 
 pub online_kept : Online inside kept_at
 unfolding kept_at

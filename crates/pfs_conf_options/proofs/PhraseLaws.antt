@@ -11,7 +11,7 @@ use Rattle.pfs_conf_tokens.specs.declared.keys.Key.TheVariants as key
 use Rattle.pfs_conf_tokens.specs.declared.refusals.Why.TheVariants as why
 use Rattle.pfs_conf_tokens.specs.Keys.{is_word_key}
 use Rattle.pfs_conf_tokens.specs.Numbers.{number_written, split_around}
-use Rattle.pfs_conf_tokens.specs.Grammar.{Word, Number, ListOf}
+use Rattle.pfs_conf_tokens.specs.Grammar.{WordOf, Word, Number, ListOf}
 use Rattle.pfs_conf_tokens.proofs.Laws.{ok_parts, chain_ok}
 use Rattle.pfs_conf_tokens.proofs.ReaderLaws.{word_head, word_is, number_is, number_reads, list_is, list_reads, ReadsList, no_comma}
 use Rattle.pfs_addr.specs.Names.{name_of}
@@ -25,9 +25,9 @@ use Rattle.pfs_conf_options.specs.declared.clauses.OverloadText.{OverloadText}
 use Rattle.pfs_conf_options.specs.declared.clauses.Options.{Options}
 use Rattle.pfs_conf_options.specs.declared.clauses.StateClause.{StateClause}
 use Rattle.pfs_conf_options.specs.declared.clauses.StateClause.TheVariants as clause
-use Rattle.pfs_conf_options.specs.Options.{no_options, rule_place}
-use Rattle.pfs_conf_options.specs.Grammar.{TrackOf, bare, rule, global, IsRateText, RateOf, TableNameOf, TableOf, FlushOf, nothing, own, all, OverloadOf, OptionOf, max, source_track, max_src_nodes, max_src_states, max_src_conn, max_src_conn_rate, overload, sloppy, floating, no_sync, timeout, KeptOf, plainly, listed, StateOf, no, keep}
-use Rattle.pfs_conf_options.specs.Reading.{track_by, track_at, count_in, counted, rate_with, rate_parts, rate_of, rate_found, rate_by, rate_at, name_found, table_name_at, closed_by, closed, table_by, table_at, flushed_by, flush_by, flush_at, overload_at, mark_once, timeout_by, mark_by, connection_by, option_by, option_at, options_at, kept_by, kept_at, kept_clause, behind_state, state_word, state_by, state_at}
+use Rattle.pfs_conf_options.specs.Options.{none_given, rule_place}
+use Rattle.pfs_conf_options.specs.Grammar.{TrackOf, bare, rule, global, IsRateText, RateOf, TableOf, FlushOf, nothing, own, all, OverloadOf, OptionOf, max, source_track, max_src_nodes, max_src_states, max_src_conn, max_src_conn_rate, overload, sloppy, floating, no_sync, timeout, KeptOf, plainly, listed, StateOf, no, keep}
+use Rattle.pfs_conf_options.specs.Reading.{track_by, track_at, count_in, counted, rate_with, rate_parts, rate_of, rate_found, rate_by, rate_at, name_found, table_name_at, name_closed_by, name_closed, table_by, table_at, flushed_by, flush_by, flush_at, overload_at, mark_once, timeout_by, mark_by, connection_by, option_by, option_at, options_at, kept_by, kept_at, kept_clause, behind_state, state_word, state_by, state_at}
 use Rattle.pfs_conf_options.proofs.OptionLaws.{option_shrinks}
 
 -- ---- readers of one part and then a value that holds it
@@ -139,24 +139,24 @@ rate_reads {r = r} w = rw (w.1, w.2, rate_text_reads w.0.text r w.3) refl
 
 -- ---- a table's name
 
-pub table_name_is : (ts : List Tok) (name : List ℕ) (left : List Tok) → table_name_at ts ≡ Ok (name, left) → TableNameOf ts name left
+pub table_name_is : (ts : List Tok) (name : List ℕ) (left : List Tok) → table_name_at ts ≡ Ok (name, left) → WordOf (name_of 31) ts name left
 unfolding table_name_at
 table_name_is [] name left e = absurd cc
 table_name_is (t ∷ ts) name left e = choose (is_word_key t.key) refl (name_of 31 t.text) refl e
   where
-    choose : (b : Bool) → is_word_key t.key ≡ b → (o : Option (List ℕ)) → name_of 31 t.text ≡ o → act (cond b (name_found o) (refuse why.Plain)) (t ∷ ts) ≡ Ok (name, left) → TableNameOf (t ∷ ts) name left
+    choose : (b : Bool) → is_word_key t.key ≡ b → (o : Option (List ℕ)) → name_of 31 t.text ≡ o → act (cond b (name_found o) (refuse why.Plain)) (t ∷ ts) ≡ Ok (name, left) → WordOf (name_of 31) (t ∷ ts) name left
     choose true g None e h = absurd cc
     choose true g (Some x) e h = let p = ok_parts x name ts left h in (t, ap (λ z. t ∷ z) p.1, g, e ∙ ap (λ z. Some z) p.0)
     choose false g o e h = absurd cc
 
-pub table_name_reads : {ts : List Tok} {name : List ℕ} {left : List Tok} → TableNameOf ts name left → table_name_at ts ≡ Ok (name, left)
+pub table_name_reads : {ts : List Tok} {name : List ℕ} {left : List Tok} → WordOf (name_of 31) ts name left → table_name_at ts ≡ Ok (name, left)
 unfolding table_name_at
 table_name_reads w = rw (w.1, w.2, w.3) refl
 
-closed_is : (name : List ℕ) (ts : List Tok) (x : List ℕ) (left : List Tok) → closed name ts ≡ Ok (x, left) → (name ≡ x) × Word key.CloseAngle ts left
+closed_is : (name : List ℕ) (ts : List Tok) (x : List ℕ) (left : List Tok) → name_closed name ts ≡ Ok (x, left) → (name ≡ x) × Word key.CloseAngle ts left
 closed_is name ts x left e = by_key (head ts).key refl e
   where
-    by_key : (k : Key) → (head ts).key ≡ k → act (closed_by name k) ts ≡ Ok (x, left) → (name ≡ x) × Word key.CloseAngle ts left
+    by_key : (k : Key) → (head ts).key ≡ k → act (name_closed_by name k) ts ≡ Ok (x, left) → (name ≡ x) × Word key.CloseAngle ts left
     by_key key.CloseAngle g h = let p = ok_parts name x (rest ts) left h in (p.0, subst (λ (z : List Tok). Word key.CloseAngle ts z) p.1 (word_is key.CloseAngle ts g (λ q. cc)))
     by_key _ g h = absurd cc
 
@@ -166,7 +166,7 @@ table_is ts name left e = by_key (head ts).key refl e
   where
     by_key : (k : Key) → (head ts).key ≡ k → act (table_by k) ts ≡ Ok (name, left) → TableOf ts name left
     by_key key.OpenAngle g h =
-        let c = chain_ok table_name_at closed (rest ts) name left h in
+        let c = chain_ok table_name_at name_closed (rest ts) name left h in
         let d = closed_is c.0 c.1 name left c.3 in
         record { inner = rest ts; behind = c.1; opens = word_is key.OpenAngle ts g (λ q. cc); named = table_name_is (rest ts) name c.1 (c.2 ∙ ap (λ z. Ok (z, c.1)) d.0); closes = d.1 }
     by_key _ g h = absurd cc
@@ -373,14 +373,14 @@ closing : (k : Key) → closes_parens k ≡ true → k ≡ key.CloseParen
 closing key.CloseParen e = refl
 closing _ e = absurd cc
 
-pub options_are : (ts : List Tok) (o : Options) (left : List Tok) → options_at ts ≡ Ok (o, left) → ListOf key.CloseParen OptionOf no_options ts o left
+pub options_are : (ts : List Tok) (o : Options) (left : List Tok) → options_at ts ≡ Ok (o, left) → ListOf key.CloseParen OptionOf none_given ts o left
 unfolding options_at
-options_are ts o left e = list_is key.CloseParen closes_parens OptionOf option_at closing (λ r. cc) option_is no_options ts o left e
+options_are ts o left e = list_is key.CloseParen closes_parens OptionOf option_at closing (λ r. cc) option_is none_given ts o left e
 
 listed_options : ReadsList key.CloseParen closes_parens ends_option OptionOf option_at
 listed_options = record { closes = refl; close_follows = refl; comma_goes = refl; comma_follows = refl; begins = λ q. option_begins q; reads = λ q f. option_reads q f; shrinks = option_shrinks }
 
-pub options_read : {ts : List Tok} {o : Options} {left : List Tok} → ListOf key.CloseParen OptionOf no_options ts o left → options_at ts ≡ Ok (o, left)
+pub options_read : {ts : List Tok} {o : Options} {left : List Tok} → ListOf key.CloseParen OptionOf none_given ts o left → options_at ts ≡ Ok (o, left)
 unfolding options_at
 options_read q = list_reads listed_options q
 
@@ -390,14 +390,14 @@ kept_is ts o left e = by_key (head ts).key refl e
   where
     by_key : (k : Key) → (head ts).key ≡ k → act (kept_by k) ts ≡ Ok (o, left) → KeptOf ts o left
     by_key key.OpenParen g h = listed (word_is key.OpenParen ts g (λ q. cc)) (options_are (rest ts) o left h)
-    by_key _ g h = let p = ok_parts no_options o ts left h in rw (← p.0, ← p.1) plainly
+    by_key _ g h = let p = ok_parts none_given o ts left h in rw (← p.0, ← p.1) plainly
 
 -- the keys before which a state clause may stand
 abbrev pub ends_state : Key → Bool
 ends_state key.OpenParen = false
 ends_state _ = true
 
-kept_stays : (k : Key) → ends_state k ≡ true → kept_by k ≡ stay (done no_options)
+kept_stays : (k : Key) → ends_state k ≡ true → kept_by k ≡ stay (done none_given)
 kept_stays key.OpenParen e = absurd cc
 kept_stays _ e = refl
 

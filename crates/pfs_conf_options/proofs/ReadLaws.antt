@@ -20,20 +20,20 @@ use Rattle.pfs_conf_options.specs.declared.clauses.Track.TheVariants as track
 use Rattle.pfs_conf_options.specs.declared.clauses.OverloadText.{OverloadText}
 use Rattle.pfs_conf_options.specs.declared.clauses.Options.{Options}
 use Rattle.pfs_conf_options.specs.declared.clauses.StateClause.{StateClause}
-use Rattle.pfs_conf_options.specs.Options.{no_options, options_of, rule_place, has_connection_limit, scope_by_track, states_global, has_overload_alone, has_global_connections, has_global_retention, has_broken_pair, overload_to, resolved}
+use Rattle.pfs_conf_options.specs.Options.{none_given, options_given, rule_place, has_connection_limit, scope_by_track, states_global, has_overload_alone, has_global_connections, has_global_retention, has_broken_rule_pair, overload_to, resolved}
 use Rattle.pfs_conf_options.specs.Bounds.{AreRead}
 use Rattle.pfs_conf_options.specs.Grammar.{TableOf, OptionOf, max, source_track, max_src_nodes, max_src_states, max_src_conn, max_src_conn_rate, overload, sloppy, floating, no_sync, timeout, plainly, listed, StateOf, no, keep}
 use Rattle.pfs_conf_options.proofs.OptionLaws.{timeout_place_below, rule_place_is}
 
 -- ---- what is read
 
-none_given : (place : ℕ) → slice_index_or no_timeouts place None ≡ None
-none_given place = elim (cases_lt place 16) [
+none_at : (place : ℕ) → slice_index_or no_timeouts place None ≡ None
+none_at place = elim (cases_lt place 16) [
   | inl below ↦ get_or-replicate 16 place None None below
   | inr past ↦ get_or_past no_timeouts place None past
 ]
 
-no_options_read : AreRead no_options
+no_options_read : AreRead none_given
 no_options_read = record {
   max = tt;
   max_src_nodes = tt;
@@ -41,8 +41,8 @@ no_options_read = record {
   max_src_conn = tt;
   max_src_conn_rate = tt;
   overload = tt;
-  no_interval = none_given 13;
-  timeouts = λ place. subst (λ (z : Option ℕ). IfSome z (IsTimeout place)) (sym (none_given place)) tt;
+  no_interval = none_at 13;
+  timeouts = λ place. subst (λ (z : Option ℕ). IfSome z (IsTimeout place)) (sym (none_at place)) tt;
   size = refl;
 }
 
@@ -122,7 +122,7 @@ more_keep (goes (plain q) u) a = more_keep u (option_keeps q a)
 more_keep (goes (comma w q) u) a = more_keep u (option_keeps q a)
 
 -- the options of a state clause that is read are within their bounds
-pub state_within : {ts : List Tok} {x : StateClause} {left : List Tok} → StateOf ts x left → AreRead (options_of x)
+pub state_within : {ts : List Tok} {x : StateClause} {left : List Tok} → StateOf ts x left → AreRead (options_given x)
 state_within (no w v) = no_options_read
 state_within (keep w v plainly) = no_options_read
 state_within (keep w v (listed p q)) = more_keep q.others (option_keeps q.begins no_options_read)
@@ -176,7 +176,7 @@ overload_known tables (Some v) (Some table) h = h
 
 -- options that break no load rule, resolved, are such as a configuration with so many tables has
 pub resolved_are : (tables : ℕ) (o : Options) (table : Option TableNo) → AreRead o → IfSome table (IsTableNo tables)
-    → has_overload_alone o ≡ false → has_global_connections o ≡ false → has_global_retention o ≡ false → has_broken_pair o ≡ false
+    → has_overload_alone o ≡ false → has_global_connections o ≡ false → has_global_retention o ≡ false → has_broken_rule_pair o ≡ false
     → AreOptions tables (resolved o table)
 resolved_are tables o table a known alone connections retention pair = record {
   max = a.max;
@@ -196,6 +196,6 @@ resolved_are tables o table a known alone connections retention pair = record {
 }
 
 -- what a reader of state clauses gives is within its bounds
-pub gives_within : (r : Result StateClause Refusal) (left ts : List Tok) → Gives r left (state_at ts) → IfOk r (λ x. AreRead (options_of x))
+pub gives_within : (r : Result StateClause Refusal) (left ts : List Tok) → Gives r left (state_at ts) → IfOk r (λ x. AreRead (options_given x))
 gives_within (Ok x) left ts e = state_within (state_is ts x left e)
 gives_within (Err d) left ts e = tt

@@ -4,9 +4,8 @@ use Rattle.std.specs.Prelude.{◌≡◌, ℕ, true, false, List, ◌∷◌, Opti
 use Rattle.pfs_conf_tokens.specs.declared.keys.Key.{Key}
 use Rattle.pfs_conf_tokens.specs.declared.keys.Key.TheVariants as key
 use Rattle.pfs_conf_tokens.specs.Tokens.{Tok}
-use Rattle.pfs_conf_tokens.specs.Keys.{is_word_key}
 use Rattle.pfs_conf_tokens.specs.Numbers.{number_written, split_around}
-use Rattle.pfs_conf_tokens.specs.Grammar.{Word, Number, ListOf}
+use Rattle.pfs_conf_tokens.specs.Grammar.{Word, WordOf, Number, ListOf}
 use Rattle.pfs_addr.specs.Names.{name_of}
 use Rattle.pfs_conf_rules.specs.LoadRules.{greatest_timeout, IsRate}
 use Rattle.pfs_conf_rules.specs.declared.actions.Rate.{Rate}
@@ -18,7 +17,7 @@ use Rattle.pfs_conf_options.specs.declared.clauses.OverloadText.{OverloadText}
 use Rattle.pfs_conf_options.specs.declared.clauses.Options.{Options}
 use Rattle.pfs_conf_options.specs.declared.clauses.StateClause.{StateClause}
 use Rattle.pfs_conf_options.specs.declared.clauses.StateClause.TheVariants as clause
-use Rattle.pfs_conf_options.specs.Options.{no_options, rule_place}
+use Rattle.pfs_conf_options.specs.Options.{none_given, rule_place}
 
 -- behind `source-track`: nothing, `rule` or `global`
 pub data TrackOf : List Tok → Track → List Tok → Type 0 where
@@ -39,16 +38,12 @@ pub record IsRateText (text : List ℕ) (r : Rate) : Type 0 where
 abbrev pub RateOf : List Tok → Rate → List Tok → Type 0
 RateOf ts r left = (t : Tok) × (ts ≡ t ∷ left) × (t.key ≡ key.Number) × IsRateText t.text r
 
--- any word of 1 to 31 letters, digits, `_`, `-` and `.` names a table
-abbrev pub TableNameOf : List Tok → List ℕ → List Tok → Type 0
-TableNameOf ts name left = (t : Tok) × (ts ≡ t ∷ left) × (is_word_key t.key ≡ true) × (name_of 31 t.text ≡ Some name)
-
--- the name of a table, in angle brackets
+-- the name of a table, a word of 1 to 31 letters, digits, `_`, `-` and `.`, in angle brackets
 pub record TableOf (ts : List Tok) (name : List ℕ) (left : List Tok) : Type 0 where
   pub inner : List Tok
   pub behind : List Tok
   pub opens : Word key.OpenAngle ts inner
-  pub named : TableNameOf inner name behind
+  pub named : WordOf (name_of 31) inner name behind
   pub closes : Word key.CloseAngle behind left
 
 -- what is flushed: nothing more, the rule's states by `flush`, or those of all rules by `flush global`
@@ -88,8 +83,8 @@ pub data OptionOf : Options → List Tok → Options → List Tok → Type 0 whe
 
 -- behind `keep state`: nothing, or options in parentheses with an optional comma between two
 pub data KeptOf : List Tok → Options → List Tok → Type 0 where
-  plainly : {ts : List Tok} → KeptOf ts no_options ts
-  listed : {ts mid left : List Tok} {o : Options} → Word key.OpenParen ts mid → ListOf key.CloseParen OptionOf no_options mid o left → KeptOf ts o left
+  plainly : {ts : List Tok} → KeptOf ts none_given ts
+  listed : {ts mid left : List Tok} {o : Options} → Word key.OpenParen ts mid → ListOf key.CloseParen OptionOf none_given mid o left → KeptOf ts o left
 
 -- `no state`, or `keep state` with its options
 pub data StateOf : List Tok → StateClause → List Tok → Type 0 where

@@ -20,8 +20,8 @@ use Rattle.pfs_conf_options.specs.declared.clauses.StateClause.{StateClause}
 use Rattle.pfs_conf_options.specs.declared.clauses.StateClause.TheVariants as clause
 
 -- no option is given
-abbrev pub no_options : Options
-no_options = record {
+abbrev pub none_given : Options
+none_given = record {
   max = None;
   track = None;
   max_src_nodes = None;
@@ -36,9 +36,9 @@ no_options = record {
 }
 
 -- the options of a state clause; `no state` has none
-abbrev pub options_of : StateClause → Options
-options_of clause.No = no_options
-options_of (clause.Keep o) = o
+abbrev pub options_given : StateClause → Options
+options_given clause.No = none_given
+options_given (clause.Keep o) = o
 
 -- the place of a timeout that a rule may have: of all but `interval`
 abbrev pub rule_place : Key → Option ℕ
@@ -55,20 +55,16 @@ given_for name o = slice_index_or o.timeouts (place_of name) None
 abbrev pub has_connection_limit : Options → Bool
 has_connection_limit o = is_some o.max_src_conn || is_some o.max_src_conn_rate
 
--- without a stated scope: rule if `max-src-nodes`, `max-src-conn` or `max-src-conn-rate` is given; else global if
--- `max-src-states` or a bare `source-track` is; else sources are not tracked (own)
-abbrev pub unstated_scope : Options → Bool → Option Scope
-unstated_scope o is_bare =
-    if is_some o.max_src_nodes || has_connection_limit o then Some scope.Rule
-    else if is_some o.max_src_states || is_bare then Some scope.Global
-    else None
-
--- the scope, where this is written behind `source-track`, or nothing of it
+-- the scope, where this is written behind `source-track`, or nothing of it. Without a stated scope: rule if `max-src-nodes`,
+-- `max-src-conn` or `max-src-conn-rate` is given; else global if `max-src-states` or a bare `source-track` is; else sources are
+-- not tracked (own)
 abbrev pub scope_by_track : Options → Option Track → Option Scope
 scope_by_track o (Some track.Rule) = Some scope.Rule
 scope_by_track o (Some track.Global) = Some scope.Global
-scope_by_track o (Some track.Bare) = unstated_scope o true
-scope_by_track o None = unstated_scope o false
+scope_by_track o t =
+    if is_some o.max_src_nodes || has_connection_limit o then Some scope.Rule
+    else if is_some o.max_src_states || is_some t then Some scope.Global
+    else None
 
 -- the scope of the rule's source nodes, stated or not
 abbrev pub scope_of_options : Options → Option Scope
@@ -94,8 +90,8 @@ abbrev pub has_global_retention : Options → Bool
 has_global_retention o = is_global (scope_of_options o) && is_some (given_for timeout.SrcTrack o)
 
 -- one adaptive value without the other, or not 1 <= start < end
-abbrev pub has_broken_pair : Options → Bool
-has_broken_pair o = broken_rule_pair (given_for timeout.AdaptiveStart o) (given_for timeout.AdaptiveEnd o)
+abbrev pub has_broken_rule_pair : Options → Bool
+has_broken_rule_pair o = broken_rule_pair (given_for timeout.AdaptiveStart o) (given_for timeout.AdaptiveEnd o)
 
 -- ---- the options of a configuration
 

@@ -17,7 +17,7 @@ use Rattle.pfs_conf_options.specs.declared.clauses.OverloadText.{OverloadText}
 use Rattle.pfs_conf_options.specs.declared.clauses.Options.{Options}
 use Rattle.pfs_conf_options.specs.declared.clauses.StateClause.{StateClause}
 use Rattle.pfs_conf_options.specs.declared.clauses.StateClause.TheVariants as clause
-use Rattle.pfs_conf_options.specs.Options.{no_options, rule_place}
+use Rattle.pfs_conf_options.specs.Options.{none_given, rule_place}
 
 -- ---- what stands behind an option's word
 
@@ -77,16 +77,16 @@ unfoldable pub table_name_at : Reader (List ℕ)
 table_name_at ts = on_front (λ t. table_name_by t.text t.key) ts
 
 -- behind the name, the closing bracket
-abbrev pub closed_by : List ℕ → Key → Act (List ℕ)
-closed_by name key.CloseAngle = take (done name)
-closed_by name _ = refuse why.Plain
+abbrev pub name_closed_by : List ℕ → Key → Act (List ℕ)
+name_closed_by name key.CloseAngle = take (done name)
+name_closed_by name _ = refuse why.Plain
 
-abbrev pub closed : List ℕ → Reader (List ℕ)
-closed name ts = on_front (λ t. closed_by name t.key) ts
+abbrev pub name_closed : List ℕ → Reader (List ℕ)
+name_closed name ts = on_front (λ t. name_closed_by name t.key) ts
 
 -- from the opening bracket on
 abbrev pub table_by : Key → Act (List ℕ)
-table_by key.OpenAngle = take (chain table_name_at closed)
+table_by key.OpenAngle = take (chain table_name_at name_closed)
 table_by _ = refuse why.Plain
 
 unfoldable pub table_at : Reader (List ℕ)
@@ -162,12 +162,12 @@ option_at o ts = on_front (λ t. option_by t.key o) ts
 
 -- one option or more, up to the closing parenthesis
 unfoldable pub options_at : Reader Options
-options_at ts = list_all closes_parens option_at no_options ts
+options_at ts = list_all closes_parens option_at none_given ts
 
 -- behind `keep state`: options in parentheses, or none
 abbrev pub kept_by : Key → Act Options
 kept_by key.OpenParen = take options_at
-kept_by _ = stay (done no_options)
+kept_by _ = stay (done none_given)
 
 unfoldable pub kept_at : Reader Options
 kept_at ts = on_front (λ t. kept_by t.key) ts

@@ -53,11 +53,11 @@ pub struct Options {
 
 impl Options {
     ghost use Rattle.std.specs.Prelude.{◌≡◌};
-    ghost use Rattle.pfs_conf_options.specs.Options.{no_options, options_of};
+    ghost use Rattle.pfs_conf_options.specs.Options.{none_given, options_given};
 
     /// No option is given.
     pub fn new() -> Options
-        ensures { result ≡ no_options }
+        ensures { result ≡ none_given }
     {
         Options {
             max: None,

@@ -4,7 +4,7 @@
 ghost use Rattle.std.specs.Prelude.{◌≡◌, ◌<◌, ◌≤◌, IfOk, IfSome, MatchBool, Ok, Err};
 ghost use Rattle.pfs_conf_tokens.specs.Reading.{closes_parens, act, until_all, next_of, list_all, number_at};
 ghost use Rattle.pfs_conf_tokens.specs.Giving.{Gives};
-ghost use Rattle.pfs_conf_options.specs.Options.{rule_place, options_of};
+ghost use Rattle.pfs_conf_options.specs.Options.{rule_place, options_given};
 ghost use Rattle.pfs_conf_options.specs.Bounds.{AreRead};
 ghost use Rattle.pfs_conf_rules.specs.LoadRules.{greatest_timeout};
 ghost use Rattle.pfs_conf_options.specs.Reading.{track_at, counted, rate_of, rate_at, table_name_at, table_at, flush_at, overload_at, mark_at, timeout_at, connection_at, option_at, options_at, kept_at, state_at};
@@ -21,7 +21,7 @@ use pfs_conf_tokens::{Cursor, Key, Refusal, Why, digits, number, split_at_byte};
 /// clause goes on with. It takes no memory. (pf.conf(5), STATEFUL FILTERING, STATEFUL TRACKING OPTIONS)
 pub fn state_clause(cursor: &mut Cursor) -> Result<StateClause, Refusal>
     ensures value { Gives result cursor.new (state_at cursor.old) }
-    ensures within { IfOk result (λ clause. AreRead (options_of clause)) }
+    ensures within { IfOk result (λ clause. AreRead (options_given clause)) }
 {
     clause(cursor)
 }

@@ -2,7 +2,7 @@
 // configuration.
 
 ghost use Rattle.std.specs.Prelude.{◌≡◌};
-ghost use Rattle.pfs_conf_options.specs.Options.{options_of, scope_of_options, has_overload_alone, has_global_connections, has_global_retention, has_broken_pair, has_connection_limit, overload_to, resolved};
+ghost use Rattle.pfs_conf_options.specs.Options.{options_given, scope_of_options, has_overload_alone, has_global_connections, has_global_retention, has_broken_rule_pair, has_connection_limit, overload_to, resolved};
 
 use crate::clauses::{Options, OverloadText, StateClause, Track};
 use pfs_conf_rules::{Overload, Scope, StateOptions, TableNo, TimeoutName};
@@ -10,7 +10,7 @@ use pfs_conf_rules::{Overload, Scope, StateOptions, TableNo, TimeoutName};
 impl StateClause {
     /// The options of the clause; `no state` has none.
     pub fn options(&self) -> Options
-        ensures { result ≡ options_of self.now }
+        ensures { result ≡ options_given self.now }
     {
         match self {
             StateClause::No => Options::new(),
@@ -70,7 +70,7 @@ impl Options {
     /// Whether one adaptive value is given without the other, or not 1 <= start < end: the load rule `AdaptivePair`.
     /// (pf.conf(5), OPTIONS, "adaptive.start")
     pub fn has_broken_pair(&self) -> bool
-        ensures { result ≡ has_broken_pair self.now }
+        ensures { result ≡ has_broken_rule_pair self.now }
     {
         let start = self.timeouts.get(TimeoutName::AdaptiveStart);
         let end = self.timeouts.get(TimeoutName::AdaptiveEnd);

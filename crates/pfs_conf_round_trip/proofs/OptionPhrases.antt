@@ -22,7 +22,7 @@ use Rattle.pfs_conf_rules.specs.declared.actions.Scope.TheVariants as scope
 use Rattle.pfs_conf_rules.specs.declared.actions.StateOptions.{StateOptions}
 use Rattle.pfs_conf_rules.specs.declared.tables.TableDef.{TableDef}
 use Rattle.pfs_conf_options.specs.Grammar.{FlushOf, KeptOf, OptionOf, OverloadOf, RateOf, StateOf, all, global, keep, listed, max, max_src_conn, max_src_conn_rate, max_src_nodes, max_src_states, no, nothing, overload, own, plainly, rule, source_track, timeout}
-use Rattle.pfs_conf_options.specs.Options.{no_options, rule_place}
+use Rattle.pfs_conf_options.specs.Options.{none_given, rule_place}
 use Rattle.pfs_conf_options.specs.declared.clauses.Options.{Options}
 use Rattle.pfs_conf_options.specs.declared.clauses.OverloadText.{OverloadText}
 use Rattle.pfs_conf_options.specs.declared.clauses.StateClause.TheVariants as clause
@@ -120,7 +120,7 @@ with_parts m t n s c r v timeouts = record {
   timeouts = timeouts;
 }
 
-give_max : (m : Option ℕ) → IfSome m IsCount → OptionChain (given (worded (codes "max")) m) no_options (with_parts m None None None None None None no_timeouts)
+give_max : (m : Option ℕ) → IfSome m IsCount → OptionChain (given (worded (codes "max")) m) none_given (with_parts m None None None None None None no_timeouts)
 give_max None h = done
 give_max (Some n) h = next (λ line more b. max n (word_number line (codes "max") n more refl key_of-Max) refl (count_number line n more h b)) done
 
@@ -203,7 +203,7 @@ give_timeouts m t n s c r v _ size h no_interval = absurd (omega arith)
 -- ---- the state clause
 
 -- the options of a rule, one after another
-pub options_chain : (tables : List TableDef) (o : StateOptions) → All IsTable tables → AreOptions (length tables) o → OptionChain (option_texts tables o) no_options (options_said tables o)
+pub options_chain : (tables : List TableDef) (o : StateOptions) → All IsTable tables → AreOptions (length tables) o → OptionChain (option_texts tables o) none_given (options_said tables o)
 options_chain tables o g h =
     both (give_max o.max h.max)
     (both (give_track o.max o.scope)
@@ -214,12 +214,12 @@ options_chain tables o g h =
     (both (give_overload tables o.max _ o.max_src_nodes o.max_src_states o.max_src_conn o.max_src_conn_rate o.overload g h.overload)
     (give_timeouts o.max _ o.max_src_nodes o.max_src_states o.max_src_conn o.max_src_conn_rate _ o.timeouts h.size h.timeouts h.no_interval)))))))
 
-kept_by : (xs : List (List ℕ)) (a : Options) (line : ℕ) (more : List ℕ) → OptionChain xs no_options a → KeptOf (at line (bracketed (codes " (") (codes ")") xs ++ more)) a (at line more)
+kept_by : (xs : List (List ℕ)) (a : Options) (line : ℕ) (more : List ℕ) → OptionChain xs none_given a → KeptOf (at line (bracketed (codes " (") (codes ")") xs ++ more)) a (at line more)
 kept_by [] a line more done = plainly
 kept_by (x ∷ xs) a line more p =
     let P : List ℕ → Type 0 = λ z. KeptOf (at line z) a (at line more) in
     subst P (sym (bracketed_more (codes " (") (codes ")") x xs more))
-    (listed (mark_behind line 40 _ refl) (listed_again OptionOf Fits key.CloseParen (codes " (") (codes ")") closing x xs no_options a line more p))
+    (listed (mark_behind line 40 _ refl) (listed_again OptionOf Fits key.CloseParen (codes " (") (codes ")") closing x xs none_given a line more p))
 
 options_break : (xs : List (List ℕ)) (more : List ℕ) → breaks more ≡ true → breaks (bracketed (codes " (") (codes ")") xs ++ more) ≡ true
 options_break [] more b = b

@@ -29,9 +29,9 @@ use Rattle.pfs_conf_rules.specs.declared.items.Rule.{Rule}
 use Rattle.pfs_conf_rules.specs.declared.limits.Limits.{Limits}
 use Rattle.pfs_conf_rules.specs.declared.tables.TableDef.{TableDef}
 use Rattle.pfs_conf_filters.specs.Reading.{all_hosts, given_hosts, side}
-use Rattle.pfs_conf_filters.specs.Sides.{any_side, asks_ports as asks_ports_said, destination_of, lacks_proto, names_port, source_of}
-use Rattle.pfs_conf_options.specs.Options.{has_broken_pair, has_global_connections, has_global_retention, has_overload_alone, overload_to, resolved, scope_by_track, scope_of_options, states_global}
-use Rattle.pfs_conf.specs.Statements.{action_of, anchor_breaks, anchor_said, filter_of, first_broken, keeps_on_block, name_host, name_hosts, name_rule, number_host, number_overload, number_side, name_overload, rule_action, rule_breaks, rule_said, state_options}
+use Rattle.pfs_conf_filters.specs.Sides.{side_not_given, asks_ports as asks_ports_said, destination_of, lacks_proto, names_port, source_of}
+use Rattle.pfs_conf_options.specs.Options.{has_broken_rule_pair, has_global_connections, has_global_retention, has_overload_alone, overload_to, resolved, scope_by_track, scope_of_options, states_global}
+use Rattle.pfs_conf.specs.Statements.{action_of, anchor_breaks, anchor_said, filter_said, first_broken, keeps_on_block, name_host, name_hosts, name_rule, number_host, number_overload, number_side, name_overload, rule_action, rule_breaks, rule_said, state_options}
 use Rattle.pfs_conf_show.specs.Filters.{has_no_ports, is_any_host, is_every_side}
 use Rattle.pfs_conf_round_trip.proofs.Said.{host_said, hosts_said, options_said, overload_said, parameters_said, side_said, state_said, table_said, track_said}
 use Rattle.pfs_conf_round_trip.proofs.StatementsSaid.{anchor_phrase, rule_phrase, verb_said}
@@ -40,7 +40,7 @@ use Rattle.pfs_conf_round_trip.proofs.Numbering.{AreNumbered, drafted, named_aga
 -- ---- hosts
 
 -- a side that is not written
-every_side : (tables : List TableDef) (h : Host TableNo) (p : Option Ports) → (is_any_host h && has_no_ports p) ≡ true → side (host_said tables h) p ≡ any_side
+every_side : (tables : List TableDef) (h : Host TableNo) (p : Option Ports) → (is_any_host h && has_no_ports p) ≡ true → side (host_said tables h) p ≡ side_not_given
 every_side tables host.Any None e = refl
 every_side tables host.Any (Some p) e = absurd (cc e)
 every_side tables (host.Prefix p b) o e = absurd (cc e)
@@ -100,7 +100,7 @@ abbrev with_sides : Filter → Side TableNo → Side TableNo → Filter
 with_sides f from to = record { dir = f.dir; on = f.on; family = f.family; proto = f.proto; from = from; to = to; flags = f.flags }
 
 -- the parameters of a rule mean its filter
-filter_again : (tables : List TableDef) (d : Drafted) → AreAll tables d → (q : Bool) (f : Filter) → IsFilter (length tables) f → filter_of (parameters_said tables q f) f.flags d ≡ f
+filter_again : (tables : List TableDef) (d : Drafted) → AreAll tables d → (q : Bool) (f : Filter) → IsFilter (length tables) f → filter_said (parameters_said tables q f) f.flags d ≡ f
 filter_again tables d k q f g =
     let hosts = hosts_said tables f.from f.to in
     let from : number_side (source_of hosts) d ≡ f.from =
@@ -234,7 +234,7 @@ record AreKept (tables : List TableDef) (a : Action) : Type 0 where
   overload : has_overload_alone (state_options (state_said tables a)) ≡ false
   connections : has_global_connections (state_options (state_said tables a)) ≡ false
   retention : has_global_retention (state_options (state_said tables a)) ≡ false
-  pair : has_broken_pair (state_options (state_said tables a)) ≡ false
+  pair : has_broken_rule_pair (state_options (state_said tables a)) ≡ false
 
 are_kept : (tables : List TableDef) (a : Action) → IsAction (length tables) a → AreKept tables a
 are_kept tables action.Block h = record { state = refl; overload = refl; connections = refl; retention = refl; pair = refl }

@@ -80,17 +80,16 @@ table_reads d t line lines more h new =
     let Q : TableDef → Type 0 = λ z. StatementOf (reached d 0 lines) (tokens 0 false line (codes "table " ++ (angled t.name ++ parts))) (reached (with_table z d) 0 lines) (tokens 0 false (suc line) more) in
     subst P (sym (table_parts (codes "table ") (angled t.name) (const_text t.is_const) body (codes "\n") more))
     (subst Q (table_again t.name t.is_const t.entries)
-    (table t.name (parts_said t.is_const t.entries) refl (word_space false line (codes "table") (angled t.name ++ parts) refl key_of-Table) (record {
-      t = token line (key_of_text t.name) t.name;
-      behind_open = at line (t.name ++ 62 ∷ parts);
-      behind_name = at line (62 ∷ parts);
-      opens = angle_opens true line t.name parts;
-      front = angle_names line t.name parts h.name;
-      is_word = key_of_word t.name;
-      says = name_again 31 t.name h.name;
-      is_new = new;
-      closes = angle_closes line parts;
-    }) (parts_read t.is_const t.entries line more h.networks h.distinct) (line_end true line more)))
+    (table t.name (parts_said t.is_const t.entries) refl (word_space false line (codes "table") (angled t.name ++ parts) refl key_of-Table) (
+      record {
+        inner = at line (t.name ++ 62 ∷ parts);
+        behind = at line (62 ∷ parts);
+        opens = angle_opens true line t.name parts;
+        named = (token line (key_of_text t.name) t.name, angle_names line t.name parts h.name, key_of_word t.name, name_again 31 t.name h.name);
+        closes = angle_closes line parts;
+      },
+      new,
+    ) (parts_read t.is_const t.entries line more h.networks h.distinct) (line_end true line more)))
 
 -- the tables that are left, behind those that are defined
 pub tables_read : (whole : Drafted) (limits : Limits) (timeouts : List (Option ℕ)) (before rest : List TableDef) (more : List ℕ) → All IsTable rest

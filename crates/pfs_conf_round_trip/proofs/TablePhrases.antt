@@ -8,7 +8,8 @@ use Rattle.std.proofs.lemmas.Bool.Decides.{nat_tests}
 use Rattle.std.proofs.lemmas.List.Elements.{All-head, All-tail}
 use Rattle.std.proofs.lemmas.Map.Keys.{IsDistinct-head, IsDistinct-tail}
 use Rattle.pfs_conf_tokens.specs.declared.keys.Key.TheVariants as key
-use Rattle.pfs_conf_tokens.specs.Grammar.{ListOf, UpTo, stands, steps, skip_lines}
+use Rattle.pfs_addr.specs.Texts.{prefix_of}
+use Rattle.pfs_conf_tokens.specs.Grammar.{WordOf, ListOf, UpTo, stands, steps, skip_lines}
 use Rattle.pfs_conf_tokens.specs.Keys.{ends_line}
 use Rattle.pfs_conf_tokens.specs.Tokens.{Tok, head, token}
 use Rattle.pfs_conf_tokens.specs.Words.{key_of_text}
@@ -18,7 +19,7 @@ use Rattle.pfs_addr.specs.Prefixes.{IsNetwork, Network}
 use Rattle.pfs_addr.specs.declared.addresses.Addr.{Addr}
 use Rattle.pfs_addr.specs.declared.addresses.Addr.TheVariants.{V4}
 use Rattle.pfs_conf_rules.specs.Entries.{Entry, same_addr, same_network, sign_of}
-use Rattle.pfs_conf_settings.specs.TableGrammar.{EntryOf, PartOf, PartsOf, PrefixOf, SignOf, comes, constant, entries, negated, plain, some, no_parts}
+use Rattle.pfs_conf_settings.specs.TableGrammar.{EntryOf, PartOf, PartsOf, SignOf, comes, constant, entries, negated, plain, some, no_parts}
 use Rattle.pfs_conf_show.specs.Pieces.{bracketed, going_on, prefix_text}
 use Rattle.pfs_conf_show.specs.Tables.{const_text, entry_text}
 use Rattle.pfs_conf_round_trip.proofs.Said.{parts_said}
@@ -44,15 +45,10 @@ entry_front : (line : ℕ) (p : Network) (negation : Bool) (more : List ℕ) →
 entry_front line p true more h b = not_front line (prefix_text p ++ more)
 entry_front line p false more h b = prefix_front line p more h b
 
-prefix_reads : (line : ℕ) (p : Network) (more : List ℕ) → IsNetwork p → breaks more ≡ true → PrefixOf (skip_lines (at line (prefix_text p ++ more))) p (at line more)
+prefix_reads : (line : ℕ) (p : Network) (more : List ℕ) → IsNetwork p → breaks more ≡ true → WordOf prefix_of (skip_lines (at line (prefix_text p ++ more))) p (at line more)
 prefix_reads line p more h b =
     let w = prefix_text p in
-    record {
-      t = token line (key_of_text w) w;
-      front = prefix_front line p more h b ∙ word_then true line w more (prefix_word p h) b;
-      is_word = key_of_word w;
-      says = prefix_again p h;
-    }
+    (token line (key_of_text w) w, prefix_front line p more h b ∙ word_then true line w more (prefix_word p h) b, key_of_word w, prefix_again p h)
 
 sign_reads : (line : ℕ) (p : Network) (negation : Bool) (more : List ℕ) → IsNetwork p → breaks more ≡ true
     → SignOf (skip_lines (at line (entry_text (p, negation) ++ more))) negation (at line (prefix_text p ++ more))

@@ -10,24 +10,24 @@ use Rattle.pfs_conf_rules.specs.declared.limits.LimitName.{LimitName}
 use Rattle.pfs_conf_rules.specs.declared.limits.LimitName.TheVariants as limit
 use Rattle.pfs_conf_rules.specs.declared.timeouts.TimeoutName.{TimeoutName}
 use Rattle.pfs_conf_rules.specs.Drafts.{Drafted, with_limit, with_timeout}
-use Rattle.pfs_conf_settings.specs.Settings.{timeout_named, value_at, limited, limit_by, limit_at, least_value, greatest_value, unkept, timed, time_by, time_at, lined_limit_at, lined_time_at, limits_by, limits_at, times_by, times_at, settings_by, settings_at}
+use Rattle.pfs_conf_settings.specs.Settings.{timeout_named, bounded_at, limited, limit_by, limit_at, least_value, greatest_value, unkept, timed, time_by, time_at, lined_limit_at, lined_time_at, limits_by, limits_at, times_by, times_at, settings_by, settings_at}
 
 -- ---- a pair of a name and a number
 
-pub online_value : (lined : Bool) (low high : ℕ) → Online across (value_at lined low high)
-unfolding value_at
+pub online_value : (lined : Bool) (low high : ℕ) → Online across (bounded_at lined low high)
+unfolding bounded_at
 online_value true low high = online_skipping (number_at low high) (online_across (number_at low high) (online_number low high))
 online_value false low high = online_across (number_at low high) (online_number low high)
 
 limited_taking : (lined : Bool) (name : LimitName) (d : Drafted) (k : Key) → before_end k ≡ true → Taking across k (limited lined name d)
-limited_taking lined name d k h = (h, online_chain (value_at lined 1 4294967295) _ (online_value lined 1 4294967295) (λ n. online_done (with_limit name n d)))
+limited_taking lined name d k h = (h, online_chain (bounded_at lined 1 4294967295) _ (online_value lined 1 4294967295) (λ n. online_done (with_limit name n d)))
 
 limit_taking : (lined : Bool) (d : Drafted) (k : Key) → Taking across k (limit_by lined d k)
 limit_taking lined d key.States = limited_taking lined limit.States d key.States refl
 limit_taking lined d key.SrcNodes = limited_taking lined limit.SrcNodes d key.SrcNodes refl
 limit_taking lined d key.Tables = limited_taking lined limit.Tables d key.Tables refl
 limit_taking lined d key.TableEntries = limited_taking lined limit.TableEntries d key.TableEntries refl
-limit_taking lined d key.Frags = (refl, online_chain (value_at lined 1 4294967295) _ (online_value lined 1 4294967295) (λ n. online_done d))
+limit_taking lined d key.Frags = (refl, online_chain (bounded_at lined 1 4294967295) _ (online_value lined 1 4294967295) (λ n. online_done d))
 limit_taking lined d _ = tt
 
 pub online_limit : (lined : Bool) (d : Drafted) → Online across (limit_at lined d)
@@ -45,10 +45,10 @@ named_before_end _ name e = refl
 timed_taking : (lined : Bool) (d : Drafted) (k : Key) (o : Option TimeoutName) → timeout_named k ≡ o → Taking across k (timed lined d o)
 timed_taking lined d k None e = tt
 timed_taking lined d k (Some name) e =
-    (named_before_end k name e, online_chain (value_at lined (least_value name) (greatest_value name)) _ (online_value lined (least_value name) (greatest_value name)) (λ n. online_done (with_timeout name n d)))
+    (named_before_end k name e, online_chain (bounded_at lined (least_value name) (greatest_value name)) _ (online_value lined (least_value name) (greatest_value name)) (λ n. online_done (with_timeout name n d)))
 
 unkept_taking : (lined : Bool) (d : Drafted) (k : Key) → before_end k ≡ true → Taking across k (unkept lined d)
-unkept_taking lined d k h = (h, online_chain (value_at lined 0 2147483647) _ (online_value lined 0 2147483647) (λ n. online_done d))
+unkept_taking lined d k h = (h, online_chain (bounded_at lined 0 2147483647) _ (online_value lined 0 2147483647) (λ n. online_done d))
 
 time_taking : (lined : Bool) (d : Drafted) (k : Key) → Taking across k (time_by lined d k)
 time_taking lined d key.Frag = unkept_taking lined d key.Frag refl

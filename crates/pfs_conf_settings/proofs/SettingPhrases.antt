@@ -12,23 +12,23 @@ use Rattle.pfs_conf_tokens.proofs.LineLaws.{skip_stays}
 use Rattle.pfs_conf_rules.specs.declared.limits.LimitName.TheVariants as limit_name
 use Rattle.pfs_conf_rules.specs.declared.timeouts.TimeoutName.{TimeoutName}
 use Rattle.pfs_conf_rules.specs.Drafts.{Drafted, with_limit, with_timeout}
-use Rattle.pfs_conf_settings.specs.Settings.{timeout_named, value_at, limit_by, limit_at, least_value, greatest_value, timed, time_by, time_at, lined_limit_at, lined_time_at, limits_by, limits_at, times_by, times_at, settings_by, settings_at}
+use Rattle.pfs_conf_settings.specs.Settings.{timeout_named, bounded_at, limit_by, limit_at, least_value, greatest_value, timed, time_by, time_at, lined_limit_at, lined_time_at, limits_by, limits_at, times_by, times_at, settings_by, settings_at}
 use Rattle.pfs_conf_settings.specs.SettingGrammar.{ValueOf, plain, lined, LimitOf, states, src_nodes, tables, table_entries, frags, TimeOf, kept, frag, tsdiff, icmp_first, icmp_error, AmongLines, SettingOf, limit, limits, timeout, timeouts}
 use Rattle.pfs_conf_settings.proofs.SettingLaws.{lined_limit_shrinks, lined_time_shrinks}
 use Rattle.pfs_conf_settings.proofs.TimeoutKeys.{placed, named}
 
 -- ---- is
 
-value_is : (inside : Bool) (low high : ℕ) (ts : List Tok) (n : ℕ) (left : List Tok) → value_at inside low high ts ≡ Ok (n, left) → ValueOf low high inside ts n left
-unfolding value_at
+value_is : (inside : Bool) (low high : ℕ) (ts : List Tok) (n : ℕ) (left : List Tok) → bounded_at inside low high ts ≡ Ok (n, left) → ValueOf low high inside ts n left
+unfolding bounded_at
 value_is true low high ts n left e = lined (number_is low high (skip_lines ts) n left e)
 value_is false low high ts n left e = plain (number_is low high ts n left e)
 
 -- a pair is read as its value and what is done with it
-pair_is : (inside : Bool) (low high : ℕ) (f : ℕ → Drafted) (ts : List Tok) (e : Drafted) (left : List Tok) → chain (value_at inside low high) (λ n. done (f n)) ts ≡ Ok (e, left)
+pair_is : (inside : Bool) (low high : ℕ) (f : ℕ → Drafted) (ts : List Tok) (e : Drafted) (left : List Tok) → chain (bounded_at inside low high) (λ n. done (f n)) ts ≡ Ok (e, left)
     → (n : ℕ) × ValueOf low high inside ts n left × (f n ≡ e)
 pair_is inside low high f ts e left h =
-    let c = chain_ok (value_at inside low high) (λ n. done (f n)) ts e left h in
+    let c = chain_ok (bounded_at inside low high) (λ n. done (f n)) ts e left h in
     let q = ok_parts (f c.0) e c.1 left c.3 in
     (c.0, subst (λ (z : List Tok). ValueOf low high inside ts c.0 z) q.1 (value_is inside low high ts c.0 c.1 c.2), q.0)
 
@@ -107,8 +107,8 @@ settings_are d ts e left h = by_key (head ts).key refl h
 
 -- ---- reads
 
-value_reads : {inside : Bool} {low high n : ℕ} {ts left : List Tok} → ValueOf low high inside ts n left → value_at inside low high ts ≡ Ok (n, left)
-unfolding value_at
+value_reads : {inside : Bool} {low high n : ℕ} {ts left : List Tok} → ValueOf low high inside ts n left → bounded_at inside low high ts ≡ Ok (n, left)
+unfolding bounded_at
 value_reads {low = low} {high = high} (plain w) = number_reads low high w
 value_reads {low = low} {high = high} (lined w) = number_reads low high w
 

@@ -12,18 +12,18 @@ use Rattle.pfs_addr.specs.Prefixes.{Network}
 use Rattle.pfs_addr.specs.Texts.{prefix_of}
 use Rattle.pfs_conf_rules.specs.Entries.{Entry, sign_of}
 use Rattle.pfs_conf_settings.specs.declared.tables.Parts.{Parts}
-use Rattle.pfs_conf_settings.specs.Tables.{negation_by, negation_at, again, joined, entered, entry_by, entry_at, lined_entry_at, entries_by, entries_at, unless, part_by, part_at, parts_at}
+use Rattle.pfs_conf_settings.specs.Tables.{sign_by, sign_at, again, joined, entered, entry_by, entry_at, lined_entry_at, entries_by, entries_at, unless, part_by, part_at, parts_at}
 use Rattle.pfs_conf_settings.specs.TableGrammar.{no_parts}
 
 -- ---- an entry
 
-negation_act : (k : Key) → OnlineAct inside k (negation_by k)
+negation_act : (k : Key) → OnlineAct inside k (sign_by k)
 negation_act key.Not = (refl, online_done true)
 negation_act _ = online_done false
 
-pub online_negation : Online inside negation_at
-unfolding negation_at
-online_negation = online_front (λ t. negation_by t.key) (λ t. negation_act t.key)
+pub online_negation : Online inside sign_at
+unfolding sign_at
+online_negation = online_front (λ t. sign_by t.key) (λ t. negation_act t.key)
 
 again_taking : (k : Key) (entries : List Entry) (negated held : Bool) → in_line k ≡ true → Taking inside k (again entries negated held)
 again_taking k entries true true h = (h, online_done entries)
@@ -66,8 +66,8 @@ online_signed entries negated =
 pub online_lined_entry : (entries : List Entry) → Online across (lined_entry_at entries)
 unfolding lined_entry_at
 online_lined_entry entries =
-    online_skipping (chain negation_at (λ negated. skipping (chain (entry_at entries negated) (λ more. skipping (done more)))))
-    (online_chain negation_at (λ negated. skipping (chain (entry_at entries negated) (λ more. skipping (done more)))) (online_across negation_at online_negation) (online_signed entries))
+    online_skipping (chain sign_at (λ negated. skipping (chain (entry_at entries negated) (λ more. skipping (done more)))))
+    (online_chain sign_at (λ negated. skipping (chain (entry_at entries negated) (λ more. skipping (done more)))) (online_across sign_at online_negation) (online_signed entries))
 
 signed_shrinks : (entries : List Entry) (negated : Bool) → Shrinks (skipping (chain (entry_at entries negated) (λ more. skipping (done more))))
 signed_shrinks entries negated =
@@ -77,8 +77,8 @@ signed_shrinks entries negated =
 pub lined_entry_shrinks : (entries : List Entry) → Shrinks (lined_entry_at entries)
 unfolding lined_entry_at
 lined_entry_shrinks entries =
-    skipping_shrinks (chain negation_at (λ negated. skipping (chain (entry_at entries negated) (λ more. skipping (done more)))))
-    (chain_shrinks_behind across negation_at (λ negated. skipping (chain (entry_at entries negated) (λ more. skipping (done more)))) (online_across negation_at online_negation) (signed_shrinks entries))
+    skipping_shrinks (chain sign_at (λ negated. skipping (chain (entry_at entries negated) (λ more. skipping (done more)))))
+    (chain_shrinks_behind across sign_at (λ negated. skipping (chain (entry_at entries negated) (λ more. skipping (done more)))) (online_across sign_at online_negation) (signed_shrinks entries))
 
 pub next_entry_shrinks : (entries : List Entry) → Shrinks (next_of lined_entry_at entries)
 next_entry_shrinks entries = next_shrinks lined_entry_at lined_entry_shrinks entries

@@ -7,7 +7,7 @@ use Rattle.pfs_conf_tokens.specs.declared.refusals.Why.TheVariants as why
 use Rattle.pfs_conf_tokens.specs.Tokens.{Tok, head}
 use Rattle.pfs_conf_tokens.specs.Reading.{rest, closes_braces, Act, take, stay, refuse, act, chain, done, once, list_all, skipping}
 use Rattle.pfs_conf_tokens.specs.Keys.{ends_line, is_word_key}
-use Rattle.pfs_conf_tokens.specs.Grammar.{Word, skip_lines}
+use Rattle.pfs_conf_tokens.specs.Grammar.{WordOf, Word, skip_lines}
 use Rattle.pfs_conf_tokens.proofs.Laws.{ok_parts, chain_ok}
 use Rattle.pfs_conf_tokens.proofs.ReaderLaws.{word_head, word_is, list_is, list_reads, ReadsList, no_comma, skip_head, up_to_is, up_to_reads, Reads}
 use Rattle.pfs_conf_tokens.proofs.LineLaws.{skip_stays}
@@ -15,17 +15,17 @@ use Rattle.pfs_addr.specs.Prefixes.{Network}
 use Rattle.pfs_addr.specs.Texts.{prefix_of}
 use Rattle.pfs_conf_rules.specs.Entries.{Entry, sign_of}
 use Rattle.pfs_conf_settings.specs.declared.tables.Parts.{Parts}
-use Rattle.pfs_conf_settings.specs.Tables.{negation_by, negation_at, again, joined, entered, entry_by, entry_at, lined_entry_at, entries_by, entries_at, unless, part_by, part_at, parts_at}
-use Rattle.pfs_conf_settings.specs.TableGrammar.{no_parts, SignOf, plain, negated, Enters, comes, stands, PrefixOf, EntryOf, EntriesOf, none, some, PartOf, persist, constant, counters, entries, PartsOf}
+use Rattle.pfs_conf_settings.specs.Tables.{sign_by, sign_at, again, joined, entered, entry_by, entry_at, lined_entry_at, entries_by, entries_at, unless, part_by, part_at, parts_at}
+use Rattle.pfs_conf_settings.specs.TableGrammar.{no_parts, SignOf, plain, negated, Enters, comes, stands, EntryOf, EntriesOf, none, some, PartOf, persist, constant, counters, entries, PartsOf}
 use Rattle.pfs_conf_settings.proofs.TableLaws.{lined_entry_shrinks, part_shrinks}
 
 -- ---- is
 
-sign_is : (ts : List Tok) (x : Bool) (left : List Tok) → negation_at ts ≡ Ok (x, left) → SignOf ts x left
-unfolding negation_at
+sign_is : (ts : List Tok) (x : Bool) (left : List Tok) → sign_at ts ≡ Ok (x, left) → SignOf ts x left
+unfolding sign_at
 sign_is ts x left e = by_key (head ts).key refl e
   where
-    by_key : (k : Key) → (head ts).key ≡ k → act (negation_by k) ts ≡ Ok (x, left) → SignOf ts x left
+    by_key : (k : Key) → (head ts).key ≡ k → act (sign_by k) ts ≡ Ok (x, left) → SignOf ts x left
     by_key key.Not g h =
         let q = ok_parts true x (rest ts) left h in
         subst (λ (b : Bool). SignOf ts b left) q.0 (negated (subst (λ (z : List Tok). Word key.Not ts z) q.1 (word_is key.Not ts g (λ r. cc))))
@@ -79,7 +79,7 @@ word_front (t ∷ ts) e = refl
 pub lined_entry_is : (es : List Entry) (ts : List Tok) (more : List Entry) (left : List Tok) → lined_entry_at es ts ≡ Ok (more, left) → EntryOf es ts more left
 unfolding lined_entry_at
 lined_entry_is es ts more left e =
-    let c = chain_ok negation_at (λ n. skipping (chain (entry_at es n) (λ m. skipping (done m)))) (skip_lines ts) more left e in
+    let c = chain_ok sign_at (λ n. skipping (chain (entry_at es n) (λ m. skipping (done m)))) (skip_lines ts) more left e in
     let d = chain_ok (entry_at es c.0) (λ m. skipping (done m)) (skip_lines c.1) more left c.3 in
     let q = ok_parts d.0 more (skip_lines d.1) left d.3 in
     let r = entry_is es c.0 (skip_lines c.1) d.0 d.1 d.2 in
@@ -89,7 +89,7 @@ lined_entry_is es ts more left e =
       a = c.1;
       b = d.1;
       sign = sign_is (skip_lines ts) c.0 c.1 c.2;
-      prefix = record { t = head (skip_lines c.1); front = word_front (skip_lines c.1) r.is_word ∙ ap (λ (z : List Tok). head (skip_lines c.1) ∷ z) r.behind; is_word = r.is_word; says = r.says };
+      prefix = (head (skip_lines c.1), word_front (skip_lines c.1) r.is_word ∙ ap (λ (z : List Tok). head (skip_lines c.1) ∷ z) r.behind, r.is_word, r.says);
       enters = subst (λ (z : List Entry). Enters es c.0 r.p z) q.0 r.enters;
       behind = sym q.1;
     }
@@ -154,7 +154,7 @@ parts_are ts p left e = up_to_is key.LineEnd ends_line PartOf part_at line_closi
 -- ---- reads
 
 -- a word is no sign
-word_no_sign : (k : Key) → is_word_key k ≡ true → negation_by k ≡ stay (done false)
+word_no_sign : (k : Key) → is_word_key k ≡ true → sign_by k ≡ stay (done false)
 word_no_sign key.Not e = absurd cc
 word_no_sign _ e = refl
 
@@ -166,21 +166,21 @@ entered_reads : {es : List Entry} {n : Bool} {p : Network} {more : List Entry} �
 entered_reads {es = es} {n = n} {p = p} (comes f) = ap (joined es n p) f
 entered_reads {es = es} {n = n} {p = p} (stands f) = ap (joined es n p) f ∙ again_reads es n
 
-entry_reads : {es : List Entry} {n : Bool} {p : Network} {ts : List Tok} {more : List Entry} {left : List Tok} → PrefixOf ts p left → Enters es n p more → entry_at es n ts ≡ Ok (more, left)
+entry_reads : {es : List Entry} {n : Bool} {p : Network} {ts : List Tok} {more : List Entry} {left : List Tok} → WordOf prefix_of ts p left → Enters es n p more → entry_at es n ts ≡ Ok (more, left)
 unfolding entry_at
 entry_reads {es = es} {n = n} {p = p} {ts = ts} {more = more} {left = left} w en =
-    ap (λ (z : List Tok). act (entry_by es n (head z)) z) w.front
-    ∙ (ap (λ (b : Act (List Entry)). act b (w.t ∷ left)) (cond-true (is_word_key w.t.key) _ _ w.is_word ∙ (ap (entered es n) w.says ∙ entered_reads en)))
+    ap (λ (z : List Tok). act (entry_by es n (head z)) z) w.1
+    ∙ (ap (λ (b : Act (List Entry)). act b (w.0 ∷ left)) (cond-true (is_word_key w.0.key) _ _ w.2 ∙ (ap (entered es n) w.3 ∙ entered_reads en)))
 
 -- behind line ends there are none
 skip_twice : (ts : List Tok) → skip_lines (skip_lines ts) ≡ skip_lines ts
 skip_twice ts = sym (skip_stays (skip_lines ts) (skip_head ts))
 
-signed_reads : (ts : List Tok) {a b : List Tok} {n : Bool} {p : Network} → SignOf (skip_lines ts) n a → PrefixOf (skip_lines a) p b → negation_at (skip_lines ts) ≡ Ok (n, a)
-unfolding negation_at
+signed_reads : (ts : List Tok) {a b : List Tok} {n : Bool} {p : Network} → SignOf (skip_lines ts) n a → WordOf prefix_of (skip_lines a) p b → sign_at (skip_lines ts) ≡ Ok (n, a)
+unfolding sign_at
 signed_reads ts plain w =
-    let front : (head (skip_lines ts)).key ≡ w.t.key = ap (λ (z : List Tok). (head z).key) (sym (skip_twice ts) ∙ w.front) in
-    ap (λ (d : Act Bool). act d (skip_lines ts)) (ap negation_by front ∙ word_no_sign w.t.key w.is_word)
+    let front : (head (skip_lines ts)).key ≡ w.0.key = ap (λ (z : List Tok). (head z).key) (sym (skip_twice ts) ∙ w.1) in
+    ap (λ (d : Act Bool). act d (skip_lines ts)) (ap sign_by front ∙ word_no_sign w.0.key w.2)
 signed_reads ts (negated s) w = let h = word_head s in rw (h.0, h.1) refl
 
 pub lined_entry_reads : {es : List Entry} {ts : List Tok} {more : List Entry} {left : List Tok} → EntryOf es ts more left → lined_entry_at es ts ≡ Ok (more, left)
@@ -201,8 +201,8 @@ word_begins key.CloseBrace e = absurd cc
 word_begins key.Comma e = absurd cc
 word_begins _ e = (refl, refl, refl)
 
-sign_begins : (ts : List Tok) {a b : List Tok} {n : Bool} {p : Network} → SignOf (skip_lines ts) n a → PrefixOf (skip_lines a) p b → Begins (head (skip_lines ts)).key
-sign_begins ts plain w = rw (ap (λ (z : List Tok). (head z).key) (sym (skip_twice ts) ∙ w.front)) (word_begins w.t.key w.is_word)
+sign_begins : (ts : List Tok) {a b : List Tok} {n : Bool} {p : Network} → SignOf (skip_lines ts) n a → WordOf prefix_of (skip_lines a) p b → Begins (head (skip_lines ts)).key
+sign_begins ts plain w = rw (ap (λ (z : List Tok). (head z).key) (sym (skip_twice ts) ∙ w.1)) (word_begins w.0.key w.2)
 sign_begins ts (negated s) w = rw (word_head s).0 (refl, refl, refl)
 
 lined_entry_begins : {es : List Entry} {ts : List Tok} {more : List Entry} {left : List Tok} → EntryOf es ts more left → Begins (head ts).key

@@ -33,20 +33,20 @@ timeout_named key.AdaptiveEnd = Some timeout.AdaptiveEnd
 timeout_named _ = None
 
 -- a number, behind line ends where it stands in braces
-unfoldable pub value_at : Bool → ℕ → ℕ → Reader ℕ
-value_at true low high ts = skipping (number_at low high) ts
-value_at false low high ts = number_at low high ts
+unfoldable pub bounded_at : Bool → ℕ → ℕ → Reader ℕ
+bounded_at true low high ts = skipping (number_at low high) ts
+bounded_at false low high ts = number_at low high ts
 
 -- a limit: a name and a number, 1 to 4294967295; `frags` is not kept
 abbrev pub limited : Bool → LimitName → Drafted → Act Drafted
-limited inside name d = take (chain (value_at inside 1 4294967295) (λ n. done (with_limit name n d)))
+limited inside name d = take (chain (bounded_at inside 1 4294967295) (λ n. done (with_limit name n d)))
 
 abbrev pub limit_by : Bool → Drafted → Key → Act Drafted
 limit_by inside d key.States = limited inside limit.States d
 limit_by inside d key.SrcNodes = limited inside limit.SrcNodes d
 limit_by inside d key.Tables = limited inside limit.Tables d
 limit_by inside d key.TableEntries = limited inside limit.TableEntries d
-limit_by inside d key.Frags = take (chain (value_at inside 1 4294967295) (λ n. done d))
+limit_by inside d key.Frags = take (chain (bounded_at inside 1 4294967295) (λ n. done d))
 limit_by inside d _ = refuse why.Plain
 
 unfoldable pub limit_at : Bool → Drafted → Reader Drafted
@@ -61,11 +61,11 @@ greatest_value name = greatest_timeout (place_of name)
 
 -- a timeout: a name and a number; those of fragments, of timestamps and of ICMP are not kept
 abbrev pub unkept : Bool → Drafted → Act Drafted
-unkept inside d = take (chain (value_at inside 0 2147483647) (λ n. done d))
+unkept inside d = take (chain (bounded_at inside 0 2147483647) (λ n. done d))
 
 abbrev pub timed : Bool → Drafted → Option TimeoutName → Act Drafted
 timed inside d None = refuse why.Plain
-timed inside d (Some name) = take (chain (value_at inside (least_value name) (greatest_value name)) (λ n. done (with_timeout name n d)))
+timed inside d (Some name) = take (chain (bounded_at inside (least_value name) (greatest_value name)) (λ n. done (with_timeout name n d)))
 
 abbrev pub time_by : Bool → Drafted → Key → Act Drafted
 time_by inside d key.Frag = unkept inside d

@@ -3,8 +3,7 @@
 use Rattle.std.specs.Prelude.{◌≡◌, Bool, true, false, Some, None, List, [], ◌∷◌, ◌++◌}
 use Rattle.pfs_conf_tokens.specs.declared.keys.Key.TheVariants as key
 use Rattle.pfs_conf_tokens.specs.Tokens.{Tok}
-use Rattle.pfs_conf_tokens.specs.Keys.{is_word_key}
-use Rattle.pfs_conf_tokens.specs.Grammar.{Word, ListOf, UpTo, skip_lines}
+use Rattle.pfs_conf_tokens.specs.Grammar.{Word, WordOf, ListOf, UpTo, skip_lines}
 use Rattle.pfs_addr.specs.Prefixes.{Network}
 use Rattle.pfs_addr.specs.Texts.{prefix_of}
 use Rattle.pfs_conf_rules.specs.Entries.{Entry, sign_of}
@@ -24,13 +23,6 @@ pub data Enters (entries : List Entry) (negated : Bool) (p : Network) : List Ent
 abbrev pub no_parts : Parts
 no_parts = record { persist = false; is_const = false; counters = false; entries = None }
 
--- the word of a prefix
-pub record PrefixOf (ts : List Tok) (p : Network) (left : List Tok) : Type 0 where
-  pub t : Tok
-  pub front : ts ≡ t ∷ left
-  pub is_word : is_word_key t.key ≡ true
-  pub says : prefix_of t.text ≡ Some p
-
 -- entry := ["!"] PREFIX
 pub record EntryOf (entries : List Entry) (ts : List Tok) (more : List Entry) (left : List Tok) : Type 0 where
   pub negated : Bool
@@ -38,7 +30,7 @@ pub record EntryOf (entries : List Entry) (ts : List Tok) (more : List Entry) (l
   pub a : List Tok
   pub b : List Tok
   pub sign : SignOf (skip_lines ts) negated a
-  pub prefix : PrefixOf (skip_lines a) p b
+  pub prefix : WordOf prefix_of (skip_lines a) p b
   pub enters : Enters entries negated p more
   pub behind : left ≡ skip_lines b
 

@@ -13,12 +13,12 @@ use Rattle.pfs_conf_settings.specs.declared.tables.Parts.{Parts}
 use Rattle.pfs_conf_settings.specs.TableGrammar.{no_parts}
 
 -- whether a `!` stands in front
-abbrev pub negation_by : Key → Act Bool
-negation_by key.Not = take (done true)
-negation_by _ = stay (done false)
+abbrev pub sign_by : Key → Act Bool
+sign_by key.Not = take (done true)
+sign_by _ = stay (done false)
 
-unfoldable pub negation_at : Reader Bool
-negation_at ts = on_front (λ t. negation_by t.key) ts
+unfoldable pub sign_at : Reader Bool
+sign_at ts = on_front (λ t. sign_by t.key) ts
 
 -- an entry that stands already is held once with the same sign, and is refused with the other
 abbrev pub again : List Entry → Bool → Bool → Act (List Entry)
@@ -42,7 +42,7 @@ entry_at entries negated ts = on_front (λ t. entry_by entries negated t) ts
 
 -- an entry among line ends
 unfoldable pub lined_entry_at : List Entry → Reader (List Entry)
-lined_entry_at entries ts = skipping (chain negation_at (λ negated. skipping (chain (entry_at entries negated) (λ more. skipping (done more))))) ts
+lined_entry_at entries ts = skipping (chain sign_at (λ negated. skipping (chain (entry_at entries negated) (λ more. skipping (done more))))) ts
 
 -- the entries in braces, behind the opening one
 abbrev pub entries_by : Key → Act (List Entry)

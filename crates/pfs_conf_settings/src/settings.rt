@@ -4,7 +4,7 @@ ghost use Rattle.std.specs.Prelude.{◌≡◌, ◌≤◌, Some, IfOk};
 ghost use Rattle.pfs_conf_tokens.specs.Reading.{closes_braces, act, number_at, until_all, next_of};
 ghost use Rattle.pfs_conf_tokens.specs.Giving.{Gives};
 ghost use Rattle.pfs_conf_settings.specs.Draws.{Draws};
-ghost use Rattle.pfs_conf_settings.specs.Settings.{timeout_named, value_at, least_value, greatest_value, limited, timed, limit_at, time_at, lined_limit_at, lined_time_at, limits_at, times_at, settings_at};
+ghost use Rattle.pfs_conf_settings.specs.Settings.{timeout_named, bounded_at, least_value, greatest_value, limited, timed, limit_at, time_at, lined_limit_at, lined_time_at, limits_at, times_at, settings_at};
 
 use pfs_conf_rules::{Draft, LimitName, TimeoutName};
 use pfs_conf_tokens::{Cursor, Key, Refusal, Why, number, skip_lines};
@@ -187,9 +187,9 @@ fn set_timeout(
 }
 
 /// A number, behind line ends where it stands in braces.
-#[tactic(auto, unfolding(crate::specs::Settings::value_at))]
+#[tactic(auto, unfolding(crate::specs::Settings::bounded_at))]
 fn value(cursor: &mut Cursor, inside: bool, low: u32, high: u32) -> Result<u32, Refusal>
-    ensures value { Gives result cursor.new (value_at inside low high cursor.old) }
+    ensures value { Gives result cursor.new (bounded_at inside low high cursor.old) }
     ensures least { IfOk result (λ n. low ≤ n) }
     ensures greatest { IfOk result (λ n. n ≤ high) }
 {

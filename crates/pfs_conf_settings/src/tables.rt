@@ -134,7 +134,7 @@ fn next_entry(cursor: &mut Cursor, entries: &mut Entries) -> Result<(), ReadErro
 }
 
 /// An entry among line ends.
-#[tactic(auto, unfolding(crate::specs::Tables::lined_entry_at, crate::specs::Tables::negation_at))]
+#[tactic(auto, unfolding(crate::specs::Tables::lined_entry_at, crate::specs::Tables::sign_at))]
 fn lined_entry(cursor: &mut Cursor, entries: &mut Entries) -> Result<(), ReadError>
     ensures { Extends result cursor.new entries.new (lined_entry_at entries.old cursor.old) }
 {

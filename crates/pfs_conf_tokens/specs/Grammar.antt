@@ -4,7 +4,7 @@ use Rattle.pfs_conf_tokens.specs.declared.keys.Key.{Key}
 use Rattle.pfs_conf_tokens.specs.declared.keys.Key.TheVariants as key
 use Rattle.pfs_conf_tokens.specs.Tokens.{Tok, head}
 use Rattle.pfs_conf_tokens.specs.Numbers.{number_written}
-use Rattle.pfs_conf_tokens.specs.Keys.{ends_line}
+use Rattle.pfs_conf_tokens.specs.Keys.{is_word_key, ends_line}
 
 -- one token of a key
 abbrev pub Word : Key → List Tok → List Tok → Type 0
@@ -13,6 +13,10 @@ Word k ts left = (t : Tok) × (ts ≡ t ∷ left) × (t.key ≡ k)
 -- a number within bounds
 abbrev pub Number : ℕ → ℕ → List Tok → ℕ → List Tok → Type 0
 Number low high ts n left = (t : Tok) × (ts ≡ t ∷ left) × (t.key ≡ key.Number) × (number_written t.text ≡ Some n) × (low ≤ n) × (n ≤ high)
+
+-- a word that says a value
+abbrev pub WordOf : {A : Type 0} → (List ℕ → Option A) → List Tok → A → List Tok → Type 0
+WordOf value ts x left = (t : Tok) × (ts ≡ t ∷ left) × (is_word_key t.key ≡ true) × (value t.text ≡ Some x)
 
 -- a phrase that may lack
 pub data Perhaps {A : Type 0} (P : List Tok → A → List Tok → Type 0) : List Tok → Option A → List Tok → Type 0 where

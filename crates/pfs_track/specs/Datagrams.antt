@@ -1,4 +1,4 @@
-use Rattle.std.specs.Prelude.{ℕ, Bool, true, false}
+use Rattle.std.specs.Prelude.{Bool, true, false}
 use Rattle.pfs_conf_rules.specs.declared.timeouts.TimeoutName.{TimeoutName}
 use Rattle.pfs_conf_rules.specs.declared.timeouts.TimeoutName.TheVariants.{UdpFirst, UdpSingle, UdpMultiple, OtherFirst, OtherSingle, OtherMultiple}
 use Rattle.pfs_track.specs.declared.datagrams.DatagramPhase.{DatagramPhase}
@@ -6,12 +6,6 @@ use Rattle.pfs_track.specs.declared.datagrams.Stage.{Stage}
 use Rattle.pfs_track.specs.declared.datagrams.Stage.TheVariants.{First as FirstStage, Single as SingleStage, Multiple as MultipleStage}
 use Rattle.pfs_track.specs.declared.datagrams.Traffic.{Traffic}
 use Rattle.pfs_track.specs.declared.datagrams.Traffic.TheVariants.{Silent, Single, Multiple}
-
--- the ranks of a peer without a handshake, in their order (own)
-abbrev pub traffic_number : Traffic → ℕ
-traffic_number Silent = 0
-traffic_number Single = 1
-traffic_number Multiple = 2
 
 -- a sender at NONE becomes SINGLE
 abbrev pub once_sent : Traffic → Traffic

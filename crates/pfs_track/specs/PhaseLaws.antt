@@ -1,11 +1,11 @@
 -- What each step of a phase keeps: no rank falls, and a handshake completes once.
-use Rattle.std.specs.Prelude.{Bool, true, false, ◌≡◌, ◌≤◌, ◌||◌, refl}
+use Rattle.std.specs.Prelude.{Bool, true, false, ◌≡◌, ◌≤◌, ◌||◌, refl, ℕ}
 use Rattle.std.proofs.Common.{lit≤}
 use Rattle.std.proofs.lemmas.Bool.{false≢true}
 use Rattle.pfs_addr.specs.declared.flag_sets.Flags.{Flags}
 use Rattle.pfs_track.specs.TcpRanks.{rank_number}
 use Rattle.pfs_track.specs.TcpPhases.{tcp_peers, tcp_step, tcp_completes}
-use Rattle.pfs_track.specs.Datagrams.{traffic_number, once_sent, once_answered, udp_step}
+use Rattle.pfs_track.specs.Datagrams.{once_sent, once_answered, udp_step}
 use Rattle.pfs_track.specs.declared.tcp_phases.TcpPhase.{TcpPhase}
 use Rattle.pfs_track.specs.declared.datagrams.DatagramPhase.{DatagramPhase}
 use Rattle.pfs_track.specs.declared.datagrams.Traffic.{Traffic}
@@ -43,6 +43,12 @@ pub tcp_step-complete : (p : TcpPhase) (forward : Bool) (flags : Flags) → p.co
 tcp_step-complete p forward flags h = stays p.complete (tcp_peers p forward flags).completes h
 
 -- ---- the other protocols
+
+-- the ranks of a peer without a handshake, in their order (own)
+abbrev pub traffic_number : Traffic → ℕ
+traffic_number Silent = 0
+traffic_number Single = 1
+traffic_number Multiple = 2
 
 -- neither act lowers what was seen of a peer
 once_sent-rises : (t : Traffic) → traffic_number t ≤ traffic_number (once_sent t)

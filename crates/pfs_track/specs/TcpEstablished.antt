@@ -1,22 +1,19 @@
 -- Where a handshake has completed, both peers are at least at ESTABLISHED: what makes a phase of TCP after a packet a phase.
-use Rattle.std.specs.Prelude.{Bool, true, false, ◌≡◌, ◌≤◌, ◌||◌}
+use Rattle.std.specs.Prelude.{Bool, true, false, ◌≡◌, ◌≤◌, ◌||◌, if◌then◌else◌}
 use Rattle.std.proofs.Common.{arith, refl, lit≤}
 use Rattle.pfs_addr.specs.declared.flag_sets.Flags.{Flags}
 use Rattle.pfs_track.specs.declared.tcp_ranks.Ends.{Ends}
 use Rattle.pfs_track.specs.declared.tcp_ranks.TcpRank.{TcpRank}
-use Rattle.pfs_track.specs.TcpRanks.{rank_number, IsEstablished, after_syn, after_fin, after_ack, after_rst, acted, peers_after}
+use Rattle.pfs_track.specs.declared.tcp_ranks.TcpRank.TheVariants.{SynSent, Closing}
+use Rattle.pfs_track.specs.TcpRanks.{rank_number, raised, IsEstablished, after_syn, after_fin, after_ack, after_rst, acted, peers_after}
 
 -- once it has completed, now or before, both are there
 abbrev IsShown : Bool → Ends → Type 0
 IsShown complete e = (complete || e.completes) ≡ true → IsEstablished e.sender × IsEstablished e.receiver
 
-syn-keeps : (syn : Bool) (s : TcpRank) → rank_number s ≤ rank_number (after_syn syn s)
-syn-keeps true s = grind arith
-syn-keeps false s = omega arith
-
-fin-keeps : (fin : Bool) (s : TcpRank) → rank_number s ≤ rank_number (after_fin fin s)
-fin-keeps true s = grind arith
-fin-keeps false s = omega arith
+raised-keeps : (on : Bool) (rank least : TcpRank) → rank_number rank ≤ rank_number (if on then raised rank least else rank)
+raised-keeps true rank least = grind arith
+raised-keeps false rank least = omega arith
 
 ack-shows : (complete ack forward : Bool) (s r : TcpRank) → (complete ≡ true → IsEstablished s × IsEstablished r) → IsShown complete (after_ack ack forward s r)
 ack-shows true true forward s r were = let b = were refl in let c = b.0 in let d = b.1 in λ h. (grind (arith, c, d), grind (arith, c, d))
@@ -32,7 +29,7 @@ acted-shows : (complete forward : Bool) (flags : Flags) (s r : TcpRank) → (com
 acted-shows complete forward flags s r were =
     let syn = after_syn flags.syn s in
     let fin = after_fin flags.fin syn in
-    let risen : complete ≡ true → IsEstablished fin × IsEstablished r = λ h. (omega (arith, syn-keeps flags.syn s, fin-keeps flags.fin syn, (were h).0), (were h).1) in
+    let risen : complete ≡ true → IsEstablished fin × IsEstablished r = λ h. (omega (arith, raised-keeps flags.syn s SynSent, raised-keeps flags.fin syn Closing, (were h).0), (were h).1) in
     rst-shows complete flags.rst (after_ack flags.ack forward fin r) (ack-shows complete flags.ack forward fin r risen)
 
 pub peers_established : (complete forward : Bool) (flags : Flags) (maker other : TcpRank)

@@ -127,8 +127,8 @@ impl Phases for Udp {
 
     ghost use Rattle.std.specs.Prelude.{false, refl};
     ghost use Rattle.std.proofs.lemmas.Bool.{false≢true};
-    ghost use Rattle.pfs_track.specs.Datagrams.{first_datagram, udp_step, udp_slot, traffic_number};
-    ghost use Rattle.pfs_track.specs.PhaseLaws.{udp_step-maker, udp_step-other};
+    ghost use Rattle.pfs_track.specs.Datagrams.{first_datagram, udp_step, udp_slot};
+    ghost use Rattle.pfs_track.specs.PhaseLaws.{traffic_number, udp_step-maker, udp_step-other};
 
     ghost first = { first_datagram };
 
@@ -176,8 +176,8 @@ impl Phases for Other {
 
     ghost use Rattle.std.specs.Prelude.{false, refl};
     ghost use Rattle.std.proofs.lemmas.Bool.{false≢true};
-    ghost use Rattle.pfs_track.specs.Datagrams.{first_datagram, udp_step, other_slot, traffic_number};
-    ghost use Rattle.pfs_track.specs.PhaseLaws.{udp_step-maker, udp_step-other};
+    ghost use Rattle.pfs_track.specs.Datagrams.{first_datagram, udp_step, other_slot};
+    ghost use Rattle.pfs_track.specs.PhaseLaws.{traffic_number, udp_step-maker, udp_step-other};
 
     ghost first = { first_datagram };
 
