@@ -233,7 +233,8 @@ fn take<S: Store>(
 ) -> Result<bool, Stop> {
     let (time, sent, source, port, wanted) = *row;
     let packet = packet(sent, source, port)?;
-    if engine.last().is_none() || engine.taken() >= 1_000_000_000 {
+    let taken = engine.taken();
+    if engine.last().is_none() || taken >= 1_000_000_000 {
         return Err(Stop::Input);
     }
     let before = held(engine);
@@ -241,7 +242,7 @@ fn take<S: Store>(
     let answer = engine.packet(&packet);
     end(rt)?;
     match answer {
-        Ok(outcome) => plain(rt, outcome == wanted && engine.taken() == before.3 + 1),
+        Ok(outcome) => plain(rt, outcome == wanted && engine.taken() == taken + 1),
         Err(_) => refused(rt, held(engine) == before && engine.last() == Some(time)),
     }
 }

@@ -13,30 +13,52 @@ use pfs_store::{IndexStore, Limit, PlainStore, StateNo, Store};
 const LIMITED: &[u8] = b"set limit states 14\n\
     pass keep state (max 12, max-src-nodes 2, max-src-states 6)\npass\n";
 
-// A source and a port, the rule, and the number of the state or the limit that is met.
-type Row = (Addr, u16, u32, Result<u64, Limit>);
+const UNTRACKED: &[u8] = b"pass\n";
+
+/// What is asked of a store.
+#[derive(Debug, Clone, Copy)]
+enum Ask {
+    /// A state of a rule that tracks sources.
+    Tracked,
+    /// A state of one that does not.
+    Untracked,
+    /// A state where a limit is met: no memory is taken.
+    AtLimit,
+    /// A state in the room of one that has left: no memory is taken.
+    InRoom,
+}
+
+// What is asked, a source and a port, the rule, and the number of the state or the limit that is met.
+type Row = (Ask, Addr, u16, u32, Result<u64, Limit>);
 
 const A3: Addr = Addr::V4([198, 51, 100, 3]);
 
 const ROWS: &[Row] = &[
-    (A1, 1, 0, Ok(1)),
-    (A1, 2, 0, Ok(2)),
-    (A1, 3, 1, Ok(3)),
-    (A2, 1, 0, Ok(4)),
-    (A3, 1, 0, Err(Limit::MaxSrcNodes)),
-    (A1, 4, 0, Ok(5)),
-    (A1, 5, 0, Ok(6)),
-    (A1, 6, 0, Ok(7)),
-    (A1, 7, 0, Ok(8)),
-    (A1, 8, 0, Err(Limit::MaxSrcStates)),
-    (A2, 2, 1, Ok(9)),
-    (A2, 3, 1, Ok(10)),
-    (A2, 4, 1, Ok(11)),
-    (A2, 5, 1, Ok(12)),
-    (A2, 6, 1, Ok(13)),
-    (A2, 7, 1, Ok(14)),
-    (A2, 8, 1, Err(Limit::States)),
-    (A2, 8, 0, Err(Limit::States)),
+    (Ask::Tracked, A1, 1, 0, Ok(1)),
+    (Ask::Tracked, A1, 2, 0, Ok(2)),
+    (Ask::Untracked, A1, 3, 1, Ok(3)),
+    (Ask::Tracked, A2, 1, 0, Ok(4)),
+    (Ask::AtLimit, A3, 1, 0, Err(Limit::MaxSrcNodes)),
+    (Ask::Tracked, A1, 4, 0, Ok(5)),
+    (Ask::Tracked, A1, 5, 0, Ok(6)),
+    (Ask::Tracked, A1, 6, 0, Ok(7)),
+    (Ask::Tracked, A1, 7, 0, Ok(8)),
+    (Ask::AtLimit, A1, 8, 0, Err(Limit::MaxSrcStates)),
+    (Ask::Untracked, A2, 2, 1, Ok(9)),
+    (Ask::Untracked, A2, 3, 1, Ok(10)),
+    (Ask::Untracked, A2, 4, 1, Ok(11)),
+    (Ask::Untracked, A2, 5, 1, Ok(12)),
+    (Ask::Untracked, A2, 6, 1, Ok(13)),
+    (Ask::Untracked, A2, 7, 1, Ok(14)),
+    (Ask::AtLimit, A2, 8, 1, Err(Limit::States)),
+    (Ask::AtLimit, A2, 8, 0, Err(Limit::States)),
+];
+
+const UNTRACKED_ROWS: &[Row] = &[
+    (Ask::Untracked, A1, 1, 0, Ok(1)),
+    (Ask::Untracked, A1, 2, 0, Ok(2)),
+    (Ask::Untracked, A2, 1, 0, Ok(3)),
+    (Ask::Untracked, A2, 2, 0, Ok(4)),
 ];
 
 /// Plain stores.
@@ -49,7 +71,10 @@ pub fn tell_plain(rt: &HostRuntime) -> Result<(), Stop> {
     }
     let config = load(rt.alloc(), LIMITED)?;
     let mut store = PlainStore::new(rt.alloc(), &config)?;
-    fill(rt, &mut store, &config)
+    fill(rt, &mut store, &config)?;
+    let config = load(rt.alloc(), UNTRACKED)?;
+    let mut store = PlainStore::new(rt.alloc(), &config)?;
+    fill_again(rt, &mut store, &config)
 }
 
 /// Indexed stores.
@@ -62,7 +87,10 @@ pub fn tell_indexed(rt: &HostRuntime) -> Result<(), Stop> {
     }
     let config = load(rt.alloc(), LIMITED)?;
     let mut store = IndexStore::new(rt.alloc(), &config)?;
-    fill(rt, &mut store, &config)
+    fill(rt, &mut store, &config)?;
+    let config = load(rt.alloc(), UNTRACKED)?;
+    let mut store = IndexStore::new(rt.alloc(), &config)?;
+    fill_again(rt, &mut store, &config)
 }
 
 fn new_plain(rt: &HostRuntime, config: &Config) -> Result<bool, Stop> {
@@ -93,12 +121,38 @@ fn counts<S: Store>(store: &S) -> (u64, u64, u64) {
 fn fill<S: Store>(rt: &HostRuntime, store: &mut S, config: &Config) -> Result<(), Stop>
     requires made_for { S.config store.old ≡ config.now }
 {
-    for row in ROWS {
+    admit_all(rt, store, config, ROWS)?;
+    take_away(rt, store)
+}
+
+// Where no source is tracked, and a state has left: the next one takes its room, and no room is made for a source node.
+fn fill_again<S: Store>(rt: &HostRuntime, store: &mut S, config: &Config) -> Result<(), Stop>
+    requires made_for { S.config store.old ≡ config.now }
+{
+    admit_all(rt, store, config, UNTRACKED_ROWS)?;
+    if store.holds(StateNo(2)) {
+        let mut meter = Meter::new();
+        store.kill(StateNo(2), 6, &mut meter);
+    }
+    admit(rt, store, config, &(Ask::InRoom, A2, 9, 0, Ok(5)))?;
+    Ok(())
+}
+
+fn admit_all<S: Store>(
+    rt: &HostRuntime,
+    store: &mut S,
+    config: &Config,
+    rows: &[Row],
+) -> Result<(), Stop>
+    requires made_for { S.config store.old ≡ config.now }
+    ensures made_for { S.config store.new ≡ config.now }
+{
+    for row in rows {
         if !admit(rt, store, config, row)? {
             admit(rt, store, config, row)?;
         }
     }
-    take_away(rt, store)
+    Ok(())
 }
 
 // A state of a rule, or the limit that is met, at which no memory is taken.
@@ -111,10 +165,10 @@ fn admit<S: Store>(
     requires made_for { S.config store.old ≡ config.now }
     ensures made_for { S.config store.new ≡ config.now }
 {
-    let (source, port, rule, wanted) = *row;
+    let (ask, source, port, rule, wanted) = *row;
     let packet = packet(Sent::Udp, source, port)?;
     let before = counts(store);
-    begin_row(rt, row)?;
+    begin_ask(rt, ask)?;
     let answer = admit_one(store, config, &packet, RuleNo(rule))?;
     end(rt)?;
     let found = store.find(&FlowKey::of(&packet)).map(|number| number.0);
@@ -128,11 +182,12 @@ fn admit<S: Store>(
     }
 }
 
-fn begin_row(rt: &HostRuntime, row: &Row) -> Result<(), Stop> {
-    match row {
-        (_, _, _, Err(_)) => begin_free(rt, "admit at a limit"),
-        (_, _, 0, Ok(_)) => begin(rt, "admit where sources are tracked"),
-        (_, _, _, Ok(_)) => begin(rt, "admit"),
+fn begin_ask(rt: &HostRuntime, ask: Ask) -> Result<(), Stop> {
+    match ask {
+        Ask::Tracked => begin(rt, "admit where sources are tracked"),
+        Ask::Untracked => begin(rt, "admit where no sources are tracked"),
+        Ask::AtLimit => begin_free(rt, "admit at a limit"),
+        Ask::InRoom => begin_free(rt, "admit in the room of a state that left"),
     }
 }
 
@@ -192,9 +247,9 @@ fn flush<S: Store>(rt: &HostRuntime, store: &mut S) -> Result<(), Stop> {
 }
 
 fn purge<S: Store>(rt: &HostRuntime, store: &mut S) -> Result<(), Stop> {
-    let mut meter = Meter::new();
     begin_free(rt, "slices")?;
     for second in 0..20u64 {
+        let mut meter = Meter::new();
         store.purge_states(second + 1_000_000, &mut meter);
         store.purge_nodes(second + 1_000_000);
     }

@@ -19,10 +19,10 @@ const RULES: &[Row] = &[
     (FULL, 1, None),
 ];
 
-const HOSTS: &[u8] = b"set limit table-entries 9\ntable <bad> { 203.0.113.9 }\n";
+const HOSTS: &[u8] = b"set limit table-entries 41\ntable <bad> { 203.0.113.9 }\n";
 
 // How many hosts there is room for under that limit.
-const FREE: u8 = 8;
+const FREE: u8 = 40;
 
 /// Tables and books of rules, and hosts that are added, with room made before and without.
 pub fn tell_tables(rt: &HostRuntime) -> Result<(), Stop> {

@@ -133,7 +133,11 @@ const JOBS: &[Job] = &[Job::Check("r"), Job::Show("r"), Job::Replay("r", "t")];
 fn a_read_of_rules_fails_at_each_turn(rt: HostRuntime) {
     for job in JOBS {
         for good in 0..=RULES.len() {
-            assert_eq!(rt; told_of(&rt, job, good, 9999), (Err(ReplayFault::Read), 0), "{good}");
+            assert_eq!(rt;
+                told_of(&rt, job, good, 9999),
+                (Err(ReplayFault::Read), 0),
+                "{good}"
+            );
         }
     }
 }
@@ -144,7 +148,10 @@ fn a_write_of_a_job_fails_at_each_turn(rt: HostRuntime) {
         let (told, whole) = told_of(&rt, job, 999, 9999);
         assert_eq!(rt; told, Ok(()));
         for room in 0..=whole {
-            assert_eq!(rt; told_of(&rt, job, 999, room), (Err(ReplayFault::Write), room));
+            assert_eq!(rt;
+                told_of(&rt, job, 999, room),
+                (Err(ReplayFault::Write), room)
+            );
         }
     }
 }
