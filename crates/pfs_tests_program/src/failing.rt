@@ -3,7 +3,9 @@
 use crate::fakes::{Endless, Halting, narrow_writer};
 use crate::reports::{HEADER, trace_of};
 use crate::runs::{replayed, replayed_joined};
-use pfs_cli::{Kind, LoadFault, ReplayFault};
+use pfs_cli::{Job, Kind, LoadFault, ReplayFault, perform};
+use pfs_cli_streams::{Feed, Sink};
+use std::alloc::AllocGlobal;
 use std::process::Abort;
 use std::test::Fail;
 
@@ -96,6 +98,62 @@ fn a_write_fails_at_each_turn(rt: HostRuntime) -> Result<(), Fail> {
         assert_eq!(rt; writer.taken.as_slice(), &REPORT[..room]);
     }
     Ok(())
+}
+
+#[test]
+fn a_write_takes_nothing_at_each_turn(rt: HostRuntime) -> Result<(), Fail> {
+    let trace = trace_of(rt.alloc(), RECORDS)?;
+    for room in 0..REPORT.len() {
+        let mut writer = narrow_writer(rt.alloc(), 1, room);
+        writer.stalls = true;
+        let (told, _, failed, writer) = replayed(rt.alloc(), RULES, trace.as_slice(), writer, 99);
+        assert_eq!(rt; (told, failed), (Err(ReplayFault::Write), 1), "{room}");
+        assert_eq!(rt; writer.taken.as_slice(), &REPORT[..room]);
+    }
+    Ok(())
+}
+
+// What a job over these rules answers, whose reader gives so many bytes and whose writer takes so many.
+fn told_of(
+    rt: &impl AllocGlobal,
+    job: &Job,
+    good: usize,
+    room: usize,
+) -> (Result<(), ReplayFault>, usize) {
+    let mut rules = Feed::new(Halting { text: RULES, good }, 999);
+    let mut trace = Feed::new(HEADER, 99);
+    let mut out = Sink::new(narrow_writer(rt.alloc(), 1, room));
+    let told = perform(rt.alloc(), job, &mut rules, &mut trace, &mut out);
+    (told, out.into_inner().taken.len())
+}
+
+const JOBS: &[Job] = &[Job::Check("r"), Job::Show("r"), Job::Replay("r", "t")];
+
+#[test]
+fn a_read_of_rules_fails_at_each_turn(rt: HostRuntime) {
+    for job in JOBS {
+        for good in 0..=RULES.len() {
+            assert_eq!(rt;
+                told_of(&rt, job, good, 9999),
+                (Err(ReplayFault::Read), 0),
+                "{good}"
+            );
+        }
+    }
+}
+
+#[test]
+fn a_write_of_a_job_fails_at_each_turn(rt: HostRuntime) {
+    for job in JOBS {
+        let (told, whole) = told_of(&rt, job, 999, 9999);
+        assert_eq!(rt; told, Ok(()));
+        for room in 0..=whole {
+            assert_eq!(rt;
+                told_of(&rt, job, 999, room),
+                (Err(ReplayFault::Write), room)
+            );
+        }
+    }
 }
 
 #[test]

@@ -43,17 +43,22 @@ impl Read for Endless {
     }
 }
 
-/// A writer that takes at most `width` bytes at each write, fails after `room` writes, and counts its flushes.
+/// A writer that takes at most `width` bytes at each write, fails after `room` writes, or takes nothing more if it stalls, and counts
+/// its flushes.
 #[derive(Drop)]
 pub struct Narrow {
     pub taken: Vec<u8>,
     pub width: usize,
     pub room: usize,
+    pub stalls: bool,
     pub flushes: u64,
 }
 
 impl Write for Narrow {
     fn write(&mut self, buf: &[u8]) -> io::Result<usize> {
+        if self.room == 0 && self.stalls {
+            return Ok(0);
+        }
         if self.room == 0 {
             return Err(Error::new(ErrorKind::Other, "full"));
         }
@@ -78,6 +83,7 @@ pub fn narrow_writer(alloc: Global, width: usize, room: usize) -> Narrow {
         taken: Vec::new(alloc),
         width,
         room,
+        stalls: false,
         flushes: 0,
     }
 }

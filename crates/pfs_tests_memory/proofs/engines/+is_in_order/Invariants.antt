@@ -1,0 +1,6 @@
+use Rattle.std.proofs.Common.{ℕ, length}
+use Rattle.pfs_tests_memory.proofs.engines.+is_in_order.Given as goal
+
+-- the events that are left
+abbrev pub decreases-is_in_order : goal.decreases-is_in_order
+decreases-is_in_order l = length l.events.now

@@ -1,0 +1,337 @@
+// Engines over both kinds of store: events one by one, and as a run.
+
+ghost use Rattle.std.specs.Prelude.{◌≡◌, ◌<◌, ◌≤◌, ◌^◌, true};
+ghost use Rattle.std.specs.Option.{ForSome};
+ghost use Rattle.pfs_engine_machine.specs.Runs.{IsInOrder};
+
+use crate::packets::{A1, A2, Sent, packet};
+use crate::telling::{Stop, begin, begin_free, end, plain, refused};
+use crate::texts::{CONNECTIONS, FULL, NODES, OVERLOAD};
+use pfs_addr::{Addr, Packet};
+use pfs_conf::{RuleNo, load};
+use pfs_engine::{Added, Engine, Event, Limit, Outcome, What};
+use pfs_store::{IndexStore, PlainStore, Store};
+use std::hash::{BuildHasherDefault, FoldHasher};
+
+type Indexed = IndexStore<BuildHasherDefault<FoldHasher>>;
+
+/// When a packet comes, what it is, its source and port, and what comes of it.
+type Row = (u64, Sent, Addr, u16, Outcome);
+
+// What is shown, the rules, the packets, whether the rules have a table for overload, and how many states, source nodes and
+// entries are held in the end.
+struct Case {
+    rules: &'static [u8],
+    rows: &'static [Row],
+    has_overload: bool,
+    end: (u64, u64, u64),
+}
+
+const CASES: &[Case] = &[
+    Case {
+        rules: NODES,
+        rows: &[
+            (0, Sent::Udp, A1, 1, Outcome::New(RuleNo(0))),
+            (
+                10,
+                Sent::Udp,
+                A2,
+                1,
+                Outcome::Drop(RuleNo(0), Limit::MaxSrcNodes),
+            ),
+            (30, Sent::Udp, A2, 1, Outcome::New(RuleNo(0))),
+        ],
+        has_overload: false,
+        end: (1, 1, 0),
+    },
+    Case {
+        rules: OVERLOAD,
+        rows: &[
+            (0, Sent::Udp, A1, 53000, Outcome::New(RuleNo(1))),
+            (0, Sent::Syn, A1, 1000, Outcome::New(RuleNo(2))),
+            (0, Sent::SynAck, A1, 1000, Outcome::State(RuleNo(2))),
+            (0, Sent::Ack, A1, 1000, Outcome::State(RuleNo(2))),
+            (0, Sent::Syn, A1, 1001, Outcome::New(RuleNo(2))),
+            (0, Sent::SynAck, A1, 1001, Outcome::State(RuleNo(2))),
+            (
+                0,
+                Sent::Ack,
+                A1,
+                1001,
+                Outcome::Kill {
+                    rule: RuleNo(2),
+                    conn: true,
+                    rate: false,
+                    overload: Some(Added::New),
+                    killed: 2,
+                },
+            ),
+            (0, Sent::Syn, A1, 1002, Outcome::Block(RuleNo(0))),
+        ],
+        has_overload: true,
+        end: (1, 1, 1),
+    },
+    Case {
+        rules: FULL,
+        rows: &[
+            (0, Sent::Syn, A1, 1000, Outcome::New(RuleNo(0))),
+            (0, Sent::SynAck, A1, 1000, Outcome::State(RuleNo(0))),
+            (0, Sent::Ack, A1, 1000, Outcome::State(RuleNo(0))),
+            (0, Sent::Syn, A1, 1001, Outcome::New(RuleNo(0))),
+            (0, Sent::SynAck, A1, 1001, Outcome::State(RuleNo(0))),
+            (
+                0,
+                Sent::Ack,
+                A1,
+                1001,
+                Outcome::Kill {
+                    rule: RuleNo(0),
+                    conn: true,
+                    rate: false,
+                    overload: Some(Added::Full),
+                    killed: 1,
+                },
+            ),
+            (0, Sent::Udp, A1, 1, Outcome::Pass(None)),
+        ],
+        has_overload: true,
+        end: (1, 1, 1),
+    },
+    Case {
+        rules: CONNECTIONS,
+        rows: &[
+            (0, Sent::Syn, A1, 1000, Outcome::New(RuleNo(1))),
+            (0, Sent::SynAck, A1, 1000, Outcome::State(RuleNo(1))),
+            (0, Sent::Ack, A1, 1000, Outcome::State(RuleNo(1))),
+            (0, Sent::Udp, A1, 1, Outcome::New(RuleNo(0))),
+            (1, Sent::Udp, A2, 1, Outcome::New(RuleNo(0))),
+            (1, Sent::Udp, A2, 2, Outcome::New(RuleNo(0))),
+            (2, Sent::Udp, A2, 1, Outcome::State(RuleNo(0))),
+            (3, Sent::Syn, A1, 1001, Outcome::New(RuleNo(1))),
+            (3, Sent::SynAck, A1, 1001, Outcome::State(RuleNo(1))),
+            (
+                3,
+                Sent::Ack,
+                A1,
+                1001,
+                Outcome::Kill {
+                    rule: RuleNo(1),
+                    conn: true,
+                    rate: false,
+                    overload: None,
+                    killed: 1,
+                },
+            ),
+        ],
+        has_overload: false,
+        end: (4, 1, 0),
+    },
+];
+
+/// Engines over plain stores.
+pub fn tell_plain(rt: &HostRuntime) -> Result<(), Stop> {
+    for case in CASES {
+        if !new_plain(rt, case)? {
+            new_plain(rt, case)?;
+        }
+        walk(rt, plain_engine(rt, case)?, case)?;
+        run_all(rt, plain_engine(rt, case)?, case)?;
+    }
+    Ok(())
+}
+
+/// Engines over indexed stores.
+pub fn tell_indexed(rt: &HostRuntime) -> Result<(), Stop> {
+    for case in CASES {
+        if !new_indexed(rt, case)? {
+            new_indexed(rt, case)?;
+        }
+        walk(rt, indexed_engine(rt, case)?, case)?;
+        run_all(rt, indexed_engine(rt, case)?, case)?;
+    }
+    Ok(())
+}
+
+fn plain_engine(rt: &HostRuntime, case: &Case) -> Result<Engine<PlainStore>, Stop> {
+    let config = load(rt.alloc(), case.rules)?;
+    let store = PlainStore::new(rt.alloc(), &config)?;
+    Ok(Engine::new(rt.alloc(), config, store)?)
+}
+
+fn indexed_engine(rt: &HostRuntime, case: &Case) -> Result<Engine<Indexed>, Stop> {
+    let config = load(rt.alloc(), case.rules)?;
+    let store = IndexStore::new(rt.alloc(), &config)?;
+    Ok(Engine::new(rt.alloc(), config, store)?)
+}
+
+fn new_plain(rt: &HostRuntime, case: &Case) -> Result<bool, Stop> {
+    let config = load(rt.alloc(), case.rules)?;
+    let store = PlainStore::new(rt.alloc(), &config)?;
+    begin(rt, "Engine::new")?;
+    let answer = Engine::new(rt.alloc(), config, store);
+    end(rt)?;
+    match answer {
+        Ok(engine) => plain(rt, engine.last() == None && engine.states() == 0),
+        Err(_) => refused(rt, true),
+    }
+}
+
+fn new_indexed(rt: &HostRuntime, case: &Case) -> Result<bool, Stop> {
+    let config = load(rt.alloc(), case.rules)?;
+    let store = IndexStore::new(rt.alloc(), &config)?;
+    begin(rt, "Engine::new")?;
+    let answer = Engine::new(rt.alloc(), config, store);
+    end(rt)?;
+    match answer {
+        Ok(engine) => plain(rt, engine.last() == None && engine.states() == 0),
+        Err(_) => refused(rt, true),
+    }
+}
+
+// How many states, source nodes and entries are held, and how many packets were taken.
+fn held<S: Store>(engine: &Engine<S>) -> (u64, u64, u64, u64) {
+    (
+        engine.states(),
+        engine.nodes(),
+        engine.entries(),
+        engine.taken(),
+    )
+}
+
+// The packets one by one.
+fn walk<S: Store + Drop>(rt: &HostRuntime, engine: Engine<S>, case: &Case) -> Result<(), Stop> {
+    let mut engine = engine;
+    for row in case.rows {
+        advance(rt, &mut engine, row.0)?;
+        if !take(rt, &mut engine, case, row)? {
+            take(rt, &mut engine, case, row)?;
+        }
+    }
+    begin_free(rt, "what is held")?;
+    let held = held(&engine);
+    end(rt)?;
+    plain(rt, (held.0, held.1, held.2) == case.end)?;
+    Ok(())
+}
+
+fn advance<S: Store>(rt: &HostRuntime, engine: &mut Engine<S>, time: u64) -> Result<(), Stop> {
+    if !is_in_time(engine.last(), time) {
+        return Err(Stop::Input);
+    }
+    begin_free(rt, "advance")?;
+    engine.advance(time);
+    end(rt)?;
+    plain(rt, engine.last() == Some(time))?;
+    Ok(())
+}
+
+fn take<S: Store>(
+    rt: &HostRuntime,
+    engine: &mut Engine<S>,
+    case: &Case,
+    row: &Row,
+) -> Result<bool, Stop> {
+    let (time, sent, source, port, wanted) = *row;
+    let packet = packet(sent, source, port)?;
+    let taken = engine.taken();
+    if engine.last().is_none() || taken >= 1_000_000_000 {
+        return Err(Stop::Input);
+    }
+    let before = held(engine);
+    begin_packet(rt, case, row)?;
+    let answer = engine.packet(&packet);
+    end(rt)?;
+    match answer {
+        Ok(outcome) => plain(rt, outcome == wanted && engine.taken() == taken + 1),
+        Err(_) => refused(rt, held(engine) == before && engine.last() == Some(time)),
+    }
+}
+
+// Memory is taken where a state is made, and for a TCP packet of a rule with overload.
+fn begin_packet(rt: &HostRuntime, case: &Case, row: &Row) -> Result<(), Stop> {
+    match row.4 {
+        Outcome::New(_) => begin(rt, "packet that makes a state"),
+        Outcome::State(_) | Outcome::Kill { .. } if case.has_overload => {
+            begin(rt, "packet of a rule with overload")
+        }
+        _ => begin_free(rt, "packet"),
+    }
+}
+
+fn event_of(row: &Row) -> Result<Event, Stop> {
+    let (time, sent, source, port, _) = *row;
+    let packet = packet(sent, source, port)?;
+    Ok(Event {
+        time,
+        what: What::Packet(packet),
+    })
+}
+
+// All packets by one call; where it is refused, those that are left by another.
+fn run_all<S: Store + Drop>(rt: &HostRuntime, engine: Engine<S>, case: &Case) -> Result<(), Stop> {
+    let mut engine = engine;
+    let mut events = Vec::with_capacity(rt.alloc(), 16)?;
+    for row in case.rows {
+        events.push(event_of(row)?)?;
+    }
+    let mut outcomes = Vec::new(rt.alloc());
+    if !run_once(rt, &mut engine, &events, &mut outcomes, case)? {
+        let done = outcomes.len().min(events.len());
+        run_once(rt, &mut engine, &events[done..], &mut outcomes, case)?;
+    }
+    Ok(())
+}
+
+fn run_once<S: Store>(
+    rt: &HostRuntime,
+    engine: &mut Engine<S>,
+    events: &[Event],
+    outcomes: &mut Vec<Outcome>,
+    case: &Case,
+) -> Result<bool, Stop> {
+    if !is_in_order(engine.last(), events) || engine.taken() > 1_000 || events.len() > 1_000 {
+        return Err(Stop::Input);
+    }
+    begin(rt, "run")?;
+    let answer = engine.run(events, outcomes);
+    end(rt)?;
+    let held = held(engine);
+    let is_front = is_front(outcomes, case) && held.3 == outcomes.len() as u64;
+    match answer {
+        Ok(()) => plain(
+            rt,
+            is_front && outcomes.len() == case.rows.len() && (held.0, held.1, held.2) == case.end,
+        ),
+        Err(_) => refused(rt, is_front && outcomes.len() < case.rows.len()),
+    }
+}
+
+// The outcomes are those of the first packets.
+fn is_front(outcomes: &[Outcome], case: &Case) -> bool {
+    outcomes.len() <= case.rows.len()
+        && outcomes
+            .iter()
+            .zip(case.rows)
+            .all(|(outcome, row)| *outcome == row.4)
+}
+
+fn is_in_time(last: Option<u64>, time: u64) -> bool
+    ensures order { result ≡ true → ForSome last (λ moment. moment ≤ time) }
+    ensures moment { result ≡ true → time < 2 ^ 32 }
+{
+    match last {
+        Some(last) => last <= time && time <= 4294967295,
+        None => time <= 4294967295,
+    }
+}
+
+fn is_in_order(last: Option<u64>, events: &[Event]) -> bool
+    ensures { result ≡ true → IsInOrder last events.now }
+{
+    match events {
+        [] => true,
+        [event, rest @ ..] => {
+            is_in_time(last, event.time) && is_in_order(Some(event.time), rest)
+        }
+    }
+}

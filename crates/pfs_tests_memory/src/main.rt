@@ -1,0 +1,81 @@
+// Each call that may answer want of memory, so that a growth that is refused shows which call it was, and what stands after it. Standard
+// output has a line before each call and one behind it, and then whether the answer is the plain one, or refused, with all that has
+// to stand still there. Words choose what is called; without words it is everything.
+#![tactic(auto)]
+
+mod engines;
+mod packets;
+mod programs;
+mod stores;
+mod tables;
+mod telling;
+mod texts;
+
+use crate::telling::Stop;
+use std::env;
+use std::process::ExitCode;
+
+fn main(rt: HostRuntime) -> ExitCode {
+    match tell_all(&rt) {
+        Ok(()) => ExitCode::from(0),
+        Err(Stop::Memory) => ExitCode::from(4),
+        Err(_) => ExitCode::from(1),
+    }
+}
+
+// What the words name, or everything, and then that it is whole.
+fn tell_all(rt: &HostRuntime) -> Result<(), Stop> {
+    let words: Vec<String> = env::args(rt)?.collect(rt.alloc())?;
+    let chosen = match words.get(1) {
+        Some(word) => word.as_str(),
+        None => "",
+    };
+    tell_texts(rt, chosen)?;
+    tell_machine(rt, chosen)?;
+    tell_programs(rt, chosen)?;
+    println!(rt; "whole")?;
+    Ok(())
+}
+
+fn is_chosen(chosen: &str, name: &str) -> bool {
+    chosen.is_empty() || chosen == name
+}
+
+fn tell_texts(rt: &HostRuntime, chosen: &str) -> Result<(), Stop> {
+    if is_chosen(chosen, "addresses") {
+        texts::tell_addresses(rt)?;
+    }
+    if is_chosen(chosen, "texts") {
+        texts::tell_texts(rt)?;
+    }
+    if is_chosen(chosen, "tables") {
+        tables::tell_tables(rt)?;
+    }
+    Ok(())
+}
+
+fn tell_machine(rt: &HostRuntime, chosen: &str) -> Result<(), Stop> {
+    if is_chosen(chosen, "plain-store") {
+        stores::tell_plain(rt)?;
+    }
+    if is_chosen(chosen, "index-store") {
+        stores::tell_indexed(rt)?;
+    }
+    if is_chosen(chosen, "plain-engine") {
+        engines::tell_plain(rt)?;
+    }
+    if is_chosen(chosen, "index-engine") {
+        engines::tell_indexed(rt)?;
+    }
+    Ok(())
+}
+
+fn tell_programs(rt: &HostRuntime, chosen: &str) -> Result<(), Stop> {
+    if is_chosen(chosen, "replays") {
+        programs::tell_replays(rt)?;
+    }
+    if is_chosen(chosen, "jobs") {
+        programs::tell_jobs(rt)?;
+    }
+    Ok(())
+}

@@ -1,0 +1,259 @@
+// Both kinds of store: new ones, and states that are admitted, refused and taken away.
+
+ghost use Rattle.std.specs.Prelude.{◌≡◌};
+
+use crate::packets::{A1, A2, Sent, packet};
+use crate::telling::{Stop, begin, begin_free, end, plain, refused, wrong};
+use crate::texts::{EVERYTHING, NODES};
+use pfs_addr::{Addr, FlowKey, Meter, Packet};
+use pfs_conf::{Config, RuleNo, load};
+use pfs_store::{IndexStore, Limit, PlainStore, StateNo, Store};
+
+// The first rule tracks sources, the second does not; both share the states.
+const LIMITED: &[u8] = b"set limit states 14\n\
+    pass keep state (max 12, max-src-nodes 2, max-src-states 6)\npass\n";
+
+const UNTRACKED: &[u8] = b"pass\n";
+
+/// What is asked of a store.
+#[derive(Debug, Clone, Copy)]
+enum Ask {
+    /// A state of a rule that tracks sources.
+    Tracked,
+    /// A state of one that does not.
+    Untracked,
+    /// A state where a limit is met: no memory is taken.
+    AtLimit,
+    /// A state in the room of one that has left: no memory is taken.
+    InRoom,
+}
+
+// What is asked, a source and a port, the rule, and the number of the state or the limit that is met.
+type Row = (Ask, Addr, u16, u32, Result<u64, Limit>);
+
+const A3: Addr = Addr::V4([198, 51, 100, 3]);
+
+const ROWS: &[Row] = &[
+    (Ask::Tracked, A1, 1, 0, Ok(1)),
+    (Ask::Tracked, A1, 2, 0, Ok(2)),
+    (Ask::Untracked, A1, 3, 1, Ok(3)),
+    (Ask::Tracked, A2, 1, 0, Ok(4)),
+    (Ask::AtLimit, A3, 1, 0, Err(Limit::MaxSrcNodes)),
+    (Ask::Tracked, A1, 4, 0, Ok(5)),
+    (Ask::Tracked, A1, 5, 0, Ok(6)),
+    (Ask::Tracked, A1, 6, 0, Ok(7)),
+    (Ask::Tracked, A1, 7, 0, Ok(8)),
+    (Ask::AtLimit, A1, 8, 0, Err(Limit::MaxSrcStates)),
+    (Ask::Untracked, A2, 2, 1, Ok(9)),
+    (Ask::Untracked, A2, 3, 1, Ok(10)),
+    (Ask::Untracked, A2, 4, 1, Ok(11)),
+    (Ask::Untracked, A2, 5, 1, Ok(12)),
+    (Ask::Untracked, A2, 6, 1, Ok(13)),
+    (Ask::Untracked, A2, 7, 1, Ok(14)),
+    (Ask::AtLimit, A2, 8, 1, Err(Limit::States)),
+    (Ask::AtLimit, A2, 8, 0, Err(Limit::States)),
+];
+
+const UNTRACKED_ROWS: &[Row] = &[
+    (Ask::Untracked, A1, 1, 0, Ok(1)),
+    (Ask::Untracked, A1, 2, 0, Ok(2)),
+    (Ask::Untracked, A2, 1, 0, Ok(3)),
+    (Ask::Untracked, A2, 2, 0, Ok(4)),
+];
+
+/// Plain stores.
+pub fn tell_plain(rt: &HostRuntime) -> Result<(), Stop> {
+    for text in &[EVERYTHING, NODES, LIMITED] {
+        let config = load(rt.alloc(), text)?;
+        if !new_plain(rt, &config)? {
+            new_plain(rt, &config)?;
+        }
+    }
+    let config = load(rt.alloc(), LIMITED)?;
+    let mut store = PlainStore::new(rt.alloc(), &config)?;
+    fill(rt, &mut store, &config)?;
+    let config = load(rt.alloc(), UNTRACKED)?;
+    let mut store = PlainStore::new(rt.alloc(), &config)?;
+    fill_again(rt, &mut store, &config)
+}
+
+/// Indexed stores.
+pub fn tell_indexed(rt: &HostRuntime) -> Result<(), Stop> {
+    for text in &[EVERYTHING, NODES, LIMITED] {
+        let config = load(rt.alloc(), text)?;
+        if !new_indexed(rt, &config)? {
+            new_indexed(rt, &config)?;
+        }
+    }
+    let config = load(rt.alloc(), LIMITED)?;
+    let mut store = IndexStore::new(rt.alloc(), &config)?;
+    fill(rt, &mut store, &config)?;
+    let config = load(rt.alloc(), UNTRACKED)?;
+    let mut store = IndexStore::new(rt.alloc(), &config)?;
+    fill_again(rt, &mut store, &config)
+}
+
+fn new_plain(rt: &HostRuntime, config: &Config) -> Result<bool, Stop> {
+    begin(rt, "PlainStore::new")?;
+    let answer = PlainStore::new(rt.alloc(), config);
+    end(rt)?;
+    match answer {
+        Ok(store) => plain(rt, counts(&store) == (0, 0, 0)),
+        Err(_) => refused(rt, true),
+    }
+}
+
+fn new_indexed(rt: &HostRuntime, config: &Config) -> Result<bool, Stop> {
+    begin(rt, "IndexStore::new")?;
+    let answer = IndexStore::new(rt.alloc(), config);
+    end(rt)?;
+    match answer {
+        Ok(store) => plain(rt, counts(&store) == (0, 0, 0)),
+        Err(_) => refused(rt, true),
+    }
+}
+
+// How many states and source nodes are held, and how many states were made.
+fn counts<S: Store>(store: &S) -> (u64, u64, u64) {
+    (store.state_count(), store.node_count(), store.made())
+}
+
+fn fill<S: Store>(rt: &HostRuntime, store: &mut S, config: &Config) -> Result<(), Stop>
+    requires made_for { S.config store.old ≡ config.now }
+{
+    admit_all(rt, store, config, ROWS)?;
+    take_away(rt, store)
+}
+
+// Where no source is tracked, and a state has left: the next one takes its room, and no room is made for a source node.
+fn fill_again<S: Store>(rt: &HostRuntime, store: &mut S, config: &Config) -> Result<(), Stop>
+    requires made_for { S.config store.old ≡ config.now }
+{
+    admit_all(rt, store, config, UNTRACKED_ROWS)?;
+    if store.holds(StateNo(2)) {
+        let mut meter = Meter::new();
+        store.kill(StateNo(2), 6, &mut meter);
+    }
+    admit(rt, store, config, &(Ask::InRoom, A2, 9, 0, Ok(5)))?;
+    Ok(())
+}
+
+fn admit_all<S: Store>(
+    rt: &HostRuntime,
+    store: &mut S,
+    config: &Config,
+    rows: &[Row],
+) -> Result<(), Stop>
+    requires made_for { S.config store.old ≡ config.now }
+    ensures made_for { S.config store.new ≡ config.now }
+{
+    for row in rows {
+        if !admit(rt, store, config, row)? {
+            admit(rt, store, config, row)?;
+        }
+    }
+    Ok(())
+}
+
+// A state of a rule, or the limit that is met, at which no memory is taken.
+fn admit<S: Store>(
+    rt: &HostRuntime,
+    store: &mut S,
+    config: &Config,
+    row: &Row,
+) -> Result<bool, Stop>
+    requires made_for { S.config store.old ≡ config.now }
+    ensures made_for { S.config store.new ≡ config.now }
+{
+    let (ask, source, port, rule, wanted) = *row;
+    let packet = packet(Sent::Udp, source, port)?;
+    let before = counts(store);
+    begin_ask(rt, ask)?;
+    let answer = admit_one(store, config, &packet, RuleNo(rule))?;
+    end(rt)?;
+    let found = store.find(&FlowKey::of(&packet)).map(|number| number.0);
+    match answer {
+        Some(Ok(number)) => plain(rt, Ok(number) == wanted && found == Some(number)),
+        Some(Err(limit)) => plain(
+            rt,
+            Err(limit) == wanted && found == None && counts(store) == before,
+        ),
+        None => refused(rt, found == None && counts(store) == before),
+    }
+}
+
+fn begin_ask(rt: &HostRuntime, ask: Ask) -> Result<(), Stop> {
+    match ask {
+        Ask::Tracked => begin(rt, "admit where sources are tracked"),
+        Ask::Untracked => begin(rt, "admit where no sources are tracked"),
+        Ask::AtLimit => begin_free(rt, "admit at a limit"),
+        Ask::InRoom => begin_free(rt, "admit in the room of a state that left"),
+    }
+}
+
+// None for want of memory.
+fn admit_one<S: Store>(
+    store: &mut S,
+    config: &Config,
+    packet: &Packet,
+    rule: RuleNo,
+) -> Result<Option<Result<u64, Limit>>, Stop>
+    requires made_for { S.config store.old ≡ config.now }
+    ensures made_for { S.config store.new ≡ config.now }
+{
+    if store.find(&FlowKey::of(packet)).is_some()
+        || config.options(rule).is_none()
+        || store.made() >= 1_000_000_000
+    {
+        return Err(Stop::Input);
+    }
+    match store.admit(packet, rule, 5) {
+        Ok(Ok(number)) => Ok(Some(Ok(number.0))),
+        Ok(Err(limit)) => Ok(Some(Err(limit))),
+        Err(_) => Ok(None),
+    }
+}
+
+// A state is killed, those of a source are flushed, and slices take the others away.
+fn take_away<S: Store>(rt: &HostRuntime, store: &mut S) -> Result<(), Stop> {
+    if !store.holds(StateNo(1)) {
+        wrong(rt)?;
+        return Ok(());
+    }
+    kill(rt, store)?;
+    flush(rt, store)?;
+    purge(rt, store)
+}
+
+fn kill<S: Store>(rt: &HostRuntime, store: &mut S) -> Result<(), Stop> {
+    if !store.holds(StateNo(1)) {
+        return Err(Stop::Input);
+    }
+    let mut meter = Meter::new();
+    begin_free(rt, "kill")?;
+    store.kill(StateNo(1), 6, &mut meter);
+    end(rt)?;
+    plain(rt, counts(store) == (13, 2, 14))?;
+    Ok(())
+}
+
+fn flush<S: Store>(rt: &HostRuntime, store: &mut S) -> Result<(), Stop> {
+    let mut meter = Meter::new();
+    begin_free(rt, "flush")?;
+    let killed = store.flush(A1, Some(RuleNo(0)), 6, &mut meter);
+    end(rt)?;
+    plain(rt, killed == 5 && counts(store) == (8, 2, 14))?;
+    Ok(())
+}
+
+fn purge<S: Store>(rt: &HostRuntime, store: &mut S) -> Result<(), Stop> {
+    begin_free(rt, "slices")?;
+    for second in 0..20u64 {
+        let mut meter = Meter::new();
+        store.purge_states(second + 1_000_000, &mut meter);
+        store.purge_nodes(second + 1_000_000);
+    }
+    end(rt)?;
+    plain(rt, counts(store) == (0, 0, 14))?;
+    Ok(())
+}

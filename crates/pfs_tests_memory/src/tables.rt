@@ -1,0 +1,201 @@
+// Tables of hosts, and the book of the rules.
+
+ghost use Rattle.std.specs.Prelude.{◌≡◌, ◌<◌, length};
+
+use crate::packets::{A1, Sent, packet};
+use crate::telling::{Stop, begin, begin_free, end, plain, refused};
+use crate::texts::{EVERYTHING, FULL, NODES, OVERLOAD};
+use pfs_addr::{Addr, Meter, Packet};
+use pfs_conf::{Config, RuleNo, TableNo, load};
+use pfs_eval::{Added, Book, Tables};
+
+// Rules, how many entries they have, and the rule that decides on a packet of UDP.
+type Row = (&'static [u8], u64, Option<u32>);
+
+const RULES: &[Row] = &[
+    (EVERYTHING, 2, None),
+    (NODES, 0, Some(0)),
+    (OVERLOAD, 0, Some(1)),
+    (FULL, 1, None),
+];
+
+const HOSTS: &[u8] = b"set limit table-entries 41\ntable <bad> { 203.0.113.9 }\n";
+
+// How many hosts there is room for under that limit.
+const FREE: u8 = 40;
+
+/// Tables and books of rules, and hosts that are added, with room made before and without.
+pub fn tell_tables(rt: &HostRuntime) -> Result<(), Stop> {
+    let udp = packet(Sent::Udp, A1, 1)?;
+    for row in RULES {
+        let config = load(rt.alloc(), row.0)?;
+        tell_book(rt, &config, row, &udp)?;
+    }
+    let config = load(rt.alloc(), HOSTS)?;
+    if config.table_count() != 1 {
+        return Err(Stop::Input);
+    }
+    add_with_room(rt, &config)?;
+    add_without_room(rt, &config)
+}
+
+fn tell_book(rt: &HostRuntime, config: &Config, row: &Row, udp: &Packet) -> Result<(), Stop> {
+    if !new_tables(rt, config, row.1)? {
+        new_tables(rt, config, row.1)?;
+    }
+    let tables = Tables::new(rt.alloc(), config)?;
+    if !new_book(rt, config, &tables, udp, row.2)? {
+        new_book(rt, config, &tables, udp, row.2)?;
+    }
+    Ok(())
+}
+
+fn new_tables(rt: &HostRuntime, config: &Config, entries: u64) -> Result<bool, Stop> {
+    begin(rt, "Tables::new")?;
+    let answer = Tables::new(rt.alloc(), config);
+    end(rt)?;
+    match answer {
+        Ok(tables) => plain(rt, tables.entries() == entries),
+        Err(_) => refused(rt, true),
+    }
+}
+
+fn new_book(
+    rt: &HostRuntime,
+    config: &Config,
+    tables: &Tables,
+    udp: &Packet,
+    rule: Option<u32>,
+) -> Result<bool, Stop> {
+    begin(rt, "Book::new")?;
+    let answer = Book::new(rt.alloc(), config);
+    end(rt)?;
+    match answer {
+        Ok(book) => decide(rt, &book, tables, udp, rule),
+        Err(_) => refused(rt, true),
+    }
+}
+
+fn decide(
+    rt: &HostRuntime,
+    book: &Book,
+    tables: &Tables,
+    udp: &Packet,
+    rule: Option<u32>,
+) -> Result<bool, Stop> {
+    plain(rt, true)?;
+    let mut meter = Meter::new();
+    begin_free(rt, "decide")?;
+    let decided = book.decide(tables, udp, &mut meter);
+    end(rt)?;
+    plain(rt, decided.map(number_of) == rule)
+}
+
+fn number_of(rule: RuleNo) -> u32 {
+    rule.0
+}
+
+fn host(number: u8) -> Addr {
+    Addr::V4([198, 51, 100, number])
+}
+
+// How many of the hosts the table answers for.
+fn held(tables: &Tables) -> u8 {
+    let mut count: u8 = 0;
+    for number in 0..=FREE {
+        if tables.matches(TableNo(0), host(number)) {
+            count = count.saturating_add(1);
+        }
+    }
+    count
+}
+
+// The tables hold the first so many hosts, beside the entry of the text.
+fn is_held(tables: &Tables, count: u8) -> bool {
+    held(tables) == count && tables.entries() == u64::from(count) + 1
+}
+
+// Room is made for each host, which is then added without memory; the last host is one too many.
+fn add_with_room(rt: &HostRuntime, config: &Config) -> Result<(), Stop>
+    requires { 0 < length config.now.tables }
+{
+    let mut tables = Tables::new(rt.alloc(), config)?;
+    for number in 0..FREE {
+        if !make_room(rt, &mut tables, number)? {
+            make_room(rt, &mut tables, number)?;
+        }
+        add_free(rt, &mut tables, number, Added::New)?;
+        add_free(rt, &mut tables, number, Added::Held)?;
+    }
+    room_at_limit(rt, &mut tables)?;
+    add_free(rt, &mut tables, FREE, Added::Full)
+}
+
+fn add_without_room(rt: &HostRuntime, config: &Config) -> Result<(), Stop>
+    requires { 0 < length config.now.tables }
+{
+    let mut tables = Tables::new(rt.alloc(), config)?;
+    for number in 0..FREE {
+        if !add(rt, &mut tables, number)? {
+            add(rt, &mut tables, number)?;
+        }
+    }
+    add_free(rt, &mut tables, FREE, Added::Full)
+}
+
+fn make_room(rt: &HostRuntime, tables: &mut Tables, number: u8) -> Result<bool, Stop>
+    requires { 0 < length tables.old.entries }
+    ensures { length tables.new.entries ≡ length tables.old.entries }
+{
+    begin(rt, "make_room")?;
+    let answer = tables.make_room(TableNo(0));
+    end(rt)?;
+    match answer {
+        Ok(()) => plain(rt, tables.has_room(TableNo(0)) && is_held(tables, number)),
+        Err(_) => refused(rt, is_held(tables, number)),
+    }
+}
+
+fn room_at_limit(rt: &HostRuntime, tables: &mut Tables) -> Result<(), Stop>
+    requires { 0 < length tables.old.entries }
+    ensures { length tables.new.entries ≡ length tables.old.entries }
+{
+    begin_free(rt, "make_room at the limit")?;
+    let answer = tables.make_room(TableNo(0));
+    end(rt)?;
+    plain(rt, answer.is_ok() && is_held(tables, FREE))?;
+    Ok(())
+}
+
+// A host that there is room for, that is held, or that is one too many.
+fn add_free(rt: &HostRuntime, tables: &mut Tables, number: u8, wanted: Added) -> Result<(), Stop>
+    requires { 0 < length tables.old.entries }
+    ensures { length tables.new.entries ≡ length tables.old.entries }
+{
+    begin_free(rt, "add_host with room, held or full")?;
+    let answer = tables.add_host(TableNo(0), host(number));
+    end(rt)?;
+    let count = if wanted == Added::Full {
+        number
+    } else {
+        number.saturating_add(1)
+    };
+    plain(rt, answer == Ok(wanted) && is_held(tables, count))?;
+    Ok(())
+}
+
+fn add(rt: &HostRuntime, tables: &mut Tables, number: u8) -> Result<bool, Stop>
+    requires { 0 < length tables.old.entries }
+    ensures { length tables.new.entries ≡ length tables.old.entries }
+{
+    begin(rt, "add_host")?;
+    let answer = tables.add_host(TableNo(0), host(number));
+    end(rt)?;
+    match answer {
+        Ok(added) => plain(
+            rt,
+            added == Added::New && is_held(tables, number.saturating_add(1)),
+        ),
+        Err(_) => refused(rt, is_held(tables, number)),
+    }
+}
