@@ -87,7 +87,7 @@ event_with conf row last time r =
 -- it is not before the last one, and may come
 record IsRead (conf : Conf) (last : Option ℕ) (time : ℕ) (e : Event) : Type 0 where
   order : falls last time ≡ false
-  time : e.time ≡ time
+  moment : e.time ≡ time
   may : MayCome conf e.what
 
 told-read : (conf : Conf) (row : ℕ) (last : Option ℕ) (time : ℕ) (r : Result Told TraceFault) (e : Event) → event_with conf row last time r ≡ Ok e → IsRead conf last time e
@@ -100,7 +100,7 @@ told-read conf row last time (Ok read) e q = by (falls last time) refl q
     made test (Ok w) at h =
         let same : record { time = time; what = w } ≡ e = cc in record {
           order = test;
-          time = sym (ap (λ (d : Event). d.time) same);
+          moment = sym (ap (λ (d : Event). d.time) same);
           may = subst (λ (d : Event). MayCome conf d.what) same (what-may conf row read w at);
         }
 
@@ -123,8 +123,8 @@ event-read conf row last fields e q = by_length (length fields == 9) q
     by_time (Some time) test h =
         let read = told-read conf row last time (told_at row fields) e h in
         let small : time ≤ 4294967295 = at_most-bound 4294967295 (number_of (column_of fields 1)) time test in record {
-          order = rw read.time (order-kept last time read.order);
-          moment = omega (arith, small, read.time);
+          order = rw read.moment (order-kept last time read.order);
+          moment = omega (arith, small, read.moment);
           table = read.may;
         }
 

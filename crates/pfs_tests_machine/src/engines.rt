@@ -141,7 +141,10 @@ fn runs<S: Store + Drop>(
 fn check_end<S: Store>(rt: &impl Abort, engine: &Engine<S>, script: &Script, case: &Case) {
     assert_eq!(rt; held(engine), case.end, "{}", case.shows);
     assert_eq!(rt; engine.taken(), script.packets);
-    assert_eq!(rt; engine.first(), script.events.first().map(|event| event.time));
+    assert_eq!(rt;
+        engine.first(),
+        script.events.first().map(|event| event.time)
+    );
     assert_eq!(rt; engine.last(), script.events.last().map(|event| event.time));
 }
 

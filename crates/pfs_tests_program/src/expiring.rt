@@ -117,7 +117,11 @@ fn tables() -> [Row; 4] {
         refused(CONST, "108,expire,bad,,,5,,,", fault),
         refused(OVERLOAD, "108,expire,worse,,,5,,,", fault),
         refused(OVERLOAD, "108,expire,BAD,,,5,,,", fault),
-        refused(OVERLOAD, "107,expire,worse,,,5,,,", ReplayFault::TimeFell(11)),
+        refused(
+            OVERLOAD,
+            "107,expire,worse,,,5,,,",
+            ReplayFault::TimeFell(11),
+        ),
     ]
 }
 
@@ -158,7 +162,13 @@ fn tell_refused(rt: &(impl Abort + AllocGlobal), rows: &[Row]) -> Result<(), Fai
             write!(trace, "{time},in,em0,icmp,198.51.100.1,,192.0.2.1,,\n")?;
         }
         write!(trace, "{}\n", row.record)?;
-        tell(rt, row.rules.as_bytes(), trace.as_bytes(), Err(row.fault), SKIPPED);
+        tell(
+            rt,
+            row.rules.as_bytes(),
+            trace.as_bytes(),
+            Err(row.fault),
+            SKIPPED,
+        );
     }
     Ok(())
 }
