@@ -91,7 +91,7 @@ function is_tcp(flow) {
 
 # A record between a user and somebody else.
 function follow_user(word,    flow, from_user, tcp, is_first, source) {
-    if (word == "skip") return
+    if (word == "skip" || word == "expire") return
     from_user = is_user(field[5])
     source = from_user ? field[5] : field[7]
     tcp = field[4] == "tcp" || field[4] + 0 == 6
@@ -157,6 +157,12 @@ function take_kill(    part, source) {
     killed_in[moment] += part[2]
 }
 
+# Entries that left a table. The word has a column of its own only where a report has it.
+function take_expire(    part) {
+    if (NF != 4 || split($4, part, "=") != 2 || part[1] != "removed" || part[2] !~ /^[0-9]+$/) refuse("report", FNR, "no line of a report")
+    if (word_no[words] != "expire") word_no[++words] = "expire"
+}
+
 function take_end(    part, i) {
     if (NF != 5) refuse("report", FNR, "no line of a report")
     for (i = 2; i <= 5; i++) {
@@ -172,6 +178,7 @@ BEGIN {
     words = split("state new pass block skip drop:max drop:max-src-nodes drop:src-nodes drop:max-src-states drop:states " \
         "kill:max-src-conn kill:max-src-conn-rate kill:max-src-conn+max-src-conn-rate", word_no, " ")
     for (i = 1; i <= words; i++) is_word[word_no[i]] = 1
+    is_word["expire"] = 1
     split("end rows states nodes entries", name_of_end, " ")
     bad = read_prefixes(users, prefixes)
     if (bad != "" || users != "" && prefixes["count"] == 0) {
@@ -219,6 +226,7 @@ $1 == "end" {
     rows++
     if (trace != "") take_with_trace($2)
     if (substr($2, 1, 5) == "kill:") take_kill()
+    else if ($2 == "expire") take_expire()
     else if (NF != 3) refuse("report", FNR, "no line of a report")
 }
 

@@ -52,6 +52,7 @@ nothing-written text_of text fault.Memory h = refl
 nothing-written text_of text (fault.Columns row) h = absurd h
 nothing-written text_of text (fault.Field row column) h = absurd h
 nothing-written text_of text (fault.TimeFell row) h = absurd h
+nothing-written text_of text (fault.Table row) h = absurd h
 nothing-written text_of text fault.TooManyRows h = absurd h
 nothing-written text_of text fault.Write h = absurd h
 

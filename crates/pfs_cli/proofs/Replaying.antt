@@ -41,6 +41,7 @@ pub run-fault : (conf : Conf) (rs ts t : List ℕ) (f : TraceFault) → Reads rs
 run-fault conf rs ts t (trace.Columns row) reads told = (conf, reads, told.0, told.1)
 run-fault conf rs ts t (trace.Field row column) reads told = (conf, reads, told.0, told.1)
 run-fault conf rs ts t (trace.TimeFell row) reads told = (conf, reads, told.0, told.1)
+run-fault conf rs ts t (trace.Table row) reads told = (conf, reads, told.0, told.1)
 run-fault conf rs ts t trace.TooManyRows reads told = (conf, reads, told.0, told.1)
 
 -- a trace that is not read to its end leaves the lines of its first records
@@ -120,6 +121,7 @@ rules-refused kept text ts (fault.Rules f) k told = (kept-refused kept text f k 
 rules-refused kept text ts (fault.Columns row) k told = absurd told
 rules-refused kept text ts (fault.Field row column) k told = absurd told
 rules-refused kept text ts (fault.TimeFell row) k told = absurd told
+rules-refused kept text ts (fault.Table row) k told = absurd told
 rules-refused kept text ts fault.TooManyRows k told = absurd told
 rules-refused kept text ts fault.Read k told = absurd told
 rules-refused kept text ts fault.Write k told = absurd told

@@ -1,21 +1,25 @@
 -- The moment of the machine is that of its last event, and what a record says of its own moment.
-use Rattle.std.proofs.Common.{◌≡◌, ◌<◌, ◌≤◌, ℕ, List, Bool, true, false, Option, Some, None, refl, sym, ap, ◌∙◌, arith}
-use Rattle.std.specs.Prelude.{Result, Ok, Err, IfOk, ◌^◌, ◌==◌, if◌then◌else◌, length, nat_le}
+use Rattle.std.proofs.Common.{◌≡◌, ◌<◌, ◌≤◌, ℕ, List, Bool, true, false, Option, Some, None, refl, sym, ap, ◌∙◌, arith, subst}
+use Rattle.std.specs.Prelude.{Result, Ok, Err, IfOk, ◌^◌, ◌==◌, if◌then◌else◌, length, nat_le, nat_lt, option_map, slice_get}
+use Rattle.std.specs.List.{position_or_len}
 use Rattle.std.specs.Option.{ForSome}
 use Rattle.std.proofs.lemmas.Bool.Decides.{nat_tests}
 use Rattle.pfs_addr.specs.Numbers.{number_of}
 use Rattle.pfs_addr.specs.Packets.{Header}
-use Rattle.pfs_conf_rules.specs.Configs.{Conf}
+use Rattle.pfs_conf_rules.specs.Configs.{Conf, has_name, is_const_table, table_named}
+use Rattle.pfs_conf_rules.specs.declared.filters.TableNo.{TableNo}
 use Rattle.pfs_engine_machine.specs.Kept.{moment_of}
-use Rattle.pfs_engine_machine.specs.Machine.{Machine, acted, advanced, answered, at_moment, step}
+use Rattle.pfs_engine_machine.specs.Machine.{Machine, MayCome, MayExpire, acted, advanced, answered, expired, first_by, leaving, step}
 use Rattle.pfs_engine_machine.specs.declared.events.Event.{Event}
 use Rattle.pfs_engine_machine.specs.declared.events.Outcome.{Outcome}
 use Rattle.pfs_engine_machine.specs.declared.events.Outcome.TheVariants as outcome
 use Rattle.pfs_engine_machine.specs.declared.events.What.{What}
 use Rattle.pfs_engine_machine.specs.declared.events.What.TheVariants as what
+use Rattle.pfs_cli.specs.declared.events.Told.{Told}
+use Rattle.pfs_cli.specs.declared.events.Told.TheVariants as told
 use Rattle.pfs_cli.specs.declared.faults.TraceFault.{TraceFault}
 use Rattle.pfs_cli.specs.declared.faults.TraceFault.TheVariants as fault
-use Rattle.pfs_cli.specs.Events.{at_most, column_of, number_to, what_at, falls, event_at, in_column, and_then}
+use Rattle.pfs_cli.specs.Events.{at_most, changing, column_of, expire_by, number_to, told_at, what_of, falls, event_at, in_column, and_then}
 
 pub last-step : (conf : Conf) (m : Machine) (e : Event) → (step conf m e).1.last ≡ Some e.time
 unfolding step
@@ -35,31 +39,97 @@ order-kept : (last : Option ℕ) (time : ℕ) → falls last time ≡ false → 
 order-kept None time q x e = cc
 order-kept (Some m) time q x e = let same : m ≡ x = cc in rw (← same) (grind (arith, nat_tests, q))
 
--- what a record tells, by its moment
-abbrev event_with : ℕ → Option ℕ → ℕ → Result What TraceFault → Result Event TraceFault
-event_with row last time w = and_then w (λ what. if falls last time then Err (fault.TimeFell row) else Ok (record { time = time; what = what }))
+-- ---- the table of a record
 
-time-kept : (row : ℕ) (last : Option ℕ) (time : ℕ) (w : Result What TraceFault) (e : Event) → event_with row last time w ≡ Ok e → (falls last time ≡ false) × (e.time ≡ time)
-time-kept row last time (Err f) e q = cc
-time-kept row last time (Ok w) e q = by (falls last time) refl q
+-- a table that is found by its name is one of the configuration's
+named-known : (conf : Conf) (name : List ℕ) (t : TableNo) → table_named conf name ≡ Some t → t.0 < length conf.tables
+named-known conf name t e = by (nat_lt at (length conf.tables)) refl e
   where
-    by : (b : Bool) → falls last time ≡ b → (if b then Err (fault.TimeFell row) else Ok (record { time = time; what = w })) ≡ Ok e → (falls last time ≡ false) × (e.time ≡ time)
+    at : ℕ
+    at = position_or_len (has_name name) conf.tables
+
+    by : (b : Bool) → nat_lt at (length conf.tables) ≡ b → option_map (λ (n : ℕ). let found : TableNo = record { 0 = n } in found) (if b then Some at else None) ≡ Some t
+        → t.0 < length conf.tables
+    by true test h =
+        let same : record { 0 = at } ≡ t = cc in
+        let number : at ≡ t.0 = ap (λ (x : TableNo). x.0) same in
+        rw (← number) (grind (arith, nat_tests, test))
+    by false test h = cc
+
+changing-may : (conf : Conf) (o : Option TableNo) (t : TableNo) → ((u : TableNo) → o ≡ Some u → u.0 < length conf.tables) → changing conf o ≡ Some t
+    → MayExpire conf t.0
+changing-may conf None t known e = cc
+changing-may conf (Some u) t known e = by (is_const_table (slice_get conf.tables u.0)) refl e
+  where
+    by : (b : Bool) → is_const_table (slice_get conf.tables u.0) ≡ b → (if b then None else Some u) ≡ Some t → MayExpire conf t.0
     by true test h = cc
-    by false test h = let same : record { time = time; what = w } ≡ e = cc in (test, sym (ap (λ (d : Event). d.time) same))
+    by false test h =
+        let same : u ≡ t = cc in
+        subst (λ (x : TableNo). MayExpire conf x.0) same (record { known = known u refl; changes = test })
 
--- the moment of a record is not before the last one, and is small
-pub event-moment : (conf : Conf) (row : ℕ) (last : Option ℕ) (fields : List (List ℕ)) (e : Event) → event_at conf row last fields ≡ Ok e → ForSome last (λ m. m ≤ e.time) × (e.time < 2 ^ 32)
-event-moment conf row last fields e q = by_length (length fields == 9) q
+-- what comes of a record may come
+what-may : (conf : Conf) (row : ℕ) (r : Told) (w : What) → what_of conf row r ≡ Ok w → MayCome conf w
+what-may conf row told.Skip w e = let same : what.Skip ≡ w = cc in subst (MayCome conf) same tt
+what-may conf row (told.Packet p) w e = let same : what.Packet p ≡ w = cc in subst (MayCome conf) same tt
+what-may conf row (told.Expire name seconds) w e = by (changing conf (table_named conf name)) refl e
   where
-    by_time : (o : Option ℕ) → number_to 4294967295 (column_of fields 1) ≡ o → in_column row 1 o (λ time. event_with row last time (what_at row fields)) ≡ Ok e → ForSome last (λ m. m ≤ e.time) × (e.time < 2 ^ 32)
+    by : (o : Option TableNo) → changing conf (table_named conf name) ≡ o → expire_by row seconds o ≡ Ok w → MayCome conf w
+    by None at h = cc
+    by (Some t) at h =
+        let same : what.Expire t seconds ≡ w = cc in
+        subst (MayCome conf) same (changing-may conf (table_named conf name) t (named-known conf name) at)
+
+-- what a record tells, by its moment
+abbrev event_with : Conf → ℕ → Option ℕ → ℕ → Result Told TraceFault → Result Event TraceFault
+event_with conf row last time r =
+    and_then r (λ read. if falls last time then Err (fault.TimeFell row) else and_then (what_of conf row read) (λ comes. Ok (record { time = time; what = comes })))
+
+-- it is not before the last one, and may come
+record IsRead (conf : Conf) (last : Option ℕ) (time : ℕ) (e : Event) : Type 0 where
+  order : falls last time ≡ false
+  moment : e.time ≡ time
+  may : MayCome conf e.what
+
+told-read : (conf : Conf) (row : ℕ) (last : Option ℕ) (time : ℕ) (r : Result Told TraceFault) (e : Event) → event_with conf row last time r ≡ Ok e → IsRead conf last time e
+told-read conf row last time (Err f) e q = cc
+told-read conf row last time (Ok read) e q = by (falls last time) refl q
+  where
+    made : falls last time ≡ false → (w : Result What TraceFault) → what_of conf row read ≡ w
+        → and_then w (λ comes. Ok (record { time = time; what = comes })) ≡ Ok e → IsRead conf last time e
+    made test (Err f) at h = cc
+    made test (Ok w) at h =
+        let same : record { time = time; what = w } ≡ e = cc in record {
+          order = test;
+          moment = sym (ap (λ (d : Event). d.time) same);
+          may = subst (λ (d : Event). MayCome conf d.what) same (what-may conf row read w at);
+        }
+
+    by : (b : Bool) → falls last time ≡ b
+        → (if b then Err (fault.TimeFell row) else and_then (what_of conf row read) (λ comes. Ok (record { time = time; what = comes }))) ≡ Ok e → IsRead conf last time e
+    by true test h = cc
+    by false test h = made test (what_of conf row read) refl h
+
+-- the event of a record: its moment is not before the last one, and is small, and it may come
+pub record IsEvent (conf : Conf) (last : Option ℕ) (e : Event) : Type 0 where
+  pub order : ForSome last (λ m. m ≤ e.time)
+  pub moment : e.time < 2 ^ 32
+  pub table : MayCome conf e.what
+
+pub event-read : (conf : Conf) (row : ℕ) (last : Option ℕ) (fields : List (List ℕ)) (e : Event) → event_at conf row last fields ≡ Ok e → IsEvent conf last e
+event-read conf row last fields e q = by_length (length fields == 9) q
+  where
+    by_time : (o : Option ℕ) → number_to 4294967295 (column_of fields 1) ≡ o → in_column row 1 o (λ time. event_with conf row last time (told_at row fields)) ≡ Ok e → IsEvent conf last e
     by_time None test h = cc
     by_time (Some time) test h =
-        let kept = time-kept row last time (what_at row fields) e h in
-        let small : time ≤ 4294967295 = at_most-bound 4294967295 (number_of (column_of fields 1)) time test in
-        rw kept.1 (order-kept last time kept.0, omega (arith, small))
+        let read = told-read conf row last time (told_at row fields) e h in
+        let small : time ≤ 4294967295 = at_most-bound 4294967295 (number_of (column_of fields 1)) time test in record {
+          order = rw read.moment (order-kept last time read.order);
+          moment = omega (arith, small, read.moment);
+          table = read.may;
+        }
 
-    by_length : (b : Bool) → (if b then in_column row 1 (number_to 4294967295 (column_of fields 1)) (λ time. event_with row last time (what_at row fields)) else Err (fault.Columns row)) ≡ Ok e
-        → ForSome last (λ m. m ≤ e.time) × (e.time < 2 ^ 32)
+    by_length : (b : Bool) → (if b then in_column row 1 (number_to 4294967295 (column_of fields 1)) (λ time. event_with conf row last time (told_at row fields)) else Err (fault.Columns row)) ≡ Ok e
+        → IsEvent conf last e
     by_length true h = by_time (number_to 4294967295 (column_of fields 1)) refl h
     by_length false h = cc
 
@@ -67,21 +137,32 @@ event-moment conf row last fields e q = by_length (length fields == 9) q
 
 -- what comes of an event, by what it is
 abbrev stepped : Conf → Machine → ℕ → What → Outcome × Machine
-stepped conf m now w = at_moment now (acted conf (advanced conf m now).held now w)
+stepped conf m now w = leaving (advanced conf m now) (acted conf (advanced conf m now).held (first_by m.first now) now w)
 
 pub step-skip : (conf : Conf) (m new : Machine) (e : Event) → new ≡ advanced conf m e.time → e.what ≡ what.Skip → (outcome.Skip, new) ≡ step conf m e
 unfolding step
 step-skip conf m new e is comes = ap (λ (a : Machine). (outcome.Skip, a)) is ∙ ap (stepped conf m e.time) (sym comes)
 
--- a machine is what it holds and its moment
-rebuilt : (m : Machine) (now : ℕ) → m.last ≡ Some now → m ≡ record { held = m.held; last = Some now }
-rebuilt m now is = ap (λ (l : Option ℕ). let a : Machine = record { held = m.held; last = l } in a) is
+-- a machine is what it holds and its moments
+rebuilt : (m now : Machine) → m.first ≡ now.first → m.last ≡ now.last → m ≡ record { held = m.held; first = now.first; last = now.last }
+rebuilt m now first last =
+    ap (λ (l : Option ℕ). let a : Machine = record { held = m.held; first = m.first; last = l } in a) last
+    ∙ ap (λ (f : Option ℕ). let a : Machine = record { held = m.held; first = f; last = now.last } in a) first
 
 pub step-packet : {E : Type 0} (conf after : Conf) (m now new : Machine) (e : Event) (p : Header) (r : Result Outcome E) → after ≡ conf → now ≡ advanced conf m e.time → e.what ≡ what.Packet p
-    → new.last ≡ now.last → IfOk r (λ o. (o, new.held) ≡ answered after now.held p (moment_of now.last)) → IfOk r (λ o. (o, new) ≡ step conf m e)
+    → new.first ≡ now.first → new.last ≡ now.last → IfOk r (λ o. (o, new.held) ≡ answered after now.held p (moment_of now.last)) → IfOk r (λ o. (o, new) ≡ step conf m e)
 unfolding step
-step-packet conf after m now new e p (Err f) same is comes last h = tt
-step-packet conf after m now new e p (Ok o) same is comes last h =
+step-packet conf after m now new e p (Err f) same is comes first last h = tt
+step-packet conf after m now new e p (Ok o) same is comes first last h =
     let answer : (o, new.held) ≡ answered conf (advanced conf m e.time).held p e.time = rw (same, is) at h in
-    let moment : new.last ≡ Some e.time = last ∙ ap (λ (a : Machine). a.last) is in
-    ap (λ (a : Machine). (o, a)) (rebuilt new e.time moment) ∙ (ap (at_moment e.time) answer ∙ ap (stepped conf m e.time) (sym comes))
+    ap (λ (a : Machine). (o, a)) (rebuilt new (advanced conf m e.time) (first ∙ ap (λ (a : Machine). a.first) is) (last ∙ ap (λ (a : Machine). a.last) is))
+    ∙ (ap (leaving (advanced conf m e.time)) answer ∙ ap (stepped conf m e.time) (sym comes))
+
+pub step-expire : (conf : Conf) (m now new : Machine) (e : Event) (table : TableNo) (seconds left : ℕ) → now ≡ advanced conf m e.time → e.what ≡ what.Expire table seconds
+    → new.first ≡ now.first → new.last ≡ now.last
+    → (outcome.Expire left, new.held) ≡ expired now.held (moment_of now.first) (moment_of now.last) table.0 seconds → (outcome.Expire left, new) ≡ step conf m e
+unfolding step
+step-expire conf m now new e table seconds left is comes first last h =
+    let gone : (outcome.Expire left, new.held) ≡ expired (advanced conf m e.time).held (first_by m.first e.time) e.time table.0 seconds = rw is at h in
+    ap (λ (a : Machine). (outcome.Expire left, a)) (rebuilt new (advanced conf m e.time) (first ∙ ap (λ (a : Machine). a.first) is) (last ∙ ap (λ (a : Machine). a.last) is))
+    ∙ (ap (leaving (advanced conf m e.time)) gone ∙ ap (stepped conf m e.time) (sym comes))

@@ -1,5 +1,5 @@
 -- The event that one record of a trace tells, or what is wrong with it. (own)
-use Rattle.std.specs.Prelude.{ℕ, ◌-◌, Bool, false, List, [], codes, length, Option, Some, None, Result, Ok, Err, ◌&&◌, ◌==◌, nat_le, nat_lt, if◌then◌else◌, unwrap_or}
+use Rattle.std.specs.Prelude.{ℕ, ◌-◌, Bool, false, List, [], codes, length, Option, Some, None, Result, Ok, Err, ◌&&◌, ◌==◌, nat_le, nat_lt, if◌then◌else◌, slice_get, unwrap_or}
 use Rattle.std.specs.Str.{bytes_eq}
 use Rattle.csv.specs.Records.{field_at}
 use Rattle.pfs_addr.specs.Numbers.{number_of}
@@ -13,10 +13,13 @@ use Rattle.pfs_addr.specs.declared.packets.Dir.TheVariants.{In, Out}
 use Rattle.pfs_addr.specs.declared.packets.Endpoint.{Endpoint}
 use Rattle.pfs_addr.specs.declared.protocols.Proto.{Proto}
 use Rattle.pfs_addr.specs.declared.protocols.Proto.TheVariants.{Tcp, Udp, Other}
-use Rattle.pfs_conf_rules.specs.Configs.{Conf}
+use Rattle.pfs_conf_rules.specs.Configs.{Conf, is_const_table, table_named}
+use Rattle.pfs_conf_rules.specs.declared.filters.TableNo.{TableNo}
 use Rattle.pfs_engine_machine.specs.declared.events.What.{What}
 use Rattle.pfs_engine_machine.specs.declared.events.What.TheVariants as what
 use Rattle.pfs_engine_machine.specs.declared.events.Event.{Event}
+use Rattle.pfs_cli.specs.declared.events.Told.{Told}
+use Rattle.pfs_cli.specs.declared.events.Told.TheVariants as told
 use Rattle.pfs_cli.specs.declared.faults.TraceFault.{TraceFault}
 use Rattle.pfs_cli.specs.declared.faults.TraceFault.TheVariants as fault
 
@@ -88,27 +91,63 @@ ends_at row proto fields =
     in_column row 8 (port_of proto (column_of fields 8)) (λ dport.
     Ok (record { addr = src; port = sport }, record { addr = dst; port = dport })))))
 
--- what comes, in the fields behind the first: of ICMP a trace does not tell enough
-abbrev pub what_at : ℕ → List (List ℕ) → Result What TraceFault
-what_at row fields =
+-- a packet, or a record that is skipped: of ICMP a trace does not tell enough
+abbrev pub packet_at : ℕ → List (List ℕ) → Result Told TraceFault
+packet_at row fields =
     in_column row 2 (dir_of (column_of fields 2)) (λ dir.
     in_column row 3 (name_of 15 (column_of fields 3)) (λ ifname.
     in_column row 4 (proto_in (column_of fields 4)) (λ proto.
     and_then (ends_at row proto fields) (λ ends.
     in_column row 9 (flags_for proto (column_of fields 9)) (λ flags.
-    Ok (if is_icmp proto then what.Skip else what.Packet (record { dir = dir; ifname = ifname; proto = proto; source = ends.0; destination = ends.1; flags = flags })))))))
+    Ok (if is_icmp proto then told.Skip else told.Packet (record { dir = dir; ifname = ifname; proto = proto; source = ends.0; destination = ends.1; flags = flags })))))))
 
 -- a moment is before the last one
 abbrev pub falls : Option ℕ → ℕ → Bool
 falls None time = false
 falls (Some last) time = nat_lt time last
 
--- the event of a record under a configuration, in this row after this moment, or the first that is wrong with it: it has not nine fields, a
--- field is not accepted, from left to right, or its moment is before the last one
+-- nothing stands in a field
+abbrev pub nothing_in : List ℕ → Option Unit
+nothing_in text = if is_empty text then Some tt else None
+
+-- the name of a table, and how many seconds old its entries are that leave
+abbrev pub expiry_at : ℕ → List (List ℕ) → Result Told TraceFault
+expiry_at row fields =
+    in_column row 3 (name_of 31 (column_of fields 3)) (λ name.
+    in_column row 4 (nothing_in (column_of fields 4)) (λ n4.
+    in_column row 5 (nothing_in (column_of fields 5)) (λ n5.
+    in_column row 6 (number_to 4294967295 (column_of fields 6)) (λ seconds.
+    in_column row 7 (nothing_in (column_of fields 7)) (λ n7.
+    in_column row 8 (nothing_in (column_of fields 8)) (λ n8.
+    in_column row 9 (nothing_in (column_of fields 9)) (λ n9.
+    Ok (told.Expire name seconds))))))))
+
+-- what the fields behind the first tell
+abbrev pub told_at : ℕ → List (List ℕ) → Result Told TraceFault
+told_at row fields = if bytes_eq (column_of fields 2) (codes "expire") then expiry_at row fields else packet_at row fields
+
+-- a table whose entries may leave: the text names it, and it is not `const`
+abbrev pub changing : Conf → Option TableNo → Option TableNo
+changing conf None = None
+changing conf (Some t) = if is_const_table (slice_get conf.tables t.0) then None else Some t
+
+abbrev pub expire_by : ℕ → ℕ → Option TableNo → Result What TraceFault
+expire_by row seconds None = Err (fault.Table row)
+expire_by row seconds (Some t) = Ok (what.Expire t seconds)
+
+-- what comes, under a configuration: a table is found by its name
+abbrev pub what_of : Conf → ℕ → Told → Result What TraceFault
+what_of conf row told.Skip = Ok what.Skip
+what_of conf row (told.Packet p) = Ok (what.Packet p)
+what_of conf row (told.Expire name seconds) = expire_by row seconds (changing conf (table_named conf name))
+
+-- the event of a record under a configuration, in this row after this moment, or the first that is wrong with it: it has not nine
+-- fields, a field is not accepted, from left to right, its moment is before the last one, or its table is none that may change
 abbrev pub event_at : Conf → ℕ → Option ℕ → List (List ℕ) → Result Event TraceFault
 event_at conf row last fields =
     if length fields == 9
     then in_column row 1 (number_to 4294967295 (column_of fields 1)) (λ time.
-    and_then (what_at row fields) (λ what.
-    if falls last time then Err (fault.TimeFell row) else Ok (record { time = time; what = what })))
+    and_then (told_at row fields) (λ read.
+    if falls last time then Err (fault.TimeFell row)
+    else and_then (what_of conf row read) (λ comes. Ok (record { time = time; what = comes }))))
     else Err (fault.Columns row)

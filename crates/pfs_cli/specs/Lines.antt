@@ -31,8 +31,9 @@ word_of (outcome.Block r) = codes "block"
 word_of (outcome.Drop r l) = limit_word l
 word_of (outcome.Kill r conn rate overload killed) = kill_word conn rate
 word_of outcome.Skip = codes "skip"
+word_of (outcome.Expire removed) = codes "expire"
 
--- the rule by which it came: none for a skipped record, and for a packet that no rule matched
+-- the rule by which it came: none for a record that is no packet, and for a packet that no rule matched
 abbrev pub rule_of : Outcome → Option RuleNo
 rule_of (outcome.State r) = Some r
 rule_of (outcome.New r) = Some r
@@ -41,6 +42,7 @@ rule_of (outcome.Block r) = Some r
 rule_of (outcome.Drop r l) = Some r
 rule_of (outcome.Kill r conn rate overload killed) = Some r
 rule_of outcome.Skip = None
+rule_of (outcome.Expire removed) = None
 
 -- a rule is written by its number
 abbrev pub mark_text : Option RuleNo → List ℕ
@@ -51,9 +53,10 @@ mark_text None = codes "-"
 abbrev pub overload_word : Addition → List ℕ
 overload_word a = by_addition (codes "added") (codes "held") (codes "full") (codes "none") a
 
--- a line of killed states goes on with the overload and how many were killed
+-- a line of killed states goes on with the overload and how many were killed, one of entries that expired with how many left
 abbrev pub note_text : Outcome → List ℕ
 note_text (outcome.Kill r conn rate overload killed) = codes " overload=" ++ (overload_word overload ++ (codes " killed=" ++ decimal killed))
+note_text (outcome.Expire removed) = codes " removed=" ++ decimal removed
 note_text _ = []
 
 -- the line of a record

@@ -37,6 +37,7 @@ Replays rules bytes text (Err (fault.Rules f)) = IsRefused rules f × (text ≡ 
 Replays rules bytes text (Err (fault.Columns row)) = WritesReport rules bytes text (Some (trace.Columns row))
 Replays rules bytes text (Err (fault.Field row column)) = WritesReport rules bytes text (Some (trace.Field row column))
 Replays rules bytes text (Err (fault.TimeFell row)) = WritesReport rules bytes text (Some (trace.TimeFell row))
+Replays rules bytes text (Err (fault.Table row)) = WritesReport rules bytes text (Some (trace.Table row))
 Replays rules bytes text (Err fault.TooManyRows) = WritesReport rules bytes text (Some trace.TooManyRows)
 Replays rules bytes text (Err fault.Read) = WritesLines rules bytes text
 Replays rules bytes text (Err fault.Memory) = WritesLines rules bytes text

@@ -3,8 +3,8 @@
 ghost use Rattle.std.specs.Prelude.{◌≡◌, ◌≤◌};
 ghost use Rattle.csv.specs.Records.{fields_of};
 ghost use Rattle.pfs_addr.specs.Protocols.{is_icmp};
-ghost use Rattle.pfs_conf_rules.specs.Configs.{Conf};
-ghost use Rattle.pfs_cli.specs.Events.{column_of, number_to, dir_of, port_of, flags_for, ends_at, what_at, is_header, falls, event_at};
+ghost use Rattle.pfs_conf_rules.specs.Configs.{table_named};
+ghost use Rattle.pfs_cli.specs.Events.{changing, column_of, number_to, dir_of, expiry_at, port_of, flags_for, ends_at, nothing_in, packet_at, told_at, what_of, is_header, falls, event_at};
 
 use crate::faults::TraceFault;
 use csv::ByteRecord;
@@ -12,6 +12,7 @@ use pfs_addr::{
     Dir, Endpoint, Flags, Packet, Proto, parse_addr, parse_flags, parse_ifname, parse_number,
     parse_proto,
 };
+use pfs_conf_rules::{Config, TableName, TableNo};
 use pfs_engine::{Event, What};
 
 /// Whether a record is the header that a trace begins with.
@@ -30,23 +31,35 @@ pub(crate) fn has_columns(fields: &ByteRecord) -> bool
         && column(fields, 9) == b"flags".as_slice()
 }
 
+// What a record tells before the rules are asked.
+#[derive(Clone, Copy)]
+enum Told {
+    Packet(Packet),
+    Skip,
+    // Entries of a table leave, by its name.
+    Expire { name: TableName, seconds: u64 },
+}
+
 /// The event of a record after the moment `last`, or what is wrong with it: first the number of
-/// its fields, then each field from left to right, and then its moment.
+/// its fields, then each field from left to right, then its moment, and then the table that it
+/// names.
 pub(crate) fn read_event(
     row: u64,
     last: Option<u64>,
+    config: &Config,
     fields: &ByteRecord,
 ) -> Result<Event, TraceFault>
-    ensures { (conf : Conf) → result ≡ event_at conf row last (fields_of fields.now) }
+    ensures { result ≡ event_at config.now row last (fields_of fields.now) }
 {
     if fields.len() != 9 {
         return Err(TraceFault::Columns(row));
     }
     let time = read_number(column(fields, 1), 4_294_967_295).ok_or(TraceFault::Field(row, 1))?;
-    let what = read_what(row, fields)?;
+    let told = read_told(row, fields)?;
     if has_fallen(last, time) {
         return Err(TraceFault::TimeFell(row));
     }
+    let what = find_what(row, config, &told)?;
     Ok(Event { time, what })
 }
 
@@ -59,9 +72,67 @@ fn has_fallen(last: Option<u64>, time: u64) -> bool
     }
 }
 
+// What comes, where a table is found by its name.
+fn find_what(row: u64, config: &Config, told: &Told) -> Result<What, TraceFault>
+    ensures { result ≡ what_of config.now row told.now }
+{
+    match told {
+        Told::Packet(packet) => Ok(What::Packet(*packet)),
+        Told::Skip => Ok(What::Skip),
+        Told::Expire { name, seconds } => match find_table(config, name) {
+            Some(table) => Ok(What::Expire {
+                table,
+                seconds: *seconds,
+            }),
+            None => Err(TraceFault::Table(row)),
+        },
+    }
+}
+
+// The table of this name, if there is one and it is not `const`.
+fn find_table(config: &Config, name: &TableName) -> Option<TableNo>
+    ensures { result ≡ changing config.now (table_named config.now name.now) }
+{
+    let table = config.table_named(name.as_bytes())?;
+    if config.is_const(table) {
+        return None;
+    }
+    Some(table)
+}
+
 // What a record tells in its fields behind the first.
-fn read_what(row: u64, fields: &ByteRecord) -> Result<What, TraceFault>
-    ensures { result ≡ what_at row (fields_of fields.now) }
+fn read_told(row: u64, fields: &ByteRecord) -> Result<Told, TraceFault>
+    ensures { result ≡ told_at row (fields_of fields.now) }
+{
+    if column(fields, 2) == b"expire".as_slice() {
+        return read_expiry(row, fields);
+    }
+    read_packet(row, fields)
+}
+
+// The name of a table, and how many seconds old its entries are that leave.
+fn read_expiry(row: u64, fields: &ByteRecord) -> Result<Told, TraceFault>
+    ensures { result ≡ expiry_at row (fields_of fields.now) }
+{
+    let name = TableName::parse(column(fields, 3)).ok_or(TraceFault::Field(row, 3))?;
+    read_nothing(column(fields, 4)).ok_or(TraceFault::Field(row, 4))?;
+    read_nothing(column(fields, 5)).ok_or(TraceFault::Field(row, 5))?;
+    let seconds = read_number(column(fields, 6), 4_294_967_295).ok_or(TraceFault::Field(row, 6))?;
+    read_nothing(column(fields, 7)).ok_or(TraceFault::Field(row, 7))?;
+    read_nothing(column(fields, 8)).ok_or(TraceFault::Field(row, 8))?;
+    read_nothing(column(fields, 9)).ok_or(TraceFault::Field(row, 9))?;
+    Ok(Told::Expire { name, seconds })
+}
+
+fn read_nothing(text: &[u8]) -> Option<()>
+    ensures { result ≡ nothing_in text.now }
+{
+    if text.is_empty() { Some(()) } else { None }
+}
+
+// A packet, or a record that is skipped.
+fn read_packet(row: u64, fields: &ByteRecord) -> Result<Told, TraceFault>
+    ensures { result ≡ packet_at row (fields_of fields.now) }
 {
     let dir = read_dir(column(fields, 2)).ok_or(TraceFault::Field(row, 2))?;
     let ifname = parse_ifname(column(fields, 3)).ok_or(TraceFault::Field(row, 3))?;
@@ -69,9 +140,9 @@ fn read_what(row: u64, fields: &ByteRecord) -> Result<What, TraceFault>
     let (source, destination) = read_ends(row, &proto, fields)?;
     let flags = read_flags(&proto, column(fields, 9)).ok_or(TraceFault::Field(row, 9))?;
     if is_skipped(&proto) {
-        return Ok(What::Skip);
+        return Ok(Told::Skip);
     }
-    Ok(What::Packet(Packet::new(dir, ifname, proto, source, destination, flags)))
+    Ok(Told::Packet(Packet::new(dir, ifname, proto, source, destination, flags)))
 }
 
 fn is_skipped(proto: &Proto) -> bool

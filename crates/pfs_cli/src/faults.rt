@@ -18,6 +18,8 @@ pub enum ReplayFault {
     Field(u64, u8),
     /// The moment of the record of this row is before that of the record before it.
     TimeFell(u64),
+    /// The record of this row takes entries out of a table that the rules do not name, or that is `const`.
+    Table(u64),
     /// There are more than 1,000,000,000 records.
     TooManyRows,
     /// A read of a reader failed.
@@ -42,6 +44,7 @@ impl fmt::Display for ReplayFault {
             ReplayFault::Columns(row) => write!(f, "trace: row {row}: columns"),
             ReplayFault::Field(row, column) => write!(f, "trace: row {row}: field {column}"),
             ReplayFault::TimeFell(row) => write!(f, "trace: row {row}: time falls"),
+            ReplayFault::Table(row) => write!(f, "trace: row {row}: table"),
             ReplayFault::TooManyRows => write!(f, "trace: too many rows"),
             ReplayFault::Read => write!(f, "read failed"),
             ReplayFault::Write => write!(f, "write failed"),
@@ -63,6 +66,7 @@ pub fn status(fault: &ReplayFault) -> u8
         ReplayFault::Columns(_)
         | ReplayFault::Field(_, _)
         | ReplayFault::TimeFell(_)
+        | ReplayFault::Table(_)
         | ReplayFault::TooManyRows => 1,
         ReplayFault::Read | ReplayFault::Write | ReplayFault::Memory | ReplayFault::Endless => 4,
     }
@@ -74,6 +78,7 @@ pub(crate) enum TraceFault {
     Columns(u64),
     Field(u64, u8),
     TimeFell(u64),
+    Table(u64),
     TooManyRows,
 }
 
@@ -86,6 +91,7 @@ impl TraceFault {
             TraceFault::Columns(row) => ReplayFault::Columns(row),
             TraceFault::Field(row, column) => ReplayFault::Field(row, column),
             TraceFault::TimeFell(row) => ReplayFault::TimeFell(row),
+            TraceFault::Table(row) => ReplayFault::Table(row),
             TraceFault::TooManyRows => ReplayFault::TooManyRows,
         }
     }

@@ -71,7 +71,7 @@ impl fmt::Display for Mark {
     }
 }
 
-// What a line of killed states goes on with; nothing on any other.
+// What a line of killed states goes on with, and one of entries that expired; nothing on any other.
 #[derive(Clone, Copy)]
 struct Note {
     outcome: Outcome,
@@ -90,6 +90,7 @@ impl fmt::Display for Note {
                 let overload = overload_name(overload);
                 write!(f, " overload={overload} killed={killed}")
             }
+            Outcome::Expire(removed) => write!(f, " removed={removed}"),
             _ => Ok(()),
         }
     }
@@ -116,7 +117,7 @@ fn rule(outcome: &Outcome) -> Option<RuleNo>
         | Outcome::Drop(rule, _)
         | Outcome::Kill { rule, .. } => Some(rule),
         Outcome::Pass(rule) => rule,
-        Outcome::Skip => None,
+        Outcome::Skip | Outcome::Expire(_) => None,
     }
 }
 
@@ -141,5 +142,6 @@ fn word(outcome: &Outcome) -> &'static str
         Outcome::Kill { conn: true, .. } => "kill:max-src-conn",
         Outcome::Kill { .. } => "kill:max-src-conn-rate",
         Outcome::Skip => "skip",
+        Outcome::Expire(_) => "expire",
     }
 }

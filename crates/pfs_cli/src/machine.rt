@@ -2,7 +2,7 @@
 
 ghost use Rattle.std.specs.Prelude.{◌≡◌, ◌<◌, ◌≤◌, ◌+◌, ◌^◌, IfOk};
 ghost use Rattle.std.specs.Option.{ForSome};
-ghost use Rattle.pfs_engine_machine.specs.Machine.{start, step};
+ghost use Rattle.pfs_engine_machine.specs.Machine.{MayCome, start, step};
 
 use pfs_addr::NoMemory;
 use pfs_conf_rules::Config;
@@ -30,6 +30,7 @@ pub(crate) fn take(engine: &mut TraceEngine, event: &Event) -> Result<Outcome, N
     requires order { ForSome engine.old.machine.last (λ m. m ≤ event.now.time) }
     requires moment { event.now.time < 2 ^ 32 }
     requires room { engine.old.taken < 1000000000 }
+    requires table { MayCome engine.old.config event.now.what }
     ensures ok { IfOk result (λ o. (o, engine.new.machine) ≡ step engine.old.config engine.old.machine event.now) }
     ensures config { engine.new.config ≡ engine.old.config }
     ensures taken { engine.new.taken ≤ engine.old.taken + 1 }
@@ -38,5 +39,6 @@ pub(crate) fn take(engine: &mut TraceEngine, event: &Event) -> Result<Outcome, N
     match &event.what {
         What::Packet(packet) => engine.packet(packet),
         What::Skip => Ok(Outcome::Skip),
+        What::Expire { table, seconds } => Ok(Outcome::Expire(engine.expire(*table, *seconds))),
     }
 }

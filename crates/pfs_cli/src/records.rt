@@ -8,7 +8,7 @@ ghost use Rattle.csv.specs.Records.{fields_of};
 ghost use Rattle.pfs_cli_streams.specs.Sinks.{held, failures_of};
 ghost use Rattle.pfs_cli.specs.Lines.{row_text, end_text};
 ghost use Rattle.std.specs.Option.{ForSome};
-ghost use Rattle.pfs_engine_machine.specs.Machine.{start, step};
+ghost use Rattle.pfs_engine_machine.specs.Machine.{MayCome, start, step};
 ghost use Rattle.pfs_cli.specs.Reports.{Tells, end_of};
 ghost use Rattle.pfs_cli.specs.Turns.{WritesLine, TakesEvent, TakesRecord};
 ghost use Rattle.pfs_cli.specs.Traces.{events_of, events_from, records_of, records_left};
@@ -98,6 +98,7 @@ fn take_event<W: Write>(
     requires order { ForSome engine.old.machine.last (λ m. m ≤ event.now.time) }
     requires moment { event.now.time < 2 ^ 32 }
     requires room { engine.old.taken < 1000000000 }
+    requires table { MayCome engine.old.config event.now.what }
     ensures config { engine.new.config ≡ engine.old.config }
     ensures taken { engine.new.taken ≤ engine.old.taken + 1 }
     ensures takes { (t : List ℕ) × Appends (held W.contents out.old) (held W.contents out.new) t
@@ -125,7 +126,7 @@ fn take_record<W: Write>(
         × TakesRecord engine.old.config row engine.old.machine (fields_of fields.now) t result engine.new.machine }
     ensures fails { result ≡ Err (Stop.Write) → 0 < failures_of out.new }
 {
-    match read_event(row, engine.last(), fields) {
+    match read_event(row, engine.last(), engine.config(), fields) {
         Ok(event) => take_event(row, &event, engine, line, out),
         Err(fault) => Err(Stop::Fault(fault)),
     }

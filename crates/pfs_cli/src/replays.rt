@@ -110,7 +110,7 @@ pub(crate) fn finish<R, W: Write>(
 /// At a fault there is no flush. What is written then:
 ///
 /// - `Rules`: nothing.
-/// - `Columns`, `Field`, `TimeFell`, `TooManyRows`, asked of each record in this order but for the
+/// - `Columns`, `Field`, `TimeFell`, `Table`, `TooManyRows`, asked of each record in this order but for the
 ///   last, which is asked first: the lines of the records before, which is the report of such a
 ///   trace.
 /// - `Read`, `Endless`, `Memory`: in the rules nothing, in the trace the lines of the first records.

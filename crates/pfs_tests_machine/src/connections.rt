@@ -266,6 +266,54 @@ const OVERLOADS: &[Case] = &[
     },
 ];
 
+// Entries leave by their age: of the rules from the first event on, of a source from its packet on
+const EXPIRED: &[Case] = &[
+    Case {
+        shows: "an entry that is held keeps its moment",
+        rules: b"table <bad> { 203.0.113.9 }\npass in proto udp to any port 53\n\
+            pass in proto tcp to any port 80 keep state (max-src-conn 1, overload <bad>)",
+        rows: &[
+            (100, Came::Nothing, A1, 0, Outcome::Skip),
+            (104, Came::Shake(1), A1, 1000, Outcome::State(RuleNo(1))),
+            (104, Came::Shake(1), A1, 1001, AGAIN_ADDED),
+            (106, Came::Shake(1), A1, 1002, AGAIN_HELD),
+            (108, Came::Expire(5), A1, 0, Outcome::Expire(1)),
+            (109, Came::Expire(5), A1, 0, Outcome::Expire(1)),
+        ],
+        end: (1, 1, 0),
+    },
+    Case {
+        shows: "an entry of the rules is as old as the run",
+        rules: b"table <bad> { 203.0.113.9 }\npass",
+        rows: &[
+            (100, Came::Nothing, A1, 0, Outcome::Skip),
+            (100, Came::Expire(5), A1, 0, Outcome::Expire(0)),
+        ],
+        end: (0, 0, 1),
+    },
+];
+
+const AGAIN_ADDED: Outcome = Outcome::Kill {
+    rule: RuleNo(1),
+    conn: true,
+    rate: false,
+    overload: Some(Added::New),
+    killed: 1,
+};
+
+const AGAIN_HELD: Outcome = Outcome::Kill {
+    rule: RuleNo(1),
+    conn: true,
+    rate: false,
+    overload: Some(Added::Held),
+    killed: 1,
+};
+
+#[test]
+fn old_entries_leave(rt: HostRuntime) -> Result<(), Fail> {
+    tell_each(&rt, EXPIRED)
+}
+
 #[test]
 fn a_source_has_a_maximum_of_connections(rt: HostRuntime) -> Result<(), Fail> {
     tell_each(&rt, CONNECTIONS)

@@ -2,12 +2,13 @@
 
 ghost use Rattle.std.specs.Prelude.{◌≡◌, ◌<◌, ◌≤◌, ◌^◌, true};
 ghost use Rattle.std.specs.Option.{ForSome};
-ghost use Rattle.pfs_engine_machine.specs.Runs.{IsInOrder};
+ghost use Rattle.pfs_engine_machine.specs.Runs.{AreAllowed, IsInOrder};
+ghost use Rattle.pfs_engine_machine.specs.Machine.{MayCome, MayExpire};
 
 use crate::scripts::{Case, Script};
 use crate::tallied::Tallied;
 use pfs_addr::Packet;
-use pfs_conf::{Config, load};
+use pfs_conf::{Config, TableNo, load};
 use pfs_engine::{Engine, Event, Outcome, What};
 use pfs_store::IndexStore;
 use pfs_store_plain::{PlainStore, Store};
@@ -90,6 +91,20 @@ pub fn take<S: Store>(
     Ok(engine.packet(packet)?)
 }
 
+/// Old entries leave a table at the last moment, which changes neither what was taken nor the work.
+pub fn expire<S: Store>(
+    rt: &impl Abort,
+    engine: &mut Engine<S>,
+    table: TableNo,
+    seconds: u64,
+) -> Outcome {
+    assert!(rt; engine.last().is_some() && may_expire(engine.config(), table));
+    let before = (engine.first(), engine.taken(), engine.work());
+    let left = engine.expire(table, seconds);
+    assert_eq!(rt; (engine.first(), engine.taken(), engine.work()), before);
+    Outcome::Expire(left)
+}
+
 /// How many states, source nodes and entries are held.
 pub fn held<S: Store>(engine: &Engine<S>) -> (u64, u64, u64) {
     (engine.states(), engine.nodes(), engine.entries())
@@ -110,6 +125,7 @@ fn ends<S: Store + Drop>(
         let told = match &event.what {
             What::Packet(packet) => take(rt, &mut engine, packet)?,
             What::Skip => Outcome::Skip,
+            What::Expire { table, seconds } => expire(rt, &mut engine, *table, *seconds),
         };
         assert_eq!(rt; told, *outcome, "{}: at {event:?}", case.shows);
         assert!(rt; !matches!(told, Outcome::Drop(..)) || held(&engine) == before);
@@ -129,6 +145,7 @@ fn runs<S: Store + Drop>(
     let mut outcomes = Vec::new(rt.alloc());
     assert!(rt; is_in_order(engine.last(), &script.events));
     assert!(rt; engine.taken() == 0 && script.events.len() <= 1_000_000_000);
+    assert!(rt; are_allowed(engine.config(), &script.events));
     engine.run(&script.events, &mut outcomes)?;
     assert_eq!(rt; outcomes, script.outcomes, "{}", case.shows);
     check_end(rt, &engine, script, case);
@@ -139,6 +156,10 @@ fn runs<S: Store + Drop>(
 fn check_end<S: Store>(rt: &impl Abort, engine: &Engine<S>, script: &Script, case: &Case) {
     assert_eq!(rt; held(engine), case.end, "{}", case.shows);
     assert_eq!(rt; engine.taken(), script.packets);
+    assert_eq!(rt;
+        engine.first(),
+        script.events.first().map(|event| event.time)
+    );
     assert_eq!(rt; engine.last(), script.events.last().map(|event| event.time));
 }
 
@@ -160,5 +181,29 @@ fn is_in_order(last: Option<u64>, events: &[Event]) -> bool
         [event, rest @ ..] => {
             is_in_time(last, event.time) && is_in_order(Some(event.time), rest)
         }
+    }
+}
+
+fn may_expire(config: &Config, table: TableNo) -> bool
+    ensures { result ≡ true → MayExpire config.now table.0 }
+{
+    table.0 < config.table_count() && !config.is_const(table)
+}
+
+fn may_come(config: &Config, what: &What) -> bool
+    ensures { result ≡ true → MayCome config.now what.now }
+{
+    match what {
+        What::Expire { table, .. } => may_expire(config, *table),
+        _ => true,
+    }
+}
+
+fn are_allowed(config: &Config, events: &[Event]) -> bool
+    ensures { result ≡ true → AreAllowed config.now events.now }
+{
+    match events {
+        [] => true,
+        [event, rest @ ..] => may_come(config, &event.what) && are_allowed(config, rest),
     }
 }

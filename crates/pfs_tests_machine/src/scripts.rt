@@ -2,7 +2,7 @@
 
 use crate::packets::{ACK, FIN_ACK, RST, SYN, SYN_ACK, Sent, packet};
 use pfs_addr::Addr;
-use pfs_conf::RuleNo;
+use pfs_conf::{RuleNo, TableNo};
 use pfs_engine::{Event, Outcome, What};
 use std::alloc::Global;
 use std::test::Fail;
@@ -24,6 +24,8 @@ pub enum Came {
     Shake(u32),
     /// A record of no packet.
     Nothing,
+    /// The entries of the first table leave that are so many seconds old.
+    Expire(u64),
 }
 
 /// When, what, of which source, from which of its ports, and what the machine makes of it.
@@ -69,6 +71,10 @@ impl Script {
             Came::Fin => Sent::Tcp(80, FIN_ACK),
             Came::Reset => Sent::Tcp(80, RST),
             Came::Nothing => return self.put(time, What::Skip, outcome),
+            Came::Expire(seconds) => {
+                let table = TableNo(0);
+                return self.put(time, What::Expire { table, seconds }, outcome);
+            }
             Came::Shake(rule) => {
                 let syn = packet(&Sent::Tcp(80, SYN), source, port)?;
                 self.put(time, What::Packet(syn), Outcome::New(RuleNo(rule)))?;
@@ -82,7 +88,7 @@ impl Script {
     }
 
     fn put(&mut self, time: u64, what: What, outcome: Outcome) -> Result<(), Fail> {
-        if what != What::Skip {
+        if let What::Packet(_) = what {
             self.packets = self.packets.saturating_add(1);
         }
         self.events.push(Event { time, what })?;

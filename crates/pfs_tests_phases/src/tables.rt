@@ -55,9 +55,9 @@ fn a_host_is_added_while_there_is_room(rt: HostRuntime) -> Result<(), Fail> {
         assert_eq!(rt; tables.entries(), 1);
         tables.make_room(TableNo(0))?;
         assert!(rt; is_full || tables.has_room(TableNo(0)));
-        assert_eq!(rt; tables.add_host(TableNo(0), A1)?, answer);
-        assert_eq!(rt; tables.add_host(TableNo(0), A1)?, again);
-        assert_eq!(rt; tables.add_host(TableNo(0), held)?, Added::Held);
+        assert_eq!(rt; tables.add_host(TableNo(0), A1, 5)?, answer);
+        assert_eq!(rt; tables.add_host(TableNo(0), A1, 5)?, again);
+        assert_eq!(rt; tables.add_host(TableNo(0), held, 5)?, Added::Held);
         assert_eq!(rt; tables.entries(), entries);
         assert_eq!(rt; tables.matches(TableNo(0), A1), !is_full);
     }

@@ -3,6 +3,8 @@
 #![tactic(auto)]
 
 #[cfg(test)]
+mod expiring;
+#[cfg(test)]
 mod failing;
 #[cfg(test)]
 mod fakes;

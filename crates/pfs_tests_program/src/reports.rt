@@ -222,6 +222,7 @@ fn texts_and_statuses(rt: HostRuntime) -> Result<(), Fail> {
         (ReplayFault::Columns(3), "trace: row 3: columns", 1),
         (ReplayFault::Field(1, 6), "trace: row 1: field 6", 1),
         (ReplayFault::TimeFell(2), "trace: row 2: time falls", 1),
+        (ReplayFault::Table(11), "trace: row 11: table", 1),
         (ReplayFault::TooManyRows, "trace: too many rows", 1),
         (ReplayFault::Read, "read failed", 4),
         (ReplayFault::Write, "write failed", 4),

@@ -75,6 +75,25 @@ fn tables_are_copied_with_their_entries(rt: HostRuntime) -> Result<(), Fail> {
     Ok(())
 }
 
+#[test]
+fn tables_are_found_by_their_names(rt: HostRuntime) -> Result<(), Fail> {
+    let text = b"table <t> const { 10.1.2.3 }\nblock from <bad>\nblock to <t-1>\n";
+    let config = load(rt.alloc(), text)?;
+    for (name, number, is_const) in [
+        (b"t".as_slice(), 0, true),
+        (b"bad", 1, false),
+        (b"t-1", 2, false),
+    ] {
+        assert_eq!(rt; config.table_named(name), Some(TableNo(number)));
+        assert!(rt; number < config.table_count());
+        assert_eq!(rt; config.is_const(TableNo(number)), is_const);
+    }
+    for name in [b"".as_slice(), b"T", b"ba", b"bad2"] {
+        assert_eq!(rt; config.table_named(name), None);
+    }
+    Ok(())
+}
+
 // As long as its score may matter, or for `src.track`
 #[test]
 fn a_source_node_is_retained(rt: HostRuntime) -> Result<(), Fail> {

@@ -1,0 +1,194 @@
+//! Records that take old entries out of a table.
+
+use crate::runs::tell;
+use crate::traces::{A, B, Case, Sent, tell_each};
+use pfs_cli::ReplayFault;
+use std::alloc::AllocGlobal;
+use std::process::Abort;
+use std::test::Fail;
+
+const EXPIRED: &[Case] = &[
+    Case {
+        shows: "an entry of the rules counts from the first record, an added one from its packet, and a held one is not renewed",
+        rules: "table <bad> { 203.0.113.9 }\n\
+            pass in proto tcp to any port 80 keep state (max-src-conn 1, overload <bad>)",
+        sent: &[
+            Sent::Ping(100),
+            Sent::Shake(104, A, 1000),
+            Sent::Shake(104, A, 1001),
+            Sent::Shake(106, A, 1002),
+            Sent::Line("108,expire,bad,,,5,,,"),
+            Sent::Line("109,expire,bad,,,5,,,"),
+        ],
+        report: "1 skip -\n2 new @0\n3 state @0\n4 state @0\n5 new @0\n6 state @0\n\
+            7 kill:max-src-conn @0 overload=added killed=1\n8 new @0\n9 state @0\n\
+            10 kill:max-src-conn @0 overload=held killed=1\n11 expire - removed=1\n12 expire - removed=1\n\
+            end rows=12 states=1 nodes=1 entries=0\n",
+    },
+    Case {
+        shows: "an entry of the rules is as old as the run, and not older",
+        rules: "table <bad> { 203.0.113.9 }",
+        sent: &[Sent::Ping(100), Sent::Line("100,expire,bad,,,5,,,")],
+        report: "1 skip -\n2 expire - removed=0\nend rows=2 states=0 nodes=0 entries=1\n",
+    },
+    Case {
+        shows: "as the first record it takes out at once what the rules say, with seconds 0",
+        rules: "table <bad> { 203.0.113.9, !203.0.113.0/24 }",
+        sent: &[Sent::Line("100,expire,bad,,,0,,,")],
+        report: "1 expire - removed=2\nend rows=1 states=0 nodes=0 entries=0\n",
+    },
+    Case {
+        shows: "a table that is named and not defined is a table, and the last moment may be the greatest",
+        rules: "block from <bad>",
+        sent: &[Sent::Line("4294967295,expire,bad,,,4294967295,,,")],
+        report: "1 expire - removed=0\nend rows=1 states=0 nodes=0 entries=0\n",
+    },
+    Case {
+        shows: "a limit on entries that was met is free again, and other tables stay as they are",
+        rules: "set limit table-entries 2\ntable <bad> { 203.0.113.9 }\ntable <good> { 203.0.113.7 }\n\
+            pass in proto tcp to any port 80 keep state (max-src-conn 1, overload <bad>)",
+        sent: &[
+            Sent::Shake(0, A, 1000),
+            Sent::Shake(0, A, 1001),
+            Sent::Line("5,expire,bad,,,5,,,"),
+            Sent::Shake(5, A, 1002),
+            Sent::Shake(5, B, 1000),
+            Sent::Shake(5, B, 1001),
+            Sent::Line("9,expire,bad,,,5,,,"),
+            Sent::Line("10,expire,bad,,,5,,,"),
+        ],
+        report: "1 new @0\n2 state @0\n3 state @0\n4 new @0\n5 state @0\n\
+            6 kill:max-src-conn @0 overload=full killed=1\n7 expire - removed=1\n8 new @0\n9 state @0\n\
+            10 kill:max-src-conn @0 overload=added killed=1\n11 new @0\n12 state @0\n13 state @0\n\
+            14 new @0\n15 state @0\n16 kill:max-src-conn @0 overload=full killed=1\n\
+            17 expire - removed=0\n18 expire - removed=1\nend rows=18 states=2 nodes=2 entries=1\n",
+    },
+    Case {
+        shows: "a source whose entry left is no longer blocked, and is blocked again",
+        rules: "block in quick from <bad>\n\
+            pass in proto tcp to any port 80 keep state (max-src-conn 1, overload <bad> flush)",
+        sent: &[
+            Sent::Shake(0, A, 1000),
+            Sent::Shake(0, A, 1001),
+            Sent::Tcp(1, A, 1002, "S"),
+            Sent::Line("60,expire,bad,,,60,,,"),
+            Sent::Shake(60, A, 1003),
+            Sent::Shake(60, A, 1004),
+            Sent::Tcp(61, A, 1005, "S"),
+        ],
+        report: "1 new @1\n2 state @1\n3 state @1\n4 new @1\n5 state @1\n\
+            6 kill:max-src-conn @1 overload=added killed=2\n7 block @0\n8 expire - removed=1\n\
+            9 new @1\n10 state @1\n11 state @1\n12 new @1\n13 state @1\n\
+            14 kill:max-src-conn @1 overload=added killed=2\n15 block @0\n\
+            end rows=15 states=0 nodes=0 entries=1\n",
+    },
+];
+
+// A last record behind ten others, under rules, and how the replay ends.
+#[derive(Clone, Copy)]
+struct Row {
+    rules: &'static str,
+    record: &'static str,
+    fault: ReplayFault,
+}
+
+const OVERLOAD: &str = "table <bad> { 203.0.113.9 }\n\
+    pass in proto tcp to any port 80 keep state (max-src-conn 1, overload <bad>)\n";
+
+const CONST: &str = "table <bad> const { 203.0.113.9 }\n\
+    pass in proto tcp to any port 80 keep state (max-src-conn 1)\n";
+
+fn refused(rules: &'static str, record: &'static str, fault: ReplayFault) -> Row {
+    Row {
+        rules,
+        record,
+        fault,
+    }
+}
+
+// The fault of a field in the eleventh row.
+fn at(record: &'static str, column: u8) -> Row {
+    refused(OVERLOAD, record, ReplayFault::Field(11, column))
+}
+
+fn tables() -> [Row; 4] {
+    let fault = ReplayFault::Table(11);
+    [
+        refused(CONST, "108,expire,bad,,,5,,,", fault),
+        refused(OVERLOAD, "108,expire,worse,,,5,,,", fault),
+        refused(OVERLOAD, "108,expire,BAD,,,5,,,", fault),
+        refused(
+            OVERLOAD,
+            "107,expire,worse,,,5,,,",
+            ReplayFault::TimeFell(11),
+        ),
+    ]
+}
+
+fn names() -> [Row; 4] {
+    [
+        at("108,Expire,bad,,,5,,,", 2),
+        at("108,expire,,,,5,,,", 3),
+        at("108,expire,<bad>,,,5,,,", 3),
+        at("108,expire,abcdefghijklmnopqrstuvwxyz012345,,,5,,,", 3),
+    ]
+}
+
+fn empties() -> [Row; 5] {
+    [
+        at("108,expire,bad,udp,,5,,,", 4),
+        at("108,expire,bad,,198.51.100.1,5,,,", 5),
+        at("108,expire,bad,,,5,192.0.2.1,,", 7),
+        at("108,expire,bad,,,5,,0,", 8),
+        at("108,expire,bad,,,5,,,S", 9),
+    ]
+}
+
+fn seconds() -> [Row; 4] {
+    [
+        at("108,expire,bad,,,,,,", 6),
+        at("108,expire,bad,,,4294967296,,,", 6),
+        at("108,expire,bad,,,-1,,,", 6),
+        at("108,expire,worse,,,x,,,", 6),
+    ]
+}
+
+// The records in front, and their lines under either rules but for what became of the source.
+fn tell_refused(rt: &(impl Abort + AllocGlobal), rows: &[Row]) -> Result<(), Fail> {
+    for row in rows {
+        let mut trace = String::new(rt.alloc());
+        write!(trace, "time,dir,if,proto,src,sport,dst,dport,flags\n")?;
+        for time in 99..109 {
+            write!(trace, "{time},in,em0,icmp,198.51.100.1,,192.0.2.1,,\n")?;
+        }
+        write!(trace, "{}\n", row.record)?;
+        tell(
+            rt,
+            row.rules.as_bytes(),
+            trace.as_bytes(),
+            Err(row.fault),
+            SKIPPED,
+        );
+    }
+    Ok(())
+}
+
+const SKIPPED: &[u8] = b"1 skip -\n2 skip -\n3 skip -\n4 skip -\n5 skip -\n\
+    6 skip -\n7 skip -\n8 skip -\n9 skip -\n10 skip -\n";
+
+#[test]
+fn old_entries_leave(rt: HostRuntime) -> Result<(), Fail> {
+    tell_each(&rt, EXPIRED)
+}
+
+#[test]
+fn a_table_must_be_there_and_not_const(rt: HostRuntime) -> Result<(), Fail> {
+    tell_refused(&rt, &tables())
+}
+
+#[test]
+fn the_fields_of_an_expiry_are_read(rt: HostRuntime) -> Result<(), Fail> {
+    tell_refused(&rt, &names())?;
+    tell_refused(&rt, &empties())?;
+    tell_refused(&rt, &seconds())
+}
