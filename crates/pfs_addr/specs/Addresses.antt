@@ -12,6 +12,10 @@ IsAddr (V4 bytes) = (length bytes ≡ 4) × All (λ b. b < 256) bytes
 abbrev pub width_of : Addr → ℕ
 width_of (V4 bytes) = 32
 
+-- the bytes of an address, in the order in which they are written
+abbrev pub bytes_of : Addr → List ℕ
+bytes_of (V4 bytes) = bytes
+
 -- bytes in decimal, joined by dots
 abbrev pub dotted : List ℕ → List ℕ
 dotted bytes = join_with_byte 46 (map decimal bytes)

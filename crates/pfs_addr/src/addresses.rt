@@ -1,18 +1,34 @@
 // Addresses, their texts, and the bits that prefixes compare.
 
-ghost use Rattle.std.specs.Prelude.{◌≡◌, ◌≤◌, ◌<◌, ◌+◌, ◌++◌, ◌∷◌, ℕ, Some, IfSome, OnOk, OnErr, decimal, length, vec_len};
+ghost use Rattle.std.specs.Prelude.{◌≡◌, ◌≤◌, ◌<◌, ◌+◌, ◌++◌, [], ◌∷◌, ℕ, Some, IfSome, OnOk, OnErr, decimal, length, vec_len};
 ghost use Rattle.std.specs.Vec.{vec_capacity};
 ghost use Rattle.pfs_addr.specs.Texts.{addr_of};
-ghost use Rattle.pfs_addr.specs.Addresses.{IsAddr, addr_text, dotted, width_of};
+ghost use Rattle.pfs_addr.specs.Addresses.{IsAddr, addr_text, bytes_of, dotted, width_of};
+ghost use Rattle.std.proofs.Common.{rules};
+ghost use Rattle.std.specs.Cmp.Rules.{hashing};
 
 use crate::memory::NoMemory;
+use std::hash::{Hash, Hasher};
 use std::net::Ipv4Addr;
 
 /// An address of a packet's end.
-#[derive(Debug, Clone, Copy, PartialEq, Eq, PartialOrd, Ord, Hash)]
+#[derive(Debug, Clone, Copy, PartialEq, Eq, PartialOrd, Ord)]
 pub enum Addr {
     /// IPv4, its four bytes in the order in which they are written. (RFC 791, section 3.2)
     V4([u8; 4]),
+}
+
+impl Hash for Addr {
+    ghost hash_input = { λ a. bytes_of a ∷ [] };
+
+    ghost respects_eq = { Prim.search (hashing, rules) };
+
+    // The bytes at once; a derive would feed them one by one.
+    fn hash<H: Hasher>(&self, state: &mut H) {
+        match self {
+            Addr::V4(bytes) => state.write(bytes),
+        }
+    }
 }
 
 impl Addr {

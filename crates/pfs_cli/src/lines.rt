@@ -1,34 +1,12 @@
 //! The lines of a report.
 
-ghost use Rattle.std.specs.Prelude.{◌≡◌, Some};
+ghost use Rattle.std.specs.Prelude.{◌≡◌, ◌++◌, OnOk, decimal};
 ghost use Rattle.pfs_cli.specs.Lines.{row_text, end_text, word_of, mark_text, rule_of, note_text, overload_word};
 
+use itoa::Buffer;
 use pfs_conf_rules::RuleNo;
 use pfs_engine::{Added, Limit, Outcome};
-use std::fmt;
-
-/// The line of a record: its row, what the machine did with it, and by which rule.
-#[derive(Clone, Copy)]
-pub(crate) struct Line {
-    pub(crate) row: u64,
-    pub(crate) outcome: Outcome,
-}
-
-impl fmt::Display for Line {
-    ghost output = { λ l. Some (row_text l.row l.outcome) };
-
-    fn fmt<W: fmt::Write>(&self, f: &mut fmt::Formatter<W>) -> fmt::Result {
-        let row = self.row;
-        let word = word(&self.outcome);
-        let mark = Mark {
-            rule: rule(&self.outcome),
-        };
-        let note = Note {
-            outcome: self.outcome,
-        };
-        write!(f, "{row} {word} {mark}{note}\n")
-    }
-}
+use std::alloc::AllocError;
 
 /// The last line of a report: how many records there were, and what is held after them.
 #[derive(Clone, Copy)]
@@ -39,60 +17,75 @@ pub(crate) struct EndLine {
     pub(crate) entries: u64,
 }
 
-impl fmt::Display for EndLine {
-    ghost output = { λ l. Some (end_text l.rows l.states l.nodes l.entries) };
+/// Appends the line of a record: its row, what the machine did with it, and by which rule. On an error a part of it may
+/// stand there.
+pub(crate) fn push_row(out: &mut Vec<u8>, row: u64, outcome: &Outcome) -> Result<(), AllocError>
+    ensures { OnOk result (out.new.items ≡ out.old.items ++ row_text row outcome.now) }
+{
+    push_number(out, row)?;
+    out.extend_from_slice(b" ")?;
+    out.extend_from_slice(word(outcome).as_bytes())?;
+    out.extend_from_slice(b" ")?;
+    push_mark(out, rule(outcome))?;
+    push_note(out, outcome)?;
+    out.extend_from_slice(b"\n")
+}
 
-    fn fmt<W: fmt::Write>(&self, f: &mut fmt::Formatter<W>) -> fmt::Result {
-        let rows = self.rows;
-        let states = self.states;
-        let nodes = self.nodes;
-        let entries = self.entries;
-        write!(
-            f,
-            "end rows={rows} states={states} nodes={nodes} entries={entries}\n"
-        )
-    }
+/// Appends the last line. On an error a part of it may stand there.
+pub(crate) fn push_end(out: &mut Vec<u8>, end: &EndLine) -> Result<(), AllocError>
+    ensures { OnOk result (out.new.items ≡ out.old.items ++ end_text end.now.rows end.now.states end.now.nodes end.now.entries) }
+{
+    push_named(out, b"end rows=", end.rows)?;
+    push_named(out, b" states=", end.states)?;
+    push_named(out, b" nodes=", end.nodes)?;
+    push_named(out, b" entries=", end.entries)?;
+    out.extend_from_slice(b"\n")
+}
+
+fn push_named(out: &mut Vec<u8>, name: &[u8], number: u64) -> Result<(), AllocError>
+    ensures { OnOk result (out.new.items ≡ out.old.items ++ (name.now ++ decimal number)) }
+{
+    out.extend_from_slice(name)?;
+    push_number(out, number)
+}
+
+fn push_number(out: &mut Vec<u8>, number: u64) -> Result<(), AllocError>
+    ensures { OnOk result (out.new.items ≡ out.old.items ++ decimal number) }
+{
+    let mut buffer = Buffer::new();
+    out.extend_from_slice(buffer.format(number).as_bytes())
 }
 
 // The rule of a line, `-` where there is none.
-#[derive(Clone, Copy)]
-struct Mark {
-    rule: Option<RuleNo>,
-}
-
-impl fmt::Display for Mark {
-    ghost output = { λ m. Some (mark_text m.rule) };
-
-    fn fmt<W: fmt::Write>(&self, f: &mut fmt::Formatter<W>) -> fmt::Result {
-        match self.rule {
-            Some(RuleNo(number)) => write!(f, "@{number}"),
-            None => write!(f, "-"),
+fn push_mark(out: &mut Vec<u8>, rule: Option<RuleNo>) -> Result<(), AllocError>
+    ensures { OnOk result (out.new.items ≡ out.old.items ++ mark_text rule) }
+{
+    match rule {
+        Some(RuleNo(number)) => {
+            out.extend_from_slice(b"@")?;
+            push_number(out, u64::from(number))
         }
+        None => out.extend_from_slice(b"-"),
     }
 }
 
 // What a line of killed states goes on with, and one of entries that expired; nothing on any other.
-#[derive(Clone, Copy)]
-struct Note {
-    outcome: Outcome,
-}
-
-impl fmt::Display for Note {
-    ghost output = { λ n. Some (note_text n.outcome) };
-
-    fn fmt<W: fmt::Write>(&self, f: &mut fmt::Formatter<W>) -> fmt::Result {
-        match self.outcome {
-            Outcome::Kill {
-                overload,
-                killed,
-                ..
-            } => {
-                let overload = overload_name(overload);
-                write!(f, " overload={overload} killed={killed}")
-            }
-            Outcome::Expire(removed) => write!(f, " removed={removed}"),
-            _ => Ok(()),
+fn push_note(out: &mut Vec<u8>, outcome: &Outcome) -> Result<(), AllocError>
+    ensures { OnOk result (out.new.items ≡ out.old.items ++ note_text outcome.now) }
+{
+    match *outcome {
+        Outcome::Kill {
+            overload,
+            killed,
+            ..
+        } => {
+            out.extend_from_slice(b" overload=")?;
+            out.extend_from_slice(overload_name(overload).as_bytes())?;
+            out.extend_from_slice(b" killed=")?;
+            push_number(out, killed)
         }
+        Outcome::Expire(removed) => push_named(out, b" removed=", removed),
+        _ => Ok(()),
     }
 }
 

@@ -15,11 +15,11 @@ ghost use Rattle.pfs_cli.specs.Traces.{events_of, events_from, records_of, recor
 
 use crate::events::{has_columns, read_event};
 use crate::faults::TraceFault;
-use crate::lines::{EndLine, Line};
+use crate::lines::{EndLine, push_end, push_row};
 use crate::machine::{TraceEngine, take};
 use csv::{ByteRecord, Reader, ReaderBuilder};
 use pfs_cli_streams::{Sink, write_whole};
-use pfs_engine::Event;
+use pfs_engine::{Event, Outcome};
 use std::alloc::Global;
 use std::io::{Read, Write};
 
@@ -40,26 +40,31 @@ pub(crate) enum Stop {
 }
 
 // Writes a line.
-fn send<W: Write>(line: &str, out: &mut Sink<W>) -> Result<(), Stop>
+fn send<W: Write>(line: &[u8], out: &mut Sink<W>) -> Result<(), Stop>
     ensures writes { (t : List ℕ) × Appends (held W.contents out.old) (held W.contents out.new) t × WritesLine line.now t result }
     ensures fails { result ≡ Err (Stop.Write) → 0 < failures_of out.new }
 {
-    if write_whole(out, line.as_bytes()).is_err() {
+    if write_whole(out, line).is_err() {
         return Err(Stop::Write);
     }
     Ok(())
 }
 
 // Writes the line of one outcome. `line` is room that is used again.
-fn write_row<W: Write>(row: Line, line: &mut String, out: &mut Sink<W>) -> Result<(), Stop>
-    ensures writes { (t : List ℕ) × Appends (held W.contents out.old) (held W.contents out.new) t × WritesLine (row_text row.row row.outcome) t result }
+fn write_row<W: Write>(
+    row: u64,
+    outcome: &Outcome,
+    line: &mut Vec<u8>,
+    out: &mut Sink<W>,
+) -> Result<(), Stop>
+    ensures writes { (t : List ℕ) × Appends (held W.contents out.old) (held W.contents out.new) t × WritesLine (row_text row outcome.now) t result }
     ensures fails { result ≡ Err (Stop.Write) → 0 < failures_of out.new }
 {
     line.clear();
-    if write!(line, "{row}").is_err() {
+    if push_row(line, row, outcome).is_err() {
         return Err(Stop::Memory);
     }
-    send(line.as_str(), out)
+    send(line.as_slice(), out)
 }
 
 // The last line, with what is held.
@@ -75,16 +80,16 @@ fn end_line(rows: u64, engine: &TraceEngine) -> EndLine
 }
 
 // Writes the last line.
-fn write_end<W: Write>(end: EndLine, room: &mut String, out: &mut Sink<W>) -> Result<(), Stop>
+fn write_end<W: Write>(end: EndLine, room: &mut Vec<u8>, out: &mut Sink<W>) -> Result<(), Stop>
     ensures writes { (t : List ℕ) × Appends (held W.contents out.old) (held W.contents out.new) t
         × WritesLine (end_text end.rows end.states end.nodes end.entries) t result }
     ensures fails { result ≡ Err (Stop.Write) → 0 < failures_of out.new }
 {
     room.clear();
-    if write!(room, "{end}").is_err() {
+    if push_end(room, &end).is_err() {
         return Err(Stop::Memory);
     }
-    send(room.as_str(), out)
+    send(room.as_slice(), out)
 }
 
 // Lets the engine take one event, and writes its line.
@@ -92,7 +97,7 @@ fn take_event<W: Write>(
     row: u64,
     event: &Event,
     engine: &mut TraceEngine,
-    line: &mut String,
+    line: &mut Vec<u8>,
     out: &mut Sink<W>,
 ) -> Result<(), Stop>
     requires order { ForSome engine.old.machine.last (λ m. m ≤ event.now.time) }
@@ -108,7 +113,7 @@ fn take_event<W: Write>(
     let Ok(outcome) = take(engine, event) else {
         return Err(Stop::Memory);
     };
-    write_row(Line { row, outcome }, line, out)
+    write_row(row, &outcome, line, out)
 }
 
 // The turn of one record.
@@ -116,7 +121,7 @@ fn take_record<W: Write>(
     row: u64,
     fields: &ByteRecord,
     engine: &mut TraceEngine,
-    line: &mut String,
+    line: &mut Vec<u8>,
     out: &mut Sink<W>,
 ) -> Result<(), Stop>
     requires room { engine.old.taken < 1000000000 }
@@ -137,7 +142,7 @@ fn tell_rows<S: Read, W: Write>(
     reader: &mut Reader<S>,
     fields: &mut ByteRecord,
     engine: &mut TraceEngine,
-    line: &mut String,
+    line: &mut Vec<u8>,
     out: &mut Sink<W>,
 ) -> Result<(), Stop>
     requires plain { reader_trim reader.old ≡ trim.None }
@@ -172,7 +177,7 @@ fn tell_trace<S: Read, W: Write>(
     reader: &mut Reader<S>,
     fields: &mut ByteRecord,
     engine: &mut TraceEngine,
-    line: &mut String,
+    line: &mut Vec<u8>,
     out: &mut Sink<W>,
 ) -> Result<(), Stop>
     requires plain { reader_trim reader.old ≡ trim.None }
@@ -216,6 +221,6 @@ pub(crate) fn tell_records<S: Read + Drop, W: Write>(
         .flexible(true)
         .from_reader(alloc, source);
     let mut fields = ByteRecord::new(alloc);
-    let mut line = String::new(alloc);
+    let mut line = Vec::new(alloc);
     tell_trace(&mut reader, &mut fields, engine, &mut line, out)
 }

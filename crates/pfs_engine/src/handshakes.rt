@@ -8,7 +8,7 @@ ghost use Rattle.pfs_conf_rules.specs.LoadRules.{AreOptions, IsRate};
 ghost use Rattle.pfs_store_plain.specs.Counts.{exceeded, source_states};
 ghost use Rattle.pfs_store_plain.specs.Handshakes.{flush_of, over_rate};
 ghost use Rattle.pfs_store_plain.specs.Leaving.{without};
-ghost use Rattle.pfs_store_plain.specs.Worlds.{holds_number, number_of, state_with};
+ghost use Rattle.pfs_store_plain.specs.Worlds.{holds_number, number_of, rule_in, state_with};
 ghost use Rattle.pfs_engine_machine.specs.Kept.{IsKept};
 ghost use Rattle.pfs_engine_machine.specs.Looks.{AreLooks, AreLooksOfKill, states_beside};
 ghost use Rattle.pfs_engine_machine.specs.Machine.{added_by, by_options, by_state, by_touch, killed_count, held_of, stays_at_kill, tables_by};
@@ -57,30 +57,30 @@ pub(crate) fn take_packet_of_state<S: Store>(
     ensures no_looks { S.counts ≡ true → OnErr result (looks.new ≡ 0) }
     ensures uncounted { S.counts ≡ false → looks.new ≡ 0 }
 {
-    let rule = store.rule_at(&FlowKey::of(packet));
-    make_room(config, tables, rule, packet)?;
+    make_room(config, tables, store, packet)?;
     let touched = store.touch(number, packet, now, looks);
     Ok(complete_handshake(config, tables, store, number, &touched, now, looks))
 }
 
-// Room for one more entry in the overload table of a rule, where a packet may complete a handshake.
-fn make_room(
+// Room for one more entry in the overload table of the rule of the packet's state, where it may complete a handshake.
+fn make_room<S: Store>(
     config: &Config,
     tables: &mut Tables,
-    rule: Option<RuleNo>,
+    store: &S,
     packet: &Packet,
 ) -> Result<(), NoMemory>
     requires tables { length tables.old.entries ≡ length config.now.tables }
     ensures entries { tables.new.entries ≡ tables.old.entries }
     ensures limit { tables.new.limit ≡ tables.old.limit }
-    ensures room { OnOk result (is_tcp packet.now.proto ≡ true → HasRoomFor tables.new (overload_at config.now rule)) }
+    ensures room { OnOk result (is_tcp packet.now.proto ≡ true →
+        HasRoomFor tables.new (overload_at config.now (option_map rule_in (state_with (key_of packet.now) (S.world store.now))))) }
     ensures other { is_tcp packet.now.proto ≡ false → IsOk result }
-    ensures none { overload_at config.now rule ≡ None → IsOk result }
+    ensures none { overload_at config.now (option_map rule_in (state_with (key_of packet.now) (S.world store.now))) ≡ None → IsOk result }
 {
     if packet.proto() != Proto::Tcp {
         return Ok(());
     }
-    match overload(config, rule) {
+    match overload(config, store.rule_at(&FlowKey::of(packet))) {
         Some(overload) => tables.make_room(overload.table),
         None => Ok(()),
     }

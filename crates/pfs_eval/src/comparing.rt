@@ -84,7 +84,7 @@ impl Asked {
 fn first_failing(tables: &Tables, packet: &Packet, filter: &Filter) -> Option<Parameter>
     ensures { MatchOption result (filter_holds tables.now.entries packet.now filter.now ≡ true) (λ k. holds_at tables.now.entries packet.now k filter.now ≡ false) }
 {
-    if !interface_holds(filter.on, packet.ifname()) {
+    if !interface_holds(&filter.on, &packet.ifname()) {
         return Some(Parameter::Interface);
     }
     if !dir_holds(filter.dir, packet.dir()) {
@@ -96,10 +96,10 @@ fn first_failing(tables: &Tables, packet: &Packet, filter: &Filter) -> Option<Pa
     if !proto_holds(filter.proto, packet.proto()) {
         return Some(Parameter::Protocol);
     }
-    if !host_holds(tables, filter.from.host, packet.src()) {
+    if !host_holds(tables, &filter.from.host, packet.src()) {
         return Some(Parameter::SourceHost);
     }
-    if !host_holds(tables, filter.to.host, packet.dst()) {
+    if !host_holds(tables, &filter.to.host, packet.dst()) {
         return Some(Parameter::DestinationHost);
     }
     if !ports_hold(filter.from.ports, packet.sport()) {
@@ -120,12 +120,12 @@ fn dir_holds(wanted: Option<Dir>, dir: Dir) -> bool
     wanted.is_none_or(|wanted| wanted == dir)
 }
 
-fn interface_holds(on: Option<Interface>, name: IfName) -> bool
-    ensures { result ≡ interface_holds on name }
+fn interface_holds(on: &Option<Interface>, name: &IfName) -> bool
+    ensures { result ≡ interface_holds on.now name.now }
 {
     match on {
         None => true,
-        Some(interface) => turned(interface.negated, interface.name == name),
+        Some(interface) => turned(interface.negated, interface.name == *name),
     }
 }
 
@@ -144,10 +144,10 @@ fn proto_holds(wanted: Option<Proto>, proto: Proto) -> bool
     wanted.is_none_or(|wanted| wanted == proto)
 }
 
-fn host_holds(tables: &Tables, host: Host<TableNo>, addr: Addr) -> bool
-    ensures { result ≡ host_holds tables.now.entries host addr }
+fn host_holds(tables: &Tables, host: &Host<TableNo>, addr: Addr) -> bool
+    ensures { result ≡ host_holds tables.now.entries host.now addr }
 {
-    match host {
+    match *host {
         Host::Any => true,
         Host::Prefix { prefix, negated } => turned(negated, prefix.contains(addr)),
         Host::Table { table, negated } => turned(negated, tables.matches(table, addr)),
