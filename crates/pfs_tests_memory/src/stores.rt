@@ -18,9 +18,13 @@ const UNTRACKED: &[u8] = b"pass\n";
 /// What is asked of a store.
 #[derive(Debug, Clone, Copy)]
 enum Ask {
-    /// A state of a rule that tracks sources.
+    /// The first state, of a rule that tracks sources.
+    FirstTracked,
+    /// The first one, of a rule that does not: it takes no memory for a source node.
+    FirstUntracked,
+    /// A later state of a rule that tracks sources.
     Tracked,
-    /// A state of one that does not.
+    /// One of a rule that does not.
     Untracked,
     /// A state where a limit is met: no memory is taken.
     AtLimit,
@@ -34,7 +38,7 @@ type Row = (Ask, Addr, u16, u32, Result<u64, Limit>);
 const A3: Addr = Addr::V4([198, 51, 100, 3]);
 
 const ROWS: &[Row] = &[
-    (Ask::Tracked, A1, 1, 0, Ok(1)),
+    (Ask::FirstTracked, A1, 1, 0, Ok(1)),
     (Ask::Tracked, A1, 2, 0, Ok(2)),
     (Ask::Untracked, A1, 3, 1, Ok(3)),
     (Ask::Tracked, A2, 1, 0, Ok(4)),
@@ -55,7 +59,7 @@ const ROWS: &[Row] = &[
 ];
 
 const UNTRACKED_ROWS: &[Row] = &[
-    (Ask::Untracked, A1, 1, 0, Ok(1)),
+    (Ask::FirstUntracked, A1, 1, 0, Ok(1)),
     (Ask::Untracked, A1, 2, 0, Ok(2)),
     (Ask::Untracked, A2, 1, 0, Ok(3)),
     (Ask::Untracked, A2, 2, 0, Ok(4)),
@@ -184,6 +188,8 @@ fn admit<S: Store>(
 
 fn begin_ask(rt: &HostRuntime, ask: Ask) -> Result<(), Stop> {
     match ask {
+        Ask::FirstTracked => begin(rt, "first admit where sources are tracked"),
+        Ask::FirstUntracked => begin(rt, "first admit where no sources are tracked"),
         Ask::Tracked => begin(rt, "admit where sources are tracked"),
         Ask::Untracked => begin(rt, "admit where no sources are tracked"),
         Ask::AtLimit => begin_free(rt, "admit at a limit"),
