@@ -2,13 +2,14 @@
 
 ghost use Rattle.std.specs.Prelude.{◌≡◌, ◌<◌, ◌≤◌, ◌^◌, true};
 ghost use Rattle.std.specs.Option.{ForSome};
-ghost use Rattle.pfs_engine_machine.specs.Runs.{IsInOrder};
+ghost use Rattle.pfs_engine_machine.specs.Runs.{AreAllowed, IsInOrder};
+ghost use Rattle.pfs_engine_machine.specs.Machine.{MayCome, MayExpire};
 
 use crate::packets::{A1, A2, Sent, packet};
 use crate::telling::{Stop, begin, begin_free, end, plain, refused};
 use crate::texts::{CONNECTIONS, FULL, NODES, OVERLOAD};
 use pfs_addr::{Addr, Packet};
-use pfs_conf::{RuleNo, load};
+use pfs_conf::{Config, RuleNo, TableNo, load};
 use pfs_engine::{Added, Engine, Event, Limit, Outcome, What};
 use pfs_store::{IndexStore, PlainStore, Store};
 use std::hash::{BuildHasherDefault, FoldHasher};
@@ -292,6 +293,9 @@ fn run_once<S: Store>(
     if !is_in_order(engine.last(), events) || engine.taken() > 1_000 || events.len() > 1_000 {
         return Err(Stop::Input);
     }
+    if !are_allowed(engine.config(), events) {
+        return Err(Stop::Input);
+    }
     begin(rt, "run")?;
     let answer = engine.run(events, outcomes);
     end(rt)?;
@@ -333,5 +337,29 @@ fn is_in_order(last: Option<u64>, events: &[Event]) -> bool
         [event, rest @ ..] => {
             is_in_time(last, event.time) && is_in_order(Some(event.time), rest)
         }
+    }
+}
+
+fn may_expire(config: &Config, table: TableNo) -> bool
+    ensures { result ≡ true → MayExpire config.now table.0 }
+{
+    table.0 < config.table_count() && !config.is_const(table)
+}
+
+fn may_come(config: &Config, what: &What) -> bool
+    ensures { result ≡ true → MayCome config.now what.now }
+{
+    match what {
+        What::Expire { table, .. } => may_expire(config, *table),
+        _ => true,
+    }
+}
+
+fn are_allowed(config: &Config, events: &[Event]) -> bool
+    ensures { result ≡ true → AreAllowed config.now events.now }
+{
+    match events {
+        [] => true,
+        [event, rest @ ..] => may_come(config, &event.what) && are_allowed(config, rest),
     }
 }

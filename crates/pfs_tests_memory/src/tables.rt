@@ -173,7 +173,7 @@ fn add_free(rt: &HostRuntime, tables: &mut Tables, number: u8, wanted: Added) ->
     ensures { length tables.new.entries ≡ length tables.old.entries }
 {
     begin_free(rt, "add_host with room, held or full")?;
-    let answer = tables.add_host(TableNo(0), host(number));
+    let answer = tables.add_host(TableNo(0), host(number), 5);
     end(rt)?;
     let count = if wanted == Added::Full {
         number
@@ -189,7 +189,7 @@ fn add(rt: &HostRuntime, tables: &mut Tables, number: u8) -> Result<bool, Stop>
     ensures { length tables.new.entries ≡ length tables.old.entries }
 {
     begin(rt, "add_host")?;
-    let answer = tables.add_host(TableNo(0), host(number));
+    let answer = tables.add_host(TableNo(0), host(number), 5);
     end(rt)?;
     match answer {
         Ok(added) => plain(
