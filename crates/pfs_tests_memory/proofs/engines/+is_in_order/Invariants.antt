@@ -1,4 +1,4 @@
-use Rattle.std.proofs.Common.{ℕ, length}
+use Rattle.std.proofs.Common.{length}
 use Rattle.pfs_tests_memory.proofs.engines.+is_in_order.Given as goal
 
 -- the events that are left
