@@ -76,6 +76,7 @@ fn four(text: &[u8]) -> Option<(Addr, &[u8])>
     Some((Addr::V4([a, b, c, d]), text))
 }
 
+#[inline(always)]
 fn behind_dot(text: &[u8]) -> Option<&[u8]>
     ensures { option_copied result ≡ read_byte 46 text.now }
 {
@@ -86,6 +87,7 @@ fn behind_dot(text: &[u8]) -> Option<&[u8]>
 }
 
 // A number of 0 to 255 without a zero in front, and what stands behind it, which is no digit.
+#[inline(always)]
 fn octet(text: &[u8]) -> Option<(u8, &[u8])>
     ensures { read_view (λ n. n) result ≡ read_octet text.now }
 {
@@ -109,6 +111,7 @@ fn octet(text: &[u8]) -> Option<(u8, &[u8])>
 }
 
 // The digit at the front of a text, and what stands behind it.
+#[inline(always)]
 fn digit(text: &[u8]) -> Option<(u8, &[u8])>
     ensures { MatchOption result (stops text.now ≡ true) (λ p. (p.0 < 10) × (text.now ≡ (48 + p.0) ∷ p.1.now)) }
 {
