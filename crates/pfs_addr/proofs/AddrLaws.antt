@@ -9,7 +9,7 @@ use Rattle.pfs_addr.specs.declared.addresses.Addr.{Addr}
 use Rattle.pfs_addr.specs.declared.addresses.Addr.TheVariants.{V4}
 
 -- std's dotted texts are the texts of addresses
-dotted_spelled : (bytes : List ℕ) → IsAddr (V4 bytes) → IsDotted (dotted bytes) bytes
+pub dotted_spelled : (bytes : List ℕ) → IsAddr (V4 bytes) → IsDotted (dotted bytes) bytes
 dotted_spelled (a ∷ b ∷ c ∷ d ∷ []) h =
     let at : (i : ℕ) → i < 4 → get_or (a ∷ b ∷ c ∷ d ∷ []) i 0 < 256 = λ i lt. All-get_or (λ b. b < 256) (a ∷ b ∷ c ∷ d ∷ []) i 0 lt h.1 in
     record {

@@ -6,3 +6,4 @@ pub mod PrefixLaws
 pub mod SameLaws
 pub mod TextLaws
 pub mod PieceLaws
+mod QuadLaws

@@ -3,6 +3,7 @@ pub mod FlagSets
 pub mod Keys
 pub mod Names
 pub mod Numbers
+pub mod Octets
 pub mod Packets
 pub mod Padding
 pub mod PrefixParts

@@ -1,7 +1,10 @@
 // Addresses, their texts, and the bits that prefixes compare.
 
-ghost use Rattle.std.specs.Prelude.{◌≡◌, ◌≤◌, ◌<◌, ◌+◌, ◌++◌, [], ◌∷◌, ℕ, Some, IfSome, OnOk, OnErr, decimal, length, vec_len};
+ghost use Rattle.std.specs.Prelude.{◌≡◌, ◌≤◌, ◌<◌, ◌+◌, ◌++◌, [], ◌∷◌, ℕ, Some, IfSome, MatchOption, OnOk, true, OnErr, decimal, length, vec_len};
 ghost use Rattle.std.specs.Vec.{vec_capacity};
+ghost use Rattle.std.specs.Net.Reader.{read_byte, read_ipv4, read_octet, read_view};
+ghost use Rattle.std.specs.Option.{option_copied};
+ghost use Rattle.pfs_addr.specs.Octets.{stops};
 ghost use Rattle.pfs_addr.specs.Texts.{addr_of};
 ghost use Rattle.pfs_addr.specs.Addresses.{IsAddr, addr_text, bytes_of, dotted, width_of};
 ghost use Rattle.std.proofs.Common.{rules};
@@ -9,7 +12,6 @@ ghost use Rattle.std.specs.Cmp.Rules.{hashing};
 
 use crate::memory::NoMemory;
 use std::hash::{Hash, Hasher};
-use std::net::Ipv4Addr;
 
 /// An address of a packet's end.
 #[derive(Debug, Clone, Copy, PartialEq, Eq, PartialOrd, Ord)]
@@ -56,9 +58,66 @@ fn quad(text: &[u8]) -> Option<Addr>
     ensures reads { IfSome result (λ a. IsAddr a × (text.now ≡ addr_text a)) }
     ensures only { (a : Addr) → IsAddr a → text.now ≡ addr_text a → result ≡ Some a }
 {
-    match Ipv4Addr::parse_ascii(text) {
-        Ok(address) => Some(Addr::V4(address.octets())),
-        Err(_) => None,
+    let Some((addr, rest)) = four(text) else {
+        return None;
+    };
+    if rest.is_empty() { Some(addr) } else { None }
+}
+
+// Four bytes in decimal with dots between them, and what stands behind them.
+#[tactic(auto, unfolding(std::specs::Net::Reader::read_ipv4))]
+fn four(text: &[u8]) -> Option<(Addr, &[u8])>
+    ensures { read_view bytes_of result ≡ read_ipv4 text.now }
+{
+    let (a, text) = octet(text)?;
+    let (b, text) = octet(behind_dot(text)?)?;
+    let (c, text) = octet(behind_dot(text)?)?;
+    let (d, text) = octet(behind_dot(text)?)?;
+    Some((Addr::V4([a, b, c, d]), text))
+}
+
+#[inline(always)]
+fn behind_dot(text: &[u8]) -> Option<&[u8]>
+    ensures { option_copied result ≡ read_byte 46 text.now }
+{
+    match text {
+        [b'.', rest @ ..] => Some(rest),
+        _ => None,
+    }
+}
+
+// A number of 0 to 255 without a zero in front, and what stands behind it, which is no digit.
+#[inline(always)]
+fn octet(text: &[u8]) -> Option<(u8, &[u8])>
+    ensures { read_view (λ n. n) result ≡ read_octet text.now }
+{
+    let Some((a, rest)) = digit(text) else {
+        return None;
+    };
+    let Some((b, rest_of_two)) = digit(rest) else {
+        return Some((a, rest));
+    };
+    if a == 0 {
+        return None;
+    }
+    let Some((c, rest)) = digit(rest_of_two) else {
+        return Some((a * 10 + b, rest_of_two));
+    };
+    let number = u16::from(a) * 100 + u16::from(b) * 10 + u16::from(c);
+    match digit(rest) {
+        None if number <= 255 => Some((number as u8, rest)),
+        _ => None,
+    }
+}
+
+// The digit at the front of a text, and what stands behind it.
+#[inline(always)]
+fn digit(text: &[u8]) -> Option<(u8, &[u8])>
+    ensures { MatchOption result (stops text.now ≡ true) (λ p. (p.0 < 10) × (text.now ≡ (48 + p.0) ∷ p.1.now)) }
+{
+    match text {
+        [first, rest @ ..] if matches!(*first, b'0'..=b'9') => Some((*first - b'0', rest)),
+        _ => None,
     }
 }
 

@@ -1,12 +1,27 @@
-use Rattle.std.proofs.Common.{Some, ap, ◌∙◌}
+use Rattle.std.proofs.Common.{◌≡◌, Some, ap, arith, subst}
+use Rattle.std.proofs.lemmas.Bool.Decides.{nat_tests}
+use Rattle.std.specs.Net.Reader.{read_ipv4, read_view}
+use Rattle.pfs_addr.specs.Addresses.{bytes_of}
 use Rattle.pfs_addr.specs.declared.addresses.Addr.{Addr}
-use Rattle.pfs_addr.specs.declared.addresses.Addr.TheVariants.{V4}
-use Rattle.pfs_addr.proofs.AddrLaws.{same_addr_read, addr_read}
+use Rattle.pfs_addr.proofs.QuadLaws.{addr-only, addr-reads, quad-none}
 use Rattle.pfs_addr.proofs.addresses.quad.Goals as goal
 
-pub returns-in-Ok-clause-only : goal.returns-in-Ok-clause-only
-returns-in-Ok-clause-only c a h e =
-    ap (λ (x : Addr). Some x) (ap V4 c.octets.ensures ∙ same_addr_read _ _ a c.in-Ok.ensures h e)
+pub returns-in_default-clause-only : goal.returns-in_default-clause-only
+returns-in_default-clause-only c a h is =
+    absurd (quad-none c.args.text.now a (subst (λ r. read_view bytes_of r ≡ read_ipv4 c.args.text.now) c.in_default.is c.four.ensures) h is)
 
-pub returns-in-Err-clause-only : goal.returns-in-Err-clause-only
-returns-in-Err-clause-only c a h e = absurd (addr_read _ a c.in-Err.ensures h e)
+pub returns-then-is_empty-clause-reads : goal.returns-then-is_empty-clause-reads
+returns-then-is_empty-clause-reads c =
+    let read = subst (λ r. read_view bytes_of r ≡ read_ipv4 c.args.text.now) c.in-Some.is c.four.ensures in
+    addr-reads c.args.text.now c.in-Some.rest.now c.in-Some.addr read (grind (arith, nat_tests))
+
+pub returns-then-is_empty-clause-only : goal.returns-then-is_empty-clause-only
+returns-then-is_empty-clause-only c a h is =
+    let read = subst (λ r. read_view bytes_of r ≡ read_ipv4 c.args.text.now) c.in-Some.is c.four.ensures in
+    ap (λ (x : Addr). Some x) (addr-only c.args.text.now c.in-Some.rest.now c.in-Some.addr a read h is).0
+
+pub returns-else-is_empty-clause-only : goal.returns-else-is_empty-clause-only
+returns-else-is_empty-clause-only c a h is =
+    let read = subst (λ r. read_view bytes_of r ≡ read_ipv4 c.args.text.now) c.in-Some.is c.four.ensures in
+    let none = (addr-only c.args.text.now c.in-Some.rest.now c.in-Some.addr a read h is).1 in
+    absurd (grind (arith, nat_tests))
