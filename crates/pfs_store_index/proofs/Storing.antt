@@ -1,16 +1,19 @@
 -- The world of a store after each change of what is held, and what every store keeps.
-use Rattle.std.proofs.Common.{◌≡◌, ◌∙◌, ◌+◌, ◌-◌, ◌<◌, ◌≤◌, ◌==◌, ◌&&◌, ◌||◌, ℕ, nat_lt, Bool, true, false, not, if◌then◌else◌, Option, Some, None, is_some, List, [], ◌∷◌, ◌++◌, length, map, filter, take, drop, slice_get, refl, ap, sym, subst, arith}
+use Rattle.std.proofs.Common.{◌≡◌, ◌∙◌, ◌+◌, ◌-◌, ◌<◌, ◌≤◌, ◌==◌, ◌&&◌, ◌||◌, ℕ, nat_lt, Bool, true, false, not, if◌then◌else◌, Option, Some, None, is_some, List, [], ◌∷◌, ◌++◌, length, map, filter, take, drop, slice_get, slice_index, refl, ap, sym, subst, arith}
 use Rattle.std.specs.List.{AllByRecursion}
 use Rattle.std.proofs.lemmas.Bool.Decides.{nat_tests}
+use Rattle.std.proofs.lemmas.Option.{slice_get_past}
 use Rattle.pfs_addr.specs.Packets.{Header}
 use Rattle.pfs_addr.specs.declared.addresses.Addr.{Addr}
-use Rattle.pfs_conf_rules.specs.Configs.{Conf}
+use Rattle.pfs_conf_rules.specs.Configs.{Conf, rule_timeout_of}
+use Rattle.pfs_conf_rules.specs.declared.timeouts.TimeoutName.TheVariants.{AdaptiveEnd, AdaptiveStart}
 use Rattle.pfs_conf_rules.specs.declared.actions.Rate.{Rate}
 use Rattle.pfs_conf_rules.specs.declared.items.RuleNo.{RuleNo}
-use Rattle.pfs_track.specs.Lifetimes.{is_expired, scaled_lifetime}
+use Rattle.pfs_track.specs.Lifetimes.{is_expired, scaled_by, scaled_lifetime, value_for}
+use Rattle.pfs_track.specs.StatePhases.{slot}
 use Rattle.pfs_track.specs.Scores.{score_after}
 use Rattle.pfs_store_plain.specs.Admission.{new_node, nodes_with}
-use Rattle.pfs_store_plain.specs.Counts.{has_node, is_node, is_of_source, node_scope_of, node_states, source_states}
+use Rattle.pfs_store_plain.specs.Counts.{has_node, is_node, is_of_source, node_scope_of, node_states, rule_states, source_states}
 use Rattle.pfs_store_plain.specs.Leaving.{idled, is_flushed, stays_unflushed, without}
 use Rattle.pfs_store_plain.specs.Plain.{AreCounts}
 use Rattle.pfs_store_plain.specs.Purging.{has_expired, is_among, node_numbers, node_share, node_slice, node_stays, round, state_numbers, state_share, state_slice, stays}
@@ -22,8 +25,7 @@ use Rattle.pfs_store_plain.specs.declared.records.State.{State}
 use Rattle.pfs_store_records.specs.Records.{IsAbove, between}
 use Rattle.pfs_store_index.specs.Holdings.{Holding}
 use Rattle.pfs_store_index.specs.Rounds.{waiting}
-use Rattle.pfs_store_index.specs.Stored.{IsNumbered, IsStored, is_due, world_of}
-use Rattle.pfs_store_index.specs.Ties.{HasRule}
+use Rattle.pfs_store_index.specs.Stored.{AreUnread, IsNumbered, IsStored, has_pair, is_due, world_of}
 use Rattle.pfs_store_index.proofs.Leavings.{state_number}
 use Rattle.pfs_store_index.proofs.Meetings.{blind, map-blind}
 use Rattle.pfs_store_index.proofs.Searches.{all-push, map-push}
@@ -176,7 +178,8 @@ stored-without p now h h' c m c' m' c2 m2 made places g e f i l k = record {
   few = i.few;
   numbered = subst (λ xs. IsNumbered made (state_numbers xs)) (sym e) (numbered-filter (λ (s : State). s.number) p made h.states i.numbered);
   node_numbered = subst (IsNumbered made) (sym (ap node_numbers f ∙ numbers-idled h.config h.states h'.states now h.nodes)) i.node_numbered;
-  places = i.places ∙ ap (λ (conf : Conf). length conf.items) (sym g);
+  places = subst (λ (conf : Conf). places ≤ length conf.items) (sym g) i.places;
+  unread = subst (λ (conf : Conf). AreUnread conf places) (sym g) i.unread;
 }
 
 -- ---- a slice of the states
@@ -215,7 +218,8 @@ stored-nodes p h h' c m c' m' c2 m2 made places g e f i l k = record {
   few = i.few;
   numbered = subst (λ xs. IsNumbered made (state_numbers xs)) (sym e) i.numbered;
   node_numbered = subst (λ ns. IsNumbered made (node_numbers ns)) (sym f) (numbered-filter (λ (n : Node). n.number) p made h.nodes i.node_numbered);
-  places = i.places ∙ ap (λ (conf : Conf). length conf.items) (sym g);
+  places = subst (λ (conf : Conf). places ≤ length conf.items) (sym g) i.places;
+  unread = subst (λ (conf : Conf). AreUnread conf places) (sym g) i.unread;
 }
 
 -- ---- a packet of a state
@@ -240,7 +244,8 @@ stored-touched s p now h h' c m c' m' made places g e f i = record {
   few = i.few;
   numbered = subst (IsNumbered made) (sym (ap state_numbers e ∙ numbers-renewed s.number p now h.states)) i.numbered;
   node_numbered = subst (IsNumbered made) (sym (ap node_numbers f ∙ same (completes_at p s))) i.node_numbered;
-  places = i.places ∙ ap (λ (conf : Conf). length conf.items) (sym g);
+  places = subst (λ (conf : Conf). places ≤ length conf.items) (sym g) i.places;
+  unread = subst (λ (conf : Conf). AreUnread conf places) (sym g) i.unread;
 }
   where
     same : (b : Bool) → node_numbers (nodes_touched h.config h.nodes s now b) ≡ node_numbers h.nodes
@@ -291,7 +296,8 @@ stored-came s h h' c m c' m' made places l i n g e f = record {
   numbered = subst (IsNumbered (made + 1)) (sym (ap state_numbers e ∙ map-push (λ (x : State). x.number) s h.states ∙ ap (λ k. state_numbers h.states ++ k ∷ []) n)) (grown (state_numbers h.states) i.numbered);
   node_numbered = subst (λ ns. IsNumbered (made + 1) (node_numbers ns)) (sym f)
       (numbers-with h.nodes (made + 1) s.source (node_scope_of h.config s.rule.0) (IsNumbered (made + 1)) (numbered-later made (node_numbers h.nodes) i.node_numbered) (grown (node_numbers h.nodes) i.node_numbered));
-  places = i.places ∙ ap (λ (conf : Conf). length conf.items) (sym g);
+  places = subst (λ (conf : Conf). places ≤ length conf.items) (sym g) i.places;
+  unread = subst (λ (conf : Conf). AreUnread conf places) (sym g) i.unread;
 }
   where
     grown : (numbers : List ℕ) → IsNumbered made numbers → IsNumbered (made + 1) (numbers ++ (made + 1) ∷ [])
@@ -299,23 +305,71 @@ stored-came s h h' c m c' m' made places l i n g e f = record {
 
 -- ---- a slice under the counts before it
 
-due-expired : (conf : Conf) (counts : List ℕ) (xs : List State) (now : ℕ) (s : State) → AreCounts counts xs → s.rule.0 < length counts
+-- a count that is not read changes nothing
+unread-same : (conf : Conf) (life a b all : ℕ) (start end : Option ℕ) → is_some start ≡ false → scaled_by conf life a all start end ≡ scaled_by conf life b all start end
+unread-same conf life a b all (Some start) end h = absurd cc
+unread-same conf life a b all None end h = refl
+
+is_less : (n m : ℕ) → nat_lt n m ≡ true → n < m
+is_less n m h = grind (arith, nat_tests)
+
+is_not_less : (n m : ℕ) → nat_lt n m ≡ false → m ≤ n
+is_not_less n m h = grind (arith, nat_tests)
+
+due-expired : (conf : Conf) (counts : List ℕ) (xs : List State) (now : ℕ) (s : State) → AreCounts counts xs → AreUnread conf (length counts)
     → is_due conf counts (length xs) now s ≡ has_expired conf xs now s
-due-expired conf counts xs now s h l = ap (λ count. is_expired (scaled_lifetime conf s.rule.0 s.phase count (length xs)) s.last now) (h s.rule.0 l)
+due-expired conf counts xs now s h u = ap (λ seconds. is_expired seconds s.last now) (go (nat_lt s.rule.0 (length counts)) refl)
+  where
+    go : (b : Bool) → nat_lt s.rule.0 (length counts) ≡ b
+        → scaled_lifetime conf s.rule.0 s.phase (slice_index counts s.rule.0) (length xs) ≡ scaled_lifetime conf s.rule.0 s.phase (rule_states s.rule.0 xs) (length xs)
+    go true t = ap (λ count. scaled_lifetime conf s.rule.0 s.phase count (length xs)) (h s.rule.0 (is_less s.rule.0 (length counts) t))
+    go false t =
+        unread-same conf (value_for conf s.rule.0 (slot s.phase)) (slice_index counts s.rule.0) (rule_states s.rule.0 xs) (length xs)
+        (rule_timeout_of conf s.rule.0 AdaptiveStart) (rule_timeout_of conf s.rule.0 AdaptiveEnd) (u s.rule.0 (is_not_less s.rule.0 (length counts) t))
 
 filter-agree : (p q : State → Bool) (xs : List State) → AllByRecursion (λ x. p x ≡ q x) xs → filter p xs ≡ filter q xs
 filter-agree p q [] h = refl
 filter-agree p q (x ∷ xs) (h, hs) = (λ i. if h i then x ∷ filter-agree p q xs hs i else filter-agree p q xs hs i)
 
-pub due-stays : (conf : Conf) (counts : List ℕ) (all : List State) (now : ℕ) (examined : List ℕ) (xs : List State) → AreCounts counts all → AllByRecursion (HasRule (length counts)) xs
+pub due-stays : (conf : Conf) (counts : List ℕ) (all : List State) (now : ℕ) (examined : List ℕ) (xs : List State) → AreCounts counts all → AreUnread conf (length counts)
     → filter (stays_by state_number (is_due conf counts (length all) now) examined) xs ≡ filter (stays conf all now examined) xs
-due-stays conf counts all now examined xs h r =
-    filter-agree (stays_by state_number (is_due conf counts (length all) now) examined) (stays conf all now examined) xs (each xs r)
+due-stays conf counts all now examined xs h u =
+    filter-agree (stays_by state_number (is_due conf counts (length all) now) examined) (stays conf all now examined) xs (each xs)
   where
-    each : (ys : List State) → AllByRecursion (HasRule (length counts)) ys
-        → AllByRecursion (λ (y : State). stays_by state_number (is_due conf counts (length all) now) examined y ≡ stays conf all now examined y) ys
-    each [] k = tt
-    each (y ∷ ys) (k, ks) = (ap (λ b. not (is_among examined y.number && b)) (due-expired conf counts all now y h k), each ys ks)
+    each : (ys : List State) → AllByRecursion (λ (y : State). stays_by state_number (is_due conf counts (length all) now) examined y ≡ stays conf all now examined y) ys
+    each [] = tt
+    each (y ∷ ys) = (ap (λ b. not (is_among examined y.number && b)) (due-expired conf counts all now y h u), each ys)
+
+-- ---- the rules whose counts are read
+
+pub read-within : (b : Bool) (rule read : ℕ) → read ≤ rule → (if b then rule + 1 else read) ≤ rule + 1
+read-within true rule read l = omega arith
+read-within false rule read l = omega (arith, l)
+
+pub read-more : (has : ℕ → Bool) (rule read : ℕ) → ((r : ℕ) → read ≤ r → r < rule → has r ≡ false) → (r : ℕ) → (if has rule then rule + 1 else read) ≤ r → r < rule + 1 → has r ≡ false
+read-more has rule read u r l m = go (has rule) refl l
+  where
+    same : (n k : ℕ) → (n == k) ≡ true → n ≡ k
+    same n k e = grind (arith, nat_tests)
+
+    less : (n k : ℕ) → n < k + 1 → (n == k) ≡ false → n < k
+    less n k l e = grind (arith, nat_tests)
+
+    go : (b : Bool) → has rule ≡ b → (if b then rule + 1 else read) ≤ r → has r ≡ false
+    go true t l = absurd (omega (arith, l, m))
+    go false t l = here (r == rule) refl
+      where
+        here : (c : Bool) → (r == rule) ≡ c → has r ≡ false
+        here true e = ap has (same r rule e) ∙ t
+        here false e = u r l (less r rule m e)
+
+-- no rule is past the last one
+pub read-all : (conf : Conf) (read : ℕ) → ((r : ℕ) → read ≤ r → r < length conf.items → has_pair conf r ≡ false) → AreUnread conf read
+read-all conf read u r l = go (nat_lt r (length conf.items)) refl
+  where
+    go : (b : Bool) → nat_lt r (length conf.items) ≡ b → has_pair conf r ≡ false
+    go true t = u r l (is_less r (length conf.items) t)
+    go false t = rw (slice_get_past conf.items r (is_not_less r (length conf.items) t)) refl
 
 -- ---- the states of a source
 

@@ -1,7 +1,8 @@
 -- A store of what is held, and of two rounds of the purge, each of which is two numbers. (own)
-use Rattle.std.specs.Prelude.{ℕ, ◌≡◌, ◌≤◌, Bool, List, length, slice_index}
+use Rattle.std.specs.Prelude.{ℕ, ◌≡◌, ◌≤◌, Bool, false, is_some, List, length, slice_index}
 use Rattle.std.specs.List.{AllByRecursion}
-use Rattle.pfs_conf_rules.specs.Configs.{Conf}
+use Rattle.pfs_conf_rules.specs.Configs.{Conf, rule_timeout_of}
+use Rattle.pfs_conf_rules.specs.declared.timeouts.TimeoutName.TheVariants.{AdaptiveStart}
 use Rattle.pfs_track.specs.Lifetimes.{is_expired, scaled_lifetime}
 use Rattle.pfs_store_plain.specs.Purging.{node_numbers, state_numbers}
 use Rattle.pfs_store_plain.specs.Worlds.{World, lists}
@@ -22,6 +23,14 @@ world_of h cursor mark node_cursor node_mark made =
 abbrev pub is_due : Conf → List ℕ → ℕ → ℕ → State → Bool
 is_due conf counts held now s = is_expired (scaled_lifetime conf s.rule.0 s.phase (slice_index counts s.rule.0) held) s.last now
 
+-- a rule scales the lifetimes of its states by a pair of its own, under the count of its states
+abbrev pub has_pair : Conf → ℕ → Bool
+has_pair conf rule = is_some (rule_timeout_of conf rule AdaptiveStart)
+
+-- no rule but the first ones has such a pair
+abbrev pub AreUnread : Conf → ℕ → Type 0
+AreUnread conf first = (rule : ℕ) → first ≤ rule → has_pair conf rule ≡ false
+
 -- what every store keeps
 pub record IsStored (h : Holding) (cursor mark node_cursor node_mark made room : ℕ) : Type 0 where
   pub order : cursor ≤ mark
@@ -31,4 +40,5 @@ pub record IsStored (h : Holding) (cursor mark node_cursor node_mark made room :
   pub few : made ≤ 1000000000
   pub numbered : IsNumbered made (state_numbers h.states)
   pub node_numbered : IsNumbered made (node_numbers h.nodes)
-  pub places : room ≡ length h.config.items
+  pub places : room ≤ length h.config.items
+  pub unread : AreUnread h.config room

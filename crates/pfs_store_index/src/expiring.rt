@@ -1,9 +1,9 @@
 //! Which states have expired at a second, under the counts by which their lifetimes are scaled.
 
-ghost use Rattle.std.specs.Prelude.{◌≡◌, slice_index};
-ghost use Rattle.pfs_store_index.specs.Stored.{is_due};
+ghost use Rattle.std.specs.Prelude.{◌≡◌, ◌+◌, ◌-◌, ◌<◌, ◌≤◌, ◌^◌, if◌then◌else◌, length, slice_index};
+ghost use Rattle.pfs_store_index.specs.Stored.{AreUnread, has_pair, is_due};
 
-use pfs_conf_rules::Config;
+use pfs_conf_rules::{Config, RuleNo, TimeoutName};
 use pfs_store_plain::State;
 use pfs_store_records::StateTest;
 use pfs_track::{is_expired, lifetime};
@@ -34,5 +34,35 @@ fn count_at(counts: &[u64], place: usize) -> u64
         counts[place]
     } else {
         0
+    }
+}
+
+/// How many of the first rules are those up to the last that has an adaptive pair of its own: the rules whose counts of states
+/// a slice may read.
+pub(crate) fn counted_rules(config: &Config) -> usize
+    ensures within { result ≤ length config.now.items }
+    ensures unread { AreUnread config.now result }
+{
+    let rules = config.item_count();
+    let mut read = 0;
+    let mut rule = 0;
+    while rule < rules {
+        read = counted_after(config, rule, read);
+        rule += 1;
+    }
+    read as usize
+}
+
+fn counted_after(config: &Config, rule: u32, read: u32) -> u32
+    requires { rule < 2 ^ 32 - 1 }
+    ensures { result ≡ (if has_pair config.now rule then rule + 1 else read) }
+{
+    if config
+        .rule_timeout(RuleNo(rule), TimeoutName::AdaptiveStart)
+        .is_some()
+    {
+        rule + 1
+    } else {
+        read
     }
 }

@@ -10,7 +10,7 @@ ghost use Rattle.pfs_store_plain.specs.Plain.{AreCounts};
 ghost use Rattle.pfs_store_plain.specs.Purging.{is_over, node_numbers, node_retention, node_stays, round, share, state_numbers, stays};
 ghost use Rattle.pfs_store_records.specs.Records.{IsRising};
 ghost use Rattle.pfs_store_records.specs.Walks.{IsWalk, looks_of};
-ghost use Rattle.pfs_store_index.specs.Stored.{IsNumbered, is_due};
+ghost use Rattle.pfs_store_index.specs.Stored.{AreUnread, IsNumbered, is_due};
 ghost use Rattle.pfs_store_index.specs.Rounds.{node_survives, states_survive, waiting};
 
 use crate::expiring::Due;
@@ -74,7 +74,8 @@ pub(crate) fn state_round<S: BuildHasher>(indexes: &Indexes<S>, begun: Round, ma
     }
 }
 
-/// Examines the next states of a round, so many at most. The counts of the rules are those before the walk.
+/// Examines the next states of a round, so many at most. The counts are those of the first rules before the walk, and of all
+/// that scale by their own.
 pub(crate) fn walk_states<S: BuildHasher>(
     indexes: &mut Indexes<S>,
     counts: &[u64],
@@ -87,7 +88,7 @@ pub(crate) fn walk_states<S: BuildHasher>(
     requires share { share ≤ 2 ^ 32 }
     requires room { meter.old ≤ 2 ^ 63 }
     requires counts { AreCounts counts.now indexes.old.states }
-    requires size { length counts.now ≡ length indexes.old.config.items }
+    requires unread { AreUnread indexes.old.config (length counts.now) }
     ensures config { indexes.new.config ≡ indexes.old.config }
     ensures examined { result.examined ≡ length (take share (waiting round.cursor round.mark (state_numbers indexes.old.states))) }
     ensures states { indexes.new.states

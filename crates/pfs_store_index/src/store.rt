@@ -3,6 +3,7 @@
 ghost use Rattle.std.specs.Prelude.{◌≡◌, IfOk, true};
 ghost use Rattle.pfs_store_plain.specs.Worlds.{empty_world};
 
+use crate::expiring::counted_rules;
 use crate::flushing::flush;
 use crate::indexes::Indexes;
 use crate::limits::limit_met;
@@ -76,7 +77,7 @@ impl<S: BuildHasher> IndexStore<S> {
         S: Drop,
         ensures { IfOk result (λ s. s ≡ record { config = config.now; world = empty_world }) }
     {
-        let counts = vec![in alloc; 0; config.item_count() as usize]?;
+        let counts = vec![in alloc; 0; counted_rules(config)]?;
         Ok(IndexStore {
             indexes: Indexes::new(alloc, config.copy()?, by_key, by_source)?,
             made: 0,
@@ -171,7 +172,9 @@ impl<S: BuildHasher> Store for IndexStore<S> {
 
     fn purge_states(&mut self, now: u64, meter: &mut Meter) -> Slice {
         let _count = self.indexes.state_count();
-        self.counts.copy_from_slice(self.indexes.rule_counts());
+        let read = self.counts.len();
+        let counts = self.indexes.rule_counts();
+        self.counts.copy_from_slice(&counts[..read]);
         let config = self.indexes.config();
         let share = share_of(config, config.limit(LimitName::States));
         let round = state_round(&self.indexes, self.states_round, self.made);

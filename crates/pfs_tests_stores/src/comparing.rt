@@ -279,7 +279,7 @@ fn both_stores_answer_alike(rt: HostRuntime) -> Result<(), Fail> {
     let config = configured(&rt)?;
     let mut plain = PlainStore::new(rt.alloc(), &config)?;
     let mut indexed = IndexStore::new(rt.alloc(), &config)?;
-    compare(&rt, &mut plain, &mut indexed, &config, 3000)?;
+    compare(&rt, &mut plain, &mut indexed, &config, 20_000)?;
     assert!(rt; plain.made() > 100);
     Ok(())
 }

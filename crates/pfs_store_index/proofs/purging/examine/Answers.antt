@@ -1,4 +1,4 @@
-use Rattle.std.proofs.Common.{◌≡◌, ◌∙◌, ◌+◌, ◌≤◌, sym, ap, subst, filter}
+use Rattle.std.proofs.Common.{◌∙◌, ◌+◌, ◌≤◌, sym, ap, subst, filter}
 use Rattle.pfs_store_plain.specs.Leaving.{other_than}
 use Rattle.pfs_store_plain.specs.Purging.{state_numbers}
 use Rattle.pfs_store_plain.specs.declared.records.State.{State}

@@ -1,6 +1,4 @@
-use Rattle.std.specs.List.{AllByRecursion}
-use Rattle.pfs_store_index.specs.Ties.{HasRule}
-use Rattle.std.proofs.Common.{◌≡◌, ◌∙◌, ◌-◌, ℕ, List, sym, ap, refl, filter, length, take, drop, min, map, arith, subst, length-take, length-drop}
+use Rattle.std.proofs.Common.{◌≡◌, ◌∙◌, ◌-◌, ℕ, List, ap, refl, filter, length, take, drop, min, map, arith, length-take, length-drop}
 use Rattle.std.proofs.lemmas.List.{take_min, drop_min}
 use Rattle.pfs_store_plain.specs.Leaving.{idled}
 use Rattle.pfs_store_plain.specs.Purging.{state_numbers}
@@ -73,9 +71,8 @@ returns-clause-states g c =
     let xs = c.args.indexes.now.states in
     let m = examined-min c.loop-left.examined c.args.share ws (i.ends (omega (arith, c.loop-left-test.false))) in
     let z : take c.loop-left.examined ws ≡ take c.args.share ws = ap (λ k. take k ws) m ∙ take_min c.args.share ws in
-    let r : AllByRecursion (HasRule (length c.args.counts.now)) xs = subst (λ k. AllByRecursion (HasRule k) xs) (sym c.requires.size) c.state_count-held.ensures.ruled in
     i.states ∙ ap (λ zs. filter (stays_by state_number (is_due conf c.args.counts.now (length xs) c.args.now) zs) xs) z
-    ∙ due-stays conf c.args.counts.now xs c.args.now (take c.args.share ws) xs c.requires.counts r
+    ∙ due-stays conf c.args.counts.now xs c.args.now (take c.args.share ws) xs c.requires.counts c.requires.unread
 
 pub returns-clause-waiting : goal.returns-clause-waiting
 returns-clause-waiting g c =

@@ -1,4 +1,4 @@
-use Rattle.std.proofs.Common.{◌≡◌, ◌∙◌, ◌-◌, ◌≤◌, ℕ, List, length-take, ap, length, subst, sym, take, arith, rules}
+use Rattle.std.proofs.Common.{◌≡◌, ◌∙◌, ◌-◌, ◌≤◌, ℕ, List, length-take, ap, length, subst, take, arith, rules}
 use Rattle.pfs_store_plain.specs.Worlds.{World}
 use Rattle.pfs_store_index.specs.Rounds.{waiting}
 use Rattle.pfs_store_index.specs.Stored.{IsStored}
@@ -16,7 +16,7 @@ length-take_le n ns = omega (arith, length-take n ns)
 pub invariant_of-self : goal.invariant_of-self
 invariant_of-self g c =
     let l : length c.self.inside.counts.items ≡ length c.copy_from_slice.new.self.items =
-    c.self.invariant.places ∙ sym c.rule_counts.ensures.size ∙ sym (ap length c.copy_from_slice.ensures.items) in
+    search rules in
     subst (λ n. IsStored c.walk_states-steps.new.indexes c.walk_states-steps.result.cursor c.state_round-round.result.mark c.self.inside.nodes_round.cursor c.self.inside.nodes_round.mark c.self.inside.made n) l
     (stored-without _ c.args.now c.self.inside.indexes c.walk_states-steps.new.indexes _ _ _ _ _ _ _ _ c.walk_states-steps.ensures.config c.walk_states-steps.ensures.states c.walk_states-steps.ensures.nodes c.self.invariant c.walk_states-steps.ensures.order c.state_round-round.ensures.mark)
 
