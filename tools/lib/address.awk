@@ -46,6 +46,22 @@ function prefix_start(text,    part, size, value) {
     return value - value % size
 }
 
+# An IPv6 address, with or without a length, whose last four bytes are written in decimal (`::ffff:192.0.2.1`, RFC 4291, section 2.2)
+# has them as two groups here, as ./pfsrc reads it. Every other text stays as it is.
+function without_dots(text,    tail, value) {
+    if (!match(text, /:[0-9]+\.[0-9]+\.[0-9]+\.[0-9]+(\/|$)/)) return text
+    tail = substr(text, RSTART + 1, RLENGTH - 1)
+    sub(/\/$/, "", tail)
+    value = address_of(tail)
+    if (value < 0) return text
+    return substr(text, 1, RSTART) sprintf("%x:%x", int(value / 65536), value % 65536) substr(text, RSTART + 1 + length(tail))
+}
+
+# Whether this is a prefix of either family.
+function is_prefix(text,    scratch) {
+    return prefix_size(text) > 0 || read_prefix6(text, scratch)
+}
+
 # The 32 hexadecimal digits of an IPv6 address; nothing for a text that is none. A dotted tail is not read.
 function address6_of(text,    half, halves, part, i, count, front, back) {
     text = tolower(text)

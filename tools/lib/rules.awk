@@ -141,9 +141,8 @@ function read_table(    name, parts, listed, i, end) {
 # A table's entry with a comma before it, or nothing where it is left out.
 function entry(text,    sign, host) {
     sign = substr(text, 1, 1) == "!" ? "!" : ""
-    host = substr(text, length(sign) + 1)
-    if (host ~ /:/ && host ~ /^[0-9a-fA-F:.]+(\/[0-9]+)?$/) leave_out("entry " text, "-no record has an IPv6 address")
-    else if (prefix_size(host) == 0) leave_out("entry " text, "+it is no address")
+    host = without_dots(substr(text, length(sign) + 1))
+    if (!is_prefix(host)) leave_out("entry " text, "+it is no address")
     else if (!((sign, host) in has_entry)) {
         has_entry[sign, host] = 1
         return ", " sign host
@@ -168,15 +167,30 @@ function entries_of_file(name, file,    line, listed, part, count, i) {
     return listed
 }
 
+# The addresses of names, by family.
+function read_addresses(text,    part, count, i, name, prefix) {
+    count = split(text, part, " ")
+    for (i = 1; i <= count; i++) {
+        name = part[i]
+        sub(/=.*/, "", name)
+        prefix = without_dots(substr(part[i], length(name) + 2))
+        if (prefix_size(prefix) > 0) address[name] = prefix
+        else if (is_prefix(prefix)) address6[name] = prefix
+        else return name "=" prefix
+    }
+    return ""
+}
+
 BEGIN {
-    read_pairs(addresses, address)
-    read_pairs(interfaces, interface_of)
-    read_pairs(entries, entry_file)
-    for (name in address) if (prefix_size(address[name]) == 0) {
-        printf "rules: --address: '%s' is no prefix\n", address[name] | "cat 1>&2"
+    bad = read_addresses(addresses)
+    if (bad != "") {
+        sub(/^[^=]*=/, "", bad)
+        printf "rules: --address: '%s' is no prefix\n", bad | "cat 1>&2"
         failed = 2
         exit 2
     }
+    read_pairs(interfaces, interface_of)
+    read_pairs(entries, entry_file)
 }
 
 {

@@ -10,7 +10,7 @@ function skip_body() {
 function read_item(    line) {
     line = text_from(1, tokens)
     out = token[1]
-    gone = ""
+    gone = family = ""
     parts_left = 0
     if (token[1] == "}") {
         if (depth-- == 0) refuse("a } too many")
@@ -93,7 +93,7 @@ function read_filter(    word, end) {
     while (at <= tokens && gone == "") {
         word = token[at]
         if (word == "{" && at == tokens) at++
-        else if (word ~ /^(in|out|quick|inet|all)$/) out = out " " token[at++]
+        else if (word ~ /^(in|out|quick|inet|inet6|all)$/) read_word(word)
         else if (word == "log") read_log()
         else if (word == "on") read_interface()
         else if (word == "proto") read_protocol()
@@ -102,6 +102,12 @@ function read_filter(    word, end) {
         else if (word ~ /^(keep|no|modulate|synproxy)$/ && token[at + 1] == "state") read_state()
         else read_other(word)
     }
+}
+
+function read_word(word) {
+    if (word ~ /^inet/) family = word
+    out = out " " word
+    at++
 }
 
 function read_log() {
@@ -161,12 +167,24 @@ function read_side(    sign, host) {
     }
     at++
     if (token[at] == "-") gone = "+it asks for a range of addresses"
-    else if (host == "any" || host ~ /^<[A-Za-z0-9_.-]+>$/ || prefix_size(host) > 0) out = out " " sign host
-    else if (host in address) out = out " " sign address[host]
-    else if (host ~ /:.*:/ || host ~ /^[0-9a-f]*:[0-9a-f:.]*(\/[0-9]+)?$/) gone = "-no record has an IPv6 address"
+    else if (host == "any" || host ~ /^<[A-Za-z0-9_.-]+>$/) out = out " " sign host
+    else if (is_prefix(without_dots(host))) out = out " " sign without_dots(host)
+    else if (host in address || host in address6) read_name(sign, host)
     else if (host ~ /^(no-route|urpf-failed|route)$/) gone = "+a trace does not carry routes"
     else gone = "+the address of " host " is not there; give it with --address " host "=PREFIX"
     if (gone == "" && token[at] == "port") read_port()
+}
+
+# A name whose address was given, in the family of the rule.
+function read_name(sign, host,    has4, has6) {
+    has4 = host in address
+    has6 = host in address6
+    if (family == "inet6" && !has6 || family == "inet" && !has4) {
+        gone = "+the address of " host " for " family " is not there; give it with --address " host "=PREFIX"
+        return
+    }
+    out = out " " sign (family == "inet6" || !has4 ? address6[host] : address[host])
+    if (family == "" && has4 && has6) leave_out("the IPv6 address of " host, "+a rule of no family has one address here")
 }
 
 # `(em0)` and `(em0:network)`; leaves `at` on the closing mark.
@@ -267,8 +285,7 @@ function is_beyond_trace(word) {
 # Everything that ./pfsrc does not read.
 function read_other(word,    last) {
     last = token[at + 1] == "(" ? closing(at + 1) : at + 1
-    if (word == "inet6") gone = "-no record has an IPv6 address"
-    else if (word ~ /^(icmp-type|icmp6-type)$/) gone = "-ICMP is answered by skip"
+    if (word ~ /^(icmp-type|icmp6-type)$/) gone = "-ICMP is answered by skip"
     else if (word == "max-pkt-rate") gone = "+it counts packets, not states"
     else if (word == "probability") gone = "+it matches by chance"
     else if (is_beyond_trace(word) || word == "!" && is_beyond_trace(token[at + 1])) gone = "+a trace does not carry what it asks (" (word == "!" ? token[at + 1] : word) ")"

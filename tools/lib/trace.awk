@@ -30,9 +30,8 @@ function read_fields(line,    part, number) {
     if (part[1] !~ /^[0-9]+(\.[0-9]+)?$/) refuse("the moment is no number: '" substr(part[1], 1, 40) "'")
     packet["time"] = part[1]
     if (part[2] == "" && part[11] == "") return "not IP"
-    if (part[2] == "" && !inet6) return "IPv6"
-    packet["source"] = part[2] != "" ? part[2] : part[11]
-    packet["target"] = part[2] != "" ? part[3] : part[12]
+    packet["source"] = part[2] != "" ? part[2] : without_dots(part[11])
+    packet["target"] = part[2] != "" ? part[3] : without_dots(part[12])
     number = part[2] != "" ? part[4] : part[13]
     if (!is_address(packet["source"]) || !is_address(packet["target"])) refuse("no address")
     if (number_of(number, 255) < 0) refuse("no protocol")
@@ -140,7 +139,7 @@ END {
     line = sprintf("trace: %d packets, %d records", packets, records)
     if (left > 0) line = line sprintf(", %d left out", left)
     print line | "cat 1>&2"
-    count = split("IPv6;not IP;later fragment;cut before its ports or flags;neither in nor out by --inside;no packet of this machine;of a protocol that the line does not tell", reasons, ";")
+    count = split("not IP;later fragment;cut before its ports or flags;neither in nor out by --inside;no packet of this machine;of a protocol that the line does not tell", reasons, ";")
     for (i = 1; i <= count; i++) if (reasons[i] in left_out) printf "trace:   %d %s\n", left_out[reasons[i]], reasons[i] | "cat 1>&2"
     if (lifted > 0) printf "trace: %d records got the moment of the one in front, which was later\n", lifted | "cat 1>&2"
     close("cat 1>&2")

@@ -5,24 +5,29 @@ function is_continuation(line) {
     return packets > 0 && line ~ /^([ \t]|[0-9a-f][0-9a-f]:[0-9a-f][0-9a-f]:[0-9a-f:]* > |IP6? |ARP,)/
 }
 
-function read_tcpdump(line,    rest, place) {
+function read_tcpdump(line,    rest, place, addresses) {
     if (line !~ /^[0-9]+\.[0-9]+ /) refuse("no line of tcpdump -nn -tt, which begins with a moment as 1700000000.123456")
     packet["time"] = substr(line, 1, index(line, " ") - 1)
     rest = read_pflog(substr(line, index(line, " ") + 1))
     rest = read_interface(rest)
     if (packet["direction"] == "other") return "no packet of this machine"
     rest = behind_link(rest)
-    if (match(rest, /^[0-9a-f]*:[0-9a-f]*:[0-9a-f:.]* > [0-9a-f]*:[0-9a-f:.]*: /)) {
-        if (!inet6) return "IPv6"
-    }
-    else if (!match(rest, /^[0-9]+\.[0-9]+\.[0-9]+\.[0-9]+(\.[0-9]+)? > [0-9]+\.[0-9]+\.[0-9]+\.[0-9]+(\.[0-9]+)?: /)) return "not IP"
+    addresses = length_of_addresses(rest)
+    if (addresses == 0) return "not IP"
     place = index(rest, " > ")
     take_end("source", substr(rest, 1, place - 1))
-    take_end("target", substr(rest, place + 3, RLENGTH - place - 4))
+    take_end("target", substr(rest, place + 3, addresses - place - 4))
     if (!is_address(packet["source"]) || !is_address(packet["target"])) refuse("no address")
-    rest = substr(rest, RLENGTH + 1)
+    rest = substr(rest, addresses + 1)
     sub(/^ +/, "", rest)
     return read_protocol(rest)
+}
+
+# How far `source > target: ` goes, of either family; 0 where the line does not begin with it.
+function length_of_addresses(rest) {
+    if (match(rest, /^[0-9a-f]*:[0-9a-f]*:[0-9a-f:.]* > [0-9a-f]*:[0-9a-f:.]*: /)) return RLENGTH
+    if (match(rest, /^[0-9]+\.[0-9]+\.[0-9]+\.[0-9]+(\.[0-9]+)? > [0-9]+\.[0-9]+\.[0-9]+\.[0-9]+(\.[0-9]+)?: /)) return RLENGTH
+    return 0
 }
 
 # The line from its addresses on, without what tcpdump says of the link (-e) and of a packet that is cut.
@@ -62,14 +67,14 @@ function read_interface(rest,    part, word) {
     return rest
 }
 
-# An address with or without a port: behind a fifth dot, or the one dot of an IPv6 address.
+# An address with or without a port: behind a fifth dot, or the one dot of an IPv6 address that has no dots of its own.
 function take_end(name, text,    part, count) {
     count = split(text, part, ".")
-    if (index(text, ":") > 0 ? count == 2 : count == 5) {
+    if (count == 5 || count == 2 && index(text, ":") > 0) {
         packet[name "_port"] = part[count]
         sub(/\.[0-9]+$/, "", text)
     }
-    packet[name] = text
+    packet[name] = without_dots(text)
 }
 
 # The protocol by what tcpdump says of the packet; its name in a trace.
