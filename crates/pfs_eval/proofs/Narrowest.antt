@@ -1,10 +1,9 @@
-use Rattle.std.proofs.Common.{◌≡◌, ◌≢◌, ℕ, ◌+◌, ◌-◌, ◌<◌, ◌≤◌, ◌==◌, suc, Bool, true, false, not, ◌&&◌, ◌||◌, cond, nat_le, List, [], ◌∷◌, ◌++◌, length, Option, Some, None, refl, ap, sym, ◌∙◌, arith, subst, eq-eqb}
-use Rattle.std.specs.Prelude.{All, is_some, slice_index_or}
+use Rattle.std.proofs.Common.{◌≡◌, ◌≢◌, ℕ, ◌+◌, ◌-◌, ◌<◌, ◌≤◌, ◌==◌, suc, Bool, true, false, not, ◌&&◌, ◌||◌, cond, nat_le, nat_lt, List, [], ◌∷◌, ◌++◌, Option, Some, None, refl, ap, sym, ◌∙◌, arith, subst, eq-eqb}
+use Rattle.std.specs.Prelude.{All, is_some, max, replicate}
 use Rattle.std.specs.Map.{lookup}
 use Rattle.indexmap.specs.IndexMap.{insert_entry}
 use Rattle.std.proofs.lemmas.List.Elements.{All-append, All-cons, All-head, All-nil, All-tail}
-use Rattle.std.proofs.Math.ListN.{length-set, set}
-use Rattle.std.proofs.lemmas.List.{get_or-set_other, get_or-set_same}
+use Rattle.std.proofs.lemmas.List.{get_or-replicate}
 use Rattle.std.proofs.lemmas.Bool.Decides.{nat_tests}
 use Rattle.std.proofs.lemmas.Bool.{cond-true, cond-false, false≢true}
 use Rattle.pfs_addr.specs.declared.addresses.Addr.{Addr}
@@ -14,6 +13,8 @@ use Rattle.pfs_addr.specs.Prefixes.{Network, IsNetwork, cleared, covers, first_b
 use Rattle.pfs_addr.proofs.PrefixLaws.{cleared_first, cleared_same, network_of_is_network}
 use Rattle.pfs_eval.specs.Entries.{Entry, narrower, narrowest, says_yes, answer_of, is_prefix_of, mark_at, holds_prefix}
 use Rattle.pfs_eval.specs.Holdings.{AreKept}
+use Rattle.pfs_eval.specs.Lengths.{AreLong, IsNoted, below}
+use Rattle.pfs_eval.specs.declared.lengths.Lengths.{Lengths}
 use Rattle.pfs_eval.specs.declared.entries.Mark.{Mark}
 
 -- ---- the test of one prefix
@@ -243,53 +244,76 @@ all-added es a n mark h k short =
 
 -- ---- the lengths that entries have
 
-and_false : (b c : Bool) → b ≡ false → (b && c) ≡ false
-and_false b c e = grind arith
+-- a prefix that covers an address has the same lengths
+same_lengths : (l : Lengths) (p a : Addr) (n : ℕ) → below l p n ≡ below l a n
+same_lengths l (V4 x) (V4 y) n = refl
 
--- an address has at most as many bits as there are lengths, but for one
-pub width_small : (a : Addr) → width_of a < 129
-width_small (V4 bytes) = omega arith
+-- what covers an address and is shorter than a number of bits has a length that stands there
+pub next-below : (l : Lengths) (a : Addr) (n : ℕ) (es : List Entry) → All (λ (x : Entry). IsNoted l x.0) es
+    → n ≤ width_of a + 1 → AreBelow n a es → AreBelow (below l a n) a es
+unfolding AreBelow
+next-below l a n [] h short k = tt
+next-below l a n (x ∷ es) h short k =
+    let P : Entry → Type 0 = λ y. IsNoted l y.0 in (
+      λ c. let w = same_width x.0.addr a in
+          let same = same_lengths l x.0.addr a n in
+          let more = All-head P x es h n (k.0 c) (omega arith) in omega arith,
+      next-below l a n es (All-tail P x es h) short k.1,
+    )
 
--- a length that is not marked is that of no entry
-pub unmarked-none : (lengths : List Bool) (a : Addr) (n : ℕ) (es : List Entry)
-    → All (λ (x : Entry). slice_index_or lengths x.0.bits false ≡ true) es
-    → slice_index_or lengths n false ≡ false → mark_at es a n ≡ None
-unmarked-none lengths a n [] h e = refl
-unmarked-none lengths a n (x ∷ es) h e =
-    let P : Entry → Type 0 = λ y. slice_index_or lengths y.0.bits false ≡ true in
-    let other : (x.0.bits == n) ≡ false = by (x.0.bits == n) refl in
-    cond-false (is_prefix_of a n x.0) _ _ (and_false (x.0.bits == n) (covers x.0 a) other) ∙ unmarked-none lengths a n es (All-tail P x es h) e
+none_below : (a : Addr) (n : ℕ) → n ≤ width_of a + 1 → below (record { inet = replicate 34 0 }) a n ≡ 0
+none_below (V4 x) n h = get_or-replicate 34 n 0 0 (omega arith)
+
+-- without an entry no length is noted
+pub kept-none : AreKept [] (record { inet = replicate 34 0 })
+kept-none = record {
+  networks = All-nil (λ (x : Entry). IsNetwork x.0);
+  long = refl;
+  less = (λ a n h. let z = none_below a n h in omega arith);
+  noted = All-nil (λ (x : Entry). IsNoted (record { inet = replicate 34 0 }) x.0);
+}
+
+-- a length is noted at all numbers of bits above it
+pub record Notes (old new : Lengths) (bits : ℕ) : Type 0 where
+  pub at : (a : Addr) (n : ℕ) → n ≤ width_of a + 1
+      → below new a n ≡ cond (nat_lt bits n) (max (below old a n) (bits + 1)) (below old a n)
+
+noted_less : (old new bits n : ℕ) → new ≡ cond (nat_lt bits n) (max old (bits + 1)) old → old ≤ n → new ≤ n
+noted_less old new bits n e h = by (nat_lt bits n) refl
   where
-    by : (b : Bool) → (x.0.bits == n) ≡ b → b ≡ false
-    by true s =
-        let P : Entry → Type 0 = λ y. slice_index_or lengths y.0.bits false ≡ true in
-        let bits : x.0.bits ≡ n = grind (arith, nat_tests) in
-        absurd (false≢true (sym e ∙ sym (ap (λ k. slice_index_or lengths k false) bits) ∙ All-head P x es h))
-    by false s = refl
+    by : (b : Bool) → nat_lt bits n ≡ b → new ≤ n
+    by true t = let f : new ≡ max old (bits + 1) = e ∙ cond-true (nat_lt bits n) _ _ t in let l : bits < n = grind (arith, nat_tests) in omega arith
+    by false t = let f : new ≡ old = e ∙ cond-false (nat_lt bits n) _ _ t in omega arith
 
--- marking a length keeps the marks
-still_marked : (lengths : List Bool) (n k : ℕ) → n < length lengths → slice_index_or lengths k false ≡ true
-    → slice_index_or (set lengths n true) k false ≡ true
-still_marked lengths n k within h = by (k == n) refl
+still_noted : (old new bits n k : ℕ) → new ≡ cond (nat_lt bits n) (max old (bits + 1)) old → k < old → k < new
+still_noted old new bits n k e h = by (nat_lt bits n) refl
   where
-    by : (b : Bool) → (k == n) ≡ b → slice_index_or (set lengths n true) k false ≡ true
-    by true e =
-        let same : k ≡ n = grind (arith, nat_tests) in
-        ap (λ i. slice_index_or (set lengths n true) i false) same ∙ get_or-set_same lengths n true false within
-    by false e =
-        let other : k ≢ n = (λ same. false≢true (sym e ∙ eq-eqb k n same)) in
-        get_or-set_other lengths n k true false other ∙ h
+    by : (b : Bool) → nat_lt bits n ≡ b → k < new
+    by true t = let f : new ≡ max old (bits + 1) = e ∙ cond-true (nat_lt bits n) _ _ t in omega arith
+    by false t = let f : new ≡ old = e ∙ cond-false (nat_lt bits n) _ _ t in omega arith
 
--- one more entry, with its length marked
-pub kept-added : (es : List Entry) (lengths : List Bool) (a : Addr) (n : ℕ) (mark : Mark) → AreKept es lengths → IsAddr a
-    → n ≤ width_of a → AreKept (es ++ (network_of a n, mark) ∷ []) (set lengths n true)
-kept-added es lengths a n mark h k short =
-    let P : Entry → Type 0 = λ x. slice_index_or (set lengths n true) x.0.bits false ≡ true in
-    let within : n < length lengths = let w = width_small a in let l = h.long in omega arith in
+new_noted : (old new bits n : ℕ) → new ≡ cond (nat_lt bits n) (max old (bits + 1)) old → bits < n → bits < new
+new_noted old new bits n e h =
+    let t : nat_lt bits n ≡ true = grind (arith, nat_tests) in
+    let f : new ≡ max old (bits + 1) = e ∙ cond-true (nat_lt bits n) _ _ t in
+    omega arith
+
+cleared_width : (n : ℕ) (a : Addr) → width_of (cleared n a) ≡ width_of a
+unfolding cleared
+cleared_width n (V4 x) = refl
+
+-- one more entry, with its length noted
+pub kept-added : (es : List Entry) (old new : Lengths) (a : Addr) (n : ℕ) (mark : Mark) → AreKept es old → IsAddr a
+    → n ≤ width_of a → AreLong new → Notes old new n → AreKept (es ++ (network_of a n, mark) ∷ []) new
+kept-added es old new a n mark h k short long notes =
+    let P : Entry → Type 0 = λ x. IsNoted new x.0 in
     record {
       networks = all-added es a n mark h.networks k short;
-      long = length-set lengths n true ∙ h.long;
-      marked =
-          All-append P es ((network_of a n, mark) ∷ []) (λ i d l. still_marked lengths n _ within (h.marked i d l))
-          (All-cons P (network_of a n, mark) [] (get_or-set_same lengths n true false within) (All-nil P));
+      long = long;
+      less = (λ b m l. noted_less (below old b m) (below new b m) n m (notes.at b m l) (h.less b m l));
+      noted =
+          All-append P es ((network_of a n, mark) ∷ [])
+          (λ i d l m more few. still_noted (below old _ m) (below new _ m) n m _ (notes.at _ m few) (h.noted i d l m more few))
+          (All-cons P (network_of a n, mark) []
+          (λ m more few. new_noted (below old (cleared n a) m) (below new (cleared n a) m) n m (notes.at (cleared n a) m few) more) (All-nil P));
     }
