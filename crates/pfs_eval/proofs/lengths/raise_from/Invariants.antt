@@ -1,3 +1,4 @@
+-- Invariant of raise_from: the places so far from the first one on are raised, the others what they were.
 use Rattle.std.proofs.Common.{◌≡◌, ◌<◌, ℕ, length, max, cond, ◌&&◌, nat_le, nat_lt, get_or}
 use Rattle.pfs_eval.proofs.lengths.raise_from.Given as goal
 

@@ -1,3 +1,4 @@
+-- Answer of Table::new: without an entry no length is noted.
 use Rattle.std.proofs.Common.{List, [], subst, sym}
 use Rattle.pfs_eval.specs.Entries.{Entry}
 use Rattle.pfs_eval.specs.Holdings.{AreKept}
