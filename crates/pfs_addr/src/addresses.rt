@@ -1,7 +1,9 @@
 // Addresses, their texts, and the bits that prefixes compare.
 
-ghost use Rattle.std.specs.Prelude.{◌≡◌, ◌≤◌, ◌<◌, ◌+◌, ◌++◌, [], ◌∷◌, ℕ, Some, IfSome, MatchOption, OnOk, true, OnErr, decimal, length, vec_len};
+ghost use Rattle.std.specs.Prelude.{◌≡◌, ◌≤◌, ◌<◌, ◌+◌, ◌++◌, [], ◌∷◌, ℕ, Some, IfSome, MatchOption, OnOk, true, OnErr, decimal, flat_map, length, vec_len, ◌*◌};
 ghost use Rattle.std.specs.Vec.{vec_capacity};
+ghost use Rattle.std.specs.Char.{digit_char};
+ghost use Rattle.std.specs.Net.Text.{groups_text, hex, hex_groups_text, longest_zero_run};
 ghost use Rattle.std.specs.Net.Reader.{read_byte, read_ipv4, read_octet, read_view};
 ghost use Rattle.std.specs.Option.{option_copied};
 ghost use Rattle.pfs_addr.specs.Octets.{stops};
@@ -292,9 +294,80 @@ fn push_groups(out: &mut Vec<u8>, groups: &[u16])
 {
     if let [first, rest @ ..] = groups {
         push_group(out, *first);
-        for group in rest {
-            out.push_reserved(b':');
-            push_group(out, *group);
+        push_more(out, rest);
+    }
+}
+
+// The bytes of groups with a colon in front of each.
+fn more_len(groups: &[u16]) -> usize
+    requires { length groups.now ≤ 8 }
+    ensures value { result ≡ length (flat_map (λ g. 58 ∷ hex g) groups.now) }
+    ensures small { result ≤ 5 * length groups.now }
+{
+    let mut len = 0;
+    for group in groups {
+        len += 1 + group_len(*group);
+    }
+    len
+}
+
+fn push_more(out: &mut Vec<u8>, groups: &[u16])
+    requires { vec_len out.old + length (flat_map (λ g. 58 ∷ hex g) groups.now) ≤ vec_capacity out.old }
+    ensures items { out.new.items ≡ out.old.items ++ flat_map (λ g. 58 ∷ hex g) groups.now }
+    ensures len { vec_len out.new ≡ vec_len out.old + length (flat_map (λ g. 58 ∷ hex g) groups.now) }
+    ensures capacity { vec_capacity out.new ≡ vec_capacity out.old }
+{
+    for group in groups {
+        out.push_reserved(b':');
+        push_group(out, *group);
+    }
+}
+
+fn group_len(group: u16) -> usize
+    ensures value { result ≡ length (hex group) }
+    ensures small { result ≤ 4 }
+{
+    match group {
+        0x1000.. => 4,
+        0x100.. => 3,
+        0x10.. => 2,
+        _ => 1,
+    }
+}
+
+fn push_group(out: &mut Vec<u8>, group: u16)
+    requires { vec_len out.old + length (hex group) ≤ vec_capacity out.old }
+    ensures items { out.new.items ≡ out.old.items ++ hex group }
+    ensures len { vec_len out.new ≡ vec_len out.old + length (hex group) }
+    ensures capacity { vec_capacity out.new ≡ vec_capacity out.old }
+{
+    match group {
+        0x1000.. => {
+            out.push_reserved(hex_digit(group / 0x1000));
+            out.push_reserved(hex_digit(group / 0x100 % 16));
+            out.push_reserved(hex_digit(group / 0x10 % 16));
+            out.push_reserved(hex_digit(group % 16));
         }
+        0x100.. => {
+            out.push_reserved(hex_digit(group / 0x100 % 16));
+            out.push_reserved(hex_digit(group / 0x10 % 16));
+            out.push_reserved(hex_digit(group % 16));
+        }
+        0x10.. => {
+            out.push_reserved(hex_digit(group / 0x10 % 16));
+            out.push_reserved(hex_digit(group % 16));
+        }
+        _ => out.push_reserved(hex_digit(group % 16)),
+    }
+}
+
+fn hex_digit(digit: u16) -> u8
+    requires { digit < 16 }
+    ensures { result ≡ digit_char digit }
+{
+    if digit < 10 {
+        b'0' + digit as u8
+    } else {
+        b'a' + (digit - 10) as u8
     }
 }

@@ -6,6 +6,7 @@ ghost use Rattle.pfs_addr.specs.Texts.{prefix_of};
 ghost use Rattle.pfs_addr.specs.Addresses.{IsAddr, width_of};
 ghost use Rattle.pfs_addr.specs.PrefixParts.{PartsText, is_no_slash, is_padded, length_of};
 ghost use Rattle.pfs_addr.specs.Prefixes.{IsNetwork, Network, PrefixText, cleared, covers, first_bits, network_of};
+ghost use Rattle.pfs_addr.specs.declared.addresses.Addr.TheVariants.{V4, V6};
 
 use crate::addresses::{Addr, parse_addr};
 use crate::numbers::parse_number;
