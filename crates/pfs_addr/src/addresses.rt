@@ -1,12 +1,13 @@
 // Addresses, their texts, and the bits that prefixes compare.
 
-ghost use Rattle.std.specs.Prelude.{◌≡◌, ◌≤◌, ◌<◌, ◌+◌, ◌++◌, [], ◌∷◌, ℕ, Some, IfSome, MatchOption, OnOk, true, OnErr, decimal, flat_map, length, vec_len, ◌*◌};
+ghost use Rattle.std.specs.Prelude.{◌≡◌, ◌≤◌, ◌<◌, ◌+◌, ◌++◌, [], ◌∷◌, ℕ, Some, IfSome, MatchOption, OnOk, true, false, OnErr, decimal, flat_map, length, vec_len, ◌*◌};
 ghost use Rattle.std.specs.Vec.{vec_capacity};
 ghost use Rattle.std.specs.Char.{digit_char};
 ghost use Rattle.std.specs.Net.Text.{groups_text, hex, hex_groups_text, longest_zero_run};
 ghost use Rattle.std.specs.Net.Reader.{read_byte, read_ipv4, read_octet, read_view};
 ghost use Rattle.std.specs.Option.{option_copied};
 ghost use Rattle.pfs_addr.specs.Octets.{stops};
+ghost use Rattle.pfs_addr.specs.Groups.{around};
 ghost use Rattle.pfs_addr.specs.Texts.{addr_of, groups_of, quad_of};
 ghost use Rattle.pfs_addr.specs.Addresses.{IsAddr, IsAddrText, addr_text, bytes_of, dotted, is_ipv6, same_family, width_of};
 ghost use Rattle.std.proofs.Common.{rules};
@@ -102,26 +103,23 @@ fn groups(text: &[u8]) -> Option<Addr>
 fn quad(text: &[u8]) -> Option<Addr>
     ensures { result ≡ quad_of text.now }
 {
-    let Some((bytes, rest)) = four(text) else {
+    let Some((addr, rest)) = four(text) else {
         return None;
     };
-    if rest.is_empty() {
-        Some(Addr::V4(bytes))
-    } else {
-        None
-    }
+    if rest.is_empty() { Some(addr) } else { None }
 }
 
 // Four bytes in decimal with dots between them, and what stands behind them.
 #[tactic(auto, unfolding(std::specs::Net::Reader::read_ipv4))]
-fn four(text: &[u8]) -> Option<([u8; 4], &[u8])>
-    ensures { read_view (λ bytes. bytes) result ≡ read_ipv4 text.now }
+fn four(text: &[u8]) -> Option<(Addr, &[u8])>
+    ensures value { read_view bytes_of result ≡ read_ipv4 text.now }
+    ensures family { IfSome result (λ p. is_ipv6 p.0 ≡ false) }
 {
     let (a, text) = octet(text)?;
     let (b, text) = octet(behind_dot(text)?)?;
     let (c, text) = octet(behind_dot(text)?)?;
     let (d, text) = octet(behind_dot(text)?)?;
-    Some(([a, b, c, d], text))
+    Some((Addr::V4([a, b, c, d]), text))
 }
 
 #[inline(always)]
@@ -243,13 +241,32 @@ fn push_short(out: &mut Vec<u8>, groups: [u16; 8]) -> Result<(), NoMemory>
 {
     let (start, len) = longest_zeros(&groups);
     if len < 2 {
-        out.reserve(groups_len(&groups))?;
-        push_groups(out, &groups);
-        return Ok(());
+        push_all(out, &groups)
+    } else {
+        push_around(out, &groups[..start], &groups[start + len..])
     }
-    let head = &groups[..start];
-    let tail = &groups[start + len..];
-    out.reserve(groups_len(head) + groups_len(tail) + 2)?;
+}
+
+fn push_all(out: &mut Vec<u8>, groups: &[u16]) -> Result<(), NoMemory>
+    requires { length groups.now ≤ 8 }
+    ensures ok { OnOk result (out.new.items ≡ out.old.items ++ groups_text groups.now) }
+    ensures err { OnErr result (out.new.items ≡ out.old.items) }
+    ensures refused { OnErr result (vec_capacity out.old < vec_len out.old + length (groups_text groups.now)) }
+{
+    out.reserve(groups_len(groups))?;
+    push_groups(out, groups);
+    Ok(())
+}
+
+// What stands before `::`, and what stands behind it.
+fn push_around(out: &mut Vec<u8>, head: &[u16], tail: &[u16]) -> Result<(), NoMemory>
+    requires head { length head.now ≤ 8 }
+    requires tail { length tail.now ≤ 8 }
+    ensures ok { OnOk result (out.new.items ≡ out.old.items ++ around head.now tail.now) }
+    ensures err { OnErr result (out.new.items ≡ out.old.items) }
+    ensures refused { OnErr result (vec_capacity out.old < vec_len out.old + length (around head.now tail.now)) }
+{
+    out.reserve(groups_len(head) + 2 + groups_len(tail))?;
     push_groups(out, head);
     out.push_reserved(b':');
     out.push_reserved(b':');

@@ -128,13 +128,16 @@ fn first_of_16(bytes: [u8; 16], bits: u8) -> u128
 // Sixteen bytes with all bits past the first ones zero.
 fn cleared_16(bytes: [u8; 16], bits: u8) -> [u8; 16]
     requires { bits ≤ 128 }
-    ensures { V6 result ≡ cleared bits (V6 bytes) }
+    ensures value { V6 result ≡ cleared bits (V6 bytes) }
+    ensures addr { IsAddr (V6 bytes) }
 {
+    let number = u128::from_be_bytes(bytes);
     if bits == 0 {
-        return [0; 16];
+        return 0u128.to_be_bytes();
     }
     let hidden = 128 - u32::from(bits);
-    (u128::from_be_bytes(bytes) >> hidden << hidden).to_be_bytes()
+    let kept = number >> hidden << hidden;
+    kept.to_be_bytes()
 }
 
 /// The prefix that this text is, if it is one: an address alone, all of whose bits count, or an address, `/` and a
