@@ -25,7 +25,7 @@ use Rattle.pfs_addr.specs.declared.packets.Dir.{Dir}
 use Rattle.pfs_addr.specs.declared.packets.Dir.TheVariants as dir
 use Rattle.pfs_addr.specs.declared.protocols.Proto.{Proto}
 use Rattle.pfs_addr.specs.declared.protocols.Proto.TheVariants as proto
-use Rattle.pfs_conf_rules.specs.Configs.{IsTable}
+use Rattle.pfs_conf_rules.specs.Invariants.{IsTable}
 use Rattle.pfs_conf_rules.specs.LoadRules.{ArePorts, IsFilter, IsFlagTest, IsHost, IsInterface, IsProto, IsSide, IsTableNo, has_a_flag}
 use Rattle.pfs_conf_rules.specs.declared.filters.Family.{Family}
 use Rattle.pfs_conf_rules.specs.declared.filters.Family.TheVariants as family

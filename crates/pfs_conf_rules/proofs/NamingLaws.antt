@@ -8,8 +8,9 @@ use Rattle.std.proofs.lemmas.List.Elements.{All-push, All-set}
 use Rattle.std.proofs.lemmas.Slice.Eq.{bytes_eq-Decides}
 use Rattle.indexmap.specs.IndexSet.{insert_key}
 use Rattle.pfs_addr.specs.Names.{is_name}
-use Rattle.pfs_conf_rules.specs.Configs.{IsTable, table_names}
-use Rattle.pfs_conf_rules.specs.Namings.{IsNaming, Named, is_named, naming, place_in, undefined_table}
+use Rattle.pfs_conf_rules.specs.Configs.{table_names}
+use Rattle.pfs_conf_rules.specs.Invariants.{IsNaming, IsTable}
+use Rattle.pfs_conf_rules.specs.Namings.{Named, is_named, naming, place_in, undefined_table}
 use Rattle.pfs_conf_rules.specs.declared.tables.TableDef.{TableDef}
 
 -- a table without entries
