@@ -14,7 +14,7 @@ use Rattle.pfs_conf_tokens.specs.Lexis.{is_word_byte, tokens}
 use Rattle.pfs_conf_tokens.specs.Tokens.{Tok, token}
 use Rattle.pfs_conf_tokens.specs.Words.{key_of_text}
 use Rattle.pfs_conf_tokens.proofs.ShownLaws.{breaks, decimal_text, is_word_text, mark_then, split_around-append, word_then}
-use Rattle.pfs_conf_tokens.proofs.WordKeys.{key_of-All, key_of-Any, key_of-Flags, key_of-From, key_of-In, key_of-Inet, key_of-On, key_of-Out, key_of-Port, key_of-Proto, key_of-Quick, key_of-To}
+use Rattle.pfs_conf_tokens.proofs.WordKeys.{key_of-All, key_of-Any, key_of-Flags, key_of-From, key_of-In, key_of-Inet, key_of-Inet6, key_of-On, key_of-Out, key_of-Port, key_of-Proto, key_of-Quick, key_of-To}
 use Rattle.pfs_addr.specs.FlagSets.{flags_of}
 use Rattle.pfs_addr.specs.Names.{is_name, name_of}
 use Rattle.pfs_addr.specs.Prefixes.{IsNetwork, Network}
@@ -39,7 +39,7 @@ use Rattle.pfs_conf_rules.specs.declared.filters.Ports.{Ports}
 use Rattle.pfs_conf_rules.specs.declared.filters.Side.{Side}
 use Rattle.pfs_conf_rules.specs.declared.filters.TableNo.{TableNo}
 use Rattle.pfs_conf_rules.specs.declared.tables.TableDef.{TableDef}
-use Rattle.pfs_conf_filters.specs.Grammar.{Behind, DirOf, FlagsOf, HostOf, HostsOf, InetOf, MarksOf, OnOf, ParametersOf, PortsOf, QuickOf, Says, SideOf, inward, outward, slow, quick, silent, log_first, of_anchor, affirmed, negated, on, inet, any, prefix, table, plainly, hosted, every, sides}
+use Rattle.pfs_conf_filters.specs.Grammar.{Behind, DirOf, FamilyOf, FlagsOf, HostOf, HostsOf, MarksOf, OnOf, ParametersOf, PortsOf, QuickOf, Says, SideOf, inward, outward, slow, quick, silent, log_first, of_anchor, affirmed, negated, on, inet, inet6, any, prefix, table, plainly, hosted, every, sides}
 use Rattle.pfs_conf_filters.specs.Reading.{all_hosts, given_hosts, interface, marked}
 use Rattle.pfs_conf_filters.specs.Values.{exactly, flag_test, flag_test_by, flag_test_of, flags_around, in_plain_word, in_word, interface_name, may_name_interface, ports_of, table_name}
 use Rattle.pfs_conf_filters.specs.declared.phrases.Statement.{Statement}
@@ -93,9 +93,10 @@ on_reads (Some i) line more h b =
       on_behind i.name i.negated line more h.name h.not_any h.not_rdomain b,
     )
 
-pub family_reads : (f : Option Family) (line : ℕ) (more : List ℕ) → breaks more ≡ true → Perhaps (Behind key.Inet InetOf) (at line (family_text f ++ more)) f (at line more)
+pub family_reads : (f : Option Family) (line : ℕ) (more : List ℕ) → breaks more ≡ true → Perhaps FamilyOf (at line (family_text f ++ more)) f (at line more)
 family_reads None line more b = absent
-family_reads (Some family.Inet) line more b = present (at line more, word line (codes "inet") more refl b key_of-Inet, inet)
+family_reads (Some family.Inet) line more b = present (inet (word line (codes "inet") more refl b key_of-Inet))
+family_reads (Some family.Inet6) line more b = present (inet6 (word line (codes "inet6") more refl b key_of-Inet6))
 
 word_says : {A : Type 0} (value : List ℕ → Option A) (line : ℕ) (w more : List ℕ) (x : A) → is_word_text w ≡ true → breaks more ≡ true → value w ≡ Some x
     → Says (in_word value) (at line (w ++ more)) x (at line more)
@@ -265,6 +266,7 @@ on_break (Some i) more b = refl
 family_break : (f : Option Family) (more : List ℕ) → breaks more ≡ true → breaks (family_text f ++ more) ≡ true
 family_break None more b = b
 family_break (Some family.Inet) more b = refl
+family_break (Some family.Inet6) more b = refl
 
 proto_break : (p : Option Proto) (more : List ℕ) → breaks more ≡ true → breaks (proto_text p ++ more) ≡ true
 proto_break None more b = b
