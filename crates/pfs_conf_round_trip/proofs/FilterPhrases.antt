@@ -41,7 +41,7 @@ use Rattle.pfs_conf_rules.specs.declared.filters.TableNo.{TableNo}
 use Rattle.pfs_conf_rules.specs.declared.tables.TableDef.{TableDef}
 use Rattle.pfs_conf_filters.specs.Grammar.{Behind, DirOf, FamilyOf, FlagsOf, HostOf, HostsOf, MarksOf, OnOf, ParametersOf, PortsOf, QuickOf, Says, SideOf, inward, outward, slow, quick, silent, log_first, of_anchor, affirmed, negated, on, inet, inet6, any, prefix, table, plainly, hosted, every, sides}
 use Rattle.pfs_conf_filters.specs.Reading.{all_hosts, given_hosts, interface, marked}
-use Rattle.pfs_conf_filters.specs.Values.{exactly, flag_test, flag_test_by, flag_test_of, flags_around, in_plain_word, in_word, interface_name, may_name_interface, ports_of, table_name}
+use Rattle.pfs_conf_filters.specs.Values.{is_plain_word, exactly, flag_test, flag_test_by, flag_test_of, flags_around, in_plain_word, in_word, interface_name, may_name_interface, ports_of, table_name}
 use Rattle.pfs_conf_filters.specs.declared.phrases.Statement.{Statement}
 use Rattle.pfs_conf_filters.specs.declared.phrases.Statement.TheVariants as statement
 use Rattle.pfs_conf_show.specs.Filters.{dir_text, family_text, flags_text, host_text, hosts_text, is_every_side, letters_text, on_text, ports_text, proto_text, quick_text, range_text, side_text}
@@ -50,7 +50,8 @@ use Rattle.pfs_conf_show.specs.Tables.{angled, name_in}
 use Rattle.pfs_conf_round_trip.proofs.Said.{host_said, hosts_said, parameters_said, side_said, table_said}
 use Rattle.pfs_conf_round_trip.proofs.Letters.{flags_again, letters_all, letters_some}
 use Rattle.pfs_conf_round_trip.proofs.Names.{is_other, key_of_word, may_name, name_again, name_text, not_any}
-use Rattle.pfs_conf_round_trip.proofs.Numbers.{no_word, ports_again, ports_word, prefix_again, prefix_key, prefix_word, proto_again, proto_known}
+use Rattle.pfs_conf_round_trip.proofs.Numbers.{no_word, ports_again, ports_word, proto_again, proto_known}
+use Rattle.pfs_conf_round_trip.proofs.PrefixWords.{prefix_again, prefix_plain, prefix_word}
 use Rattle.pfs_conf_round_trip.proofs.Pieces.{all-append, at, mark, text-append, word, word_between}
 
 -- a word that says a value
@@ -144,7 +145,7 @@ table_says line n more h = (token line (key_of_text n) n, angle_names line n mor
 prefix_says : (line : ℕ) (p : Network) (more : List ℕ) → IsNetwork p → breaks more ≡ true → Says (in_plain_word prefix_of) (at line (prefix_text p ++ more)) p (at line more)
 prefix_says line p more h b =
     says (in_plain_word prefix_of) line (prefix_text p) more p (prefix_word p h) b
-    (ap (λ (k : Key). in_plain_word prefix_of (token line k (prefix_text p))) (prefix_key p h) ∙ prefix_again p h)
+    (cond-true (is_plain_word (key_of_text (prefix_text p))) (prefix_of (prefix_text p)) None (prefix_plain p h) ∙ prefix_again p h)
 
 prefix_reads : (p : Network) (negation : Bool) (line : ℕ) (more : List ℕ) → IsNetwork p → breaks more ≡ true
     → HostOf (at line ((not_text negation ++ prefix_text p) ++ more)) (host.Prefix p negation) (at line more)
