@@ -10,7 +10,8 @@ use Rattle.pfs_conf_tokens.specs.declared.refusals.LoadRule.TheVariants as load_
 use Rattle.pfs_addr.specs.declared.protocols.Proto.{Proto}
 use Rattle.pfs_conf_rules.specs.Configs.{table_names}
 use Rattle.pfs_conf_rules.specs.Drafts.{Drafted, number_of, with_name}
-use Rattle.pfs_conf_rules.specs.LoadRules.{AreOptions, IsAction, IsAnchor, IsFilter, IsHost, IsRule, IsSide, IsTableNo, is_global, limits_connections, limits_sources, asks_ports}
+use Rattle.pfs_conf_rules.specs.LoadRules.{AreOptions, IsAction, IsAnchor, IsFilter, IsHost, IsRule, IsSide, IsTableNo, limits_connections, limits_sources, asks_ports}
+use Rattle.pfs_conf_rules.specs.Bounds.{is_global}
 use Rattle.pfs_conf_rules.specs.declared.actions.Action.{Action}
 use Rattle.pfs_conf_rules.specs.declared.actions.Action.TheVariants as action
 use Rattle.pfs_conf_rules.specs.declared.actions.Overload.{Overload}
