@@ -1,16 +1,16 @@
-use Rattle.std.proofs.Common.{◌≡◌, ◌≢◌, ℕ, ◌+◌, ◌-◌, ◌<◌, ◌≤◌, ◌==◌, suc, Bool, true, false, not, ◌&&◌, ◌||◌, cond, nat_le, nat_lt, List, [], ◌∷◌, ◌++◌, Option, Some, None, refl, ap, sym, ◌∙◌, arith, subst, eq-eqb}
+use Rattle.std.proofs.Common.{◌≡◌, ◌≢◌, ℕ, ◌+◌, ◌-◌, ◌<◌, ◌≤◌, ◌==◌, suc, Bool, true, false, not, ◌&&◌, ◌||◌, cond, nat_le, nat_lt, List, [], ◌∷◌, ◌++◌, Option, Some, None, refl, ap, sym, ◌∙◌, arith, subst, eq-eqb, eqb-true}
 use Rattle.std.specs.Prelude.{All, is_some, max, replicate}
 use Rattle.std.specs.Map.{lookup}
 use Rattle.indexmap.specs.IndexMap.{insert_entry}
 use Rattle.std.proofs.lemmas.List.Elements.{All-append, All-cons, All-head, All-nil, All-tail}
 use Rattle.std.proofs.lemmas.List.{get_or-replicate}
 use Rattle.std.proofs.lemmas.Bool.Decides.{nat_tests}
-use Rattle.std.proofs.lemmas.Bool.{cond-true, cond-false, false≢true}
+use Rattle.std.proofs.lemmas.Bool.{and_from, and_parts, cond-true, cond-false, false≢true}
 use Rattle.pfs_addr.specs.declared.addresses.Addr.{Addr}
-use Rattle.pfs_addr.specs.declared.addresses.Addr.TheVariants.{V4}
-use Rattle.pfs_addr.specs.Addresses.{IsAddr, width_of}
-use Rattle.pfs_addr.specs.Prefixes.{Network, IsNetwork, cleared, covers, first_bits, network_of}
-use Rattle.pfs_addr.proofs.PrefixLaws.{cleared_first, cleared_same, network_of_is_network}
+use Rattle.pfs_addr.specs.declared.addresses.Addr.TheVariants.{V4, V6}
+use Rattle.pfs_addr.specs.Addresses.{IsAddr, same_family, width_of}
+use Rattle.pfs_addr.specs.Prefixes.{Network, IsNetwork, cleared, covers, network_of}
+use Rattle.pfs_addr.proofs.PrefixLaws.{cleared_family, covers_true, network_covers, network_of_is_network}
 use Rattle.pfs_eval.specs.Entries.{Entry, narrower, narrowest, says_yes, answer_of, is_prefix_of, mark_at, holds_prefix}
 use Rattle.pfs_eval.specs.Holdings.{AreKept}
 use Rattle.pfs_eval.specs.Lengths.{AreLong, IsNoted, below}
@@ -24,20 +24,11 @@ pub record TellsOnly (test : Network → Bool) (p : Network) : Type 0 where
   pub same : (q : Network) → test q ≡ true → p ≡ q
   pub self : test p ≡ true
 
--- the prefix of an address covers it
-own_cover : (n : ℕ) (a : Addr) → IsAddr a → covers (network_of a n) a ≡ true
-unfolding covers
-own_cover n a h = eq-eqb (first_bits n (cleared n a)) (first_bits n a) (cleared_first n a h)
-
 -- a prefix that covers an address is that address's prefix of its length
 pub own_prefix : (n : ℕ) (a : Addr) (q : Network) → IsNetwork q → is_prefix_of a n q ≡ true → network_of a n ≡ q
-unfolding covers
 own_prefix n a q h e =
-    let bits : q.bits ≡ n = grind (arith, nat_tests) in
-    let agree : first_bits q.bits q.addr ≡ first_bits q.bits a = grind (arith, nat_tests) in
-    let addr : cleared n a ≡ q.addr = sym (ap (λ k. cleared k a) bits) ∙ sym (cleared_same q.bits q.addr a agree)
-    ∙ h.zeros in
-    λ i. record { addr = addr i; bits = sym bits i }
+    let bits : q.bits ≡ n = eqb-true q.bits n (and_parts (q.bits == n) (covers q a) e).0 in
+    sym (covers_true q a h (and_parts (q.bits == n) (covers q a) e).1 ∙ ap (network_of a) bits)
 
 same_bool : (b c : Bool) → (b ≡ true → c ≡ true) → (c ≡ true → b ≡ true) → b ≡ c
 same_bool true c f g = sym (f refl)
@@ -50,7 +41,7 @@ pub tells-prefix : (test : Network → Bool) (a : Addr) (n : ℕ) (q : Network) 
 tells-prefix test a n q h k t =
     same_bool (test q) (is_prefix_of a n q)
     (λ e. subst (λ r. is_prefix_of a n r ≡ true) (t.same q e)
-    (let own = own_cover n a h in let same : (n == n) ≡ true = eq-eqb n n refl in grind arith))
+    (let own = network_covers a n h in let same : (n == n) ≡ true = eq-eqb n n refl in grind arith))
     (λ e. subst (λ r. test r ≡ true) (own_prefix n a q k e) t.self)
 
 same_choice : {X : Type 0} (b c : Bool) (x y z : X) → b ≡ c → y ≡ z → cond b x y ≡ cond c x z
@@ -188,8 +179,15 @@ below-none a [] h = refl
 below-none a (x ∷ es) h = none_step (covers x.0 a) x (narrowest es a) h.0 (below-none a es h.1)
 
 -- a prefix covers addresses of its own family
-same_width : (p b : Addr) → width_of p ≡ width_of b
-same_width (V4 x) (V4 y) = refl
+covers_family : (p : Network) (a : Addr) → covers p a ≡ true → same_family p.addr a ≡ true
+unfolding covers
+covers_family p a c = (and_parts (same_family p.addr a) _ c).0
+
+same_width : (p b : Addr) → same_family p b ≡ true → width_of p ≡ width_of b
+same_width (V4 x) (V4 y) f = refl
+same_width (V6 x) (V6 y) f = refl
+same_width (V4 x) (V6 y) f = absurd (cc f)
+same_width (V6 x) (V4 y) f = absurd (cc f)
 
 -- all prefixes have at most as many bits as the address
 pub below-all : (a : Addr) (es : List Entry) → All (λ (x : Entry). IsNetwork x.0) es → AreBelow (width_of a + 1) a es
@@ -197,7 +195,7 @@ unfolding AreBelow
 below-all a [] h = tt
 below-all a (x ∷ es) h =
     let short = (All-head (λ (y : Entry). IsNetwork y.0) x es h).short in
-    (λ c. let w = same_width x.0.addr a in omega arith, below-all a es (All-tail (λ (y : Entry). IsNetwork y.0) x es h))
+    (λ c. let w = same_width x.0.addr a (covers_family x.0 a c) in omega arith, below-all a es (All-tail (λ (y : Entry). IsNetwork y.0) x es h))
 
 suc_less : (b : ℕ) → 0 < b → b ≡ suc (b - 1)
 suc_less b h = omega arith
@@ -244,9 +242,12 @@ all-added es a n mark h k short =
 
 -- ---- the lengths that entries have
 
--- a prefix that covers an address has the same lengths
-same_lengths : (l : Lengths) (p a : Addr) (n : ℕ) → below l p n ≡ below l a n
-same_lengths l (V4 x) (V4 y) n = refl
+-- addresses of one family have the same lengths
+same_lengths : (l : Lengths) (p a : Addr) (n : ℕ) → same_family p a ≡ true → below l p n ≡ below l a n
+same_lengths l (V4 x) (V4 y) n f = refl
+same_lengths l (V6 x) (V6 y) n f = refl
+same_lengths l (V4 x) (V6 y) n f = absurd (cc f)
+same_lengths l (V6 x) (V4 y) n f = absurd (cc f)
 
 -- what covers an address and is shorter than a number of bits has a length that stands there
 pub next-below : (l : Lengths) (a : Addr) (n : ℕ) (es : List Entry) → All (λ (x : Entry). IsNoted l x.0) es
@@ -255,65 +256,68 @@ unfolding AreBelow
 next-below l a n [] h short k = tt
 next-below l a n (x ∷ es) h short k =
     let P : Entry → Type 0 = λ y. IsNoted l y.0 in (
-      λ c. let w = same_width x.0.addr a in
-          let same = same_lengths l x.0.addr a n in
+      λ c. let family = covers_family x.0 a c in
+          let w = same_width x.0.addr a family in
+          let same = same_lengths l x.0.addr a n family in
           let more = All-head P x es h n (k.0 c) (omega arith) in omega arith,
       next-below l a n es (All-tail P x es h) short k.1,
     )
 
-none_below : (a : Addr) (n : ℕ) → n ≤ width_of a + 1 → below (record { inet = replicate 34 0 }) a n ≡ 0
+none_below : (a : Addr) (n : ℕ) → n ≤ width_of a + 1 → below (record { inet = replicate 34 0; inet6 = replicate 130 0 }) a n ≡ 0
 none_below (V4 x) n h = get_or-replicate 34 n 0 0 (omega arith)
+none_below (V6 x) n h = get_or-replicate 130 n 0 0 (omega arith)
 
 -- without an entry no length is noted
-pub kept-none : AreKept [] (record { inet = replicate 34 0 })
+pub kept-none : AreKept [] (record { inet = replicate 34 0; inet6 = replicate 130 0 })
 kept-none = record {
   networks = All-nil (λ (x : Entry). IsNetwork x.0);
-  long = refl;
+  long = (refl, refl);
   less = (λ a n h. let z = none_below a n h in omega arith);
-  noted = All-nil (λ (x : Entry). IsNoted (record { inet = replicate 34 0 }) x.0);
+  noted = All-nil (λ (x : Entry). IsNoted (record { inet = replicate 34 0; inet6 = replicate 130 0 }) x.0);
 }
 
--- a length is noted at all numbers of bits above it
-pub record Notes (old new : Lengths) (bits : ℕ) : Type 0 where
+-- a length is noted at all numbers of bits above it, for the family of an address
+pub record Notes (old new : Lengths) (b : Addr) (bits : ℕ) : Type 0 where
   pub at : (a : Addr) (n : ℕ) → n ≤ width_of a + 1
-      → below new a n ≡ cond (nat_lt bits n) (max (below old a n) (bits + 1)) (below old a n)
+      → below new a n ≡ cond (same_family a b && nat_lt bits n) (max (below old a n) (bits + 1)) (below old a n)
 
-noted_less : (old new bits n : ℕ) → new ≡ cond (nat_lt bits n) (max old (bits + 1)) old → old ≤ n → new ≤ n
-noted_less old new bits n e h = by (nat_lt bits n) refl
+noted_less : (old new bits n : ℕ) (s : Bool) → new ≡ cond (s && nat_lt bits n) (max old (bits + 1)) old → old ≤ n → new ≤ n
+noted_less old new bits n s e h = by (s && nat_lt bits n) refl
   where
-    by : (b : Bool) → nat_lt bits n ≡ b → new ≤ n
-    by true t = let f : new ≡ max old (bits + 1) = e ∙ cond-true (nat_lt bits n) _ _ t in let l : bits < n = grind (arith, nat_tests) in omega arith
-    by false t = let f : new ≡ old = e ∙ cond-false (nat_lt bits n) _ _ t in omega arith
+    by : (b : Bool) → (s && nat_lt bits n) ≡ b → new ≤ n
+    by true t =
+        let f : new ≡ max old (bits + 1) = e ∙ cond-true (s && nat_lt bits n) _ _ t in
+        let over : nat_lt bits n ≡ true = (and_parts s (nat_lt bits n) t).1 in
+        let l : bits < n = grind (arith, nat_tests) in
+        omega arith
+    by false t = let f : new ≡ old = e ∙ cond-false (s && nat_lt bits n) _ _ t in omega arith
 
-still_noted : (old new bits n k : ℕ) → new ≡ cond (nat_lt bits n) (max old (bits + 1)) old → k < old → k < new
-still_noted old new bits n k e h = by (nat_lt bits n) refl
+still_noted : (old new bits n k : ℕ) (s : Bool) → new ≡ cond (s && nat_lt bits n) (max old (bits + 1)) old → k < old → k < new
+still_noted old new bits n k s e h = by (s && nat_lt bits n) refl
   where
-    by : (b : Bool) → nat_lt bits n ≡ b → k < new
-    by true t = let f : new ≡ max old (bits + 1) = e ∙ cond-true (nat_lt bits n) _ _ t in omega arith
-    by false t = let f : new ≡ old = e ∙ cond-false (nat_lt bits n) _ _ t in omega arith
+    by : (b : Bool) → (s && nat_lt bits n) ≡ b → k < new
+    by true t = let f : new ≡ max old (bits + 1) = e ∙ cond-true (s && nat_lt bits n) _ _ t in omega arith
+    by false t = let f : new ≡ old = e ∙ cond-false (s && nat_lt bits n) _ _ t in omega arith
 
-new_noted : (old new bits n : ℕ) → new ≡ cond (nat_lt bits n) (max old (bits + 1)) old → bits < n → bits < new
-new_noted old new bits n e h =
-    let t : nat_lt bits n ≡ true = grind (arith, nat_tests) in
-    let f : new ≡ max old (bits + 1) = e ∙ cond-true (nat_lt bits n) _ _ t in
+new_noted : (old new bits n : ℕ) (s : Bool) → new ≡ cond (s && nat_lt bits n) (max old (bits + 1)) old → s ≡ true → bits < n
+    → bits < new
+new_noted old new bits n s e is h =
+    let over : nat_lt bits n ≡ true = grind (arith, nat_tests) in
+    let f : new ≡ max old (bits + 1) = e ∙ cond-true (s && nat_lt bits n) _ _ (and_from _ _ is over) in
     omega arith
-
-cleared_width : (n : ℕ) (a : Addr) → width_of (cleared n a) ≡ width_of a
-unfolding cleared
-cleared_width n (V4 x) = refl
 
 -- one more entry, with its length noted
 pub kept-added : (es : List Entry) (old new : Lengths) (a : Addr) (n : ℕ) (mark : Mark) → AreKept es old → IsAddr a
-    → n ≤ width_of a → AreLong new → Notes old new n → AreKept (es ++ (network_of a n, mark) ∷ []) new
+    → n ≤ width_of a → AreLong new → Notes old new a n → AreKept (es ++ (network_of a n, mark) ∷ []) new
 kept-added es old new a n mark h k short long notes =
     let P : Entry → Type 0 = λ x. IsNoted new x.0 in
     record {
       networks = all-added es a n mark h.networks k short;
       long = long;
-      less = (λ b m l. noted_less (below old b m) (below new b m) n m (notes.at b m l) (h.less b m l));
+      less = (λ b m l. noted_less (below old b m) (below new b m) n m (same_family b a) (notes.at b m l) (h.less b m l));
       noted =
           All-append P es ((network_of a n, mark) ∷ [])
-          (λ i d l m more few. still_noted (below old _ m) (below new _ m) n m _ (notes.at _ m few) (h.noted i d l m more few))
+          (λ i d l m more few. still_noted (below old _ m) (below new _ m) n m _ _ (notes.at _ m few) (h.noted i d l m more few))
           (All-cons P (network_of a n, mark) []
-          (λ m more few. new_noted (below old (cleared n a) m) (below new (cleared n a) m) n m (notes.at (cleared n a) m few) more) (All-nil P));
+          (λ m more few. new_noted (below old (cleared n a) m) (below new (cleared n a) m) n m (same_family (cleared n a) a) (notes.at (cleared n a) m few) (cleared_family n a) more) (All-nil P));
     }

@@ -16,7 +16,7 @@ pub enum Parameter {
     Interface,
     /// `in` or `out`.
     Direction,
-    /// `inet`.
+    /// `inet` or `inet6`.
     Family,
     /// `proto`.
     Protocol,
@@ -90,7 +90,7 @@ fn first_failing(tables: &Tables, packet: &Packet, filter: &Filter) -> Option<Pa
     if !dir_holds(filter.dir, packet.dir()) {
         return Some(Parameter::Direction);
     }
-    if !family_holds(filter.family, packet.src()) {
+    if !family_holds(filter.family, packet.src(), packet.dst()) {
         return Some(Parameter::Family);
     }
     if !proto_holds(filter.proto, packet.proto()) {
@@ -129,12 +129,13 @@ fn interface_holds(on: &Option<Interface>, name: &IfName) -> bool
     }
 }
 
-fn family_holds(family: Option<Family>, addr: Addr) -> bool
-    ensures { result ≡ family_holds family addr }
+fn family_holds(family: Option<Family>, source: Addr, destination: Addr) -> bool
+    ensures { result ≡ family_holds family source destination }
 {
-    match (family, addr) {
-        (None, _) => true,
-        (Some(Family::Inet), Addr::V4(_)) => true,
+    match family {
+        None => true,
+        Some(Family::Inet) => !source.is_ipv6() && !destination.is_ipv6(),
+        Some(Family::Inet6) => source.is_ipv6() && destination.is_ipv6(),
     }
 }
 
@@ -149,7 +150,8 @@ fn host_holds(tables: &Tables, host: &Host<TableNo>, addr: Addr) -> bool
 {
     match *host {
         Host::Any => true,
-        Host::Prefix { prefix, negated } => turned(negated, prefix.contains(addr)),
+        Host::Prefix { prefix, negated } => prefix.addr().same_family(addr)
+            && turned(negated, prefix.contains(addr)),
         Host::Table { table, negated } => turned(negated, tables.matches(table, addr)),
     }
 }

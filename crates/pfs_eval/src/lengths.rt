@@ -1,7 +1,7 @@
 //! The lengths of a table's prefixes, by which its entries are looked up: the longest first.
 
-ghost use Rattle.std.specs.Prelude.{◌≡◌, ◌+◌, ◌<◌, ◌≤◌, ℕ, if◌then◌else◌, length, max, nat_le, nat_lt, replicate, slice_index};
-ghost use Rattle.pfs_addr.specs.Addresses.{width_of};
+ghost use Rattle.std.specs.Prelude.{◌≡◌, ◌&&◌, ◌+◌, ◌<◌, ◌≤◌, ℕ, if◌then◌else◌, length, max, nat_le, nat_lt, replicate, slice_index};
+ghost use Rattle.pfs_addr.specs.Addresses.{same_family, width_of};
 ghost use Rattle.pfs_addr.specs.declared.addresses.Addr.{Addr};
 ghost use Rattle.pfs_eval.specs.Lengths.{AreLong, below};
 
@@ -13,14 +13,19 @@ use pfs_addr::Addr;
 pub struct Lengths {
     /// For IPv4, at 0 to 33 bits.
     inet: [u8; 34],
+    /// For IPv6, at 0 to 129 bits.
+    inet6: [u8; 130],
 }
 
 impl Lengths {
     /// No lengths.
     pub fn none() -> Lengths
-        ensures { result ≡ record { inet = replicate 34 0 } }
+        ensures { result ≡ record { inet = replicate 34 0; inet6 = replicate 130 0 } }
     {
-        Lengths { inet: [0; 34] }
+        Lengths {
+            inet: [0; 34],
+            inet6: [0; 130],
+        }
     }
 
     /// One more than the longest length below a number of bits that a prefix of this address's family has or had, or 0.
@@ -32,6 +37,7 @@ impl Lengths {
     {
         match addr {
             Addr::V4(_) => self.inet[usize::from(bits)],
+            Addr::V6(_) => self.inet6[usize::from(bits)],
         }
     }
 
@@ -41,10 +47,11 @@ impl Lengths {
         requires long { AreLong self.old }
         ensures long { AreLong self.new }
         ensures noted { (a : Addr) (n : ℕ) → n ≤ width_of a + 1 →
-            below self.new a n ≡ (if nat_lt bits n then max (below self.old a n) (bits + 1) else below self.old a n) }
+            below self.new a n ≡ (if same_family a addr && nat_lt bits n then max (below self.old a n) (bits + 1) else below self.old a n) }
     {
         match addr {
             Addr::V4(_) => raise_from(&mut self.inet, bits + 1),
+            Addr::V6(_) => raise_from(&mut self.inet6, bits + 1),
         }
     }
 }
