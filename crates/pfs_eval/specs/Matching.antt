@@ -9,7 +9,7 @@ use Rattle.pfs_addr.specs.declared.packets.Dir.TheVariants.{In, Out}
 use Rattle.pfs_addr.specs.declared.protocols.Proto.{Proto}
 use Rattle.pfs_addr.specs.declared.protocols.Proto.TheVariants as proto
 use Rattle.pfs_addr.specs.Packets.{Header}
-use Rattle.pfs_addr.specs.Prefixes.{covers}
+use Rattle.pfs_addr.specs.Prefixes.{Network, covers}
 use Rattle.pfs_conf_rules.specs.declared.filters.Family.{Family}
 use Rattle.pfs_conf_rules.specs.declared.filters.Family.TheVariants.{Inet, Inet6}
 use Rattle.pfs_conf_rules.specs.declared.filters.Filter.{Filter}
@@ -64,11 +64,14 @@ abbrev pub proto_holds : Option Proto → Proto → Bool
 proto_holds None p = true
 proto_holds (Some wanted) p = same_proto wanted p
 
--- `from` and `to`: the prefix covers the address, or the table answers yes for it. A prefix, also one with a `!`, holds of
--- addresses of its own family alone (own)
+-- a prefix covers the address, or with a `!` it does not; it holds of addresses of its own family alone (own)
+abbrev pub prefix_holds : Network → Bool → Addr → Bool
+prefix_holds prefix negated a = same_family prefix.addr a && turned negated (covers prefix a)
+
+-- `from` and `to`: the prefix holds of the address, or the table answers yes for it, or no where a `!` stands before it
 abbrev pub host_holds : List (List Entry) → Host TableNo → Addr → Bool
 host_holds tables host.Any a = true
-host_holds tables (host.Prefix prefix negated) a = same_family prefix.addr a && turned negated (covers prefix a)
+host_holds tables (host.Prefix prefix negated) a = prefix_holds prefix negated a
 host_holds tables (host.Table table negated) a = turned negated (table_answer tables table.0 a)
 
 -- `port`: the port is one of these

@@ -2,11 +2,11 @@
 
 ghost use Rattle.std.specs.Prelude.{◌≡◌, ◌+◌, ◌-◌, ◌<◌, ◌^◌, MatchOption, false, true};
 ghost use Rattle.std.specs.Bool.{OnTrue};
-ghost use Rattle.pfs_eval.specs.Matching.{common_flags, dir_holds, family_holds, filter_holds, filter_of, flags_hold, host_holds, interface_holds, ports_hold, proto_holds, same_flags, turned};
+ghost use Rattle.pfs_eval.specs.Matching.{common_flags, dir_holds, family_holds, filter_holds, filter_of, flags_hold, host_holds, interface_holds, ports_hold, prefix_holds, proto_holds, same_flags, turned};
 ghost use Rattle.pfs_eval.specs.Parameters.{IsSame, holds_at, same_test};
 
 use crate::tables::Tables;
-use pfs_addr::{Addr, Dir, Flags, IfName, Meter, Packet, Proto};
+use pfs_addr::{Addr, Dir, Flags, IfName, Meter, Packet, Prefix, Proto};
 use pfs_conf_rules::{Family, Filter, FlagTest, Host, Interface, Ports, TableNo, What};
 
 /// A parameter of an item, in the order in which they are compared. (pf.conf(5), PARAMETERS)
@@ -150,10 +150,16 @@ fn host_holds(tables: &Tables, host: &Host<TableNo>, addr: Addr) -> bool
 {
     match *host {
         Host::Any => true,
-        Host::Prefix { prefix, negated } => prefix.addr().same_family(addr)
-            && turned(negated, prefix.contains(addr)),
+        Host::Prefix { prefix, negated } => prefix_holds(&prefix, negated, addr),
         Host::Table { table, negated } => turned(negated, tables.matches(table, addr)),
     }
+}
+
+// A prefix, also one with a `!`, holds of addresses of its own family alone.
+fn prefix_holds(prefix: &Prefix, negated: bool, addr: Addr) -> bool
+    ensures { result ≡ prefix_holds prefix.now negated addr }
+{
+    prefix.addr().same_family(addr) && turned(negated, prefix.contains(addr))
 }
 
 fn ports_hold(ports: Option<Ports>, port: u16) -> bool

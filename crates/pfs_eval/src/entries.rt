@@ -70,7 +70,7 @@ impl Table {
     }
 
     /// Whether the narrowest entry that covers the address is there and not negated. One look-up is made for each length
-    /// that an entry has or had.
+    /// that an entry of the address's family has or had, from the longest on, until one is found.
     pub fn matches(&self, addr: Addr) -> bool
         ensures { result ≡ answer_of self.now.entries addr }
     {

@@ -137,7 +137,6 @@ pub fn item_at(config: &Config, place: u32) -> &Item
     ensures item { slice_get config.now.items place ≡ Some result.now }
     ensures shallow { result.now.depth ≤ 16 }
 {
-    let _count = config.item_count();
     config.item(place).unwrap()
 }
 
