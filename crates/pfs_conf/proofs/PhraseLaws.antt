@@ -18,7 +18,8 @@ use Rattle.pfs_addr.specs.Names.{is_name, name_of}
 use Rattle.pfs_conf_rules.specs.Configs.{Conf}
 use Rattle.pfs_conf_rules.specs.Drafts.{Drafted, finished, is_defined}
 use Rattle.pfs_conf_rules.specs.LoadRules.{IsFlagTest}
-use Rattle.pfs_conf_rules.specs.Siblings.{has_sibling, repeats_by}
+use Rattle.pfs_conf_rules.specs.Siblings.{has_sibling}
+use Rattle.pfs_conf_rules.specs.Order.{repeats_by}
 use Rattle.pfs_conf_rules.specs.declared.filters.FlagTest.{FlagTest}
 use Rattle.pfs_conf_filters.specs.Grammar.{PolicyOf, none, drop, return, return_rst, return_icmp, return_icmp6, VerbOf, pass, block, FlagsOf}
 use Rattle.pfs_conf_filters.specs.Reading.{verb_at, parameters_at, flags_at, begins_flags}

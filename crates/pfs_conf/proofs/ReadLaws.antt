@@ -12,9 +12,10 @@ use Rattle.pfs_conf_tokens.proofs.ReaderLaws.{word_head, ended_reads, perhaps_re
 use Rattle.pfs_conf_rules.specs.Configs.{Conf}
 use Rattle.pfs_conf_rules.specs.Drafts.{Drafted, finished}
 use Rattle.pfs_conf_rules.specs.declared.filters.FlagTest.{FlagTest}
-use Rattle.pfs_conf_filters.specs.Grammar.{Behind, VerbOf, pass, block, DirOf, inward, outward, slow, quick, MarksOf, of_anchor, HostsOf, every, sides, ParametersOf, FlagsOf}
+use Rattle.pfs_conf_filters.specs.Grammar.{Behind, VerbOf, pass, block, DirOf, inward, outward, FamilyOf, inet, inet6, slow, quick, MarksOf, of_anchor, HostsOf, every, sides, ParametersOf, FlagsOf}
 use Rattle.pfs_conf_filters.specs.Reading.{flags_at, begins_flags}
 use Rattle.pfs_addr.specs.declared.packets.Dir.{Dir}
+use Rattle.pfs_conf_rules.specs.declared.filters.Family.{Family}
 use Rattle.pfs_conf_filters.specs.declared.phrases.Hosts.{Hosts}
 use Rattle.pfs_conf_filters.specs.declared.phrases.Parameters.{Parameters}
 use Rattle.pfs_conf_filters.specs.declared.phrases.Statement.TheVariants as statement
@@ -67,7 +68,7 @@ clauses_read v p = record {
 pub rule_text_reads : {ts : List Tok} {r : RuleText} {left : List Tok} → RuleOf ts r left → rule_text_at ts ≡ Ok (r, left)
 unfolding rule_text_at
 rule_text_reads {r = r} q =
-    let behind_verb = parameters_head (λ k. no_policy k ≡ true) refl refl refl refl refl refl refl refl refl refl q.parameters (clauses_head (λ k. no_policy k ≡ true) refl refl refl refl q.clauses) in
+    let behind_verb = parameters_head (λ k. no_policy k ≡ true) refl refl refl refl refl refl refl refl refl refl refl q.parameters (clauses_head (λ k. no_policy k ≡ true) refl refl refl refl q.clauses) in
     let behind_parameters = clauses_head (λ k. ends_parameters k ≡ true) refl refl refl refl q.clauses in
     rw (verb_reads q.verb behind_verb, parameters_read statement.Rule q.parameters behind_parameters, until_reads (clauses_read r.verb r.parameters) q.clauses) refl
 
@@ -90,6 +91,11 @@ dir_head Q a b absent h = h
 dir_head Q a b (present (inward w)) h = subst Q (sym (word_head w).0) a
 dir_head Q a b (present (outward w)) h = subst Q (sym (word_head w).0) b
 
+family_head : (Q : Key → Type 0) → Q key.Inet → Q key.Inet6 → {ts left : List Tok} {o : Option Family} → Perhaps FamilyOf ts o left → Q (head left).key → Q (head ts).key
+family_head Q a b absent h = h
+family_head Q a b (present (inet w)) h = subst Q (sym (word_head w).0) a
+family_head Q a b (present (inet6 w)) h = subst Q (sym (word_head w).0) b
+
 marks_head : (Q : Key → Type 0) → Q key.Quick → {ts left : List Tok} {m : Marks} → MarksOf statement.Anchor ts m left → Q (head left).key → Q (head ts).key
 marks_head Q a (of_anchor slow) h = h
 marks_head Q a (of_anchor (quick w)) h = subst Q (sym (word_head w).0) a
@@ -99,10 +105,10 @@ hosts_head Q a b c (every w) h = subst Q (sym (word_head w).0) a
 hosts_head Q a b c (sides f t) h = behind_head Q b f (behind_head Q c t h)
 
 -- what stands behind an anchor's name begins with no name
-anchor_parameters_head : (Q : Key → Type 0) → Q key.In → Q key.Out → Q key.Quick → Q key.On → Q key.Inet → Q key.Proto → Q key.All → Q key.From → Q key.To
+anchor_parameters_head : (Q : Key → Type 0) → Q key.In → Q key.Out → Q key.Quick → Q key.On → Q key.Inet → Q key.Inet6 → Q key.Proto → Q key.All → Q key.From → Q key.To
     → {ts left : List Tok} {p : Parameters} → ParametersOf statement.Anchor ts p left → Q (head left).key → Q (head ts).key
-anchor_parameters_head Q a b c d e f g h i q j =
-    dir_head Q a b q.head.dir (marks_head Q c q.head.marks (behind_head Q d q.head.on (behind_head Q e q.head.family (behind_head Q f q.head.proto (hosts_head Q g h i q.hosts j)))))
+anchor_parameters_head Q a b c d e e6 f g h i q j =
+    dir_head Q a b q.head.dir (marks_head Q c q.head.marks (behind_head Q d q.head.on (family_head Q e e6 q.head.family (behind_head Q f q.head.proto (hosts_head Q g h i q.hosts j)))))
 
 flags_part_head : (Q : Key → Type 0) → Q key.Flags → {ts left : List Tok} {o : Option FlagTest} → Perhaps FlagsOf ts o left → Q (head left).key → Q (head ts).key
 flags_part_head Q a absent h = h
@@ -121,7 +127,7 @@ anchor_parts_read : (p : Progress) {ts : List Tok} {a : AnchorText} {left : List
 unfolding anchor_parts_at
 anchor_parts_read p {a = a} q =
     let brace = (word_head q.opens).0 in
-    let no_name = anchor_parameters_head (λ k. names_anchor k ≡ false) refl refl refl refl refl refl refl refl refl q.parameters (flags_part_head (λ k. names_anchor k ≡ false) refl q.flags (rw brace refl)) in
+    let no_name = anchor_parameters_head (λ k. names_anchor k ≡ false) refl refl refl refl refl refl refl refl refl refl q.parameters (flags_part_head (λ k. names_anchor k ≡ false) refl q.flags (rw brace refl)) in
     let behind_parameters = flags_part_head (λ k. ends_parameters k ≡ true) refl q.flags (rw brace refl) in
     let no_flags : begins_flags (head q.brace).key ≡ false = rw brace refl in
     rw (

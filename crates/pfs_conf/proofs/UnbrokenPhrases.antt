@@ -14,7 +14,7 @@ use Rattle.pfs_addr.specs.Texts.{prefix_of}
 use Rattle.pfs_addr.specs.declared.packets.Dir.TheVariants as dir
 use Rattle.pfs_conf_rules.specs.Entries.{Entry, sign_of}
 use Rattle.pfs_conf_rules.specs.Drafts.{Drafted, with_limit, with_timeout}
-use Rattle.pfs_conf_rules.specs.LoadRules.{greatest_timeout}
+use Rattle.pfs_conf_rules.specs.Bounds.{greatest_timeout}
 use Rattle.pfs_conf_rules.specs.declared.actions.Rate.{Rate}
 use Rattle.pfs_conf_rules.specs.declared.actions.Scope.TheVariants as scope
 use Rattle.pfs_conf_rules.specs.declared.filters.Family.TheVariants as family
@@ -26,7 +26,7 @@ use Rattle.pfs_conf_filters.specs.declared.phrases.Statement.{Statement}
 use Rattle.pfs_conf_filters.specs.declared.phrases.Statement.TheVariants as statement
 use Rattle.pfs_conf_filters.specs.declared.phrases.Verb.TheVariants as verb
 use Rattle.pfs_conf_filters.specs.Values.{in_word, in_plain_word, interface_name, table_name, ports_of, flag_test}
-use Rattle.pfs_conf_filters.specs.Reading.{valued, value_at, behind, clause, part, begins_dir, begins_on, begins_family, begins_proto, begins_from, begins_to, begins_port, begins_flags, interface_at, host_table_at, policy_by, policy_at, verb_by, verb_at, dir_by, dir_at, log_item_by, log_item_at, log_list_by, log_list_at, log_by, log_at, quick_by, quick_at, marked, marks_by, marks_at, negation_by, negation_at, interface, on_at, on_part_at, family_part_at, proto_at, proto_part_at, head_at, close_by, close_at, place_by, place_at, host_by, host_at, equals_by, equals_at, ports_at, ports_part_at, side_host_by, side_host_at, side, side_at, from_part_at, to_part_at, all_hosts, given_hosts, hosts_by, hosts_at, parameters_at, flags_at}
+use Rattle.pfs_conf_filters.specs.Reading.{valued, value_at, behind, clause, part, begins_dir, begins_on, begins_family, begins_proto, begins_from, begins_to, begins_port, begins_flags, interface_at, host_table_at, policy_by, policy_at, verb_by, verb_at, dir_by, dir_at, log_item_by, log_item_at, log_list_by, log_list_at, log_by, log_at, quick_by, quick_at, marked, marks_by, marks_at, negation_by, negation_at, interface, on_at, on_part_at, family_by, family_part_at, proto_at, proto_part_at, head_at, close_by, close_at, place_by, place_at, host_by, host_at, equals_by, equals_at, ports_at, ports_part_at, side_host_by, side_host_at, side, side_at, from_part_at, to_part_at, all_hosts, given_hosts, hosts_by, hosts_at, parameters_at, flags_at}
 use Rattle.pfs_conf_options.specs.Options.{none_given, rule_place}
 use Rattle.pfs_conf_options.specs.Reading as option_reading
 use Rattle.pfs_conf_options.specs.Reading.{track_by, track_at, rate_of, rate_found, rate_by, rate_at, name_found, table_name_by, name_closed_by, name_closed, table_by, table_at, flushed_by, flush_by, flush_at, overload_at, mark_once, timeout_by, mark_by, connection_by, option_by, option_at, options_at, kept_by, kept_at, kept_clause, behind_state, state_word, state_by, state_at}
@@ -159,9 +159,14 @@ unbroken_on_part : Unbroken on_part_at
 unfolding on_part_at
 unbroken_on_part = unbroken_part begins_on on_at unbroken_on
 
+family_acts : (k : Key) → UnbrokenAct (family_by k)
+family_acts key.Inet = unbroken_done family.Inet
+family_acts key.Inet6 = unbroken_done family.Inet6
+family_acts _ = tt
+
 unbroken_family_part : Unbroken family_part_at
 unfolding family_part_at
-unbroken_family_part = unbroken_part begins_family (done family.Inet) (unbroken_done family.Inet)
+unbroken_family_part = unbroken_perhaps begins_family (on_front (λ t. family_by t.key)) (unbroken_front (λ t. family_by t.key) (λ t. family_acts t.key))
 
 unbroken_proto : Unbroken proto_at
 unfolding proto_at

@@ -2,7 +2,7 @@
 
 ghost use Rattle.std.specs.Prelude.{◌≡◌, IfOk, OnOk, None, false};
 ghost use Rattle.pfs_conf_tokens.specs.Giving.{Gives};
-ghost use Rattle.pfs_conf_rules.specs.Siblings.{repeats_by};
+ghost use Rattle.pfs_conf_rules.specs.Order.{repeats_by};
 ghost use Rattle.pfs_conf.specs.Grammar.{names_anchor};
 ghost use Rattle.pfs_conf.specs.Statements.{anchor_breaks, with_anchor};
 ghost use Rattle.pfs_conf.specs.Reading.{anchor_at, anchor_name_at, anchor_parts_at, anchor_text_at, brace_at, repeats_head};

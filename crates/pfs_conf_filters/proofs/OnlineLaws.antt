@@ -21,7 +21,7 @@ use Rattle.pfs_conf_filters.specs.declared.phrases.Statement.TheVariants as stat
 use Rattle.pfs_addr.specs.Texts.{prefix_of}
 use Rattle.pfs_addr.specs.Protocols.{proto_in}
 use Rattle.pfs_conf_filters.specs.Values.{in_word, is_plain_word, in_plain_word, may_name_interface, interface_name, table_name, ports_of, flag_test_by, flag_test}
-use Rattle.pfs_conf_filters.specs.Reading.{valued, value_at, behind, clause, part, begins_dir, begins_on, begins_family, begins_proto, begins_from, begins_to, begins_port, begins_flags, interface_at, host_table_at, policy_by, policy_at, verb_by, verb_at, dir_by, dir_at, log_item_by, log_item_at, log_list_by, log_list_at, log_by, log_at, quick_by, quick_at, marked, marks_by, marks_at, negation_by, negation_at, interface, on_at, on_part_at, family_part_at, proto_at, proto_part_at, head_at, close_by, close_at, place_by, place_at, host_by, host_at, equals_by, equals_at, ports_at, ports_part_at, side_host_by, side_host_at, side, side_at, from_part_at, to_part_at, all_hosts, given_hosts, hosts_by, hosts_at, parameters_at, flags_at}
+use Rattle.pfs_conf_filters.specs.Reading.{valued, value_at, behind, clause, part, begins_dir, begins_on, begins_family, begins_proto, begins_from, begins_to, begins_port, begins_flags, interface_at, host_table_at, policy_by, policy_at, verb_by, verb_at, dir_by, dir_at, log_item_by, log_item_at, log_list_by, log_list_at, log_by, log_at, quick_by, quick_at, marked, marks_by, marks_at, negation_by, negation_at, interface, on_at, on_part_at, family_by, family_part_at, proto_at, proto_part_at, head_at, close_by, close_at, place_by, place_at, host_by, host_at, equals_by, equals_at, ports_at, ports_part_at, side_host_by, side_host_at, side, side_at, from_part_at, to_part_at, all_hosts, given_hosts, hosts_by, hosts_at, parameters_at, flags_at}
 
 -- ---- words that say a value
 
@@ -82,10 +82,6 @@ online_part begins f h g = online_perhaps begins (clause begins f) (online_claus
 on_in_line : (k : Key) → begins_on k ≡ true → in_line k ≡ true
 on_in_line key.On e = refl
 on_in_line _ e = absurd cc
-
-family_in_line : (k : Key) → begins_family k ≡ true → in_line k ≡ true
-family_in_line key.Inet e = refl
-family_in_line _ e = absurd cc
 
 proto_in_line : (k : Key) → begins_proto k ≡ true → in_line k ≡ true
 proto_in_line key.Proto e = refl
@@ -224,9 +220,14 @@ pub online_on_part : Online inside on_part_at
 unfolding on_part_at
 online_on_part = online_part begins_on on_at on_in_line online_on
 
+family_taking : (k : Key) → Taking inside k (family_by k)
+family_taking key.Inet = (refl, online_done family.Inet)
+family_taking key.Inet6 = (refl, online_done family.Inet6)
+family_taking _ = tt
+
 pub online_family_part : Online inside family_part_at
 unfolding family_part_at
-online_family_part = online_part begins_family (done family.Inet) family_in_line (online_done family.Inet)
+online_family_part = online_perhaps begins_family (on_front (λ t. family_by t.key)) (online_taking (λ t. family_by t.key) (λ t. family_taking t.key))
 
 pub online_proto : Online inside proto_at
 unfolding proto_at

@@ -34,8 +34,8 @@ use Rattle.pfs_conf_filters.specs.declared.phrases.Head.{Head}
 use Rattle.pfs_conf_filters.specs.declared.phrases.Hosts.{Hosts}
 use Rattle.pfs_conf_filters.specs.declared.phrases.Parameters.{Parameters}
 use Rattle.pfs_conf_filters.specs.Values.{in_word, in_plain_word, interface_name, table_name, ports_of, flag_test}
-use Rattle.pfs_conf_filters.specs.Reading.{valued, value_at, behind, clause, part, begins_dir, begins_on, begins_family, begins_proto, begins_from, begins_to, begins_port, begins_flags, interface_at, host_table_at, policy_by, policy_at, verb_by, verb_at, dir_by, dir_at, log_item_by, log_item_at, log_list_by, log_list_at, log_by, log_at, quick_by, quick_at, marked, marks_by, marks_at, negation_by, negation_at, interface, on_at, on_part_at, family_part_at, proto_at, proto_part_at, head_at, close_by, close_at, place_by, place_at, host_by, host_at, equals_by, equals_at, ports_at, ports_part_at, side_host_by, side_host_at, side, side_at, from_part_at, to_part_at, all_hosts, given_hosts, hosts_by, hosts_at, parameters_at, flags_at}
-use Rattle.pfs_conf_filters.specs.Grammar.{Says, Behind, PolicyOf, none, drop, return, return_rst, return_icmp, return_icmp6, VerbOf, pass, block, DirOf, inward, outward, LogItemOf, all, matches, user, to, LogListOf, bare, listed, LogOf, silent, logs, QuickOf, slow, quick, MarksOf, log_first, quick_first, of_anchor, NegationOf, affirmed, negated, OnOf, on, InetOf, inet, HeadOf, HostOf, any, prefix, table, PortsOf, plainly, equals, SideOf, hosted, ported, HostsOf, every, sides, ParametersOf, FlagsOf}
+use Rattle.pfs_conf_filters.specs.Reading.{valued, value_at, behind, clause, part, begins_dir, begins_on, begins_family, begins_proto, begins_from, begins_to, begins_port, begins_flags, interface_at, host_table_at, policy_by, policy_at, verb_by, verb_at, dir_by, dir_at, log_item_by, log_item_at, log_list_by, log_list_at, log_by, log_at, quick_by, quick_at, marked, marks_by, marks_at, negation_by, negation_at, interface, on_at, on_part_at, family_by, family_part_at, proto_at, proto_part_at, head_at, close_by, close_at, place_by, place_at, host_by, host_at, equals_by, equals_at, ports_at, ports_part_at, side_host_by, side_host_at, side, side_at, from_part_at, to_part_at, all_hosts, given_hosts, hosts_by, hosts_at, parameters_at, flags_at}
+use Rattle.pfs_conf_filters.specs.Grammar.{Says, Behind, PolicyOf, none, drop, return, return_rst, return_icmp, return_icmp6, VerbOf, pass, block, DirOf, inward, outward, LogItemOf, all, matches, user, to, LogListOf, bare, listed, LogOf, silent, logs, QuickOf, slow, quick, MarksOf, log_first, quick_first, of_anchor, NegationOf, affirmed, negated, OnOf, on, FamilyOf, inet, inet6, HeadOf, HostOf, any, prefix, table, PortsOf, plainly, equals, SideOf, hosted, ported, HostsOf, every, sides, ParametersOf, FlagsOf}
 use Rattle.pfs_conf_filters.proofs.OnlineLaws.{in_word_in_line, in_plain_word_in_line, interface_in_line, flags_in_line}
 
 -- ---- forms
@@ -88,10 +88,6 @@ started {A} begins f ts o left b e = within (begins (head ts).key) b e
 on_only : (k : Key) → begins_on k ≡ true → k ≡ key.On
 on_only key.On e = refl
 on_only _ e = absurd cc
-
-family_only : (k : Key) → begins_family k ≡ true → k ≡ key.Inet
-family_only key.Inet e = refl
-family_only _ e = absurd cc
 
 proto_only : (k : Key) → begins_proto k ≡ true → k ≡ key.Proto
 proto_only key.Proto e = refl
@@ -243,9 +239,17 @@ on_part_is : (ts : List Tok) (o : Option Interface) (left : List Tok) → on_par
 unfolding on_part_at
 on_part_is ts o left e = part_is key.On begins_on on_at OnOf on_only (λ q. cc) interface_is ts o left e
 
-family_part_is : (ts : List Tok) (o : Option Family) (left : List Tok) → family_part_at ts ≡ Ok (o, left) → Perhaps (Behind key.Inet InetOf) ts o left
+family_word_is : (ts : List Tok) (x : Family) (left : List Tok) → on_front (λ t. family_by t.key) ts ≡ Ok (x, left) → FamilyOf ts x left
+family_word_is ts x left e = by_key (head ts).key refl e
+  where
+    by_key : (k : Key) → (head ts).key ≡ k → act (family_by k) ts ≡ Ok (x, left) → FamilyOf ts x left
+    by_key key.Inet g h = moved FamilyOf ts (ok_parts family.Inet x (rest ts) left h) (inet (word_is key.Inet ts g (λ q. cc)))
+    by_key key.Inet6 g h = moved FamilyOf ts (ok_parts family.Inet6 x (rest ts) left h) (inet6 (word_is key.Inet6 ts g (λ q. cc)))
+    by_key _ g h = absurd cc
+
+family_part_is : (ts : List Tok) (o : Option Family) (left : List Tok) → family_part_at ts ≡ Ok (o, left) → Perhaps FamilyOf ts o left
 unfolding family_part_at
-family_part_is ts o left e = part_is key.Inet begins_family (done family.Inet) InetOf family_only (λ q. cc) (λ us x vs h. moved InetOf us (ok_parts family.Inet x us vs h) inet) ts o left e
+family_part_is ts o left e = perhaps_is begins_family (on_front (λ t. family_by t.key)) FamilyOf family_word_is ts o left e
 
 proto_is : (ts : List Tok) (x : Proto) (left : List Tok) → proto_at ts ≡ Ok (x, left) → Says (in_word proto_in) ts x left
 unfolding proto_at

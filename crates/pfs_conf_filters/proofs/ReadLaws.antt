@@ -17,7 +17,6 @@ use Rattle.pfs_addr.specs.Texts.{prefix_of}
 use Rattle.pfs_addr.specs.declared.packets.Dir.{Dir}
 use Rattle.pfs_addr.specs.declared.protocols.Proto.{Proto}
 use Rattle.pfs_conf_rules.specs.declared.filters.Family.{Family}
-use Rattle.pfs_conf_rules.specs.declared.filters.Family.TheVariants as family
 use Rattle.pfs_conf_rules.specs.declared.filters.Interface.{Interface}
 use Rattle.pfs_conf_rules.specs.declared.filters.Host.{Host}
 use Rattle.pfs_conf_rules.specs.declared.filters.Host.TheVariants as host
@@ -32,8 +31,8 @@ use Rattle.pfs_conf_filters.specs.declared.phrases.Head.{Head}
 use Rattle.pfs_conf_filters.specs.declared.phrases.Hosts.{Hosts}
 use Rattle.pfs_conf_filters.specs.declared.phrases.Parameters.{Parameters}
 use Rattle.pfs_conf_filters.specs.Values.{in_word, is_plain_word, in_plain_word, may_name_interface, interface_name, table_name, ports_of, flag_test}
-use Rattle.pfs_conf_filters.specs.Reading.{value_at, clause, part, begins_dir, begins_on, begins_family, begins_proto, begins_from, begins_to, begins_port, begins_flags, interface_at, host_table_at, policy_by, policy_at, verb_at, dir_by, dir_at, log_item_at, log_list_by, log_list_at, log_by, log_at, quick_by, quick_at, marked, rule_marks_by, marks_at, negation_by, negation_at, on_at, on_part_at, family_part_at, proto_at, proto_part_at, head_at, close_at, place_by, place_at, host_by, host_at, equals_by, equals_at, ports_at, ports_part_at, side_host_by, side_host_at, side_at, from_part_at, to_part_at, given_hosts, hosts_by, hosts_at, parameters_at, flags_at}
-use Rattle.pfs_conf_filters.specs.Grammar.{Says, Behind, PolicyOf, none, drop, return, return_rst, return_icmp, return_icmp6, VerbOf, pass, block, DirOf, inward, outward, LogItemOf, all, matches, user, to, LogListOf, bare, listed, LogOf, silent, logs, QuickOf, slow, quick, MarksOf, log_first, quick_first, of_anchor, NegationOf, affirmed, negated, OnOf, on, InetOf, inet, HeadOf, HostOf, any, prefix, table, PortsOf, plainly, equals, SideOf, hosted, ported, HostsOf, every, sides, ParametersOf, FlagsOf}
+use Rattle.pfs_conf_filters.specs.Reading.{value_at, clause, part, begins_dir, begins_on, begins_family, begins_proto, begins_from, begins_to, begins_port, begins_flags, interface_at, host_table_at, policy_by, policy_at, verb_at, dir_by, dir_at, log_item_at, log_list_by, log_list_at, log_by, log_at, quick_by, quick_at, marked, rule_marks_by, marks_at, negation_by, negation_at, on_at, on_part_at, family_by, family_part_at, proto_at, proto_part_at, head_at, close_at, place_by, place_at, host_by, host_at, equals_by, equals_at, ports_at, ports_part_at, side_host_by, side_host_at, side_at, from_part_at, to_part_at, given_hosts, hosts_by, hosts_at, parameters_at, flags_at}
+use Rattle.pfs_conf_filters.specs.Grammar.{Says, Behind, PolicyOf, none, drop, return, return_rst, return_icmp, return_icmp6, VerbOf, pass, block, DirOf, inward, outward, LogItemOf, all, matches, user, to, LogListOf, bare, listed, LogOf, silent, logs, QuickOf, slow, quick, MarksOf, log_first, quick_first, of_anchor, NegationOf, affirmed, negated, OnOf, on, FamilyOf, inet, inet6, HeadOf, HostOf, any, prefix, table, PortsOf, plainly, equals, SideOf, hosted, ported, HostsOf, every, sides, ParametersOf, FlagsOf}
 use Rattle.pfs_conf_filters.proofs.OnlineLaws.{passed, log_item_shrinks}
 
 -- ---- what may stand behind
@@ -56,6 +55,7 @@ ends_head key.OpenParen = false
 ends_head key.Quick = false
 ends_head key.On = false
 ends_head key.Inet = false
+ends_head key.Inet6 = false
 ends_head key.Proto = false
 ends_head _ = true
 
@@ -76,6 +76,7 @@ ends_parameters key.OpenParen = false
 ends_parameters key.Quick = false
 ends_parameters key.On = false
 ends_parameters key.Inet = false
+ends_parameters key.Inet6 = false
 ends_parameters key.Proto = false
 ends_parameters key.All = false
 ends_parameters key.From = false
@@ -303,12 +304,20 @@ on_part_reads : {ts : List Tok} {o : Option Interface} {left : List Tok} → Per
 unfolding on_part_at anything
 on_part_reads p f = part_reads key.On begins_on anything on_at OnOf refl (λ ts x left q g. interface_reads q) p f refl
 
-inet_reads : (ts : List Tok) (x : Family) (left : List Tok) → InetOf ts x left → done family.Inet ts ≡ Ok (x, left)
-inet_reads ts x left inet = refl
+family_word_reads : (ts : List Tok) (x : Family) (left : List Tok) → FamilyOf ts x left → (begins_family (head ts).key ≡ true) × (on_front (λ t. family_by t.key) ts ≡ Ok (x, left))
+family_word_reads ts x left (inet w) = let h = word_head w in (rw h.0 refl, rw (h.0, h.1) refl)
+family_word_reads ts x left (inet6 w) = let h = word_head w in (rw h.0 refl, rw (h.0, h.1) refl)
 
-family_part_reads : {ts : List Tok} {o : Option Family} {left : List Tok} → Perhaps (Behind key.Inet InetOf) ts o left → begins_family (head left).key ≡ false → family_part_at ts ≡ Ok (o, left)
-unfolding family_part_at anything
-family_part_reads p f = part_reads key.Inet begins_family anything (done family.Inet) InetOf refl (λ ts x left q g. inet_reads ts x left q) p f refl
+family_part_reads : {ts : List Tok} {o : Option Family} {left : List Tok} → Perhaps FamilyOf ts o left → begins_family (head left).key ≡ false → family_part_at ts ≡ Ok (o, left)
+unfolding family_part_at
+family_part_reads p f = perhaps_reads begins_family (on_front (λ t. family_by t.key)) FamilyOf family_word_reads p f
+
+family_head : (Q : Key → Type 0) → Q key.Inet → Q key.Inet6 → {ts : List Tok} {o : Option Family} {left : List Tok} → Perhaps FamilyOf ts o left → Q (head left).key → Q (head ts).key
+family_head Q i j p f = perhaps_head FamilyOf Q family_key p f
+  where
+    family_key : (us : List Tok) (x : Family) (vs : List Tok) → FamilyOf us x vs → Q (head us).key
+    family_key us x vs (inet w) = word_key key.Inet Q i w
+    family_key us x vs (inet6 w) = word_key key.Inet6 Q j w
 
 proto_reads : {ts : List Tok} {x : Proto} {left : List Tok} → Says (in_word proto_in) ts x left → proto_at ts ≡ Ok (x, left)
 unfolding proto_at
@@ -344,6 +353,7 @@ ends_no_on _ e = refl
 
 ends_no_family : (k : Key) → ends_head k ≡ true → begins_family k ≡ false
 ends_no_family key.Inet e = absurd cc
+ends_no_family key.Inet6 e = absurd cc
 ends_no_family _ e = refl
 
 ends_no_proto : (k : Key) → ends_head k ≡ true → begins_proto k ≡ false
@@ -354,22 +364,22 @@ module _ (s : Statement) (ts : List Tok) (h : Head) (left : List Tok) (w : HeadO
   from_d : (Q : Key → Type 0) → Q key.Proto → Q (head left).key → Q (head w.d).key
   from_d Q p f = behind_head key.Proto (Says (in_word proto_in)) Q p w.proto f
 
-  from_c : (Q : Key → Type 0) → Q key.Inet → Q key.Proto → Q (head left).key → Q (head w.c).key
-  from_c Q i p f = behind_head key.Inet InetOf Q i w.family (from_d Q p f)
+  from_c : (Q : Key → Type 0) → Q key.Inet → Q key.Inet6 → Q key.Proto → Q (head left).key → Q (head w.c).key
+  from_c Q i j p f = family_head Q i j w.family (from_d Q p f)
 
-  from_b : (Q : Key → Type 0) → Q key.On → Q key.Inet → Q key.Proto → Q (head left).key → Q (head w.b).key
-  from_b Q o i p f = behind_head key.On OnOf Q o w.on (from_c Q i p f)
+  from_b : (Q : Key → Type 0) → Q key.On → Q key.Inet → Q key.Inet6 → Q key.Proto → Q (head left).key → Q (head w.b).key
+  from_b Q o i j p f = behind_head key.On OnOf Q o w.on (from_c Q i j p f)
 
-  from_a : (Q : Key → Type 0) → Q key.Quick → Q key.Log → Q key.On → Q key.Inet → Q key.Proto → Q (head left).key → Q (head w.a).key
-  from_a Q q l o i p f = marks_head Q q l w.marks (from_b Q o i p f)
+  from_a : (Q : Key → Type 0) → Q key.Quick → Q key.Log → Q key.On → Q key.Inet → Q key.Inet6 → Q key.Proto → Q (head left).key → Q (head w.a).key
+  from_a Q q l o i j p f = marks_head Q q l w.marks (from_b Q o i j p f)
 
   pub head_reads : ends_head (head left).key ≡ true → head_at s ts ≡ Ok (h, left)
   unfolding head_at
   head_reads f =
       rw (
-        dir_reads w.dir (from_a (λ k. begins_dir k ≡ false) refl refl refl refl refl (ends_no_dir (head left).key f)),
-        marks_read w.marks (from_b (λ k. is_log k ≡ false) refl refl refl (ends_no_log (head left).key f)) (from_b (λ k. is_paren k ≡ false) refl refl refl (ends_no_paren (head left).key f)) (from_b (λ k. is_quick k ≡ false) refl refl refl (ends_no_quick (head left).key f)),
-        on_part_reads w.on (from_c (λ k. begins_on k ≡ false) refl refl (ends_no_on (head left).key f)),
+        dir_reads w.dir (from_a (λ k. begins_dir k ≡ false) refl refl refl refl refl refl (ends_no_dir (head left).key f)),
+        marks_read w.marks (from_b (λ k. is_log k ≡ false) refl refl refl refl (ends_no_log (head left).key f)) (from_b (λ k. is_paren k ≡ false) refl refl refl refl (ends_no_paren (head left).key f)) (from_b (λ k. is_quick k ≡ false) refl refl refl refl (ends_no_quick (head left).key f)),
+        on_part_reads w.on (from_c (λ k. begins_on k ≡ false) refl refl refl (ends_no_on (head left).key f)),
         family_part_reads w.family (from_d (λ k. begins_family k ≡ false) refl (ends_no_family (head left).key f)),
         proto_part_reads w.proto (ends_no_proto (head left).key f),
       ) refl
@@ -538,6 +548,7 @@ ends_both key.OpenParen e = absurd cc
 ends_both key.Quick e = absurd cc
 ends_both key.On e = absurd cc
 ends_both key.Inet e = absurd cc
+ends_both key.Inet6 e = absurd cc
 ends_both key.Proto e = absurd cc
 ends_both key.All e = absurd cc
 ends_both key.From e = absurd cc
@@ -553,10 +564,10 @@ parameters_read s {ts = ts} {p = p} {left = left} w e =
     rw (head_reads s ts p.head w.mid w.head f, hosts_read w.hosts b.1) refl
 
 -- what parameters begin with, or where they lack, what stands behind them
-pub parameters_head : (Q : Key → Type 0) → Q key.In → Q key.Out → Q key.Log → Q key.Quick → Q key.On → Q key.Inet → Q key.Proto → Q key.All → Q key.From → Q key.To
+pub parameters_head : (Q : Key → Type 0) → Q key.In → Q key.Out → Q key.Log → Q key.Quick → Q key.On → Q key.Inet → Q key.Inet6 → Q key.Proto → Q key.All → Q key.From → Q key.To
     → {s : Statement} {ts : List Tok} {p : Parameters} {left : List Tok} → ParametersOf s ts p left → Q (head left).key → Q (head ts).key
-parameters_head Q i o l q n f p a r t {s = s} {ts = ts} {p = x} w e =
-    perhaps_head DirOf Q dir_key w.head.dir (from_a s ts x.head w.mid w.head Q q l n f p (hosts_head Q a r t w.hosts e))
+parameters_head Q i o l q n f g p a r t {s = s} {ts = ts} {p = x} w e =
+    perhaps_head DirOf Q dir_key w.head.dir (from_a s ts x.head w.mid w.head Q q l n f g p (hosts_head Q a r t w.hosts e))
   where
     dir_key : (us : List Tok) (d : Dir) (vs : List Tok) → DirOf us d vs → Q (head us).key
     dir_key us d vs (inward w) = word_key key.In Q i w

@@ -88,9 +88,9 @@ pub data NegationOf : List Tok → Bool → List Tok → Type 0 where
 pub data OnOf : List Tok → Interface → List Tok → Type 0 where
   on : {ts mid left : List Tok} {b : Bool} {n : List ℕ} → NegationOf ts b mid → Says interface_name mid n left → OnOf ts (record { name = n; negated = b }) left
 
--- behind `inet`: nothing
-pub data InetOf : List Tok → Family → List Tok → Type 0 where
-  inet : {ts : List Tok} → InetOf ts family.Inet ts
+pub data FamilyOf : List Tok → Family → List Tok → Type 0 where
+  inet : {ts left : List Tok} → Word key.Inet ts left → FamilyOf ts family.Inet left
+  inet6 : {ts left : List Tok} → Word key.Inet6 ts left → FamilyOf ts family.Inet6 left
 
 -- the parameters before the hosts
 pub record HeadOf (s : Statement) (ts : List Tok) (h : Head) (left : List Tok) : Type 0 where
@@ -101,7 +101,7 @@ pub record HeadOf (s : Statement) (ts : List Tok) (h : Head) (left : List Tok) :
   pub dir : Perhaps DirOf ts h.dir a
   pub marks : MarksOf s a h.marks b
   pub on : Perhaps (Behind key.On OnOf) b h.on c
-  pub family : Perhaps (Behind key.Inet InetOf) c h.family d
+  pub family : Perhaps FamilyOf c h.family d
   pub proto : Perhaps (Behind key.Proto (Says (in_word proto_in))) d h.proto left
 
 pub data HostOf : List Tok → Host (List ℕ) → List Tok → Type 0 where

@@ -63,6 +63,7 @@ begins_on _ = false
 
 abbrev pub begins_family : Key → Bool
 begins_family key.Inet = true
+begins_family key.Inet6 = true
 begins_family _ = false
 
 abbrev pub begins_proto : Key → Bool
@@ -192,8 +193,13 @@ on_at ts = chain negation_at (λ b. chain interface_at (λ n. done (interface n 
 unfoldable pub on_part_at : Reader (Option Interface)
 on_part_at ts = part begins_on on_at ts
 
+abbrev pub family_by : Key → Act Family
+family_by key.Inet = take (done family.Inet)
+family_by key.Inet6 = take (done family.Inet6)
+family_by _ = refuse why.Plain
+
 unfoldable pub family_part_at : Reader (Option Family)
-family_part_at ts = part begins_family (done family.Inet) ts
+family_part_at ts = perhaps begins_family (on_front (λ t. family_by t.key)) ts
 
 unfoldable pub proto_at : Reader Proto
 proto_at ts = value_at why.Service (in_word proto_in) ts

@@ -15,6 +15,7 @@ repeats p key.Log = p.head.marks.log
 repeats p key.Quick = p.head.marks.quick
 repeats p key.On = is_some p.head.on
 repeats p key.Inet = is_some p.head.family
+repeats p key.Inet6 = is_some p.head.family
 repeats p key.Proto = is_some p.head.proto
 repeats p key.All = p.hosts.all
 repeats p key.From = is_some p.hosts.from

@@ -197,14 +197,20 @@ fn interface(cursor: &mut Cursor) -> Result<Interface, Refusal>
     Ok(Interface { name, negated })
 }
 
-/// `inet`, if it stands there.
+/// `inet` or `inet6`, if one of them stands there.
 #[tactic(auto, unfolding(crate::specs::Reading::family_part_at))]
 fn family_part(cursor: &mut Cursor) -> Result<Option<Family>, Refusal>
     ensures { Gives result cursor.new (family_part_at cursor.old) }
 {
-    if cursor.take(Key::Inet) {
-        Ok(Some(Family::Inet))
-    } else {
-        Ok(None)
+    match cursor.key() {
+        Key::Inet => {
+            cursor.advance();
+            Ok(Some(Family::Inet))
+        }
+        Key::Inet6 => {
+            cursor.advance();
+            Ok(Some(Family::Inet6))
+        }
+        _ => Ok(None),
     }
 }

@@ -49,7 +49,8 @@ impl Parameters {
     }
 
     /// Whether this word begins a part that these parameters have already, so that it is told as a repeated one where no
-    /// statement goes on with it: `in` and `out` begin one part, and `port` repeats the ports of either side.
+    /// statement goes on with it: `in` and `out` begin one part, and so do `inet` and `inet6`; `port` repeats the ports of
+    /// either side.
     /// (own to this profile)
     pub fn have(&self, key: Key) -> bool
         ensures { result ≡ repeats self.now key }
@@ -59,7 +60,7 @@ impl Parameters {
             Key::Log => self.head.marks.log,
             Key::Quick => self.head.marks.quick,
             Key::On => self.head.on.is_some(),
-            Key::Inet => self.head.family.is_some(),
+            Key::Inet | Key::Inet6 => self.head.family.is_some(),
             Key::Proto => self.head.proto.is_some(),
             Key::All => self.hosts.all,
             Key::From => self.hosts.from.is_some(),

@@ -17,7 +17,7 @@ use Rattle.pfs_conf_options.specs.declared.clauses.Options.{Options}
 use Rattle.pfs_conf_options.specs.declared.clauses.StateClause.{StateClause}
 use Rattle.pfs_conf_options.specs.declared.clauses.StateClause.TheVariants as clause
 use Rattle.pfs_conf_options.specs.Options.{none_given, rule_place}
-use Rattle.pfs_conf_rules.specs.LoadRules.{greatest_timeout}
+use Rattle.pfs_conf_rules.specs.Bounds.{greatest_timeout}
 use Rattle.pfs_conf_options.specs.Reading.{track_by, track_at, rate_of, rate_found, rate_by, rate_at, name_found, table_name_by, table_name_at, name_closed_by, name_closed, table_by, table_at, flushed_by, flush_by, flush_at, overload_at, mark_once, timeout_by, mark_by, connection_by, option_by, option_at, options_at, kept_by, kept_at, kept_clause, behind_state, state_word, state_by, state_at}
 
 -- ---- what stands behind an option's word

@@ -15,7 +15,7 @@ use Rattle.pfs_conf_tokens.specs.Grammar.{WordOf, Word, Number, ListOf}
 use Rattle.pfs_conf_tokens.proofs.Laws.{ok_parts, chain_ok}
 use Rattle.pfs_conf_tokens.proofs.ReaderLaws.{word_head, word_is, number_is, number_reads, list_is, list_reads, ReadsList, no_comma}
 use Rattle.pfs_addr.specs.Names.{name_of}
-use Rattle.pfs_conf_rules.specs.LoadRules.{greatest_timeout}
+use Rattle.pfs_conf_rules.specs.Bounds.{greatest_timeout}
 use Rattle.pfs_conf_rules.specs.declared.actions.Rate.{Rate}
 use Rattle.pfs_conf_rules.specs.declared.actions.Scope.{Scope}
 use Rattle.pfs_conf_rules.specs.declared.actions.Scope.TheVariants as scope

@@ -1,6 +1,7 @@
 -- What every state clause that is read keeps: each option is within its bounds. (own)
 use Rattle.std.specs.Prelude.{◌≡◌, ℕ, true, None, IfSome, length, slice_index_or}
-use Rattle.pfs_conf_rules.specs.LoadRules.{IsCount, IsRate, IsTimeout}
+use Rattle.pfs_conf_rules.specs.LoadRules.{IsCount, IsTimeout}
+use Rattle.pfs_conf_rules.specs.Bounds.{IsRate}
 use Rattle.pfs_addr.specs.Names.{is_name}
 use Rattle.pfs_conf_rules.specs.declared.timeouts.TimeoutName.TheVariants as timeout
 use Rattle.pfs_conf_options.specs.declared.clauses.Options.{Options}

@@ -4,7 +4,7 @@ use Rattle.pfs_conf_tokens.specs.declared.keys.Key.{Key}
 use Rattle.pfs_conf_tokens.specs.declared.keys.Key.TheVariants as key
 use Rattle.pfs_conf_tokens.specs.Keys.{timeout_place}
 use Rattle.pfs_conf_rules.specs.Timeouts.{place_of, no_timeouts}
-use Rattle.pfs_conf_rules.specs.LoadRules.{broken_rule_pair, is_global}
+use Rattle.pfs_conf_rules.specs.Bounds.{broken_rule_pair, is_global}
 use Rattle.pfs_conf_rules.specs.declared.timeouts.TimeoutName.{TimeoutName}
 use Rattle.pfs_conf_rules.specs.declared.timeouts.TimeoutName.TheVariants as timeout
 use Rattle.pfs_conf_rules.specs.declared.actions.Scope.{Scope}

@@ -7,7 +7,7 @@ use Rattle.pfs_conf_tokens.specs.Keys.{is_word_key}
 use Rattle.pfs_conf_tokens.specs.Reading.{closes_parens, Reader, Act, take, stay, refuse, on_front, done, chain, once, list_all, number_at}
 use Rattle.pfs_conf_tokens.specs.Numbers.{number_written, split_around}
 use Rattle.pfs_addr.specs.Names.{name_of}
-use Rattle.pfs_conf_rules.specs.LoadRules.{greatest_timeout}
+use Rattle.pfs_conf_rules.specs.Bounds.{greatest_timeout}
 use Rattle.pfs_conf_rules.specs.declared.actions.Rate.{Rate}
 use Rattle.pfs_conf_rules.specs.declared.actions.Scope.{Scope}
 use Rattle.pfs_conf_rules.specs.declared.actions.Scope.TheVariants as scope

@@ -6,7 +6,7 @@ ghost use Rattle.pfs_conf_tokens.specs.Reading.{closes_parens, act, until_all, n
 ghost use Rattle.pfs_conf_tokens.specs.Giving.{Gives};
 ghost use Rattle.pfs_conf_options.specs.Options.{rule_place, options_given};
 ghost use Rattle.pfs_conf_options.specs.Bounds.{AreRead};
-ghost use Rattle.pfs_conf_rules.specs.LoadRules.{greatest_timeout};
+ghost use Rattle.pfs_conf_rules.specs.Bounds.{greatest_timeout};
 ghost use Rattle.pfs_conf_options.specs.Reading.{track_at, counted, rate_of, rate_at, table_name_at, table_at, flush_at, overload_at, mark_at, timeout_at, connection_at, option_at, options_at, kept_at, state_at};
 
 use crate::clauses::{Options, OverloadText, StateClause, Track};

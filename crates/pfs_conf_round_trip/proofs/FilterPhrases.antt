@@ -14,7 +14,7 @@ use Rattle.pfs_conf_tokens.specs.Lexis.{is_word_byte, tokens}
 use Rattle.pfs_conf_tokens.specs.Tokens.{Tok, token}
 use Rattle.pfs_conf_tokens.specs.Words.{key_of_text}
 use Rattle.pfs_conf_tokens.proofs.ShownLaws.{breaks, decimal_text, is_word_text, mark_then, split_around-append, word_then}
-use Rattle.pfs_conf_tokens.proofs.WordKeys.{key_of-All, key_of-Any, key_of-Flags, key_of-From, key_of-In, key_of-Inet, key_of-On, key_of-Out, key_of-Port, key_of-Proto, key_of-Quick, key_of-To}
+use Rattle.pfs_conf_tokens.proofs.WordKeys.{key_of-All, key_of-Any, key_of-Flags, key_of-From, key_of-In, key_of-Inet, key_of-Inet6, key_of-On, key_of-Out, key_of-Port, key_of-Proto, key_of-Quick, key_of-To}
 use Rattle.pfs_addr.specs.FlagSets.{flags_of}
 use Rattle.pfs_addr.specs.Names.{is_name, name_of}
 use Rattle.pfs_addr.specs.Prefixes.{IsNetwork, Network}
@@ -25,7 +25,7 @@ use Rattle.pfs_addr.specs.declared.packets.Dir.{Dir}
 use Rattle.pfs_addr.specs.declared.packets.Dir.TheVariants as dir
 use Rattle.pfs_addr.specs.declared.protocols.Proto.{Proto}
 use Rattle.pfs_addr.specs.declared.protocols.Proto.TheVariants as proto
-use Rattle.pfs_conf_rules.specs.Configs.{IsTable}
+use Rattle.pfs_conf_rules.specs.Invariants.{IsTable}
 use Rattle.pfs_conf_rules.specs.LoadRules.{ArePorts, IsFilter, IsFlagTest, IsHost, IsInterface, IsProto, IsSide, IsTableNo, has_a_flag}
 use Rattle.pfs_conf_rules.specs.declared.filters.Family.{Family}
 use Rattle.pfs_conf_rules.specs.declared.filters.Family.TheVariants as family
@@ -39,9 +39,9 @@ use Rattle.pfs_conf_rules.specs.declared.filters.Ports.{Ports}
 use Rattle.pfs_conf_rules.specs.declared.filters.Side.{Side}
 use Rattle.pfs_conf_rules.specs.declared.filters.TableNo.{TableNo}
 use Rattle.pfs_conf_rules.specs.declared.tables.TableDef.{TableDef}
-use Rattle.pfs_conf_filters.specs.Grammar.{Behind, DirOf, FlagsOf, HostOf, HostsOf, InetOf, MarksOf, OnOf, ParametersOf, PortsOf, QuickOf, Says, SideOf, inward, outward, slow, quick, silent, log_first, of_anchor, affirmed, negated, on, inet, any, prefix, table, plainly, hosted, every, sides}
+use Rattle.pfs_conf_filters.specs.Grammar.{Behind, DirOf, FamilyOf, FlagsOf, HostOf, HostsOf, MarksOf, OnOf, ParametersOf, PortsOf, QuickOf, Says, SideOf, inward, outward, slow, quick, silent, log_first, of_anchor, affirmed, negated, on, inet, inet6, any, prefix, table, plainly, hosted, every, sides}
 use Rattle.pfs_conf_filters.specs.Reading.{all_hosts, given_hosts, interface, marked}
-use Rattle.pfs_conf_filters.specs.Values.{exactly, flag_test, flag_test_by, flag_test_of, flags_around, in_plain_word, in_word, interface_name, may_name_interface, ports_of, table_name}
+use Rattle.pfs_conf_filters.specs.Values.{is_plain_word, exactly, flag_test, flag_test_by, flag_test_of, flags_around, in_plain_word, in_word, interface_name, may_name_interface, ports_of, table_name}
 use Rattle.pfs_conf_filters.specs.declared.phrases.Statement.{Statement}
 use Rattle.pfs_conf_filters.specs.declared.phrases.Statement.TheVariants as statement
 use Rattle.pfs_conf_show.specs.Filters.{dir_text, family_text, flags_text, host_text, hosts_text, is_every_side, letters_text, on_text, ports_text, proto_text, quick_text, range_text, side_text}
@@ -50,7 +50,8 @@ use Rattle.pfs_conf_show.specs.Tables.{angled, name_in}
 use Rattle.pfs_conf_round_trip.proofs.Said.{host_said, hosts_said, parameters_said, side_said, table_said}
 use Rattle.pfs_conf_round_trip.proofs.Letters.{flags_again, letters_all, letters_some}
 use Rattle.pfs_conf_round_trip.proofs.Names.{is_other, key_of_word, may_name, name_again, name_text, not_any}
-use Rattle.pfs_conf_round_trip.proofs.Numbers.{no_word, ports_again, ports_word, prefix_again, prefix_key, prefix_word, proto_again, proto_known}
+use Rattle.pfs_conf_round_trip.proofs.Numbers.{no_word, ports_again, ports_word, proto_again, proto_known}
+use Rattle.pfs_conf_round_trip.proofs.PrefixWords.{prefix_again, prefix_plain, prefix_word}
 use Rattle.pfs_conf_round_trip.proofs.Pieces.{all-append, at, mark, text-append, word, word_between}
 
 -- a word that says a value
@@ -93,9 +94,10 @@ on_reads (Some i) line more h b =
       on_behind i.name i.negated line more h.name h.not_any h.not_rdomain b,
     )
 
-pub family_reads : (f : Option Family) (line : ℕ) (more : List ℕ) → breaks more ≡ true → Perhaps (Behind key.Inet InetOf) (at line (family_text f ++ more)) f (at line more)
+pub family_reads : (f : Option Family) (line : ℕ) (more : List ℕ) → breaks more ≡ true → Perhaps FamilyOf (at line (family_text f ++ more)) f (at line more)
 family_reads None line more b = absent
-family_reads (Some family.Inet) line more b = present (at line more, word line (codes "inet") more refl b key_of-Inet, inet)
+family_reads (Some family.Inet) line more b = present (inet (word line (codes "inet") more refl b key_of-Inet))
+family_reads (Some family.Inet6) line more b = present (inet6 (word line (codes "inet6") more refl b key_of-Inet6))
 
 word_says : {A : Type 0} (value : List ℕ → Option A) (line : ℕ) (w more : List ℕ) (x : A) → is_word_text w ≡ true → breaks more ≡ true → value w ≡ Some x
     → Says (in_word value) (at line (w ++ more)) x (at line more)
@@ -143,7 +145,7 @@ table_says line n more h = (token line (key_of_text n) n, angle_names line n mor
 prefix_says : (line : ℕ) (p : Network) (more : List ℕ) → IsNetwork p → breaks more ≡ true → Says (in_plain_word prefix_of) (at line (prefix_text p ++ more)) p (at line more)
 prefix_says line p more h b =
     says (in_plain_word prefix_of) line (prefix_text p) more p (prefix_word p h) b
-    (ap (λ (k : Key). in_plain_word prefix_of (token line k (prefix_text p))) (prefix_key p h) ∙ prefix_again p h)
+    (cond-true (is_plain_word (key_of_text (prefix_text p))) (prefix_of (prefix_text p)) None (prefix_plain p h) ∙ prefix_again p h)
 
 prefix_reads : (p : Network) (negation : Bool) (line : ℕ) (more : List ℕ) → IsNetwork p → breaks more ≡ true
     → HostOf (at line ((not_text negation ++ prefix_text p) ++ more)) (host.Prefix p negation) (at line more)
@@ -265,6 +267,7 @@ on_break (Some i) more b = refl
 family_break : (f : Option Family) (more : List ℕ) → breaks more ≡ true → breaks (family_text f ++ more) ≡ true
 family_break None more b = b
 family_break (Some family.Inet) more b = refl
+family_break (Some family.Inet6) more b = refl
 
 proto_break : (p : Option Proto) (more : List ℕ) → breaks more ≡ true → breaks (proto_text p ++ more) ≡ true
 proto_break None more b = b

@@ -8,9 +8,9 @@ use Rattle.pfs_conf_tokens.specs.Tokens.{token}
 use Rattle.pfs_conf_tokens.proofs.ShownLaws.{breaks, quoted_then, space_then}
 use Rattle.pfs_conf_tokens.proofs.WordKeys.{key_of-Anchor, key_of-Block, key_of-Pass}
 use Rattle.pfs_addr.specs.Names.{is_name}
-use Rattle.pfs_conf_rules.specs.Configs.{IsTable}
+use Rattle.pfs_conf_rules.specs.Invariants.{IsTable}
 use Rattle.pfs_conf_rules.specs.LoadRules.{IsAction, IsAnchor, IsFlagTest, IsRule}
-use Rattle.pfs_conf_rules.specs.Siblings.{repeats_by}
+use Rattle.pfs_conf_rules.specs.Order.{repeats_by}
 use Rattle.pfs_conf_rules.specs.declared.actions.Action.{Action}
 use Rattle.pfs_conf_rules.specs.declared.actions.Action.TheVariants as action
 use Rattle.pfs_conf_rules.specs.declared.filters.FlagTest.{FlagTest}

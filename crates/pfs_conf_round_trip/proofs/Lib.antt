@@ -3,6 +3,7 @@ mod Pieces
 mod Names
 mod Letters
 mod Numbers
+mod PrefixWords
 mod FilterPhrases
 mod Lists
 mod OptionPhrases

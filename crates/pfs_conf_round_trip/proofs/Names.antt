@@ -60,7 +60,7 @@ OnFound g None = Unit {0}
 OnFound g (Some k) = g k ≡ true
 
 -- a test that a table's words pass, or that are not this one
-abbrev passes : (Key → Bool) → List ℕ → (List ℕ × Key) → Bool
+abbrev pub passes : (Key → Bool) → List ℕ → (List ℕ × Key) → Bool
 passes g w entry = not (bytes_eq w entry.0) || g entry.1
 
 found : (g : Key → Bool) (w : List ℕ) (entries : List (List ℕ × Key)) → list_all (passes g w) entries ≡ true → OnFound g (find_word entries w)

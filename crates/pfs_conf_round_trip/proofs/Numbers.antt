@@ -1,33 +1,25 @@
 -- Words that begin with a number, as prefixes, ports, rates and protocols are: their bytes and keys, and what they are read as.
-use Rattle.std.proofs.Common.{◌≡◌, ◌≢◌, ◌≤◌, ◌<◌, ◌^◌, ◌+◌, ℕ, Bool, true, false, List, [], ◌∷◌, ◌++◌, length, get_or, Option, Some, None, inl, inr, refl, sym, ap, ◌∙◌, arith, append-nil, append_assoc}
-use Rattle.std.specs.Prelude.{◌⊎◌, codes, decimal, ◌==◌, not, nat_lt, nat_le, if◌then◌else◌}
+use Rattle.std.proofs.Common.{◌≡◌, ◌≢◌, ◌<◌, ◌^◌, ◌+◌, ℕ, Bool, true, false, List, [], ◌∷◌, ◌++◌, length, Option, Some, None, refl, sym, ap, ◌∙◌, arith, append-nil}
+use Rattle.std.specs.Prelude.{codes, decimal, ◌==◌, not, nat_lt, nat_le, if◌then◌else◌}
 use Rattle.std.specs.List.{list_all, prefix_len}
 use Rattle.std.specs.Str.{bytes_eq}
 use Rattle.std.proofs.lemmas.Bool.{and_from, and_parts, cond-true, cond-false, ne_eqb, eqb-true, and_left, le-leb, lt-ltb, le-ltb}
 use Rattle.std.proofs.lemmas.Bool.Decides.{nat_tests}
-use Rattle.std.proofs.lemmas.List.Elements.{All-get_or}
 use Rattle.pfs_conf_tokens.specs.declared.keys.Key.TheVariants as key
 use Rattle.pfs_conf_tokens.specs.Lexis.{is_word_byte}
 use Rattle.pfs_conf_tokens.specs.Numbers.{parts_around, split_around}
 use Rattle.pfs_conf_tokens.specs.Words.{key_of_text}
 use Rattle.pfs_conf_tokens.proofs.ShownLaws.{decimal_text, is_word_text, key_of-decimal, number_of-decimal, split_around-append}
-use Rattle.pfs_addr.specs.Addresses.{IsAddr, addr_text, width_of}
 use Rattle.pfs_addr.specs.Numbers.{is_digit}
-use Rattle.pfs_addr.specs.Prefixes.{IsNetwork, Network}
 use Rattle.pfs_addr.specs.Protocols.{proto_in, proto_numbered, proto_of}
-use Rattle.pfs_addr.specs.Texts.{prefix_of}
-use Rattle.pfs_addr.specs.declared.addresses.Addr.{Addr}
-use Rattle.pfs_addr.specs.declared.addresses.Addr.TheVariants.{V4}
 use Rattle.pfs_addr.specs.declared.protocols.Proto.{Proto}
 use Rattle.pfs_addr.specs.declared.protocols.Proto.TheVariants as proto
 use Rattle.pfs_addr.proofs.NumberLaws.{decimal_digits, number_of-decimal as addr_number_of-decimal}
-use Rattle.pfs_addr.proofs.PieceLaws.{prefix_of-text}
 use Rattle.pfs_conf_rules.specs.LoadRules.{ArePorts}
 use Rattle.pfs_conf_rules.specs.declared.filters.Ports.{Ports}
 use Rattle.pfs_conf_filters.specs.Values.{one_port, port_by, port_of, port_numbered, port_range, ports_around, ports_of}
 use Rattle.pfs_conf_show.specs.Filters.{range_text}
-use Rattle.pfs_conf_show.specs.Pieces.{bits_text, prefix_text}
-use Rattle.pfs_conf_round_trip.proofs.Pieces.{all-append, decimal_all, text-append}
+use Rattle.pfs_conf_round_trip.proofs.Pieces.{decimal_all, text-append}
 
 -- ---- digits and other bytes
 
@@ -69,79 +61,6 @@ split_around-none byte w h =
 
 pub key_of_number : (n : ℕ) → n < 2 ^ 64 → key_of_text (decimal n) ≡ key.Number
 key_of_number n h = ap key_of_text (sym (append-nil (decimal n))) ∙ key_of-decimal n [] h
-
--- ---- prefixes
-
-bits_all : (p : Network) → p.bits < 2 ^ 64 → list_all is_word_byte (bits_text p) ≡ true
-bits_all p h = go (p.bits == width_of p.addr)
-  where
-    go : (b : Bool) → list_all is_word_byte (if b then [] else codes "/" ++ decimal p.bits) ≡ true
-    go true = refl
-    go false = decimal_all p.bits h
-
--- the text of an address: a word that begins with a number
-record IsNumbered (w : List ℕ) : Type 0 where
-  number : ℕ
-  behind : List ℕ
-  small : number < 2 ^ 64
-  spelled : w ≡ decimal number ++ behind
-  bytes : list_all is_word_byte behind ≡ true
-
-dot_all : (w : List ℕ) → list_all is_word_byte w ≡ true → list_all is_word_byte (46 ∷ w) ≡ true
-dot_all w h = h
-
-addr_numbered : (a : Addr) → IsAddr a → IsNumbered (addr_text a)
-addr_numbered (V4 (a ∷ b ∷ c ∷ d ∷ [])) h =
-    let at : (i : ℕ) → i < 4 → get_or (a ∷ b ∷ c ∷ d ∷ []) i 0 < 256 = λ i lt. All-get_or (λ x. x < 256) (a ∷ b ∷ c ∷ d ∷ []) i 0 lt h.1 in
-    let wide : (n : ℕ) → n < 256 → n < 2 ^ 64 = λ n lt. omega arith in
-    record {
-      number = a;
-      behind = 46 ∷ (decimal b ++ 46 ∷ (decimal c ++ 46 ∷ decimal d));
-      small = wide a (at 0 (omega arith));
-      spelled = refl;
-      bytes = all-append is_word_byte (decimal b) (46 ∷ (decimal c ++ 46 ∷ decimal d)) (decimal_all b (wide b (at 1 (omega arith))))
-          (dot_all (decimal c ++ 46 ∷ decimal d) (all-append is_word_byte (decimal c) (46 ∷ decimal d) (decimal_all c (wide c (at 2 (omega arith))))
-          (dot_all (decimal d) (decimal_all d (wide d (at 3 (omega arith)))))));
-    }
-addr_numbered (V4 _) h = absurd (omega arith)
-
--- what begins with a number is a word with the key of numbers
-numbered_text : (w v : List ℕ) → IsNumbered w → list_all is_word_byte v ≡ true → is_word_text (w ++ v) ≡ true
-numbered_text w v h g =
-    ap (λ (z : List ℕ). is_word_text (z ++ v)) h.spelled
-    ∙ (ap is_word_text (append_assoc (decimal h.number) h.behind v)
-    ∙ text-append (decimal h.number) (h.behind ++ v) (decimal_text h.number h.small) (all-append is_word_byte h.behind v h.bytes g))
-
-numbered_key : (w v : List ℕ) → IsNumbered w → key_of_text (w ++ v) ≡ key.Number
-numbered_key w v h =
-    ap (λ (z : List ℕ). key_of_text (z ++ v)) h.spelled
-    ∙ (ap key_of_text (append_assoc (decimal h.number) h.behind v) ∙ key_of-decimal h.number (h.behind ++ v) h.small)
-
-bits_small : (a : Addr) (n : ℕ) → n ≤ width_of a → n < 2 ^ 64
-bits_small (V4 bytes) n h = omega arith
-
-pub prefix_word : (p : Network) → IsNetwork p → is_word_text (prefix_text p) ≡ true
-prefix_word p h = numbered_text (addr_text p.addr) (bits_text p) (addr_numbered p.addr h.addr) (bits_all p (bits_small p.addr p.bits h.short))
-
-pub prefix_key : (p : Network) → IsNetwork p → key_of_text (prefix_text p) ≡ key.Number
-prefix_key p h = numbered_key (addr_text p.addr) (bits_text p) (addr_numbered p.addr h.addr)
-
--- the text of a prefix is read as that prefix
-pub prefix_again : (p : Network) → IsNetwork p → prefix_of (prefix_text p) ≡ Some p
-prefix_again p h = prefix_of-text (prefix_text p) p (record {
-  addr = p.addr;
-  is_addr = h.addr;
-  short = h.short;
-  of = sym (ap (λ (a : Addr). network_at a p.bits) h.zeros);
-  spelled = go (p.bits == width_of p.addr) refl;
-})
-  where
-    network_at : Addr → ℕ → Network
-    network_at a n = record { addr = a; bits = n }
-
-    go : (b : Bool) → (p.bits == width_of p.addr) ≡ b → ((prefix_text p ≡ addr_text p.addr) × (p.bits ≡ width_of p.addr)) ⊎ (prefix_text p ≡ addr_text p.addr ++ 47 ∷ decimal p.bits)
-    go true e = inl (ap (λ (z : Bool). addr_text p.addr ++ (if z then [] else codes "/" ++ decimal p.bits)) e ∙ append-nil (addr_text p.addr), eqb-true p.bits (width_of p.addr) e)
-    go false e = inr (ap (λ (z : Bool). addr_text p.addr ++ (if z then [] else codes "/" ++ decimal p.bits)) e)
 
 -- ---- ports
 

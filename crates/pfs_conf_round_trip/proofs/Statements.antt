@@ -11,12 +11,12 @@ use Rattle.pfs_conf_tokens.specs.Tokens.{Tok, head, token}
 use Rattle.pfs_conf_tokens.specs.Words.{key_of_text}
 use Rattle.pfs_conf_tokens.proofs.ShownLaws.{end_then}
 use Rattle.pfs_conf_tokens.proofs.WordKeys.{key_of-Table}
-use Rattle.pfs_conf_rules.specs.Configs.{IsTable, table_names}
-use Rattle.pfs_conf_rules.specs.Depths.{IsPreorder, next_depth}
+use Rattle.pfs_conf_rules.specs.Configs.{table_names}
+use Rattle.pfs_conf_rules.specs.Invariants.{IsTable}
+use Rattle.pfs_conf_rules.specs.Order.{AreNamedOnce, IsPreorder, next_depth, repeats_name}
 use Rattle.pfs_conf_rules.specs.Drafts.{Drafted, is_defined, with_item, with_table}
 use Rattle.pfs_conf_rules.specs.Entries.{Entry}
 use Rattle.pfs_conf_rules.specs.LoadRules.{IsItem, IsItemAt}
-use Rattle.pfs_conf_rules.specs.Siblings.{AreNamedOnce, repeats_name}
 use Rattle.pfs_conf_rules.specs.declared.items.Anchor.{Anchor}
 use Rattle.pfs_conf_rules.specs.declared.items.Item.{Item}
 use Rattle.pfs_conf_rules.specs.declared.items.Rule.{Rule}

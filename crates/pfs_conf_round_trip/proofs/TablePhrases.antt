@@ -7,7 +7,9 @@ use Rattle.std.proofs.lemmas.Bool.{cond-false}
 use Rattle.std.proofs.lemmas.Bool.Decides.{nat_tests}
 use Rattle.std.proofs.lemmas.List.Elements.{All-head, All-tail}
 use Rattle.std.proofs.lemmas.Map.Keys.{IsDistinct-head, IsDistinct-tail}
+use Rattle.pfs_conf_tokens.specs.declared.keys.Key.{Key}
 use Rattle.pfs_conf_tokens.specs.declared.keys.Key.TheVariants as key
+use Rattle.pfs_conf_filters.specs.Values.{is_plain_word}
 use Rattle.pfs_addr.specs.Texts.{prefix_of}
 use Rattle.pfs_conf_tokens.specs.Grammar.{WordOf, ListOf, UpTo, stands, steps, skip_lines}
 use Rattle.pfs_conf_tokens.specs.Keys.{ends_line}
@@ -17,7 +19,7 @@ use Rattle.pfs_conf_tokens.proofs.ShownLaws.{breaks, line_then, mark_then, word_
 use Rattle.pfs_conf_tokens.proofs.WordKeys.{key_of-Const}
 use Rattle.pfs_addr.specs.Prefixes.{IsNetwork, Network}
 use Rattle.pfs_addr.specs.declared.addresses.Addr.{Addr}
-use Rattle.pfs_addr.specs.declared.addresses.Addr.TheVariants.{V4}
+use Rattle.pfs_addr.specs.declared.addresses.Addr.TheVariants.{V4, V6}
 use Rattle.pfs_conf_rules.specs.Entries.{Entry, same_addr, same_network, sign_of}
 use Rattle.pfs_conf_settings.specs.TableGrammar.{EntryOf, PartOf, PartsOf, SignOf, comes, constant, entries, negated, plain, some, no_parts}
 use Rattle.pfs_conf_show.specs.Pieces.{bracketed, going_on, prefix_text}
@@ -25,16 +27,20 @@ use Rattle.pfs_conf_show.specs.Tables.{const_text, entry_text}
 use Rattle.pfs_conf_round_trip.proofs.Said.{parts_said}
 use Rattle.pfs_conf_round_trip.proofs.Lists.{Chain, bracketed_more, done, listed_again, next}
 use Rattle.pfs_conf_round_trip.proofs.Names.{key_of_word}
-use Rattle.pfs_conf_round_trip.proofs.Numbers.{prefix_again, prefix_key, prefix_word}
+use Rattle.pfs_conf_round_trip.proofs.PrefixWords.{prefix_again, prefix_plain, prefix_word}
 use Rattle.pfs_conf_round_trip.proofs.Pieces.{at, mark, mark_between, word}
 use Rattle.pfs_conf_round_trip.proofs.SettingPhrases.{Lined, braces, stays}
 
 -- ---- entries
 
+plain_no_end : (k : Key) → is_plain_word k ≡ true → ends_line k ≡ false
+plain_no_end key.LineEnd e = absurd cc
+plain_no_end _ e = refl
+
 prefix_front : (line : ℕ) (p : Network) (more : List ℕ) → IsNetwork p → breaks more ≡ true → skip_lines (at line (prefix_text p ++ more)) ≡ at line (prefix_text p ++ more)
 prefix_front line p more h b =
     stays (at line (prefix_text p ++ more)) (token line (key_of_text (prefix_text p)) (prefix_text p)) (at line more) (word_then true line (prefix_text p) more (prefix_word p h) b)
-    (ap ends_line (prefix_key p h))
+    (plain_no_end (key_of_text (prefix_text p)) (prefix_plain p h))
 
 not_front : (line : ℕ) (more : List ℕ) → skip_lines (at line (33 ∷ more)) ≡ at line (33 ∷ more)
 not_front line more = stays (at line (33 ∷ more)) (token line key.Not (33 ∷ [])) (at line more) (mark_then true line 33 more refl) refl
@@ -85,6 +91,9 @@ bytes_sym (x ∷ xs) (y ∷ ys) =
 
 addr_sym : (a b : Addr) → same_addr a b ≡ same_addr b a
 addr_sym (V4 a) (V4 b) = bytes_sym a b
+addr_sym (V4 a) (V6 b) = refl
+addr_sym (V6 a) (V4 b) = refl
+addr_sym (V6 a) (V6 b) = bytes_sym a b
 
 network_sym : (p q : Network) → same_network p q ≡ same_network q p
 network_sym p q =

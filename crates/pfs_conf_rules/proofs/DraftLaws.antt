@@ -1,11 +1,11 @@
 use Rattle.std.proofs.Common.{◌≡◌, ◌≤◌, ◌<◌, false, List, [], ◌∷◌, ◌++◌, length, arith, length-append, subst, sym, Ok, Err, OnOk, OnErr}
 use Rattle.std.specs.Prelude.{Result}
 use Rattle.std.proofs.lemmas.List.Elements.{All-push}
-use Rattle.pfs_conf_rules.specs.Depths.{depth_after}
-use Rattle.pfs_conf_rules.specs.Drafts.{Drafted, IsDraft, with_item, with_tables}
+use Rattle.pfs_conf_rules.specs.Order.{depth_after, repeats_name}
+use Rattle.pfs_conf_rules.specs.Drafts.{Drafted, with_item, with_tables}
+use Rattle.pfs_conf_rules.specs.Invariants.{IsDraft}
 use Rattle.pfs_conf_rules.specs.LoadRules.{IsItem}
 use Rattle.pfs_conf_rules.specs.Namings.{Named}
-use Rattle.pfs_conf_rules.specs.Siblings.{repeats_name}
 use Rattle.pfs_conf_rules.specs.declared.items.Item.{Item}
 use Rattle.pfs_conf_rules.proofs.MoreTables.{items-more}
 use Rattle.pfs_conf_rules.proofs.OrderLaws.{AreNamedOnce-push, IsPreorder-push}

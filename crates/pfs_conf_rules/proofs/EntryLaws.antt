@@ -3,7 +3,7 @@ use Rattle.std.proofs.lemmas.Bool.{cond-false, cond-true}
 use Rattle.indexmap.specs.IndexMap.{insert_entry}
 use Rattle.pfs_addr.specs.Prefixes.{Network}
 use Rattle.pfs_addr.specs.declared.addresses.Addr.{Addr}
-use Rattle.pfs_addr.specs.declared.addresses.Addr.TheVariants.{V4}
+use Rattle.pfs_addr.specs.declared.addresses.Addr.TheVariants.{V4, V6}
 use Rattle.pfs_conf_rules.specs.Entries.{Entry, same_network, sign_of}
 
 abbrev network : Addr → ℕ → Network
@@ -12,11 +12,17 @@ network a n = record { addr = a; bits = n }
 -- a test that is `same_network` at addresses of each family is it at all
 pub same-networks : (eq : Network → Network → Bool)
     → ((a b : List ℕ) (m n : ℕ) → eq (network (V4 a) m) (network (V4 b) n) ≡ same_network (network (V4 a) m) (network (V4 b) n))
+    → ((a b : List ℕ) (m n : ℕ) → eq (network (V4 a) m) (network (V6 b) n) ≡ same_network (network (V4 a) m) (network (V6 b) n))
+    → ((a b : List ℕ) (m n : ℕ) → eq (network (V6 a) m) (network (V4 b) n) ≡ same_network (network (V6 a) m) (network (V4 b) n))
+    → ((a b : List ℕ) (m n : ℕ) → eq (network (V6 a) m) (network (V6 b) n) ≡ same_network (network (V6 a) m) (network (V6 b) n))
     → (p q : Network) → eq p q ≡ same_network p q
-same-networks eq h p q = by p.addr q.addr
+same-networks eq four four_six six_four six p q = by p.addr q.addr
   where
     by : (a b : Addr) → eq (network a p.bits) (network b q.bits) ≡ same_network (network a p.bits) (network b q.bits)
-    by (V4 a) (V4 b) = h a b p.bits q.bits
+    by (V4 a) (V4 b) = four a b p.bits q.bits
+    by (V4 a) (V6 b) = four_six a b p.bits q.bits
+    by (V6 a) (V4 b) = six_four a b p.bits q.bits
+    by (V6 a) (V6 b) = six a b p.bits q.bits
 
 -- an entry whose prefix is new goes last
 pub put-last : (eq : Network → Network → Bool) (p : Network) (negated : Bool) (es : List Entry) → ((a b : Network) → eq a b ≡ same_network a b)

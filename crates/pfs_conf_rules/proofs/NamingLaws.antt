@@ -1,4 +1,4 @@
-use Rattle.std.proofs.Common.{◌≡◌, ◌∙◌, ◌<◌, ◌+◌, ◌^◌, ◌||◌, ℕ, suc, Bool, true, false, not, nat_lt, subst, List, [], ◌∷◌, ◌++◌, length, get_or, set, refl, ap, sym, arith, length-append, None}
+use Rattle.std.proofs.Common.{◌≡◌, ◌∙◌, ◌<◌, ◌+◌, ◌||◌, ℕ, suc, Bool, true, false, not, nat_lt, subst, List, [], ◌∷◌, ◌++◌, length, get_or, set, refl, ap, sym, arith, length-append, None}
 use Rattle.std.specs.List.{IsDistinct, list_any, position_or_len}
 use Rattle.std.specs.Prelude.{position}
 use Rattle.std.specs.Str.{bytes_eq}
@@ -8,8 +8,9 @@ use Rattle.std.proofs.lemmas.List.Elements.{All-push, All-set}
 use Rattle.std.proofs.lemmas.Slice.Eq.{bytes_eq-Decides}
 use Rattle.indexmap.specs.IndexSet.{insert_key}
 use Rattle.pfs_addr.specs.Names.{is_name}
-use Rattle.pfs_conf_rules.specs.Configs.{IsTable, table_names}
-use Rattle.pfs_conf_rules.specs.Namings.{IsNaming, Named, is_named, naming, place_in, undefined_table}
+use Rattle.pfs_conf_rules.specs.Configs.{table_names}
+use Rattle.pfs_conf_rules.specs.Invariants.{IsNaming, IsTable}
+use Rattle.pfs_conf_rules.specs.Namings.{Named, is_named, naming, place_in, undefined_table}
 use Rattle.pfs_conf_rules.specs.declared.tables.TableDef.{TableDef}
 
 -- a table without entries

@@ -1,8 +1,7 @@
 use Rattle.std.proofs.Common.{◌≡◌, ◌∙◌, ◌≤◌, ℕ, false, List, [], ◌∷◌, ◌++◌, refl, ap, sym, append_assoc, Ok, Err, OnOk}
 use Rattle.std.specs.Prelude.{Result}
 use Rattle.std.proofs.lemmas.List.{append-nil}
-use Rattle.pfs_conf_rules.specs.Depths.{IsPreorder, depth_after, next_depth}
-use Rattle.pfs_conf_rules.specs.Siblings.{AreNamedOnce, repeats_name}
+use Rattle.pfs_conf_rules.specs.Order.{AreNamedOnce, IsPreorder, depth_after, next_depth, repeats_name}
 use Rattle.pfs_conf_rules.specs.declared.items.Item.{Item}
 
 -- behind an item at the end, the next may be as deep as that item allows

@@ -5,8 +5,10 @@ use Rattle.std.proofs.lemmas.Bool.{cases_lt, false≢true}
 use Rattle.std.proofs.lemmas.List.{get_or-replicate, get_or_past}
 use Rattle.std.proofs.lemmas.List.Elements.{All-weaker}
 use Rattle.std.proofs.lemmas.Option.{slice_get-get_or, slice_get_within}
-use Rattle.pfs_conf_rules.specs.Configs.{Conf, IsConfig, no_options, options_in, options_of, rule_at, rule_in, scope_of}
-use Rattle.pfs_conf_rules.specs.LoadRules.{AreOptions, IsAction, IsItem, IsItemAt, IsRule, IsTimeout, is_global}
+use Rattle.pfs_conf_rules.specs.Configs.{Conf, no_options, options_in, options_of, rule_at, rule_in, scope_of}
+use Rattle.pfs_conf_rules.specs.Invariants.{IsConfig}
+use Rattle.pfs_conf_rules.specs.LoadRules.{AreOptions, IsAction, IsItem, IsItemAt, IsRule, IsTimeout}
+use Rattle.pfs_conf_rules.specs.Bounds.{is_global}
 use Rattle.pfs_conf_rules.specs.Timeouts.{no_timeouts}
 use Rattle.pfs_conf_rules.specs.declared.actions.Action.{Action}
 use Rattle.pfs_conf_rules.specs.declared.actions.Action.TheVariants as action

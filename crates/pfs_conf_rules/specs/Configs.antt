@@ -1,15 +1,9 @@
-use Rattle.std.specs.Prelude.{ℕ, ◌≡◌, ◌<◌, ◌≤◌, ◌^◌, ◌==◌, ◌&&◌, ◌||◌, nat_lt, max, Bool, true, false, Option, Some, None, unwrap_or, List, [], length, map, All, option_map, position, slice_get, slice_index, slice_index_or}
-use Rattle.std.specs.List.{IsDistinct, list_any, sum_by}
+use Rattle.std.specs.Prelude.{ℕ, ◌==◌, ◌&&◌, ◌||◌, nat_lt, max, Bool, false, Option, Some, None, unwrap_or, List, length, map, option_map, position, slice_get, slice_index, slice_index_or}
+use Rattle.std.specs.List.{sum_by}
 use Rattle.std.specs.Option.{option_and_then}
 use Rattle.std.specs.Str.{bytes_eq}
-use Rattle.pfs_addr.specs.Names.{is_name}
-use Rattle.pfs_addr.specs.Prefixes.{IsNetwork}
-use Rattle.pfs_conf_rules.specs.Depths.{IsPreorder}
-use Rattle.pfs_conf_rules.specs.Entries.{Entry, same_network}
 use Rattle.pfs_conf_rules.specs.Limits.{limit_value}
-use Rattle.pfs_conf_rules.specs.LoadRules.{IsCount, IsItem}
-use Rattle.pfs_conf_rules.specs.Siblings.{AreNamedOnce}
-use Rattle.pfs_conf_rules.specs.Timeouts.{is_seconds, place_of, no_timeouts}
+use Rattle.pfs_conf_rules.specs.Timeouts.{place_of, no_timeouts}
 use Rattle.pfs_conf_rules.specs.declared.actions.Action.{Action}
 use Rattle.pfs_conf_rules.specs.declared.actions.Action.TheVariants as action
 use Rattle.pfs_conf_rules.specs.declared.actions.Overload.{Overload}
@@ -155,20 +149,7 @@ has_name name t = bytes_eq t.name name
 abbrev pub table_named : Conf → List ℕ → Option TableNo
 table_named conf name = option_map (λ n. record { 0 = n }) (position (has_name name) conf.tables)
 
--- ---- what every configuration keeps
-
--- the limits of a text
-pub record AreLimits (limits : Limits) : Type 0 where
-  pub states : IsCount limits.states
-  pub src_nodes : IsCount limits.src_nodes
-  pub tables : IsCount limits.tables
-  pub table_entries : IsCount limits.table_entries
-
--- a table: a name, and entries of which no two have the same prefix
-pub record IsTable (t : TableDef) : Type 0 where
-  pub name : is_name 31 t.name ≡ true
-  pub networks : All (λ (e : Entry). IsNetwork e.0) t.entries
-  pub distinct : IsDistinct same_network (map (λ (e : Entry). e.0) t.entries)
+-- ---- what its load rules ask of tables and of an adaptive pair
 
 -- the names of tables
 abbrev pub table_names : List TableDef → List (List ℕ)
@@ -196,26 +177,3 @@ adds_to_const tables (Some o) = overloads_const_by tables o.overload
 -- whether an item is a rule whose `overload` names a `const` table
 abbrev pub overloads_const : List TableDef → Item → Bool
 overloads_const tables i = adds_to_const tables (option_and_then (λ (r : Rule). options_in r.action) (rule_in i.what))
-
--- what every configuration keeps (the load rules)
-pub record IsConfig (conf : Conf) : Type 0 where
-  pub limits : AreLimits conf.limits
-  pub size : length conf.timeouts ≡ 16
-  pub seconds : (name : TimeoutName) → is_seconds name ≡ true → timeout_of conf name ≤ 2147483647
-  pub interval : 1 ≤ timeout_of conf timeout.Interval
-  pub adaptive : is_adaptive (timeout_of conf timeout.AdaptiveStart) (timeout_of conf timeout.AdaptiveEnd) ≡ true
-  pub adaptive_end : timeout_of conf timeout.AdaptiveEnd < 2 ^ 33
-  pub tables : All IsTable conf.tables
-  pub names : IsDistinct bytes_eq (table_names conf.tables)
-  pub few_tables : length conf.tables ≤ conf.limits.tables
-  pub few_entries : entries_in conf.tables ≤ conf.limits.table_entries
-  pub items : All (IsItem (length conf.tables)) conf.items
-  pub few_items : length conf.items ≤ 10000
-  pub preorder : IsPreorder 0 conf.items
-  pub anchors : AreNamedOnce [] conf.items
-  pub overloads : list_any (overloads_const conf.tables) conf.items ≡ false
-
--- a configuration, beside which its entries are counted
-pub record IsCounted (entries : ℕ) (conf : Conf) : Type 0 where
-  pub config : IsConfig conf
-  pub count : entries ≡ entry_count_of conf

@@ -1,10 +1,7 @@
-use Rattle.std.specs.Prelude.{ℕ, ◌≤◌, not, nat_lt, Bool, true, false, Option, Some, None, IfSome, List, [], ◌∷◌, ◌++◌, length, All, position, slice_index_or, slice_set}
-use Rattle.pfs_conf_rules.specs.Configs.{AreLimits, Conf, entries_in, is_adaptive, overloads_const}
-use Rattle.pfs_conf_rules.specs.Depths.{IsPreorder}
+use Rattle.std.specs.Prelude.{ℕ, not, nat_lt, Bool, true, false, Option, Some, None, List, [], ◌∷◌, ◌++◌, length, position, slice_index_or, slice_set}
+use Rattle.pfs_conf_rules.specs.Configs.{Conf, entries_in, is_adaptive, overloads_const}
 use Rattle.pfs_conf_rules.specs.Limits.{default_limits, limits_with}
-use Rattle.pfs_conf_rules.specs.LoadRules.{IsItem, IsTimeout}
 use Rattle.pfs_conf_rules.specs.Namings.{Named, defining, is_defined_in, naming, place_in, table_number}
-use Rattle.pfs_conf_rules.specs.Siblings.{AreNamedOnce}
 use Rattle.pfs_conf_rules.specs.Timeouts.{no_timeouts, place_of, resolved_timeouts}
 use Rattle.pfs_conf_rules.specs.declared.items.Item.{Item}
 use Rattle.pfs_conf_rules.specs.declared.limits.LimitName.{LimitName}
@@ -98,12 +95,3 @@ finished d = record {
   tables = d.tables;
   items = d.items;
 }
-
--- what holds of it behind each statement
-pub record IsDraft (d : Drafted) : Type 0 where
-  pub limits : AreLimits d.limits
-  pub timeouts : (place : ℕ) → IfSome (slice_index_or d.timeouts place None) (IsTimeout place)
-  pub items : All (IsItem (length d.tables)) d.items
-  pub few_items : length d.items ≤ 10000
-  pub preorder : IsPreorder 0 d.items
-  pub anchors : AreNamedOnce [] d.items

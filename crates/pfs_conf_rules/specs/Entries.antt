@@ -1,17 +1,19 @@
-use Rattle.std.specs.Prelude.{Bool, ◌&&◌, ◌==◌, Option, List}
+use Rattle.std.specs.Prelude.{Bool, false, ◌&&◌, ◌==◌, Option, List}
 use Rattle.std.specs.Str.{bytes_eq}
 use Rattle.std.specs.Map.{lookup}
 use Rattle.pfs_addr.specs.Prefixes.{Network}
 use Rattle.pfs_addr.specs.declared.addresses.Addr.{Addr}
-use Rattle.pfs_addr.specs.declared.addresses.Addr.TheVariants.{V4}
+use Rattle.pfs_addr.specs.declared.addresses.Addr.TheVariants.{V4, V6}
 
 -- an entry of a table: a prefix, and whether it is negated
 abbrev pub Entry : Type 0
 Entry = Network × Bool
 
--- two addresses are the same
+-- two addresses are the same: of one family, and all their bytes
 abbrev pub same_addr : Addr → Addr → Bool
 same_addr (V4 a) (V4 b) = bytes_eq a b
+same_addr (V6 a) (V6 b) = bytes_eq a b
+same_addr a b = false
 
 -- two prefixes are the same: their addresses, and how many bits count
 abbrev pub same_network : Network → Network → Bool

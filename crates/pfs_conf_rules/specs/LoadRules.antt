@@ -1,4 +1,4 @@
-use Rattle.std.specs.Prelude.{ℕ, ◌≡◌, ◌≢◌, ◌<◌, ◌≤◌, ◌==◌, ◌&&◌, ◌||◌, not, nat_lt, nat_le, Bool, true, false, if◌then◌else◌, Option, Some, None, is_some, is_none, IfSome, length, codes, slice_index_or}
+use Rattle.std.specs.Prelude.{ℕ, ◌≡◌, ◌≢◌, ◌<◌, ◌≤◌, ◌&&◌, ◌||◌, not, Bool, true, false, Option, Some, None, is_some, is_none, IfSome, length, codes, slice_index_or}
 use Rattle.std.specs.Str.{bytes_eq}
 use Rattle.pfs_addr.specs.Names.{is_name}
 use Rattle.pfs_addr.specs.Prefixes.{IsNetwork}
@@ -6,13 +6,11 @@ use Rattle.pfs_addr.specs.Protocols.{has_ports}
 use Rattle.pfs_addr.specs.declared.flag_sets.Flags.{Flags}
 use Rattle.pfs_addr.specs.declared.protocols.Proto.{Proto}
 use Rattle.pfs_addr.specs.declared.protocols.Proto.TheVariants as proto
+use Rattle.pfs_conf_rules.specs.Bounds.{IsRate, broken_rule_pair, greatest_timeout, is_global, least_timeout}
 use Rattle.pfs_conf_rules.specs.Timeouts.{place_of}
 use Rattle.pfs_conf_rules.specs.declared.timeouts.TimeoutName.TheVariants as timeout
 use Rattle.pfs_conf_rules.specs.declared.actions.Action.{Action}
 use Rattle.pfs_conf_rules.specs.declared.actions.Action.TheVariants as action
-use Rattle.pfs_conf_rules.specs.declared.actions.Rate.{Rate}
-use Rattle.pfs_conf_rules.specs.declared.actions.Scope.{Scope}
-use Rattle.pfs_conf_rules.specs.declared.actions.Scope.TheVariants as scope
 use Rattle.pfs_conf_rules.specs.declared.actions.StateOptions.{StateOptions}
 use Rattle.pfs_conf_rules.specs.declared.filters.Filter.{Filter}
 use Rattle.pfs_conf_rules.specs.declared.filters.FlagTest.{FlagTest}
@@ -34,14 +32,6 @@ use Rattle.pfs_conf_rules.specs.declared.items.What.TheVariants as what
 -- a limit or a maximum: 1 to 4294967295
 abbrev pub IsCount : ℕ → Type 0
 IsCount n = (1 ≤ n) × (n ≤ 4294967295)
-
--- the least value that can be given for the timeout at this place: 1 for `interval`
-abbrev pub least_timeout : ℕ → ℕ
-least_timeout place = if place == 13 then 1 else 0
-
--- the greatest: the last two count states, the others are seconds
-abbrev pub greatest_timeout : ℕ → ℕ
-greatest_timeout place = if nat_lt place 14 then 2147483647 else 4294967295
 
 -- what can be given for the timeout at this place
 abbrev pub IsTimeout : ℕ → ℕ → Type 0
@@ -109,10 +99,6 @@ pub record IsFilter (tables : ℕ) (f : Filter) : Type 0 where
 
 -- ---- options (pf.conf(5), STATEFUL TRACKING OPTIONS)
 
--- `max-src-conn-rate N/S`: N 1 to 4294967, S 1 to 2147483647
-abbrev pub IsRate : Rate → Type 0
-IsRate r = (1 ≤ r.limit) × (r.limit ≤ 4294967) × (1 ≤ r.seconds) × (r.seconds ≤ 2147483647)
-
 -- whether connections of a source are counted: `max-src-conn` or `max-src-conn-rate`
 abbrev pub limits_connections : StateOptions → Bool
 limits_connections o = is_some o.max_src_conn || is_some o.max_src_conn_rate
@@ -120,11 +106,6 @@ limits_connections o = is_some o.max_src_conn || is_some o.max_src_conn_rate
 -- whether an option speaks of the sources of a rule
 abbrev pub limits_sources : StateOptions → Bool
 limits_sources o = is_some o.max_src_nodes || is_some o.max_src_states || limits_connections o
-
--- whether the rule's source nodes are shared with other rules
-abbrev pub is_global : Option Scope → Bool
-is_global (Some scope.Global) = true
-is_global _ = false
 
 -- `overload` without an option that counts connections
 abbrev pub overload_alone : StateOptions → Bool
@@ -137,12 +118,6 @@ global_conn o = is_global o.scope && limits_connections o
 -- shared source nodes with a retention of the rule's own
 abbrev pub global_retention : StateOptions → Bool
 global_retention o = is_global o.scope && is_some (slice_index_or o.timeouts (place_of timeout.SrcTrack) None)
-
--- one adaptive value of a rule without the other, or not 1 <= start < end
-abbrev pub broken_rule_pair : Option ℕ → Option ℕ → Bool
-broken_rule_pair None None = false
-broken_rule_pair (Some start) (Some end) = not (nat_le 1 start && nat_lt start end)
-broken_rule_pair _ _ = true
 
 -- the same of the options of a rule
 abbrev pub adaptive_pair : StateOptions → Bool

@@ -1,7 +1,7 @@
-use Rattle.std.specs.Prelude.{ℕ, ◌≡◌, Bool, true, false, if◌then◌else◌, List, [], ◌∷◌, ◌++◌, length, min, All, slice_index_or, slice_set}
+use Rattle.std.specs.Prelude.{ℕ, Bool, true, false, if◌then◌else◌, List, [], ◌∷◌, ◌++◌, min, slice_index_or, slice_set}
 use Rattle.std.specs.List.{list_any, position_or_len}
 use Rattle.std.specs.Str.{bytes_eq}
-use Rattle.pfs_conf_rules.specs.Configs.{IsTable, table_names}
+use Rattle.pfs_conf_rules.specs.Configs.{table_names}
 use Rattle.pfs_conf_rules.specs.declared.tables.TableDef.{TableDef}
 
 -- the tables that a text has named so far, by their numbers, and which of them it has defined
@@ -43,9 +43,3 @@ defined_at number t n = record { tables = slice_set n.tables number t; defined =
 -- a table is defined (pf.conf(5), TABLES)
 abbrev pub defining : TableDef → Named → Named
 defining t n = defined_at (place_in t.name n.tables) t (naming t.name n)
-
--- tables and the list of their names, by which they are found
-pub record IsNaming (keys : List (List ℕ)) (tables : List TableDef) (defined : List Bool) : Type 0 where
-  pub names : keys ≡ table_names tables
-  pub sizes : length defined ≡ length tables
-  pub each : All IsTable tables

@@ -1,4 +1,4 @@
-use Rattle.std.specs.Prelude.{ℕ, ◌≡◌, ◌==◌, ◌&&◌, ◌++◌, nat_le, Bool, false, Option, Some, None, List, [], ◌∷◌, reverse, take_while}
+use Rattle.std.specs.Prelude.{ℕ, ◌==◌, ◌&&◌, nat_le, Bool, false, Option, Some, None, List, reverse, take_while}
 use Rattle.std.specs.List.{list_any}
 use Rattle.std.specs.Str.{bytes_eq}
 use Rattle.pfs_conf_rules.specs.declared.items.Item.{Item}
@@ -24,17 +24,3 @@ is_anchor_named depth name i = (i.depth == depth) && has_name name (name_of_item
 abbrev pub has_sibling : ℕ → List ℕ → List Item → Bool
 has_sibling depth name before =
     list_any (is_anchor_named depth name) (take_while (λ (i : Item). nat_le depth i.depth) (reverse before))
-
--- whether a name, if one is given, stands already in the body of this depth behind these items
-abbrev pub repeats_by : ℕ → Option (List ℕ) → List Item → Bool
-repeats_by depth None before = false
-repeats_by depth (Some name) before = has_sibling depth name before
-
--- whether an item has a name that another anchor of its body, in front of it, has
-abbrev pub repeats_name : Item → List Item → Bool
-repeats_name i before = repeats_by i.depth (name_of_item i.what) before
-
--- a name of an anchor is used once in each body. before: the items in front (pf.conf(5), ANCHORS)
-abbrev pub AreNamedOnce : List Item → List Item → Type 0
-AreNamedOnce before [] = Unit {0}
-AreNamedOnce before (i ∷ rest) = (repeats_name i before ≡ false) × AreNamedOnce (before ++ i ∷ []) rest

@@ -1,4 +1,4 @@
-use Rattle.std.specs.Prelude.{ℕ, ◌*◌, ◌/◌, Bool, true, false, List, [], ◌∷◌, Option, None, map, replicate, slice_index_or, unwrap_or}
+use Rattle.std.specs.Prelude.{ℕ, ◌*◌, ◌/◌, List, [], ◌∷◌, Option, None, map, replicate, slice_index_or, unwrap_or}
 use Rattle.pfs_conf_rules.specs.declared.timeouts.TimeoutName.{TimeoutName}
 use Rattle.pfs_conf_rules.specs.declared.timeouts.TimeoutName.TheVariants.{TcpFirst, TcpOpening, TcpEstablished, TcpClosing, TcpFinwait, TcpClosed, UdpFirst, UdpSingle, UdpMultiple, OtherFirst, OtherSingle, OtherMultiple, SrcTrack, Interval, AdaptiveStart, AdaptiveEnd}
 
@@ -30,12 +30,6 @@ abbrev pub timeout_names : List TimeoutName
 timeout_names =
     TcpFirst ∷ TcpOpening ∷ TcpEstablished ∷ TcpClosing ∷ TcpFinwait ∷ TcpClosed ∷ UdpFirst ∷ UdpSingle ∷ UdpMultiple
     ∷ OtherFirst ∷ OtherSingle ∷ OtherMultiple ∷ SrcTrack ∷ Interval ∷ AdaptiveStart ∷ AdaptiveEnd ∷ []
-
--- whether a timeout is a number of seconds; the adaptive two are numbers of states
-abbrev pub is_seconds : TimeoutName → Bool
-is_seconds AdaptiveStart = false
-is_seconds AdaptiveEnd = false
-is_seconds _ = true
 
 -- the value of a timeout that is not set, where so many states may be held (own; the adaptive two: pf.conf(5), OPTIONS)
 abbrev pub default_timeout : ℕ → TimeoutName → ℕ

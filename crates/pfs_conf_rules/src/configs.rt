@@ -2,7 +2,8 @@
 
 ghost use Rattle.std.specs.Prelude.{◌≡◌, ◌<◌, ◌≤◌, IfOk, IfSome, IsSome, length, position, slice_get};
 ghost use Rattle.std.specs.Option.{option_copied};
-ghost use Rattle.pfs_conf_rules.specs.Configs.{IsConfig, IsCounted, IsTable, conf_of, entry_count_of, has_name, is_const_table, limit_of, options_at, rate_seconds, retention_in, retention_of, rule_at, rule_timeout_of, scope_of, table_named, timeout_of};
+ghost use Rattle.pfs_conf_rules.specs.Configs.{conf_of, entry_count_of, has_name, is_const_table, limit_of, options_at, rate_seconds, retention_in, retention_of, rule_at, rule_timeout_of, scope_of, table_named, timeout_of};
+ghost use Rattle.pfs_conf_rules.specs.Invariants.{IsConfig, IsCounted, IsTable};
 ghost use Rattle.pfs_conf_rules.specs.LoadRules.{AreOptions, IsItem, IsRule};
 
 use crate::actions::{Action, Rate, Scope, StateOptions};
@@ -29,7 +30,8 @@ pub struct Config {
 }
 
 impl Model for Config {
-    ghost use Rattle.pfs_conf_rules.specs.Configs.{Conf, IsCounted};
+    ghost use Rattle.pfs_conf_rules.specs.Configs.{Conf};
+    ghost use Rattle.pfs_conf_rules.specs.Invariants.{IsCounted};
 
     ghost Value = { Conf };
 

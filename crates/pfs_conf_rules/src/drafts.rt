@@ -4,10 +4,10 @@ ghost use Rattle.std.specs.Prelude.{◌≡◌, ◌<◌, ◌≤◌, ◌+◌, ◌-
 ghost use Rattle.std.specs.Option.{option_map};
 ghost use Rattle.pfs_addr.specs.Names.{is_name};
 ghost use Rattle.pfs_conf_rules.specs.Configs.{entries_in, is_const_table, overloads_const};
-ghost use Rattle.pfs_conf_rules.specs.Depths.{depth_after, next_depth};
+ghost use Rattle.pfs_conf_rules.specs.Order.{depth_after, next_depth, repeats_by, repeats_name};
 ghost use Rattle.pfs_conf_rules.specs.Drafts.{broken_pair, const_overload, empty_draft, finished, has_broken_pair, has_too_many_entries, has_too_many_tables, is_defined, number_of, with_item, with_limit, with_name, with_table, with_timeout};
 ghost use Rattle.pfs_conf_rules.specs.LoadRules.{IsAnchor, IsCount, IsItem, IsRule, IsTimeout};
-ghost use Rattle.pfs_conf_rules.specs.Siblings.{has_sibling, is_anchor_named, repeats_by, repeats_name};
+ghost use Rattle.pfs_conf_rules.specs.Siblings.{has_sibling, is_anchor_named};
 ghost use Rattle.pfs_conf_rules.specs.Timeouts.{place_of};
 
 use crate::actions::Action;
@@ -36,7 +36,8 @@ pub struct Draft {
 }
 
 impl Model for Draft {
-    ghost use Rattle.pfs_conf_rules.specs.Drafts.{Drafted, IsDraft};
+    ghost use Rattle.pfs_conf_rules.specs.Drafts.{Drafted};
+    ghost use Rattle.pfs_conf_rules.specs.Invariants.{IsDraft};
 
     ghost Value = { Drafted };
 

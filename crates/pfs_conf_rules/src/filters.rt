@@ -9,11 +9,13 @@ pub struct TableNo(pub u32);
 /// The name of a table: 1 to 31 bytes. (pf.conf(5), TABLES)
 pub type TableName = Name<31>;
 
-/// An address family. (pf.conf(5), PARAMETERS, "inet")
+/// An address family. (pf.conf(5), PARAMETERS, "inet" and "inet6")
 #[derive(Debug, Clone, Copy, PartialEq, Eq, Hash)]
 pub enum Family {
-    /// IPv4.
+    /// `inet`: IPv4.
     Inet,
+    /// `inet6`: IPv6.
+    Inet6,
 }
 
 /// `on em0`, or `on ! em0`: the interface that a packet must, or must not, be on. (pf.conf(5), PARAMETERS, "on")
@@ -31,7 +33,7 @@ pub struct Interface {
 pub enum Host<T> {
     /// `any`: every address.
     Any,
-    /// The addresses that a prefix covers, or with `!` the others.
+    /// The addresses that a prefix covers, or with `!` the others of its family.
     Prefix {
         /// The prefix.
         prefix: Prefix,

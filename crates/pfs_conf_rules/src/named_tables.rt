@@ -4,7 +4,8 @@ ghost use Rattle.std.specs.Prelude.{◌≡◌, ◌<◌, ◌≤◌, [], All, IfOk
 ghost use Rattle.std.specs.List.{IsDistinct};
 ghost use Rattle.std.specs.Str.{bytes_eq};
 ghost use Rattle.pfs_addr.specs.Names.{is_name};
-ghost use Rattle.pfs_conf_rules.specs.Configs.{IsTable, table_names};
+ghost use Rattle.pfs_conf_rules.specs.Configs.{table_names};
+ghost use Rattle.pfs_conf_rules.specs.Invariants.{IsTable};
 ghost use Rattle.pfs_conf_rules.specs.Namings.{defining, is_defined_in, is_named, naming, place_in, table_number};
 
 use crate::filters::{TableName, TableNo};
@@ -23,7 +24,8 @@ pub struct NamedTables {
 }
 
 impl Model for NamedTables {
-    ghost use Rattle.pfs_conf_rules.specs.Namings.{Named, IsNaming};
+    ghost use Rattle.pfs_conf_rules.specs.Namings.{Named};
+    ghost use Rattle.pfs_conf_rules.specs.Invariants.{IsNaming};
 
     ghost Value = { Named };
 

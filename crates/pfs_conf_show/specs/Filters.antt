@@ -37,6 +37,7 @@ on_text (Some i) = codes " on " ++ (not_text i.negated ++ i.name)
 abbrev pub family_text : Option Family → List ℕ
 family_text None = []
 family_text (Some family.Inet) = codes " inet"
+family_text (Some family.Inet6) = codes " inet6"
 
 -- tcp and udp by name, every other protocol by its number
 abbrev pub proto_text : Option Proto → List ℕ

@@ -3,7 +3,7 @@
 use Rattle.std.specs.Prelude.{ℕ, zero, suc, ◌-◌, List, [], ◌∷◌, ◌++◌, Option, Some, None, codes}
 use Rattle.std.specs.List.{flat_map}
 use Rattle.pfs_conf_rules.specs.Configs.{Conf}
-use Rattle.pfs_conf_rules.specs.Depths.{next_depth}
+use Rattle.pfs_conf_rules.specs.Order.{next_depth}
 use Rattle.pfs_conf_rules.specs.declared.actions.Action.{Action}
 use Rattle.pfs_conf_rules.specs.declared.actions.Action.TheVariants as action
 use Rattle.pfs_conf_rules.specs.declared.items.Anchor.{Anchor}

@@ -61,6 +61,7 @@ fn push_family(out: &mut Vec<u8>, family: Option<Family>) -> Result<(), NoMemory
 {
     match family {
         Some(Family::Inet) => out.extend_from_slice(b" inet")?,
+        Some(Family::Inet6) => out.extend_from_slice(b" inet6")?,
         None => (),
     }
     Ok(())

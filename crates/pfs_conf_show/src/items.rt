@@ -1,7 +1,7 @@
 // The lines of rules and anchors, and the whole text.
 
 ghost use Rattle.std.specs.Prelude.{◌≡◌, ◌≤◌, ◌-◌, ◌++◌, IfOk, OnOk};
-ghost use Rattle.pfs_conf_rules.specs.Depths.{next_depth};
+ghost use Rattle.pfs_conf_rules.specs.Order.{next_depth};
 ghost use Rattle.pfs_conf_show.specs.Texts.{anchor_text, braces_text, items_text, name_text, rule_text, text_of, verb_text, what_text};
 
 use crate::filters::push_parameters;

@@ -26,7 +26,6 @@ is_unsupported_key key.Foreign = true
 is_unsupported_key key.Set = true
 is_unsupported_key key.User = true
 is_unsupported_key key.Any = true
-is_unsupported_key key.Inet6 = true
 is_unsupported_key key.Rdomain = true
 is_unsupported_key _ = false
 

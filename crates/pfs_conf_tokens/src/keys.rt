@@ -241,13 +241,13 @@ impl Key {
     }
 
     /// Whether the token is a word that pf.conf(5) knows and this profile has in no place where it could be wanted as
-    /// itself, as `match`, `set` or `inet6`: at such a word a text is said to be unsupported. (own to this profile)
+    /// itself, as `match`, `set` or `user`: at such a word a text is said to be unsupported. (own to this profile)
     pub fn is_unsupported(self) -> bool
         ensures { result ≡ is_unsupported_key self }
     {
         matches!(
             self,
-            Key::Foreign | Key::Set | Key::User | Key::Any | Key::Inet6 | Key::Rdomain
+            Key::Foreign | Key::Set | Key::User | Key::Any | Key::Rdomain
         )
     }
 

@@ -2,7 +2,8 @@
 use Rattle.std.specs.Prelude.{ℕ, ◌≡◌, ◌≤◌, List, Option}
 use Rattle.pfs_eval.specs.Entries.{Entry}
 use Rattle.pfs_eval.specs.Holdings.{Holdings}
-use Rattle.pfs_conf_rules.specs.Configs.{Conf, IsConfig, limit_of}
+use Rattle.pfs_conf_rules.specs.Configs.{Conf, limit_of}
+use Rattle.pfs_conf_rules.specs.Invariants.{IsConfig}
 use Rattle.pfs_conf_rules.specs.declared.items.Item.{Item}
 use Rattle.pfs_conf_rules.specs.declared.limits.LimitName.TheVariants as limit_name
 use Rattle.pfs_store_plain.specs.Worlds.{World}

@@ -4,7 +4,8 @@ ghost use Rattle.std.specs.Prelude.{◌≡◌, ◌≤◌, ◌<◌, ◌+◌, ◌^
 ghost use Rattle.std.specs.Option.{ForSome, option_copied};
 ghost use Rattle.pfs_addr.specs.Keys.{key_of};
 ghost use Rattle.pfs_conf_rules.specs.Configs.{Conf, limit_of, options_at, options_of};
-ghost use Rattle.pfs_conf_rules.specs.LoadRules.{AreOptions, IsRate};
+ghost use Rattle.pfs_conf_rules.specs.LoadRules.{AreOptions};
+ghost use Rattle.pfs_conf_rules.specs.Bounds.{IsRate};
 ghost use Rattle.pfs_store_plain.specs.Counts.{exceeded, source_states};
 ghost use Rattle.pfs_store_plain.specs.Handshakes.{flush_of, over_rate};
 ghost use Rattle.pfs_store_plain.specs.Leaving.{without};

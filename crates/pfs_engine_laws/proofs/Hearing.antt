@@ -9,7 +9,8 @@ use Rattle.pfs_addr.specs.Packets.{Header}
 use Rattle.pfs_addr.specs.Sameness.{same_addr, same_key}
 use Rattle.pfs_addr.specs.declared.addresses.Addr.{Addr}
 use Rattle.pfs_conf_rules.proofs.RuleLaws.{rated-scope}
-use Rattle.pfs_conf_rules.specs.Configs.{Conf, IsConfig, options_of, rate_seconds, scope_of}
+use Rattle.pfs_conf_rules.specs.Configs.{Conf, options_of, rate_seconds, scope_of}
+use Rattle.pfs_conf_rules.specs.Invariants.{IsConfig}
 use Rattle.pfs_conf_rules.specs.declared.actions.Rate.{Rate}
 use Rattle.pfs_conf_rules.specs.declared.actions.Scope.{Scope}
 use Rattle.pfs_conf_rules.specs.declared.actions.Scope.TheVariants as scope

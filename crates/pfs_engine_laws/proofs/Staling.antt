@@ -5,7 +5,8 @@ use Rattle.std.proofs.lemmas.Bool.{false≢true}
 use Rattle.std.proofs.lemmas.List.{length-map}
 use Rattle.std.proofs.lemmas.List.Elements.{recursion_from_All}
 use Rattle.pfs_addr.specs.declared.addresses.Addr.{Addr}
-use Rattle.pfs_conf_rules.specs.Configs.{Conf, IsConfig, timeout_of}
+use Rattle.pfs_conf_rules.specs.Configs.{Conf, timeout_of}
+use Rattle.pfs_conf_rules.specs.Invariants.{IsConfig}
 use Rattle.pfs_conf_rules.specs.declared.timeouts.TimeoutName.TheVariants as timeout
 use Rattle.pfs_store_plain.specs.Admission.{new_node, new_state, nodes_with}
 use Rattle.pfs_store_plain.specs.Counts.{has_node, node_scope_of}

@@ -7,7 +7,8 @@ use Rattle.std.proofs.lemmas.List.Elements.{All-contains, All-from_recursion, Co
 use Rattle.pfs_addr.specs.Keys.{key_of}
 use Rattle.pfs_addr.specs.Packets.{Header}
 use Rattle.pfs_addr.specs.Sameness.{same_key}
-use Rattle.pfs_conf_rules.specs.Configs.{Conf, IsConfig}
+use Rattle.pfs_conf_rules.specs.Configs.{Conf}
+use Rattle.pfs_conf_rules.specs.Invariants.{IsConfig}
 use Rattle.pfs_store_plain.specs.Admission.{new_state}
 use Rattle.pfs_store_plain.specs.Purging.{has_expired, is_among, state_numbers, state_round, state_share, stays}
 use Rattle.pfs_store_plain.specs.Touching.{renewed, stepped, touched}

@@ -9,7 +9,8 @@ use Rattle.pfs_addr.specs.declared.addresses.Addr.{Addr}
 use Rattle.pfs_addr.specs.declared.protocols.Proto.{Proto}
 use Rattle.pfs_addr.specs.declared.protocols.Proto.TheVariants as proto
 use Rattle.pfs_conf_rules.proofs.RuleLaws.{options_of-AreOptions}
-use Rattle.pfs_conf_rules.specs.Configs.{Conf, IsConfig, limit_of, options_of, scope_of}
+use Rattle.pfs_conf_rules.specs.Configs.{Conf, limit_of, options_of, scope_of}
+use Rattle.pfs_conf_rules.specs.Invariants.{IsConfig}
 use Rattle.pfs_conf_rules.specs.LoadRules.{IsCount}
 use Rattle.pfs_conf_rules.specs.declared.actions.Scope.{Scope}
 use Rattle.pfs_conf_rules.specs.declared.actions.Scope.TheVariants as scope

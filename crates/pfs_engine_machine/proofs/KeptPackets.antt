@@ -3,7 +3,8 @@ use Rattle.std.proofs.Common.{◌≡◌, ◌≤◌, ◌<◌, ◌+◌, ℕ, Optio
 use Rattle.pfs_addr.specs.Keys.{key_of}
 use Rattle.pfs_addr.specs.Packets.{Header}
 use Rattle.pfs_eval.specs.Entries.{Entry}
-use Rattle.pfs_conf_rules.specs.Configs.{Conf, IsConfig, rule_of}
+use Rattle.pfs_conf_rules.specs.Configs.{Conf, rule_of}
+use Rattle.pfs_conf_rules.specs.Invariants.{IsConfig}
 use Rattle.pfs_conf_rules.specs.declared.actions.Action.{Action}
 use Rattle.pfs_conf_rules.specs.declared.actions.Action.TheVariants as action
 use Rattle.pfs_store_plain.specs.Admission.{limit_at}

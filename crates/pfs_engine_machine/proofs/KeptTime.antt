@@ -10,7 +10,8 @@ use Rattle.pfs_addr.specs.Sameness.{same_addr}
 use Rattle.pfs_addr.specs.declared.addresses.Addr.{Addr}
 use Rattle.pfs_eval.specs.Entries.{Entry, entry_of}
 use Rattle.pfs_eval.proofs.TextTables.{count-config}
-use Rattle.pfs_conf_rules.specs.Configs.{Conf, IsConfig, options_of}
+use Rattle.pfs_conf_rules.specs.Configs.{Conf, options_of}
+use Rattle.pfs_conf_rules.specs.Invariants.{IsConfig}
 use Rattle.pfs_conf_rules.specs.declared.tables.TableDef.{TableDef}
 use Rattle.pfs_store_plain.proofs.MomentLaws.{empty_world-up_to_now, later-up_to_now, left-up_to_now, node_slice-up_to_now}
 use Rattle.pfs_store_plain.specs.Counts.{is_connection, is_node, is_of_node, is_of_rule, node_states, same_scope}

@@ -1,6 +1,5 @@
 -- Old entries leave a table.
-use Rattle.std.proofs.Common.{◌≡◌, ℕ, ◌+◌, ◌<◌, ◌≤◌, Bool, true, false, not, List, [], filter, length, get_or, set, refl, ap, sym, ◌∙◌, arith}
-use Rattle.std.specs.Prelude.{slice_index_or}
+use Rattle.std.proofs.Common.{◌≡◌, ℕ, ◌+◌, ◌<◌, Bool, not, List, [], filter, length, get_or, set, refl, ap, sym, ◌∙◌, arith}
 use Rattle.std.proofs.lemmas.List.{map-set, get_or-map, length-map}
 use Rattle.std.proofs.lemmas.List.Elements.{All-filter}
 use Rattle.std.proofs.lemmas.List.Filters.{length-filter_both}
@@ -8,15 +7,18 @@ use Rattle.std.proofs.lemmas.List.Sums.{sum_by-set}
 use Rattle.pfs_addr.specs.Prefixes.{IsNetwork}
 use Rattle.pfs_eval.specs.Entries.{Entry}
 use Rattle.pfs_eval.specs.Holdings.{AreKept, Held}
-use Rattle.pfs_eval.specs.Tables.{entries_at, entries_expired, entry_count, expired_count, is_old, old_count, young}
+use Rattle.pfs_eval.specs.Lengths.{IsNoted}
+use Rattle.pfs_eval.specs.declared.lengths.Lengths.{Lengths}
+use Rattle.pfs_eval.specs.Tables.{entries_expired, entry_count, is_old, old_count, young}
 use Rattle.pfs_eval.proofs.Rooms.{entries_at-held, entries_of}
 
--- fewer entries are prefixes still, and their lengths are marked
-pub kept-filtered : (p : Entry → Bool) (es : List Entry) (lengths : List Bool) → AreKept es lengths → AreKept (filter p es) lengths
+-- fewer entries are prefixes still, and their lengths are noted
+pub kept-filtered : (p : Entry → Bool) (es : List Entry) (lengths : Lengths) → AreKept es lengths → AreKept (filter p es) lengths
 kept-filtered p es lengths k = record {
   networks = All-filter p (λ (x : Entry). IsNetwork x.0) es k.networks;
   long = k.long;
-  marked = All-filter p (λ (x : Entry). slice_index_or lengths x.0.bits false ≡ true) es k.marked;
+  less = k.less;
+  noted = All-filter p (λ (x : Entry). IsNoted lengths x.0) es k.noted;
 }
 
 -- the old ones and the others are all

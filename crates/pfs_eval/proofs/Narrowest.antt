@@ -1,19 +1,20 @@
-use Rattle.std.proofs.Common.{◌≡◌, ◌≢◌, ℕ, ◌+◌, ◌-◌, ◌<◌, ◌≤◌, ◌==◌, suc, Bool, true, false, not, ◌&&◌, ◌||◌, cond, nat_le, List, [], ◌∷◌, ◌++◌, length, Option, Some, None, refl, ap, sym, ◌∙◌, arith, subst, eq-eqb}
-use Rattle.std.specs.Prelude.{All, is_some, slice_index_or}
+use Rattle.std.proofs.Common.{◌≡◌, ◌≢◌, ℕ, ◌+◌, ◌-◌, ◌<◌, ◌≤◌, ◌==◌, suc, Bool, true, false, not, ◌&&◌, ◌||◌, cond, nat_le, nat_lt, List, [], ◌∷◌, ◌++◌, Option, Some, None, refl, ap, sym, ◌∙◌, arith, subst, eq-eqb, eqb-true}
+use Rattle.std.specs.Prelude.{All, is_some, max, replicate}
 use Rattle.std.specs.Map.{lookup}
 use Rattle.indexmap.specs.IndexMap.{insert_entry}
 use Rattle.std.proofs.lemmas.List.Elements.{All-append, All-cons, All-head, All-nil, All-tail}
-use Rattle.std.proofs.Math.ListN.{length-set, set}
-use Rattle.std.proofs.lemmas.List.{get_or-set_other, get_or-set_same}
+use Rattle.std.proofs.lemmas.List.{get_or-replicate}
 use Rattle.std.proofs.lemmas.Bool.Decides.{nat_tests}
-use Rattle.std.proofs.lemmas.Bool.{cond-true, cond-false, false≢true}
+use Rattle.std.proofs.lemmas.Bool.{and_from, and_parts, cond-true, cond-false, false≢true}
 use Rattle.pfs_addr.specs.declared.addresses.Addr.{Addr}
-use Rattle.pfs_addr.specs.declared.addresses.Addr.TheVariants.{V4}
-use Rattle.pfs_addr.specs.Addresses.{IsAddr, width_of}
-use Rattle.pfs_addr.specs.Prefixes.{Network, IsNetwork, cleared, covers, first_bits, network_of}
-use Rattle.pfs_addr.proofs.PrefixLaws.{cleared_first, cleared_same, network_of_is_network}
+use Rattle.pfs_addr.specs.declared.addresses.Addr.TheVariants.{V4, V6}
+use Rattle.pfs_addr.specs.Addresses.{IsAddr, same_family, width_of}
+use Rattle.pfs_addr.specs.Prefixes.{Network, IsNetwork, cleared, covers, network_of}
+use Rattle.pfs_addr.proofs.PrefixLaws.{cleared_family, covers_true, network_covers, network_of_is_network}
 use Rattle.pfs_eval.specs.Entries.{Entry, narrower, narrowest, says_yes, answer_of, is_prefix_of, mark_at, holds_prefix}
 use Rattle.pfs_eval.specs.Holdings.{AreKept}
+use Rattle.pfs_eval.specs.Lengths.{AreLong, IsNoted, below}
+use Rattle.pfs_eval.specs.declared.lengths.Lengths.{Lengths}
 use Rattle.pfs_eval.specs.declared.entries.Mark.{Mark}
 
 -- ---- the test of one prefix
@@ -23,20 +24,11 @@ pub record TellsOnly (test : Network → Bool) (p : Network) : Type 0 where
   pub same : (q : Network) → test q ≡ true → p ≡ q
   pub self : test p ≡ true
 
--- the prefix of an address covers it
-own_cover : (n : ℕ) (a : Addr) → IsAddr a → covers (network_of a n) a ≡ true
-unfolding covers
-own_cover n a h = eq-eqb (first_bits n (cleared n a)) (first_bits n a) (cleared_first n a h)
-
 -- a prefix that covers an address is that address's prefix of its length
 pub own_prefix : (n : ℕ) (a : Addr) (q : Network) → IsNetwork q → is_prefix_of a n q ≡ true → network_of a n ≡ q
-unfolding covers
 own_prefix n a q h e =
-    let bits : q.bits ≡ n = grind (arith, nat_tests) in
-    let agree : first_bits q.bits q.addr ≡ first_bits q.bits a = grind (arith, nat_tests) in
-    let addr : cleared n a ≡ q.addr = sym (ap (λ k. cleared k a) bits) ∙ sym (cleared_same q.bits q.addr a agree)
-    ∙ h.zeros in
-    λ i. record { addr = addr i; bits = sym bits i }
+    let bits : q.bits ≡ n = eqb-true q.bits n (and_parts (q.bits == n) (covers q a) e).0 in
+    sym (covers_true q a h (and_parts (q.bits == n) (covers q a) e).1 ∙ ap (network_of a) bits)
 
 same_bool : (b c : Bool) → (b ≡ true → c ≡ true) → (c ≡ true → b ≡ true) → b ≡ c
 same_bool true c f g = sym (f refl)
@@ -49,7 +41,7 @@ pub tells-prefix : (test : Network → Bool) (a : Addr) (n : ℕ) (q : Network) 
 tells-prefix test a n q h k t =
     same_bool (test q) (is_prefix_of a n q)
     (λ e. subst (λ r. is_prefix_of a n r ≡ true) (t.same q e)
-    (let own = own_cover n a h in let same : (n == n) ≡ true = eq-eqb n n refl in grind arith))
+    (let own = network_covers a n h in let same : (n == n) ≡ true = eq-eqb n n refl in grind arith))
     (λ e. subst (λ r. test r ≡ true) (own_prefix n a q k e) t.self)
 
 same_choice : {X : Type 0} (b c : Bool) (x y z : X) → b ≡ c → y ≡ z → cond b x y ≡ cond c x z
@@ -187,8 +179,15 @@ below-none a [] h = refl
 below-none a (x ∷ es) h = none_step (covers x.0 a) x (narrowest es a) h.0 (below-none a es h.1)
 
 -- a prefix covers addresses of its own family
-same_width : (p b : Addr) → width_of p ≡ width_of b
-same_width (V4 x) (V4 y) = refl
+covers_family : (p : Network) (a : Addr) → covers p a ≡ true → same_family p.addr a ≡ true
+unfolding covers
+covers_family p a c = (and_parts (same_family p.addr a) _ c).0
+
+same_width : (p b : Addr) → same_family p b ≡ true → width_of p ≡ width_of b
+same_width (V4 x) (V4 y) f = refl
+same_width (V6 x) (V6 y) f = refl
+same_width (V4 x) (V6 y) f = absurd (cc f)
+same_width (V6 x) (V4 y) f = absurd (cc f)
 
 -- all prefixes have at most as many bits as the address
 pub below-all : (a : Addr) (es : List Entry) → All (λ (x : Entry). IsNetwork x.0) es → AreBelow (width_of a + 1) a es
@@ -196,7 +195,7 @@ unfolding AreBelow
 below-all a [] h = tt
 below-all a (x ∷ es) h =
     let short = (All-head (λ (y : Entry). IsNetwork y.0) x es h).short in
-    (λ c. let w = same_width x.0.addr a in omega arith, below-all a es (All-tail (λ (y : Entry). IsNetwork y.0) x es h))
+    (λ c. let w = same_width x.0.addr a (covers_family x.0 a c) in omega arith, below-all a es (All-tail (λ (y : Entry). IsNetwork y.0) x es h))
 
 suc_less : (b : ℕ) → 0 < b → b ≡ suc (b - 1)
 suc_less b h = omega arith
@@ -243,53 +242,82 @@ all-added es a n mark h k short =
 
 -- ---- the lengths that entries have
 
-and_false : (b c : Bool) → b ≡ false → (b && c) ≡ false
-and_false b c e = grind arith
+-- addresses of one family have the same lengths
+same_lengths : (l : Lengths) (p a : Addr) (n : ℕ) → same_family p a ≡ true → below l p n ≡ below l a n
+same_lengths l (V4 x) (V4 y) n f = refl
+same_lengths l (V6 x) (V6 y) n f = refl
+same_lengths l (V4 x) (V6 y) n f = absurd (cc f)
+same_lengths l (V6 x) (V4 y) n f = absurd (cc f)
 
--- an address has at most as many bits as there are lengths, but for one
-pub width_small : (a : Addr) → width_of a < 129
-width_small (V4 bytes) = omega arith
+-- what covers an address and is shorter than a number of bits has a length that stands there
+pub next-below : (l : Lengths) (a : Addr) (n : ℕ) (es : List Entry) → All (λ (x : Entry). IsNoted l x.0) es
+    → n ≤ width_of a + 1 → AreBelow n a es → AreBelow (below l a n) a es
+unfolding AreBelow
+next-below l a n [] h short k = tt
+next-below l a n (x ∷ es) h short k =
+    let P : Entry → Type 0 = λ y. IsNoted l y.0 in (
+      λ c. let family = covers_family x.0 a c in
+          let w = same_width x.0.addr a family in
+          let same = same_lengths l x.0.addr a n family in
+          let more = All-head P x es h n (k.0 c) (omega arith) in omega arith,
+      next-below l a n es (All-tail P x es h) short k.1,
+    )
 
--- a length that is not marked is that of no entry
-pub unmarked-none : (lengths : List Bool) (a : Addr) (n : ℕ) (es : List Entry)
-    → All (λ (x : Entry). slice_index_or lengths x.0.bits false ≡ true) es
-    → slice_index_or lengths n false ≡ false → mark_at es a n ≡ None
-unmarked-none lengths a n [] h e = refl
-unmarked-none lengths a n (x ∷ es) h e =
-    let P : Entry → Type 0 = λ y. slice_index_or lengths y.0.bits false ≡ true in
-    let other : (x.0.bits == n) ≡ false = by (x.0.bits == n) refl in
-    cond-false (is_prefix_of a n x.0) _ _ (and_false (x.0.bits == n) (covers x.0 a) other) ∙ unmarked-none lengths a n es (All-tail P x es h) e
+none_below : (a : Addr) (n : ℕ) → n ≤ width_of a + 1 → below (record { inet = replicate 34 0; inet6 = replicate 130 0 }) a n ≡ 0
+none_below (V4 x) n h = get_or-replicate 34 n 0 0 (omega arith)
+none_below (V6 x) n h = get_or-replicate 130 n 0 0 (omega arith)
+
+-- without an entry no length is noted
+pub kept-none : AreKept [] (record { inet = replicate 34 0; inet6 = replicate 130 0 })
+kept-none = record {
+  networks = All-nil (λ (x : Entry). IsNetwork x.0);
+  long = (refl, refl);
+  less = (λ a n h. let z = none_below a n h in omega arith);
+  noted = All-nil (λ (x : Entry). IsNoted (record { inet = replicate 34 0; inet6 = replicate 130 0 }) x.0);
+}
+
+-- a length is noted at all numbers of bits above it, for the family of an address
+pub record Notes (old new : Lengths) (b : Addr) (bits : ℕ) : Type 0 where
+  pub at : (a : Addr) (n : ℕ) → n ≤ width_of a + 1
+      → below new a n ≡ cond (same_family a b && nat_lt bits n) (max (below old a n) (bits + 1)) (below old a n)
+
+noted_less : (old new bits n : ℕ) (s : Bool) → new ≡ cond (s && nat_lt bits n) (max old (bits + 1)) old → old ≤ n → new ≤ n
+noted_less old new bits n s e h = by (s && nat_lt bits n) refl
   where
-    by : (b : Bool) → (x.0.bits == n) ≡ b → b ≡ false
-    by true s =
-        let P : Entry → Type 0 = λ y. slice_index_or lengths y.0.bits false ≡ true in
-        let bits : x.0.bits ≡ n = grind (arith, nat_tests) in
-        absurd (false≢true (sym e ∙ sym (ap (λ k. slice_index_or lengths k false) bits) ∙ All-head P x es h))
-    by false s = refl
+    by : (b : Bool) → (s && nat_lt bits n) ≡ b → new ≤ n
+    by true t =
+        let f : new ≡ max old (bits + 1) = e ∙ cond-true (s && nat_lt bits n) _ _ t in
+        let over : nat_lt bits n ≡ true = (and_parts s (nat_lt bits n) t).1 in
+        let l : bits < n = grind (arith, nat_tests) in
+        omega arith
+    by false t = let f : new ≡ old = e ∙ cond-false (s && nat_lt bits n) _ _ t in omega arith
 
--- marking a length keeps the marks
-still_marked : (lengths : List Bool) (n k : ℕ) → n < length lengths → slice_index_or lengths k false ≡ true
-    → slice_index_or (set lengths n true) k false ≡ true
-still_marked lengths n k within h = by (k == n) refl
+still_noted : (old new bits n k : ℕ) (s : Bool) → new ≡ cond (s && nat_lt bits n) (max old (bits + 1)) old → k < old → k < new
+still_noted old new bits n k s e h = by (s && nat_lt bits n) refl
   where
-    by : (b : Bool) → (k == n) ≡ b → slice_index_or (set lengths n true) k false ≡ true
-    by true e =
-        let same : k ≡ n = grind (arith, nat_tests) in
-        ap (λ i. slice_index_or (set lengths n true) i false) same ∙ get_or-set_same lengths n true false within
-    by false e =
-        let other : k ≢ n = (λ same. false≢true (sym e ∙ eq-eqb k n same)) in
-        get_or-set_other lengths n k true false other ∙ h
+    by : (b : Bool) → (s && nat_lt bits n) ≡ b → k < new
+    by true t = let f : new ≡ max old (bits + 1) = e ∙ cond-true (s && nat_lt bits n) _ _ t in omega arith
+    by false t = let f : new ≡ old = e ∙ cond-false (s && nat_lt bits n) _ _ t in omega arith
 
--- one more entry, with its length marked
-pub kept-added : (es : List Entry) (lengths : List Bool) (a : Addr) (n : ℕ) (mark : Mark) → AreKept es lengths → IsAddr a
-    → n ≤ width_of a → AreKept (es ++ (network_of a n, mark) ∷ []) (set lengths n true)
-kept-added es lengths a n mark h k short =
-    let P : Entry → Type 0 = λ x. slice_index_or (set lengths n true) x.0.bits false ≡ true in
-    let within : n < length lengths = let w = width_small a in let l = h.long in omega arith in
+new_noted : (old new bits n : ℕ) (s : Bool) → new ≡ cond (s && nat_lt bits n) (max old (bits + 1)) old → s ≡ true → bits < n
+    → bits < new
+new_noted old new bits n s e is h =
+    let over : nat_lt bits n ≡ true = grind (arith, nat_tests) in
+    let f : new ≡ max old (bits + 1) = e ∙ cond-true (s && nat_lt bits n) _ _ (and_from _ _ is over) in
+    omega arith
+
+-- one more entry, with its length noted
+pub kept-added : (es : List Entry) (old new : Lengths) (a : Addr) (n : ℕ) (mark : Mark) → AreKept es old → IsAddr a
+    → n ≤ width_of a → AreLong new → Notes old new a n → AreKept (es ++ (network_of a n, mark) ∷ []) new
+kept-added es old new a n mark h k short long notes =
+    let P : Entry → Type 0 = λ x. IsNoted new x.0 in
     record {
       networks = all-added es a n mark h.networks k short;
-      long = length-set lengths n true ∙ h.long;
-      marked =
-          All-append P es ((network_of a n, mark) ∷ []) (λ i d l. still_marked lengths n _ within (h.marked i d l))
-          (All-cons P (network_of a n, mark) [] (get_or-set_same lengths n true false within) (All-nil P));
+      long = long;
+      less = (λ b m l. noted_less (below old b m) (below new b m) n m (same_family b a) (notes.at b m l) (h.less b m l));
+      noted =
+          All-append P es ((network_of a n, mark) ∷ [])
+          (λ i d l m more few. still_noted (below old _ m) (below new _ m) n m _ _ (notes.at _ m few) (h.noted i d l m more few))
+          (All-cons P (network_of a n, mark) []
+          (λ m more few. new_noted (below old (cleared n a) m) (below new (cleared n a) m) n m (same_family (cleared n a) a) (notes.at (cleared n a) m few) (cleared_family n a) more) (All-nil P));
     }

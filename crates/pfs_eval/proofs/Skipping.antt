@@ -73,7 +73,7 @@ same-holds : (tables : List (List Entry)) (packet : Header) (k : Parameter) (f g
     → holds_at tables packet k f ≡ holds_at tables packet k g
 same-holds tables packet parameter.Interface f g e = ap (λ r. interface_holds r packet.ifname) e
 same-holds tables packet parameter.Direction f g e = ap (λ r. dir_holds r packet.dir) e
-same-holds tables packet parameter.Family f g e = ap (λ r. family_holds r packet.source.addr) e
+same-holds tables packet parameter.Family f g e = ap (λ r. family_holds r packet.source.addr packet.destination.addr) e
 same-holds tables packet parameter.Protocol f g e = ap (λ r. proto_holds r packet.proto) e
 same-holds tables packet parameter.SourceHost f g e = ap (λ r. host_holds tables r packet.source.addr) e
 same-holds tables packet parameter.DestinationHost f g e = ap (λ r. host_holds tables r packet.destination.addr) e

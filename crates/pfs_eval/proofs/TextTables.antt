@@ -8,7 +8,7 @@ use Rattle.std.proofs.lemmas.List.Sums.{sum_by-cons}
 use Rattle.std.proofs.lemmas.Map.Keys.{IsDistinct-tail, apart_from_distinct}
 use Rattle.std.proofs.lemmas.Option.{slice_get_within, get_or_from_slice_get}
 use Rattle.pfs_addr.specs.declared.addresses.Addr.{Addr}
-use Rattle.pfs_addr.specs.declared.addresses.Addr.TheVariants.{V4}
+use Rattle.pfs_addr.specs.declared.addresses.Addr.TheVariants.{V4, V6}
 use Rattle.pfs_addr.specs.Prefixes.{Network, IsNetwork, network_of}
 use Rattle.pfs_conf_rules.specs.Configs.{Conf, entry_count_of}
 use Rattle.pfs_conf_rules.specs.Entries.{same_addr, same_network, Entry as TextEntry}
@@ -25,6 +25,7 @@ own_network p h = λ i. record { addr = h.zeros i; bits = p.bits }
 
 addr_itself : (a : Addr) → same_addr a a ≡ true
 addr_itself (V4 bytes) = search rules
+addr_itself (V6 bytes) = search rules
 
 -- a prefix is the same as itself
 itself : (p : Network) → same_network p p ≡ true

@@ -1,6 +1,8 @@
-use Rattle.std.specs.Prelude.{ℕ, ◌≡◌, Bool, true, false, All, List, length, map, slice_index_or}
+use Rattle.std.specs.Prelude.{ℕ, All, List, map}
 use Rattle.pfs_addr.specs.Prefixes.{IsNetwork}
 use Rattle.pfs_eval.specs.Entries.{Entry}
+use Rattle.pfs_eval.specs.Lengths.{AreLess, AreLong, IsNoted}
+use Rattle.pfs_eval.specs.declared.lengths.Lengths.{Lengths}
 
 -- what a table holds: its entries in order, and how many more fit without memory
 pub record Held : Type 0 where
@@ -22,8 +24,9 @@ holdings tables limit = record {
   limit = limit;
 }
 
--- what the entries of a table keep: each is a prefix, and its length is marked. lengths: whether a length is marked
-pub record AreKept (entries : List Entry) (lengths : List Bool) : Type 0 where
+-- what the entries of a table keep: each is a prefix, and its length is noted
+pub record AreKept (entries : List Entry) (lengths : Lengths) : Type 0 where
   pub networks : All (λ (x : Entry). IsNetwork x.0) entries
-  pub long : length lengths ≡ 129
-  pub marked : All (λ (x : Entry). slice_index_or lengths x.0.bits false ≡ true) entries
+  pub long : AreLong lengths
+  pub less : AreLess lengths
+  pub noted : All (λ (x : Entry). IsNoted lengths x.0) entries

@@ -1,5 +1,6 @@
 pub mod Entries
 pub mod Holdings
+pub mod Lengths
 pub mod Lines
 pub mod Matching
 pub mod Parameters

@@ -2,16 +2,16 @@ use Rattle.std.specs.Prelude.{ℕ, Bool, true, false, not, ◌&&◌, ◌==◌, n
 use Rattle.std.specs.Str.{bytes_eq}
 use Rattle.std.proofs.Math.Bool.{beq}
 use Rattle.pfs_addr.specs.declared.addresses.Addr.{Addr}
-use Rattle.pfs_addr.specs.declared.addresses.Addr.TheVariants.{V4}
+use Rattle.pfs_addr.specs.Addresses.{is_ipv6, same_family}
 use Rattle.pfs_addr.specs.declared.flag_sets.Flags.{Flags}
 use Rattle.pfs_addr.specs.declared.packets.Dir.{Dir}
 use Rattle.pfs_addr.specs.declared.packets.Dir.TheVariants.{In, Out}
 use Rattle.pfs_addr.specs.declared.protocols.Proto.{Proto}
 use Rattle.pfs_addr.specs.declared.protocols.Proto.TheVariants as proto
 use Rattle.pfs_addr.specs.Packets.{Header}
-use Rattle.pfs_addr.specs.Prefixes.{covers}
+use Rattle.pfs_addr.specs.Prefixes.{Network, covers}
 use Rattle.pfs_conf_rules.specs.declared.filters.Family.{Family}
-use Rattle.pfs_conf_rules.specs.declared.filters.Family.TheVariants.{Inet}
+use Rattle.pfs_conf_rules.specs.declared.filters.Family.TheVariants.{Inet, Inet6}
 use Rattle.pfs_conf_rules.specs.declared.filters.Filter.{Filter}
 use Rattle.pfs_conf_rules.specs.declared.filters.FlagTest.{FlagTest}
 use Rattle.pfs_conf_rules.specs.declared.filters.FlagTest.TheVariants as flag_test
@@ -47,10 +47,11 @@ abbrev pub interface_holds : Option Interface → List ℕ → Bool
 interface_holds None name = true
 interface_holds (Some i) name = turned i.negated (bytes_eq i.name name)
 
--- `inet`: the packet's addresses are IPv4
-abbrev pub family_holds : Option Family → Addr → Bool
-family_holds None a = true
-family_holds (Some Inet) (V4 bytes) = true
+-- `inet` and `inet6`: the packet's addresses are IPv4, or IPv6
+abbrev pub family_holds : Option Family → Addr → Addr → Bool
+family_holds None a b = true
+family_holds (Some Inet) a b = not (is_ipv6 a) && not (is_ipv6 b)
+family_holds (Some Inet6) a b = is_ipv6 a && is_ipv6 b
 
 -- `proto`: the protocol of the packet is the one that is written
 abbrev pub same_proto : Proto → Proto → Bool
@@ -63,10 +64,14 @@ abbrev pub proto_holds : Option Proto → Proto → Bool
 proto_holds None p = true
 proto_holds (Some wanted) p = same_proto wanted p
 
--- `from` and `to`: the prefix covers the address, or the table answers yes for it
+-- a prefix covers the address, or with a `!` it does not; it holds of addresses of its own family alone (own)
+abbrev pub prefix_holds : Network → Bool → Addr → Bool
+prefix_holds prefix negated a = same_family prefix.addr a && turned negated (covers prefix a)
+
+-- `from` and `to`: the prefix holds of the address, or the table answers yes for it, or no where a `!` stands before it
 abbrev pub host_holds : List (List Entry) → Host TableNo → Addr → Bool
 host_holds tables host.Any a = true
-host_holds tables (host.Prefix prefix negated) a = turned negated (covers prefix a)
+host_holds tables (host.Prefix prefix negated) a = prefix_holds prefix negated a
 host_holds tables (host.Table table negated) a = turned negated (table_answer tables table.0 a)
 
 -- `port`: the port is one of these
@@ -101,7 +106,7 @@ flags_hold _ _ f = true
 -- all that is asked of a packet holds
 abbrev pub filter_holds : List (List Entry) → Header → Filter → Bool
 filter_holds tables p f =
-    dir_holds f.dir p.dir && interface_holds f.on p.ifname && family_holds f.family p.source.addr && proto_holds f.proto p.proto
+    dir_holds f.dir p.dir && interface_holds f.on p.ifname && family_holds f.family p.source.addr p.destination.addr && proto_holds f.proto p.proto
     && host_holds tables f.from.host p.source.addr && ports_hold f.from.ports p.source.port
     && host_holds tables f.to.host p.destination.addr && ports_hold f.to.ports p.destination.port
     && flags_hold f.flags p.proto p.flags

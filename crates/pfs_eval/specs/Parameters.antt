@@ -13,7 +13,7 @@ use Rattle.pfs_eval.specs.declared.comparing.Parameter.TheVariants as parameter
 abbrev pub holds_at : List (List Entry) → Header → Parameter → Filter → Bool
 holds_at tables p parameter.Interface f = interface_holds f.on p.ifname
 holds_at tables p parameter.Direction f = dir_holds f.dir p.dir
-holds_at tables p parameter.Family f = family_holds f.family p.source.addr
+holds_at tables p parameter.Family f = family_holds f.family p.source.addr p.destination.addr
 holds_at tables p parameter.Protocol f = proto_holds f.proto p.proto
 holds_at tables p parameter.SourceHost f = host_holds tables f.from.host p.source.addr
 holds_at tables p parameter.DestinationHost f = host_holds tables f.to.host p.destination.addr

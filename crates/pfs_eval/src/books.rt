@@ -1,7 +1,7 @@
 //! The book of a configuration's rules, and their verdict on a packet.
 
 ghost use Rattle.std.specs.Prelude.{◌≡◌, ◌+◌, ◌-◌, ◌≤◌, ◌<◌, ◌^◌, All, IfOk, IfSome, length, option_map};
-ghost use Rattle.pfs_conf_rules.specs.Depths.{IsPreorder};
+ghost use Rattle.pfs_conf_rules.specs.Order.{IsPreorder};
 ghost use Rattle.pfs_conf_rules.specs.declared.items.Item.{Item};
 ghost use Rattle.pfs_eval.specs.Matching.{matches_item};
 ghost use Rattle.pfs_eval.specs.Verdict.{IsRuleAt, cut, verdict};

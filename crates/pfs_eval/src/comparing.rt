@@ -2,11 +2,11 @@
 
 ghost use Rattle.std.specs.Prelude.{◌≡◌, ◌+◌, ◌-◌, ◌<◌, ◌^◌, MatchOption, false, true};
 ghost use Rattle.std.specs.Bool.{OnTrue};
-ghost use Rattle.pfs_eval.specs.Matching.{common_flags, dir_holds, family_holds, filter_holds, filter_of, flags_hold, host_holds, interface_holds, ports_hold, proto_holds, same_flags, turned};
+ghost use Rattle.pfs_eval.specs.Matching.{common_flags, dir_holds, family_holds, filter_holds, filter_of, flags_hold, host_holds, interface_holds, ports_hold, prefix_holds, proto_holds, same_flags, turned};
 ghost use Rattle.pfs_eval.specs.Parameters.{IsSame, holds_at, same_test};
 
 use crate::tables::Tables;
-use pfs_addr::{Addr, Dir, Flags, IfName, Meter, Packet, Proto};
+use pfs_addr::{Addr, Dir, Flags, IfName, Meter, Packet, Prefix, Proto};
 use pfs_conf_rules::{Family, Filter, FlagTest, Host, Interface, Ports, TableNo, What};
 
 /// A parameter of an item, in the order in which they are compared. (pf.conf(5), PARAMETERS)
@@ -16,7 +16,7 @@ pub enum Parameter {
     Interface,
     /// `in` or `out`.
     Direction,
-    /// `inet`.
+    /// `inet` or `inet6`.
     Family,
     /// `proto`.
     Protocol,
@@ -90,7 +90,7 @@ fn first_failing(tables: &Tables, packet: &Packet, filter: &Filter) -> Option<Pa
     if !dir_holds(filter.dir, packet.dir()) {
         return Some(Parameter::Direction);
     }
-    if !family_holds(filter.family, packet.src()) {
+    if !family_holds(filter.family, packet.src(), packet.dst()) {
         return Some(Parameter::Family);
     }
     if !proto_holds(filter.proto, packet.proto()) {
@@ -129,12 +129,13 @@ fn interface_holds(on: &Option<Interface>, name: &IfName) -> bool
     }
 }
 
-fn family_holds(family: Option<Family>, addr: Addr) -> bool
-    ensures { result ≡ family_holds family addr }
+fn family_holds(family: Option<Family>, source: Addr, destination: Addr) -> bool
+    ensures { result ≡ family_holds family source destination }
 {
-    match (family, addr) {
-        (None, _) => true,
-        (Some(Family::Inet), Addr::V4(_)) => true,
+    match family {
+        None => true,
+        Some(Family::Inet) => !source.is_ipv6() && !destination.is_ipv6(),
+        Some(Family::Inet6) => source.is_ipv6() && destination.is_ipv6(),
     }
 }
 
@@ -149,9 +150,16 @@ fn host_holds(tables: &Tables, host: &Host<TableNo>, addr: Addr) -> bool
 {
     match *host {
         Host::Any => true,
-        Host::Prefix { prefix, negated } => turned(negated, prefix.contains(addr)),
+        Host::Prefix { prefix, negated } => prefix_holds(&prefix, negated, addr),
         Host::Table { table, negated } => turned(negated, tables.matches(table, addr)),
     }
+}
+
+// A prefix, also one with a `!`, holds of addresses of its own family alone.
+fn prefix_holds(prefix: &Prefix, negated: bool, addr: Addr) -> bool
+    ensures { result ≡ prefix_holds prefix.now negated addr }
+{
+    prefix.addr().same_family(addr) && turned(negated, prefix.contains(addr))
 }
 
 fn ports_hold(ports: Option<Ports>, port: u16) -> bool

@@ -1,12 +1,13 @@
 // The entries of one table: prefixes in the order in which they came, each with its mark.
 
-ghost use Rattle.std.specs.Prelude.{◌≡◌, ◌<◌, ◌≤◌, ◌++◌, [], ◌∷◌, IfOk, IsOk, OnErr, OnOk, map, nat_lt, not, false};
+ghost use Rattle.std.specs.Prelude.{◌≡◌, All, ◌<◌, ◌≤◌, ◌++◌, [], ◌∷◌, IfOk, IsOk, OnErr, OnOk, map, nat_lt, not, false};
 ghost use Rattle.pfs_addr.specs.Addresses.{width_of};
-ghost use Rattle.pfs_addr.specs.Prefixes.{network_of};
+ghost use Rattle.pfs_addr.specs.Prefixes.{IsNetwork, network_of};
 ghost use Rattle.pfs_eval.specs.Holdings.{AreKept};
-ghost use Rattle.pfs_eval.specs.Entries.{answer_of, entry_of, holds_host, holds_prefix, mark_at};
+ghost use Rattle.pfs_eval.specs.Entries.{Entry, answer_of, entry_of, holds_host, holds_prefix, mark_at};
 ghost use Rattle.pfs_eval.specs.Tables.{is_old, old_count, young};
 
+use crate::lengths::Lengths;
 use indexmap::IndexMap;
 use pfs_addr::{Addr, Prefix};
 use pfs_conf_rules::Entries;
@@ -22,15 +23,12 @@ pub struct Mark {
     pub moment: Option<u64>,
 }
 
-/// The lengths that a prefix of any family may have: 0 to 128.
-const LENGTHS: usize = 129;
-
 /// One table. Clauses see `Held`: its entries in order, and how many more fit without memory.
 #[derive(Drop)]
 pub struct Table {
     map: IndexMap<Prefix, Mark>,
-    /// For each length of a prefix, whether an entry has or had it. Other lengths are not looked up.
-    lengths: [bool; LENGTHS],
+    /// The lengths that an entry has or had. Others are not looked up.
+    lengths: Lengths,
 }
 
 impl Model for Table {
@@ -51,7 +49,7 @@ impl Table {
     {
         Table {
             map: IndexMap::new(alloc),
-            lengths: [false; LENGTHS],
+            lengths: Lengths::none(),
         }
     }
 
@@ -72,7 +70,7 @@ impl Table {
     }
 
     /// Whether the narrowest entry that covers the address is there and not negated. One look-up is made for each length
-    /// that an entry has or had.
+    /// that an entry of the address's family has or had, from the longest on, until one is found.
     pub fn matches(&self, addr: Addr) -> bool
         ensures { result ≡ answer_of self.now.entries addr }
     {
@@ -111,7 +109,7 @@ impl Table {
         ensures no_memory { 0 < self.old.spare → IsOk result }
     {
         self.map.insert(addr.prefix(bits), mark)?;
-        self.lengths[usize::from(bits)] = true;
+        self.lengths.note(addr, bits);
         Ok(())
     }
 
@@ -140,33 +138,26 @@ fn is_old(mark: Mark, first: u64, now: u64, seconds: u64) -> bool
 }
 
 /// The answer for an address: of its prefixes, from the longest on, the first that is an entry says.
-fn answer(map: &IndexMap<Prefix, Mark>, lengths: &[bool; LENGTHS], addr: Addr) -> bool
+fn answer(map: &IndexMap<Prefix, Mark>, lengths: &Lengths, addr: Addr) -> bool
     requires { AreKept map.now.entries lengths.now }
     ensures { result ≡ answer_of map.now.entries addr }
 {
-    let mut bits = addr.width() + 1;
-    while bits > 0 {
-        bits -= 1;
-        if let Some(mark) = mark_at(map, lengths, addr, bits) {
+    let mut below = lengths.below(addr, addr.width() + 1);
+    while below > 0 {
+        let bits = below - 1;
+        if let Some(mark) = mark_at(map, addr, bits) {
             return !mark.negated;
         }
+        below = lengths.below(addr, bits);
     }
     false
 }
 
 /// The mark of the entry that is the prefix of this address with so many bits, if there is one.
-fn mark_at(
-    map: &IndexMap<Prefix, Mark>,
-    lengths: &[bool; LENGTHS],
-    addr: Addr,
-    bits: u8,
-) -> Option<Mark>
+fn mark_at(map: &IndexMap<Prefix, Mark>, addr: Addr, bits: u8) -> Option<Mark>
     requires bits { bits ≤ width_of addr }
-    requires kept { AreKept map.now.entries lengths.now }
+    requires networks { All (λ (x : Entry). IsNetwork x.0) map.now.entries }
     ensures { result ≡ mark_at map.now.entries addr bits }
 {
-    if !lengths[usize::from(bits)] {
-        return None;
-    }
     map.get(&addr.prefix(bits)).copied()
 }

@@ -4,6 +4,7 @@
 mod books;
 mod comparing;
 mod entries;
+mod lengths;
 mod lines;
 mod skips;
 mod tables;

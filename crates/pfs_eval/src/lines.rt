@@ -1,7 +1,7 @@
 //! What a walk reads of each item of a book.
 
 ghost use Rattle.std.specs.Prelude.{◌≡◌, ◌+◌, ◌<◌, ◌≤◌, ℕ, [], IfOk, Some, drop, if◌then◌else◌, length, max, nat_le, slice_get, slice_index};
-ghost use Rattle.pfs_conf_rules.specs.Configs.{IsConfig};
+ghost use Rattle.pfs_conf_rules.specs.Invariants.{IsConfig};
 ghost use Rattle.pfs_conf_rules.specs.Depths.{is_rule};
 ghost use Rattle.pfs_eval.specs.Lines.{AreLines, IsLine, back, next_place, stop_depth_of};
 ghost use Rattle.pfs_eval.specs.Skips.{AreSkipsOf, body_length};
@@ -137,7 +137,6 @@ pub fn item_at(config: &Config, place: u32) -> &Item
     ensures item { slice_get config.now.items place ≡ Some result.now }
     ensures shallow { result.now.depth ≤ 16 }
 {
-    let _count = config.item_count();
     config.item(place).unwrap()
 }
 

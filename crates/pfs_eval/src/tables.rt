@@ -64,8 +64,9 @@ impl Tables {
     }
 
     /// The answer of a table for an address: of its entries that cover the address the one with most bits says; yes if
-    /// there is one and it is not negated. A table that is not there answers no. It takes no memory, and makes
-    /// one look-up at most for each length that an entry of the table has or had. (pf.conf(5), TABLES)
+    /// there is one and it is not negated. An entry covers addresses of its own family alone. A table that is not there
+    /// answers no. It takes no memory, and makes one look-up at most for each length that an entry of the table has or
+    /// had in the address's family. (pf.conf(5), TABLES)
     pub fn matches(&self, table: TableNo, addr: Addr) -> bool
         ensures { result ≡ table_answer self.now.entries table.0 addr }
     {
@@ -108,10 +109,10 @@ impl Tables {
         Ok(())
     }
 
-    /// Adds a single host to a table at a moment, in seconds: not if the table has an entry for exactly that host, negated or not, and not if all
-    /// tables together have as many entries as the limit allows. The error says that memory was refused; it comes only
-    /// where the host is new and does not fit without memory. On an error, and where the host is not new, nothing changes:
-    /// a host that is held keeps its moment. (own to this profile)
+    /// Adds a single host of either family to a table at a moment, in seconds: not if the table has an entry for exactly
+    /// that host, negated or not, and not if all tables together have as many entries as the limit allows. The error says
+    /// that memory was refused; it comes only where the host is new and does not fit without memory. On an error, and
+    /// where the host is not new, nothing changes: a host that is held keeps its moment. (own to this profile)
     pub fn add_host(&mut self, table: TableNo, host: Addr, now: u64) -> Result<Added, NoMemory>
         requires { table.0 < length self.old.entries }
         ensures answer { IfOk result (λ a. a ≡ added_to self.old.entries self.old.limit table.0 host) }

@@ -3,7 +3,7 @@
 ghost use Rattle.std.specs.Prelude.{◌≡◌, ◌≤◌, [], IfSome, OnErr, OnOk, Some, map, true};
 ghost use Rattle.std.specs.List.{AllByRecursion, find, list_any};
 ghost use Rattle.pfs_conf_rules.specs.Configs.{options_of};
-ghost use Rattle.pfs_conf_rules.specs.LoadRules.{IsRate};
+ghost use Rattle.pfs_conf_rules.specs.Bounds.{IsRate};
 ghost use Rattle.pfs_store_plain.specs.Counts.{node_scope_of};
 ghost use Rattle.pfs_store_plain.specs.Purging.{node_numbers};
 ghost use Rattle.pfs_store_plain.specs.Worlds.{IsUpToNow, lists};

@@ -3,7 +3,7 @@
 ghost use Rattle.std.specs.Prelude.{◌≡◌, ◌≤◌, ℕ, [], IfSome, IsSome, List, Some, map, option_map};
 ghost use Rattle.pfs_addr.specs.Keys.{key_of};
 ghost use Rattle.pfs_conf_rules.specs.Configs.{options_of};
-ghost use Rattle.pfs_conf_rules.specs.LoadRules.{IsRate};
+ghost use Rattle.pfs_conf_rules.specs.Bounds.{IsRate};
 ghost use Rattle.pfs_store_plain.specs.Counts.{node_scope_of};
 ghost use Rattle.pfs_store_plain.specs.Plain.{AreScores};
 ghost use Rattle.pfs_store_plain.specs.Touching.{completes_at, connections_in, goes_forward, node_score, nodes_scored, nodes_touched, renewed, rescored, score_in, touch_of, world_touched};

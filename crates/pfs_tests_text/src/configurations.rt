@@ -173,6 +173,13 @@ fn the_canonical_text_shows_all(rt: HostRuntime) -> Result<(), Fail> {
             b"table <bad> const { 10.0.0.0/8 !10.9.9.9/32 }",
             b"adaptive.end 120000 }\ntable <bad> const { 10.0.0.0/8, !10.9.9.9 }\n",
         ),
+        (
+            b"table <bad> { 2001:DB8:0::ff/32 !1:0:0:2:0:0:0:3/128, 10.0.0.1 ::/0 }\n\
+            pass inet6 from 2001:db8:0:0:1:0:0:1 to !<bad>\nanchor on em0 inet6 to fe80::1/10 {\n}",
+            b"adaptive.end 120000 }\ntable <bad> { 2001:db8::/32, !1:0:0:2::3, 10.0.0.1, ::/0 }\n\
+            pass inet6 from 2001:db8::1:0:0:1 to !<bad> flags S/SA keep state\n\
+            anchor on em0 inet6 from any to fe80::/10 flags any {\n}\n",
+        ),
     ] {
         let shown = show(rt.alloc(), &load(rt.alloc(), text)?)?;
         assert!(rt; shown.as_slice().ends_with(wanted));

@@ -156,6 +156,30 @@ fn unusual_spellings(rt: HostRuntime) -> Result<(), Fail> {
 }
 
 #[test]
+fn either_family(rt: HostRuntime) -> Result<(), Fail> {
+    let group = parse_prefix(b"fe80::/10").ok_or("a prefix")?;
+    let head = Head {
+        family: Some(Family::Inet6),
+        ..NO_HEAD
+    };
+    let hosts = Hosts {
+        from: side(
+            Host::Prefix {
+                prefix: group,
+                negated: true,
+            },
+            None,
+        ),
+        ..NO_HOSTS
+    };
+    assert_eq!(rt;
+        read(b"inet6 from !fe80:0::1/10 inet"),
+        (Ok(Parameters { head, hosts }), Key::Inet)
+    );
+    Ok(())
+}
+
+#[test]
 fn an_anchor_has_no_log(rt: HostRuntime) {
     let mut cursor = Cursor::new(b"quick log");
     let marks = Marks {
@@ -193,6 +217,7 @@ const STOPS: &[(&[u8], Why, &[u8])] = &[
     (b"from ! ! 10.0.0.1", Why::Host, b"!"),
     (b"from \"10.0.0.1\"", Why::Host, b"10.0.0.1"),
     (b"from any to em0", Why::Host, b"em0"),
+    (b"inet6 from fe80::1%em0", Why::Host, b"fe80::1%em0"),
     (b"from", Why::Host, b""),
 ];
 

@@ -32,7 +32,7 @@ const TIMEOUTS: [TimeoutName; 16] = [
 ];
 
 // Each part of a rules text, in usual and in unusual spellings.
-const TEXTS: [&[u8]; 36] = [
+const TEXTS: [&[u8]; 38] = [
     b"",
     b"# a comment alone \\\n",
     b"set limit states 1\nset limit src-nodes 4294967295\nset limit tables 2\nset limit table-entries 3",
@@ -51,6 +51,8 @@ const TEXTS: [&[u8]; 36] = [
     b"pass log\npass log quick\npass quick log\npass log (all, matches user to em0)\npass quick log (to em-0.1)",
     b"pass proto tcp\npass proto udp\npass proto icmp\npass proto icmp6\npass proto esp\npass proto ah\npass proto gre",
     b"pass proto 6\npass proto 017\npass proto 0\npass proto 255\npass proto 1",
+    b"table <both> { ::/0, !::1 1:2:3:4:5:6:7:: 10.0.0.0/8, 2001:DB8:0:0:1:0:0:1/127 } \nblock inet6 from <both> to !fe80::/10\nblock inet from <both>",
+    b"pass quick inet6 from abcd:: to 0001::2 flags any\nanchor \"six\" out on em0 inet6 from !::ffff:0:0/96 {\npass inet to ::1\n}",
     b"pass proto tcp to port ssh\npass proto tcp from port = smtp:http to any port https\npass proto udp from any port domain to port 5:5",
     b"pass from 10.0.0.1 to !10.0.0.0/8\npass from !<t> to <u>\npass to <t>\nblock from <v>\ntable <v> const { 1.1.1.1 }",
     b"table <b> { !5.0.0.0/8 }\npass from <a> to <b>\ntable <a> { 6.0.0.0/7 }\npass from <c>",

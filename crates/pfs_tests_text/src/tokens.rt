@@ -118,7 +118,7 @@ fn keys_are_of_kinds(rt: HostRuntime) {
     for (key, is_word) in [(Key::Number, true), (Key::Pass, true), (Key::Quoted, false)] {
         assert_eq!(rt; key.is_word(), is_word);
     }
-    for (key, is_unsupported) in [(Key::Inet6, true), (Key::Inet, false)] {
+    for (key, is_unsupported) in [(Key::Rdomain, true), (Key::Inet6, false)] {
         assert_eq!(rt; key.is_unsupported(), is_unsupported);
     }
     for (word, place) in [(b"src.track".as_slice(), Some(12)), (b"tcp.tsdiff", None)] {

@@ -3,8 +3,8 @@ use Rattle.pfs_addr.specs.Addresses.{width_of}
 use Rattle.pfs_eval.proofs.Narrowest.{AreBelow}
 use Rattle.pfs_eval.proofs.entries.answer.Given as goal
 
-abbrev pub invariant-loop-bits : goal.invariant-loop-bits
-invariant-loop-bits l = (l.bits ≤ width_of l.addr + 1) × AreBelow l.bits l.addr l.map.entries
+abbrev pub invariant-loop-below : goal.invariant-loop-below
+invariant-loop-below l = (l.below ≤ width_of l.addr + 1) × AreBelow l.below l.addr l.map.entries
 
-abbrev pub decreases-loop-bits : goal.decreases-loop-bits
-decreases-loop-bits l = l.bits
+abbrev pub decreases-loop-below : goal.decreases-loop-below
+decreases-loop-below l = l.below

@@ -1,4 +1,4 @@
-use Rattle.std.proofs.Common.{◌∙◌, ◌<◌, ◌^◌, [], ◌∷◌, ◌++◌, ℕ, List, length, false, ap, arith}
+use Rattle.std.proofs.Common.{◌∙◌, [], ◌∷◌, ◌++◌, ℕ, List, false, ap}
 use Rattle.pfs_conf_rules.specs.Entries.{Entry}
 use Rattle.pfs_conf_rules.specs.Namings.{Named, is_named}
 use Rattle.pfs_conf_rules.specs.declared.tables.TableDef.{TableDef}

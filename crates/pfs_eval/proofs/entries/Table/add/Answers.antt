@@ -21,4 +21,4 @@ invariant_of-self-2 c =
     ∙ inserted-last _ c.prefix.result c.args.addr c.args.bits c.args.mark _ c.prefix.ensures.value c.prefix.ensures.addr c.self.invariant.networks (record { same = λ q h. search rules; self = search rules })
     (ap (λ es. holds_prefix es c.args.addr c.args.bits) view ∙ c.requires.absent)
     in
-    rw (is, c.from.ensures) (kept-added _ c.self.inside.lengths c.args.addr c.args.bits c.args.mark c.self.invariant c.prefix.ensures.addr c.requires.bits)
+    rw is (kept-added _ c.self.inside.lengths _ c.args.addr c.args.bits c.args.mark c.self.invariant c.prefix.ensures.addr c.requires.bits c.note.ensures.long (record { at = c.note.ensures.noted }))

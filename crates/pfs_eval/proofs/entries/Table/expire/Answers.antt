@@ -1,4 +1,4 @@
-use Rattle.std.proofs.Common.{◌≡◌, ◌∙◌, ap, arith, filter, not, rules, subst, sym, List}
+use Rattle.std.proofs.Common.{◌∙◌, ap, arith, not, rules, subst, sym, List}
 use Rattle.indexmap.proofs.CallerLemmas.{filter-RetainsPairs}
 use Rattle.pfs_eval.specs.Entries.{Entry}
 use Rattle.pfs_eval.specs.Holdings.{AreKept, Held}

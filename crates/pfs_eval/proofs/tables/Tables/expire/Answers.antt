@@ -1,9 +1,9 @@
-use Rattle.std.proofs.Common.{◌≡◌, ◌+◌, ◌∙◌, ap, arith, sym, List}
+use Rattle.std.proofs.Common.{◌∙◌, ap, arith, sym, List}
 use Rattle.pfs_eval.specs.Entries.{Entry}
 use Rattle.pfs_eval.specs.Holdings.{Holdings}
 use Rattle.pfs_eval.specs.Tables.{entries_expired, expired_count, old_count}
 use Rattle.pfs_eval.proofs.Expiring.{count-expired, entries-expired}
-use Rattle.pfs_eval.proofs.Rooms.{entries_at-held, entries_of, within-held}
+use Rattle.pfs_eval.proofs.Rooms.{entries_at-held, within-held}
 use Rattle.pfs_eval.proofs.tables.Tables.expire.Goals as goal
 
 pub overflow_sub-self : goal.overflow_sub-self

@@ -1,0 +1,72 @@
+-- What every configuration keeps, and what the statements of a text that have been read keep: the load rules.
+use Rattle.std.specs.Prelude.{ℕ, ◌≡◌, ◌<◌, ◌≤◌, ◌^◌, Bool, true, false, IfSome, None, List, [], length, map, All, slice_index_or}
+use Rattle.std.specs.List.{IsDistinct, list_any}
+use Rattle.std.specs.Str.{bytes_eq}
+use Rattle.pfs_addr.specs.Names.{is_name}
+use Rattle.pfs_addr.specs.Prefixes.{IsNetwork}
+use Rattle.pfs_conf_rules.specs.Configs.{Conf, entries_in, entry_count_of, is_adaptive, overloads_const, table_names, timeout_of}
+use Rattle.pfs_conf_rules.specs.Drafts.{Drafted}
+use Rattle.pfs_conf_rules.specs.Entries.{Entry, same_network}
+use Rattle.pfs_conf_rules.specs.LoadRules.{IsCount, IsItem, IsTimeout}
+use Rattle.pfs_conf_rules.specs.Order.{AreNamedOnce, IsPreorder}
+use Rattle.pfs_conf_rules.specs.declared.limits.Limits.{Limits}
+use Rattle.pfs_conf_rules.specs.declared.tables.TableDef.{TableDef}
+use Rattle.pfs_conf_rules.specs.declared.timeouts.TimeoutName.{TimeoutName}
+use Rattle.pfs_conf_rules.specs.declared.timeouts.TimeoutName.TheVariants as timeout
+
+-- the limits of a text
+pub record AreLimits (limits : Limits) : Type 0 where
+  pub states : IsCount limits.states
+  pub src_nodes : IsCount limits.src_nodes
+  pub tables : IsCount limits.tables
+  pub table_entries : IsCount limits.table_entries
+
+-- whether a timeout is a number of seconds; the adaptive two are numbers of states
+abbrev pub is_seconds : TimeoutName → Bool
+is_seconds timeout.AdaptiveStart = false
+is_seconds timeout.AdaptiveEnd = false
+is_seconds _ = true
+
+-- a table: a name, and entries of which no two have the same prefix
+pub record IsTable (t : TableDef) : Type 0 where
+  pub name : is_name 31 t.name ≡ true
+  pub networks : All (λ (e : Entry). IsNetwork e.0) t.entries
+  pub distinct : IsDistinct same_network (map (λ (e : Entry). e.0) t.entries)
+
+-- tables and the list of their names, by which they are found
+pub record IsNaming (keys : List (List ℕ)) (tables : List TableDef) (defined : List Bool) : Type 0 where
+  pub names : keys ≡ table_names tables
+  pub sizes : length defined ≡ length tables
+  pub each : All IsTable tables
+
+-- what holds of a draft behind each statement
+pub record IsDraft (d : Drafted) : Type 0 where
+  pub limits : AreLimits d.limits
+  pub timeouts : (place : ℕ) → IfSome (slice_index_or d.timeouts place None) (IsTimeout place)
+  pub items : All (IsItem (length d.tables)) d.items
+  pub few_items : length d.items ≤ 10000
+  pub preorder : IsPreorder 0 d.items
+  pub anchors : AreNamedOnce [] d.items
+
+-- what every configuration keeps (the load rules)
+pub record IsConfig (conf : Conf) : Type 0 where
+  pub limits : AreLimits conf.limits
+  pub size : length conf.timeouts ≡ 16
+  pub seconds : (name : TimeoutName) → is_seconds name ≡ true → timeout_of conf name ≤ 2147483647
+  pub interval : 1 ≤ timeout_of conf timeout.Interval
+  pub adaptive : is_adaptive (timeout_of conf timeout.AdaptiveStart) (timeout_of conf timeout.AdaptiveEnd) ≡ true
+  pub adaptive_end : timeout_of conf timeout.AdaptiveEnd < 2 ^ 33
+  pub tables : All IsTable conf.tables
+  pub names : IsDistinct bytes_eq (table_names conf.tables)
+  pub few_tables : length conf.tables ≤ conf.limits.tables
+  pub few_entries : entries_in conf.tables ≤ conf.limits.table_entries
+  pub items : All (IsItem (length conf.tables)) conf.items
+  pub few_items : length conf.items ≤ 10000
+  pub preorder : IsPreorder 0 conf.items
+  pub anchors : AreNamedOnce [] conf.items
+  pub overloads : list_any (overloads_const conf.tables) conf.items ≡ false
+
+-- a configuration, beside which its entries are counted
+pub record IsCounted (entries : ℕ) (conf : Conf) : Type 0 where
+  pub config : IsConfig conf
+  pub count : entries ≡ entry_count_of conf
