@@ -217,9 +217,12 @@ pub(crate) fn tell_records<S: Read + Drop, W: Write>(
     ensures fails { result ≡ Err (Stop.Write) → 0 < failures_of out.new }
 {
     let mut reader = ReaderBuilder::new()
-        .has_headers(false)
         .flexible(true)
         .from_reader(alloc, source);
+    // With a header row at hand, which is empty, the reader keeps no copy of the first record.
+    if reader.set_byte_headers(ByteRecord::new(alloc)).is_err() {
+        return Err(Stop::Memory);
+    }
     let mut fields = ByteRecord::new(alloc);
     let mut line = Vec::new(alloc);
     tell_trace(&mut reader, &mut fields, engine, &mut line, out)
