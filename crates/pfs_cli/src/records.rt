@@ -6,18 +6,16 @@ ghost use Rattle.csv.specs.Reading.{Ready, source_of, reader_trim, reader_config
 ghost use Rattle.csv.specs.declared.reader.Trim.TheVariants as trim;
 ghost use Rattle.csv.specs.Records.{fields_of};
 ghost use Rattle.pfs_cli_streams.specs.Sinks.{held, failures_of};
-ghost use Rattle.pfs_cli.specs.Lines.{row_text, end_text};
+ghost use Rattle.pfs_cli_report.specs.Lines.{row_text, end_text};
 ghost use Rattle.std.specs.Option.{ForSome};
 ghost use Rattle.pfs_engine_machine.specs.Machine.{MayCome, start, step};
-ghost use Rattle.pfs_cli.specs.Reports.{Tells, end_of};
-ghost use Rattle.pfs_cli.specs.Turns.{WritesLine, TakesEvent, TakesRecord};
-ghost use Rattle.pfs_cli.specs.Traces.{events_of, events_from, records_of, records_left};
+ghost use Rattle.pfs_cli_report.specs.Reports.{end_of};
+ghost use Rattle.pfs_cli.specs.Turns.{Tells, WritesLine, TakesEvent, TakesRecord};
+ghost use Rattle.pfs_cli_report.specs.Traces.{events_of, events_from, records_of, records_left};
 
-use crate::events::{has_columns, read_event};
-use crate::faults::TraceFault;
-use crate::lines::{EndLine, push_end, push_row};
 use crate::machine::{TraceEngine, take};
 use csv::{ByteRecord, Reader, ReaderBuilder};
+use pfs_cli_report::{EndLine, TraceFault, has_columns, push_end, push_row, read_event};
 use pfs_cli_streams::{Sink, write_whole};
 use pfs_engine::{Event, Outcome};
 use std::alloc::Global;

@@ -1,5 +1,5 @@
 use Rattle.std.proofs.Common.{[]}
-use Rattle.pfs_cli.specs.Traces.{events_of, records_of}
+use Rattle.pfs_cli_report.specs.Traces.{events_of, records_of}
 use Rattle.pfs_cli.proofs.Telling.{Appends-nothing, no-lines}
 use Rattle.pfs_cli.proofs.records.tell_records.Goals as goal
 
