@@ -1,16 +1,15 @@
--- The two parts of a joined text, a byte at a time.
-use Rattle.std.proofs.Common.{◌≡◌, ◌≢◌, ◌≤◌, ◌<◌, ◌+◌, ◌-◌, ◌++◌, ◌∙◌, ℕ, List, [], ◌∷◌, length, take, min, Option, Some, None, Bool, true, false, nat_eq, slice_index_or, refl, sym, ap, subst, arith, append_assoc, length-append, length-take}
-use Rattle.std.proofs.lemmas.Bool.Decides.{nat_tests}
-use Rattle.std.specs.Prelude.{nat_lt}
-use Rattle.std.proofs.lemmas.List.{append-nil, take_all, take-append-le}
+-- The two parts of a joined text, a byte at a time, and what is read on by chunks.
+use Rattle.std.proofs.Common.{◌≡◌, ◌≢◌, ◌≤◌, ◌<◌, ◌+◌, ◌-◌, ◌++◌, ◌∙◌, ℕ, suc, List, [], ◌∷◌, length, take, drop, Option, Some, None, Bool, true, false, nat_eq, slice_index_or, refl, sym, ap, subst, arith, append_assoc, length-append}
+use Rattle.std.specs.Prelude.{◌^◌, if◌then◌else◌}
+use Rattle.std.proofs.lemmas.List.{append-nil}
 use Rattle.std.proofs.lemmas.Bool.{eqb-true, eqb-false}
-use Rattle.std.proofs.Math.Seq.{take-append_seam}
+use Rattle.std.proofs.Math.Seq.{take-append_seam, drop-append_seam}
 use Rattle.std.specs.Io.KnownBytes.{Consumes, IsAtEnd}
 use Rattle.pfs_cli.specs.declared.joined.Place.{Place}
 use Rattle.pfs_cli.specs.declared.joined.Place.TheVariants as place
 use Rattle.pfs_cli.specs.Rules.{IsKept, rules_limit}
 use Rattle.pfs_cli.specs.Joined.{Parts, ahead, split_from, split_joined}
-use Rattle.pfs_cli.specs.Places.{pending, place_after, split_at, split_mark, settled, ends_split}
+use Rattle.pfs_cli.specs.Places.{IsPastSplit, pending, place_after, place_over, split_at, split_mark, settled, ends_split}
 
 pub ahead-ahead : (a b : List ℕ) (p : Parts) → ahead a (ahead b p) ≡ ahead (a ++ b) p
 ahead-ahead a b p = ap (λ (l : List ℕ). (l, p.1)) (sym (append_assoc a b p.0))
@@ -70,60 +69,70 @@ pending-settled place.Percent = refl
 pending-settled place.Percents = refl
 pending-settled place.Inside = refl
 
+pub splits-at : (p : Place) (c : ℕ) → ends_split p c ≡ true → (p ≡ place.Percents) × (c ≡ 10)
+splits-at place.Start c e = cc
+splits-at place.Percent c e = cc
+splits-at place.Percents c e = (refl, eqb-true c 10 e)
+splits-at place.Inside c e = cc
+
+pub splits-not : (p : Place) (c : ℕ) → ends_split p c ≡ false → p ≡ place.Percents → c ≡ 10 → ⊥
+splits-not place.Start c e is ten = cc
+splits-not place.Percent c e is ten = cc
+splits-not place.Percents c e is ten = eqb-false c 10 e ten
+splits-not place.Inside c e is ten = cc
+
+-- bytes in a row: what they settle of the rules goes ahead, or what is behind them is of the trace
+abbrev pub Over : Place → List ℕ → List ℕ → Option Place → Type 0
+Over p bs ys (Some q) = (s : List ℕ) × (split_at p (bs ++ ys) ≡ ahead s (split_at q ys))
+Over p bs ys None = (k : ℕ) × (ys ≡ drop k (split_at p (bs ++ ys)).1)
+
+over-ahead : (p q : Place) (c : ℕ) (cs ys s : List ℕ) (o : Option Place) → split_at p (c ∷ (cs ++ ys)) ≡ ahead s (split_at q (cs ++ ys)) → Over q cs ys o → Over p (c ∷ cs) ys o
+over-ahead p q c cs ys s (Some r) split (t, rest) = (s ++ t, split ∙ (ap (ahead s) rest ∙ ahead-ahead s t (split_at r ys)))
+over-ahead p q c cs ys s None split (k, rest) = (k, rest ∙ sym (ap (λ (w : Parts). drop k w.1) split))
+
+pub over : (p : Place) (bs ys : List ℕ) → Over p bs ys (place_over p bs)
+unfolding place_over
+over p [] ys = ([], refl)
+over p (c ∷ cs) ys = by (ends_split p c) refl (over (place_after p c) cs ys)
+  where
+    by : (b : Bool) → ends_split p c ≡ b → Over (place_after p c) cs ys (place_over (place_after p c) cs)
+        → Over p (c ∷ cs) ys (if b then None else place_over (place_after p c) cs)
+    by true ends rest =
+        let (is, ten) = splits-at p c ends in
+        let whole : split_at p (c ∷ (cs ++ ys)) ≡ ([], cs ++ ys) = rw (is, ten) (split-line (cs ++ ys)) in
+        (length cs, sym (ap (λ (w : Parts). drop (length cs) w.1) whole ∙ drop-append_seam cs ys))
+    by false goes_on rest =
+        let (s, split, bytes) = steps p c (cs ++ ys) (splits-not p c goes_on) in
+        over-ahead p (place_after p c) c cs ys s (place_over (place_after p c) cs) split rest
+
 -- what is known of a joined text after some of its bytes
-pub record Joins (xs : List ℕ) (now : Option (List ℕ)) (kept : List ℕ) (p : Place) (count : ℕ) : Type 0 where
+pub record Joins (xs : List ℕ) (now : Option (List ℕ)) (kept : List ℕ) (p : Place) : Type 0 where
   pub rules : List ℕ
   pub left : List ℕ
   pub unread : now ≡ Some left
+  pub few : length left ≤ length xs
   pub split : split_joined xs ≡ ahead rules (split_at p left)
-  pub front : kept ≡ take 1048579 (rules ++ pending p)
-  pub many : count ≤ length (rules ++ pending p)
+  pub all : kept ≡ rules ++ pending p
 
-pub joins-start : (xs : List ℕ) (now : Option (List ℕ)) (kept : List ℕ) → now ≡ Some xs → kept ≡ [] → Joins xs now kept place.Start 0
+pub joins-start : (xs : List ℕ) (now : Option (List ℕ)) (kept : List ℕ) → now ≡ Some xs → kept ≡ [] → Joins xs now kept place.Start
 joins-start xs now kept e none = record {
   rules = [];
   left = xs;
   unread = e;
+  few = omega arith;
   split = refl;
-  front = none;
-  many = omega arith;
+  all = none;
 }
 
--- one byte more is kept where there is room
-kept-by : (cap : ℕ) (all kept after : List ℕ) (c : ℕ) → kept ≡ take cap all → (length kept < cap → after ≡ kept ++ c ∷ []) → (cap ≤ length kept → after ≡ kept)
-    → (b : Bool) → nat_lt (length kept) cap ≡ b → after ≡ take cap (all ++ c ∷ [])
-kept-by cap all kept after c front room full true test =
-    let size : length kept ≡ min cap (length all) = ap length front ∙ length-take cap all in
-    let low : length kept < cap = grind (arith, nat_tests, test) in
-    let few : length all < cap = omega arith in
-    let fits : length (all ++ c ∷ []) ≤ cap = simp length-append (omega arith) in
-    room low ∙ (ap (λ (l : List ℕ). l ++ c ∷ []) (front ∙ take_all cap all (omega arith)) ∙ sym (take_all cap (all ++ c ∷ []) fits))
-kept-by cap all kept after c front room full false test =
-    let size : length kept ≡ min cap (length all) = ap length front ∙ length-take cap all in
-    let high : cap ≤ length kept = grind (arith, nat_tests, test) in
-    let many : cap ≤ length all = omega arith in
-    full high ∙ (front ∙ sym (take-append-le cap all (c ∷ []) many))
+-- what is kept, without the split line's bytes
+kept-end : (rules tail kept : List ℕ) → kept ≡ rules ++ tail → take (length kept - length tail) kept ≡ rules
+kept-end rules tail kept all =
+    let size : length kept ≡ length rules + length tail = ap length all ∙ length-append rules tail in
+    let n : length kept - length tail ≡ length rules = omega arith in
+    rw (n, all) (take-append_seam rules tail)
 
-pub kept-more : (cap : ℕ) (all kept after : List ℕ) (c : ℕ) → kept ≡ take cap all → (length kept < cap → after ≡ kept ++ c ∷ []) → (cap ≤ length kept → after ≡ kept)
-    → after ≡ take cap (all ++ c ∷ [])
-kept-more cap all kept after c front room full = kept-by cap all kept after c front room full (nat_lt (length kept) cap) refl
-
--- what is kept of the rules, without the split line's bytes
-kept-end : (rules tail kept : List ℕ) → kept ≡ take 1048579 (rules ++ tail) → length tail ≤ 2 → IsKept (take (length kept - length tail) kept) rules
-kept-end rules tail kept front few =
-    let size : length kept ≡ min 1048579 (length rules + length tail) = ap length front ∙ (length-take 1048579 (rules ++ tail) ∙ ap (min 1048579) (length-append rules tail)) in (
-      λ short.
-          let all : kept ≡ rules ++ tail = front ∙ take_all 1048579 (rules ++ tail) (simp length-append (omega arith)) in
-          let n : length kept - length tail ≡ length rules = omega arith in
-          rw (n, all) (take-append_seam rules tail),
-      λ long. simp length-take (omega arith),
-    )
-
-mark-few : (p : Place) → length (split_mark p) ≤ 2
-mark-few place.Start = omega arith
-mark-few place.Percent = omega arith
-mark-few place.Percents = omega arith
-mark-few place.Inside = omega arith
+kept-is : (v rules : List ℕ) → v ≡ rules → IsKept v rules
+kept-is v rules e = rw e (λ short. refl, λ long. long)
 
 pending-few : (p : Place) → length (pending p) ≤ 2
 pending-few place.Start = omega arith
@@ -141,54 +150,100 @@ left-is (Some xs) (Some zs) left bs e took = let same : xs ≡ left = cc in (zs,
 abbrev Answers : List ℕ → Option (List ℕ) → List ℕ → Type 0
 Answers xs new kept = IsKept kept (split_joined xs).0 × (new ≡ Some (split_joined xs).1)
 
-pub joins-end : (xs : List ℕ) (now new : Option (List ℕ)) (kept v : List ℕ) (p : Place) (count : ℕ) → Joins xs now kept p count → Consumes now new [] → IsAtEnd new
+pub joins-end : (xs : List ℕ) (now new : Option (List ℕ)) (kept v : List ℕ) (p : Place) → Joins xs now kept p → Consumes now new [] → IsAtEnd new
     → v ≡ take (length kept - length (split_mark p)) kept → Answers xs new v
-joins-end xs now new kept v p count h took end e =
+joins-end xs now new kept v p h took end e =
     let (zs, at_z, left) = left-is now new h.left [] h.unread took in
     let none : zs ≡ [] = rw at_z at end in
     let whole : split_joined xs ≡ (h.rules ++ settled p, []) = h.split ∙ ap (ahead h.rules) (ap (split_at p) (left ∙ none) ∙ split-end p) in
-    let front : kept ≡ take 1048579 ((h.rules ++ settled p) ++ split_mark p) =
-    h.front ∙ ap (take 1048579) (ap (λ (l : List ℕ). h.rules ++ l) (pending-settled p) ∙ sym (append_assoc h.rules (settled p) (split_mark p))) in
-    (rw (whole, e) (kept-end (h.rules ++ settled p) (split_mark p) kept front (mark-few p)), rw whole (at_z ∙ ap Some none))
+    let all : kept ≡ (h.rules ++ settled p) ++ split_mark p =
+    h.all ∙ (ap (λ (l : List ℕ). h.rules ++ l) (pending-settled p) ∙ sym (append_assoc h.rules (settled p) (split_mark p))) in
+    (rw whole (kept-is v (h.rules ++ settled p) (e ∙ kept-end (h.rules ++ settled p) (split_mark p) kept all)), rw whole (at_z ∙ ap Some none))
 
-pub joins-line : (xs : List ℕ) (now new : Option (List ℕ)) (kept v : List ℕ) (count : ℕ) → Joins xs now kept place.Percents count → Consumes now new (10 ∷ [])
+joins-line : (xs : List ℕ) (now new : Option (List ℕ)) (kept v : List ℕ) → Joins xs now kept place.Percents → Consumes now new (10 ∷ [])
     → v ≡ take (length kept - 2) kept → Answers xs new v
-joins-line xs now new kept v count h took e =
+joins-line xs now new kept v h took e =
     let (zs, at_z, left) = left-is now new h.left (10 ∷ []) h.unread took in
     let whole : split_joined xs ≡ (h.rules, zs) = h.split ∙ (ap (ahead h.rules) (ap (split_at place.Percents) left ∙ split-line zs) ∙ ap (λ (l : List ℕ). (l, zs)) (append-nil h.rules)) in
-    (rw (whole, e) (kept-end h.rules (37 ∷ 37 ∷ []) kept h.front (omega arith)), rw whole at_z)
+    (rw whole (kept-is v h.rules (e ∙ kept-end h.rules (37 ∷ 37 ∷ []) kept h.all)), rw whole at_z)
 
-pub joins-more : (xs : List ℕ) (now new : Option (List ℕ)) (kept after : List ℕ) (p : Place) (c count : ℕ) → Joins xs now kept p count → (p ≡ place.Percents → c ≡ 10 → ⊥)
-    → Consumes now new (c ∷ []) → (length kept < 1048579 → after ≡ kept ++ c ∷ []) → (1048579 ≤ length kept → after ≡ kept)
-    → Joins xs new after (place_after p c) (count + 1)
-joins-more xs now new kept after p c count h not_split took room full =
+pub joins-more : (xs : List ℕ) (now new : Option (List ℕ)) (kept after : List ℕ) (p : Place) (c : ℕ) → Joins xs now kept p → (p ≡ place.Percents → c ≡ 10 → ⊥)
+    → Consumes now new (c ∷ []) → after ≡ kept ++ c ∷ [] → Joins xs new after (place_after p c)
+joins-more xs now new kept after p c h not_split took more =
     let (zs, at_z, left) = left-is now new h.left (c ∷ []) h.unread took in
     let (s, split, bytes) = steps p c zs not_split in
-    let all : (h.rules ++ pending p) ++ c ∷ [] ≡ (h.rules ++ s) ++ pending (place_after p c) =
-    append_assoc h.rules (pending p) (c ∷ []) ∙ (ap (λ (l : List ℕ). h.rules ++ l) bytes ∙ sym (append_assoc h.rules s (pending (place_after p c)))) in
-    let size : length (h.rules ++ pending p) + 1 ≡ length ((h.rules ++ s) ++ pending (place_after p c)) = sym (length-append (h.rules ++ pending p) (c ∷ [])) ∙ ap length all in
-    let many : count ≤ length (h.rules ++ pending p) = h.many in
+    let shorter : length h.left ≡ suc (length zs) = ap length left in
+    let known : length h.left ≤ length xs = h.few in
     record {
       rules = h.rules ++ s;
       left = zs;
       unread = at_z;
+      few = omega (arith, shorter, known);
       split = h.split ∙ (ap (ahead h.rules) (ap (split_at p) left ∙ split) ∙ ahead-ahead h.rules s (split_at (place_after p c) zs));
-      front = kept-more 1048579 (h.rules ++ pending p) kept after c h.front room full ∙ ap (take 1048579) all;
-      many = omega arith;
+      all = more ∙ (ap (λ (l : List ℕ). l ++ c ∷ []) h.all ∙ (append_assoc h.rules (pending p) (c ∷ []) ∙ (ap (λ (l : List ℕ). h.rules ++ l) bytes ∙ sym (append_assoc h.rules s (pending (place_after p c))))));
     }
 
--- more bytes than any text has
-pub joins-count : (xs : List ℕ) (now : Option (List ℕ)) (kept v : List ℕ) (p : Place) (count : ℕ) → Joins xs now kept p count → 2000000 ≤ count
-    → v ≡ take (length kept - length (split_mark p)) kept → IsKept v (split_joined xs).0 × (rules_limit < length v)
-joins-count xs now kept v p count h many e =
+-- more than a rules text may have is kept
+pub joins-full : (xs : List ℕ) (now : Option (List ℕ)) (kept : List ℕ) (p : Place) → Joins xs now kept p → 1048579 ≤ length kept → IsKept kept (split_joined xs).0 × (rules_limit < length kept)
+joins-full xs now kept p h full =
     let few : length (pending p) ≤ 2 = pending-few p in
-    let cut : length (split_mark p) ≤ 2 = mark-few p in
-    let all : length (h.rules ++ pending p) ≡ length h.rules + length (pending p) = length-append h.rules (pending p) in
-    let known : count ≤ length (h.rules ++ pending p) = h.many in
-    let size : length kept ≡ min 1048579 (length (h.rules ++ pending p)) = ap length h.front ∙ length-take 1048579 (h.rules ++ pending p) in
-    let long : rules_limit < length v = rw e (simp length-take (omega arith)) in
+    let size : length kept ≡ length h.rules + length (pending p) = ap length h.all ∙ length-append h.rules (pending p) in
     let whole : length (split_joined xs).0 ≡ length h.rules + length (split_at p h.left).0 = ap (λ (q : Parts). length q.0) h.split ∙ length-append h.rules (split_at p h.left).0 in
-    ((λ short. absurd (omega arith), λ _. long), long)
+    ((λ short. absurd (omega arith), λ _. omega arith), omega arith)
+
+-- what is read on behind it is past the split
+pub joins-past : (xs : List ℕ) (now new : Option (List ℕ)) (kept : List ℕ) (p : Place) → Joins xs now kept p
+    → ((ys : List ℕ) → now ≡ Some ys → length ys < 2 ^ 64 - 1 → IsPastSplit (split_at p ys) new) → length xs < 2 ^ 64 - 1 → IsPastSplit (split_joined xs) new
+joins-past xs now new kept p h past short =
+    let few : length h.left ≤ length xs = h.few in
+    let (k, left) = past h.left h.unread (omega arith) in
+    (k, left ∙ sym (ap (λ (w : Parts). let rest : Option (List ℕ) = Some (drop k w.1) in rest) h.split))
+
+pub past-now : (parts : Parts) (new : Option (List ℕ)) → new ≡ Some parts.1 → IsPastSplit parts new
+past-now parts new e = (0, e)
+
+-- what is known of the reading on after some chunks
+pub record ReadOn (p : Place) (xs : List ℕ) (now : Option (List ℕ)) (q : Place) (chunks : ℕ) : Type 0 where
+  pub rules : List ℕ
+  pub left : List ℕ
+  pub unread : now ≡ Some left
+  pub split : split_at p xs ≡ ahead rules (split_at q left)
+  pub many : chunks + length left ≤ length xs
+
+pub on-start : (p : Place) (xs : List ℕ) (now : Option (List ℕ)) → now ≡ Some xs → ReadOn p xs now p 0
+on-start p xs now e = record { rules = []; left = xs; unread = e; split = refl; many = omega arith }
+
+pub on-more : (p : Place) (xs : List ℕ) (now new : Option (List ℕ)) (q r : Place) (chunks : ℕ) (bs : List ℕ) → ReadOn p xs now q chunks → Consumes now new bs → 0 < length bs
+    → Some r ≡ place_over q bs → ReadOn p xs new r (chunks + 1)
+on-more p xs now new q r chunks bs h took some is =
+    let (zs, at_z, left) = left-is now new h.left bs h.unread took in
+    let (s, split) = subst (Over q bs zs) (sym is) (over q bs zs) in
+    let size : length h.left ≡ length bs + length zs = ap length left ∙ length-append bs zs in
+    let many : chunks + length h.left ≤ length xs = h.many in
+    record {
+      rules = h.rules ++ s;
+      left = zs;
+      unread = at_z;
+      split = h.split ∙ (ap (ahead h.rules) (ap (split_at q) left ∙ split) ∙ ahead-ahead h.rules s (split_at r zs));
+      many = omega (arith, size, many, some);
+    }
+
+pub on-split : (p : Place) (xs : List ℕ) (now new : Option (List ℕ)) (q : Place) (chunks : ℕ) (bs : List ℕ) → ReadOn p xs now q chunks → Consumes now new bs
+    → None ≡ place_over q bs → IsPastSplit (split_at p xs) new
+on-split p xs now new q chunks bs h took is =
+    let (zs, at_z, left) = left-is now new h.left bs h.unread took in
+    let (k, rest) = subst (Over q bs zs) (sym is) (over q bs zs) in
+    (k, at_z ∙ ap Some (rest ∙ sym (ap (λ (w : Parts). drop k w.1) (h.split ∙ ap (λ (l : List ℕ). ahead h.rules (split_at q l)) left))))
+
+pub on-end : (p : Place) (xs : List ℕ) (now new : Option (List ℕ)) (q : Place) (chunks : ℕ) → ReadOn p xs now q chunks → Consumes now new [] → IsAtEnd new → IsPastSplit (split_at p xs) new
+on-end p xs now new q chunks h took end =
+    let (zs, at_z, left) = left-is now new h.left [] h.unread took in
+    let none : zs ≡ [] = rw at_z at end in
+    let whole : split_at p xs ≡ ahead h.rules (settled q, []) = h.split ∙ ap (ahead h.rules) (ap (split_at q) (left ∙ none) ∙ split-end q) in
+    (0, at_z ∙ ap Some (none ∙ sym (ap (λ (w : Parts). w.1) whole)))
+
+pub on-count : (p : Place) (xs : List ℕ) (now : Option (List ℕ)) (q : Place) (chunks : ℕ) → ReadOn p xs now q chunks → 2 ^ 64 - 1 ≤ chunks → length xs < 2 ^ 64 - 1 → IsPastSplit (split_at p xs) now
+on-count p xs now q chunks h many short = let known : chunks + length h.left ≤ length xs = h.many in absurd (omega arith)
 
 -- what may be the split line's bytes is kept
 pub pending-after : (p : Place) (c : ℕ) → length (pending (place_after p c)) ≤ length (pending p) + 1
@@ -212,40 +267,17 @@ one-byte n [] size most some = absurd (omega arith)
 one-byte n (b ∷ []) size most some = let one : n ≡ 1 = grind (arith, some) in rw one refl
 one-byte n (b ∷ c ∷ rest) size most some = absurd (omega arith)
 
-pub splits-at : (p : Place) (c : ℕ) → ends_split p c ≡ true → (p ≡ place.Percents) × (c ≡ 10)
-splits-at place.Start c e = cc
-splits-at place.Percent c e = cc
-splits-at place.Percents c e = (refl, eqb-true c 10 e)
-splits-at place.Inside c e = cc
-
-pub splits-not : (p : Place) (c : ℕ) → ends_split p c ≡ false → p ≡ place.Percents → c ≡ 10 → ⊥
-splits-not place.Start c e is ten = cc
-splits-not place.Percent c e is ten = cc
-splits-not place.Percents c e is ten = eqb-false c 10 e ten
-splits-not place.Inside c e is ten = cc
-
-pub joins-split : (xs : List ℕ) (now new : Option (List ℕ)) (kept v : List ℕ) (p : Place) (c count : ℕ) → Joins xs now kept p count → ends_split p c ≡ true → Consumes now new (c ∷ [])
+pub joins-split : (xs : List ℕ) (now new : Option (List ℕ)) (kept v : List ℕ) (p : Place) (c : ℕ) → Joins xs now kept p → ends_split p c ≡ true → Consumes now new (c ∷ [])
     → v ≡ take (length kept - length (split_mark p)) kept → Answers xs new v
-joins-split xs now new kept v p c count h ends took e =
+joins-split xs now new kept v p c h ends took e =
     let (is, ten) = splits-at p c ends in
-    let P : Place → Type 0 = λ q. Joins xs now kept q count in
+    let P : Place → Type 0 = λ q. Joins xs now kept q in
     let T : ℕ → Type 0 = λ d. Consumes now new (d ∷ []) in
     let V : Place → Type 0 = λ q. v ≡ take (length kept - length (split_mark q)) kept in
-    joins-line xs now new kept v count (subst P is h) (subst T ten took) (subst V is e)
+    joins-line xs now new kept v (subst P is h) (subst T ten took) (subst V is e)
 
-mark-by : (p : Place) (c : ℕ) (kept after : List ℕ) → length (pending p) ≤ length kept → (length kept < 1048579 → after ≡ kept ++ c ∷ []) → (1048579 ≤ length kept → after ≡ kept)
-    → (b : Bool) → nat_lt (length kept) 1048579 ≡ b → length (pending (place_after p c)) ≤ length after
-mark-by p c kept after few room full true test =
-    let low : length kept < 1048579 = grind (arith, nat_tests, test) in
-    let more : length (pending (place_after p c)) ≤ length (pending p) + 1 = pending-after p c in
-    let size : length after ≡ length kept + 1 = ap length (room low) ∙ length-append kept (c ∷ []) in
+pub mark-after : (p : Place) (c : ℕ) (kept after : List ℕ) → length (pending p) ≤ length kept → after ≡ kept ++ c ∷ [] → length (pending (place_after p c)) ≤ length after
+mark-after p c kept after few more =
+    let next : length (pending (place_after p c)) ≤ length (pending p) + 1 = pending-after p c in
+    let size : length after ≡ length kept + 1 = ap length more ∙ length-append kept (c ∷ []) in
     omega arith
-mark-by p c kept after few room full false test =
-    let high : 1048579 ≤ length kept = grind (arith, nat_tests, test) in
-    let two : length (pending (place_after p c)) ≤ 2 = pending-few (place_after p c) in
-    let size : length after ≡ length kept = ap length (full high) in
-    omega arith
-
-pub mark-after : (p : Place) (c : ℕ) (kept after : List ℕ) → length (pending p) ≤ length kept → (length kept < 1048579 → after ≡ kept ++ c ∷ []) → (1048579 ≤ length kept → after ≡ kept)
-    → length (pending (place_after p c)) ≤ length after
-mark-after p c kept after few room full = mark-by p c kept after few room full (nat_lt (length kept) 1048579) refl

@@ -5,22 +5,23 @@ use Rattle.std.specs.Prelude.{IsErrAnd, Result, Ok, Err, nat_lt}
 use Rattle.std.proofs.lemmas.Bool.Decides.{nat_tests}
 use Rattle.std.proofs.lemmas.List.{append-nil, take-append-drop}
 use Rattle.pfs_engine_machine.specs.declared.events.Event.{Event}
-use Rattle.pfs_cli.specs.Traces.{Trace}
+use Rattle.pfs_cli_report.specs.Traces.{Trace}
 use Rattle.pfs_cli.proofs.Telling.{report-front}
 use Rattle.std.specs.Io.KnownBytes.{Appends, Keeps, Consumes}
-use Rattle.pfs_cli.specs.declared.faults.TraceFault.{TraceFault}
-use Rattle.pfs_cli.specs.declared.faults.TraceFault.TheVariants as trace
-use Rattle.pfs_cli.specs.declared.faults.ReplayFault.{ReplayFault}
-use Rattle.pfs_cli.specs.declared.faults.ReplayFault.TheVariants as fault
+use Rattle.pfs_cli_report.specs.declared.faults.TraceFault.{TraceFault}
+use Rattle.pfs_cli_report.specs.declared.faults.TraceFault.TheVariants as trace
+use Rattle.pfs_cli_report.specs.declared.faults.ReplayFault.{ReplayFault}
+use Rattle.pfs_cli_report.specs.declared.faults.ReplayFault.TheVariants as fault
 use Rattle.pfs_conf.specs.declared.faults.LoadFault.{LoadFault}
 use Rattle.pfs_conf_rules.specs.Configs.{Conf}
 use Rattle.pfs_conf.specs.Kinds.{no_memory}
 use Rattle.pfs_conf.specs.Reads.{Reads}
 use Rattle.pfs_conf.specs.Faults.{IsFault, memory, long, breaks, stops}
 use Rattle.pfs_cli.specs.declared.records.Stop.TheVariants as stop
-use Rattle.pfs_cli.specs.Faults.{replay_fault}
+use Rattle.pfs_cli_report.specs.Faults.{replay_fault}
 use Rattle.pfs_cli.specs.Rules.{IsRefused, IsKept, rules_limit}
-use Rattle.pfs_cli.specs.Reports.{report, AreFirstLines, BeginsReport, Tells}
+use Rattle.pfs_cli_report.specs.Reports.{report, AreFirstLines, BeginsReport}
+use Rattle.pfs_cli.specs.Turns.{Tells}
 use Rattle.pfs_cli.specs.Replays.{Replays, RefusesRules, IsFeedFault, trace_of}
 
 pub Appends-kept : (a b c : Option (List ℕ)) (bs : List ℕ) → Appends a b bs → Keeps b c → Appends a c bs

@@ -16,18 +16,18 @@ use Rattle.pfs_engine_machine.specs.declared.events.Event.{Event}
 use Rattle.pfs_engine_machine.specs.Machine.{Machine, start, step}
 use Rattle.pfs_engine_machine.specs.Runs.{outcomes_of, machine_after}
 use Rattle.pfs_engine.specs.Views.{View}
-use Rattle.pfs_cli.specs.declared.faults.TraceFault.{TraceFault}
-use Rattle.pfs_cli.specs.declared.faults.TraceFault.TheVariants as fault
+use Rattle.pfs_cli_report.specs.declared.faults.TraceFault.{TraceFault}
+use Rattle.pfs_cli_report.specs.declared.faults.TraceFault.TheVariants as fault
 use Rattle.pfs_cli.specs.declared.records.Stop.{Stop}
 use Rattle.pfs_cli.specs.declared.records.Stop.TheVariants as stop
-use Rattle.pfs_cli.specs.Events.{event_at, is_header}
-use Rattle.pfs_cli.specs.Lines.{row_text}
-use Rattle.pfs_cli.specs.Traces.{Fields, Trace, row_limit, events_from, events_of, records_left}
-use Rattle.pfs_cli.specs.Reports.{lines_from, lines_of, end_of, end_line, report, AreFirstLines, Tells}
-use Rattle.pfs_cli.specs.Turns.{WritesLine, TakesEvent, TakesRecord}
-use Rattle.pfs_cli.proofs.Rest.{records_left-more, records_left-end}
-use Rattle.pfs_cli.proofs.Runs.{machine_after-more, lines_of-more, lines_of-none, outcomes-front, lines_from-front}
-use Rattle.pfs_cli.proofs.Stepping.{last-step}
+use Rattle.pfs_cli_report.specs.Events.{event_at, is_header}
+use Rattle.pfs_cli_report.specs.Lines.{row_text}
+use Rattle.pfs_cli_report.specs.Traces.{Fields, Trace, row_limit, events_from, events_of, records_left}
+use Rattle.pfs_cli_report.specs.Reports.{lines_from, lines_of, end_of, end_line, report, AreFirstLines}
+use Rattle.pfs_cli.specs.Turns.{Tells, WritesLine, TakesEvent, TakesRecord}
+use Rattle.pfs_cli_report.proofs.Rest.{records_left-more, records_left-end}
+use Rattle.pfs_cli_report.proofs.Runs.{machine_after-more, lines_of-more, lines_of-none, outcomes-front, lines_from-front}
+use Rattle.pfs_cli_report.proofs.Stepping.{last-step}
 
 -- known bytes that did not grow
 pub Appends-nothing : (a : Option (List ℕ)) → Appends a a []

@@ -1,12 +1,7 @@
 pub mod Checks
-pub mod Events
-pub mod Faults
 pub mod Joined
-pub mod Lines
 pub mod Performing
 pub mod Places
 pub mod Replays
-pub mod Reports
 pub mod Rules
-pub mod Traces
 pub mod Turns

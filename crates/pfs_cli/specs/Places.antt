@@ -1,13 +1,8 @@
 -- Where in a line the reading of a joined text stands. (own)
-use Rattle.std.specs.Prelude.{◌++◌, ◌==◌, ℕ, Bool, true, false, List, [], ◌∷◌, if◌then◌else◌}
+use Rattle.std.specs.Prelude.{◌≡◌, ◌++◌, ◌==◌, ℕ, Bool, true, false, List, [], ◌∷◌, drop, Option, Some, None, if◌then◌else◌}
 use Rattle.pfs_cli.specs.declared.joined.Place.{Place}
 use Rattle.pfs_cli.specs.declared.joined.Place.TheVariants as place
 use Rattle.pfs_cli.specs.Joined.{Parts, split_from}
-
--- the most bytes that are kept of the rules: when the two bytes of a split line are taken off, there is still one more
--- than a rules text may have
-abbrev pub kept_limit : ℕ
-kept_limit = 1048579
 
 -- the bytes of the line so far, where it may still be the split line
 abbrev pub pending : Place → List ℕ
@@ -54,3 +49,12 @@ ends_split place.Start c = false
 ends_split place.Percent c = false
 ends_split place.Percents c = c == 10
 ends_split place.Inside c = false
+
+-- the place after bytes of which none ends the split line, and none where one does
+unfoldable pub place_over : Place → List ℕ → Option Place
+place_over p [] = Some p
+place_over p (c ∷ cs) = if ends_split p c then None else place_over (place_after p c) cs
+
+-- the split line, or the end, has been read: what is left is the trace, or lies within it
+abbrev pub IsPastSplit : Parts → Option (List ℕ) → Type 0
+IsPastSplit parts left = (k : ℕ) × (left ≡ Some (drop k parts.1))

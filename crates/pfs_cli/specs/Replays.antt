@@ -1,14 +1,14 @@
 -- What a replay has written when it ends. (own)
 use Rattle.std.specs.Prelude.{◌≡◌, ◌⊎◌, ℕ, List, [], Option, Some, None, Result, Ok, Err}
-use Rattle.pfs_cli.specs.declared.faults.TraceFault.{TraceFault}
-use Rattle.pfs_cli.specs.declared.faults.TraceFault.TheVariants as trace
-use Rattle.pfs_cli.specs.declared.faults.ReplayFault.{ReplayFault}
-use Rattle.pfs_cli.specs.declared.faults.ReplayFault.TheVariants as fault
+use Rattle.pfs_cli_report.specs.declared.faults.TraceFault.{TraceFault}
+use Rattle.pfs_cli_report.specs.declared.faults.TraceFault.TheVariants as trace
+use Rattle.pfs_cli_report.specs.declared.faults.ReplayFault.{ReplayFault}
+use Rattle.pfs_cli_report.specs.declared.faults.ReplayFault.TheVariants as fault
 use Rattle.pfs_conf_rules.specs.Configs.{Conf}
 use Rattle.pfs_conf.specs.Reads.{Reads}
 use Rattle.pfs_cli.specs.Rules.{IsRefused}
-use Rattle.pfs_cli.specs.Traces.{Trace, events_of, records_of}
-use Rattle.pfs_cli.specs.Reports.{report, AreFirstLines, BeginsReport}
+use Rattle.pfs_cli_report.specs.Traces.{Trace, events_of, records_of}
+use Rattle.pfs_cli_report.specs.Reports.{report, AreFirstLines, BeginsReport}
 
 -- the events of a trace under a configuration, and its fault
 abbrev pub trace_of : Conf → List ℕ → Trace

@@ -1,18 +1,18 @@
 //! A replay of rules and a trace that stand in one text.
 
-ghost use Rattle.std.specs.Prelude.{◌≡◌, ◌⊎◌, Some, Ok, Err, ◌<◌, ◌≤◌, ◌+◌, ◌-◌, ◌++◌, ℕ, List, true, IfOk, IfErr, OnOk, ◌∷◌, [], length, take, drop};
+ghost use Rattle.std.specs.Prelude.{◌≡◌, ◌⊎◌, Some, Ok, Err, ◌<◌, ◌≤◌, ◌+◌, ◌-◌, ◌^◌, ◌++◌, ℕ, List, true, IfOk, IfErr, OnOk, ◌∷◌, [], length, take, drop};
 ghost use Rattle.std.specs.Io.KnownBytes.{Appends};
 ghost use Rattle.pfs_cli_streams.specs.Feeds.{unread, IsSpent, failures_of as read_failures};
 ghost use Rattle.pfs_cli_streams.specs.Sinks.{held, failures_of};
 ghost use Rattle.pfs_cli.specs.Rules.{IsKept, rules_limit};
 ghost use Rattle.pfs_cli.specs.Replays.{Replays, trace_of};
 ghost use Rattle.pfs_cli.specs.Joined.{split_joined};
-ghost use Rattle.pfs_cli.specs.Places.{ends_split, place_after, split_mark, kept_limit};
+ghost use Rattle.pfs_cli.specs.Places.{IsPastSplit, ends_split, place_after, place_over, split_at, split_mark};
 
-use crate::faults::ReplayFault;
 use crate::records::tell_records;
 use crate::replays::{feed_fault, finish};
 use crate::rules::{RULES_LIMIT, load_machine};
+use pfs_cli_report::ReplayFault;
 use pfs_cli_streams::{Feed, Sink};
 use std::alloc::Global;
 use std::io::{BufReader, Read, Write};
@@ -53,6 +53,21 @@ impl Place {
             _ => Place::Inside,
         }
     }
+
+    // The place after these bytes; none where the split line ends among them.
+    #[tactic(auto, unfolding(crate::specs::Places::place_over))]
+    fn over(self, bytes: &[u8]) -> Option<Place>
+        ensures { result ≡ place_over self bytes.now }
+    {
+        let mut place = self;
+        for byte in bytes {
+            if place.splits(*byte) {
+                return None;
+            }
+            place = place.after(*byte);
+        }
+        Some(place)
+    }
 }
 
 /// Why the rules of a joined text were not read.
@@ -62,17 +77,6 @@ enum JoinStop {
     Source,
     /// Memory was refused.
     Memory,
-}
-
-// Keeps a byte where there is room for it.
-fn keep(kept: &mut Vec<u8>, byte: u8) -> Result<(), JoinStop>
-    ensures room { OnOk result (length kept.old.items < kept_limit → kept.new.items ≡ kept.old.items ++ byte ∷ []) }
-    ensures full { OnOk result (kept_limit ≤ length kept.old.items → kept.new.items ≡ kept.old.items) }
-{
-    if kept.len() < KEPT_LIMIT && kept.push(byte).is_err() {
-        return Err(JoinStop::Memory);
-    }
-    Ok(())
 }
 
 // The bytes without those of a split line that ends here.
@@ -87,16 +91,39 @@ fn without_mark(kept: Vec<u8>, place: Place) -> Vec<u8>
     kept
 }
 
+// Reads on behind the rules that are kept, to the split line or the end, by chunks that are given up.
+fn read_on<B: Read>(input: &mut B, place: Place) -> Result<(), JoinStop>
+    ensures past { OnOk result ((xs : List ℕ) → B.remaining input.old ≡ Some xs → length xs < 2 ^ 64 - 1 →
+        IsPastSplit (split_at place xs) (B.remaining input.new)) }
+{
+    let mut place = place;
+    let mut chunk = [0; 8192];
+    'chunks: for _ in 0..u64::MAX {
+        let n = match input.read(&mut chunk) {
+            Ok(0) => return Ok(()),
+            Ok(n) => n,
+            Err(_) => return Err(JoinStop::Source),
+        };
+        match place.over(&chunk[..n]) {
+            Some(after) => place = after,
+            None => return Ok(()),
+        }
+    }
+    Ok(())
+}
+
 // Reads the rules of a joined text, and leaves `input` at the trace. Of rules that are too long a
 // front is kept, and the rest is read on, so that memory is bounded.
 fn read_joined<B: Read>(alloc: Global, input: &mut B) -> Result<Vec<u8>, JoinStop>
     ensures rules { IfOk result (λ v. (xs : List ℕ) → B.remaining input.old ≡ Some xs → IsKept v.items (split_joined xs).0) }
     ensures trace { IfOk result (λ v. (xs : List ℕ) → B.remaining input.old ≡ Some xs → length v.items ≤ rules_limit → B.remaining input.new ≡ Some (split_joined xs).1) }
+    ensures past { OnOk result ((xs : List ℕ) → B.remaining input.old ≡ Some xs → length xs < 2 ^ 64 - 1 →
+        IsPastSplit (split_joined xs) (B.remaining input.new)) }
 {
     let mut kept = Vec::new(alloc);
     let mut place = Place::Start;
     let mut byte = [0];
-    'bytes: for _ in 0..u64::MAX {
+    'bytes: while kept.len() < KEPT_LIMIT {
         match input.read(&mut byte) {
             Ok(0) => return Ok(without_mark(kept, place)),
             Ok(_) => {}
@@ -105,12 +132,15 @@ fn read_joined<B: Read>(alloc: Global, input: &mut B) -> Result<Vec<u8>, JoinSto
         if place.splits(byte[0]) {
             return Ok(without_mark(kept, place));
         }
-        if let Err(stop) = keep(&mut kept, byte[0]) {
-            return Err(stop);
+        if kept.push(byte[0]).is_err() {
+            return Err(JoinStop::Memory);
         }
         place = place.after(byte[0]);
     }
-    Ok(without_mark(kept, place))
+    match read_on(input, place) {
+        Ok(()) => Ok(kept),
+        Err(stop) => Err(stop),
+    }
 }
 
 /// Replays the trace that follows the rules in one text, and writes its report.

@@ -6,18 +6,16 @@ ghost use Rattle.csv.specs.Reading.{Ready, source_of, reader_trim, reader_config
 ghost use Rattle.csv.specs.declared.reader.Trim.TheVariants as trim;
 ghost use Rattle.csv.specs.Records.{fields_of};
 ghost use Rattle.pfs_cli_streams.specs.Sinks.{held, failures_of};
-ghost use Rattle.pfs_cli.specs.Lines.{row_text, end_text};
+ghost use Rattle.pfs_cli_report.specs.Lines.{row_text, end_text};
 ghost use Rattle.std.specs.Option.{ForSome};
 ghost use Rattle.pfs_engine_machine.specs.Machine.{MayCome, start, step};
-ghost use Rattle.pfs_cli.specs.Reports.{Tells, end_of};
-ghost use Rattle.pfs_cli.specs.Turns.{WritesLine, TakesEvent, TakesRecord};
-ghost use Rattle.pfs_cli.specs.Traces.{events_of, events_from, records_of, records_left};
+ghost use Rattle.pfs_cli_report.specs.Reports.{end_of};
+ghost use Rattle.pfs_cli.specs.Turns.{Tells, WritesLine, TakesEvent, TakesRecord};
+ghost use Rattle.pfs_cli_report.specs.Traces.{events_of, events_from, records_of, records_left};
 
-use crate::events::{has_columns, read_event};
-use crate::faults::TraceFault;
-use crate::lines::{EndLine, push_end, push_row};
 use crate::machine::{TraceEngine, take};
 use csv::{ByteRecord, Reader, ReaderBuilder};
+use pfs_cli_report::{EndLine, TraceFault, has_columns, push_end, push_row, read_event};
 use pfs_cli_streams::{Sink, write_whole};
 use pfs_engine::{Event, Outcome};
 use std::alloc::Global;
@@ -217,9 +215,12 @@ pub(crate) fn tell_records<S: Read + Drop, W: Write>(
     ensures fails { result ≡ Err (Stop.Write) → 0 < failures_of out.new }
 {
     let mut reader = ReaderBuilder::new()
-        .has_headers(false)
         .flexible(true)
         .from_reader(alloc, source);
+    // With a header row at hand, which is empty, the reader keeps no copy of the first record.
+    if reader.set_byte_headers(ByteRecord::new(alloc)).is_err() {
+        return Err(Stop::Memory);
+    }
     let mut fields = ByteRecord::new(alloc);
     let mut line = Vec::new(alloc);
     tell_trace(&mut reader, &mut fields, engine, &mut line, out)

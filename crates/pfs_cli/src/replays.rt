@@ -6,13 +6,13 @@ ghost use Rattle.pfs_cli_streams.specs.Feeds.{unread, has_ended, IsFresh, IsSpen
 ghost use Rattle.pfs_cli_streams.specs.Sinks.{held, failures_of};
 ghost use Rattle.pfs_conf_rules.specs.Configs.{Conf};
 ghost use Rattle.pfs_conf.specs.Reads.{Reads};
-ghost use Rattle.pfs_cli.specs.Reports.{Tells};
+ghost use Rattle.pfs_cli.specs.Turns.{Tells};
 ghost use Rattle.pfs_cli.specs.Rules.{IsKept, rules_limit};
 ghost use Rattle.pfs_cli.specs.Replays.{Replays, IsFeedFault, trace_of};
 
-use crate::faults::ReplayFault;
 use crate::records::{Stop, tell_records};
 use crate::rules::{RULES_LIMIT, load_machine};
+use pfs_cli_report::ReplayFault;
 use pfs_cli_streams::{Feed, Sink};
 use std::alloc::Global;
 use std::io::{Read, Write};

@@ -4,3 +4,5 @@
 mod events;
 
 pub use events::{Event, Outcome, What};
+pub use pfs_eval::Added;
+pub use pfs_store_plain::Limit;

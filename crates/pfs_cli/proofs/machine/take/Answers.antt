@@ -1,4 +1,4 @@
-use Rattle.pfs_cli.proofs.Stepping.{step-expire, step-packet, step-skip}
+use Rattle.pfs_cli_report.proofs.Stepping.{step-expire, step-packet, step-skip}
 use Rattle.pfs_cli.proofs.machine.take.Goals as goal
 
 pub returns-in-Packet-clause-ok : goal.returns-in-Packet-clause-ok

@@ -1,9 +1,6 @@
-use Rattle.std.proofs.Common.{◌≡◌, sym, ap, ◌∙◌, [], refl, Ok}
-use Rattle.std.specs.Prelude.{Option}
+use Rattle.std.proofs.Common.{sym, ◌∙◌, [], refl}
 use Rattle.csv.specs.Records.{fields_of}
-use Rattle.pfs_conf_rules.specs.Configs.{Conf}
-use Rattle.pfs_cli.specs.Events.{event_at}
-use Rattle.pfs_cli.proofs.Stepping.{event-read}
+use Rattle.pfs_cli_report.proofs.Stepping.{event-read}
 use Rattle.pfs_cli.proofs.Telling.{Appends-nothing, takes-event}
 use Rattle.pfs_cli.proofs.records.take_record.Goals as goal
 

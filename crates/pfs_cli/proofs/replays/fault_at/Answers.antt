@@ -1,5 +1,5 @@
 use Rattle.std.proofs.Common.{refl, inr}
-use Rattle.pfs_cli.specs.declared.faults.ReplayFault.TheVariants as fault
+use Rattle.pfs_cli_report.specs.declared.faults.ReplayFault.TheVariants as fault
 use Rattle.pfs_cli.proofs.Replaying.{run-fault, run-cut, run-write}
 use Rattle.pfs_cli.proofs.replays.fault_at.Goals as goal
 

@@ -1,7 +1,7 @@
 //! How a replay ends without its report: the faults, their texts and their statuses.
 
 ghost use Rattle.std.specs.Prelude.{◌≡◌, Some};
-ghost use Rattle.pfs_cli.specs.Faults.{fault_text, fault_status, replay_fault};
+ghost use Rattle.pfs_cli_report.specs.Faults.{fault_text, fault_status, replay_fault};
 
 use pfs_conf::LoadFault;
 use std::{error, fmt};
@@ -74,17 +74,22 @@ pub fn status(fault: &ReplayFault) -> u8
 
 /// What is wrong with a trace, in the words of `ReplayFault`.
 #[derive(Clone, Copy, Debug, PartialEq, Eq)]
-pub(crate) enum TraceFault {
+pub enum TraceFault {
+    /// The record of this row, or the header at row 0, is not of nine fields, or not there.
     Columns(u64),
+    /// The field of this row and column is not accepted.
     Field(u64, u8),
+    /// The moment of this row's record is before that of the record before it.
     TimeFell(u64),
+    /// This row's record takes entries out of a table that the rules do not name, or that is `const`.
     Table(u64),
+    /// There are more than 1,000,000,000 records.
     TooManyRows,
 }
 
 impl TraceFault {
-    /// The fault of a replay of this trace.
-    pub(crate) fn of_replay(self) -> ReplayFault
+    /// The fault of a replay of this trace. It takes no memory.
+    pub fn of_replay(self) -> ReplayFault
         ensures { result ≡ replay_fault self }
     {
         match self {

@@ -18,10 +18,10 @@ use Rattle.pfs_conf_rules.specs.declared.filters.TableNo.{TableNo}
 use Rattle.pfs_engine_machine.specs.declared.events.What.{What}
 use Rattle.pfs_engine_machine.specs.declared.events.What.TheVariants as what
 use Rattle.pfs_engine_machine.specs.declared.events.Event.{Event}
-use Rattle.pfs_cli.specs.declared.events.Told.{Told}
-use Rattle.pfs_cli.specs.declared.events.Told.TheVariants as told
-use Rattle.pfs_cli.specs.declared.faults.TraceFault.{TraceFault}
-use Rattle.pfs_cli.specs.declared.faults.TraceFault.TheVariants as fault
+use Rattle.pfs_cli_report.specs.declared.events.Told.{Told}
+use Rattle.pfs_cli_report.specs.declared.events.Told.TheVariants as told
+use Rattle.pfs_cli_report.specs.declared.faults.TraceFault.{TraceFault}
+use Rattle.pfs_cli_report.specs.declared.faults.TraceFault.TheVariants as fault
 
 -- the field of a column, which count from 1; nothing where there is none
 abbrev pub column_of : List (List ℕ) → ℕ → List ℕ

@@ -1,25 +1,29 @@
 //! The lines of a report.
 
 ghost use Rattle.std.specs.Prelude.{◌≡◌, ◌++◌, OnOk, decimal};
-ghost use Rattle.pfs_cli.specs.Lines.{row_text, end_text, word_of, mark_text, rule_of, note_text, overload_word};
+ghost use Rattle.pfs_cli_report.specs.Lines.{row_text, end_text, word_of, mark_text, rule_of, note_text, overload_word};
 
 use itoa::Buffer;
 use pfs_conf_rules::RuleNo;
-use pfs_engine::{Added, Limit, Outcome};
+use pfs_engine_machine::{Added, Limit, Outcome};
 use std::alloc::AllocError;
 
 /// The last line of a report: how many records there were, and what is held after them.
 #[derive(Clone, Copy)]
-pub(crate) struct EndLine {
-    pub(crate) rows: u64,
-    pub(crate) states: u64,
-    pub(crate) nodes: u64,
-    pub(crate) entries: u64,
+pub struct EndLine {
+    /// The records behind the header.
+    pub rows: u64,
+    /// The states that are held.
+    pub states: u64,
+    /// The source nodes that are held, those without states too.
+    pub nodes: u64,
+    /// The entries that all tables have.
+    pub entries: u64,
 }
 
-/// Appends the line of a record: its row, what the machine did with it, and by which rule. On an error a part of it may
-/// stand there.
-pub(crate) fn push_row(out: &mut Vec<u8>, row: u64, outcome: &Outcome) -> Result<(), AllocError>
+/// Appends the line of a record: its row, what the machine did with it, and by which rule. An error comes where memory
+/// was refused; a part of the line may stand there then.
+pub fn push_row(out: &mut Vec<u8>, row: u64, outcome: &Outcome) -> Result<(), AllocError>
     ensures { OnOk result (out.new.items ≡ out.old.items ++ row_text row outcome.now) }
 {
     push_number(out, row)?;
@@ -31,8 +35,8 @@ pub(crate) fn push_row(out: &mut Vec<u8>, row: u64, outcome: &Outcome) -> Result
     out.extend_from_slice(b"\n")
 }
 
-/// Appends the last line. On an error a part of it may stand there.
-pub(crate) fn push_end(out: &mut Vec<u8>, end: &EndLine) -> Result<(), AllocError>
+/// Appends the last line. An error comes where memory was refused; a part of the line may stand there then.
+pub fn push_end(out: &mut Vec<u8>, end: &EndLine) -> Result<(), AllocError>
     ensures { OnOk result (out.new.items ≡ out.old.items ++ end_text end.now.rows end.now.states end.now.nodes end.now.entries) }
 {
     push_named(out, b"end rows=", end.rows)?;

@@ -6,8 +6,8 @@ use Rattle.pfs_engine_machine.specs.declared.events.Event.{Event}
 use Rattle.pfs_engine_machine.specs.declared.events.Outcome.{Outcome}
 use Rattle.pfs_engine_machine.specs.Machine.{Machine, start, step}
 use Rattle.pfs_engine_machine.specs.Runs.{outcomes_of, machine_after}
-use Rattle.pfs_cli.specs.Lines.{row_text}
-use Rattle.pfs_cli.specs.Reports.{lines_from, lines_of}
+use Rattle.pfs_cli_report.specs.Lines.{row_text}
+use Rattle.pfs_cli_report.specs.Reports.{lines_from, lines_of}
 
 -- the machine after one event more
 pub machine_after-more : (conf : Conf) (m : Machine) (es : List Event) (e : Event) → machine_after conf m (es ++ e ∷ []) ≡ (step conf (machine_after conf m es) e).1

@@ -4,7 +4,7 @@ ghost use Rattle.std.specs.Prelude.{◌≡◌, ◌≤◌};
 ghost use Rattle.csv.specs.Records.{fields_of};
 ghost use Rattle.pfs_addr.specs.Protocols.{is_icmp};
 ghost use Rattle.pfs_conf_rules.specs.Configs.{table_named};
-ghost use Rattle.pfs_cli.specs.Events.{changing, column_of, number_to, dir_of, expiry_at, port_of, flags_for, ends_at, nothing_in, packet_at, told_at, what_of, is_header, falls, event_at};
+ghost use Rattle.pfs_cli_report.specs.Events.{changing, column_of, number_to, dir_of, expiry_at, port_of, flags_for, ends_at, nothing_in, packet_at, told_at, what_of, is_header, falls, event_at};
 
 use crate::faults::TraceFault;
 use csv::ByteRecord;
@@ -13,10 +13,10 @@ use pfs_addr::{
     parse_proto,
 };
 use pfs_conf_rules::{Config, TableName, TableNo};
-use pfs_engine::{Event, What};
+use pfs_engine_machine::{Event, What};
 
-/// Whether a record is the header that a trace begins with.
-pub(crate) fn has_columns(fields: &ByteRecord) -> bool
+/// Whether a record is the header that a trace begins with. It takes no memory.
+pub fn has_columns(fields: &ByteRecord) -> bool
     ensures { result ≡ is_header (fields_of fields.now) }
 {
     fields.len() == 9
@@ -42,8 +42,8 @@ enum Told {
 
 /// The event of a record after the moment `last`, or what is wrong with it: first the number of
 /// its fields, then each field from left to right, then its moment, and then the table that it
-/// names.
-pub(crate) fn read_event(
+/// names. It takes no memory.
+pub fn read_event(
     row: u64,
     last: Option<u64>,
     config: &Config,

@@ -15,11 +15,11 @@ use Rattle.pfs_engine_machine.specs.declared.events.Outcome.{Outcome}
 use Rattle.pfs_engine_machine.specs.declared.events.Outcome.TheVariants as outcome
 use Rattle.pfs_engine_machine.specs.declared.events.What.{What}
 use Rattle.pfs_engine_machine.specs.declared.events.What.TheVariants as what
-use Rattle.pfs_cli.specs.declared.events.Told.{Told}
-use Rattle.pfs_cli.specs.declared.events.Told.TheVariants as told
-use Rattle.pfs_cli.specs.declared.faults.TraceFault.{TraceFault}
-use Rattle.pfs_cli.specs.declared.faults.TraceFault.TheVariants as fault
-use Rattle.pfs_cli.specs.Events.{at_most, changing, column_of, expire_by, number_to, told_at, what_of, falls, event_at, in_column, and_then}
+use Rattle.pfs_cli_report.specs.declared.events.Told.{Told}
+use Rattle.pfs_cli_report.specs.declared.events.Told.TheVariants as told
+use Rattle.pfs_cli_report.specs.declared.faults.TraceFault.{TraceFault}
+use Rattle.pfs_cli_report.specs.declared.faults.TraceFault.TheVariants as fault
+use Rattle.pfs_cli_report.specs.Events.{at_most, changing, column_of, expire_by, number_to, told_at, what_of, falls, event_at, in_column, and_then}
 
 pub last-step : (conf : Conf) (m : Machine) (e : Event) → (step conf m e).1.last ≡ Some e.time
 unfolding step

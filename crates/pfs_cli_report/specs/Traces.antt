@@ -5,9 +5,9 @@ use Rattle.csv.specs.declared.parser.Config.{Config}
 use Rattle.csv.specs.declared.parser.State.{State}
 use Rattle.pfs_conf_rules.specs.Configs.{Conf}
 use Rattle.pfs_engine_machine.specs.declared.events.Event.{Event}
-use Rattle.pfs_cli.specs.declared.faults.TraceFault.{TraceFault}
-use Rattle.pfs_cli.specs.declared.faults.TraceFault.TheVariants as fault
-use Rattle.pfs_cli.specs.Events.{event_at, is_header}
+use Rattle.pfs_cli_report.specs.declared.faults.TraceFault.{TraceFault}
+use Rattle.pfs_cli_report.specs.declared.faults.TraceFault.TheVariants as fault
+use Rattle.pfs_cli_report.specs.Events.{event_at, is_header}
 
 -- the fields of a record
 abbrev pub Fields : Type 0

@@ -1,14 +1,12 @@
--- The report of a trace under a configuration, and what a run has written of it when it stops. (own)
-use Rattle.std.specs.Prelude.{◌≡◌, ◌+◌, ◌++◌, ℕ, List, [], ◌∷◌, length, take, Some, None, Result, Ok, Err}
+-- The report of a trace under a configuration, and its fronts. (own)
+use Rattle.std.specs.Prelude.{◌≡◌, ◌+◌, ◌++◌, ℕ, List, [], ◌∷◌, length, take, Some, None}
 use Rattle.pfs_conf_rules.specs.Configs.{Conf}
 use Rattle.pfs_engine_machine.specs.declared.events.Event.{Event}
 use Rattle.pfs_engine_machine.specs.declared.events.Outcome.{Outcome}
 use Rattle.pfs_engine_machine.specs.Machine.{Machine, start, states_held, nodes_held, entries_held}
 use Rattle.pfs_engine_machine.specs.Runs.{outcomes_of, machine_after}
-use Rattle.pfs_cli.specs.declared.records.Stop.{Stop}
-use Rattle.pfs_cli.specs.declared.records.Stop.TheVariants as stop
-use Rattle.pfs_cli.specs.Lines.{row_text, end_text}
-use Rattle.pfs_cli.specs.Traces.{Trace}
+use Rattle.pfs_cli_report.specs.Lines.{row_text, end_text}
+use Rattle.pfs_cli_report.specs.Traces.{Trace}
 
 -- one line for each outcome, the first in this row
 unfoldable pub lines_from : ℕ → List Outcome → List ℕ
@@ -39,11 +37,3 @@ AreFirstLines conf trace text = (k : ℕ) × (text ≡ lines_of conf (take k tra
 -- this text begins the report
 abbrev pub BeginsReport : Conf → Trace → List ℕ → Type 0
 BeginsReport conf trace text = (rest : List ℕ) × (report conf trace ≡ text ++ rest)
-
--- what is written of the report, by how the run ends
-abbrev pub Tells : Conf → Trace → List ℕ → Result Unit Stop → Type 0
-Tells conf trace text (Ok u) = (trace.1 ≡ None) × (text ≡ report conf trace)
-Tells conf trace text (Err (stop.Fault f)) = (trace.1 ≡ Some f) × (text ≡ report conf trace)
-Tells conf trace text (Err stop.Source) = AreFirstLines conf trace text
-Tells conf trace text (Err stop.Memory) = AreFirstLines conf trace text
-Tells conf trace text (Err stop.Write) = BeginsReport conf trace text

@@ -1,0 +1,6 @@
+use Rattle.std.proofs.Common.{◌≡◌, drop}
+use Rattle.pfs_cli.specs.Places.{place_over}
+use Rattle.pfs_cli.proofs.joined.Place.over.Given as goal
+
+abbrev pub invariant-loop-byte : goal.invariant-loop-byte
+invariant-loop-byte l = record { value : place_over l.place (drop l.byte-index l.bytes) ≡ place_over l.fn.self l.bytes }

@@ -1,0 +1,5 @@
+pub mod Events
+pub mod Faults
+pub mod Lines
+pub mod Reports
+pub mod Traces
