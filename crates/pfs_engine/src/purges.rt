@@ -36,7 +36,7 @@ pub(crate) fn purge_due<S: Store>(store: &mut S, last: Option<u64>, now: u64) ->
 }
 
 /// How far the seconds that are due have been done, the work of them, and what is known of those to come.
-#[derive(Debug, Clone, Copy, PartialEq, Eq)]
+#[derive(Clone, Copy)]
 pub(crate) struct Passage {
     pub(crate) second: u64,
     pub(crate) work: Work,

@@ -6,7 +6,7 @@ ghost use Rattle.pfs_engine.specs.Watches.{none, watch_after};
 use pfs_store_plain::Watched;
 
 /// Up to when states stay, or source nodes, as far as it was seen in slices from which nothing left; 0 where nothing is known.
-#[derive(Debug, Clone, Copy, PartialEq, Eq)]
+#[derive(Clone, Copy)]
 pub(crate) struct Watch {
     /// Those that the round under way has examined.
     pub(crate) part: u64,

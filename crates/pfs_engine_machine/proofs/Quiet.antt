@@ -48,19 +48,27 @@ second-moves conf w s es en =
     ap (λ (v : World). node_slice conf v s) idle
     ∙ ap (λ (ns : List Node). lists w.states ns ps (drop (node_share conf) (node_round w)) w.made) en
 
+-- the world after a slice of the states that took none out
+abbrev pub half : Conf → World → World
+half conf w = lists w.states w.nodes (drop (state_share conf) (state_round w)) w.pending_nodes w.made
+
+pub half-stood : (conf : Conf) (w : World) (s : ℕ) → (state_slice_of conf w s).removed ≡ 0 → state_slice conf w s ≡ half conf w
+half-stood conf w s hs =
+    let p = stays conf w.states s (take (state_share conf) (state_round w)) in
+    let ps = drop (state_share conf) (state_round w) in
+    let es : filter p w.states ≡ w.states = filter-all p w.states (omega (arith, hs)) in
+    (λ i. lists (es i) (map (idled conf w.states (es i) s) w.nodes) ps w.pending_nodes w.made)
+    ∙ ap (λ (ns : List Node). lists w.states ns ps w.pending_nodes w.made) (idled-same conf w.states s w.nodes)
+
 -- where the slices take nothing out, the world is moved
 pub second-stood : (conf : Conf) (w : World) (s : ℕ) → (state_slice_of conf w s).removed ≡ 0 → (node_slice_of conf (state_slice conf w s) s).removed ≡ 0
     → purge conf w s ≡ moved conf 1 w
 second-stood conf w s hs hn =
     let p = stays conf w.states s (take (state_share conf) (state_round w)) in
-    let ps = drop (state_share conf) (state_round w) in
     let es : filter p w.states ≡ w.states = filter-all p w.states (omega (arith, hs)) in
-    let idle : state_slice conf w s ≡ lists w.states w.nodes ps w.pending_nodes w.made =
-    (λ i. lists (es i) (map (idled conf w.states (es i) s) w.nodes) ps w.pending_nodes w.made)
-    ∙ ap (λ (ns : List Node). lists w.states ns ps w.pending_nodes w.made) (idled-same conf w.states s w.nodes) in
     let q = node_stays conf w.states s (take (node_share conf) (node_round w)) in
     let none : length w.nodes - length (filter q w.nodes) ≡ 0 =
-    sym (ap (λ (v : World). (node_slice_of conf v s).removed) idle) ∙ hn in
+        sym (ap (λ (v : World). (node_slice_of conf v s).removed) (half-stood conf w s hs)) ∙ hn in
     second-moves conf w s es (filter-all q w.nodes (omega (arith, none)))
 
 -- ---- a quiet second
