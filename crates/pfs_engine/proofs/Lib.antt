@@ -1,1 +1,2 @@
+mod Watching
 mod Belonging

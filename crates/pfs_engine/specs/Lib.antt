@@ -1,2 +1,3 @@
 pub mod Rooms
 pub mod Views
+pub mod Watches

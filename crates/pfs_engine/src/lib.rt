@@ -6,6 +6,7 @@ mod handshakes;
 pub mod laws;
 mod packets;
 mod purges;
+mod watches;
 mod works;
 
 pub use engine::Engine;

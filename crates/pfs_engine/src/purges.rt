@@ -1,9 +1,11 @@
 //! The purges that are due when time passes.
 
-ghost use Rattle.std.specs.Prelude.{◌≡◌, ◌+◌, ◌*◌, ◌<◌, ◌≤◌, ◌^◌, true, false, length, max};
+ghost use Rattle.std.specs.Prelude.{◌≡◌, ◌+◌, ◌*◌, ◌<◌, ◌≤◌, ◌^◌, ◌==◌, ◌&&◌, not, if◌then◌else◌, true, false, length, max};
 ghost use Rattle.std.specs.Option.{ForSome};
 ghost use Rattle.pfs_engine_machine.specs.Machine.{due, most_nodes, most_states, purged, seconds};
+ghost use Rattle.pfs_engine.specs.Watches.{IsOnTheWay, IsWatched};
 
+use crate::watches::Watch;
 use crate::works::Work;
 use pfs_addr::Meter;
 use pfs_store_plain::{Slice, Store};
@@ -33,8 +35,16 @@ pub(crate) fn purge_due<S: Store>(store: &mut S, last: Option<u64>, now: u64) ->
     }
 }
 
-// The purges of the seconds after one moment up to another, and the greatest slices. Once a second has nothing to examine
-// nothing is held, and the seconds after it change nothing.
+/// How far the seconds that are due have been done, the work of them, and what is known of those to come.
+#[derive(Clone, Copy)]
+pub(crate) struct Passage {
+    pub(crate) second: u64,
+    pub(crate) work: Work,
+    pub(crate) states: Watch,
+    pub(crate) nodes: Watch,
+}
+
+// The purges of the seconds after one moment up to another, and the greatest slices.
 fn purge_each<S: Store>(store: &mut S, from: u64, to: u64) -> Work
     requires order { from ≤ to }
     requires moment { to < 2 ^ 32 }
@@ -46,17 +56,99 @@ fn purge_each<S: Store>(store: &mut S, from: u64, to: u64) -> Work
     ensures uncounted { S.counts ≡ false → result.looks ≡ 0 }
     ensures config { S.config store.new ≡ S.config store.old }
 {
-    let mut work = Work::none();
-    for second in from..to {
-        let mut looks = Meter::new();
-        let states = store.purge_states(second + 1, &mut looks);
-        let nodes = store.purge_nodes(second + 1);
-        work = greater(work, looks.count(), states, nodes);
-        if states.examined == 0 && nodes.examined == 0 {
-            return work;
-        }
+    let mut at = Passage {
+        second: from,
+        work: Work::none(),
+        states: Watch::none(),
+        nodes: Watch::none(),
+    };
+    while at.second < to {
+        let done = purge_second(store, at, to);
+        at = pass_over(store, done, to);
     }
-    work
+    at.work
+}
+
+// The purge of the next second. Where it has nothing to examine nothing is held, and the seconds after it change nothing.
+fn purge_second<S: Store>(store: &mut S, at: Passage, to: u64) -> Passage
+    requires order { at.second < to }
+    requires moment { to < 2 ^ 32 }
+    requires watched { IsWatched (S.config store.old) (S.world store.old) at }
+    ensures later { at.second < result.second }
+    ensures order { result.second ≤ to }
+    ensures way { IsOnTheWay (S.config store.old) to (S.world store.old) at (S.world store.new) result }
+    ensures watched { IsWatched (S.config store.old) (S.world store.new) result }
+    ensures visits { result.work.visits ≡ at.work.visits }
+    ensures looks { S.counts ≡ true → at.work.looks ≡ at.work.most_states → result.work.looks ≡ result.work.most_states }
+    ensures uncounted { S.counts ≡ false → at.work.looks ≡ 0 → result.work.looks ≡ 0 }
+    ensures config { S.config store.new ≡ S.config store.old }
+{
+    let second = at.second + 1;
+    let mut looks = Meter::new();
+    let states = store.watch_states(second, &mut looks);
+    let nodes = store.watch_nodes(second);
+    let left = has_left(states.slice, nodes.slice);
+    Passage {
+        second: second_after(second, to, states.slice, nodes.slice),
+        work: greater(at.work, looks.count(), states.slice, nodes.slice),
+        states: at.states.after(left, &states),
+        nodes: at.nodes.after(left, &nodes),
+    }
+}
+
+// Up to where the seconds are done with this one.
+fn second_after(second: u64, to: u64, states: Slice, nodes: Slice) -> u64
+    ensures { result ≡ (if (states.examined == 0) && (nodes.examined == 0) then to else second) }
+{
+    if states.examined == 0 && nodes.examined == 0 {
+        to
+    } else {
+        second
+    }
+}
+
+// Whether something left in a second.
+fn has_left(states: Slice, nodes: Slice) -> bool
+    ensures { result ≡ not ((states.removed == 0) && (nodes.removed == 0)) }
+{
+    !(states.removed == 0 && nodes.removed == 0)
+}
+
+// Passes over the seconds before anything can leave, as far as the store can.
+fn pass_over<S: Store>(store: &mut S, at: Passage, to: u64) -> Passage
+    requires order { at.second ≤ to }
+    requires moment { to < 2 ^ 32 }
+    requires watched { IsWatched (S.config store.old) (S.world store.old) at }
+    ensures later { at.second ≤ result.second }
+    ensures order { result.second ≤ to }
+    ensures way { IsOnTheWay (S.config store.old) to (S.world store.old) at (S.world store.new) result }
+    ensures watched { IsWatched (S.config store.old) (S.world store.new) result }
+    ensures work { result.work ≡ at.work }
+    ensures config { S.config store.new ≡ S.config store.old }
+{
+    let seconds = quiet_seconds(at, to);
+    if seconds == 0 {
+        return at;
+    }
+    let passed = store.pass_over(seconds);
+    Passage {
+        second: at.second + passed,
+        work: at.work,
+        states: Watch::none(),
+        nodes: Watch::none(),
+    }
+}
+
+// How many of the next seconds are known to be quiet.
+fn quiet_seconds(at: Passage, to: u64) -> u64
+    requires order { at.second ≤ to }
+    ensures order { at.second + result ≤ to }
+    ensures states { 0 < result → at.second + result < at.states.whole }
+    ensures nodes { 0 < result → at.second + result < at.nodes.whole }
+{
+    let until = at.states.whole.min(at.nodes.whole);
+    let last = to.min(until.saturating_sub(1));
+    last.saturating_sub(at.second)
 }
 
 // The work with a second more: the greatest slices, and the most looks of one.

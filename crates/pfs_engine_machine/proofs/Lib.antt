@@ -11,6 +11,7 @@ pub mod KeptTime
 pub mod Numbers
 pub mod OptionLaws
 pub mod Purging
+pub mod Quiet
 pub mod Renewals
 pub mod Running
 pub mod Scopes

@@ -1,6 +1,7 @@
 pub mod Kept
 pub mod Looks
 pub mod Machine
+pub mod Quiet
 pub mod Rates
 pub mod Refusals
 pub mod Runs

@@ -12,4 +12,5 @@ mod Stands
 mod Storing
 mod Stretches
 mod Tying
+mod Untils
 mod Walks

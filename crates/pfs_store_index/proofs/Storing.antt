@@ -25,7 +25,9 @@ use Rattle.pfs_store_plain.specs.declared.records.State.{State}
 use Rattle.pfs_store_records.specs.Records.{IsAbove, between}
 use Rattle.pfs_store_index.specs.Holdings.{Holding}
 use Rattle.pfs_store_index.specs.Rounds.{waiting}
-use Rattle.pfs_store_index.specs.Stored.{AreUnread, IsNumbered, IsStored, has_pair, is_due, world_of}
+use Rattle.pfs_store_plain.specs.Quiet.{StateStays}
+use Rattle.pfs_store_index.specs.Staying.{StatesHold}
+use Rattle.pfs_store_index.specs.Stored.{due_at, AreUnread, IsNumbered, IsStored, has_pair, is_due, world_of}
 use Rattle.pfs_store_index.proofs.Leavings.{state_number}
 use Rattle.pfs_store_index.proofs.Meetings.{blind, map-blind}
 use Rattle.pfs_store_index.proofs.Searches.{all-push, map-push}
@@ -316,9 +318,9 @@ is_less n m h = grind (arith, nat_tests)
 is_not_less : (n m : ℕ) → nat_lt n m ≡ false → m ≤ n
 is_not_less n m h = grind (arith, nat_tests)
 
-due-expired : (conf : Conf) (counts : List ℕ) (xs : List State) (now : ℕ) (s : State) → AreCounts counts xs → AreUnread conf (length counts)
-    → is_due conf counts (length xs) now s ≡ has_expired conf xs now s
-due-expired conf counts xs now s h u = ap (λ seconds. is_expired seconds s.last now) (go (nat_lt s.rule.0 (length counts)) refl)
+due-lifetime : (conf : Conf) (counts : List ℕ) (xs : List State) (s : State) → AreCounts counts xs → AreUnread conf (length counts)
+    → scaled_lifetime conf s.rule.0 s.phase (slice_index counts s.rule.0) (length xs) ≡ scaled_lifetime conf s.rule.0 s.phase (rule_states s.rule.0 xs) (length xs)
+due-lifetime conf counts xs s h u = go (nat_lt s.rule.0 (length counts)) refl
   where
     go : (b : Bool) → nat_lt s.rule.0 (length counts) ≡ b
         → scaled_lifetime conf s.rule.0 s.phase (slice_index counts s.rule.0) (length xs) ≡ scaled_lifetime conf s.rule.0 s.phase (rule_states s.rule.0 xs) (length xs)
@@ -326,6 +328,18 @@ due-expired conf counts xs now s h u = ap (λ seconds. is_expired seconds s.last
     go false t =
         unread-same conf (value_for conf s.rule.0 (slot s.phase)) (slice_index counts s.rule.0) (rule_states s.rule.0 xs) (length xs)
         (rule_timeout_of conf s.rule.0 AdaptiveStart) (rule_timeout_of conf s.rule.0 AdaptiveEnd) (u s.rule.0 (is_not_less s.rule.0 (length counts) t))
+
+due-expired : (conf : Conf) (counts : List ℕ) (xs : List State) (now : ℕ) (s : State) → AreCounts counts xs → AreUnread conf (length counts)
+    → is_due conf counts (length xs) now s ≡ has_expired conf xs now s
+due-expired conf counts xs now s h u = ap (λ seconds. is_expired seconds s.last now) (due-lifetime conf counts xs s h u)
+
+-- up to when states stay is the same under the counts of the first rules
+pub due-hold : (conf : Conf) (counts : List ℕ) (all : List State) (examined : List ℕ) (until : ℕ) (xs : List State) → AreCounts counts all → AreUnread conf (length counts)
+    → StatesHold (due_at conf counts (length all)) examined until xs
+    → AllByRecursion (λ (s : State). is_among examined s.number ≡ true → StateStays conf all until s) xs
+due-hold conf counts all examined until [] h u k = tt
+due-hold conf counts all examined until (x ∷ xs) h u (k, ks) =
+    ((λ e. subst (λ n. until ≤ x.last + n) (due-lifetime conf counts all x h u) (k e)), due-hold conf counts all examined until xs h u ks)
 
 filter-agree : (p q : State → Bool) (xs : List State) → AllByRecursion (λ x. p x ≡ q x) xs → filter p xs ≡ filter q xs
 filter-agree p q [] h = refl

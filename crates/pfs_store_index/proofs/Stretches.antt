@@ -13,7 +13,7 @@ use Rattle.pfs_store_index.proofs.Walks.{IsRisingBy, all-in, all-next, at_next, 
 
 -- ---- those that were passed by stay
 
-among-between : (a l k : ℕ) (ns : List ℕ) → is_among (filter (between a l) ns) k ≡ true → between a l k ≡ true
+pub among-between : (a l k : ℕ) (ns : List ℕ) → is_among (filter (between a l) ns) k ≡ true → between a l k ≡ true
 among-between a l k [] h = absurd cc
 among-between a l k (n ∷ ns) h = go (among-between a l k ns) (between a l n) refl (n == k) refl
   where
@@ -98,7 +98,7 @@ all-passed leaves above most share stayed last o xs q w =
 
 -- ---- one stretch after another
 
-among-append : (xs ys : List ℕ) (k : ℕ) → is_among (xs ++ ys) k ≡ (is_among xs k || is_among ys k)
+pub among-append : (xs ys : List ℕ) (k : ℕ) → is_among (xs ++ ys) k ≡ (is_among xs k || is_among ys k)
 among-append [] ys k = refl
 among-append (x ∷ xs) ys k = go (x == k) (among-append xs ys k)
   where

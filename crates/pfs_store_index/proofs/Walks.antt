@@ -22,7 +22,7 @@ less_differs n k h = grind (arith, nat_tests)
 less_above : (n k : ℕ) → nat_cmp n k ≡ Less → n < k
 less_above n k h = grind (arith, nat_tests)
 
-flip_eq : (a b : ℕ) (r : Bool) → (a == b) ≡ r → (b == a) ≡ r
+pub flip_eq : (a b : ℕ) (r : Bool) → (a == b) ≡ r → (b == a) ≡ r
 flip_eq a b true h = grind (arith, nat_tests)
 flip_eq a b false h = grind (arith, nat_tests)
 

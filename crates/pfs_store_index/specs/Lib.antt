@@ -1,4 +1,5 @@
 pub mod Holdings
 pub mod Rounds
+pub mod Staying
 pub mod Stored
 pub mod Ties

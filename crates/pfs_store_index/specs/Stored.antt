@@ -1,5 +1,5 @@
 -- A store of what is held, and of two rounds of the purge, each of which is two numbers. (own)
-use Rattle.std.specs.Prelude.{ℕ, ◌≡◌, ◌≤◌, Bool, false, is_some, List, length, slice_index}
+use Rattle.std.specs.Prelude.{ℕ, ◌≡◌, ◌≤◌, ◌+◌, Bool, false, is_some, List, length, slice_index}
 use Rattle.std.specs.List.{AllByRecursion}
 use Rattle.pfs_conf_rules.specs.Configs.{Conf, rule_timeout_of}
 use Rattle.pfs_conf_rules.specs.declared.timeouts.TimeoutName.TheVariants.{AdaptiveStart}
@@ -18,6 +18,10 @@ IsNumbered made numbers = AllByRecursion (λ n. (1 ≤ n) × (n ≤ made)) numbe
 abbrev pub world_of : Holding → ℕ → ℕ → ℕ → ℕ → ℕ → World
 world_of h cursor mark node_cursor node_mark made =
     lists h.states h.nodes (waiting cursor mark (state_numbers h.states)) (waiting node_cursor node_mark (node_numbers h.nodes)) made
+
+-- the moment at which a state expires, where the rules had these counts of states and so many were held
+abbrev pub due_at : Conf → List ℕ → ℕ → State → ℕ
+due_at conf counts held s = s.last + scaled_lifetime conf s.rule.0 s.phase (slice_index counts s.rule.0) held
 
 -- a state is expired, where the rules had these counts of states and so many were held
 abbrev pub is_due : Conf → List ℕ → ℕ → ℕ → State → Bool

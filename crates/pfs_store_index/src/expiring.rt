@@ -1,7 +1,7 @@
 //! Which states have expired at a second, under the counts by which their lifetimes are scaled.
 
 ghost use Rattle.std.specs.Prelude.{◌≡◌, ◌+◌, ◌-◌, ◌<◌, ◌≤◌, ◌^◌, if◌then◌else◌, length, slice_index};
-ghost use Rattle.pfs_store_index.specs.Stored.{AreUnread, has_pair, is_due};
+ghost use Rattle.pfs_store_index.specs.Stored.{AreUnread, due_at, has_pair, is_due};
 
 use pfs_conf_rules::{Config, RuleNo, TimeoutName};
 use pfs_store_plain::State;
@@ -20,10 +20,16 @@ pub(crate) struct Due<'a> {
 impl StateTest for Due<'_> {
     ghost passes = { λ t s. is_due t.config.now t.counts.now t.held t.now s };
 
-    fn passes(&self, state: &State) -> bool {
+    ghost moment = { λ t s. due_at t.config.now t.counts.now t.held s };
+
+    fn until(&self, state: &State) -> Option<u64> {
         let count = count_at(self.counts, state.rule.0 as usize);
         let seconds = lifetime(self.config, state.rule, state.phase, count, self.held);
-        is_expired(seconds, state.last, self.now)
+        if is_expired(seconds, state.last, self.now) {
+            None
+        } else {
+            Some(state.last.saturating_add(seconds))
+        }
     }
 }
 

@@ -9,12 +9,14 @@ ghost use Rattle.pfs_store_plain.specs.Counts.{has_node, node_scope_of, node_sta
 ghost use Rattle.pfs_store_plain.specs.Leaving.{idled, other_than};
 ghost use Rattle.pfs_store_plain.specs.Plain.{AreCounts};
 ghost use Rattle.pfs_store_plain.specs.Purging.{node_numbers, state_numbers};
+ghost use Rattle.pfs_store_plain.specs.Quiet.{turned};
 ghost use Rattle.pfs_store_plain.specs.Touching.{completes_at, nodes_touched, renewed, touch_of};
 ghost use Rattle.pfs_store_plain.specs.Worlds.{IsUpToNow, holds_number, lists, number_of, rule_in, state_with};
 ghost use Rattle.pfs_store_records.specs.Records.{IsAbove, IsRising, placed_at};
-ghost use Rattle.pfs_store_records.specs.Walks.{IsWalk, looks_of};
+ghost use Rattle.pfs_store_records.specs.Walks.{IsWalk, StayUntil, looks_of};
 ghost use Rattle.pfs_store_index.specs.Holdings.{IsUncompleted};
 ghost use Rattle.pfs_store_index.specs.Rounds.{waiting, waiting_of};
+ghost use Rattle.pfs_store_index.specs.Stored.{IsNumbered};
 ghost use Rattle.pfs_store_index.specs.Ties.{HasRule, entry_of};
 
 use crate::placing::place;
@@ -23,7 +25,7 @@ use crate::tallying::{leave, meet};
 use pfs_addr::{Addr, FlowKey, Meter, NoMemory, Packet};
 use pfs_conf_rules::{Config, RuleNo, Scope};
 use pfs_store_plain::{Node, NodeScope, State, StateNo, Touched};
-use pfs_store_records::{Nodes, Records, StateTest, Tally, Walk};
+use pfs_store_records::{Nodes, Records, Round, StateTest, Tally, Walk};
 use std::alloc::{AllocError, Global};
 use std::collections::{BTreeSet, HashMap};
 use std::hash::BuildHasher;
@@ -231,9 +233,38 @@ impl<S: BuildHasher> Indexes<S> {
         requires range { above ≤ most }
         requires room { meter.old + share < 2 ^ 64 }
         ensures walk { IsWalk (T.passes test.now) self.now.states above most share result.stayed result.last result.leaver }
+        ensures until { StayUntil (T.moment test.now) self.now.states above result.last result.until }
         ensures looks { meter.new ≡ meter.old + looks_of result.stayed result.leaver }
     {
         self.records.walk(above, most, share, test, meter)
+    }
+
+    /// The round of the states after so many slices, while none comes or goes. It looks at no record.
+    pub(crate) fn states_turned(&self, round: Round, share: u64, made: u64, slices: u64) -> Round
+        requires numbered { IsNumbered made (state_numbers self.now.states) }
+        requires order { round.cursor ≤ round.mark }
+        requires mark { round.mark ≤ made }
+        requires share { 1 ≤ share }
+        ensures order { result.cursor ≤ result.mark }
+        ensures mark { result.mark ≤ made }
+        ensures waiting { waiting result.cursor result.mark (state_numbers self.now.states)
+            ≡ turned share (state_numbers self.now.states) slices (waiting round.cursor round.mark (state_numbers self.now.states)) }
+    {
+        self.records.turned(round, share, made, slices)
+    }
+
+    /// The round of the nodes after so many slices, while none comes or goes.
+    pub(crate) fn nodes_turned(&self, round: Round, share: u64, made: u64, slices: u64) -> Round
+        requires numbered { IsNumbered made (node_numbers self.now.nodes) }
+        requires order { round.cursor ≤ round.mark }
+        requires mark { round.mark ≤ made }
+        requires share { 1 ≤ share }
+        ensures order { result.cursor ≤ result.mark }
+        ensures mark { result.mark ≤ made }
+        ensures waiting { waiting result.cursor result.mark (node_numbers self.now.nodes)
+            ≡ turned share (node_numbers self.now.nodes) slices (waiting round.cursor round.mark (node_numbers self.now.nodes)) }
+    {
+        self.nodes.turned(round, share, made, slices)
     }
 
     /// A state comes, and with it the node of its source where its rule tracks sources and the source has none. `NoMemory`

@@ -1,16 +1,18 @@
 //! The walks of the purge: a slice of the round of the states, and a slice of that of the nodes.
 
-ghost use Rattle.std.specs.Prelude.{◌≡◌, ◌+◌, ◌-◌, ◌<◌, ◌≤◌, ◌^◌, ◌==◌, ◌&&◌, Some, drop, filter, length, map, nat_le, take, true};
-ghost use Rattle.std.specs.List.{find};
+ghost use Rattle.std.specs.Prelude.{◌≡◌, ◌+◌, ◌-◌, ◌<◌, ◌≤◌, ◌^◌, ◌==◌, ◌&&◌, [], Some, drop, filter, length, map, nat_le, take, true};
+ghost use Rattle.std.specs.List.{AllByRecursion, find};
 ghost use Rattle.pfs_conf_rules.specs.Configs.{rule_retention, timeout_of};
 ghost use Rattle.pfs_conf_rules.specs.declared.timeouts.TimeoutName.TheVariants as timeout;
 ghost use Rattle.pfs_store_plain.specs.Counts.{node_states};
 ghost use Rattle.pfs_store_plain.specs.Leaving.{idled};
 ghost use Rattle.pfs_store_plain.specs.Plain.{AreCounts};
-ghost use Rattle.pfs_store_plain.specs.Purging.{is_over, node_numbers, node_retention, node_stays, round, share, state_numbers, stays};
+ghost use Rattle.pfs_store_plain.specs.Purging.{is_among, is_over, node_numbers, node_retention, node_stays, round, share, state_numbers, stays};
+ghost use Rattle.pfs_store_plain.specs.Quiet.{StateStays};
 ghost use Rattle.pfs_store_records.specs.Records.{IsRising};
-ghost use Rattle.pfs_store_records.specs.Walks.{IsWalk, looks_of};
-ghost use Rattle.pfs_store_index.specs.Stored.{AreUnread, IsNumbered, is_due};
+ghost use Rattle.pfs_store_records.specs.Walks.{IsWalk, StayUntil, looks_of};
+ghost use Rattle.pfs_store_index.specs.Staying.{NodeHolds, NodesHold, StatesHold};
+ghost use Rattle.pfs_store_index.specs.Stored.{AreUnread, IsNumbered, due_at, is_due};
 ghost use Rattle.pfs_store_index.specs.Rounds.{node_survives, states_survive, waiting};
 
 use crate::expiring::Due;
@@ -18,36 +20,33 @@ use crate::indexes::Indexes;
 use pfs_addr::Meter;
 use pfs_conf_rules::{Config, StateOptions, TimeoutName};
 use pfs_store_plain::NodeScope;
-use pfs_store_records::{Tally, Walk};
+use pfs_store_records::{Round, Tally, Walk};
 use std::hash::BuildHasher;
 
-/// What has a number above the cursor, and up to the mark, is still to be examined.
-#[derive(Debug, Clone, Copy, PartialEq, Eq)]
-pub(crate) struct Round {
-    pub(crate) cursor: u64,
-    pub(crate) mark: u64,
-}
-
-/// What a walk did: up to where it went, how many it examined, and how many of them left.
+/// What a walk did: up to where it went, how many it examined, how many of them left, and up to when the others stay.
 #[derive(Debug, Clone, Copy, PartialEq, Eq)]
 pub(crate) struct Steps {
     pub(crate) cursor: u64,
     pub(crate) examined: u64,
     pub(crate) removed: u64,
+    pub(crate) until: u64,
 }
 
-/// What a walk did up to a state that left: up to where it went, how many it examined, and how many more it may examine.
+/// What a walk did up to a state that left: up to where it went, how many it examined, how many more it may examine, and up to
+/// when those stay that did not leave.
 #[derive(Debug, Clone, Copy, PartialEq, Eq)]
 struct Stretch {
     cursor: u64,
     examined: u64,
     left: u64,
+    until: u64,
 }
 
 /// How many a slice examines, where at most so many are held.
 pub(crate) fn share_of(config: &Config, limit: u64) -> u64
     requires { limit < 2 ^ 32 }
     ensures value { result ≡ share limit (timeout_of config.now timeout.Interval) }
+    ensures some { 1 ≤ result }
     ensures most { result ≤ 2 ^ 32 }
 {
     1 + limit / config.timeout(TimeoutName::Interval)
@@ -71,6 +70,17 @@ pub(crate) fn state_round<S: BuildHasher>(indexes: &Indexes<S>, begun: Round, ma
             cursor: 0,
             mark: made,
         },
+    }
+}
+
+/// Whether no state is left to be examined in a round.
+pub(crate) fn is_state_round_over<S: BuildHasher>(indexes: &Indexes<S>, round: Round) -> bool
+    requires order { round.cursor ≤ round.mark }
+    ensures { result ≡ true → waiting round.cursor round.mark (state_numbers indexes.now.states) ≡ [] }
+{
+    match indexes.next_between(round.cursor, round.mark) {
+        Some(_) => false,
+        None => true,
     }
 }
 
@@ -98,12 +108,15 @@ pub(crate) fn walk_states<S: BuildHasher>(
         ≡ drop share (waiting round.cursor round.mark (state_numbers indexes.old.states)) }
     ensures order { result.cursor ≤ round.mark }
     ensures removed { result.removed ≡ length indexes.old.states - length indexes.new.states }
+    ensures until { AllByRecursion (λ s. is_among (take share (waiting round.cursor round.mark (state_numbers indexes.old.states))) s.number ≡ true →
+        StateStays indexes.old.config indexes.old.states result.until s) indexes.new.states }
     ensures looks { meter.new ≡ meter.old + result.examined }
 {
     let held = indexes.state_count();
     let mut cursor = round.cursor;
     let mut examined = 0;
     let mut left = share;
+    let mut until = u64::MAX;
     while left > 0 {
         let rest = Round {
             cursor,
@@ -113,11 +126,13 @@ pub(crate) fn walk_states<S: BuildHasher>(
         cursor = stretch.cursor;
         examined += stretch.examined;
         left = stretch.left;
+        until = until.min(stretch.until);
     }
     Steps {
         cursor,
         examined,
         removed: held.saturating_sub(indexes.state_count()),
+        until,
     }
 }
 
@@ -145,12 +160,15 @@ fn examine<S: BuildHasher>(
     ensures share { result.examined + result.left ≤ share }
     ensures less { result.left < share }
     ensures goes { 0 < result.left → result.examined + result.left ≡ share }
+    ensures until { StatesHold (due_at indexes.old.config counts.now held)
+        (take result.examined (waiting round.cursor round.mark (state_numbers indexes.old.states))) result.until indexes.new.states }
     ensures ends { result.left ≡ 0 → result.examined ≡ length (take share (waiting round.cursor round.mark (state_numbers indexes.old.states))) }
     ensures looks { meter.new ≡ meter.old + result.examined }
 {
     let _count = indexes.state_count();
     let walk = walk_to_due(indexes, counts, round, share, held, now, meter);
     let stayed = walk.stayed;
+    let until = walk.until;
     match walk.leaver {
         Some(state) => {
             let cursor = state.number;
@@ -159,12 +177,14 @@ fn examine<S: BuildHasher>(
                 cursor,
                 examined: stayed + 1,
                 left: share - stayed - 1,
+                until,
             }
         }
         None => Stretch {
             cursor: walk.last,
             examined: stayed,
             left: 0,
+            until,
         },
     }
 }
@@ -182,6 +202,7 @@ fn walk_to_due<S: BuildHasher>(
     requires order { round.cursor ≤ round.mark }
     requires room { meter.old + share < 2 ^ 64 }
     ensures walk { IsWalk (is_due indexes.now.config counts.now held now) indexes.now.states round.cursor round.mark share result.stayed result.last result.leaver }
+    ensures until { StayUntil (due_at indexes.now.config counts.now held) indexes.now.states round.cursor result.last result.until }
     ensures looks { meter.new ≡ meter.old + looks_of result.stayed result.leaver }
 {
     let test = Due {
@@ -214,6 +235,17 @@ pub(crate) fn node_round<S: BuildHasher>(indexes: &Indexes<S>, begun: Round, mad
     }
 }
 
+/// Whether no node is left to be examined in a round.
+pub(crate) fn is_node_round_over<S: BuildHasher>(indexes: &Indexes<S>, round: Round) -> bool
+    requires order { round.cursor ≤ round.mark }
+    ensures { result ≡ true → waiting round.cursor round.mark (node_numbers indexes.now.nodes) ≡ [] }
+{
+    match indexes.next_node(round.cursor, round.mark) {
+        Some(_) => false,
+        None => true,
+    }
+}
+
 /// Examines the next nodes of a round, so many at most.
 pub(crate) fn walk_nodes<S: BuildHasher>(
     indexes: &mut Indexes<S>,
@@ -231,15 +263,18 @@ pub(crate) fn walk_nodes<S: BuildHasher>(
         ≡ drop share (waiting round.cursor round.mark (node_numbers indexes.old.nodes)) }
     ensures order { result.cursor ≤ round.mark }
     ensures removed { result.removed ≡ length indexes.old.nodes - length indexes.new.nodes }
+    ensures until { NodesHold indexes.old.config indexes.old.states
+        (take share (waiting round.cursor round.mark (node_numbers indexes.old.nodes))) result.until indexes.new.nodes }
 {
     let held = indexes.node_count();
     let mut cursor = round.cursor;
     let mut examined = 0;
+    let mut until = u64::MAX;
     while examined < share {
         let Some(tally) = indexes.next_node(cursor, round.mark) else {
             break;
         };
-        examine_node(indexes, &tally, now);
+        until = until.min(examine_node(indexes, &tally, now));
         cursor = tally.node.number;
         examined += 1;
     }
@@ -247,22 +282,39 @@ pub(crate) fn walk_nodes<S: BuildHasher>(
         cursor,
         examined,
         removed: held.saturating_sub(indexes.node_count()),
+        until,
     }
 }
 
-/// Examines a node: it leaves where it has no state, and its retention is over.
-fn examine_node<S: BuildHasher>(indexes: &mut Indexes<S>, tally: &Tally, now: u64)
+/// Examines a node: it leaves where it has no state, and its retention is over. It answers up to when it stays otherwise.
+fn examine_node<S: BuildHasher>(indexes: &mut Indexes<S>, tally: &Tally, now: u64) -> u64
     requires held { find (λ n. n.number == tally.now.node.number) indexes.old.nodes ≡ Some tally.now.node }
     requires states { tally.now.states ≡ node_states indexes.old.config tally.now.node.scope tally.now.node.source indexes.old.states }
     ensures config { indexes.new.config ≡ indexes.old.config }
     ensures states { indexes.new.states ≡ indexes.old.states }
     ensures nodes { indexes.new.nodes
         ≡ filter (node_survives (is_over indexes.old.config indexes.old.states now) tally.now.node.number) indexes.old.nodes }
+    ensures until { NodeHolds indexes.old.config indexes.old.states tally.now.node.number result indexes.new.nodes }
     ensures rising { IsRising (node_numbers indexes.old.nodes) }
 {
     let _count = indexes.node_count();
-    if is_over(indexes.config(), tally, now) {
+    let config = indexes.config();
+    let until = kept_until(config, tally);
+    if is_over(config, tally, now) {
         indexes.drop_node(tally.node);
+    }
+    until
+}
+
+/// Up to when a node stays, as long as it gets no state and loses none.
+fn kept_until(config: &Config, tally: &Tally) -> u64
+    ensures { tally.now.states ≡ 0 → result ≤ tally.now.node.idle + node_retention config.now tally.now.node.scope }
+{
+    if tally.states == 0 {
+        let retention = node_retention(config, tally.node.scope);
+        tally.node.idle.saturating_add(retention)
+    } else {
+        u64::MAX
     }
 }
 

@@ -7,10 +7,14 @@ use crate::expiring::counted_rules;
 use crate::flushing::flush;
 use crate::indexes::Indexes;
 use crate::limits::limit_met;
-use crate::purging::{Round, node_round, share_of, state_round, walk_nodes, walk_states};
+use crate::purging::{
+    is_node_round_over, is_state_round_over, node_round, share_of, state_round, walk_nodes,
+    walk_states,
+};
 use pfs_addr::{Addr, FlowKey, Meter, NoMemory, Packet};
 use pfs_conf_rules::{Config, LimitName, RuleNo};
-use pfs_store_plain::{Limit, Slice, State, StateNo, Store, Touched};
+use pfs_store_plain::{Limit, Slice, State, StateNo, Store, Touched, Watched};
+use pfs_store_records::Round;
 use pfs_track::StatePhase;
 use std::alloc::Global;
 use std::hash::{BuildHasher, BuildHasherDefault, FoldHasher};
@@ -171,6 +175,14 @@ impl<S: BuildHasher> Store for IndexStore<S> {
     }
 
     fn purge_states(&mut self, now: u64, meter: &mut Meter) -> Slice {
+        self.watch_states(now, meter).slice
+    }
+
+    fn purge_nodes(&mut self, now: u64) -> Slice {
+        self.watch_nodes(now).slice
+    }
+
+    fn watch_states(&mut self, now: u64, meter: &mut Meter) -> Watched {
         let _count = self.indexes.state_count();
         let read = self.counts.len();
         let counts = self.indexes.rule_counts();
@@ -183,13 +195,18 @@ impl<S: BuildHasher> Store for IndexStore<S> {
             cursor: steps.cursor,
             mark: round.mark,
         };
-        Slice {
-            examined: steps.examined,
-            removed: steps.removed,
+        let over = is_state_round_over(&self.indexes, self.states_round);
+        Watched {
+            slice: Slice {
+                examined: steps.examined,
+                removed: steps.removed,
+            },
+            until: steps.until,
+            over,
         }
     }
 
-    fn purge_nodes(&mut self, now: u64) -> Slice {
+    fn watch_nodes(&mut self, now: u64) -> Watched {
         let config = self.indexes.config();
         let share = share_of(config, config.limit(LimitName::SrcNodes));
         let round = node_round(&self.indexes, self.nodes_round, self.made);
@@ -198,9 +215,29 @@ impl<S: BuildHasher> Store for IndexStore<S> {
             cursor: steps.cursor,
             mark: round.mark,
         };
-        Slice {
-            examined: steps.examined,
-            removed: steps.removed,
+        let over = is_node_round_over(&self.indexes, self.nodes_round);
+        Watched {
+            slice: Slice {
+                examined: steps.examined,
+                removed: steps.removed,
+            },
+            until: steps.until,
+            over,
         }
+    }
+
+    fn pass_over(&mut self, seconds: u64) -> u64 {
+        let config = self.indexes.config();
+        let share = share_of(config, config.limit(LimitName::States));
+        let node_share = share_of(config, config.limit(LimitName::SrcNodes));
+        let states = self.states_round;
+        self.states_round = self
+            .indexes
+            .states_turned(states, share, self.made, seconds);
+        let nodes = self.nodes_round;
+        self.nodes_round = self
+            .indexes
+            .nodes_turned(nodes, node_share, self.made, seconds);
+        seconds
     }
 }

@@ -1,4 +1,5 @@
 mod IdleLaws
 pub mod MomentLaws
 mod SliceLaws
+pub mod Turns
 mod Worked

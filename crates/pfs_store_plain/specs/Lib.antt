@@ -4,5 +4,6 @@ pub mod Handshakes
 pub mod Leaving
 pub mod Plain
 pub mod Purging
+pub mod Quiet
 pub mod Touching
 pub mod Worlds

@@ -11,5 +11,5 @@ mod store;
 mod touching;
 
 pub use plain::PlainStore;
-pub use records::{Limit, Node, NodeScope, Slice, State, StateNo, Touched};
+pub use records::{Limit, Node, NodeScope, Slice, State, StateNo, Touched, Watched};
 pub use store::Store;

@@ -1,6 +1,6 @@
 // A store over plain lists.
 
-ghost use Rattle.std.specs.Prelude.{◌≡◌, ◌+◌, ◌<◌, ◌≤◌, [], ◌∷◌, ◌++◌, false, IfOk, OnOk, length, vec_capacity};
+ghost use Rattle.std.specs.Prelude.{◌≡◌, ◌+◌, ◌<◌, ◌≤◌, [], ◌∷◌, ◌++◌, false, IfOk, IsOk, IsSome, None, OnOk, length, vec_capacity};
 ghost use Rattle.pfs_store_plain.specs.Admission.{nodes_with};
 ghost use Rattle.pfs_store_plain.specs.Plain.{AreScores};
 ghost use Rattle.pfs_store_plain.specs.Worlds.{empty_world};
@@ -112,11 +112,11 @@ impl Store for PlainStore {
         if make_room(&mut self.states, &mut self.pending_states).is_err() {
             return Err(NoMemory);
         }
-        if make_room(&mut self.nodes, &mut self.pending_nodes).is_err() {
+        let scope = node_scope(&self.config, rule);
+        if make_node_room(&mut self.nodes, &mut self.pending_nodes, scope).is_err() {
             return Err(NoMemory);
         }
         let number = self.made + 1;
-        let scope = node_scope(&self.config, rule);
         add_node(&mut self.nodes, number, source, scope);
         self.states.push_reserved(State {
             number,
@@ -207,12 +207,32 @@ fn make_room<T>(held: &mut Vec<T>, pending: &mut Vec<u64>) -> Result<(), AllocEr
     pending.reserve(wanted.saturating_sub(pending.len()))
 }
 
+/// Room for one more node and its number, if there is a scope.
+fn make_node_room(
+    nodes: &mut Vec<Node>,
+    pending: &mut Vec<u64>,
+    scope: Option<NodeScope>,
+) -> Result<(), AllocError>
+    ensures held { nodes.new.items ≡ nodes.old.items }
+    ensures pending { pending.new.items ≡ pending.old.items }
+    ensures kept { vec_capacity pending.old ≤ vec_capacity pending.new }
+    ensures room { IsSome scope → OnOk result (length nodes.new.items < vec_capacity nodes.new) }
+    ensures numbers { IsSome scope → OnOk result (length nodes.new.items + 1 ≤ vec_capacity pending.new) }
+    ensures free { scope ≡ None → IsOk result }
+{
+    match scope {
+        Some(_) => make_room(nodes, pending),
+        None => Ok(()),
+    }
+}
+
 /// Adds the node of a source in a scope, if there is a scope and it has none.
 fn add_node(nodes: &mut Vec<Node>, number: u64, source: Addr, scope: Option<NodeScope>)
-    requires room { length nodes.old.items < vec_capacity nodes.old }
+    requires room { IsSome scope → length nodes.old.items < vec_capacity nodes.old }
     requires scores { AreScores nodes.old.items }
     ensures nodes { nodes.new.items ≡ nodes_with nodes.old.items number source scope }
-    ensures fewer { length nodes.new.items ≤ length nodes.old.items + 1 }
+    ensures fewer { IsSome scope → length nodes.new.items ≤ length nodes.old.items + 1 }
+    ensures none { scope ≡ None → nodes.new.items ≡ nodes.old.items }
     ensures scores { AreScores nodes.new.items }
 {
     if let Some(scope) = scope

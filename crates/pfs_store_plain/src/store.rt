@@ -1,16 +1,17 @@
 // What every kind of store does: the changes of the states and source nodes that it holds.
 
-ghost use Rattle.std.specs.Prelude.{◌≡◌, ◌+◌, ◌<◌, ◌≤◌, ◌^◌, Bool, false, true, None, Some, IfOk, IsOk, IsSome, OnErr, length, option_map};
+ghost use Rattle.std.specs.Prelude.{◌≡◌, ◌+◌, ◌<◌, ◌≤◌, ◌^◌, [], Bool, false, true, None, Some, IfOk, IsOk, IsSome, OnErr, length, option_map};
 ghost use Rattle.pfs_addr.specs.Keys.{key_of};
 ghost use Rattle.pfs_conf_rules.specs.Configs.{Conf, options_at};
 ghost use Rattle.pfs_store_plain.specs.Admission.{answer_at, limit_at, world_at};
 ghost use Rattle.pfs_store_plain.specs.Counts.{source_states};
 ghost use Rattle.pfs_store_plain.specs.Leaving.{flushed, flushed_count, killed};
 ghost use Rattle.pfs_store_plain.specs.Purging.{node_slice, node_slice_of, state_slice, state_slice_of};
+ghost use Rattle.pfs_store_plain.specs.Quiet.{NodesStay, StatesStay, moved};
 ghost use Rattle.pfs_store_plain.specs.Touching.{touch_of, world_touched};
 ghost use Rattle.pfs_store_plain.specs.Worlds.{IsUpToNow, World, holds_number, number_of, rule_in, state_with};
 
-use crate::records::{Limit, Slice, StateNo, Touched};
+use crate::records::{Limit, Slice, StateNo, Touched, Watched};
 use pfs_addr::{Addr, FlowKey, Meter, NoMemory, Packet};
 use pfs_conf_rules::RuleNo;
 
@@ -140,4 +141,52 @@ pub trait Store {
         ensures answer { result ≡ node_slice_of (config self.old) (world self.old) now }
         ensures world { world self.new ≡ node_slice (config self.old) (world self.old) now }
         ensures config { config self.new ≡ config self.old };
+
+    /// Does the slice of `purge_states`, and tells up to when the states stay that it examined, under the counts before it, and
+    /// whether the round is over. A kind of store that does not know it tells the moment 0.
+    /// (pf.conf(5), OPTIONS, "interval"; the rounds are own)
+    fn watch_states(&mut self, now: u64, meter: &mut Meter) -> Watched
+        requires meter { meter.old ≤ 2 ^ 63 }
+        ensures answer { result.slice ≡ state_slice_of (config self.old) (world self.old) now }
+        ensures world { world self.new ≡ state_slice (config self.old) (world self.old) now }
+        ensures until { StatesStay (config self.old) (world self.old) result.until (world self.new).states }
+        ensures over { result.over ≡ true → (world self.new).pending_states ≡ [] }
+        ensures looks { counts ≡ true → meter.new ≡ meter.old + result.slice.examined }
+        ensures uncounted { counts ≡ false → meter.new ≡ meter.old }
+        ensures most { meter.new ≤ meter.old + 1000000000 }
+        ensures config { config self.new ≡ config self.old }
+    {
+        Watched {
+            slice: self.purge_states(now, meter),
+            until: 0,
+            over: false,
+        }
+    }
+
+    /// Does the slice of `purge_nodes`, and tells up to when the source nodes stay that it examined, where they get no state
+    /// and lose none, and whether the round is over. A kind of store that does not know it tells the moment 0.
+    /// (pf.conf(5), OPTIONS, "src.track"; the rounds are own)
+    fn watch_nodes(&mut self, now: u64) -> Watched
+        ensures answer { result.slice ≡ node_slice_of (config self.old) (world self.old) now }
+        ensures world { world self.new ≡ node_slice (config self.old) (world self.old) now }
+        ensures until { NodesStay (config self.old) (world self.old) result.until (world self.new).nodes }
+        ensures over { result.over ≡ true → (world self.new).pending_nodes ≡ [] }
+        ensures config { config self.new ≡ config self.old }
+    {
+        Watched {
+            slice: self.purge_nodes(now),
+            until: 0,
+            over: false,
+        }
+    }
+
+    /// Passes over some of so many seconds in which nothing leaves, and answers over how many: both rounds go on by so many
+    /// slices, as if each of them had been done. A kind of store that cannot answers 0. It looks at no record. (own)
+    fn pass_over(&mut self, seconds: u64) -> u64
+        ensures most { result ≤ seconds }
+        ensures world { world self.new ≡ moved (config self.old) result (world self.old) }
+        ensures config { config self.new ≡ config self.old }
+    {
+        0
+    }
 }

@@ -1,5 +1,5 @@
 -- The walk over the records in a range of numbers, from the least on.
-use Rattle.std.proofs.Common.{length, suc, ◌+◌, ◌≡◌, ℕ, ◌<◌, ◌≤◌, ◌==◌, Bool, true, false, Option, Some, None, List, [], ◌∷◌, ◌++◌, refl, sym, ap, subst, ◌∙◌, arith, filter, slice_get, take, drop}
+use Rattle.std.proofs.Common.{length, suc, ◌+◌, ◌≡◌, ℕ, ◌<◌, ◌≤◌, ◌==◌, Bool, true, false, Option, Some, None, List, [], ◌∷◌, ◌++◌, refl, sym, ap, subst, ◌∙◌, arith, filter, slice_get, take, drop, min}
 use Rattle.std.specs.List.{AllByRecursion, find}
 use Rattle.std.specs.List.Sorted.{IsStrictlySortedBy}
 use Rattle.std.specs.Ordering.{nat_cmp}
@@ -14,7 +14,7 @@ use Rattle.pfs_store_plain.specs.Purging.{state_numbers}
 use Rattle.pfs_store_plain.specs.declared.records.State.{State}
 use Rattle.pfs_store_records.specs.Keeping.{IsKept, IsPlaced, held, number_in, place_in, record_in}
 use Rattle.pfs_store_records.specs.Records.{between, states_of}
-use Rattle.pfs_store_records.specs.Walks.{IsLeaver, IsWalk}
+use Rattle.pfs_store_records.specs.Walks.{IsLeaver, IsWalk, StayUntil}
 use Rattle.pfs_store_records.proofs.Ordered.{found, less_apart, look-between, numbers-held, range_between}
 use Rattle.pfs_store_records.proofs.RecordLaws.{has_place, numbers-states, read-value, state_at}
 
@@ -67,7 +67,7 @@ take-front : (xs ys : List ℕ) → take (length xs) (xs ++ ys) ≡ xs
 take-front [] ys = refl
 take-front (x ∷ xs) ys = ap (λ zs. x ∷ zs) (take-front xs ys)
 
-drop-front : (xs ys : List ℕ) → drop (length xs) (xs ++ ys) ≡ ys
+pub drop-front : (xs ys : List ℕ) → drop (length xs) (xs ++ ys) ≡ ys
 drop-front [] ys = refl
 drop-front (x ∷ xs) ys = drop-front xs ys
 
@@ -144,7 +144,7 @@ module _ {P : Type 0} where
           rw f (ap (λ (xs : List (ℕ × P)). length (e ∷ xs)) (span-none last k es (rw q hd)))
       go more false t = rw (up_to_not last most k e.0 b t) (more (rw t at x))
 
-  split-span : (a l m : ℕ) (es : List (ℕ × P)) → IsStrictlySortedBy nat_cmp (keys_of es) → a ≤ l → l ≤ m → span a m es ≡ span a l es ++ span l m es
+  pub split-span : (a l m : ℕ) (es : List (ℕ × P)) → IsStrictlySortedBy nat_cmp (keys_of es) → a ≤ l → l ≤ m → span a m es ≡ span a l es ++ span l m es
   split-span a l m [] o p q = refl
   split-span a l m (e ∷ es) o p q = go (split-span a l m es (sorted_tail nat_cmp e.0 (keys_of es) o) p q) (between a l e.0) refl (between l m e.0) refl
     where
@@ -163,11 +163,11 @@ module _ {P : Type 0} where
   length-both [] ys = omega arith
   length-both (x ∷ xs) ys = let h = length-both xs ys in omega (arith, h)
 
-  map-both : (xs ys : List (ℕ × P)) → keys_of (xs ++ ys) ≡ keys_of xs ++ keys_of ys
+  pub map-both : (xs ys : List (ℕ × P)) → keys_of (xs ++ ys) ≡ keys_of xs ++ keys_of ys
   map-both [] ys = refl
   map-both (x ∷ xs) ys = ap (λ zs. x.0 ∷ zs) (map-both xs ys)
 
-  length-keys : (xs : List (ℕ × P)) → length (keys_of xs) ≡ length xs
+  pub length-keys : (xs : List (ℕ × P)) → length (keys_of xs) ≡ length xs
   length-keys [] = refl
   length-keys (x ∷ xs) = ap suc (length-keys xs)
 
@@ -177,7 +177,7 @@ module _ {P : Type 0} where
     abbrev pub Each : ℕ → ℕ → List (ℕ × P) → Type 0
     Each a m es = AllByRecursion (λ (e : ℕ × P). between a m e.0 ≡ true → R e) es
 
-    each-empty : (a : ℕ) (es : List (ℕ × P)) → Each a a es
+    pub each-empty : (a : ℕ) (es : List (ℕ × P)) → Each a a es
     each-empty a [] = tt
     each-empty a (e ∷ es) = ((λ t. let f = empty_range a e.0 in absurd (cc (f, t))), each-empty a es)
 
@@ -185,7 +185,7 @@ module _ {P : Type 0} where
     each-none a k [] h = tt
     each-none a k (e ∷ es) (h, hs) = ((λ t. let d = less_apart k e.0 h in let f = up_to_past a k e.0 d in absurd (cc (f, t))), each-none a k es hs)
 
-    each-more : (a last most k : ℕ) (p : P) (rest es : List (ℕ × P)) → IsStrictlySortedBy nat_cmp (keys_of es) → between last most k ≡ true → (k, p) ∷ rest ≡ span last most es
+    pub each-more : (a last most k : ℕ) (p : P) (rest es : List (ℕ × P)) → IsStrictlySortedBy nat_cmp (keys_of es) → between last most k ≡ true → (k, p) ∷ rest ≡ span last most es
         → Each a last es → R (k, p) → Each a k es
     each-more a last most k p rest [] o b x h r = tt
     each-more a last most k p rest (e ∷ es) o b x (h, hs) r = go (λ x'. each-more a last most k p rest es (sorted_tail nat_cmp e.0 (keys_of es) o) b x' hs r) (between last most e.0) refl
@@ -244,15 +244,44 @@ module _ {P : Type 0} where
 abbrev pub Stays : (State → Bool) → Slab State → ℕ × ℕ → Type 0
 Stays passes slab e = (s : State) → get slab e.1 ≡ Some s → passes s ≡ false
 
-stay-states : (passes : State → Bool) (slab : Slab State) (a m : ℕ) (es : List (ℕ × ℕ)) → AllByRecursion (IsPlaced number_in place_in (record_in slab)) es → Each (Stays passes slab) a m es
-    → AllByRecursion (λ (s : State). between a m s.number ≡ true → passes s ≡ false) (states_of (held (record_in slab) es))
-stay-states passes slab a m [] h w = tt
-stay-states passes slab a m (e ∷ es) (h, hs) (w, ws) = rw h.1 (here, stay-states passes slab a m es hs ws)
+-- an entry whose state has a property
+abbrev pub OfState : (State → Type 0) → Slab State → ℕ × ℕ → Type 0
+OfState Q slab e = (s : State) → get slab e.1 ≡ Some s → Q s
+
+each-state : (Q : State → Type 0) (slab : Slab State) (a m : ℕ) (es : List (ℕ × ℕ)) → AllByRecursion (IsPlaced number_in place_in (record_in slab)) es → Each (OfState Q slab) a m es
+    → AllByRecursion (λ (s : State). between a m s.number ≡ true → Q s) (states_of (held (record_in slab) es))
+each-state Q slab a m [] h w = tt
+each-state Q slab a m (e ∷ es) (h, hs) (w, ws) = rw h.1 (here, each-state Q slab a m es hs ws)
   where
-    here : between a m h.0.state.number ≡ true → passes h.0.state ≡ false
+    here : between a m h.0.state.number ≡ true → Q h.0.state
     here b = w (ap (between a m) (sym h.2) ∙ b) h.0.state (state_at (get slab e.1) e.1 h.0 h.1)
 
-numbers-keys : (slab : Slab State) (es : List (ℕ × ℕ)) → AllByRecursion (IsPlaced number_in place_in (record_in slab)) es → state_numbers (states_of (held (record_in slab) es)) ≡ keys_of es
+-- ---- up to when the states do not pass
+
+-- the state of an entry does not pass up to a moment
+abbrev pub Until : (State → ℕ) → Slab State → ℕ → ℕ × ℕ → Type 0
+Until moment slab until = OfState (λ (s : State). until ≤ moment s) slab
+
+pub until-states : (moment : State → ℕ) (slab : Slab State) (above last until : ℕ) (es : List (ℕ × ℕ)) → IsKept number_in place_in (record_in slab) es
+    → Each (Until moment slab until) above last es → StayUntil moment (states_of (held (record_in slab) es)) above last until
+until-states moment slab above last until es k u = each-state (λ (s : State). until ≤ moment s) slab above last es k.placed u
+
+until-less : (moment : State → ℕ) (slab : Slab State) (above last until less : ℕ) (es : List (ℕ × ℕ)) → less ≤ until
+    → Each (Until moment slab until) above last es → Each (Until moment slab less) above last es
+until-less moment slab above last until less [] h u = tt
+until-less moment slab above last until less (e ∷ es) h (u, us) =
+    ((λ b s g. let x = u b s g in omega (arith, h, x)), until-less moment slab above last until less es h us)
+
+-- one state more stays
+pub until-more : (moment : State → ℕ) (slab : Slab State) (es rest : List (ℕ × ℕ)) (above last most stayed until m k p : ℕ) (st : State) (passes : State → Bool)
+    → IsKept number_in place_in (record_in slab) es → Walking (Stays passes slab) es ((k, p) ∷ rest) above last most stayed
+    → get slab p ≡ Some st → m ≤ moment st → Each (Until moment slab until) above last es → Each (Until moment slab (min until m)) above k es
+until-more moment slab es rest above last most stayed until m k p st passes kept w g h u =
+    each-more (Until moment slab (min until m)) above last most k p rest es kept.ordered (head-in last most k p rest es w.rest) w.rest
+    (until-less moment slab above last until (min until m) es (omega arith) u)
+    (λ s e. let q : s ≡ st = cc (e, g) in let x = ap moment q in omega (arith, h, x))
+
+pub numbers-keys : (slab : Slab State) (es : List (ℕ × ℕ)) → AllByRecursion (IsPlaced number_in place_in (record_in slab)) es → state_numbers (states_of (held (record_in slab) es)) ≡ keys_of es
 numbers-keys slab es h = numbers-states (held (record_in slab) es) ∙ numbers-held number_in place_in (record_in slab) es h
 
 split-keys : (above last most : ℕ) (es : List (ℕ × ℕ)) → IsStrictlySortedBy nat_cmp (keys_of es) → above ≤ last → last ≤ most
@@ -269,7 +298,7 @@ pub is-walk : (passes : State → Bool) (slab : Slab State) (es left : List (ℕ
 is-walk passes slab es left above last most share stayed leaver k w s l = record {
   from = w.from;
   to = w.to;
-  stay = stay-states passes slab above last es k.placed w.stay;
+  stay = each-state (λ (s : State). passes s ≡ false) slab above last es k.placed w.stay;
   count = rw numbers length_is;
   passed = rw (numbers, split, length_is) (sym (take-front (filter (between above last) (keys_of es)) (filter (between last most) (keys_of es))));
   rest = rw (numbers, split, length_is) (sym (drop-front (filter (between above last) (keys_of es)) (filter (between last most) (keys_of es))));

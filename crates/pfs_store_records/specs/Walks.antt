@@ -29,6 +29,10 @@ pub record IsWalk (test : State → Bool) (states : List State) (above most shar
   pub within : stayed ≤ share
   pub leaver : IsLeaver test states last most stayed share stopped
 
+-- up to a moment none of the states of these numbers passes
+abbrev pub StayUntil : (State → ℕ) → List State → ℕ → ℕ → ℕ → Type 0
+StayUntil moment states above last until = AllByRecursion (λ (s : State). between above last s.number ≡ true → until ≤ moment s) states
+
 -- the looks of a walk: one for each state that it passed by, and one for that at which it stopped
 abbrev pub looks_of : ℕ → Option State → ℕ
 looks_of stayed None = stayed

@@ -3,9 +3,11 @@
 
 mod nodes;
 mod records;
+mod rounds;
 mod scope_counts;
 mod walks;
 
 pub use nodes::{Nodes, Tally};
 pub use records::Records;
+pub use rounds::Round;
 pub use walks::{StateTest, Walk};

@@ -1,12 +1,14 @@
 //! The source nodes with the counts of their states, found by scope and source, and by number.
 
 ghost use Rattle.std.specs.Prelude.{◌≡◌, ◌<◌, ◌≤◌, ◌++◌, ◌∷◌, [], IfSome, None, OnErr, OnOk, Some, filter, length, map, option_map, slice_get, true};
-ghost use Rattle.std.specs.List.{find, list_any};
+ghost use Rattle.std.specs.List.{AllByRecursion, find, list_any};
 ghost use Rattle.pfs_store_plain.specs.Counts.{scope_nodes};
 ghost use Rattle.pfs_store_plain.specs.Purging.{node_numbers};
+ghost use Rattle.pfs_store_plain.specs.Quiet.{turned};
 ghost use Rattle.pfs_store_records.specs.Records.{IsAbove, between};
 ghost use Rattle.pfs_store_records.specs.Tallies.{IsOrderly, IsTallied, has_node_number, is_tally, nodes_of, other_node, put_tally};
 
+use crate::rounds::{Round, turned};
 use crate::scope_counts::ScopeCounts;
 use indexmap::IndexMap;
 use pfs_addr::{Addr, NoMemory};
@@ -100,6 +102,21 @@ impl<S: BuildHasher> Nodes<S> {
             Some((_, place)) => self.table.get(place).copied(),
             None => None,
         }
+    }
+
+    /// The round after so many slices, while no node comes or goes: each passes by the next numbers of the round, `share` at
+    /// most, or by the first of a new one, up to `made`. It takes no memory.
+    pub fn turned(&self, round: Round, share: u64, made: u64, slices: u64) -> Round
+        requires numbered { AllByRecursion (λ n. (1 ≤ n) × (n ≤ made)) (node_numbers (nodes_of self.now)) }
+        requires order { round.cursor ≤ round.mark }
+        requires mark { round.mark ≤ made }
+        requires share { 1 ≤ share }
+        ensures order { result.cursor ≤ result.mark }
+        ensures mark { result.mark ≤ made }
+        ensures waiting { filter (between result.cursor result.mark) (node_numbers (nodes_of self.now))
+            ≡ turned share (node_numbers (nodes_of self.now)) slices (filter (between round.cursor round.mark) (node_numbers (nodes_of self.now))) }
+    {
+        turned(&self.order, round, share, made, slices)
     }
 
     /// Adds a node, whose number is above all others and whose scope and source no other has, with its counts. `NoMemory`

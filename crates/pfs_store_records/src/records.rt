@@ -1,15 +1,17 @@
 //! The records of states: the one module that reads a record, and ticks the meter for it.
 
 ghost use Rattle.std.specs.Prelude.{◌≡◌, ◌+◌, ◌-◌, ◌<◌, ◌≤◌, ◌^◌, ◌==◌, ◌++◌, ◌∷◌, [], IfOk, OnErr, OnOk, Some, filter, length, map, slice_get, true};
-ghost use Rattle.std.specs.List.{find, list_any};
+ghost use Rattle.std.specs.List.{AllByRecursion, find, list_any};
 ghost use Rattle.slab.specs.Slab.{ContainsKey, get};
 ghost use Rattle.pfs_store_plain.specs.Leaving.{other_than};
 ghost use Rattle.pfs_store_plain.specs.Purging.{state_numbers};
+ghost use Rattle.pfs_store_plain.specs.Quiet.{turned};
 ghost use Rattle.pfs_store_plain.specs.Worlds.{holds_number};
 ghost use Rattle.pfs_store_records.specs.Keeping.{IsKept, held, number_in, place_in, record_in};
-ghost use Rattle.pfs_store_records.specs.Walks.{IsWalk, looks_of};
+ghost use Rattle.pfs_store_records.specs.Walks.{IsWalk, StayUntil, looks_of};
 ghost use Rattle.pfs_store_records.specs.Records.{IsAbove, IsRecordAt, IsRising, between, is_placed, leaves_number, placed_at, put, put_state, stands_at, states_of};
 
+use crate::rounds::{Round, turned};
 use crate::walks::{StateTest, Walk};
 use pfs_addr::{Meter, NoMemory};
 use pfs_store_plain::State;
@@ -110,9 +112,25 @@ impl Records {
         requires range { above ≤ most }
         requires room { meter.old + share < 2 ^ 64 }
         ensures walk { IsWalk (T.passes test.now) (states_of self.now) above most share result.stayed result.last result.leaver }
+        ensures until { StayUntil (T.moment test.now) (states_of self.now) above result.last result.until }
         ensures looks { meter.new ≡ meter.old + looks_of result.stayed result.leaver }
     {
         walk_range(&self.slab, &self.places, above, most, share, test, meter)
+    }
+
+    /// The round after so many slices, while no record comes or goes: each passes by the next numbers of the round, `share` at
+    /// most, or by the first of a new one, up to `made`. It is no look, and takes no memory.
+    pub fn turned(&self, round: Round, share: u64, made: u64, slices: u64) -> Round
+        requires numbered { AllByRecursion (λ n. (1 ≤ n) × (n ≤ made)) (state_numbers (states_of self.now)) }
+        requires order { round.cursor ≤ round.mark }
+        requires mark { round.mark ≤ made }
+        requires share { 1 ≤ share }
+        ensures order { result.cursor ≤ result.mark }
+        ensures mark { result.mark ≤ made }
+        ensures waiting { filter (between result.cursor result.mark) (state_numbers (states_of self.now))
+            ≡ turned share (state_numbers (states_of self.now)) slices (filter (between round.cursor round.mark) (state_numbers (states_of self.now))) }
+    {
+        turned(&self.places, round, share, made, slices)
     }
 
     /// Writes a state into the record of its number, which stands at this place. It is no look, and takes no memory.
@@ -184,26 +202,33 @@ fn walk_range<T: StateTest>(
     requires room { meter.old + share < 2 ^ 64 }
     ensures walk { IsWalk (T.passes test.now) (states_of (held (record_in slab.now) places.now.entries)) above most share
         result.stayed result.last result.leaver }
+    ensures until { StayUntil (T.moment test.now) (states_of (held (record_in slab.now) places.now.entries)) above result.last result.until }
     ensures looks { meter.new ≡ meter.old + looks_of result.stayed result.leaver }
 {
     let mut rest = places.range((Bound::Excluded(above), Bound::Included(most)));
     let mut stayed = 0;
     let mut last = above;
+    let mut until = u64::MAX;
     while stayed < share {
         let Some((number, place)) = rest.next() else {
             return Walk {
                 stayed,
                 last,
+                until,
                 leaver: None,
             };
         };
         let state = look(slab, *place, meter);
-        if test.passes(&state) {
-            return Walk {
-                stayed,
-                last,
-                leaver: Some(state),
-            };
+        match test.until(&state) {
+            Some(moment) => until = until.min(moment),
+            None => {
+                return Walk {
+                    stayed,
+                    last,
+                    until,
+                    leaver: Some(state),
+                };
+            }
         }
         stayed += 1;
         last = *number;
@@ -211,6 +236,7 @@ fn walk_range<T: StateTest>(
     Walk {
         stayed,
         last,
+        until,
         leaver: None,
     }
 }

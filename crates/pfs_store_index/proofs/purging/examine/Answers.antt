@@ -3,9 +3,10 @@ use Rattle.pfs_store_plain.specs.Leaving.{other_than}
 use Rattle.pfs_store_plain.specs.Purging.{state_numbers}
 use Rattle.pfs_store_plain.specs.declared.records.State.{State}
 use Rattle.pfs_store_index.specs.Rounds.{waiting}
-use Rattle.pfs_store_index.specs.Stored.{is_due}
+use Rattle.pfs_store_index.specs.Stored.{due_at, is_due}
 use Rattle.pfs_store_index.proofs.Idling.{idled-same}
 use Rattle.pfs_store_index.proofs.Stretches.{IsStretch, all-passed, stretch-leaves, stretch-stays}
+use Rattle.pfs_store_index.proofs.Untils.{hold-leaves, hold-stays}
 use Rattle.pfs_store_index.proofs.purging.examine.Goals as goal
 
 stretch : (g : _) (c : goal.After-take_out g)
@@ -41,3 +42,16 @@ returns-in-None-clause-ends g c = λ _.
     let k = c.walk_to_due-walk.result in
     all-passed (is_due c.args.indexes.now.config c.args.counts.now c.args.held c.args.now) c.args.round.cursor c.args.round.mark c.args.share k.stayed k.last k.leaver c.args.indexes.now.states
     c.in-None.is c.walk_to_due-walk.ensures.walk
+
+pub returns-in-Some-clause-until : goal.returns-in-Some-clause-until
+returns-in-Some-clause-until g c =
+    let k = c.walk_to_due-walk.result in
+    let xs = c.args.indexes.now.states in
+    hold-leaves (due_at c.args.indexes.now.config c.args.counts.now c.args.held) (is_due c.args.indexes.now.config c.args.counts.now c.args.held c.args.now) c.args.round.cursor c.args.round.mark c.args.share k.stayed k.last k.until k.leaver c.in-Some.state xs c.take_out.new.self.states
+    c.in-Some.is c.walk_to_due-walk.ensures.walk c.walk_to_due-walk.ensures.until (c.take_out.ensures.states ∙ ap (λ (s : State). filter (other_than s.number) xs) c.in-Some.state-is)
+
+pub returns-in-None-clause-until : goal.returns-in-None-clause-until
+returns-in-None-clause-until g c =
+    let k = c.walk_to_due-walk.result in
+    hold-stays (due_at c.args.indexes.now.config c.args.counts.now c.args.held) (is_due c.args.indexes.now.config c.args.counts.now c.args.held c.args.now) c.args.round.cursor c.args.round.mark c.args.share k.stayed k.last k.until k.leaver c.args.indexes.now.states
+    c.walk_to_due-walk.ensures.walk c.walk_to_due-walk.ensures.until

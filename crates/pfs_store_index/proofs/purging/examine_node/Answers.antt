@@ -4,7 +4,14 @@ use Rattle.pfs_store_plain.specs.Purging.{is_over, node_retention}
 use Rattle.pfs_store_index.proofs.Idling.{node_number}
 use Rattle.pfs_store_index.proofs.OneNode.{and_left}
 use Rattle.pfs_store_index.proofs.Walks.{survive-kept, survive-removed}
-use Rattle.std.proofs.Common.{ℕ}
+use Rattle.std.proofs.Common.{ℕ, ◌≤◌, List, subst}
+use Rattle.pfs_conf_rules.specs.Configs.{Conf}
+use Rattle.pfs_store_plain.specs.Counts.{node_states}
+use Rattle.pfs_store_plain.specs.Quiet.{NodeStays}
+use Rattle.pfs_store_plain.specs.declared.records.State.{State}
+use Rattle.pfs_store_plain.specs.declared.records.Node.{Node}
+use Rattle.pfs_store_index.specs.Staying.{NodeHolds}
+use Rattle.pfs_store_index.proofs.Untils.{one-filter, one-found}
 use Rattle.pfs_store_index.proofs.purging.examine_node.Goals as goal
 
 none_of : (n : ℕ) → (n == 0) ≡ true → n ≡ 0
@@ -18,12 +25,34 @@ pub returns-then-is_over-clause-nodes : goal.returns-then-is_over-clause-nodes
 returns-then-is_over-clause-nodes g c =
     let n = c.args.tally.now.node in
     let e : is_over c.args.indexes.now.config c.args.indexes.now.states c.args.now n ≡ true =
-    (λ j. (sym c.requires.states j == 0) && nat_le (n.idle + node_retention (sym c.config.ensures j) n.scope) c.args.now) ∙ sym c.if-is_over.ensures in
+    (λ j. (sym c.requires.states j == 0) && nat_le (n.idle + node_retention (sym c.config-config.ensures j) n.scope) c.args.now) ∙ sym c.if-is_over.ensures in
     c.drop_node.ensures.nodes ∙ survive-removed node_number (is_over c.args.indexes.now.config c.args.indexes.now.states c.args.now) n.number n c.args.indexes.now.nodes c.node_count-count.ensures.rising c.requires.held e
 
 pub returns-else-is_over-clause-nodes : goal.returns-else-is_over-clause-nodes
 returns-else-is_over-clause-nodes g c =
     let n = c.args.tally.now.node in
     let e : is_over c.args.indexes.now.config c.args.indexes.now.states c.args.now n ≡ false =
-    (λ j. (sym c.requires.states j == 0) && nat_le (n.idle + node_retention (sym c.config.ensures j) n.scope) c.args.now) ∙ sym c.if-is_over.ensures in
+    (λ j. (sym c.requires.states j == 0) && nat_le (n.idle + node_retention (sym c.config-config.ensures j) n.scope) c.args.now) ∙ sym c.if-is_over.ensures in
     survive-kept node_number (is_over c.args.indexes.now.config c.args.indexes.now.states c.args.now) n.number n c.args.indexes.now.nodes c.node_count-count.ensures.rising c.requires.held e
+
+stays : (conf k : Conf) (states : List State) (n : Node) (count until : ℕ) → k ≡ conf → count ≡ node_states conf n.scope n.source states
+    → (count ≡ 0 → until ≤ n.idle + node_retention k n.scope) → NodeStays conf states until n
+stays conf k states n count until e c h = λ none. subst (λ (k : Conf). until ≤ n.idle + node_retention k n.scope) e (h (c ∙ none))
+
+pub returns-then-is_over-clause-until : goal.returns-then-is_over-clause-until
+returns-then-is_over-clause-until g c =
+    let n = c.args.tally.now.node in
+    let conf = c.args.indexes.now.config in
+    let xs = c.args.indexes.now.states in
+    let h = one-found node_number (NodeStays conf xs) n.number c.kept_until-until.result n c.args.indexes.now.nodes c.node_count-count.ensures.rising c.requires.held
+    (stays conf c.config-config.result.now xs n c.args.tally.now.states c.kept_until-until.result c.config-config.ensures c.requires.states c.kept_until-until.ensures) in
+    subst (λ (ns : List Node). NodeHolds conf xs n.number c.kept_until-until.result ns) (sym c.drop_node.ensures.nodes)
+    (one-filter node_number (NodeStays conf xs) _ n.number c.kept_until-until.result c.args.indexes.now.nodes h)
+
+pub returns-else-is_over-clause-until : goal.returns-else-is_over-clause-until
+returns-else-is_over-clause-until g c =
+    let n = c.args.tally.now.node in
+    let conf = c.args.indexes.now.config in
+    let xs = c.args.indexes.now.states in
+    one-found node_number (NodeStays conf xs) n.number c.kept_until-until.result n c.args.indexes.now.nodes c.node_count-count.ensures.rising c.requires.held
+    (stays conf c.config-config.result.now xs n c.args.tally.now.states c.kept_until-until.result c.config-config.ensures c.requires.states c.kept_until-until.ensures)

@@ -1,8 +1,13 @@
-use Rattle.std.proofs.Common.{◌≡◌, ◌∙◌, ℕ, List, Some, None, slice_get, option_map, sym, ap, refl, filter, length, take, drop, min, arith, length-take}
+use Rattle.std.proofs.Common.{◌≡◌, ◌∙◌, ℕ, List, Some, None, slice_get, option_map, sym, ap, subst, ◌+◌, refl, filter, length, take, drop, min, arith, length-take}
 use Rattle.std.proofs.lemmas.List.{take_min, drop_min}
 use Rattle.pfs_store_plain.specs.Purging.{is_over, node_numbers, node_stays}
 use Rattle.pfs_store_records.specs.declared.nodes.Tally.{Tally}
+use Rattle.pfs_conf_rules.specs.Configs.{Conf}
+use Rattle.pfs_store_plain.specs.Quiet.{NodeStays}
+use Rattle.pfs_store_plain.specs.declared.records.State.{State}
 use Rattle.pfs_store_index.specs.Rounds.{node_survives, waiting}
+use Rattle.pfs_store_index.specs.Staying.{NodeHolds, NodesHold}
+use Rattle.pfs_store_index.proofs.Untils.{hold-none, node-more}
 use Rattle.pfs_store_index.proofs.Idling.{node_number}
 use Rattle.pfs_store_index.proofs.Walks.{all-examined, all-in, all-next, at_next, stays-none, step-stays}
 use Rattle.pfs_store_index.proofs.purging.walk_nodes.Goals as goal
@@ -17,6 +22,7 @@ loop-examined-init g c = record {
   share = omega arith;
   within = omega arith;
   nodes = stays-none node_number (is_over c.args.indexes.now.config c.args.indexes.now.states c.args.now) c.args.indexes.now.nodes;
+  until = hold-none node_number (NodeStays c.args.indexes.now.config c.args.indexes.now.states) _ c.args.indexes.now.nodes;
   rest = refl;
 }
 
@@ -41,6 +47,9 @@ loop-examined-preserved g c =
       share = omega (arith, c.loop-examined-test.true);
       within = omega (arith, x.within);
       nodes = step-stays node_number leaves n c.loop-examined.examined ws c.args.indexes.now.nodes c.loop-examined.indexes.nodes c.examine_node.new.indexes.nodes i.nodes e x.taken;
+      until = node-more conf xs n c.loop-examined.until c.examine_node.result c.min-until.result (take c.loop-examined.examined ws) (take (c.loop-examined.examined + 1) ws) _ c.loop-examined.indexes.nodes c.examine_node.new.indexes.nodes e x.taken c.min-until.ensures i.until
+          (subst (λ (ys : List State). NodeHolds conf ys n c.examine_node.result c.examine_node.new.indexes.nodes) i.kept
+          (subst (λ (k : Conf). NodeHolds k c.loop-examined.indexes.states n c.examine_node.result c.examine_node.new.indexes.nodes) i.config c.examine_node.ensures.until));
       rest = ap (λ ys. waiting n c.args.round.mark (node_numbers ys)) e ∙ all-next node_number leaves c.loop-examined.cursor c.args.round.mark n _ c.loop-examined.indexes.nodes c.examine_node.ensures.rising x.first;
     }
 
@@ -74,3 +83,10 @@ returns-clause-waiting g c =
     let i = c.loop-examined.invariant in
     let ws = waiting c.args.round.cursor c.args.round.mark (node_numbers c.args.indexes.now.nodes) in
     i.rest ∙ ap (λ k. drop k ws) (examined-min c.loop-examined.examined c.args.share ws (returns-clause-examined g c)) ∙ drop_min c.args.share ws
+
+pub returns-clause-until : goal.returns-clause-until
+returns-clause-until g c =
+    let i = c.loop-examined.invariant in
+    let ws = waiting c.args.round.cursor c.args.round.mark (node_numbers c.args.indexes.now.nodes) in
+    let m = examined-min c.loop-examined.examined c.args.share ws (returns-clause-examined g c) in
+    subst (λ ns. NodesHold c.args.indexes.now.config c.args.indexes.now.states ns c.loop-examined.until c.loop-examined.indexes.nodes) (ap (λ k. take k ws) m ∙ take_min c.args.share ws) i.until

@@ -1,6 +1,7 @@
 use Rattle.std.proofs.Common.{◌≡◌, ◌-◌, ◌≤◌, length, filter, take, drop}
 use Rattle.pfs_store_plain.specs.Purging.{is_over, node_numbers}
 use Rattle.pfs_store_index.specs.Rounds.{waiting}
+use Rattle.pfs_store_index.specs.Staying.{NodesHold}
 use Rattle.pfs_store_index.proofs.Idling.{node_number}
 use Rattle.pfs_store_index.proofs.Walks.{stays_by}
 use Rattle.pfs_store_index.proofs.purging.walk_nodes.Given as goal
@@ -16,6 +17,7 @@ invariant-loop-examined g l = record {
   within : l.examined ≤ length (waiting l.round.cursor l.round.mark (node_numbers l.fn.indexes.nodes));
   nodes : l.indexes.nodes
       ≡ filter (stays_by node_number (is_over l.fn.indexes.config l.fn.indexes.states l.now) (take l.examined (waiting l.round.cursor l.round.mark (node_numbers l.fn.indexes.nodes)))) l.fn.indexes.nodes;
+  until : NodesHold l.fn.indexes.config l.fn.indexes.states (take l.examined (waiting l.round.cursor l.round.mark (node_numbers l.fn.indexes.nodes))) l.until l.indexes.nodes;
   rest : waiting l.cursor l.round.mark (node_numbers l.indexes.nodes) ≡ drop l.examined (waiting l.round.cursor l.round.mark (node_numbers l.fn.indexes.nodes));
 }
 

@@ -1,15 +1,22 @@
-use Rattle.std.proofs.Common.{◌≡◌, ◌∙◌, ◌-◌, ℕ, List, ap, refl, filter, length, take, drop, min, map, arith, length-take, length-drop}
+use Rattle.std.proofs.Common.{◌≡◌, ◌∙◌, ◌-◌, ℕ, List, ap, refl, subst, ◌≤◌, filter, length, take, drop, min, map, arith, length-take, length-drop}
 use Rattle.std.proofs.lemmas.List.{take_min, drop_min}
 use Rattle.pfs_store_plain.specs.Leaving.{idled}
 use Rattle.pfs_store_plain.specs.Purging.{state_numbers}
 use Rattle.pfs_store_index.specs.Rounds.{states_survive, waiting}
-use Rattle.pfs_store_index.specs.Stored.{is_due}
+use Rattle.pfs_store_index.specs.Stored.{due_at, is_due}
+use Rattle.pfs_store_index.specs.Staying.{StatesHold}
+use Rattle.pfs_conf_rules.specs.Configs.{Conf}
+use Rattle.pfs_store_plain.specs.declared.records.State.{State}
 use Rattle.pfs_store_index.proofs.Idling.{idled-same, step-nodes}
 use Rattle.pfs_store_index.proofs.Leavings.{state_number}
-use Rattle.pfs_store_index.proofs.Storing.{due-stays}
+use Rattle.pfs_store_index.proofs.Storing.{due-hold, due-stays}
+use Rattle.pfs_store_index.proofs.Untils.{hold-more, hold-none}
 use Rattle.pfs_store_index.proofs.Stretches.{all-more, rest-more, stretch-more}
 use Rattle.pfs_store_index.proofs.Walks.{stays-none, stays_by}
 use Rattle.pfs_store_index.proofs.purging.walk_states.Goals as goal
+
+abbrev IsStaying : Conf → List ℕ → ℕ → ℕ → State → Type 0
+IsStaying conf counts held until s = until ≤ due_at conf counts held s
 
 pub loop-left-init : goal.loop-left-init
 loop-left-init g c =
@@ -25,6 +32,7 @@ loop-left-init g c =
       states = stays-none state_number (is_due c.args.indexes.now.config c.args.counts.now (length c.args.indexes.now.states) c.args.now) c.args.indexes.now.states;
       nodes = idled-same c.args.indexes.now.config c.args.indexes.now.states c.args.now c.args.indexes.now.nodes;
       rest = refl;
+      until = hold-none state_number (IsStaying c.args.indexes.now.config c.args.counts.now (length c.args.indexes.now.states)) _ c.args.indexes.now.states;
       looks = omega arith;
     }
 
@@ -56,6 +64,10 @@ loop-left-preserved g c =
       states = stretch-more leaves c.loop-left.examined more.examined ws zs c.args.indexes.now.states c.loop-left.indexes.states xs' i.states i.rest e;
       nodes = step-nodes conf (stays_by state_number leaves (take c.loop-left.examined ws)) (states_survive leaves (take more.examined zs)) c.args.now c.args.indexes.now.states c.loop-left.indexes.states xs' c.args.indexes.now.nodes c.loop-left.indexes.nodes _ i.states e i.nodes m;
       rest = rest-more c.loop-left.examined more.examined ws zs (waiting more.cursor c.args.round.mark (state_numbers xs')) i.rest f.waiting;
+      until =
+          let k = subst (λ (k : Conf). StatesHold (due_at k c.args.counts.now c.state_count-held.result) (take more.examined zs) more.until xs') i.config f.until in
+          hold-more (due_at conf c.args.counts.now held) c.loop-left.examined more.examined c.loop-left.until more.until c.min-until.result ws zs _ c.loop-left.indexes.states xs' i.rest e c.min-until.ensures i.until
+          (subst (λ n. StatesHold (due_at conf c.args.counts.now n) (take more.examined zs) more.until xs') i.held k);
       looks = omega (arith, f.looks, i.looks);
     }
 
@@ -79,3 +91,14 @@ returns-clause-waiting g c =
     let i = c.loop-left.invariant in
     let ws = waiting c.args.round.cursor c.args.round.mark (state_numbers c.args.indexes.now.states) in
     i.rest ∙ ap (λ k. drop k ws) (examined-min c.loop-left.examined c.args.share ws (i.ends (omega (arith, c.loop-left-test.false)))) ∙ drop_min c.args.share ws
+
+pub returns-clause-until : goal.returns-clause-until
+returns-clause-until g c =
+    let i = c.loop-left.invariant in
+    let ws = waiting c.args.round.cursor c.args.round.mark (state_numbers c.args.indexes.now.states) in
+    let conf = c.args.indexes.now.config in
+    let xs = c.args.indexes.now.states in
+    let m = examined-min c.loop-left.examined c.args.share ws (i.ends (omega (arith, c.loop-left-test.false))) in
+    let z : take c.loop-left.examined ws ≡ take c.args.share ws = ap (λ k. take k ws) m ∙ take_min c.args.share ws in
+    due-hold conf c.args.counts.now xs (take c.args.share ws) c.loop-left.until c.loop-left.indexes.states c.requires.counts c.requires.unread
+    (subst (λ ns. StatesHold (due_at conf c.args.counts.now (length xs)) ns c.loop-left.until c.loop-left.indexes.states) z i.until)

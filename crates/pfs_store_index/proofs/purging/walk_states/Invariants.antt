@@ -2,7 +2,8 @@ use Rattle.std.proofs.Common.{◌≡◌, ◌+◌, ◌≤◌, ◌<◌, length, fi
 use Rattle.pfs_store_plain.specs.Leaving.{idled}
 use Rattle.pfs_store_plain.specs.Purging.{state_numbers}
 use Rattle.pfs_store_index.specs.Rounds.{waiting}
-use Rattle.pfs_store_index.specs.Stored.{is_due}
+use Rattle.pfs_store_index.specs.Stored.{due_at, is_due}
+use Rattle.pfs_store_index.specs.Staying.{StatesHold}
 use Rattle.pfs_store_index.proofs.Leavings.{state_number}
 use Rattle.pfs_store_index.proofs.Walks.{stays_by}
 use Rattle.pfs_store_index.proofs.purging.walk_states.Given as goal
@@ -21,6 +22,7 @@ invariant-loop-left g l = record {
       ≡ filter (stays_by state_number (is_due l.fn.indexes.config l.counts (length l.fn.indexes.states) l.now) (take l.examined (waiting l.round.cursor l.round.mark (state_numbers l.fn.indexes.states)))) l.fn.indexes.states;
   nodes : l.indexes.nodes ≡ map (idled l.fn.indexes.config l.fn.indexes.states l.indexes.states l.now) l.fn.indexes.nodes;
   rest : waiting l.cursor l.round.mark (state_numbers l.indexes.states) ≡ drop l.examined (waiting l.round.cursor l.round.mark (state_numbers l.fn.indexes.states));
+  until : StatesHold (due_at l.fn.indexes.config l.counts (length l.fn.indexes.states)) (take l.examined (waiting l.round.cursor l.round.mark (state_numbers l.fn.indexes.states))) l.until l.indexes.states;
   looks : l.meter ≡ l.fn.meter + l.examined;
 }
 

@@ -1,12 +1,13 @@
-use Rattle.std.proofs.Common.{◌∙◌, None, Some, arith, sym}
+use Rattle.std.proofs.Common.{◌∙◌, None, Some, arith, refl, subst, sym}
 use Rattle.pfs_store_records.specs.Keeping.{held, record_in}
 use Rattle.pfs_store_records.specs.Records.{states_of}
-use Rattle.pfs_store_records.proofs.Walking.{Stays, is-walk, next-leaves, next-there, none-leaves, one-stays, share-used, walking-init, walking-step}
+use Rattle.pfs_store_records.proofs.Walking.{Each, Stays, Until, each-empty, is-walk, next-leaves, next-there, none-leaves, one-stays, share-used, until-more, until-states, walking-init, walking-step}
 use Rattle.pfs_store_records.proofs.records.walk_range.Goals as goal
 
 pub loop-stayed-init : goal.loop-stayed-init
 loop-stayed-init g c = record {
   walking = walking-init (Stays (g.T.StateTest.passes c.args.test.now) c.args.slab.now) c.args.places.now.entries c.range-rest.result c.args.above c.args.most c.requires.range (c.range-rest.ensures.between tt);
+  until = each-empty (Until (g.T.StateTest.moment c.args.test.now) c.args.slab.now _) c.args.above c.args.places.now.entries;
   share = omega arith;
   looks = omega arith;
 }
@@ -24,13 +25,13 @@ look-state-requires-clause-held g c =
     next-there c.args.slab.now c.args.places.now.entries _ c.loop-stayed.last c.args.most c.in-Some.number.now c.in-Some.place.now c.requires.kept
     (sym c.in-Some.ensures.steps ∙ c.loop-stayed.invariant.walking.rest)
 
-pub returns-then-passes-clause-walk : goal.returns-then-passes-clause-walk
-returns-then-passes-clause-walk g c =
+pub returns-in-None-clause-walk : goal.returns-in-None-clause-walk
+returns-in-None-clause-walk g c =
     let w = c.loop-stayed.invariant.walking in
     is-walk (g.T.StateTest.passes c.args.test.now) c.args.slab.now c.args.places.now.entries c.loop-stayed.rest c.args.above c.loop-stayed.last c.args.most c.args.share c.loop-stayed.stayed (Some c.look-state.result)
     c.requires.kept w c.loop-stayed.invariant.share
     (next-leaves (g.T.StateTest.passes c.args.test.now) c.args.slab.now c.args.places.now.entries _ c.loop-stayed.last c.args.most c.args.share c.loop-stayed.stayed c.in-Some.number.now c.in-Some.place.now c.look-state.result
-    c.requires.kept (sym c.in-Some.ensures.steps ∙ w.rest) c.look-state.ensures.value (sym c.passes.ensures ∙ c.if-passes.true) (omega arith))
+    c.requires.kept (sym c.in-Some.ensures.steps ∙ w.rest) c.look-state.ensures.value (c.until.ensures.none c.in-None.is) (omega arith))
 
 pub loop-stayed-preserved : goal.loop-stayed-preserved
 loop-stayed-preserved g c =
@@ -38,7 +39,10 @@ loop-stayed-preserved g c =
     record {
       walking = walking-step (Stays (g.T.StateTest.passes c.args.test.now) c.args.slab.now) c.args.places.now.entries c.next.new.self c.args.above c.loop-stayed.last c.args.most c.loop-stayed.stayed c.in-Some.number.now c.in-Some.place.now
           c.requires.kept.ordered w
-          (one-stays (g.T.StateTest.passes c.args.test.now) c.args.slab.now c.in-Some.number.now c.in-Some.place.now c.look-state.result c.look-state.ensures.value (sym c.passes.ensures ∙ c.if-passes.false));
+          (one-stays (g.T.StateTest.passes c.args.test.now) c.args.slab.now c.in-Some.number.now c.in-Some.place.now c.look-state.result c.look-state.ensures.value c.in-Some-until.ensures.some);
+      until = subst (λ n. Each (Until (g.T.StateTest.moment c.args.test.now) c.args.slab.now n) c.args.above c.in-Some.number.now c.args.places.now.entries) (sym c.min-until.ensures)
+          (until-more (g.T.StateTest.moment c.args.test.now) c.args.slab.now c.args.places.now.entries c.next.new.self c.args.above c.loop-stayed.last c.args.most c.loop-stayed.stayed c.loop-stayed.until c.in-Some-until.moment c.in-Some.number.now c.in-Some.place.now c.look-state.result
+          (g.T.StateTest.passes c.args.test.now) c.requires.kept w c.look-state.ensures.value c.in-Some-until.ensures.until c.loop-stayed.invariant.until);
       share = omega arith;
       looks = omega arith;
     }
@@ -48,3 +52,15 @@ returns-clause-walk g c =
     is-walk (g.T.StateTest.passes c.args.test.now) c.args.slab.now c.args.places.now.entries c.loop-stayed.rest c.args.above c.loop-stayed.last c.args.most c.args.share c.loop-stayed.stayed None
     c.requires.kept c.loop-stayed.invariant.walking c.loop-stayed.invariant.share
     (share-used (g.T.StateTest.passes c.args.test.now) (states_of (held (record_in c.args.slab.now) c.args.places.now.entries)) c.loop-stayed.last c.args.most c.args.share c.loop-stayed.stayed (omega arith))
+
+pub returns-in_default-clause-until : goal.returns-in_default-clause-until
+returns-in_default-clause-until g c =
+    until-states (g.T.StateTest.moment c.args.test.now) c.args.slab.now c.args.above c.loop-stayed.last c.loop-stayed.until c.args.places.now.entries c.requires.kept c.loop-stayed.invariant.until
+
+pub returns-in-None-clause-until : goal.returns-in-None-clause-until
+returns-in-None-clause-until g c =
+    until-states (g.T.StateTest.moment c.args.test.now) c.args.slab.now c.args.above c.loop-stayed.last c.loop-stayed.until c.args.places.now.entries c.requires.kept c.loop-stayed.invariant.until
+
+pub returns-clause-until : goal.returns-clause-until
+returns-clause-until g c =
+    until-states (g.T.StateTest.moment c.args.test.now) c.args.slab.now c.args.above c.loop-stayed.last c.loop-stayed.until c.args.places.now.entries c.requires.kept c.loop-stayed.invariant.until

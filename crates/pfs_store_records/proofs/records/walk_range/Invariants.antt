@@ -1,10 +1,11 @@
 use Rattle.std.proofs.Common.{◌≡◌, ◌≤◌, ◌+◌, ◌-◌}
-use Rattle.pfs_store_records.proofs.Walking.{Stays, Walking}
+use Rattle.pfs_store_records.proofs.Walking.{Each, Stays, Until, Walking}
 use Rattle.pfs_store_records.proofs.records.walk_range.Given as goal
 
 abbrev pub invariant-loop-stayed : goal.invariant-loop-stayed
 invariant-loop-stayed g l = record {
   walking : Walking (Stays (g.T.StateTest.passes l.test) l.slab) l.places.entries l.rest l.above l.last l.most l.stayed;
+  until : Each (Until (g.T.StateTest.moment l.test) l.slab l.until) l.above l.last l.places.entries;
   share : l.stayed ≤ l.share;
   looks : l.meter ≡ l.fn.meter + l.stayed;
 }

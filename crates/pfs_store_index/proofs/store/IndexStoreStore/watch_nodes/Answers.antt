@@ -4,7 +4,7 @@ use Rattle.pfs_store_plain.specs.Plain.{Plain}
 use Rattle.pfs_store_plain.specs.Purging.{node_numbers, node_share, node_slice, node_slice_of}
 use Rattle.pfs_store_index.proofs.Storing.{stored-nodes, world-node_slice}
 use Rattle.pfs_store_index.specs.Rounds.{waiting}
-use Rattle.pfs_store_index.proofs.store.IndexStoreStore.purge_nodes.Goals as goal
+use Rattle.pfs_store_index.proofs.store.IndexStoreStore.watch_nodes.Goals as goal
 
 pub invariant_of-self : goal.invariant_of-self
 invariant_of-self g c =

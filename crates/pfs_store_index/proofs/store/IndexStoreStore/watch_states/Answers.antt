@@ -7,7 +7,7 @@ use Rattle.pfs_store_plain.specs.Purging.{state_numbers, state_share, state_slic
 use Rattle.pfs_store_index.proofs.Leavings.{state_number}
 use Rattle.pfs_store_index.proofs.Storing.{few-numbered, stored-without, world-slice}
 use Rattle.pfs_store_index.proofs.Walks.{all-fewer}
-use Rattle.pfs_store_index.proofs.store.IndexStoreStore.purge_states.Goals as goal
+use Rattle.pfs_store_index.proofs.store.IndexStoreStore.watch_states.Goals as goal
 
 -- the first are no more than all
 length-take_le : (n : ℕ) (ns : List ℕ) → length (take n ns) ≤ length ns

@@ -1,0 +1,13 @@
+use Rattle.std.proofs.Common.{◌<◌, ℕ, arith}
+use Rattle.pfs_engine.proofs.Watching.{none-watched, way-passed}
+use Rattle.pfs_engine.proofs.purges.pass_over.Goals as goal
+
+pub returns-clause-way : goal.returns-clause-way
+returns-clause-way g c =
+    let some : 0 < c.quiet_seconds-seconds.result = omega (arith, c.if-seconds-eq0.false) in
+    way-passed (g.S.Store.config c.args.store.now) c.args.to (g.S.Store.world c.args.store.now) (g.S.Store.world c.pass_over-passed.new.self) c.args.at c.none.result c.none-2.result c.pass_over-passed.result c.quiet_seconds-seconds.result
+    c.pass_over-passed.ensures.world c.requires.watched c.pass_over-passed.ensures.most c.quiet_seconds-seconds.ensures.order (c.quiet_seconds-seconds.ensures.states some) (c.quiet_seconds-seconds.ensures.nodes some)
+
+pub returns-clause-watched : goal.returns-clause-watched
+returns-clause-watched g c =
+    none-watched (g.S.Store.config c.args.store.now) (g.S.Store.world c.pass_over-passed.new.self) _ c.args.at.work c.none.result c.none-2.result c.none.ensures c.none-2.ensures

@@ -1,0 +1,32 @@
+use Rattle.std.proofs.Common.{◌≡◌, ◌∙◌, ◌+◌, ap, max, sym, arith}
+use Rattle.pfs_engine_machine.proofs.Purging.{nodes_seen, purge_made, states_seen}
+use Rattle.pfs_engine.specs.declared.works.Work.{Work}
+use Rattle.pfs_engine.proofs.Watching.{second-watched, second-way}
+use Rattle.pfs_engine.proofs.purges.purge_second.Goals as goal
+
+pub returns-clause-way : goal.returns-clause-way
+returns-clause-way g c =
+    let conf = g.S.Store.config in
+    let held = g.S.Store.world in
+    let first = c.args.store.now in
+    let w = held first in
+    let states = c.watch_states-states in
+    let nodes = c.watch_nodes-nodes in
+    let second = c.args.at.second + 1 in
+    let made = purge_made (conf first) (conf first) (conf states.new.self) w (held states.new.self) (held nodes.new.self) second (λ i. conf first) states.ensures.config states.ensures.world nodes.ensures.world in
+    let states_are = states_seen (conf first) (conf first) w second states.result.slice (λ i. conf first) states.ensures.answer in
+    let nodes_are = nodes_seen (conf first) (conf first) (conf states.new.self) w (held states.new.self) second nodes.result.slice (λ i. conf first) states.ensures.config states.ensures.world nodes.ensures.answer in
+    second-way (conf first) c.args.to w (held nodes.new.self) c.args.at _ states.result.slice.examined nodes.result.slice.examined c.requires.order made states_are nodes_are c.second_after.ensures
+    (ap (λ (x : Work). x.most_states) c.greater.ensures) (ap (λ (x : Work). x.most_nodes) c.greater.ensures)
+
+pub returns-clause-watched : goal.returns-clause-watched
+returns-clause-watched g c =
+    let conf = g.S.Store.config in
+    let held = g.S.Store.world in
+    let first = c.args.store.now in
+    let states = c.watch_states-states in
+    let nodes = c.watch_nodes-nodes in
+    second-watched (conf first) (conf states.new.self) (held first) (held states.new.self) (held nodes.new.self) c.args.at (c.args.at.second + 1) c.second_after.result c.greater.result states.result nodes.result c.has_left-left.result c.after.result c.after-2.result
+    states.ensures.config states.ensures.world states.ensures.answer states.ensures.until states.ensures.over
+    nodes.ensures.world nodes.ensures.answer nodes.ensures.until nodes.ensures.over c.has_left-left.ensures c.after.ensures c.after-2.ensures
+    (ap (λ (x : Work). x.most_states) c.greater.ensures) (ap (λ (x : Work). x.most_nodes) c.greater.ensures) c.requires.watched

@@ -1,0 +1,23 @@
+use Rattle.std.proofs.Common.{◌≡◌, ◌≤◌, ◌∙◌, ℕ, List, ap, filter, subst, sym}
+use Rattle.std.specs.List.{AllByRecursion}
+use Rattle.std.specs.Map.{keys_of}
+use Rattle.pfs_store_plain.specs.Purging.{state_numbers}
+use Rattle.pfs_store_plain.specs.Quiet.{turned}
+use Rattle.pfs_store_records.specs.Records.{Placed, between, states_of}
+use Rattle.pfs_store_records.proofs.Walking.{numbers-keys}
+use Rattle.pfs_store_records.proofs.records.Records.turned.Goals as goal
+
+-- the numbers of the records are those of the map
+numbers : (c : goal.After-self) → state_numbers (states_of c.args.self.now) ≡ keys_of c.self.inside.places.entries
+numbers c =
+    ap (λ (ps : List Placed). state_numbers (states_of ps)) (sym c.self.view_is)
+    ∙ numbers-keys c.self.inside.slab c.self.inside.places.entries c.self.invariant.placed
+
+pub turned-requires-clause-numbered : goal.turned-requires-clause-numbered
+turned-requires-clause-numbered c = subst (AllByRecursion (λ n. (1 ≤ n) × (n ≤ c.args.made))) (numbers c) c.requires.numbered
+
+pub returns-clause-waiting : goal.returns-clause-waiting
+returns-clause-waiting c =
+    let e = numbers c.before in
+    ap (filter (between c.turned.result.cursor c.turned.result.mark)) e ∙ c.turned.ensures.waiting
+    ∙ (λ i. turned c.args.share (sym e i) c.args.slices (filter (between c.args.round.cursor c.args.round.mark) (sym e i)))

@@ -1,0 +1,12 @@
+use Rattle.std.proofs.Common.{◌≡◌, ◌≤◌, ◌-◌}
+use Rattle.pfs_store_records.proofs.Turning.{Passing}
+use Rattle.pfs_store_records.proofs.rounds.passed.Given as goal
+
+abbrev pub invariant-loop-passed : goal.invariant-loop-passed
+invariant-loop-passed g l = record {
+  passing : Passing l.places.entries l.rest l.above l.last l.most l.passed;
+  share : l.passed ≤ l.share;
+}
+
+abbrev pub decreases-loop-passed : goal.decreases-loop-passed
+decreases-loop-passed g l = l.share - l.passed
