@@ -37,7 +37,7 @@ abbrev pub begins_with_letter : List ℕ → Bool
 begins_with_letter [] = false
 begins_with_letter (b ∷ bs) = is_letter b
 
--- a word that begins with a letter or has a `:`, as a host's name, a service and an IPv6 address
+-- a word that begins with a letter or has a `:`, as a host's name, a service and an IPv6 address with a zone
 abbrev pub is_named_value : Tok → Bool
 is_named_value t = is_word_key t.key && (begins_with_letter t.text || has_byte 58 t.text)
 

@@ -113,7 +113,8 @@ fn is_equals(key: Key) -> bool
     }
 }
 
-// A word that begins with a letter or has a colon: the name of a host or of a service, or an IPv6 address.
+// A word that begins with a letter or has a colon: the name of a host or of a service, or an IPv6 address with a
+// zone or a dotted tail.
 fn is_named_value(cursor: &Cursor) -> bool
     ensures { result ≡ is_named_value (head cursor.now) }
 {
