@@ -1,6 +1,6 @@
 // Addresses, their texts, and the bits that prefixes compare.
 
-ghost use Rattle.std.specs.Prelude.{◌≡◌, ◌≤◌, ◌<◌, ◌+◌, ◌++◌, [], ◌∷◌, ℕ, Some, IfSome, MatchOption, OnOk, true, false, OnErr, decimal, flat_map, length, vec_len, ◌*◌};
+ghost use Rattle.std.specs.Prelude.{◌≡◌, ◌≤◌, ◌<◌, ◌+◌, ◌++◌, [], ◌∷◌, ℕ, Some, IfSome, MatchOption, OnOk, true, false, OnErr, decimal, flat_map, length, nat_lt, vec_len, ◌*◌};
 ghost use Rattle.std.specs.Vec.{vec_capacity};
 ghost use Rattle.std.specs.Char.{digit_char};
 ghost use Rattle.std.specs.Net.Text.{groups_text, hex, hex_groups_text, longest_zero_run};
@@ -240,11 +240,18 @@ fn push_short(out: &mut Vec<u8>, groups: [u16; 8]) -> Result<(), NoMemory>
     ensures refused { OnErr result (vec_capacity out.old < vec_len out.old + length (hex_groups_text groups)) }
 {
     let (start, len) = longest_zeros(&groups);
-    if len < 2 {
-        push_all(out, &groups)
-    } else {
+    if is_left_out(len) {
         push_around(out, &groups[..start], &groups[start + len..])
+    } else {
+        push_all(out, &groups)
     }
+}
+
+// Whether a run of so many groups of zeros is left out; one group never is. (RFC 5952, section 4.2.2)
+fn is_left_out(len: usize) -> bool
+    ensures { result ≡ nat_lt 1 len }
+{
+    len > 1
 }
 
 fn push_all(out: &mut Vec<u8>, groups: &[u16]) -> Result<(), NoMemory>
