@@ -1,9 +1,13 @@
 pub mod AddrLaws
+mod ByteLaws
+pub mod GroupLaws
+mod HexLaws
 mod Laying
 pub mod NumberLaws
 pub mod OctetLaws
 pub mod PrefixLaws
 pub mod SameLaws
 pub mod TextLaws
+mod WideLaws
 pub mod PieceLaws
 mod QuadLaws

@@ -1,18 +1,22 @@
 -- The address of a text is the one whose text it is; the same of prefixes.
 use Rattle.std.proofs.Common.{if◌then◌else◌, ℕ, List, [], ◌∷◌, ◌++◌, ◌≡◌, ◌≤◌, ◌<◌, ◌^◌, inl, inr, Bool, true, false, not, ◌&&◌, nat_le, nat_lt, nat_eq, Option, Some, None, length, get_or, decimal, refl, sym, ap, ◌∙◌, arith, rules, subst}
-use Rattle.std.specs.List.{list_all, slice_split, onto_first, join_with_byte}
-use Rattle.std.proofs.lemmas.Bool.{and_from, and_parts, cond-true, cond-false}
+use Rattle.std.specs.List.{list_all, list_any, slice_split, onto_first, join_with_byte}
+use Rattle.std.proofs.lemmas.Bool.{and_from, and_parts, or_from, cond-true, cond-false, true≢false}
 use Rattle.std.proofs.lemmas.Bool.Decides.{nat_tests}
 use Rattle.std.proofs.lemmas.List.Splits.{join_with_byte-slice_split}
 use Rattle.pfs_addr.proofs.NumberLaws.{decimal_digits, decimal_of_number, decimal_bare, number_of-decimal}
+use Rattle.pfs_addr.proofs.ByteLaws.{is_addr_byte, dotted_bytes}
+use Rattle.pfs_addr.proofs.GroupLaws.{colon_hex_colon, groups_of-text, groups_of_parts, groups_slashless, short_text}
+use Rattle.std.proofs.lemmas.Option.{same_Some}
+use Rattle.std.specs.Net.Addr.{segments_of}
 use Rattle.pfs_addr.specs.Numbers.{is_digit, number_of}
 use Rattle.std.specs.Prelude.{All, IfSome}
 use Rattle.std.proofs.lemmas.List.Elements.{All-get_or}
-use Rattle.pfs_addr.specs.Addresses.{IsAddr, addr_text, dotted, width_of}
+use Rattle.pfs_addr.specs.Addresses.{IsAddr, IsAddrText, addr_text, dotted, width_of}
 use Rattle.pfs_addr.specs.declared.addresses.Addr.{Addr}
-use Rattle.pfs_addr.specs.declared.addresses.Addr.TheVariants.{V4}
+use Rattle.pfs_addr.specs.declared.addresses.Addr.TheVariants.{V4, V6}
 use Rattle.pfs_addr.specs.Prefixes.{Network, network_of, PrefixText}
-use Rattle.pfs_addr.specs.Texts.{up_to, bare_number, four_bytes, quad, addr_of, with_length, alone, cut_at, slashed, prefix_of}
+use Rattle.pfs_addr.specs.Texts.{up_to, bare_number, four_bytes, quad, quad_of, groups_of, addr_of, with_length, alone, cut_at, slashed, prefix_of}
 
 -- every byte of a piece is another one
 abbrev pub lacks : ℕ → List ℕ → Bool
@@ -69,10 +73,10 @@ byte_read n h = bare_number-decimal 255 n (omega arith) (omega arith)
 byte_lacks : (n : ℕ) → n < 256 → lacks 46 (decimal n) ≡ true
 byte_lacks n h = decimal_lacks 46 n (omega arith) (omega arith)
 
--- the text of an address is read as that address
-pub addr_of-text : (a : Addr) → IsAddr a → addr_of (addr_text a) ≡ Some a
-unfolding addr_of
-addr_of-text (V4 (a ∷ b ∷ c ∷ d ∷ [])) h =
+-- the text of an IPv4 address is read as that address
+dotted_read : (bytes : List ℕ) → IsAddr (V4 bytes) → quad_of (dotted bytes) ≡ Some (V4 bytes)
+unfolding quad_of
+dotted_read (a ∷ b ∷ c ∷ d ∷ []) h =
     let at : (i : ℕ) → i < 4 → get_or (a ∷ b ∷ c ∷ d ∷ []) i 0 < 256 = λ i lt. All-get_or (λ b. b < 256) (a ∷ b ∷ c ∷ d ∷ []) i 0 lt h.1 in
     let pieces : slice_split (λ x. nat_eq x 46) (dotted (a ∷ b ∷ c ∷ d ∷ [])) ≡ decimal a ∷ decimal b ∷ decimal c ∷ decimal d ∷ [] =
     split_more 46 (decimal a) _ (byte_lacks a (at 0 (omega arith)))
@@ -84,7 +88,10 @@ addr_of-text (V4 (a ∷ b ∷ c ∷ d ∷ [])) h =
     ∙ (ap (λ o. four_bytes (Some a) o (bare_number 255 (decimal c)) (bare_number 255 (decimal d))) (byte_read b (at 1 (omega arith)))
     ∙ (ap (λ o. four_bytes (Some a) (Some b) o (bare_number 255 (decimal d))) (byte_read c (at 2 (omega arith)))
     ∙ ap (λ o. four_bytes (Some a) (Some b) (Some c) o) (byte_read d (at 3 (omega arith))))))
-addr_of-text (V4 _) h = absurd (omega arith)
+dotted_read _ h = absurd (omega arith)
+
+pub quad_of-text : (text bytes : List ℕ) → IsAddr (V4 bytes) → text ≡ dotted bytes → quad_of text ≡ Some (V4 bytes)
+quad_of-text text bytes h e = ap quad_of e ∙ dotted_read bytes h
 
 -- what is read without a zero in front is the decimal text of its number
 pub record IsBare (most : ℕ) (text : List ℕ) (n : ℕ) : Type 0 where
@@ -160,16 +167,88 @@ quad_parts a b c d x h = go (bare_number 255 a) refl (bare_number 255 b) refl (b
               ∙ ap (λ t. join_with_byte 46 (decimal k ∷ decimal l ∷ decimal m ∷ t ∷ [])) nd.spelled));
         }
 
--- an address that is read is one, and the text is its text
-pub addr_of_parts : (text : List ℕ) (a : Addr) → addr_of text ≡ Some a → IsAddr a × (text ≡ addr_text a)
-unfolding addr_of
-addr_of_parts text a h = go (slice_split (λ x. nat_eq x 46) text) (join_with_byte-slice_split 46 text) h
+-- an IPv4 address that is read is one, and the text is its text
+pub quad_of_parts : (text : List ℕ) (a : Addr) → quad_of text ≡ Some a → (bytes : List ℕ) × (a ≡ V4 bytes) × IsAddr (V4 bytes) × (text ≡ dotted bytes)
+unfolding quad_of
+quad_of_parts text a h = go (slice_split (λ x. nat_eq x 46) text) (join_with_byte-slice_split 46 text) h
   where
-    go : (pieces : List (List ℕ)) → join_with_byte 46 pieces ≡ text → quad pieces ≡ Some a → IsAddr a × (text ≡ addr_text a)
+    go : (pieces : List (List ℕ)) → join_with_byte 46 pieces ≡ text → quad pieces ≡ Some a → (bytes : List ℕ) × (a ≡ V4 bytes) × IsAddr (V4 bytes) × (text ≡ dotted bytes)
     go (p ∷ q ∷ r ∷ s ∷ []) e f =
         let w = quad_parts p q r s a f in
-        (subst IsAddr (sym w.value) w.is_addr, sym e ∙ (w.spelled ∙ ap addr_text (sym w.value)))
+        (w.bytes, w.value, w.is_addr, sym e ∙ w.spelled)
     go _ e f = absurd (cc f)
+
+-- ---- both families
+
+digit_no_colon : (xs : List ℕ) → list_all is_addr_byte xs ≡ true → list_any (λ b. nat_eq b 58) xs ≡ false
+digit_no_colon [] h = refl
+digit_no_colon (x ∷ xs) h =
+    let p = and_parts (is_addr_byte x) (list_all is_addr_byte xs) h in
+    let other : nat_eq x 58 ≡ false = grind (arith, nat_tests, p.0) in
+    or_from _ _ other (digit_no_colon xs p.1)
+
+-- a dotted quad has no colon
+dotted_no_colon : (bytes : List ℕ) → IsAddr (V4 bytes) → list_any (λ b. nat_eq b 58) (dotted bytes) ≡ false
+dotted_no_colon bytes h = digit_no_colon (dotted bytes) (dotted_bytes bytes h.1)
+
+-- a text of an address is read as that address
+pub addr_of-text : (text : List ℕ) (a : Addr) → IsAddr a → IsAddrText text a → addr_of text ≡ Some a
+unfolding addr_of
+addr_of-text text (V4 bytes) h k =
+    cond-false (list_any (λ b. nat_eq b 58) text) _ _ (ap (list_any (λ b. nat_eq b 58)) k ∙ dotted_no_colon bytes h) ∙ quad_of-text text bytes h k
+addr_of-text text (V6 bytes) h k =
+    cond-true (list_any (λ b. nat_eq b 58) text) _ _ (colon_hex_colon text (segments_of bytes) k.0) ∙ groups_of-text text bytes h k
+
+-- an address that is read is one, and the text is one of its texts
+pub addr_of_parts : (text : List ℕ) (a : Addr) → addr_of text ≡ Some a → IsAddr a × IsAddrText text a
+unfolding addr_of
+addr_of_parts text a h = go (list_any (λ b. nat_eq b 58) text) h
+  where
+    go : (b : Bool) → (if b then groups_of text else quad_of text) ≡ Some a → IsAddr a × IsAddrText text a
+    go true e =
+        let (bytes, is, fine, spelled) = groups_of_parts text a e in
+        subst (λ x. IsAddr x × IsAddrText text x) (sym is) (fine, spelled)
+    go false e =
+        let (bytes, is, fine, spelled) = quad_of_parts text a e in
+        subst (λ x. IsAddr x × IsAddrText text x) (sym is) (fine, spelled)
+
+-- the text that is written of an address is one of its texts
+pub addr_text_of : (a : Addr) → IsAddr a → IsAddrText (addr_text a) a
+addr_text_of (V4 bytes) h = refl
+addr_text_of (V6 bytes) h = short_text bytes h
+
+-- so it is read as that address
+pub addr_of-addr_text : (a : Addr) → IsAddr a → addr_of (addr_text a) ≡ Some a
+addr_of-addr_text a h = addr_of-text (addr_text a) a h (addr_text_of a h)
+
+-- a text is that of one address
+pub one_addr : (text : List ℕ) (a b : Addr) → IsAddr a → IsAddr b → IsAddrText text a → IsAddrText text b → a ≡ b
+one_addr text a b h k s t = same_Some a b (sym (addr_of-text text a h s) ∙ addr_of-text text b k t)
+
+-- a reader of one family after the other finds the address of a text
+pub quad_first : (text : List ℕ) (a : Addr) → Some a ≡ quad_of text → Some a ≡ addr_of text
+quad_first text a e =
+    let (bytes, is, fine, spelled) = quad_of_parts text a (sym e) in
+    sym (addr_of-text text (V4 bytes) fine spelled ∙ ap (λ (x : Addr). Some x) (sym is))
+
+pub groups_then : (text : List ℕ) (r : Option Addr) → None ≡ quad_of text → r ≡ groups_of text → r ≡ addr_of text
+unfolding addr_of
+groups_then text r e f = f ∙ go (list_any (λ b. nat_eq b 58) text) refl
+  where
+    none_of : (o : Option Addr) → groups_of text ≡ o → list_any (λ b. nat_eq b 58) text ≡ false → o ≡ None
+    none_of None is plain = refl
+    none_of (Some a) is plain =
+        let (bytes, a_is, fine, spelled) = groups_of_parts text a is in
+        absurd (true≢false (sym (colon_hex_colon text (segments_of bytes) spelled.0) ∙ plain))
+
+    go : (b : Bool) → list_any (λ b. nat_eq b 58) text ≡ b → groups_of text ≡ (if b then groups_of text else quad_of text)
+    go true g = refl
+    go false g = none_of (groups_of text) refl g ∙ e
+
+-- what a reader finds is an address, and the text is one of its texts
+pub addr_reads : (text : List ℕ) (r : Option Addr) → r ≡ addr_of text → IfSome r (λ a. IsAddr a × IsAddrText text a)
+addr_reads text None e = tt
+addr_reads text (Some a) e = addr_of_parts text a (sym e)
 
 -- ---- prefixes
 
@@ -180,39 +259,44 @@ lacks_append c (x ∷ xs) ys h k =
     and_from _ _ p.0 (lacks_append c xs ys p.1 k)
 
 -- the text of an address has no slash
-addr_text_lacks : (a : Addr) → IsAddr a → lacks 47 (addr_text a) ≡ true
-addr_text_lacks (V4 (a ∷ b ∷ c ∷ d ∷ [])) h =
+dotted_lacks : (bytes : List ℕ) → IsAddr (V4 bytes) → lacks 47 (dotted bytes) ≡ true
+dotted_lacks (a ∷ b ∷ c ∷ d ∷ []) h =
     let at : (i : ℕ) → i < 4 → get_or (a ∷ b ∷ c ∷ d ∷ []) i 0 < 256 = λ i lt. All-get_or (λ x. x < 256) (a ∷ b ∷ c ∷ d ∷ []) i 0 lt h.1 in
     let no_slash : (n : ℕ) → n < 256 → lacks 47 (decimal n) ≡ true = λ n lt. decimal_lacks 47 n (omega arith) (omega arith) in
     lacks_append 47 (decimal a) _ (no_slash a (at 0 (omega arith)))
     (lacks_append 47 (decimal b) _ (no_slash b (at 1 (omega arith)))
     (lacks_append 47 (decimal c) _ (no_slash c (at 2 (omega arith)))
     (no_slash d (at 3 (omega arith)))))
-addr_text_lacks (V4 _) h = absurd (omega arith)
+dotted_lacks _ h = absurd (omega arith)
+
+pub addr_text_lacks : (text : List ℕ) (a : Addr) → IsAddr a → IsAddrText text a → lacks 47 text ≡ true
+addr_text_lacks text (V4 bytes) h k = ap (lacks 47) k ∙ dotted_lacks bytes h
+addr_text_lacks text (V6 bytes) h k = groups_slashless text bytes k
 
 -- lengths are small numbers
 short_width : (a : Addr) (n : ℕ) → n ≤ width_of a → n < 10 ^ 10
 short_width (V4 bytes) n h = omega arith
+short_width (V6 bytes) n h = omega arith
 
 -- the text of a prefix is read as that prefix
 pub prefix_of-text : (text : List ℕ) (p : Network) → PrefixText text p → prefix_of text ≡ Some p
 unfolding prefix_of
 prefix_of-text text p t = elim t.spelled [ inl w ↦ alone_read w.0 w.1 | inr w ↦ slashed_read w ]
   where
-    alone_read : text ≡ addr_text t.addr → p.bits ≡ width_of t.addr → slashed (slice_split (λ b. nat_eq b 47) text) ≡ Some p
+    alone_read : text ≡ t.before → p.bits ≡ width_of t.addr → slashed (slice_split (λ b. nat_eq b 47) text) ≡ Some p
     alone_read e w =
         ap (λ x. slashed (slice_split (λ b. nat_eq b 47) x)) e
-        ∙ (ap slashed (split_piece 47 (addr_text t.addr) (addr_text_lacks t.addr t.is_addr))
-        ∙ (ap alone (addr_of-text t.addr t.is_addr)
+        ∙ (ap slashed (split_piece 47 t.before (addr_text_lacks t.before t.addr t.is_addr t.address))
+        ∙ (ap alone (addr_of-text t.before t.addr t.is_addr t.address)
         ∙ (ap (λ n. Some (network_of t.addr n)) (sym w) ∙ ap (λ (x : Network). Some x) (sym t.of))))
 
-    slashed_read : text ≡ addr_text t.addr ++ 47 ∷ decimal p.bits → slashed (slice_split (λ b. nat_eq b 47) text) ≡ Some p
+    slashed_read : text ≡ t.before ++ 47 ∷ decimal p.bits → slashed (slice_split (λ b. nat_eq b 47) text) ≡ Some p
     slashed_read e =
         let small : p.bits < 10 ^ 10 = short_width t.addr p.bits t.short in
         ap (λ x. slashed (slice_split (λ b. nat_eq b 47) x)) e
-        ∙ (ap slashed (split_more 47 (addr_text t.addr) (decimal p.bits) (addr_text_lacks t.addr t.is_addr)
-        ∙ ap (λ y. addr_text t.addr ∷ y) (split_piece 47 (decimal p.bits) (decimal_lacks 47 p.bits (omega arith) (omega arith))))
-        ∙ (ap (λ o. cut_at o (decimal p.bits)) (addr_of-text t.addr t.is_addr)
+        ∙ (ap slashed (split_more 47 t.before (decimal p.bits) (addr_text_lacks t.before t.addr t.is_addr t.address)
+        ∙ ap (λ y. t.before ∷ y) (split_piece 47 (decimal p.bits) (decimal_lacks 47 p.bits (omega arith) (omega arith))))
+        ∙ (ap (λ o. cut_at o (decimal p.bits)) (addr_of-text t.before t.addr t.is_addr t.address)
         ∙ (ap (with_length t.addr) (bare_number-decimal (width_of t.addr) p.bits t.short small)
         ∙ ap (λ (x : Network). Some x) (sym t.of))))
 
@@ -227,7 +311,7 @@ prefix_of_parts text p h = go (slice_split (λ b. nat_eq b 47) text) (join_with_
         let w = addr_of_parts address a f in
         let same : network_of a (width_of a) ≡ p = cc g in
         let bits : p.bits ≡ width_of a = sym (ap (λ (x : Network). x.bits) same) in
-        record { addr = a; is_addr = w.0; short = omega (arith, bits); of = sym same ∙ ap (network_of a) (sym bits); spelled = inl (sym e ∙ w.1, bits) }
+        record { addr = a; is_addr = w.0; short = omega (arith, bits); of = sym same ∙ ap (network_of a) (sym bits); before = address; address = w.1; spelled = inl (sym e, bits) }
 
     cut_parts : (address length : List ℕ) → address ++ 47 ∷ length ≡ text → (o : Option Addr) → addr_of address ≡ o → cut_at o length ≡ Some p → PrefixText text p
     cut_parts address length e None f g = absurd (cc g)
@@ -245,7 +329,9 @@ prefix_of_parts text p h = go (slice_split (λ b. nat_eq b 47) text) (join_with_
               is_addr = w.0;
               short = subst (λ k. k ≤ width_of a) (sym bits) b.low;
               of = sym same ∙ ap (network_of a) (sym bits);
-              spelled = inr (sym e ∙ (ap (λ x. x ++ 47 ∷ length) w.1 ∙ ap (λ y. addr_text a ++ 47 ∷ y) (b.spelled ∙ ap decimal (sym bits))));
+              before = address;
+              address = w.1;
+              spelled = inr (sym e ∙ ap (λ y. address ++ 47 ∷ y) (b.spelled ∙ ap decimal (sym bits)));
             }
 
     go : (pieces : List (List ℕ)) → join_with_byte 47 pieces ≡ text → slashed pieces ≡ Some p → PrefixText text p
@@ -253,16 +339,7 @@ prefix_of_parts text p h = go (slice_split (λ b. nat_eq b 47) text) (join_with_
     go (address ∷ length ∷ []) e f = cut_parts address length e (addr_of address) refl f
     go _ e f = absurd (cc f)
 
--- ---- what reads exactly the texts of addresses, or of prefixes, gives the address, or the prefix, of a text
-
-pub addr_value : (text : List ℕ) (r : Option Addr) → IfSome r (λ a. IsAddr a × (text ≡ addr_text a))
-    → ((a : Addr) → IsAddr a → text ≡ addr_text a → r ≡ Some a) → r ≡ addr_of text
-addr_value text (Some a) reads only = sym (ap addr_of reads.1 ∙ addr_of-text a reads.0)
-addr_value text None reads only = go (addr_of text) refl
-  where
-    go : (o : Option Addr) → addr_of text ≡ o → None ≡ o
-    go None e = refl
-    go (Some a) e = let p = addr_of_parts text a e in only a p.0 p.1
+-- ---- what reads exactly the texts of prefixes gives the prefix of a text
 
 pub prefix_value : (text : List ℕ) (r : Option Network) → IfSome r (λ p. PrefixText text p)
     → ((p : Network) → PrefixText text p → r ≡ Some p) → r ≡ prefix_of text

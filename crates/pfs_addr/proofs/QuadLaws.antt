@@ -1,5 +1,5 @@
 -- The bytes of an address, digit by digit.
-use Rattle.std.proofs.Common.{ℕ, List, [], ◌∷◌, ◌++◌, ◌≡◌, ◌≤◌, ◌<◌, ◌+◌, ◌*◌, ◌/◌, ◌%◌, Some, None, true, append_assoc, decimal, drop, get_or, length, arith, rules, ap, sym, refl, subst, ◌∙◌, lit≤, inl, inr}
+use Rattle.std.proofs.Common.{ℕ, List, [], ◌∷◌, ◌++◌, ◌≡◌, ◌≤◌, ◌<◌, ◌+◌, ◌*◌, ◌/◌, ◌%◌, Option, Some, None, true, false, append_assoc, decimal, drop, get_or, length, arith, rules, ap, sym, refl, subst, ◌∙◌, lit≤, inl, inr}
 use Rattle.std.proofs.lemmas.Bool.Decides.{nat_tests}
 use Rattle.std.proofs.lemmas.Bool.{cases_lt}
 use Rattle.std.specs.Char.{digit_value}
@@ -13,9 +13,11 @@ use Rattle.std.specs.Prelude.{All}
 use Rattle.std.specs.Net.Grammar.{IsDotted}
 use Rattle.std.specs.Net.Text.{dotted_text}
 use Rattle.pfs_addr.proofs.AddrLaws.{dotted_spelled}
-use Rattle.pfs_addr.specs.Addresses.{IsAddr, addr_text, bytes_of, dotted}
+use Rattle.pfs_addr.proofs.PieceLaws.{quad_of-text, quad_of_parts}
+use Rattle.pfs_addr.specs.Texts.{quad_of}
+use Rattle.pfs_addr.specs.Addresses.{IsAddr, bytes_of, dotted, is_ipv6}
 use Rattle.pfs_addr.specs.declared.addresses.Addr.{Addr}
-use Rattle.pfs_addr.specs.declared.addresses.Addr.TheVariants.{V4}
+use Rattle.pfs_addr.specs.declared.addresses.Addr.TheVariants.{V4, V6}
 use Rattle.pfs_addr.specs.Octets.{stops}
 use Rattle.pfs_addr.proofs.OctetLaws.{decimal_1, decimal_2, decimal_3}
 
@@ -147,24 +149,31 @@ quad-reads text bytes [] e none =
 quad-reads text bytes (c ∷ rest) e none = absurd (omega (arith, none))
 
 -- the text of an address is read as its four bytes
-quad-whole : (text : List ℕ) (a : Addr) → IsAddr a → text ≡ addr_text a → (bytes : List ℕ) × (a ≡ V4 bytes) × (read_ipv4 text ≡ Some (bytes, []))
-quad-whole text (V4 bytes) h e =
-    (bytes, refl, ap read_ipv4 (e ∙ sym (append-nil (dotted bytes))) ∙ read_ipv4_complete (dotted bytes) bytes [] (dotted_spelled bytes h) (lit≤ tt))
+quad-whole : (text bytes : List ℕ) → IsAddr (V4 bytes) → text ≡ dotted bytes → read_ipv4 text ≡ Some (bytes, [])
+quad-whole text bytes h e =
+    ap read_ipv4 (e ∙ sym (append-nil (dotted bytes))) ∙ read_ipv4_complete (dotted bytes) bytes [] (dotted_spelled bytes h) (lit≤ tt)
 
-quad-only : (text bytes rest : List ℕ) (a : Addr) → Some (bytes, rest) ≡ read_ipv4 text → IsAddr a → text ≡ addr_text a → (V4 bytes ≡ a) × (length rest ≡ 0)
-quad-only text bytes rest a e h is =
-    let (own, a_is, whole) = quad-whole text a h is in
-    let (same, none) = same_parts bytes own rest [] (e ∙ whole) in
-    (ap V4 same ∙ sym a_is, ap length none)
+-- ---- so the reader of four bytes gives the IPv4 address of a text
 
-pub quad-none : (text : List ℕ) (a : Addr) → None ≡ read_ipv4 text → IsAddr a → text ≡ addr_text a → ⊥
-quad-none text a e h is =
-    let (own, a_is, whole) = quad-whole text a h is in
-    none-some _ (e ∙ whole)
+pub quad-none : (text : List ℕ) → None ≡ read_ipv4 text → None ≡ quad_of text
+quad-none text e = none_of (quad_of text) refl
+  where
+    none_of : (o : Option Addr) → quad_of text ≡ o → None ≡ o
+    none_of None is = refl
+    none_of (Some a) is = let (bytes, a_is, h, k) = quad_of_parts text a is in absurd (none-some _ (e ∙ quad-whole text bytes h k))
 
--- the same of an address
-pub addr-reads : (text rest : List ℕ) (a : Addr) → Some (bytes_of a, rest) ≡ read_ipv4 text → length rest ≡ 0 → IsAddr a × (text ≡ addr_text a)
-addr-reads text rest (V4 bytes) e none = quad-reads text bytes rest e none
+pub quad-some : (text rest : List ℕ) (a : Addr) → is_ipv6 a ≡ false → Some (bytes_of a, rest) ≡ read_ipv4 text → length rest ≡ 0 → Some a ≡ quad_of text
+quad-some text rest (V4 bytes) family e none =
+    let (h, k) = quad-reads text bytes rest e none in
+    sym (quad_of-text text bytes h k)
+quad-some text rest (V6 bytes) family e none = absurd (cc family)
 
-pub addr-only : (text rest : List ℕ) (own a : Addr) → Some (bytes_of own, rest) ≡ read_ipv4 text → IsAddr a → text ≡ addr_text a → (own ≡ a) × (length rest ≡ 0)
-addr-only text rest (V4 bytes) a e h is = quad-only text bytes rest a e h is
+pub quad-more : (text rest : List ℕ) (a : Addr) → Some (bytes_of a, rest) ≡ read_ipv4 text → 0 < length rest → None ≡ quad_of text
+quad-more text rest a e more = none_of (quad_of text) refl
+  where
+    none_of : (o : Option Addr) → quad_of text ≡ o → None ≡ o
+    none_of None is = refl
+    none_of (Some b) is =
+        let (own, b_is, h, k) = quad_of_parts text b is in
+        let (same, none) = same_parts (bytes_of a) own rest [] (e ∙ quad-whole text own h k) in
+        absurd (omega (arith, more, ap length none))

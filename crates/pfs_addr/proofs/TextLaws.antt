@@ -1,47 +1,22 @@
-use Rattle.std.proofs.Common.{ℕ, List, [], ◌∷◌, ◌++◌, ◌≡◌, ◌≤◌, ◌<◌, ◌+◌, Bool, true, false, cond, ◌||◌, nat_eq, nat_lt, Option, Some, None, length, get_or, take, drop, position, decimal, refl, sym, ap, subst, arith, inl, inr, one-add, eqb-true, ltb-true, ltb-false, lt-ltb, ◌∙◌}
-use Rattle.std.specs.Prelude.{All}
+use Rattle.std.proofs.Common.{ℕ, List, [], ◌∷◌, ◌++◌, ◌≡◌, ◌≤◌, ◌<◌, ◌+◌, Bool, true, false, cond, nat_eq, nat_lt, Option, Some, None, length, get_or, take, drop, position, decimal, refl, sym, ap, subst, arith, inl, inr, one-add, eqb-true, ltb-true, ltb-false, lt-ltb, ◌∙◌}
 use Rattle.std.specs.List.{list_all, prefix_len}
 use Rattle.std.proofs.lemmas.Bool.{and_from, and_parts, cond-true, cond-false}
 use Rattle.std.proofs.lemmas.Bool.Decides.{nat_tests}
 use Rattle.std.proofs.lemmas.List.{drop-drop}
-use Rattle.std.proofs.lemmas.List.Elements.{All-head, All-tail}
 use Rattle.std.proofs.lemmas.List.Folds.{list_all-append}
 use Rattle.std.proofs.lemmas.List.Sums.{split_at_first, passes_at_first}
-use Rattle.pfs_addr.specs.Addresses.{IsAddr, addr_text, dotted, width_of}
-use Rattle.pfs_addr.specs.Numbers.{is_digit, number_of}
+use Rattle.pfs_addr.specs.Addresses.{IsAddr, IsAddrText, width_of}
+use Rattle.pfs_addr.proofs.PieceLaws.{addr_text_lacks}
+use Rattle.pfs_addr.specs.Numbers.{number_of}
 use Rattle.pfs_addr.specs.PrefixParts.{PartsText, is_no_slash, is_padded, small_of, length_of}
 use Rattle.pfs_addr.specs.Prefixes.{Network, PrefixText, network_of}
 use Rattle.pfs_addr.specs.declared.addresses.Addr.{Addr}
-use Rattle.pfs_addr.specs.declared.addresses.Addr.TheVariants.{V4}
-use Rattle.pfs_addr.proofs.NumberLaws.{decimal_digits, decimal_bare, decimal_of_number, number_of-decimal, number_parts}
+use Rattle.pfs_addr.specs.declared.addresses.Addr.TheVariants.{V4, V6}
+use Rattle.pfs_addr.proofs.NumberLaws.{decimal_bare, decimal_of_number, number_of-decimal, number_parts}
 
--- ---- the bytes of an address's text
-
--- a digit or a dot
-abbrev pub is_addr_byte : ℕ → Bool
-is_addr_byte b = is_digit b || nat_eq b 46
-
--- what holds of each byte holds of each byte that a stronger test lets through
-weaker : (p q : ℕ → Bool) → ((b : ℕ) → p b ≡ true → q b ≡ true) → (xs : List ℕ) → list_all p xs ≡ true → list_all q xs ≡ true
-weaker p q f [] h = refl
-weaker p q f (x ∷ xs) h = let k = and_parts (p x) (list_all p xs) h in and_from _ _ (f x k.0) (weaker p q f xs k.1)
-
-decimal_bytes : (n : ℕ) → n < 256 → list_all is_addr_byte (decimal n) ≡ true
-decimal_bytes n h = weaker is_digit is_addr_byte (λ b k. grind (arith, nat_tests)) (decimal n) (decimal_digits n (omega arith))
-
-dotted_bytes : (bytes : List ℕ) → All (λ b. b < 256) bytes → list_all is_addr_byte (dotted bytes) ≡ true
-dotted_bytes [] all = refl
-dotted_bytes (b ∷ []) all = decimal_bytes b (All-head (λ b. b < 256) b [] all)
-dotted_bytes (b ∷ c ∷ rest) all =
-    list_all-append is_addr_byte (decimal b) (46 ∷ dotted (c ∷ rest))
-    ∙ and_from _ _ (decimal_bytes b (All-head (λ b. b < 256) b (c ∷ rest) all)) (dotted_bytes (c ∷ rest) (All-tail (λ b. b < 256) b (c ∷ rest) all))
-
--- the text of an address has digits and dots alone
-pub addr_text_bytes : (a : Addr) → IsAddr a → list_all is_addr_byte (addr_text a) ≡ true
-addr_text_bytes (V4 bytes) h = dotted_bytes bytes h.1
-
-addr_text_no_slash : (a : Addr) → IsAddr a → list_all is_no_slash (addr_text a) ≡ true
-addr_text_no_slash a h = weaker is_addr_byte is_no_slash (λ b k. grind (arith, nat_tests)) (addr_text a) (addr_text_bytes a h)
+-- the text of an address has no slash
+addr_text_no_slash : (text : List ℕ) (a : Addr) → IsAddr a → IsAddrText text a → list_all is_no_slash text ≡ true
+addr_text_no_slash text a h k = addr_text_lacks text a h k
 
 -- ---- a text cut at its first slash
 
@@ -154,23 +129,24 @@ length_decimal n h =
 
 width_small : (a : Addr) → width_of a < 256
 width_small (V4 bytes) = omega arith
+width_small (V6 bytes) = omega arith
 
 -- a text without a slash that writes a prefix is the text of an address alone
-pub whole_text : (text : List ℕ) (p : Network) → list_all is_no_slash text ≡ true → PrefixText text p → (a : Addr) × IsAddr a × (text ≡ addr_text a) × (p ≡ network_of a (width_of a))
+pub whole_text : (text : List ℕ) (p : Network) → list_all is_no_slash text ≡ true → PrefixText text p → (a : Addr) × IsAddr a × IsAddrText text a × (p ≡ network_of a (width_of a))
 whole_text text p plain h =
     elim h.spelled [
-      | inl e ↦ (h.addr, h.is_addr, e.0, h.of ∙ ap (network_of h.addr) e.1)
-      | inr e ↦ absurd (slash_found (addr_text h.addr) (decimal p.bits) (subst (λ t. list_all is_no_slash t ≡ true) e plain))
+      | inl e ↦ (h.addr, h.is_addr, subst (λ t. IsAddrText t h.addr) (sym e.0) h.address, h.of ∙ ap (network_of h.addr) e.1)
+      | inr e ↦ absurd (slash_found h.before (decimal p.bits) (subst (λ t. list_all is_no_slash t ≡ true) e plain))
     ]
 
 -- a text that is cut at its slash and writes a prefix has an address and a length
 pub cut_text : (text front behind : List ℕ) (p : Network) → list_all is_no_slash front ≡ true → text ≡ front ++ 47 ∷ behind → PrefixText text p → PartsText front behind p
 cut_text text front behind p plain cut h =
     elim h.spelled [
-      | inl e ↦ absurd (slash_found front behind (subst (λ t. list_all is_no_slash t ≡ true) (sym e.0 ∙ cut) (addr_text_no_slash h.addr h.is_addr)))
+      | inl e ↦ absurd (slash_found front behind (subst (λ t. list_all is_no_slash t ≡ true) (sym e.0 ∙ cut) (addr_text_no_slash h.before h.addr h.is_addr h.address)))
       | inr e ↦
-          let same = cut_same front behind (addr_text h.addr) (decimal p.bits) plain (addr_text_no_slash h.addr h.is_addr) (sym cut ∙ e) in
-          record { addr = h.addr; is_addr = h.is_addr; short = h.short; of = h.of; spelled = same.0; counted = same.1 }
+          let same = cut_same front behind h.before (decimal p.bits) plain (addr_text_no_slash h.before h.addr h.is_addr h.address) (sym cut ∙ e) in
+          record { addr = h.addr; is_addr = h.is_addr; short = h.short; of = h.of; spelled = subst (λ t. IsAddrText t h.addr) (sym same.0) h.address; counted = same.1 }
     ]
 
 -- the length of parts that write a prefix is read
@@ -181,7 +157,7 @@ parts_length address length p h =
 
 -- what is read of the parts is the prefix that they write
 pub parts_same : (address length : List ℕ) (a : Addr) (bits : ℕ) (p : Network) (read : Option Addr)
-    → ((b : Addr) → IsAddr b → address ≡ addr_text b → read ≡ Some b) → read ≡ Some a → length_of length ≡ Some bits → PartsText address length p
+    → ((b : Addr) → IsAddr b → IsAddrText address b → read ≡ Some b) → read ≡ Some a → length_of length ≡ Some bits → PartsText address length p
     → (bits ≤ width_of a) × (p ≡ network_of a bits)
 parts_same address length a bits p read only is_a is_bits h =
     let other : read ≡ Some h.addr = only h.addr h.is_addr h.spelled in
@@ -193,7 +169,7 @@ parts_same address length a bits p read only is_a is_bits h =
     )
 
 -- the parts write what is read of them
-pub parts_read : (address length : List ℕ) (a : Addr) (bits : ℕ) (p : Network) → IsAddr a → address ≡ addr_text a → length_of length ≡ Some bits → bits ≤ width_of a → p ≡ network_of a bits
+pub parts_read : (address length : List ℕ) (a : Addr) (bits : ℕ) (p : Network) → IsAddr a → IsAddrText address a → length_of length ≡ Some bits → bits ≤ width_of a → p ≡ network_of a bits
     → PartsText address length p
 parts_read address length a bits p is_a spelled counted short e =
     let same : p.bits ≡ bits = ap (λ (q : Network). q.bits) e in

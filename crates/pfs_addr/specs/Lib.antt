@@ -1,5 +1,6 @@
 pub mod Addresses
 pub mod FlagSets
+pub mod Groups
 pub mod Keys
 pub mod Names
 pub mod Numbers

@@ -1,6 +1,6 @@
 use Rattle.std.specs.Prelude.{ℕ, List, Bool, Option, Some, None, if◌then◌else◌, not, ◌&&◌, ◌==◌, ◌≡◌, ◌≤◌, nat_lt, length, slice_index}
 use Rattle.std.specs.Fmt.{decimal}
-use Rattle.pfs_addr.specs.Addresses.{IsAddr, addr_text, width_of}
+use Rattle.pfs_addr.specs.Addresses.{IsAddr, IsAddrText, width_of}
 use Rattle.pfs_addr.specs.Prefixes.{Network, network_of}
 use Rattle.pfs_addr.specs.declared.addresses.Addr.{Addr}
 use Rattle.pfs_addr.specs.Numbers.{number_of}
@@ -28,5 +28,5 @@ pub record PartsText (address length : List ℕ) (p : Network) : Type 0 where
   pub is_addr : IsAddr addr
   pub short : p.bits ≤ width_of addr
   pub of : p ≡ network_of addr p.bits
-  pub spelled : address ≡ addr_text addr
+  pub spelled : IsAddrText address addr
   pub counted : length ≡ decimal p.bits

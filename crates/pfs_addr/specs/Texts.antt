@@ -1,12 +1,14 @@
 -- The address and the prefix of a text, found piece by piece. That they are those whose text it is, is proved
 -- (proofs/PieceLaws.antt).
-use Rattle.std.specs.Prelude.{ℕ, List, [], ◌∷◌, Option, Some, None, if◌then◌else◌, ◌&&◌, ◌==◌, nat_lt, nat_le, length, slice_index}
-use Rattle.std.specs.List.{slice_split}
-use Rattle.pfs_addr.specs.Addresses.{width_of}
+use Rattle.std.specs.Prelude.{ℕ, List, [], ◌∷◌, Option, Some, None, option_map, if◌then◌else◌, ◌&&◌, ◌==◌, nat_lt, nat_le, length, slice_index}
+use Rattle.std.specs.List.{list_all, list_any, slice_split}
+use Rattle.std.specs.Net.Addr.{octets_of}
+use Rattle.std.specs.Net.Reader.{read_ipv6, whole_value}
+use Rattle.pfs_addr.specs.Addresses.{is_no_dot, width_of}
 use Rattle.pfs_addr.specs.Numbers.{number_of}
 use Rattle.pfs_addr.specs.Prefixes.{Network, network_of}
 use Rattle.pfs_addr.specs.declared.addresses.Addr.{Addr}
-use Rattle.pfs_addr.specs.declared.addresses.Addr.TheVariants.{V4}
+use Rattle.pfs_addr.specs.declared.addresses.Addr.TheVariants.{V4, V6}
 
 -- a number without a zero in front, at most so great
 abbrev pub up_to : ℕ → Option ℕ → Option ℕ
@@ -38,9 +40,20 @@ abbrev pub quad : List (List ℕ) → Option Addr
 quad (a ∷ b ∷ c ∷ d ∷ []) = four_bytes (bare_number 255 a) (bare_number 255 b) (bare_number 255 c) (bare_number 255 d)
 quad _ = None
 
--- the address whose text this is: its pieces between dots are four bytes in decimal
+-- the IPv4 address whose text this is: its pieces between dots are four bytes in decimal
+unfoldable pub quad_of : List ℕ → Option Addr
+quad_of text = quad (slice_split (λ b. b == 46) text)
+
+-- the IPv6 address whose text this is: groups of hexadecimal digits, and no dot
+unfoldable pub groups_of : List ℕ → Option Addr
+groups_of text =
+    if list_all is_no_dot text
+    then option_map (λ segments. V6 (octets_of segments)) (whole_value (read_ipv6 text))
+    else None
+
+-- the address whose text this is; with a colon it is IPv6
 unfoldable pub addr_of : List ℕ → Option Addr
-addr_of text = quad (slice_split (λ b. b == 46) text)
+addr_of text = if list_any (λ b. b == 58) text then groups_of text else quad_of text
 
 -- an address with a length
 abbrev pub with_length : Addr → Option ℕ → Option Network

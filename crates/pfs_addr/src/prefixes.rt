@@ -6,6 +6,7 @@ ghost use Rattle.pfs_addr.specs.Texts.{prefix_of};
 ghost use Rattle.pfs_addr.specs.Addresses.{IsAddr, width_of};
 ghost use Rattle.pfs_addr.specs.PrefixParts.{PartsText, is_no_slash, is_padded, length_of};
 ghost use Rattle.pfs_addr.specs.Prefixes.{IsNetwork, Network, PrefixText, cleared, covers, first_bits, network_of};
+ghost use Rattle.pfs_addr.specs.declared.addresses.Addr.TheVariants.{V4, V6};
 
 use crate::addresses::{Addr, parse_addr};
 use crate::numbers::parse_number;
@@ -57,13 +58,19 @@ impl Prefix {
         addr.prefix(addr.width())
     }
 
-    /// Whether the prefix covers this address: the first bits of both agree, as many as the prefix has. (pf.conf(5),
-    /// TABLES)
+    /// Whether the prefix covers this address: it is of the prefix's family, and the first bits of both agree, as many
+    /// as the prefix has. (pf.conf(5), TABLES)
     #[tactic(auto, unfolding(crate::specs::Prefixes::covers))]
     pub fn contains(&self, addr: Addr) -> bool
         ensures { result ≡ covers self.now addr }
     {
-        self.addr.first_bits(self.bits) == addr.first_bits(self.bits)
+        match (self.addr, addr) {
+            (Addr::V4(own), Addr::V4(other)) => first_of_4(own, self.bits)
+                == first_of_4(other, self.bits),
+            (Addr::V6(own), Addr::V6(other)) => first_of_16(own, self.bits)
+                == first_of_16(other, self.bits),
+            _ => false,
+        }
     }
 }
 
@@ -94,17 +101,43 @@ impl Addr {
                 let kept = number >> hidden << hidden;
                 Addr::V4((kept as u32).to_be_bytes())
             }
+            Addr::V6(bytes) => Addr::V6(cleared_16(bytes, bits)),
         }
     }
+}
 
-    fn first_bits(self, bits: u8) -> u64
-        requires { bits ≤ width_of self }
-        ensures { result ≡ first_bits bits self }
-    {
-        match self {
-            Addr::V4(bytes) => u64::from(u32::from_be_bytes(bytes)) >> (32 - u32::from(bits)),
-        }
+// The first bits of four bytes, as a number.
+fn first_of_4(bytes: [u8; 4], bits: u8) -> u64
+    requires { bits ≤ 32 }
+    ensures { result ≡ first_bits bits (V4 bytes) }
+{
+    u64::from(u32::from_be_bytes(bytes)) >> (32 - u32::from(bits))
+}
+
+// The first bits of sixteen bytes, as a number.
+fn first_of_16(bytes: [u8; 16], bits: u8) -> u128
+    requires { bits ≤ 128 }
+    ensures { result ≡ first_bits bits (V6 bytes) }
+{
+    if bits == 0 {
+        return 0;
     }
+    u128::from_be_bytes(bytes) >> (128 - u32::from(bits))
+}
+
+// Sixteen bytes with all bits past the first ones zero.
+fn cleared_16(bytes: [u8; 16], bits: u8) -> [u8; 16]
+    requires { bits ≤ 128 }
+    ensures value { V6 result ≡ cleared bits (V6 bytes) }
+    ensures addr { IsAddr (V6 bytes) }
+{
+    let number = u128::from_be_bytes(bytes);
+    if bits == 0 {
+        return 0u128.to_be_bytes();
+    }
+    let hidden = 128 - u32::from(bits);
+    let kept = number >> hidden << hidden;
+    kept.to_be_bytes()
 }
 
 /// The prefix that this text is, if it is one: an address alone, all of whose bits count, or an address, `/` and a

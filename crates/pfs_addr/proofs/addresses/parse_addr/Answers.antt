@@ -1,5 +1,21 @@
-use Rattle.pfs_addr.proofs.PieceLaws.{addr_value}
+use Rattle.std.proofs.Common.{◌∙◌}
+use Rattle.pfs_addr.proofs.PieceLaws.{addr_of-text, addr_reads, quad_first, groups_then}
 use Rattle.pfs_addr.proofs.addresses.parse_addr.Goals as goal
 
-pub returns-clause-value : goal.returns-clause-value
-returns-clause-value c = addr_value _ _ c.quad.ensures.reads c.quad.ensures.only
+pub returns-in-Some-clause-value : goal.returns-in-Some-clause-value
+returns-in-Some-clause-value c = quad_first c.args.text.now c.in-Some.addr c.in-Some.ensures
+
+pub returns-in-Some-clause-reads : goal.returns-in-Some-clause-reads
+returns-in-Some-clause-reads c = addr_reads c.args.text.now _ (quad_first c.args.text.now c.in-Some.addr c.in-Some.ensures)
+
+pub returns-in-Some-clause-only : goal.returns-in-Some-clause-only
+returns-in-Some-clause-only c a h k = quad_first c.args.text.now c.in-Some.addr c.in-Some.ensures ∙ addr_of-text c.args.text.now a h k
+
+pub returns-in-None-clause-value : goal.returns-in-None-clause-value
+returns-in-None-clause-value c = groups_then c.args.text.now c.groups.result c.in-None.ensures c.groups.ensures
+
+pub returns-in-None-clause-reads : goal.returns-in-None-clause-reads
+returns-in-None-clause-reads c = addr_reads c.args.text.now c.groups.result (groups_then c.args.text.now c.groups.result c.in-None.ensures c.groups.ensures)
+
+pub returns-in-None-clause-only : goal.returns-in-None-clause-only
+returns-in-None-clause-only c a h k = groups_then c.args.text.now c.groups.result c.in-None.ensures c.groups.ensures ∙ addr_of-text c.args.text.now a h k
