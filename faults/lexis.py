@@ -116,9 +116,22 @@ def is_number(field: bytes, most: int) -> bool:
     return re.fullmatch(rb"[0-9]{1,10}", field) is not None and int(field) <= most
 
 
-def is_address(field: bytes) -> bool:
+def is_dotted(field: bytes) -> bool:
     parts = field.split(b".")
     return len(parts) == 4 and all(re.fullmatch(rb"0|[1-9][0-9]{0,2}", it) and int(it) <= 255 for it in parts)
+
+
+def is_grouped(field: bytes) -> bool:
+    """Whether the field is an IPv6 address: eight groups, or fewer and `::` once in the place of the others."""
+    halves = field.split(b"::")
+    groups = [it for half in halves if half for it in half.split(b":")]
+    fits = len(groups) == 8 if len(halves) == 1 else len(halves) == 2 and len(groups) <= 7
+    return fits and all(re.fullmatch(rb"[0-9A-Fa-f]{1,4}", it) for it in groups)
+
+
+def family(field: bytes) -> int:
+    """4 or 6 where the field is an address, else 0."""
+    return 4 if is_dotted(field) else 6 if is_grouped(field) else 0
 
 
 def protocol(field: bytes) -> Optional[int]:
@@ -139,9 +152,9 @@ def bad_field(record: List[bytes]) -> int:
         way in (b"in", b"out"),
         re.fullmatch(rb"[A-Za-z0-9_.-]{1,15}", name) is not None,
         number is not None,
-        is_address(src),
+        family(src) > 0,
         port(sport),
-        is_address(dst),
+        family(dst) == family(src),
         port(dport),
         re.fullmatch(rb"[FSRPAUEW]*" if number == 6 else rb"", flags) is not None,
     ]

@@ -2,11 +2,13 @@
 use Rattle.std.specs.Prelude.{ℕ, ◌-◌, Bool, false, List, [], codes, length, Option, Some, None, Result, Ok, Err, ◌&&◌, ◌==◌, nat_le, nat_lt, if◌then◌else◌, slice_get, unwrap_or}
 use Rattle.std.specs.Str.{bytes_eq}
 use Rattle.csv.specs.Records.{field_at}
+use Rattle.pfs_addr.specs.Addresses.{same_family}
 use Rattle.pfs_addr.specs.Numbers.{number_of}
 use Rattle.pfs_addr.specs.Names.{name_of}
 use Rattle.pfs_addr.specs.FlagSets.{flags_of}
 use Rattle.pfs_addr.specs.Texts.{addr_of}
 use Rattle.pfs_addr.specs.Protocols.{proto_in, has_ports, is_icmp}
+use Rattle.pfs_addr.specs.declared.addresses.Addr.{Addr}
 use Rattle.pfs_addr.specs.declared.flag_sets.Flags.{Flags}
 use Rattle.pfs_addr.specs.declared.packets.Dir.{Dir}
 use Rattle.pfs_addr.specs.declared.packets.Dir.TheVariants.{In, Out}
@@ -82,12 +84,17 @@ abbrev pub and_then : {A B : Type 0} → Result A TraceFault → (A → Result B
 and_then (Ok x) more = more x
 and_then (Err f) more = Err f
 
--- the source and the destination
+-- an address beside another, if they are of one family
+abbrev pub beside : Addr → Option Addr → Option Addr
+beside other None = None
+beside other (Some a) = if same_family other a then Some a else None
+
+-- the source, and the destination, which is of the source's family
 abbrev pub ends_at : ℕ → Proto → List (List ℕ) → Result (Endpoint × Endpoint) TraceFault
 ends_at row proto fields =
     in_column row 5 (addr_of (column_of fields 5)) (λ src.
     in_column row 6 (port_of proto (column_of fields 6)) (λ sport.
-    in_column row 7 (addr_of (column_of fields 7)) (λ dst.
+    in_column row 7 (beside src (addr_of (column_of fields 7))) (λ dst.
     in_column row 8 (port_of proto (column_of fields 8)) (λ dport.
     Ok (record { addr = src; port = sport }, record { addr = dst; port = dport })))))
 

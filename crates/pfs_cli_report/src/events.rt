@@ -3,13 +3,14 @@
 ghost use Rattle.std.specs.Prelude.{◌≡◌, ◌≤◌};
 ghost use Rattle.csv.specs.Records.{fields_of};
 ghost use Rattle.pfs_addr.specs.Protocols.{is_icmp};
+ghost use Rattle.pfs_addr.specs.Texts.{addr_of};
 ghost use Rattle.pfs_conf_rules.specs.Configs.{table_named};
-ghost use Rattle.pfs_cli_report.specs.Events.{changing, column_of, number_to, dir_of, expiry_at, port_of, flags_for, ends_at, nothing_in, packet_at, told_at, what_of, is_header, falls, event_at};
+ghost use Rattle.pfs_cli_report.specs.Events.{beside, changing, column_of, number_to, dir_of, expiry_at, port_of, flags_for, ends_at, nothing_in, packet_at, told_at, what_of, is_header, falls, event_at};
 
 use crate::faults::TraceFault;
 use csv::ByteRecord;
 use pfs_addr::{
-    Dir, Endpoint, Flags, Packet, Proto, parse_addr, parse_flags, parse_ifname, parse_number,
+    Addr, Dir, Endpoint, Flags, Packet, Proto, parse_addr, parse_flags, parse_ifname, parse_number,
     parse_proto,
 };
 use pfs_conf_rules::{Config, TableName, TableNo};
@@ -161,7 +162,7 @@ fn read_ends(
 {
     let src = parse_addr(column(fields, 5)).ok_or(TraceFault::Field(row, 5))?;
     let sport = read_port(proto, column(fields, 6)).ok_or(TraceFault::Field(row, 6))?;
-    let dst = parse_addr(column(fields, 7)).ok_or(TraceFault::Field(row, 7))?;
+    let dst = read_beside(src, column(fields, 7)).ok_or(TraceFault::Field(row, 7))?;
     let dport = read_port(proto, column(fields, 8)).ok_or(TraceFault::Field(row, 8))?;
     Ok((
         Endpoint {
@@ -173,6 +174,13 @@ fn read_ends(
             port: dport,
         },
     ))
+}
+
+// An address of the same family as another.
+fn read_beside(other: Addr, text: &[u8]) -> Option<Addr>
+    ensures { result ≡ beside other (addr_of text.now) }
+{
+    parse_addr(text).filter(|addr| other.same_family(*addr))
 }
 
 // The field of a column, which count from 1.

@@ -9,6 +9,8 @@ mod failing;
 #[cfg(test)]
 mod fakes;
 #[cfg(test)]
+mod families;
+#[cfg(test)]
 mod handshakes;
 #[cfg(test)]
 mod jobs;
