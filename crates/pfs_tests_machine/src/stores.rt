@@ -9,7 +9,7 @@ use crate::tallied::Tallied;
 use pfs_addr::{Addr, FlowKey, Meter, Packet};
 use pfs_conf::{Config, RuleNo};
 use pfs_store::IndexStore;
-use pfs_store_plain::{Limit, PlainStore, Slice, StateNo, Store, Touched};
+use pfs_store_plain::{Limit, PlainStore, Slice, StateNo, Store, Touched, Watched};
 use pfs_track::Score;
 use std::process::Abort;
 use std::test::Fail;
@@ -33,6 +33,12 @@ enum Step {
     States(u64, u64),
     /// So does one of the source nodes.
     Nodes(u64, u64),
+    /// A slice of the states examines so many, tells up to when they stay, and whether the round is over.
+    WatchStates(u64, u64, bool),
+    /// So does one of the source nodes.
+    WatchNodes(u64, u64, bool),
+    /// So many seconds are passed over.
+    PassOver(u64),
     /// So many states and source nodes are held, and so many states were ever made.
     Held(u64, u64, u64),
 }
@@ -195,6 +201,56 @@ fn leave<S: Store>(rt: &impl Abort, store: &mut S, now: u64, step: &Step)
     }
 }
 
+fn watch_states<S: Store>(store: &mut S, now: u64) -> Watched
+    requires order { IsUpToNow now (S.world store.old) }
+    ensures order { IsUpToNow now (S.world store.new) }
+    ensures made_for { S.config store.new ≡ S.config store.old }
+{
+    let mut meter = Meter::new();
+    store.watch_states(now, &mut meter)
+}
+
+fn watch_nodes<S: Store>(store: &mut S, now: u64) -> Watched
+    requires order { IsUpToNow now (S.world store.old) }
+    ensures order { IsUpToNow now (S.world store.new) }
+    ensures made_for { S.config store.new ≡ S.config store.old }
+{
+    store.watch_nodes(now)
+}
+
+fn pass_over<S: Store>(store: &mut S, now: u64, seconds: u64) -> u64
+    requires order { IsUpToNow now (S.world store.old) }
+    ensures order { IsUpToNow now (S.world store.new) }
+    ensures made_for { S.config store.new ≡ S.config store.old }
+{
+    store.pass_over(seconds)
+}
+
+fn watch<S: Store>(rt: &impl Abort, store: &mut S, now: u64, step: &Step)
+    requires order { IsUpToNow now (S.world store.old) }
+    ensures order { IsUpToNow now (S.world store.new) }
+    ensures made_for { S.config store.new ≡ S.config store.old }
+{
+    match *step {
+        Step::WatchStates(examined, until, over) => {
+            let told = watch_states(store, now);
+            assert_eq!(rt;
+                (told.slice.examined, told.until, told.over),
+                (examined, until, over)
+            );
+        }
+        Step::WatchNodes(examined, until, over) => {
+            let told = watch_nodes(store, now);
+            assert_eq!(rt;
+                (told.slice.examined, told.until, told.over),
+                (examined, until, over)
+            );
+        }
+        Step::PassOver(seconds) => assert_eq!(rt; pass_over(store, now, seconds), seconds),
+        _ => {}
+    }
+}
+
 fn look<S: Store>(rt: &impl Abort, store: &S, step: &Step) {
     match *step {
         Step::Holds(number, wanted) => assert_eq!(rt; store.holds(StateNo(number)), wanted),
@@ -225,6 +281,7 @@ fn act<S: Store>(
     let (now, step) = row;
     come(rt, store, config, *now, step)?;
     leave(rt, store, *now, step);
+    watch(rt, store, *now, step);
     look(rt, store, step);
     Ok(())
 }
@@ -430,4 +487,39 @@ fn a_slice_examines_its_share_of_a_round(rt: HostRuntime) -> Result<(), Fail> {
     let rules = b"set limit { states 6, src-nodes 4 }\n\
         set timeout { src.track 20, interval 5, udp.first 5 }\npass keep state (source-track rule)";
     tell(&rt, rules, ROUNDS)
+}
+
+const PASSED: &[Row] = &[
+    (5, Step::Admit(A1, 1, 0, Ok(1))),
+    (5, Step::Admit(A1, 2, 0, Ok(2))),
+    (5, Step::Admit(A1, 3, 0, Ok(3))),
+    (5, Step::Admit(A2, 4, 0, Ok(4))),
+    (5, Step::Admit(A1, 5, 0, Ok(5))),
+    (6, Step::WatchStates(2, 10, false)),
+    (6, Step::WatchNodes(1, u64::MAX, false)),
+    (7, Step::WatchStates(2, 10, false)),
+    (7, Step::WatchNodes(1, u64::MAX, true)),
+    (8, Step::WatchStates(1, 10, true)),
+    (8, Step::PassOver(4)),
+    (13, Step::States(2, 2)),
+    (14, Step::States(1, 1)),
+    (15, Step::WatchStates(2, u64::MAX, true)),
+    (15, Step::WatchNodes(1, 35, false)),
+    (16, Step::WatchNodes(1, 33, true)),
+    (16, Step::PassOver(3)),
+    (33, Step::Nodes(1, 1)),
+    (35, Step::Nodes(1, 1)),
+    (35, Step::Held(0, 0, 5)),
+];
+
+// Of four seconds three are a whole round of the states, and two rounds of the nodes. The states expire at moment 10; the source
+// of the fourth has been idle since moment 13, and the other one since 15
+#[test]
+fn seconds_are_passed_over_by_rounds(rt: HostRuntime) -> Result<(), Fail> {
+    let alloc = rt.alloc();
+    let rules = b"set limit { states 6, src-nodes 4 }\n\
+        set timeout { src.track 20, interval 5, udp.first 5 }\npass keep state (source-track rule)";
+    let config = configured(alloc, UNSCALED, rules)?;
+    let mut indexed = IndexStore::new(alloc, &config)?;
+    follow(&rt, &mut indexed, &config, PASSED)
 }

@@ -259,3 +259,28 @@ fn a_long_jump_is_short_where_nothing_is_held(rt: HostRuntime) -> Result<(), Fai
     works(&rt, b"pass in proto udp all", EMPTY, (0, 0, 0))?;
     works(&rt, b"pass in proto udp all", ONE_STATE, (0, 0, 0))
 }
+
+// A state that lives for 2,147,483,647 seconds, and leaves in the last of them
+const STAYING: &[Row] = &[
+    (Step::Until(0), [0, 0, 0, 0, 0]),
+    (Step::Packet(UDP, A1, 1, NEW), [1, 0, 0, 0, 0]),
+    (Step::Until(2_147_483_646), [0, 1, 4_294_967_292, 1, 1]),
+    (Step::Packet(UDP, A2, 1, NEW), [1, 0, 0, 0, 0]),
+    (Step::Until(2_147_483_647), [0, 2, 2, 2, 2]),
+    (Step::Until(4_294_967_292), [0, 1, 4_294_967_290, 1, 1]),
+    (Step::Until(4_294_967_295), [0, 1, 6, 1, 1]),
+];
+
+#[test]
+fn a_long_jump_is_short_where_what_is_held_stays(rt: HostRuntime) -> Result<(), Fail> {
+    let rules =
+        b"set timeout udp.first 2147483647\npass in proto udp all keep state (source-track rule)";
+    let alloc = rt.alloc();
+    follow(
+        &rt,
+        indexed(alloc, UNSCALED, rules)?,
+        STAYING,
+        true,
+        (0, 0, 0),
+    )
+}
