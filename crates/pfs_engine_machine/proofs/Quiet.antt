@@ -1,5 +1,5 @@
 -- Seconds in which nothing leaves: the world is moved, and so many of them are so many moves.
-use Rattle.std.proofs.Common.{◌≡◌, ◌≤◌, ◌<◌, ◌+◌, ◌-◌, ◌==◌, ◌&&◌, ℕ, zero, suc, Bool, true, false, not, nat_le, nat_lt, if◌then◌else◌, List, [], ◌∷◌, length, take, drop, filter, map, max, min, refl, ap, ◌∙◌, sym, arith, length-take, length-drop}
+use Rattle.std.proofs.Common.{◌≡◌, ◌≤◌, ◌<◌, ◌+◌, ◌-◌, ◌==◌, ◌&&◌, ℕ, zero, suc, Bool, true, false, not, nat_le, nat_lt, if◌then◌else◌, List, [], ◌∷◌, length, take, drop, filter, map, max, refl, ap, ◌∙◌, sym, arith, length-take, length-drop}
 use Rattle.std.specs.List.{AllByRecursion}
 use Rattle.std.proofs.lemmas.Bool.Decides.{nat_tests}
 use Rattle.std.proofs.lemmas.List.Sums.{count_by-le-length, length-filter}
@@ -68,7 +68,7 @@ second-stood conf w s hs hn =
     let es : filter p w.states ≡ w.states = filter-all p w.states (omega (arith, hs)) in
     let q = node_stays conf w.states s (take (node_share conf) (node_round w)) in
     let none : length w.nodes - length (filter q w.nodes) ≡ 0 =
-        sym (ap (λ (v : World). (node_slice_of conf v s).removed) (half-stood conf w s hs)) ∙ hn in
+    sym (ap (λ (v : World). (node_slice_of conf v s).removed) (half-stood conf w s hs)) ∙ hn in
     second-moves conf w s es (filter-all q w.nodes (omega (arith, none)))
 
 -- ---- a quiet second

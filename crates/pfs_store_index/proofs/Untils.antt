@@ -1,7 +1,6 @@
 -- Up to when what was examined stays: of one more, of those of two stretches, and where some leave.
-use Rattle.std.proofs.Common.{◌≡◌, ◌∙◌, ◌≤◌, ◌==◌, ◌||◌, ℕ, Bool, true, false, not, Option, Some, None, List, [], ◌∷◌, ◌++◌, length, filter, min, slice_get, refl, ap, sym, subst, arith, if◌then◌else◌, ◌+◌, drop, take, take-add}
+use Rattle.std.proofs.Common.{◌≡◌, ◌∙◌, ◌≤◌, ◌==◌, ◌||◌, ℕ, Bool, true, false, not, Option, Some, None, List, [], ◌∷◌, ◌++◌, filter, min, slice_get, refl, ap, sym, subst, arith, if◌then◌else◌, ◌+◌, drop, take, take-add}
 use Rattle.std.specs.List.{find, AllByRecursion}
-use Rattle.std.proofs.lemmas.Bool.Decides.{nat_tests}
 use Rattle.pfs_store_plain.specs.Leaving.{other_than}
 use Rattle.pfs_conf_rules.specs.Configs.{Conf}
 use Rattle.pfs_store_plain.specs.Purging.{is_among, state_numbers}
@@ -138,10 +137,10 @@ pub hold-more : (moment : State → ℕ) (i j u v r : ℕ) (ws zs : List ℕ) (p
     → StatesHold moment (take i ws) u xs → StatesHold moment (take j zs) v xs' → StatesHold moment (take (i + j) ws) r xs'
 hold-more moment i j u v r ws zs p xs xs' d e m h k =
     let h' : StatesHold moment (take i ws) u xs' =
-        subst (λ ys. StatesHold moment (take i ws) u ys) (sym e) (hold-filter state_number (λ n (s : State). n ≤ moment s) p (take i ws) u xs h) in
+    subst (λ ys. StatesHold moment (take i ws) u ys) (sym e) (hold-filter state_number (λ n (s : State). n ≤ moment s) p (take i ws) u xs h) in
     let k' : StatesHold moment (take j (drop i ws)) v xs' = subst (λ ys. StatesHold moment (take j ys) v xs') d k in
     let b : StatesHold moment (take i ws ++ take j (drop i ws)) (min u v) xs' =
-        hold-both state_number (λ n (s : State). n ≤ moment s) (less_stays moment) (take i ws) (take j (drop i ws)) u v xs' h' k' in
+    hold-both state_number (λ n (s : State). n ≤ moment s) (less_stays moment) (take i ws) (take j (drop i ws)) u v xs' h' k' in
     subst (λ n. StatesHold moment (take (i + j) ws) n xs') (sym m) (subst (λ ns. StatesHold moment ns (min u v) xs') (sym (take-add i j ws)) b)
 
 -- ---- nodes
@@ -154,10 +153,10 @@ pub node-more : (conf : Conf) (states : List State) (n u v r : ℕ) (before afte
     → r ≡ min u v → NodesHold conf states before u xs → NodeHolds conf states n v xs' → NodesHold conf states after r xs'
 node-more conf states n u v r before after p xs xs' e t m h k =
     let h' : NodesHold conf states before u xs' =
-        subst (λ ys. NodesHold conf states before u ys) (sym e) (hold-filter node_number (NodeStays conf states) p before u xs h) in
+    subst (λ ys. NodesHold conf states before u ys) (sym e) (hold-filter node_number (NodeStays conf states) p before u xs h) in
     let k' : NodesHold conf states (n ∷ []) v xs' = one-among node_number (NodeStays conf states) n v xs' k in
     let b : NodesHold conf states (before ++ n ∷ []) (min u v) xs' =
-        hold-both node_number (NodeStays conf states) (less_kept conf states) before (n ∷ []) u v xs' h' k' in
+    hold-both node_number (NodeStays conf states) (less_kept conf states) before (n ∷ []) u v xs' h' k' in
     subst (λ l. NodesHold conf states after l xs') (sym m) (subst (λ ns. NodesHold conf states ns (min u v) xs') (sym t) b)
 
 -- ---- the round is over

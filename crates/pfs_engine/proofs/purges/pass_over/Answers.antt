@@ -1,4 +1,4 @@
-use Rattle.std.proofs.Common.{◌<◌, ℕ, arith}
+use Rattle.std.proofs.Common.{◌<◌, arith}
 use Rattle.pfs_engine.proofs.Watching.{none-watched, way-passed}
 use Rattle.pfs_engine.proofs.purges.pass_over.Goals as goal
 

@@ -1,4 +1,4 @@
-use Rattle.std.proofs.Common.{◌≡◌, ◌∙◌, ◌+◌, ap, max, sym, arith}
+use Rattle.std.proofs.Common.{◌+◌, ap}
 use Rattle.pfs_engine_machine.proofs.Purging.{nodes_seen, purge_made, states_seen}
 use Rattle.pfs_engine.specs.declared.works.Work.{Work}
 use Rattle.pfs_engine.proofs.Watching.{second-watched, second-way}

@@ -1,4 +1,4 @@
-use Rattle.std.proofs.Common.{◌∙◌, None, Some, arith, refl, subst, sym}
+use Rattle.std.proofs.Common.{◌∙◌, None, Some, arith, subst, sym}
 use Rattle.pfs_store_records.specs.Keeping.{held, record_in}
 use Rattle.pfs_store_records.specs.Records.{states_of}
 use Rattle.pfs_store_records.proofs.Walking.{Each, Stays, Until, each-empty, is-walk, next-leaves, next-there, none-leaves, one-stays, share-used, until-more, until-states, walking-init, walking-step}

@@ -1,4 +1,4 @@
-use Rattle.std.proofs.Common.{◌≡◌, ◌∙◌, ap, arith, drop, sym}
+use Rattle.std.proofs.Common.{◌≡◌, ◌∙◌, ap, arith, drop}
 use Rattle.pfs_store_records.proofs.Turning.{among, passed-all, passed-drop}
 use Rattle.pfs_store_records.proofs.Walking.{walking-init, walking-step}
 use Rattle.pfs_store_records.proofs.rounds.passed.Goals as goal

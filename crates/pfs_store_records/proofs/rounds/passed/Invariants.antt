@@ -1,4 +1,4 @@
-use Rattle.std.proofs.Common.{◌≡◌, ◌≤◌, ◌-◌}
+use Rattle.std.proofs.Common.{◌≤◌, ◌-◌}
 use Rattle.pfs_store_records.proofs.Turning.{Passing}
 use Rattle.pfs_store_records.proofs.rounds.passed.Given as goal
 
