@@ -142,6 +142,18 @@ fn answer(map: &IndexMap<Prefix, Mark>, lengths: &Lengths, addr: Addr) -> bool
     requires { AreKept map.now.entries lengths.now }
     ensures { result ≡ answer_of map.now.entries addr }
 {
+    // A loop for each family, so that none asks again which it is.
+    match addr {
+        Addr::V4(bytes) => answer_by_lengths(map, lengths, Addr::V4(bytes)),
+        Addr::V6(bytes) => answer_by_lengths(map, lengths, Addr::V6(bytes)),
+    }
+}
+
+#[inline(always)]
+fn answer_by_lengths(map: &IndexMap<Prefix, Mark>, lengths: &Lengths, addr: Addr) -> bool
+    requires { AreKept map.now.entries lengths.now }
+    ensures { result ≡ answer_of map.now.entries addr }
+{
     let mut below = lengths.below(addr, addr.width() + 1);
     while below > 0 {
         let bits = below - 1;
@@ -154,6 +166,7 @@ fn answer(map: &IndexMap<Prefix, Mark>, lengths: &Lengths, addr: Addr) -> bool
 }
 
 /// The mark of the entry that is the prefix of this address with so many bits, if there is one.
+#[inline(always)]
 fn mark_at(map: &IndexMap<Prefix, Mark>, addr: Addr, bits: u8) -> Option<Mark>
     requires bits { bits ≤ width_of addr }
     requires networks { All (λ (x : Entry). IsNetwork x.0) map.now.entries }

@@ -2,7 +2,7 @@ use Rattle.std.proofs.Common.{◌≤◌, ◌+◌, ◌-◌, ◌∙◌, arith, sym
 use Rattle.pfs_addr.specs.Addresses.{width_of}
 use Rattle.pfs_eval.specs.Lengths.{below}
 use Rattle.pfs_eval.proofs.Narrowest.{below-all, answer-found, answer-less, answer-none, next-below}
-use Rattle.pfs_eval.proofs.entries.answer.Goals as goal
+use Rattle.pfs_eval.proofs.entries.answer_by_lengths.Goals as goal
 
 pub loop-below-init : goal.loop-below-init
 loop-below-init c =
