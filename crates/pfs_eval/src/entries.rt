@@ -109,7 +109,7 @@ impl Table {
         ensures no_memory { 0 < self.old.spare → IsOk result }
     {
         self.map.insert(addr.prefix(bits), mark)?;
-        self.lengths.note(addr, bits);
+        self.lengths.note(addr, addr.width() - bits);
         Ok(())
     }
 
@@ -154,13 +154,13 @@ fn answer_by_lengths(map: &IndexMap<Prefix, Mark>, lengths: &Lengths, addr: Addr
     requires { AreKept map.now.entries lengths.now }
     ensures { result ≡ answer_of map.now.entries addr }
 {
-    let mut below = lengths.below(addr, addr.width() + 1);
-    while below > 0 {
-        let bits = below - 1;
-        if let Some(mark) = mark_at(map, addr, bits) {
+    let width = addr.width();
+    let mut hidden = lengths.next(addr, 0);
+    while hidden <= width {
+        if let Some(mark) = mark_at(map, addr, width - hidden) {
             return !mark.negated;
         }
-        below = lengths.below(addr, bits);
+        hidden = lengths.next(addr, hidden + 1);
     }
     false
 }

@@ -1,29 +1,32 @@
-use Rattle.std.proofs.Common.{◌≤◌, ◌+◌, ◌-◌, ◌∙◌, arith, sym}
+-- Answers of answer_by_lengths: the entry of the longest length decides; where none is found at any length, no.
+use Rattle.std.proofs.Common.{◌≤◌, ◌+◌, ◌∙◌, arith, sym}
 use Rattle.pfs_addr.specs.Addresses.{width_of}
-use Rattle.pfs_eval.specs.Lengths.{below}
-use Rattle.pfs_eval.proofs.Narrowest.{below-all, answer-found, answer-less, answer-none, next-below}
+use Rattle.pfs_eval.proofs.Narrowest.{AreBelow, hidden-all, hidden-found, hidden-less, hidden-none, next-below}
 use Rattle.pfs_eval.proofs.entries.answer_by_lengths.Goals as goal
 
-pub loop-below-init : goal.loop-below-init
-loop-below-init c =
+pub loop-hidden-init : goal.loop-hidden-init
+loop-hidden-init c =
     let a = c.args.addr in
-    let less = c.requires.less a (width_of a + 1) (omega arith) in
-    let first = next-below c.args.lengths.now a (width_of a + 1) c.args.map.now.entries c.requires.noted (omega arith) (below-all a c.args.map.now.entries c.requires.networks) in
-    rw (c.below-below.ensures, c.width.ensures) (less, first)
+    let es = c.args.map.now.entries in
+    rw c.next-hidden.ensures
+    (c.requires.on.most a 0 (omega arith), next-below c.args.lengths.now a 0 es c.requires.noted (hidden-all a es c.requires.networks))
 
 pub returns-in-Some : goal.returns-in-Some
 returns-in-Some c =
-    answer-found c.args.addr c.loop-below.below c.args.map.now.entries c.in-Some.mark c.loop-below-test.true c.loop-below.invariant.1 (sym c.mark_at.ensures ∙ c.in-Some.is)
+    hidden-found c.args.addr c.width-width.result c.loop-hidden.hidden c.args.map.now.entries c.in-Some.mark c.width-width.ensures c.loop-hidden-test.true
+    c.loop-hidden.invariant.1 (sym c.mark_at.ensures ∙ c.in-Some.is)
 
-pub loop-below-preserved : goal.loop-below-preserved
-loop-below-preserved c =
+pub loop-hidden-preserved : goal.loop-hidden-preserved
+loop-hidden-preserved c =
     let a = c.args.addr in
-    let n = c.loop-below.below - 1 in
-    let most = c.loop-below.invariant.0 in
-    let less = c.requires.less a n (omega arith) in
-    let small : below c.args.lengths.now a n ≤ width_of a + 1 = omega arith in
-    let shorter = answer-less a c.loop-below.below c.args.map.now.entries c.loop-below-test.true c.loop-below.invariant.1 (sym c.mark_at.ensures ∙ c.in_default.is) in
-    rw c.below-below-in-loop-below.ensures (small, next-below c.args.lengths.now a n c.args.map.now.entries c.requires.noted (omega arith) shorter)
+    let es = c.args.map.now.entries in
+    let n = c.loop-hidden.hidden + 1 in
+    let fewer = hidden-less a c.width-width.result c.loop-hidden.hidden es c.width-width.ensures c.loop-hidden-test.true
+    c.loop-hidden.invariant.1 (sym c.mark_at.ensures ∙ c.in_default.is) in
+    let within : n ≤ width_of a + 1 = omega arith in
+    rw c.next-hidden-in-loop-hidden.ensures
+    (c.requires.on.most a n within, next-below c.args.lengths.now a n es c.requires.noted fewer)
 
 pub returns : goal.returns
-returns c = answer-none c.args.addr c.loop-below.below c.args.map.now.entries (omega arith) c.loop-below.invariant.1
+returns c =
+    hidden-none c.args.addr c.width-width.result c.loop-hidden.hidden c.args.map.now.entries c.width-width.ensures c.loop-hidden-test.false c.loop-hidden.invariant.1
