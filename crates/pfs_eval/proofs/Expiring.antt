@@ -17,7 +17,7 @@ pub kept-filtered : (p : Entry → Bool) (es : List Entry) (lengths : Lengths) �
 kept-filtered p es lengths k = record {
   networks = All-filter p (λ (x : Entry). IsNetwork x.0) es k.networks;
   long = k.long;
-  less = k.less;
+  on = k.on;
   noted = All-filter p (λ (x : Entry). IsNoted lengths x.0) es k.noted;
 }
 

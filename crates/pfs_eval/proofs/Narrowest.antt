@@ -1,5 +1,5 @@
-use Rattle.std.proofs.Common.{◌≡◌, ◌≢◌, ℕ, ◌+◌, ◌-◌, ◌<◌, ◌≤◌, ◌==◌, suc, Bool, true, false, not, ◌&&◌, ◌||◌, cond, nat_le, nat_lt, List, [], ◌∷◌, ◌++◌, Option, Some, None, refl, ap, sym, ◌∙◌, arith, subst, eq-eqb, eqb-true}
-use Rattle.std.specs.Prelude.{All, is_some, max, replicate}
+use Rattle.std.proofs.Common.{◌≡◌, ◌≢◌, ℕ, ◌+◌, ◌-◌, ◌<◌, ◌≤◌, ◌==◌, suc, Bool, true, false, not, ◌&&◌, ◌||◌, cond, nat_le, List, [], ◌∷◌, ◌++◌, Option, Some, None, refl, ap, sym, ◌∙◌, arith, subst, eq-eqb, eqb-true}
+use Rattle.std.specs.Prelude.{All, is_some, min, replicate}
 use Rattle.std.specs.Map.{lookup}
 use Rattle.indexmap.specs.IndexMap.{insert_entry}
 use Rattle.std.proofs.lemmas.List.Elements.{All-append, All-cons, All-head, All-nil, All-tail}
@@ -10,10 +10,10 @@ use Rattle.pfs_addr.specs.declared.addresses.Addr.{Addr}
 use Rattle.pfs_addr.specs.declared.addresses.Addr.TheVariants.{V4, V6}
 use Rattle.pfs_addr.specs.Addresses.{IsAddr, same_family, width_of}
 use Rattle.pfs_addr.specs.Prefixes.{Network, IsNetwork, cleared, covers, network_of}
-use Rattle.pfs_addr.proofs.PrefixLaws.{cleared_family, covers_true, network_covers, network_of_is_network}
+use Rattle.pfs_addr.proofs.PrefixLaws.{cleared_family, cleared_width, covers_true, network_covers, network_of_is_network}
 use Rattle.pfs_eval.specs.Entries.{Entry, narrower, narrowest, says_yes, answer_of, is_prefix_of, mark_at, holds_prefix}
 use Rattle.pfs_eval.specs.Holdings.{AreKept}
-use Rattle.pfs_eval.specs.Lengths.{AreLong, IsNoted, below}
+use Rattle.pfs_eval.specs.Lengths.{AreLong, AreOn, IsNoted, next}
 use Rattle.pfs_eval.specs.declared.lengths.Lengths.{Lengths}
 use Rattle.pfs_eval.specs.declared.entries.Mark.{Mark}
 
@@ -190,7 +190,7 @@ same_width (V4 x) (V6 y) f = absurd (cc f)
 same_width (V6 x) (V4 y) f = absurd (cc f)
 
 -- all prefixes have at most as many bits as the address
-pub below-all : (a : Addr) (es : List Entry) → All (λ (x : Entry). IsNetwork x.0) es → AreBelow (width_of a + 1) a es
+below-all : (a : Addr) (es : List Entry) → All (λ (x : Entry). IsNetwork x.0) es → AreBelow (width_of a + 1) a es
 unfolding AreBelow
 below-all a [] h = tt
 below-all a (x ∷ es) h =
@@ -202,20 +202,45 @@ suc_less b h = omega arith
 
 -- ---- the look-up by one length after another
 
-pub answer-found : (a : Addr) (b : ℕ) (es : List Entry) (mark : Mark) → 0 < b → AreBelow b a es
+answer-found : (a : Addr) (b : ℕ) (es : List Entry) (mark : Mark) → 0 < b → AreBelow b a es
     → mark_at es a (b - 1) ≡ Some mark → not mark.negated ≡ answer_of es a
 answer-found a b es mark h k e =
     let f = found-narrowest a (b - 1) es mark (subst (λ n. AreBelow n a es) (suc_less b h) k) e in
     sym (ap says_yes f.is ∙ ap (λ (m : Mark). not m.negated) f.marked)
 
-pub answer-less : (a : Addr) (b : ℕ) (es : List Entry) → 0 < b → AreBelow b a es → mark_at es a (b - 1) ≡ None
+answer-less : (a : Addr) (b : ℕ) (es : List Entry) → 0 < b → AreBelow b a es → mark_at es a (b - 1) ≡ None
     → AreBelow (b - 1) a es
 answer-less a b es h k e = below-less a (b - 1) es (subst (λ n. AreBelow n a es) (suc_less b h) k) e
 
-pub answer-none : (a : Addr) (b : ℕ) (es : List Entry) → b ≤ 0 → AreBelow b a es → false ≡ answer_of es a
+answer-none : (a : Addr) (b : ℕ) (es : List Entry) → b ≤ 0 → AreBelow b a es → false ≡ answer_of es a
 answer-none a b es h k =
     let z : b ≡ 0 = omega arith in
     sym (ap says_yes (below-none a es (subst (λ n. AreBelow n a es) z k)))
+
+-- the same, by how many bits a length leaves out
+
+pub hidden-found : (a : Addr) (w hidden : ℕ) (es : List Entry) (mark : Mark) → w ≡ width_of a → hidden ≤ w
+    → AreBelow (width_of a + 1 - hidden) a es → mark_at es a (w - hidden) ≡ Some mark → not mark.negated ≡ answer_of es a
+hidden-found a w hidden es mark is within k e =
+    let bits : w - hidden ≡ width_of a + 1 - hidden - 1 = omega arith in
+    answer-found a (width_of a + 1 - hidden) es mark (omega arith) k (subst (λ n. mark_at es a n ≡ Some mark) bits e)
+
+pub hidden-less : (a : Addr) (w hidden : ℕ) (es : List Entry) → w ≡ width_of a → hidden ≤ w
+    → AreBelow (width_of a + 1 - hidden) a es → mark_at es a (w - hidden) ≡ None → AreBelow (width_of a + 1 - (hidden + 1)) a es
+hidden-less a w hidden es is within k e =
+    let bits : w - hidden ≡ width_of a + 1 - hidden - 1 = omega arith in
+    let fewer : width_of a + 1 - hidden - 1 ≡ width_of a + 1 - (hidden + 1) = omega arith in
+    subst (λ n. AreBelow n a es) fewer
+    (answer-less a (width_of a + 1 - hidden) es (omega arith) k (subst (λ n. mark_at es a n ≡ None) bits e))
+
+pub hidden-none : (a : Addr) (w hidden : ℕ) (es : List Entry) → w ≡ width_of a → w < hidden
+    → AreBelow (width_of a + 1 - hidden) a es → false ≡ answer_of es a
+hidden-none a w hidden es is past k = answer-none a (width_of a + 1 - hidden) es (omega arith) k
+
+pub hidden-all : (a : Addr) (es : List Entry) → All (λ (x : Entry). IsNetwork x.0) es → AreBelow (width_of a + 1 - 0) a es
+hidden-all a es h =
+    let whole : width_of a + 1 ≡ width_of a + 1 - 0 = omega arith in
+    subst (λ n. AreBelow n a es) whole (below-all a es h)
 
 -- ---- one more entry
 
@@ -243,81 +268,95 @@ all-added es a n mark h k short =
 -- ---- the lengths that entries have
 
 -- addresses of one family have the same lengths
-same_lengths : (l : Lengths) (p a : Addr) (n : ℕ) → same_family p a ≡ true → below l p n ≡ below l a n
+same_lengths : (l : Lengths) (p a : Addr) (n : ℕ) → same_family p a ≡ true → next l p n ≡ next l a n
 same_lengths l (V4 x) (V4 y) n f = refl
 same_lengths l (V6 x) (V6 y) n f = refl
 same_lengths l (V4 x) (V6 y) n f = absurd (cc f)
 same_lengths l (V6 x) (V4 y) n f = absurd (cc f)
 
--- what covers an address and is shorter than a number of bits has a length that stands there
+-- what covers an address and leaves out so many bits or more leaves out no fewer than are next
 pub next-below : (l : Lengths) (a : Addr) (n : ℕ) (es : List Entry) → All (λ (x : Entry). IsNoted l x.0) es
-    → n ≤ width_of a + 1 → AreBelow n a es → AreBelow (below l a n) a es
+    → AreBelow (width_of a + 1 - n) a es → AreBelow (width_of a + 1 - next l a n) a es
 unfolding AreBelow
-next-below l a n [] h short k = tt
-next-below l a n (x ∷ es) h short k =
+next-below l a n [] h k = tt
+next-below l a n (x ∷ es) h k =
     let P : Entry → Type 0 = λ y. IsNoted l y.0 in (
       λ c. let family = covers_family x.0 a c in
           let w = same_width x.0.addr a family in
           let same = same_lengths l x.0.addr a n family in
-          let more = All-head P x es h n (k.0 c) (omega arith) in omega arith,
-      next-below l a n es (All-tail P x es h) short k.1,
+          let fewer = k.0 c in
+          let more = All-head P x es h n (omega arith) in omega arith,
+      next-below l a n es (All-tail P x es h) k.1,
     )
 
-none_below : (a : Addr) (n : ℕ) → n ≤ width_of a + 1 → below (record { inet = replicate 34 0; inet6 = replicate 130 0 }) a n ≡ 0
-none_below (V4 x) n h = get_or-replicate 34 n 0 0 (omega arith)
-none_below (V6 x) n h = get_or-replicate 130 n 0 0 (omega arith)
+none_next : (a : Addr) (n : ℕ) → n ≤ width_of a + 1
+    → next (record { inet = replicate 34 33; inet6 = replicate 130 129 }) a n ≡ width_of a + 1
+none_next (V4 x) n h = get_or-replicate 34 n 33 0 (omega arith)
+none_next (V6 x) n h = get_or-replicate 130 n 129 0 (omega arith)
 
 -- without an entry no length is noted
-pub kept-none : AreKept [] (record { inet = replicate 34 0; inet6 = replicate 130 0 })
+pub kept-none : AreKept [] (record { inet = replicate 34 33; inet6 = replicate 130 129 })
 kept-none = record {
   networks = All-nil (λ (x : Entry). IsNetwork x.0);
   long = (refl, refl);
-  less = (λ a n h. let z = none_below a n h in omega arith);
-  noted = All-nil (λ (x : Entry). IsNoted (record { inet = replicate 34 0; inet6 = replicate 130 0 }) x.0);
+  on = record {
+    least = (λ a n h. let z = none_next a n h in omega arith);
+    most = (λ a n h. let z = none_next a n h in omega arith);
+  };
+  noted = All-nil (λ (x : Entry). IsNoted (record { inet = replicate 34 33; inet6 = replicate 130 129 }) x.0);
 }
 
--- a length is noted at all numbers of bits above it, for the family of an address
-pub record Notes (old new : Lengths) (b : Addr) (bits : ℕ) : Type 0 where
+-- that a prefix leaves out so many bits is noted, for the family of an address
+pub record Notes (old new : Lengths) (b : Addr) (hidden : ℕ) : Type 0 where
   pub at : (a : Addr) (n : ℕ) → n ≤ width_of a + 1
-      → below new a n ≡ cond (same_family a b && nat_lt bits n) (max (below old a n) (bits + 1)) (below old a n)
+      → next new a n ≡ cond (same_family a b && nat_le n hidden) (min (next old a n) hidden) (next old a n)
 
-noted_less : (old new bits n : ℕ) (s : Bool) → new ≡ cond (s && nat_lt bits n) (max old (bits + 1)) old → old ≤ n → new ≤ n
-noted_less old new bits n s e h = by (s && nat_lt bits n) refl
+-- what stands at a number of bits afterwards is at least that number, and at most what stood there
+noted_on : (old new hidden n : ℕ) (s : Bool) → new ≡ cond (s && nat_le n hidden) (min old hidden) old → n ≤ old
+    → (n ≤ new) × (new ≤ old)
+noted_on old new hidden n s e h = by (s && nat_le n hidden) refl
   where
-    by : (b : Bool) → (s && nat_lt bits n) ≡ b → new ≤ n
+    by : (b : Bool) → (s && nat_le n hidden) ≡ b → (n ≤ new) × (new ≤ old)
     by true t =
-        let f : new ≡ max old (bits + 1) = e ∙ cond-true (s && nat_lt bits n) _ _ t in
-        let over : nat_lt bits n ≡ true = (and_parts s (nat_lt bits n) t).1 in
-        let l : bits < n = grind (arith, nat_tests) in
-        omega arith
-    by false t = let f : new ≡ old = e ∙ cond-false (s && nat_lt bits n) _ _ t in omega arith
+        let f : new ≡ min old hidden = e ∙ cond-true (s && nat_le n hidden) _ _ t in
+        let within : nat_le n hidden ≡ true = (and_parts s (nat_le n hidden) t).1 in
+        let l : n ≤ hidden = grind (arith, nat_tests) in
+        (omega arith, omega arith)
+    by false t = let f : new ≡ old = e ∙ cond-false (s && nat_le n hidden) _ _ t in (omega arith, omega arith)
 
-still_noted : (old new bits n k : ℕ) (s : Bool) → new ≡ cond (s && nat_lt bits n) (max old (bits + 1)) old → k < old → k < new
-still_noted old new bits n k s e h = by (s && nat_lt bits n) refl
-  where
-    by : (b : Bool) → (s && nat_lt bits n) ≡ b → k < new
-    by true t = let f : new ≡ max old (bits + 1) = e ∙ cond-true (s && nat_lt bits n) _ _ t in omega arith
-    by false t = let f : new ≡ old = e ∙ cond-false (s && nat_lt bits n) _ _ t in omega arith
+new_noted : (old new hidden n : ℕ) (s : Bool) → new ≡ cond (s && nat_le n hidden) (min old hidden) old → s ≡ true → n ≤ hidden
+    → new ≤ hidden
+new_noted old new hidden n s e is h =
+    let within : nat_le n hidden ≡ true = grind (arith, nat_tests) in
+    let f : new ≡ min old hidden = e ∙ cond-true (s && nat_le n hidden) _ _ (and_from _ _ is within) in
+    omega arith
 
-new_noted : (old new bits n : ℕ) (s : Bool) → new ≡ cond (s && nat_lt bits n) (max old (bits + 1)) old → s ≡ true → bits < n
-    → bits < new
-new_noted old new bits n s e is h =
-    let over : nat_lt bits n ≡ true = grind (arith, nat_tests) in
-    let f : new ≡ max old (bits + 1) = e ∙ cond-true (s && nat_lt bits n) _ _ (and_from _ _ is over) in
+-- what was noted stays so
+still_noted : (old new : Lengths) (b : Addr) (hidden : ℕ) (p : Network) → Notes old new b hidden → AreOn old → IsNoted old p → IsNoted new p
+still_noted old new b hidden p notes on h n few =
+    let within : n ≤ width_of p.addr + 1 = omega arith in
+    let less = (noted_on (next old p.addr n) (next new p.addr n) hidden n (same_family p.addr b) (notes.at p.addr n within) (on.least p.addr n within)).1 in
+    let before = h n few in
     omega arith
 
 -- one more entry, with its length noted
-pub kept-added : (es : List Entry) (old new : Lengths) (a : Addr) (n : ℕ) (mark : Mark) → AreKept es old → IsAddr a
-    → n ≤ width_of a → AreLong new → Notes old new a n → AreKept (es ++ (network_of a n, mark) ∷ []) new
-kept-added es old new a n mark h k short long notes =
+pub kept-added : (es : List Entry) (old new : Lengths) (a : Addr) (n hidden : ℕ) (mark : Mark) → AreKept es old → IsAddr a
+    → n ≤ width_of a → hidden ≡ width_of a - n → AreLong new → Notes old new a hidden
+    → AreKept (es ++ (network_of a n, mark) ∷ []) new
+kept-added es old new a n hidden mark h k short rest long notes =
     let P : Entry → Type 0 = λ x. IsNoted new x.0 in
+    let wide = cleared_width n a in
     record {
       networks = all-added es a n mark h.networks k short;
       long = long;
-      less = (λ b m l. noted_less (below old b m) (below new b m) n m (same_family b a) (notes.at b m l) (h.less b m l));
+      on = record {
+        least = (λ b m l. (noted_on (next old b m) (next new b m) hidden m (same_family b a) (notes.at b m l) (h.on.least b m l)).0);
+        most = (λ b m l. let less = (noted_on (next old b m) (next new b m) hidden m (same_family b a) (notes.at b m l) (h.on.least b m l)).1 in
+            let most = h.on.most b m l in omega arith);
+      };
       noted =
           All-append P es ((network_of a n, mark) ∷ [])
-          (λ i d l m more few. still_noted (below old _ m) (below new _ m) n m _ _ (notes.at _ m few) (h.noted i d l m more few))
+          (λ i d l m few. still_noted old new a hidden _ notes h.on (h.noted i d l) m few)
           (All-cons P (network_of a n, mark) []
-          (λ m more few. new_noted (below old (cleared n a) m) (below new (cleared n a) m) n m (same_family (cleared n a) a) (notes.at (cleared n a) m few) (cleared_family n a) more) (All-nil P));
+          (λ m few. let fewer = new_noted (next old (cleared n a) m) (next new (cleared n a) m) hidden m (same_family (cleared n a) a) (notes.at (cleared n a) m (omega arith)) (cleared_family n a) (omega arith) in omega arith) (All-nil P));
     }

@@ -1,7 +1,7 @@
 use Rattle.std.specs.Prelude.{ℕ, All, List, map}
 use Rattle.pfs_addr.specs.Prefixes.{IsNetwork}
 use Rattle.pfs_eval.specs.Entries.{Entry}
-use Rattle.pfs_eval.specs.Lengths.{AreLess, AreLong, IsNoted}
+use Rattle.pfs_eval.specs.Lengths.{AreOn, AreLong, IsNoted}
 use Rattle.pfs_eval.specs.declared.lengths.Lengths.{Lengths}
 
 -- what a table holds: its entries in order, and how many more fit without memory
@@ -28,5 +28,5 @@ holdings tables limit = record {
 pub record AreKept (entries : List Entry) (lengths : Lengths) : Type 0 where
   pub networks : All (λ (x : Entry). IsNetwork x.0) entries
   pub long : AreLong lengths
-  pub less : AreLess lengths
+  pub on : AreOn lengths
   pub noted : All (λ (x : Entry). IsNoted lengths x.0) entries

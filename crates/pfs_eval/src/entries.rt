@@ -109,7 +109,7 @@ impl Table {
         ensures no_memory { 0 < self.old.spare → IsOk result }
     {
         self.map.insert(addr.prefix(bits), mark)?;
-        self.lengths.note(addr, bits);
+        self.lengths.note(addr, addr.width() - bits);
         Ok(())
     }
 
@@ -142,18 +142,31 @@ fn answer(map: &IndexMap<Prefix, Mark>, lengths: &Lengths, addr: Addr) -> bool
     requires { AreKept map.now.entries lengths.now }
     ensures { result ≡ answer_of map.now.entries addr }
 {
-    let mut below = lengths.below(addr, addr.width() + 1);
-    while below > 0 {
-        let bits = below - 1;
-        if let Some(mark) = mark_at(map, addr, bits) {
+    // A loop for each family, so that none asks again which it is.
+    match addr {
+        Addr::V4(bytes) => answer_by_lengths(map, lengths, Addr::V4(bytes)),
+        Addr::V6(bytes) => answer_by_lengths(map, lengths, Addr::V6(bytes)),
+    }
+}
+
+#[inline(always)]
+fn answer_by_lengths(map: &IndexMap<Prefix, Mark>, lengths: &Lengths, addr: Addr) -> bool
+    requires { AreKept map.now.entries lengths.now }
+    ensures { result ≡ answer_of map.now.entries addr }
+{
+    let width = addr.width();
+    let mut hidden = lengths.next(addr, 0);
+    while hidden <= width {
+        if let Some(mark) = mark_at(map, addr, width - hidden) {
             return !mark.negated;
         }
-        below = lengths.below(addr, bits);
+        hidden = lengths.next(addr, hidden + 1);
     }
     false
 }
 
 /// The mark of the entry that is the prefix of this address with so many bits, if there is one.
+#[inline(always)]
 fn mark_at(map: &IndexMap<Prefix, Mark>, addr: Addr, bits: u8) -> Option<Mark>
     requires bits { bits ≤ width_of addr }
     requires networks { All (λ (x : Entry). IsNetwork x.0) map.now.entries }

@@ -1,67 +1,69 @@
 //! The lengths of a table's prefixes, by which its entries are looked up: the longest first.
 
-ghost use Rattle.std.specs.Prelude.{◌≡◌, ◌&&◌, ◌+◌, ◌<◌, ◌≤◌, ℕ, if◌then◌else◌, length, max, nat_le, nat_lt, replicate, slice_index};
+ghost use Rattle.std.specs.Prelude.{◌≡◌, ◌&&◌, ◌+◌, ◌-◌, ◌<◌, ◌≤◌, ℕ, if◌then◌else◌, length, min, nat_le, replicate, slice_index};
 ghost use Rattle.pfs_addr.specs.Addresses.{same_family, width_of};
 ghost use Rattle.pfs_addr.specs.declared.addresses.Addr.{Addr};
-ghost use Rattle.pfs_eval.specs.Lengths.{AreLong, below};
+ghost use Rattle.pfs_eval.specs.Lengths.{AreLong, next};
 
 use pfs_addr::Addr;
 
-/// Which lengths the prefixes of a table have or had. At each number of bits stands one more than the longest of these
-/// lengths below it, or 0 where there is none.
+/// Which lengths the prefixes of a table have or had, told by how many bits they leave out: 0 of a host. At each number
+/// stands the least such number from it on, or one more than the address has bits.
 #[derive(Debug, Clone, Copy)]
 pub struct Lengths {
-    /// For IPv4, at 0 to 33 bits.
+    /// For IPv4, at 0 to 33 bits left out.
     inet: [u8; 34],
-    /// For IPv6, at 0 to 129 bits.
+    /// For IPv6, at 0 to 129 bits left out.
     inet6: [u8; 130],
 }
 
 impl Lengths {
     /// No lengths.
     pub fn none() -> Lengths
-        ensures { result ≡ record { inet = replicate 34 0; inet6 = replicate 130 0 } }
+        ensures { result ≡ record { inet = replicate 34 33; inet6 = replicate 130 129 } }
     {
         Lengths {
-            inet: [0; 34],
-            inet6: [0; 130],
+            inet: [33; 34],
+            inet6: [129; 130],
         }
     }
 
-    /// One more than the longest length below a number of bits that a prefix of this address's family has or had, or 0.
+    /// The fewest bits, from a number on, that a prefix of this address's family leaves out or left out, or one more than
+    /// the address has.
     #[inline(always)]
-    pub fn below(&self, addr: Addr, bits: u8) -> u8
-        requires bits { bits ≤ width_of addr + 1 }
+    pub fn next(&self, addr: Addr, from: u8) -> u8
+        requires from { from ≤ width_of addr + 1 }
         requires long { AreLong self.now }
-        ensures { result ≡ below self.now addr bits }
+        ensures { result ≡ next self.now addr from }
     {
         match addr {
-            Addr::V4(_) => self.inet[usize::from(bits)],
-            Addr::V6(_) => self.inet6[usize::from(bits)],
+            Addr::V4(_) => self.inet[usize::from(from)],
+            Addr::V6(_) => self.inet6[usize::from(from)],
         }
     }
 
-    /// Notes the length of a prefix of this address.
-    pub fn note(&mut self, addr: Addr, bits: u8)
-        requires bits { bits ≤ width_of addr }
+    /// Notes that a prefix of this address leaves out so many bits.
+    pub fn note(&mut self, addr: Addr, hidden: u8)
+        requires hidden { hidden ≤ width_of addr }
         requires long { AreLong self.old }
         ensures long { AreLong self.new }
         ensures noted { (a : Addr) (n : ℕ) → n ≤ width_of a + 1 →
-            below self.new a n ≡ (if same_family a addr && nat_lt bits n then max (below self.old a n) (bits + 1) else below self.old a n) }
+            next self.new a n ≡ (if same_family a addr && nat_le n hidden then min (next self.old a n) hidden else next self.old a n) }
     {
         match addr {
-            Addr::V4(_) => raise_from(&mut self.inet, bits + 1),
-            Addr::V6(_) => raise_from(&mut self.inet6, bits + 1),
+            Addr::V4(_) => lower_up_to(&mut self.inet, hidden),
+            Addr::V6(_) => lower_up_to(&mut self.inet6, hidden),
         }
     }
 }
 
-// Raises what stands at each place from one on to at least that place.
-fn raise_from(places: &mut [u8], from: u8)
+// Lowers what stands at each place up to the last one to at most that place.
+fn lower_up_to(places: &mut [u8], last: u8)
+    requires { last < length places.old }
     ensures { (n : ℕ) → n < length places.old →
-        slice_index places.new n ≡ (if nat_le from n then max (slice_index places.old n) from else slice_index places.old n) }
+        slice_index places.new n ≡ (if nat_le n last then min (slice_index places.old n) last else slice_index places.old n) }
 {
-    for place in usize::from(from)..places.len() {
-        places[place] = places[place].max(from);
+    for place in 0..usize::from(last) + 1 {
+        places[place] = places[place].min(last);
     }
 }

@@ -11,6 +11,11 @@ pub const A1: Addr = Addr::V4([198, 51, 100, 1]);
 
 const SERVER: Addr = Addr::V4([192, 0, 2, 1]);
 
+/// A source and a server of IPv6: 2001:db8::1 and 2001:db8::53.
+pub const S6: Addr = Addr::V6([0x20, 1, 0xd, 0xb8, 0, 0, 0, 0, 0, 0, 0, 0, 0, 0, 0, 1]);
+
+const SERVER6: Addr = Addr::V6([0x20, 1, 0xd, 0xb8, 0, 0, 0, 0, 0, 0, 0, 0, 0, 0, 0, 0x53]);
+
 /// No flag, and those of a connection.
 pub const NONE: Flags = Flags {
     fin: false,
@@ -31,7 +36,7 @@ pub const ACK: Flags = Flags { ack: true, ..NONE };
 
 pub const FIN_ACK: Flags = Flags { fin: true, ..ACK };
 
-/// A packet from port 1000 of a source to a port of the server; one of TCP opens a connection.
+/// A packet from port 1000 of a source to a port of the server of its family; one of TCP opens a connection.
 pub fn packet(dir: Dir, proto: Proto, source: Addr, port: u16) -> Result<Packet, Fail>
     requires { has_ports proto ≡ true }
 {
@@ -40,6 +45,7 @@ pub fn packet(dir: Dir, proto: Proto, source: Addr, port: u16) -> Result<Packet,
         addr: source,
         port: 1000,
     };
-    let to = Endpoint { addr: SERVER, port };
+    let server = if source.is_ipv6() { SERVER6 } else { SERVER };
+    let to = Endpoint { addr: server, port };
     Ok(Packet::new(dir, ifname, proto, from, to, SYN))
 }

@@ -1,31 +1,44 @@
 //! The tables of a configuration: which entry answers, and which hosts are added.
 
-use crate::packets::A1;
+use crate::packets::{A1, S6};
 use crate::texts::configured;
-use pfs_addr::Addr;
+use pfs_addr::{Addr, parse_addr};
 use pfs_conf::TableNo;
 use pfs_eval::{Added, Tables};
 use std::test::Fail;
 
-const ANSWERS: &[(u32, [u8; 4], bool)] = &[
-    (0, [10, 2, 0, 1], true),
-    (0, [10, 1, 0, 1], false),
-    (0, [10, 1, 2, 3], true),
-    (0, [11, 0, 0, 1], false),
-    (2, [198, 51, 100, 1], false),
+const TABLES: &[u8] =
+    b"table <t> { 10.0.0.0/8, !10.1.0.0/16, 2001:db8::/32, !2001:db8:1::/48, 10.1.2.3, 2001:db8:1::7 }
+table <bad> { 203.0.113.9 }
+table <all> { 0.0.0.0/0, !::/0, 2001:db8::/127 }";
+
+// A table, an address, and the answer: 32.1.13.184 has the first bits of 2001:db8::, a02::1 those of 10.2.0.0.
+const ANSWERS: &[(u32, &[u8], bool)] = &[
+    (0, b"10.2.0.1", true),
+    (0, b"10.1.0.1", false),
+    (0, b"10.1.2.3", true),
+    (0, b"11.0.0.1", false),
+    (0, b"32.1.13.184", false),
+    (0, b"2001:db8::1", true),
+    (0, b"2001:db8:1::1", false),
+    (0, b"2001:db8:1::7", true),
+    (0, b"2001:db9::1", false),
+    (0, b"a02::1", false),
+    (1, b"cb00:7109::", false),
+    (2, b"198.51.100.1", true),
+    (2, b"2001:db8::1", true),
+    (2, b"2001:db8::2", false),
+    (3, b"198.51.100.1", false),
+    (3, b"2001:db8::1", false),
 ];
 
 #[test]
 fn a_table_answers_by_its_narrowest_entry(rt: HostRuntime) -> Result<(), Fail> {
-    let rules = b"table <t> { 10.0.0.0/8, !10.1.0.0/16, 10.1.2.3 }\ntable <bad> { 203.0.113.9 }";
-    let config = configured(rt.alloc(), b"", rules)?;
+    let config = configured(rt.alloc(), b"", TABLES)?;
     let tables = Tables::new(rt.alloc(), &config)?;
-    for &(table, addr, answer) in ANSWERS {
-        assert_eq!(rt;
-            tables.matches(TableNo(table), Addr::V4(addr)),
-            answer,
-            "at {addr:?}"
-        );
+    for &(table, text, answer) in ANSWERS {
+        let addr = parse_addr(text).ok_or("no address")?;
+        assert_eq!(rt; tables.matches(TableNo(table), addr), answer, "at {addr:?}");
     }
     Ok(())
 }
@@ -61,5 +74,21 @@ fn a_host_is_added_while_there_is_room(rt: HostRuntime) -> Result<(), Fail> {
         assert_eq!(rt; tables.entries(), entries);
         assert_eq!(rt; tables.matches(TableNo(0), A1), !is_full);
     }
+    Ok(())
+}
+
+#[test]
+fn a_host_of_ipv6_is_an_entry_of_128_bits(rt: HostRuntime) -> Result<(), Fail> {
+    let config = configured(rt.alloc(), b"", b"table <bad> { 203.0.113.9 }")?;
+    assert!(rt; config.table_count() == 1);
+    let mut tables = Tables::new(rt.alloc(), &config)?;
+    let beside = parse_addr(b"2001:db8::2").ok_or("no address")?;
+    assert_eq!(rt; tables.add_host(TableNo(0), S6, 5)?, Added::New);
+    assert_eq!(rt; tables.add_host(TableNo(0), S6, 6)?, Added::Held);
+    assert!(rt; tables.matches(TableNo(0), S6) && !tables.matches(TableNo(0), beside));
+    assert_eq!(rt; tables.add_host(TableNo(0), A1, 7)?, Added::New);
+    assert_eq!(rt; tables.expire(TableNo(0), 5, 10, 5), 2);
+    assert!(rt; !tables.matches(TableNo(0), S6) && tables.matches(TableNo(0), A1));
+    assert_eq!(rt; tables.entries(), 1);
     Ok(())
 }

@@ -1,6 +1,6 @@
 //! Which rule decides on a packet, by each parameter of a rule.
 
-use crate::packets::{A1, packet};
+use crate::packets::{A1, S6, packet};
 use crate::texts::configured;
 use pfs_addr::{Addr, Dir, Meter, Packet, Proto};
 use pfs_conf::RuleNo;
@@ -57,6 +57,51 @@ fn each_parameter_is_asked(rt: HostRuntime) -> Result<(), Fail> {
             let decided = decided(rt.alloc(), rule, packet)?;
             let wanted = if is_decided { Some(RuleNo(0)) } else { None };
             assert_eq!(rt; decided, (wanted, 1), "{rule:?}");
+        }
+    }
+    Ok(())
+}
+
+// A rule, and whether it holds of a packet from 198.51.100.1 to 192.0.2.1, and of one from 2001:db8::1 to 2001:db8::53
+const FAMILIES: &[(&[u8], bool, bool)] = &[
+    (b"pass", true, true),
+    (b"pass inet", true, false),
+    (b"pass inet6", false, true),
+    (b"pass from any to any", true, true),
+    (b"pass from 198.51.100.0/24", true, false),
+    (b"pass from !198.51.100.0/24", false, false),
+    (b"pass from !198.51.101.0/24", true, false),
+    (b"pass from 2001:db8::/32", false, true),
+    (b"pass from !2001:db8::/32", false, false),
+    (b"pass from !2001:db9::/32", false, true),
+    (b"pass to 192.0.2.1", true, false),
+    (b"pass to 2001:DB8:0:0:0:0:0:53", false, true),
+    (b"pass to !2001:db8::54", false, true),
+    (b"pass from 0.0.0.0/0", true, false),
+    (b"pass from ::/0", false, true),
+    (b"pass from !::/0", false, false),
+    (b"pass inet from 2001:db8::/32", false, false),
+    (b"pass inet6 from !198.51.100.0/24", false, false),
+    (b"pass from <six>", false, true),
+    (b"pass from !<six>", true, false),
+    (b"pass from !<four>", false, true),
+    (b"pass inet6 from !<four>", false, true),
+];
+
+const TABLES_OF_BOTH: &[u8] = b"table <six> { 2001:db8::/32 }\ntable <four> { 0.0.0.0/0 }\n";
+
+#[test]
+fn families_are_asked_apart(rt: HostRuntime) -> Result<(), Fail> {
+    let four = packet(Dir::In, Proto::Tcp, A1, 80)?;
+    let six = packet(Dir::In, Proto::Tcp, S6, 80)?;
+    for &(rule, of_four, of_six) in FAMILIES {
+        let config = configured(rt.alloc(), TABLES_OF_BOTH, rule)?;
+        let tables = Tables::new(rt.alloc(), &config)?;
+        let book = Book::new(rt.alloc(), &config)?;
+        for (packet, is_decided) in [(&four, of_four), (&six, of_six)] {
+            let mut visits = Meter::new();
+            let decided = book.decide(&tables, packet, &mut visits);
+            assert_eq!(rt; decided.is_some(), is_decided, "{rule:?}");
         }
     }
     Ok(())

@@ -54,25 +54,27 @@ impl Rules {
     }
 }
 
-/// A packet from port 1000 of a source to a port of 192.0.2.1.
+/// A packet from port 1000 of a source to a port of a server of its family: 192.0.2.1, or 2001:db8::53.
 pub fn packet(
     dir: Dir,
     ifname: &[u8],
     proto: Proto,
-    source: [u8; 4],
+    source: Addr,
     port: u16,
     flags: Flags,
 ) -> Result<Packet, Fail>
     requires { has_ports proto ≡ true }
 {
     let ifname = parse_ifname(ifname).ok_or("no name")?;
+    let server = if source.is_ipv6() {
+        Addr::V6([0x20, 1, 0xd, 0xb8, 0, 0, 0, 0, 0, 0, 0, 0, 0, 0, 0, 0x53])
+    } else {
+        Addr::V4([192, 0, 2, 1])
+    };
     let source = Endpoint {
-        addr: Addr::V4(source),
+        addr: source,
         port: 1000,
     };
-    let destination = Endpoint {
-        addr: Addr::V4([192, 0, 2, 1]),
-        port,
-    };
+    let destination = Endpoint { addr: server, port };
     Ok(Packet::new(dir, ifname, proto, source, destination, flags))
 }

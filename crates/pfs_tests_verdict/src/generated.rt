@@ -4,14 +4,16 @@ ghost use Rattle.std.specs.Prelude.{◌<◌};
 
 use crate::asking::{Rules, SYN, SYN_ACK, packet};
 use crate::plain::{Evaluation, Step};
-use pfs_addr::{Dir, Packet, Proto};
+use pfs_addr::{Addr, Dir, Packet, Proto};
 use std::alloc::{AllocError, Global};
 use std::process::Abort;
 use std::test::Fail;
 
 /// Two tables, which stand in front of each ruleset.
 const TABLES: &[u8] =
-    b"table <t> { 10.0.0.0/8, !10.1.0.0/16, 10.1.2.3 }\ntable <bad> { 203.0.113.9 }\n";
+    b"table <t> { 10.0.0.0/8, !10.1.0.0/16, 10.1.2.3, 2001:db8::/32, !2001:db8:2::/48 }
+table <bad> { 203.0.113.9, 2001:db8:1::9 }
+";
 
 /// How many parameters an item has here.
 const PARAMETERS: usize = 9;
@@ -41,11 +43,13 @@ impl Numbers {
     fn packet(&mut self) -> Result<Packet, Fail> {
         let dir = if self.once_in(3) { Dir::Out } else { Dir::In };
         let ifname: &[u8] = if self.once_in(3) { b"em1" } else { b"em0" };
-        let source = match self.below(4) {
-            0 => [10, 1, 2, 3],
-            1 => [10, 1, 0, 9],
-            2 => [10, 2, 0, 1],
-            _ => [203, 0, 113, 9],
+        let source = match self.below(6) {
+            0 => Addr::V4([10, 1, 2, 3]),
+            1 => Addr::V4([10, 1, 0, 9]),
+            2 => Addr::V4([10, 2, 0, 1]),
+            3 => Addr::V4([203, 0, 113, 9]),
+            4 => ipv6(1),
+            _ => ipv6(2),
         };
         let port = if self.once_in(2) { 80 } else { 53 };
         if self.once_in(3) {
@@ -54,6 +58,11 @@ impl Numbers {
         let flags = if self.once_in(3) { SYN_ACK } else { SYN };
         packet(dir, ifname, Proto::Tcp, source, port, flags)
     }
+}
+
+/// The host 9 of a network of 2001:db8::/32, by its number.
+fn ipv6(network: u8) -> Addr {
+    Addr::V6([0x20, 1, 0xd, 0xb8, 0, network, 0, 0, 0, 0, 0, 0, 0, 0, 0, 9])
 }
 
 /// What an item asks: for each parameter, by its place in the text, a choice.
@@ -66,7 +75,7 @@ impl Asked {
     /// The same, but for one parameter.
     fn changed(self, numbers: &mut Numbers) -> Asked {
         let changed = numbers.below(9) as usize;
-        let choice = numbers.below(5);
+        let choice = numbers.below(6);
         let mut asked = self;
         for (parameter, old) in asked.choices.iter_mut().enumerate() {
             if parameter == changed {
@@ -100,6 +109,7 @@ fn words(parameter: usize, choice: u32) -> &'static [u8] {
         (1, 1) => b" on em1",
         (1, 2) => b" on ! em1",
         (2, 0) => b" inet",
+        (2, 1) => b" inet6",
         (3, 0) => b" proto tcp",
         (3, 1) => b" proto udp",
         (3, 2) => b" proto esp",
@@ -107,12 +117,14 @@ fn words(parameter: usize, choice: u32) -> &'static [u8] {
         (4, 1) => b" from ! <t>",
         (4, 2) => b" from 10.1.0.0/16",
         (4, 3) => b" from ! <bad>",
+        (4, 5) => b" from ! 2001:db8:1::/48",
         (4, _) => b" from any",
         (5, 0) => b" port 1000",
         (5, 1) => b" port 1001",
         (6, 0) => b" to ! <bad>",
         (6, 1) => b" to 192.0.2.0/24",
         (6, 2) => b" to 10.0.0.0/8",
+        (6, 3) => b" to 2001:db8::/64",
         (6, _) => b" to any",
         (7, 0) => b" port 80",
         (7, 1) => b" port 53",

@@ -1,12 +1,12 @@
 //! Worked rulesets: the rule that decides, and the number of visits.
 
 use crate::asking::{Rules, SYN, packet};
-use pfs_addr::{Dir, Packet, Proto};
+use pfs_addr::{Addr, Dir, Packet, Proto};
 use pfs_conf::RuleNo;
 use std::alloc::{AllocError, Global};
 use std::test::Fail;
 
-const A1: [u8; 4] = [198, 51, 100, 1];
+const A1: Addr = Addr::V4([198, 51, 100, 1]);
 
 /// A rule for each port from 1 to 50, and one that takes UDP.
 fn fifty_ports(alloc: Global) -> Result<Vec<u8>, AllocError> {
@@ -90,10 +90,13 @@ fn items_that_ask_the_same_are_skipped_together(rt: HostRuntime) -> Result<(), F
         (b"block on ! em0\n", 2),
         (b"block on em1\nblock on ! em0\n", 41),
         (b"block out\n", 2),
+        (b"block inet6\n", 2),
+        (b"block inet from 2001:db8::/32\n", 2),
         (b"block proto udp\n", 2),
         (b"block proto udp\nblock proto esp\n", 41),
         (b"block from 10.0.0.0/8\n", 2),
         (b"block from ! 198.51.100.0/24\n", 2),
+        (b"block from ! 2001:db8::/32\n", 2),
         (b"block from <t>\n", 2),
         (b"block from <t>\nblock from <u>\n", 41),
         (b"block to 10.0.0.0/8\n", 2),

@@ -1,4 +1,4 @@
-use Rattle.std.proofs.Common.{◌++◌, [], ◌∷◌, ap, ◌∙◌, rules}
+use Rattle.std.proofs.Common.{◌++◌, ◌-◌, [], ◌∷◌, ap, ◌∙◌, rules}
 use Rattle.pfs_addr.specs.Prefixes.{network_of}
 use Rattle.pfs_eval.specs.Entries.{holds_prefix}
 use Rattle.pfs_eval.specs.Holdings.{Held}
@@ -21,4 +21,4 @@ invariant_of-self-2 c =
     ∙ inserted-last _ c.prefix.result c.args.addr c.args.bits c.args.mark _ c.prefix.ensures.value c.prefix.ensures.addr c.self.invariant.networks (record { same = λ q h. search rules; self = search rules })
     (ap (λ es. holds_prefix es c.args.addr c.args.bits) view ∙ c.requires.absent)
     in
-    rw is (kept-added _ c.self.inside.lengths _ c.args.addr c.args.bits c.args.mark c.self.invariant c.prefix.ensures.addr c.requires.bits c.note.ensures.long (record { at = c.note.ensures.noted }))
+    rw is (kept-added _ c.self.inside.lengths _ c.args.addr c.args.bits (c.width.result - c.args.bits) c.args.mark c.self.invariant c.prefix.ensures.addr c.requires.bits (ap (λ w. w - c.args.bits) c.width.ensures) c.note.ensures.long (record { at = c.note.ensures.noted }))
