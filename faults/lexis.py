@@ -116,9 +116,22 @@ def is_number(field: bytes, most: int) -> bool:
     return re.fullmatch(rb"[0-9]{1,10}", field) is not None and int(field) <= most
 
 
-def is_address(field: bytes) -> bool:
+def is_quad(field: bytes) -> bool:
     parts = field.split(b".")
     return len(parts) == 4 and all(re.fullmatch(rb"0|[1-9][0-9]{0,2}", it) and int(it) <= 255 for it in parts)
+
+
+def is_groups(field: bytes) -> bool:
+    """Eight groups of hexadecimal digits, or fewer around one `::`."""
+    halves = [half.split(b":") if half else [] for half in field.split(b"::")]
+    count = sum(len(half) for half in halves)
+    fits = count == 8 if len(halves) == 1 else len(halves) == 2 and count < 8
+    return fits and all(re.fullmatch(rb"[0-9A-Fa-f]{1,4}", it) for half in halves for it in half)
+
+
+def family(field: bytes) -> Optional[int]:
+    """4 or 6, of an address."""
+    return 4 if is_quad(field) else 6 if is_groups(field) else None
 
 
 def protocol(field: bytes) -> Optional[int]:
@@ -139,9 +152,9 @@ def bad_field(record: List[bytes]) -> int:
         way in (b"in", b"out"),
         re.fullmatch(rb"[A-Za-z0-9_.-]{1,15}", name) is not None,
         number is not None,
-        is_address(src),
+        family(src) is not None,
         port(sport),
-        is_address(dst),
+        family(dst) is not None and family(dst) == family(src),
         port(dport),
         re.fullmatch(rb"[FSRPAUEW]*" if number == 6 else rb"", flags) is not None,
     ]
