@@ -179,6 +179,7 @@ pub fn push_addr(out: &mut Vec<u8>, addr: Addr) -> Result<(), NoMemory>
     ensures ok { OnOk result (out.new.items ≡ out.old.items ++ addr_text addr) }
     ensures err { OnErr result (out.new.items ≡ out.old.items) }
     ensures refused { OnErr result (vec_capacity out.old < vec_len out.old + length (addr_text addr)) }
+    ensures again { addr_of (addr_text addr) ≡ Some addr }
 {
     match addr {
         Addr::V4(bytes) => push_quad(out, bytes),
