@@ -87,6 +87,7 @@ pub fn parse_addr(text: &[u8]) -> Option<Addr>
 }
 
 // An IPv6 address, where the text is one.
+#[inline(never)]
 fn groups(text: &[u8]) -> Option<Addr>
     ensures { result ≡ groups_of text.now }
 {
@@ -100,6 +101,7 @@ fn groups(text: &[u8]) -> Option<Addr>
 }
 
 // An IPv4 address, where the text is one.
+#[inline(always)]
 fn quad(text: &[u8]) -> Option<Addr>
     ensures { result ≡ quad_of text.now }
 {
@@ -110,6 +112,7 @@ fn quad(text: &[u8]) -> Option<Addr>
 }
 
 // Four bytes in decimal with dots between them, and what stands behind them.
+#[inline(always)]
 #[tactic(auto, unfolding(std::specs::Net::Reader::read_ipv4))]
 fn four(text: &[u8]) -> Option<(Addr, &[u8])>
     ensures value { read_view bytes_of result ≡ read_ipv4 text.now }
@@ -176,6 +179,7 @@ pub fn push_addr(out: &mut Vec<u8>, addr: Addr) -> Result<(), NoMemory>
     ensures ok { OnOk result (out.new.items ≡ out.old.items ++ addr_text addr) }
     ensures err { OnErr result (out.new.items ≡ out.old.items) }
     ensures refused { OnErr result (vec_capacity out.old < vec_len out.old + length (addr_text addr)) }
+    ensures again { addr_of (addr_text addr) ≡ Some addr }
 {
     match addr {
         Addr::V4(bytes) => push_quad(out, bytes),
