@@ -1,3 +1,4 @@
+-- Texts of IPv4 addresses are those of std: it reads each, and as the address whose text it is.
 use Rattle.std.proofs.Common.{ℕ, List, [], ◌∷◌, ◌<◌, get_or, refl, sym, arith, append_assoc}
 use Rattle.std.proofs.lemmas.List.Elements.{All-get_or}
 use Rattle.std.specs.Net.Grammar.{IsDotted}

@@ -1,3 +1,4 @@
+-- What is read as a number has 1 to 10 digits, and a decimal text is read as the number that it writes.
 use Rattle.std.proofs.Common.{ℕ, zero, suc, List, ◌≡◌, ◌≤◌, ◌<◌, ◌^◌, Bool, true, false, not, ◌&&◌, nat_le, nat_eq, Option, Some, None, length, get_or, decimal, refl, sym, ap, ◌∙◌, arith, rules, leb-true, le-leb, subst}
 use Rattle.std.specs.List.{list_all}
 use Rattle.std.specs.Str.Parse.{digits_value}

@@ -1,3 +1,4 @@
+-- The decimal text of a number of one, two or three digits, digit by digit: for push_octet.
 use Rattle.std.proofs.Common.{ℕ, List, [], ◌∷◌, ◌++◌, ◌≡◌, ◌≤◌, ◌<◌, ◌+◌, ◌/◌, ◌%◌, decimal, arith, ap, sym, refl, append_assoc, ◌∙◌}
 use Rattle.std.proofs.lemmas.Fmt.{decimal_digit, decimal_step}
 

@@ -1,3 +1,4 @@
+-- Laws of prefixes: what clearing the bits past a length keeps, and which addresses a prefix covers.
 use Rattle.std.proofs.Common.{ℕ, zero, suc, List, [], ◌∷◌, ◌≡◌, ◌≤◌, ◌<◌, ◌*◌, ◌/◌, ◌%◌, ◌^◌, ◌-◌, true, nat_eq, get_or, refl, ap, sym, ◌∙◌, arith, subst, eqb-true, eq-eqb}
 use native.Mathlib.Nat.{mod-eq_of_lt}
 use Rattle.std.specs.Prelude.{All}

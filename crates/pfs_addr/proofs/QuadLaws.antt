@@ -1,4 +1,4 @@
--- The bytes of an address, digit by digit.
+-- The bytes of an IPv4 address, digit by digit.
 use Rattle.std.proofs.Common.{ℕ, List, [], ◌∷◌, ◌++◌, ◌≡◌, ◌≤◌, ◌<◌, ◌+◌, ◌*◌, ◌/◌, ◌%◌, Option, Some, None, true, false, append_assoc, decimal, drop, get_or, length, arith, rules, ap, sym, refl, subst, ◌∙◌, lit≤, inl, inr}
 use Rattle.std.proofs.lemmas.Bool.Decides.{nat_tests}
 use Rattle.std.proofs.lemmas.Bool.{cases_lt}

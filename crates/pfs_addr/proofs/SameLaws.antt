@@ -1,3 +1,4 @@
+-- `==` of addresses, protocols, keys and prefixes says yes of equal ones alone, and of each with itself.
 use Rattle.std.proofs.Common.{true, ◌≡◌, rules}
 use Rattle.pfs_addr.specs.Sameness.{same_addr, same_proto, same_key, same_prefix}
 use Rattle.pfs_addr.specs.declared.addresses.Addr.{Addr}

@@ -1,3 +1,4 @@
+-- Texts of prefixes: the cut at the first slash, the length behind it, and what its two parts write.
 use Rattle.std.proofs.Common.{ℕ, List, [], ◌∷◌, ◌++◌, ◌≡◌, ◌≤◌, ◌<◌, ◌+◌, Bool, true, false, cond, nat_eq, nat_lt, Option, Some, None, length, get_or, take, drop, position, decimal, refl, sym, ap, subst, arith, inl, inr, one-add, eqb-true, ltb-true, ltb-false, lt-ltb, ◌∙◌}
 use Rattle.std.specs.List.{list_all, prefix_len}
 use Rattle.std.proofs.lemmas.Bool.{and_from, and_parts, cond-true, cond-false}

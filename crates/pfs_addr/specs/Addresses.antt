@@ -1,3 +1,4 @@
+-- Addresses of both families: their bytes, their width in bits, and their texts.
 use Rattle.std.specs.Prelude.{ℕ, List, Bool, true, false, not, ◌==◌, ◌≡◌, ◌<◌, length, All, map}
 use Rattle.std.specs.List.{join_with_byte, list_all}
 use Rattle.std.specs.Fmt.{decimal}

@@ -1,3 +1,4 @@
+-- Sets of TCP flags, by the letters FSRPAUEW that a text names.
 use Rattle.std.specs.Prelude.{ℕ, List, Bool, Option, Some, None, if◌then◌else◌, ◌==◌, ◌||◌}
 use Rattle.std.specs.List.{list_all, list_any}
 use Rattle.pfs_addr.specs.declared.flag_sets.Flags.{Flags}

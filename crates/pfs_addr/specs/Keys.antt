@@ -1,3 +1,4 @@
+-- The key of a packet, the same for those that answer it: its protocol and its two ends in order.
 use Rattle.pfs_addr.specs.Packets.{Header}
 use Rattle.pfs_addr.specs.declared.packets.Dir.{Dir}
 use Rattle.pfs_addr.specs.declared.packets.Dir.TheVariants.{In, Out}

@@ -1,3 +1,4 @@
+-- Names of interfaces, tables and anchors: which texts are names, and how a name is kept in place.
 use Rattle.std.specs.Prelude.{ℕ, List, Bool, Option, Some, None, not, if◌then◌else◌, ◌≡◌, ◌&&◌, ◌||◌, ◌==◌, ◌-◌, nat_le, length, take, drop, replicate, true}
 use Rattle.std.specs.List.{list_all}
 

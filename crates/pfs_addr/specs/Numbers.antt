@@ -1,3 +1,4 @@
+-- Numbers in texts: 1 to 10 decimal digits; zeros in front are read.
 use Rattle.std.specs.Prelude.{ℕ, List, Bool, Option, Some, None, if◌then◌else◌, not, ◌&&◌, ◌==◌, nat_le, length}
 use Rattle.std.specs.List.{list_all}
 use Rattle.std.specs.Str.Parse.{digits_value}

@@ -1,3 +1,4 @@
+-- What a packet tells, and that its ports are 0 unless its protocol has ports.
 use Rattle.std.specs.Prelude.{ℕ, List, false, ◌≡◌}
 use Rattle.pfs_addr.specs.Protocols.{has_ports}
 use Rattle.pfs_addr.specs.declared.protocols.Proto.{Proto}

@@ -1,3 +1,4 @@
+-- A law for the type Name: what a name is kept as follows from its bytes alone.
 use Rattle.std.proofs.Common.{ℕ, ◌≡◌, ◌-◌, ◌++◌, length, take, replicate, ap, sym, ◌∙◌}
 use Rattle.std.proofs.lemmas.List.{take-append-drop}
 use Rattle.pfs_addr.specs.Names.{IsPadded}

@@ -1,3 +1,4 @@
+-- Prefixes: which addresses they cover, that their bits past the length are zero, and their texts.
 use Rattle.std.specs.Prelude.{ℕ, List, Bool, ◌≡◌, ◌≤◌, ◌==◌, ◌&&◌, ◌/◌, ◌*◌, ◌^◌, ◌-◌, ◌∷◌, ◌++◌, ◌⊎◌}
 use Rattle.std.specs.Fmt.{decimal}
 use Rattle.std.specs.Int.{w32, w128, from_be_bytes, to_be_bytes}

@@ -1,3 +1,4 @@
+-- Protocols: their numbers, their names in texts, and which of them have ports.
 use Rattle.std.specs.Prelude.{ℕ, List, Bool, true, false, Option, Some, None, if◌then◌else◌, ◌==◌, ◌||◌, nat_lt, codes}
 use Rattle.std.specs.Str.{bytes_eq}
 use Rattle.pfs_addr.specs.Numbers.{number_of}

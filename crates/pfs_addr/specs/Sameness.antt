@@ -1,3 +1,4 @@
+-- What `==` says of two addresses, protocols, ends, keys or prefixes, as the code compares them.
 use Rattle.std.specs.Prelude.{Bool}
 use Rattle.pfs_addr.specs.declared.addresses.Addr.{Addr}
 use Rattle.pfs_addr.specs.declared.protocols.Proto.{Proto}

@@ -1,3 +1,4 @@
+-- A draft stays one where an item is pushed that keeps the load rules, and where there are more tables.
 use Rattle.std.proofs.Common.{◌≡◌, ◌≤◌, ◌<◌, false, List, [], ◌∷◌, ◌++◌, length, arith, length-append, subst, sym, Ok, Err, OnOk, OnErr}
 use Rattle.std.specs.Prelude.{Result}
 use Rattle.std.proofs.lemmas.List.Elements.{All-push}

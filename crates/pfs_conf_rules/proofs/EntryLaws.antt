@@ -1,3 +1,4 @@
+-- An entry whose prefix is new goes last in the map of a table's entries: for Entries::add.
 use Rattle.std.proofs.Common.{◌≡◌, ◌∙◌, ℕ, Bool, true, false, List, [], ◌∷◌, ◌++◌, None, refl, ap, sym}
 use Rattle.std.proofs.lemmas.Bool.{cond-false, cond-true}
 use Rattle.indexmap.specs.IndexMap.{insert_entry}

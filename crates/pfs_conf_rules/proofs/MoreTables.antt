@@ -1,3 +1,4 @@
+-- What keeps the load rules, from a host to all items, keeps them where there are more tables.
 use Rattle.std.proofs.Common.{◌≤◌, ℕ, Option, Some, None, IfSome, All, List, arith}
 use Rattle.std.proofs.lemmas.List.Elements.{All-weaker}
 use Rattle.pfs_conf_rules.specs.LoadRules.{AreOptions, IsAction, IsFilter, IsHost, IsItem, IsItemAt, IsSide, IsTableNo}

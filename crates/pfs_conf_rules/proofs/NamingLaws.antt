@@ -1,3 +1,4 @@
+-- Tables by their names: a new one behind the others, the number of each, and one put in another's place.
 use Rattle.std.proofs.Common.{◌≡◌, ◌∙◌, ◌<◌, ◌+◌, ◌||◌, ℕ, suc, Bool, true, false, not, nat_lt, subst, List, [], ◌∷◌, ◌++◌, length, get_or, set, refl, ap, sym, arith, length-append, None}
 use Rattle.std.specs.List.{IsDistinct, list_any, position_or_len}
 use Rattle.std.specs.Prelude.{position}

@@ -1,3 +1,4 @@
+-- One more item at the end: the preorder, how deep the next may be, and names used once in each body.
 use Rattle.std.proofs.Common.{◌≡◌, ◌∙◌, ◌≤◌, ℕ, false, List, [], ◌∷◌, ◌++◌, refl, ap, sym, append_assoc, Ok, Err, OnOk}
 use Rattle.std.specs.Prelude.{Result}
 use Rattle.std.proofs.lemmas.List.{append-nil}

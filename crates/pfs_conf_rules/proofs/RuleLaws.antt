@@ -1,3 +1,4 @@
+-- What is read of a configuration keeps the load rules: its items, its rules, and their options.
 use Rattle.std.proofs.Common.{◌≡◌, ◌∙◌, ◌<◌, ◌≤◌, ◌||◌, ◌&&◌, ◌⊎◌, inl, inr, ℕ, Bool, true, false, Option, Some, None, IfSome, is_none, is_some, unwrap_or, All, length, get_or, refl, ap, sym, subst, arith}
 use Rattle.std.specs.Prelude.{IsSome, slice_get, slice_index_or}
 use Rattle.std.specs.Option.{option_and_then}

@@ -1,3 +1,4 @@
+-- A configuration: what a rules text says, and what is read of it.
 use Rattle.std.specs.Prelude.{ℕ, ◌==◌, ◌&&◌, ◌||◌, nat_lt, max, Bool, false, Option, Some, None, unwrap_or, List, length, map, option_map, position, slice_get, slice_index, slice_index_or}
 use Rattle.std.specs.List.{sum_by}
 use Rattle.std.specs.Option.{option_and_then}

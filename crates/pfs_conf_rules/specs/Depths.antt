@@ -1,3 +1,4 @@
+-- Which items are rules.
 use Rattle.std.specs.Prelude.{Bool, true, false}
 use Rattle.pfs_conf_rules.specs.declared.items.What.{What}
 use Rattle.pfs_conf_rules.specs.declared.items.What.TheVariants.{Rule, Anchor}

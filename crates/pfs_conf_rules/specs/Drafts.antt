@@ -1,3 +1,4 @@
+-- What the first statements of a text say, what each more changes, and the load rules of the whole text.
 use Rattle.std.specs.Prelude.{ℕ, not, nat_lt, Bool, true, false, Option, Some, None, List, [], ◌∷◌, ◌++◌, length, position, slice_index_or, slice_set}
 use Rattle.pfs_conf_rules.specs.Configs.{Conf, entries_in, is_adaptive, overloads_const}
 use Rattle.pfs_conf_rules.specs.Limits.{default_limits, limits_with}

@@ -1,3 +1,4 @@
+-- Entries of tables as a text says them: a prefix and whether it is negated; when prefixes are the same.
 use Rattle.std.specs.Prelude.{Bool, false, ◌&&◌, ◌==◌, Option, List}
 use Rattle.std.specs.Str.{bytes_eq}
 use Rattle.std.specs.Map.{lookup}

@@ -1,3 +1,4 @@
+-- The four limits of `set limit`: their values by name, and those of a text that sets none.
 use Rattle.std.specs.Prelude.{ℕ}
 use Rattle.pfs_conf_rules.specs.declared.limits.LimitName.{LimitName}
 use Rattle.pfs_conf_rules.specs.declared.limits.LimitName.TheVariants.{States, SrcNodes, Tables, TableEntries}

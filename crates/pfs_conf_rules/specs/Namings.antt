@@ -1,3 +1,4 @@
+-- The tables that a text has named so far: their numbers, and which of them are defined.
 use Rattle.std.specs.Prelude.{ℕ, Bool, true, false, if◌then◌else◌, List, [], ◌∷◌, ◌++◌, min, slice_index_or, slice_set}
 use Rattle.std.specs.List.{list_any, position_or_len}
 use Rattle.std.specs.Str.{bytes_eq}

@@ -1,3 +1,4 @@
+-- Names of anchors, each used once in a body.
 use Rattle.std.specs.Prelude.{ℕ, ◌==◌, ◌&&◌, nat_le, Bool, false, Option, Some, None, List, reverse, take_while}
 use Rattle.std.specs.List.{list_any}
 use Rattle.std.specs.Str.{bytes_eq}

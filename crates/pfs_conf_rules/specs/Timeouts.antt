@@ -1,3 +1,4 @@
+-- The 16 timeouts: their places, their defaults, and the value of each, set or not.
 use Rattle.std.specs.Prelude.{ℕ, ◌*◌, ◌/◌, List, [], ◌∷◌, Option, None, map, replicate, slice_index_or, unwrap_or}
 use Rattle.pfs_conf_rules.specs.declared.timeouts.TimeoutName.{TimeoutName}
 use Rattle.pfs_conf_rules.specs.declared.timeouts.TimeoutName.TheVariants.{TcpFirst, TcpOpening, TcpEstablished, TcpClosing, TcpFinwait, TcpClosed, UdpFirst, UdpSingle, UdpMultiple, OtherFirst, OtherSingle, OtherMultiple, SrcTrack, Interval, AdaptiveStart, AdaptiveEnd}

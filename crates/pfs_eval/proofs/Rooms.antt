@@ -1,3 +1,4 @@
+-- One of all tables changes, by one entry more or by room for one: what their entries and counts are then.
 use Rattle.std.proofs.Common.{◌≡◌, ℕ, ◌+◌, ◌<◌, true, false, nat_le, List, [], ◌∷◌, ◌++◌, length, map, get_or, set, ap, sym, ◌∙◌, arith, length-append}
 use Rattle.std.specs.Prelude.{OnErr, Result, Ok, Err}
 use Rattle.std.proofs.Math.Seq.{map-set_same}

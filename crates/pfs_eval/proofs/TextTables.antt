@@ -1,3 +1,4 @@
+-- Tables as a text says them: no two entries of one prefix, a table or an entry more, and their count.
 use Rattle.std.proofs.Common.{◌≡◌, ℕ, ◌+◌, ◌<◌, ◌==◌, suc, zero, Bool, true, false, ◌||◌, List, [], ◌∷◌, ◌++◌, length, map, take, get_or, Some, refl, ap, sym, ◌∙◌, arith, subst, eq-eqb, rules}
 use Rattle.std.specs.Prelude.{All, Option, None, option_map, slice_get}
 use Rattle.std.specs.List.{IsDistinct, sum_by}

@@ -1,3 +1,4 @@
+-- The answer of a table for an address, a host that is added, old entries that leave, and room for more.
 use Rattle.std.specs.Prelude.{ℕ, ◌+◌, Bool, false, not, nat_le, nat_lt, if◌then◌else◌, Some, List, [], ◌∷◌, ◌++◌, filter, length, map, unwrap_or, slice_get, slice_set, slice_index}
 use Rattle.std.specs.List.{sum_by}
 use Rattle.pfs_addr.specs.declared.addresses.Addr.{Addr}

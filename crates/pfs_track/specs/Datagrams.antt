@@ -1,3 +1,4 @@
+-- Phases of UDP and of the other protocols without handshakes: how far each peer has sent, and the timeouts.
 use Rattle.std.specs.Prelude.{Bool, true, false}
 use Rattle.pfs_conf_rules.specs.declared.timeouts.TimeoutName.{TimeoutName}
 use Rattle.pfs_conf_rules.specs.declared.timeouts.TimeoutName.TheVariants.{UdpFirst, UdpSingle, UdpMultiple, OtherFirst, OtherSingle, OtherMultiple}

@@ -1,3 +1,4 @@
+-- How long a state may stay without a packet: its timeout, scaled by an adaptive pair; and when that is over.
 use Rattle.std.specs.Prelude.{ℕ, Bool, Option, Some, None, unwrap_or, ◌+◌, ◌-◌, ◌*◌, ◌/◌, ◌&&◌, ◌||◌, ◌==◌, if◌then◌else◌, nat_le}
 use Rattle.pfs_conf_rules.specs.Configs.{Conf, timeout_of, rule_timeout_of}
 use Rattle.pfs_conf_rules.specs.declared.timeouts.TimeoutName.{TimeoutName}

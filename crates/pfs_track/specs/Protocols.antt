@@ -1,3 +1,4 @@
+-- What the phases of every protocol keep: no rank falls, and a handshake completes once and stays complete.
 use Rattle.std.specs.Prelude.{ℕ, Bool, true, false, ◌≡◌, ◌≤◌}
 use Rattle.pfs_addr.specs.declared.flag_sets.Flags.{Flags}
 

@@ -1,3 +1,4 @@
+-- Scores of handshakes: 1000 for each, decaying over the seconds of the rate.
 use Rattle.std.specs.Prelude.{ℕ, ◌+◌, ◌-◌, ◌*◌, ◌/◌, if◌then◌else◌, nat_le, min}
 use Rattle.pfs_track.specs.declared.scores.Score.{Score}
 

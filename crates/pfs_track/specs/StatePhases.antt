@@ -1,3 +1,4 @@
+-- The phase of a state, by its protocol: at first, after a packet, its timeout, and its handshake.
 use Rattle.std.specs.Prelude.{Bool, false}
 use Rattle.pfs_addr.specs.declared.flag_sets.Flags.{Flags}
 use Rattle.pfs_addr.specs.declared.protocols.Proto.{Proto}

@@ -1,3 +1,4 @@
+-- Phases of TCP: the ranks of both peers, their timeout, and whether the handshake has completed.
 use Rattle.std.specs.Prelude.{Bool, false, ◌||◌}
 use Rattle.std.proofs.lemmas.Bool.{false≢true}
 use Rattle.pfs_addr.specs.declared.flag_sets.Flags.{Flags}

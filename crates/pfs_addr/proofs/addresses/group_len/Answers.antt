@@ -1,3 +1,4 @@
+-- Answers of group_len: a group has as many hexadecimal digits as its text, by the range that it is in.
 use Rattle.std.proofs.Common.{arith}
 use Rattle.pfs_addr.proofs.HexLaws.{len_1, len_2, len_3, len_4}
 use Rattle.pfs_addr.proofs.addresses.group_len.Goals as goal

@@ -1,3 +1,4 @@
+-- Answers of groups: with a dot there is no address, and else the one that std reads, or none.
 use Rattle.std.proofs.Common.{Some, ap, sym, ◌∙◌}
 use Rattle.pfs_addr.proofs.GroupLaws.{dots_none, groups_some, groups_none}
 use Rattle.pfs_addr.specs.declared.addresses.Addr.TheVariants.{V6}

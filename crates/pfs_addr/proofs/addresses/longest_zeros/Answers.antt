@@ -1,3 +1,4 @@
+-- Answers of longest_zeros: a group more keeps the longest run of zeros, and at the end it is that of all.
 use Rattle.std.proofs.Common.{arith}
 use Rattle.std.proofs.lemmas.Grind.{common_steps}
 use Rattle.pfs_addr.proofs.addresses.longest_zeros.Goals as goal

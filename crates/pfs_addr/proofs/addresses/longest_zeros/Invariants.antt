@@ -1,3 +1,4 @@
+-- Invariant of longest_zeros: the run in front and the longest one are those of the groups from here on.
 use Rattle.std.proofs.Common.{◌≡◌, ◌+◌, ◌≤◌, length, drop}
 use Rattle.std.specs.Net.Text.{zero_run, longest_zero_run}
 use Rattle.pfs_addr.proofs.addresses.longest_zeros.Given as goal

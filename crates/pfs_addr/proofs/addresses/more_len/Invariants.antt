@@ -1,3 +1,4 @@
+-- Invariant of more_len: the bytes so far and those of the groups to come are the bytes of all.
 use Rattle.std.proofs.Common.{◌≡◌, ◌+◌, ◌*◌, ◌≤◌, ◌∷◌, drop, flat_map, length}
 use Rattle.std.specs.Net.Text.{hex}
 use Rattle.pfs_addr.proofs.addresses.more_len.Given as goal

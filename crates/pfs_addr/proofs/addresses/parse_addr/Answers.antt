@@ -1,3 +1,4 @@
+-- Answer of parse_addr: the address that is read is the one that the definition finds (`value`).
 use Rattle.std.proofs.Common.{◌∙◌}
 use Rattle.pfs_addr.proofs.PieceLaws.{addr_of-text, addr_reads, quad_first, groups_then}
 use Rattle.pfs_addr.proofs.addresses.parse_addr.Goals as goal

@@ -1,3 +1,4 @@
+-- Answers of push_addr: what is appended for an address of either family is read as it (`again`).
 use Rattle.std.proofs.Common.{◌≡◌, ◌<◌, ℕ, Some, get_or, length, rules, subst, sym}
 use Rattle.pfs_addr.proofs.PieceLaws.{read_again}
 use Rattle.pfs_addr.specs.Addresses.{addr_text}

@@ -1,3 +1,4 @@
+-- Answers of push_group: the digits of a group, by the range that it is in, and the room for each.
 use Rattle.std.proofs.Common.{arith}
 use Rattle.pfs_addr.proofs.HexLaws.{hex_1, hex_2, hex_3, hex_4, len_1, len_2, len_3, len_4, put_1, put_2, put_3, put_4}
 use Rattle.pfs_addr.proofs.addresses.push_group.Goals as goal

@@ -1,3 +1,4 @@
+-- Invariant of push_more: what is written and the groups to come are the text of all, with room for the rest.
 use Rattle.std.proofs.Common.{◌≡◌, ◌+◌, ◌++◌, ◌∷◌, drop, flat_map, length}
 use Rattle.std.specs.Prelude.{vec_len}
 use Rattle.std.specs.Vec.{vec_capacity}

@@ -1,3 +1,4 @@
+-- Answers of push_octet: two or three digits, pushed in turn, are the decimal text of the byte.
 use Rattle.pfs_addr.proofs.OctetLaws.{decimal_2, decimal_3, pushed_2, pushed_3}
 use Rattle.std.proofs.Common.{arith}
 use Rattle.pfs_addr.proofs.addresses.push_octet.Goals as goal

@@ -1,3 +1,4 @@
+-- Answers of push_short: with no run of zeros left out, and with one, the text is that of the definition.
 use Rattle.std.proofs.Common.{◌≡◌, ◌<◌, ◌+◌, ◌++◌, ◌∙◌, List, ℕ, arith, length, subst, sym}
 use Rattle.std.specs.Prelude.{OnErr, OnOk, vec_len}
 use Rattle.std.specs.Vec.{vec_capacity}

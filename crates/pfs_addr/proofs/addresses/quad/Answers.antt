@@ -1,3 +1,4 @@
+-- Answers of quad: what is read is the address of the definition, and nothing else is.
 use Rattle.std.proofs.Common.{arith}
 use Rattle.std.proofs.lemmas.Bool.Decides.{nat_tests}
 use Rattle.pfs_addr.proofs.QuadLaws.{quad-none, quad-some, quad-more}

@@ -1,3 +1,4 @@
+-- Invariant of value: the digits so far and those that are left make the number, which stays small.
 use Rattle.std.proofs.Common.{◌≡◌, ◌<◌, ◌^◌, true, drop}
 use Rattle.std.specs.List.{list_all}
 use Rattle.std.specs.Str.Parse.{digits_value, digits_value_after}

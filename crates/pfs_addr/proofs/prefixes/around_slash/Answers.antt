@@ -1,3 +1,4 @@
+-- Answers of around_slash: the text is its parts around the first slash, or has no slash.
 use Rattle.pfs_addr.proofs.TextLaws.{no_place, cut_parts}
 use Rattle.pfs_addr.proofs.prefixes.around_slash.Goals as goal
 

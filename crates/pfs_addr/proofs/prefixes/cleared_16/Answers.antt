@@ -1,3 +1,4 @@
+-- Answers of cleared_16: the bits of an IPv6 address past a length are zero, also where no bit counts.
 use Rattle.std.proofs.Common.{◌≡◌, ◌<◌, ℕ, get_or, length, rules}
 use Rattle.std.proofs.lemmas.List.Elements.{All-from_get_or}
 use Rattle.pfs_addr.proofs.PrefixLaws.{shifted, shifted_away}

@@ -1,3 +1,4 @@
+-- Answers of parse_parts: the parts write what is read (`reads`), and what they write is read (`only`).
 use Rattle.std.proofs.Common.{Some, ap, sym, arith, ◌≤◌, ◌∙◌}
 use Rattle.pfs_addr.specs.Addresses.{width_of}
 use Rattle.pfs_addr.specs.Prefixes.{Network}

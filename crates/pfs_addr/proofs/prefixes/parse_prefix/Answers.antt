@@ -1,3 +1,4 @@
+-- Answer of parse_prefix: the prefix that is read is the one that the definition finds (`value`).
 use Rattle.pfs_addr.proofs.PieceLaws.{prefix_value}
 use Rattle.pfs_addr.proofs.prefixes.parse_prefix.Goals as goal
 

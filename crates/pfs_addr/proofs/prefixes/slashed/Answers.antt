@@ -1,3 +1,4 @@
+-- Answer of slashed: a prefix that a text with a slash writes is one that its parts write (`only`).
 use Rattle.pfs_addr.proofs.TextLaws.{cut_text}
 use Rattle.pfs_addr.proofs.prefixes.slashed.Goals as goal
 

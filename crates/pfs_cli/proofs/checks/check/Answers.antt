@@ -1,3 +1,4 @@
+-- Answers of check: of refused rules nothing is written, else the counts or a front (`answers`, `write`).
 use Rattle.std.proofs.Common.{◌≡◌, [], ◌∙◌}
 use Rattle.pfs_cli.specs.Checks.{counts_text}
 use Rattle.pfs_cli_report.specs.declared.faults.ReplayFault.TheVariants as fault

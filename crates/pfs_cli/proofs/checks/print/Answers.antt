@@ -1,3 +1,4 @@
+-- Answers of print: of refused rules nothing is written, else the text or a front (`answers`, `write`).
 use Rattle.std.proofs.Common.{◌≡◌, [], ◌∙◌}
 use Rattle.pfs_conf_show.specs.Texts.{text_of}
 use Rattle.pfs_cli_report.specs.declared.faults.ReplayFault.TheVariants as fault

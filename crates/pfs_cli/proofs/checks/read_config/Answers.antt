@@ -1,3 +1,4 @@
+-- Answers of read_config: the text reads as what is answered (`ok`), or has the fault that is told (`err`).
 use Rattle.std.proofs.Common.{ℕ, List, subst, sym}
 use Rattle.pfs_conf.specs.Reads.{Reads}
 use Rattle.pfs_conf.specs.Faults.{IsFault}

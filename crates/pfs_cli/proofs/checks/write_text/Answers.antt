@@ -1,3 +1,4 @@
+-- Answer of write_text: where writing failed, what was written is a front of the text (`err`).
 use Rattle.std.proofs.Common.{sym, take, drop}
 use Rattle.std.proofs.lemmas.List.{take-append-drop}
 use Rattle.pfs_cli.proofs.checks.write_text.Goals as goal

@@ -1,3 +1,4 @@
+-- Answers of replay_joined: what is written is the report of the two parts of the joined text (`reports`).
 use Rattle.std.proofs.Common.{refl, ◌≡◌, Some, ℕ, List, [], Option, MutBor}
 use Rattle.std.specs.Io.Buffered.{reader_remaining, reader_buffer, reader_inner, reader_capacity}
 use Rattle.std.specs.declared.io.buffered.BufReader.{BufReader}

@@ -1,3 +1,4 @@
+-- Answer of perform: a job `Replay` writes what replay reports (`performs`).
 use Rattle.pfs_cli.proofs.performing.perform.Goals as goal
 
 pub returns-in-Replay-clause-performs : goal.returns-in-Replay-clause-performs

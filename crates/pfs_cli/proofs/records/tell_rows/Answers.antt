@@ -1,3 +1,4 @@
+-- Answers of tell_rows: one record more, and at each end the lines of the records so far (`tells`).
 use Rattle.std.proofs.Common.{refl, arith, subst, ◌<◌, ◌+◌, ◌∙◌, ℕ, List, inl, Err}
 use Rattle.csv.specs.Records.{fields_of}
 use Rattle.pfs_cli.specs.Turns.{WritesLine}

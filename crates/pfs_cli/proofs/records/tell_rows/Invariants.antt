@@ -1,3 +1,4 @@
+-- Invariant of tell_rows: the lines written and the machine are those of the records read so far.
 use Rattle.pfs_cli_streams.specs.Sinks.{held}
 use Rattle.pfs_cli.proofs.Telling.{Running}
 use Rattle.pfs_cli.proofs.records.tell_rows.Given as goal

@@ -1,3 +1,4 @@
+-- Answers of finish: a run that ended, one whose flush failed, and one that stopped, as replays (`told`).
 use Rattle.pfs_cli.proofs.Replaying.{run-done, run-unflushed}
 use Rattle.pfs_cli.proofs.replays.finish.Goals as goal
 

@@ -1,3 +1,4 @@
+-- Answer of read_text: also where there was no memory to keep them, few bytes were read (`few`).
 use Rattle.std.proofs.Common.{arith, rules, ◌≤◌, ◌+◌, ℕ, List, length, take, length-take}
 use Rattle.pfs_cli.proofs.Replaying.{left-after}
 use Rattle.pfs_cli.proofs.replays.read_text.Goals as goal

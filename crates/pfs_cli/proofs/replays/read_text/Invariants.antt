@@ -1,3 +1,4 @@
+-- Invariant of read_text: the bytes kept, few enough, and those unread are the rules; no read has failed.
 use Rattle.std.proofs.Common.{◌≡◌, ◌≤◌, ◌-◌, ◌++◌, ℕ, List, Some, length}
 use Rattle.pfs_cli_streams.specs.Feeds.{unread, failures_of}
 use Rattle.pfs_cli.proofs.replays.read_text.Given as goal

@@ -1,3 +1,4 @@
+-- Answers of replay: the report, also of refused rules (`reports`), and a failed read of the trace (`read`).
 use Rattle.std.proofs.Common.{[], inr}
 use Rattle.pfs_cli.proofs.Replaying.{Appends-kept, kept-reads, rules-refused, handed-on}
 use Rattle.pfs_cli.proofs.Telling.{Appends-nothing}

@@ -1,3 +1,4 @@
+-- Answer of load_machine: a text whose rules are refused has the fault that is told (`err`).
 use Rattle.std.proofs.Common.{subst, sym, List, ℕ}
 use Rattle.pfs_conf.specs.Reads.{Reads}
 use Rattle.pfs_conf.specs.Faults.{IsFault}

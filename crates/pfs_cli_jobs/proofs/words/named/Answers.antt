@@ -1,3 +1,4 @@
+-- Answer of named: the value that clap gives under a name is the first in the rows of what it found.
 use Rattle.std.proofs.Common.{sym, ◌∙◌}
 use Rattle.clap.specs.Words.{found_of}
 use Rattle.clap.proofs.WalkLemmas.{first_value-rows}

@@ -1,3 +1,4 @@
+-- Invariant of write_whole: the bytes up to the place are written in order, and no write has failed.
 use Rattle.std.proofs.Common.{◌≡◌, ◌≤◌, ◌-◌, take, length}
 use Rattle.std.specs.Io.KnownBytes.{Appends}
 use Rattle.pfs_cli_streams.specs.Sinks.{held, failures_of}

@@ -1,3 +1,4 @@
+-- Answers of anchor_text: the head of an anchor is within its bounds, and its name is new in its body.
 use Rattle.pfs_conf.proofs.PhraseLaws.{anchor_text_within, anchor_text_new}
 use Rattle.pfs_conf.proofs.anchors.anchor_text.Goals as goal
 

@@ -1,3 +1,4 @@
+-- Answer of push_anchor: an anchor that breaks no load rule may be put into the draft.
 use Rattle.pfs_conf.proofs.KeepLaws.{anchor_is_kept}
 use Rattle.pfs_conf.proofs.anchors.push_anchor.Goals as goal
 

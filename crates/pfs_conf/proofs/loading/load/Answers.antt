@@ -1,3 +1,4 @@
+-- Answers of load: its clauses `found`, `only`, `broken` and `fault`, each from what read gives.
 use Rattle.pfs_conf.proofs.LoadLaws.{found, only, told_broken, is_fault}
 use Rattle.pfs_conf.proofs.loading.load.Goals as goal
 

@@ -1,3 +1,4 @@
+-- Answers of read: what the tokens of the text give is loaded, and a fault is that of where reading stops.
 use Rattle.std.proofs.Common.{sym, ap, ◌∙◌, arith}
 use Rattle.pfs_conf.specs.Reading.{text_at}
 use Rattle.pfs_conf.proofs.LexedLaws.{tokens_lexed}

@@ -1,3 +1,4 @@
+-- Answers of clauses: its loop reads up to the line end as defined, at a step, a refusal and the end.
 use Rattle.std.proofs.Common.{sym, ◌∙◌}
 use Rattle.std.proofs.lemmas.Result.{err_from_is_err_and}
 use Rattle.pfs_conf_tokens.specs.Keys.{ends_line}

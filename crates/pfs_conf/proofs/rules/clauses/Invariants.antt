@@ -1,3 +1,4 @@
+-- Invariant of clauses: reading on gives what reading from the start gives; fewer tokens are left each time.
 use Rattle.std.proofs.Common.{◌≡◌, length}
 use Rattle.pfs_conf_tokens.specs.Keys.{ends_line}
 use Rattle.pfs_conf_tokens.specs.Reading.{until_all}

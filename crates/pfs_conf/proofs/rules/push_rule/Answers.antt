@@ -1,3 +1,4 @@
+-- Answers of push_rule: a rule that breaks no load rule may be put into the draft.
 use Rattle.pfs_conf.proofs.KeepLaws.{rule_items, rule_has_room, rule_is_kept}
 use Rattle.pfs_conf.proofs.rules.push_rule.Goals as goal
 

@@ -1,3 +1,4 @@
+-- Answer of rule_text: a rule that is read is within its bounds (`within`).
 use Rattle.pfs_conf.proofs.PhraseLaws.{rule_text_within}
 use Rattle.pfs_conf.proofs.rules.rule_text.Goals as goal
 

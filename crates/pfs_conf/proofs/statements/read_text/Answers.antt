@@ -1,3 +1,4 @@
+-- Answer of read_text: a text ends where no anchor is open and it breaks no load rule, and is finished.
 use Rattle.std.proofs.Common.{sym, ◌∙◌, arith}
 use Rattle.pfs_conf.proofs.ReadLaws.{text_ends}
 use Rattle.pfs_conf.proofs.LoadLaws.{not_some}

@@ -1,3 +1,4 @@
+-- Invariant of statements: reading on gives what reading from the start gives; items in order, tokens lexed.
 use Rattle.std.proofs.Common.{◌≡◌, length}
 use Rattle.pfs_conf_tokens.specs.Reading.{ends_text, up_to_all}
 use Rattle.pfs_conf.specs.Statements.{nothing}

@@ -1,3 +1,4 @@
+-- Invariant of more_log_items: reading on gives what reading from the start gives; fewer tokens each time.
 use Rattle.std.proofs.Common.{◌≡◌, length}
 use Rattle.pfs_conf_tokens.specs.Reading.{closes_parens, until_all, next_of}
 use Rattle.pfs_conf_filters.specs.Reading.{log_item_at}

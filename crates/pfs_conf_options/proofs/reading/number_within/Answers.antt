@@ -1,3 +1,4 @@
+-- Answer of number_within: a number that is read is at most its bound, so it fits into 32 bits.
 use Rattle.std.proofs.Common.{arith}
 use Rattle.pfs_conf_tokens.proofs.ReaderLaws.{number_is}
 use Rattle.pfs_conf_options.proofs.reading.number_within.Goals as goal

@@ -1,3 +1,4 @@
+-- Answers of options: its loop reads up to the `)` as defined, at a step, a refusal and the end.
 use Rattle.std.proofs.Common.{sym, ◌∙◌}
 use Rattle.std.proofs.lemmas.Result.{err_from_is_err_and}
 use Rattle.pfs_conf_tokens.specs.Reading.{closes_parens, next_of}

@@ -1,3 +1,4 @@
+-- Invariant of options: reading on gives what reading from the start gives; fewer tokens are left each time.
 use Rattle.std.proofs.Common.{◌≡◌, length}
 use Rattle.pfs_conf_tokens.specs.Reading.{closes_parens, until_all, next_of, list_all}
 use Rattle.pfs_conf_options.specs.Reading.{option_at}

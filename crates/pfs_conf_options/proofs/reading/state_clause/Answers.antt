@@ -1,3 +1,4 @@
+-- Answer of state_clause: each option of a clause that is read is within its bounds (`within`).
 use Rattle.pfs_conf_options.proofs.ReadLaws.{gives_within}
 use Rattle.pfs_conf_options.proofs.reading.state_clause.Goals as goal
 

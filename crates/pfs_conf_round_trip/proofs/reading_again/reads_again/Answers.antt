@@ -1,3 +1,4 @@
+-- Answers of reads_again: a canonical text reads as its configuration (`same`) and as no other (`only`).
 use Rattle.pfs_conf_round_trip.proofs.WholeText.{text_again, text_alone}
 use Rattle.pfs_conf_round_trip.proofs.reading_again.reads_again.Goals as goal
 

@@ -1,3 +1,4 @@
+-- Invariant of count_entries: the count is that of the tables so far, as far as it fits.
 use Rattle.std.proofs.Common.{◌≡◌, ◌-◌, ◌^◌, min, take}
 use Rattle.pfs_conf_rules.specs.Configs.{entries_in}
 use Rattle.pfs_conf_rules.proofs.drafts.count_entries.Given as goal

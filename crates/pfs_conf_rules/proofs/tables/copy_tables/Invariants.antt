@@ -1,3 +1,4 @@
+-- Invariant of copy_tables: the copies are the tables so far.
 use Rattle.std.proofs.Common.{◌≡◌, take}
 use Rattle.pfs_conf_rules.proofs.tables.copy_tables.Given as goal
 

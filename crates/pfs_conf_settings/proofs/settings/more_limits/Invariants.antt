@@ -1,3 +1,4 @@
+-- Invariant of more_limits: reading on gives what reading from the start gives; fewer tokens each time.
 use Rattle.std.proofs.Common.{◌≡◌, length}
 use Rattle.pfs_conf_tokens.specs.Reading.{closes_braces, until_all, next_of}
 use Rattle.pfs_conf_settings.specs.Settings.{lined_limit_at}

@@ -1,3 +1,4 @@
+-- Answers of number_up_to: a number that is read is within its bounds, so it fits into 32 bits.
 use Rattle.std.proofs.Common.{arith}
 use Rattle.pfs_conf_tokens.proofs.ReaderLaws.{number_is}
 use Rattle.pfs_conf_settings.proofs.settings.number_up_to.Goals as goal

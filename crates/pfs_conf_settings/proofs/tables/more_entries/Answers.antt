@@ -1,3 +1,4 @@
+-- Answers of more_entries: its loop reads up to the `}` as defined, at a step, a refusal and the end.
 use Rattle.std.proofs.Common.{sym, ◌∙◌, Err, subst, Result, List}
 use Rattle.pfs_conf_tokens.specs.Tokens.{Tok}
 use Rattle.pfs_conf_tokens.specs.Reading.{closes_braces, next_of, Refused}

@@ -1,3 +1,4 @@
+-- Answers of more_parts: its loop reads up to the line end as defined, at a step, a refusal and the end.
 use Rattle.std.proofs.Common.{sym, ◌∙◌, Err, subst, Result, List}
 use Rattle.pfs_conf_tokens.specs.Tokens.{Tok}
 use Rattle.pfs_conf_tokens.specs.Keys.{ends_line}

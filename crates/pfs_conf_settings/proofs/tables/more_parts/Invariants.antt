@@ -1,3 +1,4 @@
+-- Invariant of more_parts: reading on gives what reading from the start gives; fewer tokens each time.
 use Rattle.std.proofs.Common.{◌≡◌, length}
 use Rattle.pfs_conf_tokens.specs.Keys.{ends_line}
 use Rattle.pfs_conf_tokens.specs.Reading.{up_to_all}

@@ -1,3 +1,4 @@
+-- Answers of push_braces: one more closing brace each turn, and at the end as many as were asked for.
 use Rattle.std.proofs.Common.{◌≡◌, ℕ, arith, ap, ◌∙◌, ◌++◌}
 use Rattle.std.proofs.lemmas.Grind.{common_steps}
 use Rattle.pfs_conf_show.specs.Texts.{braces_text}

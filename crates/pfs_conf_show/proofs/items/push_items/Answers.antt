@@ -1,3 +1,4 @@
+-- Answers of push_items: an item more, no item too deep, and the braces that are open at the end.
 use Rattle.std.proofs.Common.{◌≡◌, ◌++◌, ◌∙◌, ◌<◌, ◌≤◌, ◌+◌, ap, sym, List, ℕ, arith, drop, length}
 use Rattle.pfs_conf_show.specs.Texts.{items_text, braces_text}
 use Rattle.pfs_conf_show.proofs.ItemLaws.{is_there, item_step, items-end}

@@ -1,3 +1,4 @@
+-- Invariant of push_items: what is written and the text of the items that are left make the whole text.
 use Rattle.std.proofs.Common.{◌≡◌, ◌++◌, drop}
 use Rattle.pfs_conf_show.specs.Texts.{items_text}
 use Rattle.pfs_conf_show.proofs.items.push_items.Given as goal

@@ -1,3 +1,4 @@
+-- Answer of push_limit_list: the four limits, one after the other, are the list.
 use Rattle.std.specs.Prelude.{codes}
 use Rattle.pfs_conf_show.proofs.ListLaws.{four_items, on_ok}
 use Rattle.pfs_conf_show.proofs.settings.push_limit_list.Goals as goal

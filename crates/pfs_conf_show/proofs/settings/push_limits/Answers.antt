@@ -1,3 +1,4 @@
+-- Answer of push_limits: `set limit`, the list and its end are the line of the limits.
 use Rattle.std.proofs.Common.{false}
 use Rattle.std.specs.Prelude.{codes}
 use Rattle.pfs_conf_show.specs.Pieces.{going_on}

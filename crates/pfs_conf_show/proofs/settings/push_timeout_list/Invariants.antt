@@ -1,3 +1,4 @@
+-- Invariant of push_timeout_list: the timeouts so far are written as a list.
 use Rattle.std.proofs.Common.{◌≡◌, ◌++◌, take, map, false}
 use Rattle.std.specs.Prelude.{codes}
 use Rattle.pfs_conf_rules.specs.Timeouts.{timeout_names}

@@ -1,3 +1,4 @@
+-- Answer of push_timeouts: `set timeout`, the list and its end are the line of the timeouts.
 use Rattle.std.proofs.Common.{false, map}
 use Rattle.std.specs.Prelude.{codes}
 use Rattle.pfs_conf_rules.specs.Timeouts.{timeout_names}

@@ -1,3 +1,4 @@
+-- Invariant of push_entry_list: the entries so far are written as a list.
 use Rattle.std.proofs.Common.{◌≡◌, ◌++◌, take, map, false}
 use Rattle.std.specs.Prelude.{codes}
 use Rattle.pfs_conf_show.specs.Pieces.{begun_after, going_on}

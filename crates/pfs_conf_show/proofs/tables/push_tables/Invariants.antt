@@ -1,3 +1,4 @@
+-- Invariant of push_tables: the tables so far are written, one after the other.
 use Rattle.std.proofs.Common.{◌≡◌, ◌++◌, take}
 use Rattle.std.specs.List.{flat_map}
 use Rattle.pfs_conf_show.specs.Tables.{table_text}

@@ -1,3 +1,4 @@
+-- Answers of first_token: what a space, a comment, a joined line, a line end, a piece and the end leave.
 use Rattle.std.proofs.Common.{◌≡◌, sym, ap, ◌∙◌, arith, add-one, length, true, false, ◌==◌, ◌&&◌, not, cond, [], ◌∷◌}
 use Rattle.std.proofs.lemmas.Bool.{ne_eqb, and_left, and_right}
 use Rattle.pfs_conf_tokens.specs.Tokens.{token}

@@ -1,3 +1,4 @@
+-- Invariant of first_token: the bytes left have the tokens of all, and no more lines than bytes were passed.
 use Rattle.std.proofs.Common.{◌≡◌, ◌+◌, ◌≤◌, length}
 use Rattle.pfs_conf_tokens.specs.Lexis.{tokens}
 use Rattle.pfs_conf_tokens.proofs.lexer.first_token.Given as goal

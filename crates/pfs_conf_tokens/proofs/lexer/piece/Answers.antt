@@ -1,3 +1,4 @@
+-- Answer of piece: a run of word bytes is the word that the definition takes (`token`).
 use Rattle.std.proofs.Common.{sym, ◌∙◌}
 use Rattle.pfs_conf_tokens.proofs.LexisLaws.{word_piece}
 use Rattle.pfs_conf_tokens.proofs.lexer.piece.Goals as goal

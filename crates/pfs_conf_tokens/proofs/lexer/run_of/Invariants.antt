@@ -1,3 +1,4 @@
+-- Invariant of run_of: the bytes counted so far and the run in those left make the whole run.
 use Rattle.std.proofs.Common.{◌≡◌, ◌+◌, drop}
 use Rattle.pfs_conf_tokens.specs.Lexis.{run_of}
 use Rattle.pfs_conf_tokens.proofs.lexer.run_of.Given as goal

@@ -1,3 +1,4 @@
+-- Invariant of digits: the digits so far and those that are left make the number, which stays small.
 use Rattle.std.proofs.Common.{◌≡◌, ◌<◌, ◌^◌, drop}
 use Rattle.pfs_conf_tokens.specs.Numbers.{digits_from}
 use Rattle.pfs_conf_tokens.proofs.numbers.digits.Given as goal

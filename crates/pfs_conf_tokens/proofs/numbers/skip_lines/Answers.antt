@@ -1,3 +1,4 @@
+-- Answers of skip_lines: a line end in front is gone over, and before any other token nothing is.
 use Rattle.std.proofs.Common.{sym, ap, ◌∙◌}
 use Rattle.pfs_conf_tokens.specs.Grammar.{skip_lines}
 use Rattle.pfs_conf_tokens.proofs.LineLaws.{skip_over, skip_stays}

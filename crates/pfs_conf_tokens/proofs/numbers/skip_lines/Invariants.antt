@@ -1,3 +1,4 @@
+-- Invariant of skip_lines: skipping on leads where skipping from the start leads.
 use Rattle.std.proofs.Common.{◌≡◌, length}
 use Rattle.pfs_conf_tokens.specs.Grammar.{skip_lines}
 use Rattle.pfs_conf_tokens.proofs.numbers.skip_lines.Given as goal

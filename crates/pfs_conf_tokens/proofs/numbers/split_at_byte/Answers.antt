@@ -1,3 +1,4 @@
+-- Answer of split_at_byte: the parts around the first such byte are those of the definition.
 use Rattle.pfs_conf_tokens.proofs.NumberLaws.{split_parts}
 use Rattle.pfs_conf_tokens.proofs.numbers.split_at_byte.Goals as goal
 

@@ -1,3 +1,4 @@
+-- Answers of complete_handshake: the rule has the rate that is asked, and its overload table has room.
 use Rattle.std.proofs.Common.{◌≡◌, true, refl, subst, sym}
 use Rattle.pfs_conf_rules.specs.declared.actions.StateOptions.{StateOptions}
 use Rattle.pfs_engine.specs.Rooms.{HasRoomFor}

@@ -1,3 +1,4 @@
+-- Answers of kill_with: no more states after a kill than before, and the difference is what it killed.
 use Rattle.std.proofs.Common.{◌==◌, arith, ap, length}
 use Rattle.pfs_store_plain.specs.Leaving.{other_than}
 use Rattle.pfs_store_plain.specs.Worlds.{World}

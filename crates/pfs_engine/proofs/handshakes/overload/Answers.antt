@@ -1,3 +1,4 @@
+-- Answer of overload: the table of a rule's `overload` is one that there is (`known`).
 use Rattle.std.proofs.Common.{refl}
 use Rattle.pfs_engine_machine.proofs.OptionLaws.{some_of}
 use Rattle.pfs_engine.proofs.handshakes.overload.Goals as goal

@@ -1,3 +1,4 @@
+-- Answers of take_packet_of_state: after the touch the state is held and there is room; its looks (`looks`).
 use Rattle.std.proofs.Common.{◌≡◌, ℕ, arith, refl, subst}
 use Rattle.std.specs.Prelude.{option_map}
 use Rattle.pfs_addr.specs.Keys.{key_of}

@@ -1,3 +1,4 @@
+-- Answer of by_action: where the store refuses a state, the packet is dropped for the first limit met (`ok`).
 use Rattle.std.proofs.Common.{◌≡◌, ◌∙◌, Some, ap, rules, sym}
 use Rattle.pfs_conf_rules.specs.Configs.{Conf}
 use Rattle.pfs_store_plain.specs.Admission.{limit_at}

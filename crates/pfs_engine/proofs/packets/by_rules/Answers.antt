@@ -1,3 +1,4 @@
+-- Answer of by_rules: a packet that needs no memory by the rule that decides is answered (`free`).
 use Rattle.std.proofs.Common.{◌≡◌, ◌∙◌, ℕ, List, Option, Some, ap, subst, sym}
 use Rattle.std.specs.Prelude.{option_map}
 use Rattle.pfs_eval.specs.Matching.{matches_item}

@@ -1,3 +1,4 @@
+-- Answers of pass_over: the seconds that are passed over are those of the machine, and what is known of them.
 use Rattle.std.proofs.Common.{◌<◌, arith}
 use Rattle.pfs_engine.proofs.Watching.{none-watched, way-passed}
 use Rattle.pfs_engine.proofs.purges.pass_over.Goals as goal

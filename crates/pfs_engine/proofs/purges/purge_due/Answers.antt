@@ -1,3 +1,4 @@
+-- Answer of purge_due: two slices for each second since the last moment (`slices`).
 use Rattle.std.proofs.lemmas.List.FromFn.{length-range_with_len}
 use Rattle.pfs_engine.proofs.purges.purge_due.Goals as goal
 

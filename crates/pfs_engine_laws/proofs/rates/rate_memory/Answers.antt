@@ -1,3 +1,4 @@
+-- Answers of rate_memory: the score and the kill by it are those of the source's history (`score`, `kill`).
 use Rattle.pfs_engine_laws.proofs.Histories.{rate-is-remembered, score-is-remembered}
 use Rattle.pfs_engine_laws.proofs.rates.rate_memory.Goals as goal
 

@@ -1,3 +1,4 @@
+-- Answers of staleness: a run is its acts (`run`), and what is to go goes in time (`states`, `nodes`).
 use Rattle.pfs_engine_machine.specs.Machine.{start}
 use Rattle.pfs_engine_laws.proofs.Runs.{acts-done}
 use Rattle.pfs_engine_laws.proofs.Staling.{nodes-go}

@@ -1,3 +1,4 @@
+-- Answer of within_limits: what is held stays within the limits through the acts of a run.
 use Rattle.pfs_engine_laws.proofs.Within.{stays-within}
 use Rattle.pfs_engine_laws.proofs.staying.within_limits.Goals as goal
 

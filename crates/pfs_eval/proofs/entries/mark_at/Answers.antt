@@ -1,3 +1,4 @@
+-- Answers of mark_at: the look-up gives the mark of that prefix.
 use Rattle.std.proofs.Common.{◌∙◌, rules, subst}
 use Rattle.pfs_eval.proofs.Narrowest.{TellsOnly, lookup-mark_at}
 use Rattle.pfs_eval.proofs.entries.mark_at.Goals as goal

@@ -1,3 +1,4 @@
+-- Answers of body_end: an item no deeper than this ends the body, and any other is part of it.
 use Rattle.std.proofs.Common.{arith}
 use Rattle.pfs_eval.proofs.LinesMade.{body-end, body-more}
 use Rattle.pfs_eval.proofs.lines.body_end.Goals as goal

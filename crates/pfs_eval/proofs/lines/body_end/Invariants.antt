@@ -1,3 +1,4 @@
+-- Invariant of body_end: the body ends, seen from here, where it ends seen from the start.
 use Rattle.std.proofs.Common.{◌≡◌, ◌+◌, drop}
 use Rattle.pfs_eval.specs.Skips.{body_length}
 use Rattle.pfs_eval.proofs.lines.body_end.Given as goal

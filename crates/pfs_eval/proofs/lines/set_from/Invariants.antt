@@ -1,3 +1,4 @@
+-- Invariant of set_from: the places from the first to this one have the value, the others what they had.
 use Rattle.std.proofs.Common.{◌≡◌, ◌<◌, ℕ, length, cond, ◌&&◌, nat_le, nat_lt, get_or}
 use Rattle.pfs_eval.proofs.lines.set_from.Given as goal
 

@@ -1,3 +1,4 @@
+-- Answers of counted_rules: there are so many rules (`within`), and none past them has a pair (`unread`).
 use Rattle.std.proofs.Common.{◌≡◌, ◌+◌, ◌<◌, ◌≤◌, sym, subst, arith, length}
 use Rattle.pfs_store_index.specs.Stored.{has_pair}
 use Rattle.pfs_store_index.proofs.Storing.{read-all, read-more, read-within}

@@ -1,3 +1,4 @@
+-- Invariant of counted_rules: of the rules so far, none past those that are counted has an adaptive pair.
 use Rattle.std.proofs.Common.{◌≡◌, ◌-◌, ◌<◌, ◌≤◌, ℕ, false}
 use Rattle.pfs_store_index.specs.Stored.{has_pair}
 use Rattle.pfs_store_index.proofs.expiring.counted_rules.Given as goal

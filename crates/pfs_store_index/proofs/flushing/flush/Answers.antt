@@ -1,3 +1,4 @@
+-- Answers of flush: one state of the source more, and at the end which states stay (`states`) and `looks`.
 use Rattle.std.proofs.Common.{◌≡◌, ◌∙◌, sym, ap, refl, filter, take, map, arith}
 use Rattle.std.proofs.lemmas.List.{take_all}
 use Rattle.pfs_store_plain.specs.Counts.{is_of_source}

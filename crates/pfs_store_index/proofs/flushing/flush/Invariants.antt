@@ -1,3 +1,4 @@
+-- Invariant of flush: of the states of the source the first are examined, and the others wait.
 use Rattle.std.proofs.Common.{◌≡◌, ◌+◌, ◌-◌, ◌≤◌, length, filter, map, take, drop}
 use Rattle.pfs_store_plain.specs.Leaving.{idled, is_flushed}
 use Rattle.pfs_store_index.specs.Rounds.{waiting_of}

@@ -1,3 +1,4 @@
+-- Answers of strike: the state of this number is there, and leaves if it is flushed; all others stay.
 use Rattle.std.proofs.Common.{◌≡◌, ◌∙◌, Some, sym, ap, filter, subst}
 use Rattle.std.specs.List.{find}
 use Rattle.pfs_store_plain.specs.Leaving.{is_flushed}

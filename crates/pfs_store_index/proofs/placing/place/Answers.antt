@@ -1,3 +1,4 @@
+-- Answers of place: where room for the record or the node is refused, what was placed is taken back.
 use Rattle.std.proofs.Common.{◌∙◌, sym, ap, filter, refl}
 use Rattle.std.specs.BTreeSet.{contains}
 use Rattle.pfs_store_records.specs.Records.{leaves_number, placed_at}

@@ -1,3 +1,4 @@
+-- Answers of examine_node: the node leaves if it has no state and its retention is over; all others stay.
 use Rattle.std.proofs.Common.{◌≡◌, ◌∙◌, ◌+◌, ◌==◌, ◌&&◌, true, false, nat_le, sym, arith}
 use Rattle.std.proofs.lemmas.Bool.Decides.{nat_tests}
 use Rattle.pfs_store_plain.specs.Purging.{is_over, node_retention}

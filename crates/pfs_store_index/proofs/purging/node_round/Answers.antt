@@ -1,3 +1,4 @@
+-- Answer of node_round: where no node of the round waits, a new round begins with all that are held.
 use Rattle.std.proofs.Common.{sym}
 use Rattle.pfs_store_plain.specs.Purging.{node_numbers}
 use Rattle.pfs_store_index.specs.Rounds.{waiting}

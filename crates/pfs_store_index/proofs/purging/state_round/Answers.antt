@@ -1,3 +1,4 @@
+-- Answer of state_round: where no state of the round waits, a new round begins with all that are held.
 use Rattle.std.proofs.Common.{sym}
 use Rattle.pfs_store_plain.specs.Purging.{state_numbers}
 use Rattle.pfs_store_index.specs.Rounds.{waiting}

@@ -1,3 +1,4 @@
+-- Answers of walk_nodes: one node more, and at the end that the share was examined and which nodes stay.
 use Rattle.std.proofs.Common.{◌≡◌, ◌∙◌, ℕ, List, Some, None, slice_get, option_map, sym, ap, subst, ◌+◌, refl, filter, length, take, drop, min, arith, length-take}
 use Rattle.std.proofs.lemmas.List.{take_min, drop_min}
 use Rattle.pfs_store_plain.specs.Purging.{is_over, node_numbers, node_stays}

@@ -1,3 +1,4 @@
+-- Answers of walk_states: one stretch more, and at the end which states stay (`states`) and still wait.
 use Rattle.std.proofs.Common.{◌≡◌, ◌∙◌, ◌-◌, ℕ, List, ap, refl, subst, ◌≤◌, filter, length, take, drop, min, map, arith, length-take, length-drop}
 use Rattle.std.proofs.lemmas.List.{take_min, drop_min}
 use Rattle.pfs_store_plain.specs.Leaving.{idled}

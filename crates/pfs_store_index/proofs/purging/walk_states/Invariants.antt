@@ -1,3 +1,4 @@
+-- Invariant of walk_states: of the states that waited the first are examined, and the others wait.
 use Rattle.std.proofs.Common.{◌≡◌, ◌+◌, ◌≤◌, ◌<◌, length, filter, map, take, drop}
 use Rattle.pfs_store_plain.specs.Leaving.{idled}
 use Rattle.pfs_store_plain.specs.Purging.{state_numbers}

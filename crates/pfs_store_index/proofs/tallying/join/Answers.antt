@@ -1,3 +1,4 @@
+-- Answers of join: a node that is there counts one state more, which fits, and no other node changes (`ok`).
 use Rattle.std.proofs.Common.{◌∙◌, ap, sym, refl, arith, map, is_some, if◌then◌else◌, ◌++◌, ◌∷◌, []}
 use Rattle.std.proofs.Common.{Option}
 use Rattle.pfs_store_records.specs.declared.nodes.Tally.{Tally}

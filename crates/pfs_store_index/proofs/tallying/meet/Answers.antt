@@ -1,3 +1,4 @@
+-- Answer of meet: where the rule tracks no sources, no node changes (`nodes`).
 use Rattle.std.proofs.Common.{◌∙◌, Option, ap, map}
 use Rattle.pfs_conf_rules.specs.Configs.{options_of}
 use Rattle.pfs_store_plain.specs.declared.records.NodeScope.{NodeScope}

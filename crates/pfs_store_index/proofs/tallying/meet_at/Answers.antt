@@ -1,3 +1,4 @@
+-- Answers of meet_at: the node is there, and it alone changes by the packet (`nodes`, `tally`).
 use Rattle.std.proofs.Common.{◌∙◌, Some, ap, sym}
 use Rattle.std.specs.List.{find}
 use Rattle.pfs_store_records.specs.Tallies.{is_tally}

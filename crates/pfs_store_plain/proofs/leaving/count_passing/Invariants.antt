@@ -1,3 +1,4 @@
+-- Invariant of count_passing: the count is that of the states so far that pass both tests.
 use Rattle.std.proofs.Common.{◌≡◌, ◌≤◌, filter, length, take}
 use Rattle.pfs_store_plain.proofs.leaving.count_passing.Given as goal
 

@@ -1,3 +1,4 @@
+-- Answer of idle: where every state stays, no node gets an idle moment (`nodes`).
 use Rattle.std.proofs.Common.{arith}
 use Rattle.pfs_store_plain.proofs.IdleLaws.{none-idle}
 use Rattle.pfs_store_plain.proofs.leaving.idle.Goals as goal

@@ -1,3 +1,4 @@
+-- Answer of keep: the states that are left are those that pass the test (`items`).
 use Rattle.std.proofs.Common.{rules}
 use Rattle.std.proofs.lemmas.Fn.{filter_same}
 use Rattle.pfs_store_plain.proofs.leaving.keep.Goals as goal

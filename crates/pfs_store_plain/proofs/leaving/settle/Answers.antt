@@ -1,3 +1,4 @@
+-- Answer of settle: one node more is settled, and its score is not past the greatest.
 use Rattle.std.proofs.Common.{◌<◌, ◌≤◌, length, filter, arith, subst, sym}
 use Rattle.std.proofs.lemmas.List.{get_or_default}
 use Rattle.std.proofs.lemmas.List.Edits.{map_over_more}

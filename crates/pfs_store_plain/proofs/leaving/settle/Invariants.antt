@@ -1,3 +1,4 @@
+-- Invariant of settle: the nodes so far are settled, the others as before, no score past the greatest.
 use Rattle.std.proofs.Common.{◌≡◌, ◌++◌, take, drop, map, filter}
 use Rattle.pfs_store_plain.specs.Leaving.{idled}
 use Rattle.pfs_store_plain.specs.Plain.{AreScores}

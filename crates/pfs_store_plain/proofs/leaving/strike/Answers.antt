@@ -1,3 +1,4 @@
+-- Answer of strike: the numbers that are left are those that states have (`items`).
 use Rattle.std.proofs.Common.{rules}
 use Rattle.std.proofs.lemmas.Fn.{filter_same}
 use Rattle.pfs_store_plain.specs.Worlds.{holds_number}

@@ -1,3 +1,4 @@
+-- Answer of keep_nodes: the nodes that are left are those that stay by the definition (`items`).
 use Rattle.std.proofs.Common.{rules}
 use Rattle.std.proofs.lemmas.Fn.{filter_same}
 use Rattle.pfs_store_plain.specs.Purging.{node_stays}

@@ -1,3 +1,4 @@
+-- Invariant of refill: the numbers so far are pending, and the room is as before.
 use Rattle.std.proofs.Common.{◌≡◌, take, map}
 use Rattle.std.specs.Vec.{vec_capacity}
 use Rattle.pfs_store_plain.proofs.purging.refill.Given as goal

@@ -1,3 +1,4 @@
+-- Answers of slice_states: the slice leaves the lists as defined (`world`), and what it tells (`answer`).
 use Rattle.std.proofs.Common.{◌≡◌, ◌∙◌, ℕ, List, [], length, filter, map, take, ap, rules}
 use Rattle.pfs_store_plain.proofs.SliceLaws.{state_slice-parts, state_slice-told, stays_by}
 use Rattle.pfs_store_plain.specs.Leaving.{idled}

@@ -1,3 +1,4 @@
+-- Invariant of node_score: the first node of the scope and source is among those that are left.
 use Rattle.std.proofs.Common.{◌≡◌, drop}
 use Rattle.std.specs.List.{find}
 use Rattle.pfs_store_plain.specs.Counts.{is_node}

@@ -1,3 +1,4 @@
+-- Answer of renew: one state more is gone through, renewed if it has the number.
 use Rattle.std.proofs.Common.{◌<◌, length, arith}
 use Rattle.std.proofs.lemmas.List.{get_or_default}
 use Rattle.std.proofs.lemmas.List.Edits.{map_over_more}

@@ -1,3 +1,4 @@
+-- Answer of rescore: one node more is gone through, rescored if it is the one, no score past the greatest.
 use Rattle.std.proofs.Common.{◌<◌, ◌≤◌, ◌≢◌, length, arith, get_or-set_other}
 use Rattle.std.proofs.lemmas.List.{get_or_default, length-set}
 use Rattle.std.proofs.lemmas.List.Edits.{map_over_more}

@@ -1,3 +1,4 @@
+-- Invariant of rescore: the nodes so far are rescored, the others as before, with no handshake after now.
 use Rattle.std.proofs.Common.{◌≡◌, ◌≤◌, ◌++◌, take, drop, map, length}
 use Rattle.std.specs.List.{AllWithin}
 use Rattle.pfs_store_plain.specs.Plain.{AreScores}

@@ -1,3 +1,4 @@
+-- Invariant of state_with: the first state that has the key is among those that are left.
 use Rattle.std.proofs.Common.{◌≡◌, drop}
 use Rattle.std.specs.List.{find}
 use Rattle.pfs_addr.specs.Sameness.{same_key}

@@ -1,3 +1,4 @@
+-- Answers of walk_range: one more that stays, and each end: a leaver, the range's end, the share's (`walk`).
 use Rattle.std.proofs.Common.{◌∙◌, None, Some, arith, subst, sym}
 use Rattle.pfs_store_records.specs.Keeping.{held, record_in}
 use Rattle.pfs_store_records.specs.Records.{states_of}

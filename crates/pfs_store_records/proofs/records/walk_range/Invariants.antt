@@ -1,3 +1,4 @@
+-- Invariant of walk_range: those passed so far all stay, each was one look, and the rest is still to come.
 use Rattle.std.proofs.Common.{◌≡◌, ◌≤◌, ◌+◌, ◌-◌}
 use Rattle.pfs_store_records.proofs.Walking.{Each, Stays, Until, Walking}
 use Rattle.pfs_store_records.proofs.records.walk_range.Given as goal

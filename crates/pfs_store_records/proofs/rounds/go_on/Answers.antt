@@ -1,3 +1,4 @@
+-- Answers of go_on: whole rounds are no move; else a new round begins, or a slice of this one is passed.
 use Rattle.std.proofs.Common.{◌∙◌, sym}
 use Rattle.std.specs.Map.{keys_of}
 use Rattle.pfs_store_records.proofs.Turning.{round-begun, whole-passed}

@@ -1,3 +1,4 @@
+-- Answers of is_over: a round is over when no number is left between its cursor and its mark.
 use Rattle.std.proofs.Common.{◌∙◌, sym}
 use Rattle.pfs_store_records.proofs.Turning.{over-none, over-some}
 use Rattle.pfs_store_records.proofs.rounds.is_over.Goals as goal

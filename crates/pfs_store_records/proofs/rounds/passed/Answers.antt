@@ -1,3 +1,4 @@
+-- Answers of passed: its loop passes by one number after another, up to a share of them or the end.
 use Rattle.std.proofs.Common.{◌≡◌, ◌∙◌, ap, arith, drop}
 use Rattle.pfs_store_records.proofs.Turning.{among, passed-all, passed-drop}
 use Rattle.pfs_store_records.proofs.Walking.{walking-init, walking-step}

@@ -1,3 +1,4 @@
+-- Invariant of passed: as many numbers were passed by as were counted, and no more than the share.
 use Rattle.std.proofs.Common.{◌≤◌, ◌-◌}
 use Rattle.pfs_store_records.proofs.Turning.{Passing}
 use Rattle.pfs_store_records.proofs.rounds.passed.Given as goal

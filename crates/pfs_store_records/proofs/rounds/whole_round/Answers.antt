@@ -1,3 +1,4 @@
+-- Answer of whole_round: so many slices come back to where the round is.
 use Rattle.std.proofs.Common.{◌∙◌, sym}
 use Rattle.pfs_store_records.proofs.Turning.{round-ends}
 use Rattle.pfs_store_records.proofs.Walking.{length-keys}

@@ -1,3 +1,4 @@
+-- Answer of kill: a kill leaves no handshake to come (`order`).
 use Rattle.pfs_store_plain.proofs.MomentLaws.{killed-up_to_now}
 use Rattle.pfs_tests_machine.proofs.stores.kill.Goals as goal
 

@@ -1,3 +1,4 @@
+-- What falls at each call of are_allowed by itself: the events that are left.
 use Rattle.std.proofs.Common.{ℕ, length}
 use Rattle.pfs_tests_memory.proofs.engines.+are_allowed.Given as goal
 

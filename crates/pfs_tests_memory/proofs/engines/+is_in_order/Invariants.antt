@@ -1,3 +1,4 @@
+-- What falls at each call of is_in_order by itself: the events that are left.
 use Rattle.std.proofs.Common.{length}
 use Rattle.pfs_tests_memory.proofs.engines.+is_in_order.Given as goal
 

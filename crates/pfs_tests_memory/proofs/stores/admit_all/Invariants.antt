@@ -1,3 +1,4 @@
+-- Invariant of admit_all: the store is made for the configuration.
 use Rattle.std.proofs.Common.{◌≡◌}
 use Rattle.pfs_tests_memory.proofs.stores.admit_all.Given as goal
 

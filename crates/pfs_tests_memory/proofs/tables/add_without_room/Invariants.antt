@@ -1,3 +1,4 @@
+-- Invariant of add_without_room: there is a table to add to.
 use Rattle.std.proofs.Common.{◌<◌, length}
 use Rattle.pfs_tests_memory.proofs.tables.add_without_room.Given as goal
 

@@ -1,3 +1,4 @@
+-- Answers of both_stores_answer_alike: an empty store of either kind has no handshake after moment 0.
 use Rattle.std.proofs.Common.{ap, subst, sym}
 use Rattle.pfs_store_plain.proofs.MomentLaws.{empty_world-up_to_now}
 use Rattle.pfs_store_plain.specs.Plain.{Plain}

@@ -1,3 +1,4 @@
+-- Answer of compare: after one more call of both stores neither has a handshake after the next moment.
 use Rattle.std.proofs.Common.{◌∙◌, ◌≤◌, ◌/◌, ◌+◌, ℕ, arith}
 use Rattle.pfs_store_plain.proofs.MomentLaws.{later-up_to_now}
 use Rattle.pfs_tests_stores.proofs.comparing.compare.Goals as goal

@@ -1,3 +1,4 @@
+-- Invariant of compare: both stores are made for the configuration, with no handshake after this moment.
 use Rattle.std.proofs.Common.{◌≡◌, ◌/◌}
 use Rattle.pfs_store_plain.specs.Worlds.{IsUpToNow}
 use Rattle.pfs_tests_stores.proofs.comparing.compare.Given as goal

@@ -1,3 +1,4 @@
+-- Answer of Addr::prefix: an address with the bits past a length cleared is a prefix of that length.
 use Rattle.std.proofs.Common.{sym, subst}
 use Rattle.pfs_addr.specs.Prefixes.{IsNetwork}
 use Rattle.pfs_addr.proofs.PrefixLaws.{network_of_is_network}

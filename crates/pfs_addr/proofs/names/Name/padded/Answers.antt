@@ -1,3 +1,4 @@
+-- Answers of Name::padded: the bytes of the text with zeros behind them are a name, and the one of that text.
 use Rattle.std.proofs.Common.{◌∙◌, ◌++◌, ap, length, take, drop, replicate}
 use Rattle.std.proofs.Math.Seq.{take-append_seam}
 use Rattle.pfs_addr.proofs.Laying.{padded-of}

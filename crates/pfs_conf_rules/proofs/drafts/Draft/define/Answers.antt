@@ -1,3 +1,4 @@
+-- Answer of Draft::define: a draft stays one where a table is defined.
 use Rattle.pfs_conf_rules.proofs.DraftLaws.{IsDraft-with_tables}
 use Rattle.pfs_conf_rules.proofs.drafts.Draft.define.Goals as goal
 

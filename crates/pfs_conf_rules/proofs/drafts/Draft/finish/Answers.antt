@@ -1,3 +1,4 @@
+-- Answer of Draft::finish: a draft that keeps the load rules of the whole text is a configuration.
 use Rattle.std.proofs.Common.{◌∙◌, ap, min}
 use Rattle.pfs_conf_rules.specs.Configs.{entries_in}
 use Rattle.pfs_conf_rules.specs.Drafts.{Drafted, const_overload, has_broken_pair, has_too_many_entries, has_too_many_tables}

@@ -1,3 +1,4 @@
+-- Answers of Draft::number_of: a draft stays one, and the number is that of a table (`within`).
 use Rattle.std.proofs.Common.{◌≡◌, ◌<◌, ℕ, arith, length, Ok, Err, IfOk, OnOk}
 use Rattle.std.specs.Prelude.{List, Result}
 use Rattle.pfs_conf_rules.specs.Namings.{Named, naming, place_in, table_number}

@@ -1,3 +1,4 @@
+-- Answers of Draft::push: a draft stays one, and how deep the next item may be (`depth`).
 use Rattle.pfs_conf_rules.proofs.DraftLaws.{IsDraft-pushed}
 use Rattle.pfs_conf_rules.proofs.OrderLaws.{depth_after-pushed}
 use Rattle.pfs_conf_rules.proofs.drafts.Draft.push.Goals as goal

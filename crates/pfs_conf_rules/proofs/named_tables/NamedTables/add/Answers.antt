@@ -1,3 +1,4 @@
+-- Answer of NamedTables::add: with one more table at the end names and tables still agree.
 use Rattle.std.proofs.Common.{◌∙◌, [], ◌∷◌, ◌++◌, ℕ, List, false, ap}
 use Rattle.pfs_conf_rules.specs.Entries.{Entry}
 use Rattle.pfs_conf_rules.specs.Namings.{Named, is_named}

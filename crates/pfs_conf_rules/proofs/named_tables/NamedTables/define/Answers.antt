@@ -1,3 +1,4 @@
+-- Answers of NamedTables::define: the name has a place, and with the table put there names and tables agree.
 use Rattle.std.proofs.Common.{◌∙◌, ap, arith}
 use Rattle.pfs_conf_rules.specs.Namings.{Named}
 use Rattle.pfs_conf_rules.proofs.NamingLaws.{IsNaming-set, IsPlaced, naming-IsPlaced}

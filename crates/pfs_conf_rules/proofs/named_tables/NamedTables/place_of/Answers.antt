@@ -1,3 +1,4 @@
+-- Answer of NamedTables::place_of: a name that is not found gets the next place (`answer`).
 use Rattle.std.proofs.Common.{◌≡◌, ◌∙◌, ap, sym, ℕ, Ok, Err, IfOk}
 use Rattle.std.specs.Prelude.{Result}
 use Rattle.std.specs.List.{list_any}

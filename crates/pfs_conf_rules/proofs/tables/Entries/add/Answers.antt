@@ -1,3 +1,4 @@
+-- Answers of Entries::add: an entry whose prefix is new goes last (`ok`), and all of them are prefixes.
 use Rattle.std.proofs.Common.{◌≡◌, ◌∷◌, [], ◌++◌, ◌∙◌, ap, refl, None}
 use Rattle.std.proofs.lemmas.List.Elements.{All-push}
 use Rattle.pfs_addr.specs.Prefixes.{IsNetwork}

@@ -1,3 +1,4 @@
+-- Answer of Cursor::take: where it says yes, the token in front had this key and is gone over.
 use denote.Enum.Bare.{same_true}
 use Rattle.std.proofs.Common.{rules, sym, ◌∙◌}
 use Rattle.pfs_conf_tokens.specs.contracts.keys.Key.{the_type}

@@ -1,3 +1,4 @@
+-- Answers of Engine::advance: what an engine keeps, its limits, and that no slice exceeds its share.
 use Rattle.std.proofs.Common.{◌≡◌, ◌∙◌, ap, arith, subst, sym}
 use Rattle.pfs_conf_rules.specs.Configs.{Conf}
 use Rattle.pfs_store_plain.specs.Worlds.{World}

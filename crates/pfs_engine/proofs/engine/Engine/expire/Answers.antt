@@ -1,3 +1,4 @@
+-- Answers of Engine::expire: what an engine keeps, and its limits, also after old entries left.
 use Rattle.std.proofs.Common.{◌∙◌, List, subst, sym}
 use Rattle.pfs_eval.specs.Entries.{Entry}
 use Rattle.pfs_engine_machine.specs.Kept.{IsKept, moment_of}

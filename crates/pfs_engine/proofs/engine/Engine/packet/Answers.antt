@@ -1,3 +1,4 @@
+-- Answers of Engine::packet: what an engine keeps, and its clauses `refused_only`, `shared` and `limits`.
 use Rattle.std.proofs.Common.{◌≡◌, ◌∙◌, ap, arith, subst, sym}
 use Rattle.pfs_engine_machine.specs.Kept.{IsKept, moment_of}
 use Rattle.pfs_engine_machine.specs.Machine.{Held, held_of}

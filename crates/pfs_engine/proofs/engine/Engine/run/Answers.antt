@@ -1,3 +1,4 @@
+-- Answers of Engine::run: no event yet, an event more, and where memory was refused (`err`).
 use Rattle.std.proofs.Common.{◌<◌, ◌+◌, List, [], ◌∷◌, ◌++◌, Some, length, arith, length-drop, ◌∙◌, ap, sym, inl, inr, refl, subst}
 use Rattle.std.proofs.lemmas.Option.{slice_get-get_or}
 use Rattle.pfs_engine_machine.specs.declared.events.Event.{Event}

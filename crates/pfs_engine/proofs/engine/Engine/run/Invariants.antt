@@ -1,3 +1,4 @@
+-- Invariant of Engine::run: outcomes and machine are those of the events so far; the others are in order.
 use Rattle.std.proofs.Common.{◌≡◌, ◌≤◌, ◌+◌, ◌++◌, length, take, drop}
 use Rattle.pfs_engine_machine.specs.Kept.{IsWithinLimits}
 use Rattle.pfs_engine_machine.specs.Runs.{AreAllowed, IsInOrder, machine_after, outcomes_of, packets_in}

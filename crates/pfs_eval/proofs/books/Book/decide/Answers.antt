@@ -1,3 +1,4 @@
+-- Answer of Book::decide: what decides is the number of a rule (`rule`).
 use Rattle.std.proofs.Common.{◌∙◌}
 use Rattle.pfs_eval.specs.Matching.{matches_item}
 use Rattle.pfs_eval.specs.Verdict.{IsRuleAt}

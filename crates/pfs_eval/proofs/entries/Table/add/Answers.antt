@@ -1,3 +1,4 @@
+-- Answers of Table::add: an entry that is not there goes last (`ok`), and its length is marked.
 use Rattle.std.proofs.Common.{◌++◌, ◌-◌, [], ◌∷◌, ap, ◌∙◌, rules}
 use Rattle.pfs_addr.specs.Prefixes.{network_of}
 use Rattle.pfs_eval.specs.Entries.{holds_prefix}

@@ -1,3 +1,4 @@
+-- Answers of Table::expire: the entries that are not old are left (`entries`), the others counted (`answer`).
 use Rattle.std.proofs.Common.{◌∙◌, ap, arith, not, rules, subst, sym, List}
 use Rattle.indexmap.proofs.CallerLemmas.{filter-RetainsPairs}
 use Rattle.pfs_eval.specs.Entries.{Entry}

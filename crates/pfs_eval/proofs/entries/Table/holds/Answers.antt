@@ -1,3 +1,4 @@
+-- Answer of Table::holds: the look-up by a host's prefix finds an entry where there is one.
 use Rattle.std.proofs.Common.{◌∙◌, rules, ap, subst}
 use Rattle.pfs_addr.specs.Addresses.{width_of}
 use Rattle.pfs_addr.specs.Prefixes.{network_of}

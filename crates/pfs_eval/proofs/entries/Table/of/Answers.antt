@@ -1,3 +1,4 @@
+-- Answers of Table::of: the next entry of a text is not in the table yet, and goes last.
 use Rattle.std.proofs.Common.{◌≡◌, ◌++◌, [], ◌∷◌, None, Some, ap, sym, ◌∙◌, map, take}
 use Rattle.std.specs.Prelude.{option_map, slice_get}
 use Rattle.pfs_addr.specs.Prefixes.{network_of}

@@ -1,3 +1,4 @@
+-- Invariant of Table::of: the table has the entries of the text so far.
 use Rattle.std.proofs.Common.{◌≡◌, map, take}
 use Rattle.pfs_eval.specs.Entries.{entry_of}
 use Rattle.pfs_eval.proofs.entries.Table.of.Given as goal

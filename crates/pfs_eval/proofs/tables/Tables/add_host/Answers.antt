@@ -1,3 +1,4 @@
+-- Answers of Tables::add_host: what becomes of a host (`answer`, `ok`), and on an error (`err`, `only_new`).
 use Rattle.std.proofs.Common.{◌+◌, ◌++◌, [], ◌∷◌, false, Some, ap, sym, ◌∙◌}
 use Rattle.pfs_addr.specs.Prefixes.{network_of}
 use Rattle.pfs_eval.specs.Holdings.{Holdings}

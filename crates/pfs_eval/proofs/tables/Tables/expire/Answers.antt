@@ -1,3 +1,4 @@
+-- Answers of Tables::expire: old entries leave one table (`entries`), and the count falls by them (`answer`).
 use Rattle.std.proofs.Common.{◌∙◌, ap, arith, sym, List}
 use Rattle.pfs_eval.specs.Entries.{Entry}
 use Rattle.pfs_eval.specs.Holdings.{Holdings}

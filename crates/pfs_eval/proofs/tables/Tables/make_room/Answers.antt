@@ -1,3 +1,4 @@
+-- Answers of Tables::make_room: there is room for one entry more (`ok`), and no entry changes (`entries`).
 use Rattle.std.proofs.Common.{ap, sym, ◌∙◌, inl}
 use Rattle.pfs_eval.specs.Holdings.{Holdings}
 use Rattle.pfs_eval.specs.Tables.{entry_count}

@@ -1,3 +1,4 @@
+-- Answers of Tables::new: one table more, and at the end the count of entries is the configuration's.
 use Rattle.std.proofs.Common.{◌≡◌, ◌++◌, [], ◌∷◌, ap, sym, ◌∙◌, arith, map, take}
 use Rattle.std.proofs.lemmas.List.{take_all}
 use Rattle.pfs_conf_rules.specs.declared.tables.TableDef.{TableDef}

@@ -1,3 +1,4 @@
+-- Invariant of Tables::new: the tables so far have the entries that the configuration says.
 use Rattle.std.proofs.Common.{◌≡◌, map, take}
 use Rattle.pfs_conf_rules.specs.declared.tables.TableDef.{TableDef}
 use Rattle.pfs_eval.specs.Entries.{entry_of}

@@ -1,3 +1,4 @@
+-- Answers of Indexes::drop_node: the node is there and goes (`nodes`), and without it all stays tied.
 use Rattle.std.proofs.Common.{◌≡◌, ◌∙◌, ◌==◌, Some, ap, filter, not}
 use Rattle.std.specs.List.{find}
 use Rattle.pfs_store_plain.specs.Counts.{node_states}

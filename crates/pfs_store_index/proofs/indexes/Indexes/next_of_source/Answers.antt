@@ -1,3 +1,4 @@
+-- Answers of Indexes::next_of_source: the index by source tells the next number of the source, or none.
 use Rattle.std.proofs.Common.{◌∙◌, ap, sym, slice_get}
 use Rattle.pfs_store_records.specs.Records.{states_of}
 use Rattle.pfs_store_index.specs.Holdings.{Holding}

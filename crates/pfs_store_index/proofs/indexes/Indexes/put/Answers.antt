@@ -1,3 +1,4 @@
+-- Answers of Indexes::put: a state and its node have come (`nodes`), or neither has, and all stays tied.
 use Rattle.std.proofs.Common.{◌≡◌, ◌∙◌, ◌<◌, ◌≤◌, Option, None, Some, cond, length, ap, refl, subst, sym, arith, rules}
 use Rattle.std.specs.List.{find}
 use Rattle.std.proofs.lemmas.List.{get_or_read}

@@ -1,3 +1,4 @@
+-- Answers of Indexes::take_out: a state leaves, its node idles if it was the last (`nodes`); all stays tied.
 use Rattle.std.proofs.Common.{◌≡◌, ◌∙◌, ◌<◌, Option, Some, length, map, ap, sym, rules}
 use Rattle.std.specs.List.{find}
 use Rattle.std.proofs.lemmas.List.{get_or_read}

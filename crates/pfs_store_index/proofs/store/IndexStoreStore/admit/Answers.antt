@@ -1,3 +1,4 @@
+-- Answers of IndexStore's admit: a new number is above all others, and the world then is as defined (`ok`).
 use Rattle.std.proofs.Common.{◌≡◌, ◌∙◌, ◌+◌, ◌<◌, ◌++◌, ◌∷◌, [], None, Option, ap, refl, sym, arith}
 use Rattle.pfs_store_plain.specs.Admission.{limit_at, limit_met, new_state, nodes_with, world_at}
 use Rattle.pfs_store_plain.specs.Counts.{node_scope_of}

@@ -1,3 +1,4 @@
+-- Answers of IndexStore's flush: the world without the flushed (`world`), how many (`answer`), and the looks.
 use Rattle.std.proofs.Common.{◌≡◌, ◌∙◌, ◌-◌, ap, length, arith, rules}
 use Rattle.pfs_store_plain.specs.Counts.{source_states}
 use Rattle.pfs_store_plain.specs.Leaving.{flushed, flushed_count, stays_unflushed}

@@ -1,3 +1,4 @@
+-- Answers of IndexStore's holds: no state has the number 0, and any other is held where the order has it.
 use Rattle.std.proofs.Common.{◌≡◌, ◌∙◌, ◌≤◌, ap, is_some, sym, arith}
 use Rattle.pfs_store_plain.specs.Plain.{Plain}
 use Rattle.pfs_store_plain.specs.Worlds.{holds_number}

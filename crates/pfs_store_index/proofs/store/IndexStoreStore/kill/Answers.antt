@@ -1,3 +1,4 @@
+-- Answers of IndexStore's kill: the state is there to be taken out, and the world without it is as defined.
 use Rattle.std.proofs.Common.{◌≡◌, ◌∙◌, Some, ap, subst, sym, map}
 use Rattle.std.specs.List.{find}
 use Rattle.pfs_store_plain.specs.Leaving.{idled, killed, other_than}

@@ -1,3 +1,4 @@
+-- Answers of IndexStore's touch: the state is there; the `world` after it and the `answer` are as defined.
 use Rattle.std.proofs.Common.{◌≡◌, ◌∙◌, true, Option, Some, None, ap, is_some, option_map, refl, sym, arith}
 use Rattle.std.specs.List.{find}
 use Rattle.pfs_addr.specs.Keys.{key_of}

@@ -1,3 +1,4 @@
+-- Answers of IndexStore's watch_nodes: the slice of the definition, up to when its nodes stay, the round's end.
 use Rattle.std.proofs.Common.{◌≡◌, ◌∙◌, ◌-◌, ap, length, take, rules}
 use Rattle.pfs_store_plain.specs.Worlds.{World}
 use Rattle.pfs_store_plain.specs.Plain.{Plain}

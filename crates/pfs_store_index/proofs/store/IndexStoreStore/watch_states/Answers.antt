@@ -1,3 +1,4 @@
+-- Answers of IndexStore's watch_states: the slice of the definition, up to when its states stay, its looks.
 use Rattle.std.proofs.Common.{◌≡◌, ◌∙◌, ◌-◌, ◌≤◌, ℕ, List, length-take, ap, length, subst, take, arith, rules}
 use Rattle.pfs_store_plain.specs.Worlds.{World}
 use Rattle.pfs_store_index.specs.Rounds.{waiting}

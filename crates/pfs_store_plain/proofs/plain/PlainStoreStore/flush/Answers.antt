@@ -1,3 +1,4 @@
+-- Answer of PlainStore's flush: what leave says of its lists it says of the whole world (`world`).
 use Rattle.std.proofs.Common.{arith}
 use Rattle.std.proofs.lemmas.Grind.{common_steps}
 use Rattle.pfs_store_plain.proofs.plain.PlainStoreStore.flush.Goals as goal

@@ -1,3 +1,4 @@
+-- Answer of PlainStore's purge_states: what slice_states says of its lists it says of the world (`world`).
 use Rattle.std.proofs.Common.{arith}
 use Rattle.std.proofs.lemmas.Grind.{common_steps}
 use Rattle.pfs_store_plain.proofs.plain.PlainStoreStore.purge_states.Goals as goal

@@ -1,3 +1,4 @@
+-- Answer of Nodes::get: what the table has for a scope and a source is the tally of their node.
 use Rattle.std.proofs.Common.{◌∙◌, sym}
 use Rattle.indexmap.specs.IndexMap.{get}
 use Rattle.pfs_store_records.specs.Keeping.{same_place}

@@ -1,3 +1,4 @@
+-- Answers of Nodes::len: there are as many nodes as numbers in order (`value`), and they are `orderly`.
 use Rattle.std.proofs.Common.{length, ◌∙◌, ap, sym}
 use Rattle.indexmap.specs.IndexMap.{get}
 use Rattle.pfs_store_records.specs.Keeping.{number_of_node, place_of_node, same_place}

@@ -1,3 +1,4 @@
+-- Answer of Nodes::new: no nodes are `orderly`.
 use Rattle.pfs_store_records.proofs.NodeLaws.{orderly-nil}
 use Rattle.pfs_store_records.proofs.nodes.Nodes.new.Goals as goal
 

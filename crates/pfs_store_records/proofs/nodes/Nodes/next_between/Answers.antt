@@ -1,3 +1,4 @@
+-- Answers of Nodes::next_between: the least number in a range, or none (`number`), and its `tally`.
 use Rattle.std.proofs.Common.{◌≡◌, ◌∙◌, Some, ap, option_map, sym}
 use Rattle.indexmap.specs.IndexMap.{get}
 use Rattle.pfs_store_records.specs.Keeping.{number_of_node, place_of_node, same_place}

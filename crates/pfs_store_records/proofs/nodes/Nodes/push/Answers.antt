@@ -1,3 +1,4 @@
+-- Answers of Nodes::push: a new node goes last and is counted (`ok`), or room is refused; all are `orderly`.
 use Rattle.std.proofs.Common.{◌≡◌, ◌∙◌, ◌++◌, ◌∷◌, [], None, Some, ap, arith}
 use Rattle.indexmap.specs.IndexMap.{get}
 use Rattle.pfs_store_records.specs.Keeping.{held, number_of_node, place_of_node, same_place}

@@ -1,3 +1,4 @@
+-- Answers of Nodes::remove: the node is there, leaves (`nodes`), and is counted no more; all are `orderly`.
 use Rattle.std.proofs.Common.{◌∙◌, None, ap, filter, sym}
 use Rattle.indexmap.specs.IndexMap.{get}
 use Rattle.pfs_store_records.specs.Keeping.{number_of_node, place_of_node, same_place}

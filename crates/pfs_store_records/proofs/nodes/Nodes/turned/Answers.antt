@@ -1,3 +1,4 @@
+-- Answers of Nodes::turned: the round goes on over the numbers of the nodes, which are those of the map.
 use Rattle.std.proofs.Common.{◌≡◌, ◌≤◌, ◌∙◌, List, ap, filter, subst, sym}
 use Rattle.std.specs.List.{AllByRecursion}
 use Rattle.std.specs.Map.{keys_of}

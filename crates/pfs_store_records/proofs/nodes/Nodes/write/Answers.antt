@@ -1,3 +1,4 @@
+-- Answers of Nodes::write: the tally of a node that is there is replaced (`nodes`); all are `orderly`.
 use Rattle.std.proofs.Common.{◌∙◌, IsSome, Some, ap, map, refl}
 use Rattle.indexmap.specs.IndexMap.{get}
 use Rattle.pfs_store_records.specs.Keeping.{number_of_node, place_of_node, same_place}

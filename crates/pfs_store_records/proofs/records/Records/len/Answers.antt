@@ -1,3 +1,4 @@
+-- Answers of Records::len: there are as many records as numbers in order (`value`), and they rise (`rising`).
 use Rattle.std.proofs.Common.{length, ◌∙◌, ap, sym}
 use Rattle.pfs_store_records.specs.Keeping.{number_in, place_in, record_in}
 use Rattle.pfs_store_records.proofs.Ordered.{length-held}

@@ -1,3 +1,4 @@
+-- Answers of Records::next_between: the first place in a range of the order has the least number, or none.
 use Rattle.std.proofs.Common.{◌∙◌, sym}
 use Rattle.pfs_store_records.specs.Keeping.{number_in, place_in, record_in}
 use Rattle.pfs_store_records.proofs.Ordered.{first_between, none_between}

@@ -1,3 +1,4 @@
+-- Answers of Records::push: a new record goes last (`records`, `states`), or room is refused; numbers rise.
 use Rattle.std.proofs.Common.{◌≡◌, ◌∙◌, ◌++◌, ◌∷◌, [], Some, ap, refl, sym}
 use Rattle.pfs_store_records.specs.Keeping.{held, number_in, place_in, record_in}
 use Rattle.pfs_store_records.specs.Records.{placed_at, states_of}

@@ -1,3 +1,4 @@
+-- Answers of Records::read: the number has a place, where the record stands that is told (`value`).
 use Rattle.std.proofs.Common.{◌≡◌, ◌∙◌, ◌==◌, sym, true}
 use Rattle.std.specs.List.{list_any}
 use Rattle.pfs_store_records.specs.Keeping.{number_in, place_in, record_in}

@@ -1,3 +1,4 @@
+-- Answers of Records::read_at: a record stands at the place, and it is the one that is told (`value`).
 use Rattle.std.proofs.Common.{sym}
 use Rattle.pfs_store_records.proofs.RecordLaws.{records-at, stands}
 use Rattle.pfs_store_records.proofs.records.Records.read_at.Goals as goal

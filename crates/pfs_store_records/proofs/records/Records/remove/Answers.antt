@@ -1,3 +1,4 @@
+-- Answers of Records::remove: the record is there and leaves (`records`, `states`); numbers rise.
 use Rattle.std.proofs.Common.{◌≡◌, ◌∙◌, ◌==◌, ap, filter, sym, true}
 use Rattle.std.specs.List.{list_any}
 use Rattle.pfs_store_records.specs.Keeping.{number_in, place_in, record_in}

@@ -1,3 +1,4 @@
+-- Answer of Records::walk: a walk over slab and order is one over the states of the records (`walk`).
 use Rattle.std.proofs.Common.{sym}
 use Rattle.pfs_store_records.proofs.records.Records.walk.Goals as goal
 

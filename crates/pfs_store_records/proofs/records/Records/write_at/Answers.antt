@@ -1,3 +1,4 @@
+-- Answers of Records::write_at: the record at a place is replaced (`records`, `states`); numbers rise.
 use Rattle.std.proofs.Common.{◌∙◌, ap, map}
 use Rattle.slab.specs.Slab.{with_value}
 use Rattle.pfs_store_records.specs.Records.{put, states_of}

@@ -1,3 +1,4 @@
+-- Answers of TcpPhase::step: a complete phase has both peers established; it is as defined (`phase`).
 use Rattle.std.proofs.Common.{◌≡◌, ◌∙◌, Bool, true, ◌||◌, ap, subst, sym}
 use Rattle.std.proofs.Props.{props}
 use Rattle.pfs_addr.specs.declared.flag_sets.Flags.{Flags}
