@@ -145,6 +145,8 @@ fn proto_holds(wanted: Option<Proto>, proto: Proto) -> bool
     wanted.is_none_or(|wanted| wanted == proto)
 }
 
+// Inlined, so that an address is compared where it stands and not copied for each host.
+#[inline(always)]
 fn host_holds(tables: &Tables, host: &Host<TableNo>, addr: Addr) -> bool
     ensures { result ≡ host_holds tables.now.entries host.now addr }
 {
