@@ -1,0 +1,232 @@
+// Replays a trace over both kinds of store side by side: the words name the rules and the trace, each outcome and the counts of
+// what is held are compared after each record, and the report is written as far as they are one.
+#![tactic(auto)]
+
+ghost use Rattle.std.specs.Prelude.{◌≡◌, ◌<◌, ◌≤◌, ◌^◌, true};
+ghost use Rattle.std.specs.Option.{ForSome};
+ghost use Rattle.pfs_engine_machine.specs.Machine.{MayExpire};
+
+use csv::{ByteRecord, Reader, ReaderBuilder};
+use pfs_cli_report::{EndLine, TraceFault, has_columns, push_end, push_row, read_event};
+use pfs_conf::{Config, LoadFault, TableNo, load};
+use pfs_engine::{Engine, Event, Outcome, What};
+use pfs_store::{IndexStore, PlainStore, Store};
+use std::alloc::Global;
+use std::env;
+use std::fs::File;
+use std::hash::{BuildHasherDefault, FoldHasher};
+use std::io::{self, BufWriter, Read, Write};
+use std::process::ExitCode;
+
+type Indexed = IndexStore<BuildHasherDefault<FoldHasher>>;
+
+/// Why a comparison stops.
+#[derive(Clone, Copy, Debug)]
+enum Stop {
+    /// A file could not be read, or the report could not be written.
+    File,
+    /// Memory was refused.
+    Memory,
+    /// The rules are not accepted.
+    Rules(LoadFault),
+    /// A record is faulty.
+    Trace(TraceFault),
+    /// An event that an engine does not take.
+    Event,
+    /// At this row the outcomes differ: that over lists, and that over indexes.
+    Outcomes(u64, Outcome, Outcome),
+    /// At this row what is held differs: states, source nodes, entries and packets over lists, and those over indexes.
+    Held(u64, (u64, u64, u64, u64), (u64, u64, u64, u64)),
+}
+
+fn main(rt: HostRuntime) -> ExitCode {
+    match run(&rt) {
+        Ok(()) => ExitCode::from(0),
+        Err(stop) => {
+            let _ = eprintln!(rt; "{stop:?}");
+            ExitCode::from(1)
+        }
+    }
+}
+
+fn run(rt: &HostRuntime) -> Result<(), Stop> {
+    let Ok(words) = words(rt) else {
+        return Err(Stop::Memory);
+    };
+    match (words.get(1), words.get(2)) {
+        (Some(rules), Some(trace)) => replay(rt, rules.as_str(), trace.as_str()),
+        _ => Err(Stop::File),
+    }
+}
+
+fn words(rt: &HostRuntime) -> io::Result<Vec<String>> {
+    let words = env::args(rt)?;
+    Ok(words.collect(rt.alloc())?)
+}
+
+// The trace of one file under the rules of another.
+fn replay(rt: &HostRuntime, rules: &str, trace: &str) -> Result<(), Stop> {
+    let text = read_file(rt, rules)?;
+    let trace = open(rt, trace)?;
+    let plain = plain_engine(rt.alloc(), &text)?;
+    let indexed = indexed_engine(rt.alloc(), &text)?;
+    let Ok(mut out) = BufWriter::new(rt.alloc(), io::writer(rt)) else {
+        return Err(Stop::Memory);
+    };
+    let answer = compare(rt.alloc(), trace, plain, indexed, &mut out);
+    match out.flush() {
+        Ok(()) => answer,
+        Err(_) => Err(Stop::File),
+    }
+}
+
+fn open(rt: &HostRuntime, name: &str) -> Result<File, Stop> {
+    File::open(rt, name).map_err(|_| Stop::File)
+}
+
+fn read_file(rt: &HostRuntime, name: &str) -> Result<Vec<u8>, Stop> {
+    let mut file = open(rt, name)?;
+    let mut text = Vec::new(rt.alloc());
+    file.read_to_end(&mut text).map_err(|_| Stop::File)?;
+    Ok(text)
+}
+
+fn plain_engine(alloc: Global, text: &[u8]) -> Result<Engine<PlainStore>, Stop> {
+    let config = read_rules(alloc, text)?;
+    let Ok(store) = PlainStore::new(alloc, &config) else {
+        return Err(Stop::Memory);
+    };
+    Engine::new(alloc, config, store).map_err(|_| Stop::Memory)
+}
+
+fn indexed_engine(alloc: Global, text: &[u8]) -> Result<Engine<Indexed>, Stop> {
+    let config = read_rules(alloc, text)?;
+    let Ok(store) = IndexStore::new(alloc, &config) else {
+        return Err(Stop::Memory);
+    };
+    Engine::new(alloc, config, store).map_err(|_| Stop::Memory)
+}
+
+fn read_rules(alloc: Global, text: &[u8]) -> Result<Config, Stop> {
+    load(alloc, text).map_err(|fault| Stop::Rules(fault))
+}
+
+// Both engines go through the trace.
+fn compare<R: Read + Drop, S: Store + Drop, T: Store + Drop, W: Write>(
+    alloc: Global,
+    trace: R,
+    plain: Engine<S>,
+    indexed: Engine<T>,
+    out: &mut W,
+) -> Result<(), Stop> {
+    let mut reader = ReaderBuilder::new()
+        .has_headers(false)
+        .flexible(true)
+        .from_reader(alloc, trace);
+    let mut plain = plain;
+    let mut indexed = indexed;
+    go_through(alloc, &mut reader, &mut plain, &mut indexed, out)
+}
+
+// The header, and then record after record.
+fn go_through<R: Read, S: Store, T: Store, W: Write>(
+    alloc: Global,
+    reader: &mut Reader<R>,
+    plain: &mut Engine<S>,
+    indexed: &mut Engine<T>,
+    out: &mut W,
+) -> Result<(), Stop> {
+    let mut fields = ByteRecord::new(alloc);
+    let mut line = Vec::new(alloc);
+    if !next(reader, &mut fields)? || !has_columns(&fields) {
+        return Err(Stop::Trace(TraceFault::Columns(0)));
+    }
+    for rows in 0..1_000_000_000u64 {
+        line.clear();
+        if !next(reader, &mut fields)? {
+            push_end(&mut line, &end_line(rows, plain)).map_err(|_| Stop::Memory)?;
+            return out.write_all(&line).map_err(|_| Stop::File);
+        }
+        let event = read_event(rows + 1, plain.last(), plain.config(), &fields).map_err(
+            |fault| Stop::Trace(fault),
+        )?;
+        let outcome = take_both(rows + 1, &event, plain, indexed)?;
+        push_row(&mut line, rows + 1, &outcome).map_err(|_| Stop::Memory)?;
+        out.write_all(&line).map_err(|_| Stop::File)?;
+    }
+    Err(Stop::Trace(TraceFault::TooManyRows))
+}
+
+fn next<R: Read>(reader: &mut Reader<R>, fields: &mut ByteRecord) -> Result<bool, Stop> {
+    reader.read_byte_record(fields).map_err(|_| Stop::File)
+}
+
+// Both engines take the event, and answer and hold the same.
+fn take_both<S: Store, T: Store>(
+    row: u64,
+    event: &Event,
+    plain: &mut Engine<S>,
+    indexed: &mut Engine<T>,
+) -> Result<Outcome, Stop> {
+    let listed = take(plain, event)?;
+    let found = take(indexed, event)?;
+    if found != listed {
+        return Err(Stop::Outcomes(row, listed, found));
+    }
+    if held(indexed) != held(plain) {
+        return Err(Stop::Held(row, held(plain), held(indexed)));
+    }
+    Ok(listed)
+}
+
+fn take<S: Store>(engine: &mut Engine<S>, event: &Event) -> Result<Outcome, Stop> {
+    if !is_in_time(engine.last(), event.time) || engine.taken() >= 1_000_000_000 {
+        return Err(Stop::Event);
+    }
+    engine.advance(event.time);
+    match &event.what {
+        What::Packet(packet) => engine.packet(packet).map_err(|_| Stop::Memory),
+        What::Skip => Ok(Outcome::Skip),
+        What::Expire { table, seconds } => {
+            if !may_expire(engine.config(), *table) {
+                return Err(Stop::Event);
+            }
+            Ok(Outcome::Expire(engine.expire(*table, *seconds)))
+        }
+    }
+}
+
+// How many states, source nodes and entries are held, and how many packets were taken.
+fn held<S: Store>(engine: &Engine<S>) -> (u64, u64, u64, u64) {
+    (
+        engine.states(),
+        engine.nodes(),
+        engine.entries(),
+        engine.taken(),
+    )
+}
+
+fn end_line<S: Store>(rows: u64, engine: &Engine<S>) -> EndLine {
+    EndLine {
+        rows,
+        states: engine.states(),
+        nodes: engine.nodes(),
+        entries: engine.entries(),
+    }
+}
+
+fn is_in_time(last: Option<u64>, time: u64) -> bool
+    ensures order { result ≡ true → ForSome last (λ moment. moment ≤ time) }
+    ensures moment { result ≡ true → time < 2 ^ 32 }
+{
+    match last {
+        Some(last) => last <= time && time <= 4294967295,
+        None => time <= 4294967295,
+    }
+}
+
+fn may_expire(config: &Config, table: TableNo) -> bool
+    ensures { result ≡ true → MayExpire config.now table.0 }
+{
+    table.0 < config.table_count() && !config.is_const(table)
+}
