@@ -1,3 +1,4 @@
+-- Answers of read_joined: a byte more; rules and trace at the split line and the end, and rules of which no more is kept.
 use Rattle.std.proofs.Common.{rules, arith, refl, sym, ap, ◌≡◌, ◌∙◌, ◌∷◌, [], ◌+◌, ◌++◌, length, length-append, take, slice_index_or}
 use Rattle.pfs_cli.specs.Joined.{split_joined}
 use Rattle.pfs_cli.proofs.Joining.{joins-end, joins-more, joins-split, joins-full, joins-past, past-now, one-byte, splits-not, mark-after}

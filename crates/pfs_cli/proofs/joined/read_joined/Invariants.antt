@@ -1,3 +1,4 @@
+-- Invariant of read_joined: what is kept, and the place in the line, are those of the bytes read so far.
 use Rattle.std.proofs.Common.{◌≡◌, ◌≤◌, ◌-◌, ℕ, List, Some, length}
 use Rattle.pfs_cli.specs.Places.{pending}
 use Rattle.pfs_cli.proofs.Joining.{Joins}

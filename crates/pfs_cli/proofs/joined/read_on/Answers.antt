@@ -1,3 +1,4 @@
+-- Answers of read_on: one chunk more; the split line in a chunk, the end, and where turns run out (`past`).
 use Rattle.std.proofs.Common.{arith, refl, sym, ◌∙◌, ◌<◌, length, length-take, take}
 use Rattle.pfs_cli.proofs.Joining.{on-start, on-more, on-split, on-end, on-count}
 use Rattle.pfs_cli.proofs.joined.read_on.Goals as goal

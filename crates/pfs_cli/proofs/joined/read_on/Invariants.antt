@@ -1,3 +1,4 @@
+-- Invariant of read_on: the bytes that are left are split from the place as all are from the first; each turn took one.
 use Rattle.std.proofs.Common.{◌≡◌, ℕ, List, Some}
 use Rattle.pfs_cli.proofs.Joining.{ReadOn}
 use Rattle.pfs_cli.proofs.joined.read_on.Given as goal

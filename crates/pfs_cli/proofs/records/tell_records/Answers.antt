@@ -1,3 +1,4 @@
+-- Answer of tell_records: where memory for its reader is refused, nothing is written (`tells`).
 use Rattle.std.proofs.Common.{[]}
 use Rattle.pfs_cli_report.specs.Traces.{events_of, records_of}
 use Rattle.pfs_cli.proofs.Telling.{Appends-nothing, no-lines}

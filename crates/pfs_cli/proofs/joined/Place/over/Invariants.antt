@@ -1,3 +1,4 @@
+-- Invariant of Place::over: the bytes that are left lead from the place where all lead from the first.
 use Rattle.std.proofs.Common.{◌≡◌, drop}
 use Rattle.pfs_cli.specs.Places.{place_over}
 use Rattle.pfs_cli.proofs.joined.Place.over.Given as goal
