@@ -8,6 +8,7 @@ from typing import Callable, Iterator, List, TextIO
 
 HEADER = "time,dir,if,proto,src,sport,dst,dport,flags\n"
 SERVER = "192.0.2.1"
+WIDE_SERVER = "2001:db8::80"
 UNSCALED = "set timeout { adaptive.start 0, adaptive.end 0 }\n"
 LONG = "set timeout { udp.first 86400, udp.single 86400, udp.multiple 86400, tcp.established 86400 }\n"
 
@@ -37,6 +38,11 @@ def client(flow: int) -> str:
     return f"10.{flow // 62500 % 250}.{flow // 250 % 250}.{flow % 250 + 1}"
 
 
+def wide_client(flow: int) -> str:
+    """An IPv6 client, in networks of a /64 each, with the last groups as privacy addresses have them."""
+    return f"2001:db8:{flow // 250 % 65536:x}:{flow % 250 + 1:x}:{flow * 40503 % 65536:x}:{flow * 30011 % 65536:x}:{flow * 7919 % 65536:x}:1"
+
+
 def port(flow: int) -> int:
     return 1024 + flow % 60000
 
@@ -48,9 +54,10 @@ def udp(second: int, flow: int, answer: bool) -> str:
 
 
 def tcp(second: int, source: str, source_port: int, flags: str, answer: bool = False) -> str:
+    server = WIDE_SERVER if ":" in source else SERVER
     if answer:
-        return f"{second},out,em0,tcp,{SERVER},80,{source},{source_port},{flags}\n"
-    return f"{second},in,em0,tcp,{source},{source_port},{SERVER},80,{flags}\n"
+        return f"{second},out,em0,tcp,{server},80,{source},{source_port},{flags}\n"
+    return f"{second},in,em0,tcp,{source},{source_port},{server},80,{flags}\n"
 
 
 def held_flows(held: int) -> Iterator[str]:
@@ -105,9 +112,19 @@ def overload_flood(records: int) -> Scenario:
 
 def web_mix(records: int) -> Scenario:
     """Handshakes, data both ways and closing, by 5,000 sources, many connections at a time."""
+    return web_mix_of("web mix", client, records)
+
+
+def wide_web_mix(records: int) -> Scenario:
+    """The same by IPv6 sources."""
+    return web_mix_of("web mix, IPv6", wide_client, records)
+
+
+def web_mix_of(name: str, source_of: Callable[[int], str], records: int) -> Scenario:
+    """The mix by these sources."""
 
     def connection(n: int) -> List[str]:
-        source, source_port = client(n % 5000), 1024 + n // 5000 % 60000
+        source, source_port = source_of(n % 5000), 1024 + n // 5000 % 60000
         second = n // 70
         packets = [("S", False), ("SA", True), ("A", False), ("PA", False), ("A", True)]
         packets += [("PA", True), ("A", False)] * 3 + [("FA", False), ("FA", True), ("A", False)]
@@ -131,7 +148,7 @@ def web_mix(records: int) -> Scenario:
         "block all\npass in proto tcp to any port 80 keep state "
         "(max-src-states 200, max-src-conn 150, max-src-conn-rate 100/10)\n"
     )
-    return Scenario("web mix", 0, rules, lines)
+    return Scenario(name, 0, rules, lines)
 
 
 def idle_store(held: int, seconds: int) -> Scenario:

@@ -82,6 +82,17 @@ function first_bits(digits, bits,    whole, rest, value) {
     return substr(digits, 1, whole) "." value
 }
 
+# Whether a text is a prefix of either family, as ./pfsrc reads it.
+function is_prefix(text) {
+    return index(text, ":") > 0 ? is_prefix6(text) : prefix_size(text) > 0
+}
+
+function is_prefix6(text,    part, count) {
+    count = split(text, part, "/")
+    if (count < 1 || count > 2 || address6_of(part[1]) == "") return 0
+    return count == 1 || part[2] ~ /^(0|[1-9][0-9]*)$/ && number_of(part[2], 128) >= 0
+}
+
 # Reads a prefix of IPv6 into `prefixes`; whether it is one.
 function read_prefix6(text, prefixes,    part, count, digits, bits) {
     count = split(text, part, "/")

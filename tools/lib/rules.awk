@@ -142,8 +142,7 @@ function read_table(    name, parts, listed, i, end) {
 function entry(text,    sign, host) {
     sign = substr(text, 1, 1) == "!" ? "!" : ""
     host = substr(text, length(sign) + 1)
-    if (host ~ /:/ && host ~ /^[0-9a-fA-F:.]+(\/[0-9]+)?$/) leave_out("entry " text, "-no record has an IPv6 address")
-    else if (prefix_size(host) == 0) leave_out("entry " text, "+it is no address")
+    if (!is_prefix(host)) leave_out("entry " text, "+it is no address")
     else if (!((sign, host) in has_entry)) {
         has_entry[sign, host] = 1
         return ", " sign host
@@ -172,7 +171,7 @@ BEGIN {
     read_pairs(addresses, address)
     read_pairs(interfaces, interface_of)
     read_pairs(entries, entry_file)
-    for (name in address) if (prefix_size(address[name]) == 0) {
+    for (name in address) if (!is_prefix(address[name])) {
         printf "rules: --address: '%s' is no prefix\n", address[name] | "cat 1>&2"
         failed = 2
         exit 2

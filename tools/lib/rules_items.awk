@@ -93,7 +93,7 @@ function read_filter(    word, end) {
     while (at <= tokens && gone == "") {
         word = token[at]
         if (word == "{" && at == tokens) at++
-        else if (word ~ /^(in|out|quick|inet|all)$/) out = out " " token[at++]
+        else if (word ~ /^(in|out|quick|inet6?|all)$/) out = out " " token[at++]
         else if (word == "log") read_log()
         else if (word == "on") read_interface()
         else if (word == "proto") read_protocol()
@@ -161,9 +161,9 @@ function read_side(    sign, host) {
     }
     at++
     if (token[at] == "-") gone = "+it asks for a range of addresses"
-    else if (host == "any" || host ~ /^<[A-Za-z0-9_.-]+>$/ || prefix_size(host) > 0) out = out " " sign host
+    else if (host == "any" || host ~ /^<[A-Za-z0-9_.-]+>$/ || is_prefix(host)) out = out " " sign host
     else if (host in address) out = out " " sign address[host]
-    else if (host ~ /:.*:/ || host ~ /^[0-9a-f]*:[0-9a-f:.]*(\/[0-9]+)?$/) gone = "-no record has an IPv6 address"
+    else if (host ~ /:.*:/ || host ~ /^[0-9a-f]*:[0-9a-f:.]*(\/[0-9]+)?$/) gone = "+" host " is no address that ./pfsrc reads"
     else if (host ~ /^(no-route|urpf-failed|route)$/) gone = "+a trace does not carry routes"
     else gone = "+the address of " host " is not there; give it with --address " host "=PREFIX"
     if (gone == "" && token[at] == "port") read_port()
@@ -267,8 +267,7 @@ function is_beyond_trace(word) {
 # Everything that ./pfsrc does not read.
 function read_other(word,    last) {
     last = token[at + 1] == "(" ? closing(at + 1) : at + 1
-    if (word == "inet6") gone = "-no record has an IPv6 address"
-    else if (word ~ /^(icmp-type|icmp6-type)$/) gone = "-ICMP is answered by skip"
+    if (word ~ /^(icmp-type|icmp6-type)$/) gone = "-ICMP is answered by skip"
     else if (word == "max-pkt-rate") gone = "+it counts packets, not states"
     else if (word == "probability") gone = "+it matches by chance"
     else if (is_beyond_trace(word) || word == "!" && is_beyond_trace(token[at + 1])) gone = "+a trace does not carry what it asks (" (word == "!" ? token[at + 1] : word) ")"

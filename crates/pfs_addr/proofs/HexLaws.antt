@@ -1,6 +1,6 @@
 -- The digits of a group one by one, and groups with colons between them.
-use Rattle.std.proofs.Common.{ℕ, zero, suc, List, [], ◌∷◌, ◌++◌, ◌≡◌, ◌≤◌, ◌<◌, ◌+◌, ◌/◌, ◌%◌, length, length-append, length-drop, flat_map, get_or, take, drop, subst, refl, ap, ◌∙◌, sym, arith, append_assoc, le-leb, le-ltb, lt-ltb}
-use Rattle.std.proofs.lemmas.Bool.{lt-leb}
+use Rattle.std.proofs.Common.{ℕ, zero, suc, List, [], ◌∷◌, ◌++◌, ◌≡◌, ◌≤◌, ◌<◌, ◌+◌, ◌/◌, ◌%◌, length, length-append, length-drop, flat_map, get_or, take, drop, subst, refl, ap, ◌∙◌, sym, arith, append_assoc, le-leb, nat_lt, true, false}
+use Rattle.std.proofs.lemmas.Bool.{cond-true, cond-false, lt-leb}
 use Rattle.std.proofs.lemmas.List.{take_all}
 use Rattle.std.specs.Char.{digit_char}
 use Rattle.std.specs.Net.Text.{groups_text, hex, hex_groups_text, longest_zero_run}
@@ -76,18 +76,16 @@ all_left m n xs h = take_all m (drop n xs) (omega (arith, h, length-drop n xs))
 
 -- ---- the run that is left out
 
-pub short_all : (xs : List ℕ) (run : ℕ × ℕ) → run ≡ longest_zero_run xs → run.1 < 2 → hex_groups_text xs ≡ groups_text xs
+pub short_all : (xs : List ℕ) (run : ℕ × ℕ) → run ≡ longest_zero_run xs → nat_lt 1 run.1 ≡ false → hex_groups_text xs ≡ groups_text xs
 unfolding hex_groups_text
-short_all xs run e few =
-    let one : (longest_zero_run xs).1 < 2 = subst (λ (r : ℕ × ℕ). r.1 < 2) e few in
-    rw (le-ltb 1 (longest_zero_run xs).1 (omega arith)) refl
+short_all xs run e few = cond-false _ _ _ (subst (λ (r : ℕ × ℕ). nat_lt 1 r.1 ≡ false) e few)
 
-pub short_around : (xs : List ℕ) (run : ℕ × ℕ) → run ≡ longest_zero_run xs → 2 ≤ run.1
+pub short_around : (xs : List ℕ) (run : ℕ × ℕ) → run ≡ longest_zero_run xs → nat_lt 1 run.1 ≡ true
     → (tail : List ℕ) → tail ≡ drop (run.0 + run.1) xs → hex_groups_text xs ≡ around (take run.0 xs) tail
 unfolding hex_groups_text
 short_around xs run e many tail behind =
-    let two : 2 ≤ (longest_zero_run xs).1 = subst (λ (r : ℕ × ℕ). 2 ≤ r.1) e many in
-    rw (lt-ltb 1 (longest_zero_run xs).1 (omega arith)) (ap (λ (r : ℕ × ℕ). around (take r.0 xs) (drop (r.0 + r.1) xs)) (sym e) ∙ ap (around (take run.0 xs)) (sym behind))
+    cond-true _ _ _ (subst (λ (r : ℕ × ℕ). nat_lt 1 r.1 ≡ true) e many)
+    ∙ (ap (λ (r : ℕ × ℕ). around (take r.0 xs) (drop (r.0 + r.1) xs)) (sym e) ∙ ap (around (take run.0 xs)) (sym behind))
 
 -- the first group put, and then those behind it
 pub groups_put : (o p q xs rest : List ℕ) → 1 ≤ length xs → rest ≡ drop 1 xs → p ≡ o ++ hex (get_or xs 0 0) → q ≡ p ++ flat_map (λ g. 58 ∷ hex g) rest → q ≡ o ++ groups_text xs

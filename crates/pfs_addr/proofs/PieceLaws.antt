@@ -1,5 +1,5 @@
 -- The address of a text is the one whose text it is; the same of prefixes.
-use Rattle.std.proofs.Common.{if◌then◌else◌, ℕ, List, [], ◌∷◌, ◌++◌, ◌≡◌, ◌≤◌, ◌<◌, ◌^◌, inl, inr, Bool, true, false, not, ◌&&◌, nat_le, nat_lt, nat_eq, Option, Some, None, length, get_or, decimal, refl, sym, ap, ◌∙◌, arith, rules, subst}
+use Rattle.std.proofs.Common.{if◌then◌else◌, ℕ, List, [], ◌∷◌, ◌++◌, ◌≡◌, ◌≤◌, ◌<◌, ◌^◌, ◌/◌, inl, inr, Bool, true, false, not, ◌&&◌, nat_le, nat_lt, nat_eq, Option, Some, None, length, get_or, decimal, refl, sym, ap, ◌∙◌, arith, rules, subst}
 use Rattle.std.specs.List.{list_all, list_any, slice_split, onto_first, join_with_byte}
 use Rattle.std.proofs.lemmas.Bool.{and_from, and_parts, or_from, cond-true, cond-false, true≢false}
 use Rattle.std.proofs.lemmas.Bool.Decides.{nat_tests}
@@ -11,8 +11,8 @@ use Rattle.std.proofs.lemmas.Option.{same_Some}
 use Rattle.std.specs.Net.Addr.{segments_of}
 use Rattle.pfs_addr.specs.Numbers.{is_digit, number_of}
 use Rattle.std.specs.Prelude.{All, IfSome}
-use Rattle.std.proofs.lemmas.List.Elements.{All-get_or}
-use Rattle.pfs_addr.specs.Addresses.{IsAddr, IsAddrText, addr_text, dotted, width_of}
+use Rattle.std.proofs.lemmas.List.Elements.{All-from_get_or, All-get_or}
+use Rattle.pfs_addr.specs.Addresses.{IsAddr, IsAddrText, addr_text, bytes_of, dotted, width_of}
 use Rattle.pfs_addr.specs.declared.addresses.Addr.{Addr}
 use Rattle.pfs_addr.specs.declared.addresses.Addr.TheVariants.{V4, V6}
 use Rattle.pfs_addr.specs.Prefixes.{Network, network_of, PrefixText}
@@ -220,6 +220,11 @@ addr_text_of (V6 bytes) h = short_text bytes h
 -- so it is read as that address
 pub addr_of-addr_text : (a : Addr) → IsAddr a → addr_of (addr_text a) ≡ Some a
 addr_of-addr_text a h = addr_of-text (addr_text a) a h (addr_text_of a h)
+
+-- the same of an address by its bytes
+pub read_again : (a : Addr) → length (bytes_of a) ≡ width_of a / 8 → ((k : ℕ) → get_or (bytes_of a) k 0 < 256) → addr_of (addr_text a) ≡ Some a
+read_again (V4 bytes) len small = addr_of-addr_text (V4 bytes) (len, All-from_get_or (λ b. b < 256) bytes 0 (λ k h. small k))
+read_again (V6 bytes) len small = addr_of-addr_text (V6 bytes) (len, All-from_get_or (λ b. b < 256) bytes 0 (λ k h. small k))
 
 -- a text is that of one address
 pub one_addr : (text : List ℕ) (a b : Addr) → IsAddr a → IsAddr b → IsAddrText text a → IsAddrText text b → a ≡ b

@@ -1,6 +1,6 @@
 // Addresses, their texts, and the bits that prefixes compare.
 
-ghost use Rattle.std.specs.Prelude.{◌≡◌, ◌≤◌, ◌<◌, ◌+◌, ◌++◌, [], ◌∷◌, ℕ, Some, IfSome, MatchOption, OnOk, true, false, OnErr, decimal, flat_map, length, vec_len, ◌*◌};
+ghost use Rattle.std.specs.Prelude.{◌≡◌, ◌≤◌, ◌<◌, ◌+◌, ◌++◌, [], ◌∷◌, ℕ, Some, IfSome, MatchOption, OnOk, true, false, OnErr, decimal, flat_map, length, nat_lt, vec_len, ◌*◌};
 ghost use Rattle.std.specs.Vec.{vec_capacity};
 ghost use Rattle.std.specs.Char.{digit_char};
 ghost use Rattle.std.specs.Net.Text.{groups_text, hex, hex_groups_text, longest_zero_run};
@@ -87,6 +87,7 @@ pub fn parse_addr(text: &[u8]) -> Option<Addr>
 }
 
 // An IPv6 address, where the text is one.
+#[inline(never)]
 fn groups(text: &[u8]) -> Option<Addr>
     ensures { result ≡ groups_of text.now }
 {
@@ -100,6 +101,7 @@ fn groups(text: &[u8]) -> Option<Addr>
 }
 
 // An IPv4 address, where the text is one.
+#[inline(always)]
 fn quad(text: &[u8]) -> Option<Addr>
     ensures { result ≡ quad_of text.now }
 {
@@ -110,6 +112,7 @@ fn quad(text: &[u8]) -> Option<Addr>
 }
 
 // Four bytes in decimal with dots between them, and what stands behind them.
+#[inline(always)]
 #[tactic(auto, unfolding(std::specs::Net::Reader::read_ipv4))]
 fn four(text: &[u8]) -> Option<(Addr, &[u8])>
     ensures value { read_view bytes_of result ≡ read_ipv4 text.now }
@@ -176,6 +179,7 @@ pub fn push_addr(out: &mut Vec<u8>, addr: Addr) -> Result<(), NoMemory>
     ensures ok { OnOk result (out.new.items ≡ out.old.items ++ addr_text addr) }
     ensures err { OnErr result (out.new.items ≡ out.old.items) }
     ensures refused { OnErr result (vec_capacity out.old < vec_len out.old + length (addr_text addr)) }
+    ensures again { addr_of (addr_text addr) ≡ Some addr }
 {
     match addr {
         Addr::V4(bytes) => push_quad(out, bytes),
@@ -240,11 +244,18 @@ fn push_short(out: &mut Vec<u8>, groups: [u16; 8]) -> Result<(), NoMemory>
     ensures refused { OnErr result (vec_capacity out.old < vec_len out.old + length (hex_groups_text groups)) }
 {
     let (start, len) = longest_zeros(&groups);
-    if len < 2 {
-        push_all(out, &groups)
-    } else {
+    if is_left_out(len) {
         push_around(out, &groups[..start], &groups[start + len..])
+    } else {
+        push_all(out, &groups)
     }
+}
+
+// Whether a run of so many groups of zeros is left out; one group never is. (RFC 5952, section 4.2.2)
+fn is_left_out(len: usize) -> bool
+    ensures { result ≡ nat_lt 1 len }
+{
+    len > 1
 }
 
 fn push_all(out: &mut Vec<u8>, groups: &[u16]) -> Result<(), NoMemory>

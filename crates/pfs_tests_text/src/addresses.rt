@@ -1,4 +1,4 @@
-//! Addresses, prefixes, numbers, protocols, flags and names at the edges of their texts.
+//! IPv4 addresses and prefixes, numbers, protocols, flags and names at the edges of their texts.
 
 use pfs_addr::{
     Addr, Flags, Name, Prefix, Proto, parse_addr, parse_flags, parse_ifname, parse_number,

@@ -20,3 +20,5 @@ mod round_trips;
 mod settings;
 #[cfg(test)]
 mod tokens;
+#[cfg(test)]
+mod wide_addresses;
