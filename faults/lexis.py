@@ -116,22 +116,22 @@ def is_number(field: bytes, most: int) -> bool:
     return re.fullmatch(rb"[0-9]{1,10}", field) is not None and int(field) <= most
 
 
-def is_dotted(field: bytes) -> bool:
+def is_quad(field: bytes) -> bool:
     parts = field.split(b".")
     return len(parts) == 4 and all(re.fullmatch(rb"0|[1-9][0-9]{0,2}", it) and int(it) <= 255 for it in parts)
 
 
-def is_grouped(field: bytes) -> bool:
-    """Whether the field is an IPv6 address: eight groups, or fewer and `::` once in the place of the others."""
-    halves = field.split(b"::")
-    groups = [it for half in halves if half for it in half.split(b":")]
-    fits = len(groups) == 8 if len(halves) == 1 else len(halves) == 2 and len(groups) <= 7
-    return fits and all(re.fullmatch(rb"[0-9A-Fa-f]{1,4}", it) for it in groups)
+def is_groups(field: bytes) -> bool:
+    """Eight groups of hexadecimal digits, or fewer around one `::`."""
+    halves = [half.split(b":") if half else [] for half in field.split(b"::")]
+    count = sum(len(half) for half in halves)
+    fits = count == 8 if len(halves) == 1 else len(halves) == 2 and count < 8
+    return fits and all(re.fullmatch(rb"[0-9A-Fa-f]{1,4}", it) for half in halves for it in half)
 
 
-def family(field: bytes) -> int:
-    """4 or 6 where the field is an address, else 0."""
-    return 4 if is_dotted(field) else 6 if is_grouped(field) else 0
+def family(field: bytes) -> Optional[int]:
+    """4 or 6, of an address."""
+    return 4 if is_quad(field) else 6 if is_groups(field) else None
 
 
 def protocol(field: bytes) -> Optional[int]:
@@ -152,9 +152,9 @@ def bad_field(record: List[bytes]) -> int:
         way in (b"in", b"out"),
         re.fullmatch(rb"[A-Za-z0-9_.-]{1,15}", name) is not None,
         number is not None,
-        family(src) > 0,
+        family(src) is not None,
         port(sport),
-        family(dst) == family(src),
+        family(dst) is not None and family(dst) == family(src),
         port(dport),
         re.fullmatch(rb"[FSRPAUEW]*" if number == 6 else rb"", flags) is not None,
     ]
