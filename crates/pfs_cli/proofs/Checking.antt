@@ -9,8 +9,8 @@ use Rattle.pfs_conf.specs.Faults.{IsFault}
 use Rattle.pfs_conf.specs.declared.faults.LoadFault.{LoadFault}
 use Rattle.pfs_conf.specs.declared.kinds.Kind.{Kind}
 use Rattle.pfs_conf.specs.declared.kinds.Kind.TheVariants as kind
-use Rattle.pfs_cli_report.specs.declared.faults.ReplayFault.{ReplayFault}
-use Rattle.pfs_cli_report.specs.declared.faults.ReplayFault.TheVariants as fault
+use Rattle.pfs_cli.specs.declared.faults.ReplayFault.{ReplayFault}
+use Rattle.pfs_cli.specs.declared.faults.ReplayFault.TheVariants as fault
 use Rattle.pfs_cli.specs.Rules.{IsKept}
 use Rattle.pfs_cli.specs.Replays.{IsFeedFault}
 use Rattle.pfs_cli.specs.Checks.{Answers, RefusesText, fault_by, fault_of}

@@ -10,15 +10,15 @@ use Rattle.pfs_cli.proofs.Telling.{report-front}
 use Rattle.std.specs.Io.KnownBytes.{Appends, Keeps, Consumes}
 use Rattle.pfs_cli_report.specs.declared.faults.TraceFault.{TraceFault}
 use Rattle.pfs_cli_report.specs.declared.faults.TraceFault.TheVariants as trace
-use Rattle.pfs_cli_report.specs.declared.faults.ReplayFault.{ReplayFault}
-use Rattle.pfs_cli_report.specs.declared.faults.ReplayFault.TheVariants as fault
+use Rattle.pfs_cli.specs.declared.faults.ReplayFault.{ReplayFault}
+use Rattle.pfs_cli.specs.declared.faults.ReplayFault.TheVariants as fault
 use Rattle.pfs_conf.specs.declared.faults.LoadFault.{LoadFault}
 use Rattle.pfs_conf_rules.specs.Configs.{Conf}
 use Rattle.pfs_conf.specs.Kinds.{no_memory}
 use Rattle.pfs_conf.specs.Reads.{Reads}
 use Rattle.pfs_conf.specs.Faults.{IsFault, memory, long, breaks, stops}
 use Rattle.pfs_cli.specs.declared.records.Stop.TheVariants as stop
-use Rattle.pfs_cli_report.specs.Faults.{replay_fault}
+use Rattle.pfs_cli.specs.Faults.{replay_fault}
 use Rattle.pfs_cli.specs.Rules.{IsRefused, IsKept, rules_limit}
 use Rattle.pfs_cli_report.specs.Reports.{report, AreFirstLines, BeginsReport}
 use Rattle.pfs_cli.specs.Turns.{Tells}

@@ -6,8 +6,8 @@ use Rattle.pfs_conf.specs.Reads.{Reads}
 use Rattle.pfs_conf.specs.declared.kinds.Kind.{Kind}
 use Rattle.pfs_conf.specs.declared.kinds.Kind.TheVariants as kind
 use Rattle.pfs_conf.specs.declared.faults.LoadFault.{LoadFault}
-use Rattle.pfs_cli_report.specs.declared.faults.ReplayFault.{ReplayFault}
-use Rattle.pfs_cli_report.specs.declared.faults.ReplayFault.TheVariants as fault
+use Rattle.pfs_cli.specs.declared.faults.ReplayFault.{ReplayFault}
+use Rattle.pfs_cli.specs.declared.faults.ReplayFault.TheVariants as fault
 use Rattle.pfs_cli.specs.Rules.{IsRefused}
 
 -- how many rules and anchors, tables and table entries a configuration has

@@ -1,4 +1,5 @@
 pub mod Checks
+pub mod Faults
 pub mod Joined
 pub mod Performing
 pub mod Places

@@ -3,7 +3,7 @@ use Rattle.std.specs.Prelude.{ℕ, List, Result}
 use Rattle.pfs_cli_jobs.specs.declared.tasks.Job.{Job}
 use Rattle.pfs_cli_jobs.specs.declared.tasks.Job.TheVariants as job
 use Rattle.pfs_conf_show.specs.Texts.{text_of}
-use Rattle.pfs_cli_report.specs.declared.faults.ReplayFault.{ReplayFault}
+use Rattle.pfs_cli.specs.declared.faults.ReplayFault.{ReplayFault}
 use Rattle.pfs_cli.specs.Checks.{Answers, counts_text}
 use Rattle.pfs_cli.specs.Joined.{split_joined}
 use Rattle.pfs_cli.specs.Replays.{Replays}

@@ -2,8 +2,8 @@
 use Rattle.std.specs.Prelude.{◌≡◌, ◌⊎◌, ℕ, List, [], Option, Some, None, Result, Ok, Err}
 use Rattle.pfs_cli_report.specs.declared.faults.TraceFault.{TraceFault}
 use Rattle.pfs_cli_report.specs.declared.faults.TraceFault.TheVariants as trace
-use Rattle.pfs_cli_report.specs.declared.faults.ReplayFault.{ReplayFault}
-use Rattle.pfs_cli_report.specs.declared.faults.ReplayFault.TheVariants as fault
+use Rattle.pfs_cli.specs.declared.faults.ReplayFault.{ReplayFault}
+use Rattle.pfs_cli.specs.declared.faults.ReplayFault.TheVariants as fault
 use Rattle.pfs_conf_rules.specs.Configs.{Conf}
 use Rattle.pfs_conf.specs.Reads.{Reads}
 use Rattle.pfs_cli.specs.Rules.{IsRefused}

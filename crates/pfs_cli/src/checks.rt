@@ -9,9 +9,9 @@ ghost use Rattle.pfs_conf_show.specs.Texts.{text_of};
 ghost use Rattle.pfs_cli.specs.Rules.{rules_limit};
 ghost use Rattle.pfs_cli.specs.Checks.{Answers, RefusesText, counts_text};
 
+use crate::faults::ReplayFault;
 use crate::replays::read_text;
 use crate::rules::told;
-use pfs_cli_report::ReplayFault;
 use pfs_cli_streams::{Feed, Sink, write_whole};
 use pfs_conf::{Config, load, show};
 use std::alloc::{AllocError, Global};

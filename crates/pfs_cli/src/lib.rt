@@ -3,6 +3,7 @@
 #![tactic(auto)]
 
 mod checks;
+mod faults;
 mod joined;
 mod machine;
 mod performing;
@@ -11,10 +12,10 @@ mod replays;
 mod rules;
 
 pub use checks::{check, print};
+pub use faults::{ReplayFault, status};
 pub use joined::replay_joined;
 pub use performing::perform;
 pub use pfs_cli_jobs::{Job, job};
-pub use pfs_cli_report::{ReplayFault, status};
 pub use pfs_cli_streams::{Feed, Sink};
 pub use pfs_conf::{Kind, LoadFault};
 pub use replays::replay;

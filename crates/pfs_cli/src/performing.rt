@@ -8,10 +8,10 @@ ghost use Rattle.pfs_cli.specs.Rules.{rules_limit};
 ghost use Rattle.pfs_cli.specs.Performing.{OfReplay, OfRulesFile, Performs, ReadsRulesAlone};
 
 use crate::checks::{check, print};
+use crate::faults::ReplayFault;
 use crate::joined::replay_joined;
 use crate::replays::replay;
 use pfs_cli_jobs::Job;
-use pfs_cli_report::ReplayFault;
 use pfs_cli_streams::{Feed, Sink};
 use std::alloc::Global;
 use std::io::{Read, Write};

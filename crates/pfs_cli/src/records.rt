@@ -129,9 +129,9 @@ fn take_record<W: Write>(
         × TakesRecord engine.old.config row engine.old.machine (fields_of fields.now) t result engine.new.machine }
     ensures fails { result ≡ Err (Stop.Write) → 0 < failures_of out.new }
 {
-    match read_event(row, engine.last(), engine.config(), fields) {
-        Ok(event) => take_event(row, &event, engine, line, out),
-        Err(fault) => Err(Stop::Fault(fault)),
+    match &read_event(row, engine.last(), engine.config(), fields) {
+        Ok(event) => take_event(row, event, engine, line, out),
+        Err(fault) => Err(Stop::Fault(*fault)),
     }
 }
 

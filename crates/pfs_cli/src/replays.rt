@@ -10,9 +10,9 @@ ghost use Rattle.pfs_cli.specs.Turns.{Tells};
 ghost use Rattle.pfs_cli.specs.Rules.{IsKept, rules_limit};
 ghost use Rattle.pfs_cli.specs.Replays.{Replays, IsFeedFault, trace_of};
 
+use crate::faults::{ReplayFault, of_trace};
 use crate::records::{Stop, tell_records};
 use crate::rules::{RULES_LIMIT, load_machine};
-use pfs_cli_report::ReplayFault;
 use pfs_cli_streams::{Feed, Sink};
 use std::alloc::Global;
 use std::io::{Read, Write};
@@ -40,7 +40,7 @@ pub(crate) fn fault_at<R>(stop: Stop, feed: &Feed<R>) -> ReplayFault
     ensures write { result ≡ ReplayFault.Write → stop ≡ Stop.Write }
 {
     match stop {
-        Stop::Fault(fault) => fault.of_replay(),
+        Stop::Fault(fault) => of_trace(fault),
         Stop::Source => feed_fault(feed),
         Stop::Memory => ReplayFault::Memory,
         Stop::Write => ReplayFault::Write,

@@ -6,8 +6,8 @@ ghost use Rattle.pfs_engine_machine.specs.Machine.{start};
 ghost use Rattle.pfs_cli.specs.Checks.{fault_of};
 ghost use Rattle.pfs_cli.specs.Replays.{RefusesRules};
 
+use crate::faults::ReplayFault;
 use crate::machine::{TraceEngine, first_machine};
-use pfs_cli_report::ReplayFault;
 use pfs_conf::{Kind, LoadFault, load};
 use std::alloc::Global;
 

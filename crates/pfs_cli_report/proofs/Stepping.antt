@@ -1,8 +1,9 @@
 -- The moment of the machine is that of its last event, and what a record says of its own moment.
 use Rattle.std.proofs.Common.{◌≡◌, ◌<◌, ◌≤◌, ℕ, List, Bool, true, false, Option, Some, None, refl, sym, ap, ◌∙◌, arith, subst}
-use Rattle.std.specs.Prelude.{Result, Ok, Err, IfOk, ◌^◌, ◌==◌, if◌then◌else◌, length, nat_le, nat_lt, option_map, slice_get}
+use Rattle.std.specs.Prelude.{Result, Ok, Err, IfOk, codes, ◌^◌, ◌==◌, if◌then◌else◌, length, nat_le, nat_lt, option_map, slice_get}
 use Rattle.std.specs.List.{position_or_len}
 use Rattle.std.specs.Option.{ForSome}
+use Rattle.std.specs.Str.{bytes_eq}
 use Rattle.std.proofs.lemmas.Bool.Decides.{nat_tests}
 use Rattle.pfs_addr.specs.Numbers.{number_of}
 use Rattle.pfs_addr.specs.Packets.{Header}
@@ -15,11 +16,9 @@ use Rattle.pfs_engine_machine.specs.declared.events.Outcome.{Outcome}
 use Rattle.pfs_engine_machine.specs.declared.events.Outcome.TheVariants as outcome
 use Rattle.pfs_engine_machine.specs.declared.events.What.{What}
 use Rattle.pfs_engine_machine.specs.declared.events.What.TheVariants as what
-use Rattle.pfs_cli_report.specs.declared.events.Told.{Told}
-use Rattle.pfs_cli_report.specs.declared.events.Told.TheVariants as told
 use Rattle.pfs_cli_report.specs.declared.faults.TraceFault.{TraceFault}
 use Rattle.pfs_cli_report.specs.declared.faults.TraceFault.TheVariants as fault
-use Rattle.pfs_cli_report.specs.Events.{at_most, changing, column_of, expire_by, number_to, told_at, what_of, falls, event_at, in_column, and_then}
+use Rattle.pfs_cli_report.specs.Events.{at_most, changing, column_of, expire_by, number_to, falls, coming, at_moment, packet_at, expiry_at, arrival_at, leaving_at, event_at, in_column, and_then}
 
 pub last-step : (conf : Conf) (m : Machine) (e : Event) → (step conf m e).1.last ≡ Some e.time
 unfolding step
@@ -67,11 +66,9 @@ changing-may conf (Some u) t known e = by (is_const_table (slice_get conf.tables
         let same : u ≡ t = cc in
         subst (λ (x : TableNo). MayExpire conf x.0) same (record { known = known u refl; changes = test })
 
--- what comes of a record may come
-what-may : (conf : Conf) (row : ℕ) (r : Told) (w : What) → what_of conf row r ≡ Ok w → MayCome conf w
-what-may conf row told.Skip w e = let same : what.Skip ≡ w = cc in subst (MayCome conf) same tt
-what-may conf row (told.Packet p) w e = let same : what.Packet p ≡ w = cc in subst (MayCome conf) same tt
-what-may conf row (told.Expire name seconds) w e = by (changing conf (table_named conf name)) refl e
+-- what comes of an expiry may come
+expire-may : (conf : Conf) (row seconds : ℕ) (name : List ℕ) (w : What) → expire_by row seconds (changing conf (table_named conf name)) ≡ Ok w → MayCome conf w
+expire-may conf row seconds name w e = by (changing conf (table_named conf name)) refl e
   where
     by : (o : Option TableNo) → changing conf (table_named conf name) ≡ o → expire_by row seconds o ≡ Ok w → MayCome conf w
     by None at h = cc
@@ -79,10 +76,13 @@ what-may conf row (told.Expire name seconds) w e = by (changing conf (table_name
         let same : what.Expire t seconds ≡ w = cc in
         subst (MayCome conf) same (changing-may conf (table_named conf name) t (named-known conf name) at)
 
--- what a record tells, by its moment
-abbrev event_with : Conf → ℕ → Option ℕ → ℕ → Result Told TraceFault → Result Event TraceFault
-event_with conf row last time r =
-    and_then r (λ read. if falls last time then Err (fault.TimeFell row) else and_then (what_of conf row read) (λ comes. Ok (record { time = time; what = comes })))
+abbrev arrived : Option Header → Result What TraceFault
+arrived o = Ok (coming o)
+
+-- what comes of a packet, and of a record that is skipped, may come
+arrived-may : (conf : Conf) (o : Option Header) (w : What) → arrived o ≡ Ok w → MayCome conf w
+arrived-may conf None w e = let same : what.Skip ≡ w = cc in subst (MayCome conf) same tt
+arrived-may conf (Some p) w e = let same : what.Packet p ≡ w = cc in subst (MayCome conf) same tt
 
 -- it is not before the last one, and may come
 record IsRead (conf : Conf) (last : Option ℕ) (time : ℕ) (e : Event) : Type 0 where
@@ -90,24 +90,39 @@ record IsRead (conf : Conf) (last : Option ℕ) (time : ℕ) (e : Event) : Type 
   moment : e.time ≡ time
   may : MayCome conf e.what
 
-told-read : (conf : Conf) (row : ℕ) (last : Option ℕ) (time : ℕ) (r : Result Told TraceFault) (e : Event) → event_with conf row last time r ≡ Ok e → IsRead conf last time e
-told-read conf row last time (Err f) e q = cc
-told-read conf row last time (Ok read) e q = by (falls last time) refl q
+moment-read : (conf : Conf) (row : ℕ) (last : Option ℕ) (time : ℕ) (r : Result What TraceFault) (e : Event) → ((w : What) → r ≡ Ok w → MayCome conf w)
+    → at_moment row last time r ≡ Ok e → IsRead conf last time e
+moment-read conf row last time r e may q = by (falls last time) refl q
   where
-    made : falls last time ≡ false → (w : Result What TraceFault) → what_of conf row read ≡ w
+    made : falls last time ≡ false → (w : Result What TraceFault) → r ≡ w
         → and_then w (λ comes. Ok (record { time = time; what = comes })) ≡ Ok e → IsRead conf last time e
     made test (Err f) at h = cc
     made test (Ok w) at h =
         let same : record { time = time; what = w } ≡ e = cc in record {
           order = test;
           moment = sym (ap (λ (d : Event). d.time) same);
-          may = subst (λ (d : Event). MayCome conf d.what) same (what-may conf row read w at);
+          may = subst (λ (d : Event). MayCome conf d.what) same (may w at);
         }
 
     by : (b : Bool) → falls last time ≡ b
-        → (if b then Err (fault.TimeFell row) else and_then (what_of conf row read) (λ comes. Ok (record { time = time; what = comes }))) ≡ Ok e → IsRead conf last time e
+        → (if b then Err (fault.TimeFell row) else and_then r (λ comes. Ok (record { time = time; what = comes }))) ≡ Ok e → IsRead conf last time e
     by true test h = cc
-    by false test h = made test (what_of conf row read) refl h
+    by false test h = made test r refl h
+
+arrival-read : (conf : Conf) (row : ℕ) (last : Option ℕ) (time : ℕ) (fields : List (List ℕ)) (e : Event) → arrival_at row last time fields ≡ Ok e → IsRead conf last time e
+arrival-read conf row last time fields e q = by (packet_at row fields) q
+  where
+    by : (r : Result (Option Header) TraceFault) → and_then r (λ packet. at_moment row last time (Ok (coming packet))) ≡ Ok e → IsRead conf last time e
+    by (Err f) h = cc
+    by (Ok o) h = moment-read conf row last time (arrived o) e (arrived-may conf o) h
+
+leaving-read : (conf : Conf) (row : ℕ) (last : Option ℕ) (time : ℕ) (fields : List (List ℕ)) (e : Event) → leaving_at conf row last time fields ≡ Ok e → IsRead conf last time e
+leaving-read conf row last time fields e q = by (expiry_at row fields) q
+  where
+    by : (r : Result (List ℕ × ℕ) TraceFault)
+        → and_then r (λ read. at_moment row last time (expire_by row read.1 (changing conf (table_named conf read.0)))) ≡ Ok e → IsRead conf last time e
+    by (Err f) h = cc
+    by (Ok x) h = moment-read conf row last time (expire_by row x.1 (changing conf (table_named conf x.0))) e (expire-may conf row x.1 x.0) h
 
 -- the event of a record: its moment is not before the last one, and is small, and it may come
 pub record IsEvent (conf : Conf) (last : Option ℕ) (e : Event) : Type 0 where
@@ -118,17 +133,26 @@ pub record IsEvent (conf : Conf) (last : Option ℕ) (e : Event) : Type 0 where
 pub event-read : (conf : Conf) (row : ℕ) (last : Option ℕ) (fields : List (List ℕ)) (e : Event) → event_at conf row last fields ≡ Ok e → IsEvent conf last e
 event-read conf row last fields e q = by_length (length fields == 9) q
   where
-    by_time : (o : Option ℕ) → number_to 4294967295 (column_of fields 1) ≡ o → in_column row 1 o (λ time. event_with conf row last time (told_at row fields)) ≡ Ok e → IsEvent conf last e
+    rest : ℕ → Bool → Result Event TraceFault
+    rest time b = if b then leaving_at conf row last time fields else arrival_at row last time fields
+
+    by_kind : (time : ℕ) (b : Bool) → rest time b ≡ Ok e → IsRead conf last time e
+    by_kind time true h = leaving-read conf row last time fields e h
+    by_kind time false h = arrival-read conf row last time fields e h
+
+    by_time : (o : Option ℕ) → number_to 4294967295 (column_of fields 1) ≡ o
+        → in_column row 1 o (λ time. rest time (bytes_eq (column_of fields 2) (codes "expire"))) ≡ Ok e → IsEvent conf last e
     by_time None test h = cc
     by_time (Some time) test h =
-        let read = told-read conf row last time (told_at row fields) e h in
+        let read = by_kind time (bytes_eq (column_of fields 2) (codes "expire")) h in
         let small : time ≤ 4294967295 = at_most-bound 4294967295 (number_of (column_of fields 1)) time test in record {
           order = rw read.moment (order-kept last time read.order);
           moment = omega (arith, small, read.moment);
           table = read.may;
         }
 
-    by_length : (b : Bool) → (if b then in_column row 1 (number_to 4294967295 (column_of fields 1)) (λ time. event_with conf row last time (told_at row fields)) else Err (fault.Columns row)) ≡ Ok e
+    by_length : (b : Bool)
+        → (if b then in_column row 1 (number_to 4294967295 (column_of fields 1)) (λ time. rest time (bytes_eq (column_of fields 2) (codes "expire"))) else Err (fault.Columns row)) ≡ Ok e
         → IsEvent conf last e
     by_length true h = by_time (number_to 4294967295 (column_of fields 1)) refl h
     by_length false h = cc

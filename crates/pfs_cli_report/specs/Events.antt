@@ -7,6 +7,7 @@ use Rattle.pfs_addr.specs.Numbers.{number_of}
 use Rattle.pfs_addr.specs.Names.{name_of}
 use Rattle.pfs_addr.specs.FlagSets.{flags_of}
 use Rattle.pfs_addr.specs.Texts.{addr_of}
+use Rattle.pfs_addr.specs.Packets.{Header}
 use Rattle.pfs_addr.specs.Protocols.{proto_in, has_ports, is_icmp}
 use Rattle.pfs_addr.specs.declared.addresses.Addr.{Addr}
 use Rattle.pfs_addr.specs.declared.flag_sets.Flags.{Flags}
@@ -20,8 +21,6 @@ use Rattle.pfs_conf_rules.specs.declared.filters.TableNo.{TableNo}
 use Rattle.pfs_engine_machine.specs.declared.events.What.{What}
 use Rattle.pfs_engine_machine.specs.declared.events.What.TheVariants as what
 use Rattle.pfs_engine_machine.specs.declared.events.Event.{Event}
-use Rattle.pfs_cli_report.specs.declared.events.Told.{Told}
-use Rattle.pfs_cli_report.specs.declared.events.Told.TheVariants as told
 use Rattle.pfs_cli_report.specs.declared.faults.TraceFault.{TraceFault}
 use Rattle.pfs_cli_report.specs.declared.faults.TraceFault.TheVariants as fault
 
@@ -98,15 +97,15 @@ ends_at row proto fields =
     in_column row 8 (port_of proto (column_of fields 8)) (λ dport.
     Ok (record { addr = src; port = sport }, record { addr = dst; port = dport })))))
 
--- a packet, or a record that is skipped: of ICMP a trace does not tell enough
-abbrev pub packet_at : ℕ → List (List ℕ) → Result Told TraceFault
+-- a packet, or none where a record is skipped: of ICMP a trace does not tell enough
+abbrev pub packet_at : ℕ → List (List ℕ) → Result (Option Header) TraceFault
 packet_at row fields =
     in_column row 2 (dir_of (column_of fields 2)) (λ dir.
     in_column row 3 (name_of 15 (column_of fields 3)) (λ ifname.
     in_column row 4 (proto_in (column_of fields 4)) (λ proto.
     and_then (ends_at row proto fields) (λ ends.
     in_column row 9 (flags_for proto (column_of fields 9)) (λ flags.
-    Ok (if is_icmp proto then told.Skip else told.Packet (record { dir = dir; ifname = ifname; proto = proto; source = ends.0; destination = ends.1; flags = flags })))))))
+    Ok (if is_icmp proto then None else Some (record { dir = dir; ifname = ifname; proto = proto; source = ends.0; destination = ends.1; flags = flags })))))))
 
 -- a moment is before the last one
 abbrev pub falls : Option ℕ → ℕ → Bool
@@ -118,7 +117,7 @@ abbrev pub nothing_in : List ℕ → Option Unit
 nothing_in text = if is_empty text then Some tt else None
 
 -- the name of a table, and how many seconds old its entries are that leave
-abbrev pub expiry_at : ℕ → List (List ℕ) → Result Told TraceFault
+abbrev pub expiry_at : ℕ → List (List ℕ) → Result (List ℕ × ℕ) TraceFault
 expiry_at row fields =
     in_column row 3 (name_of 31 (column_of fields 3)) (λ name.
     in_column row 4 (nothing_in (column_of fields 4)) (λ n4.
@@ -127,11 +126,7 @@ expiry_at row fields =
     in_column row 7 (nothing_in (column_of fields 7)) (λ n7.
     in_column row 8 (nothing_in (column_of fields 8)) (λ n8.
     in_column row 9 (nothing_in (column_of fields 9)) (λ n9.
-    Ok (told.Expire name seconds))))))))
-
--- what the fields behind the first tell
-abbrev pub told_at : ℕ → List (List ℕ) → Result Told TraceFault
-told_at row fields = if bytes_eq (column_of fields 2) (codes "expire") then expiry_at row fields else packet_at row fields
+    Ok (name, seconds))))))))
 
 -- a table whose entries may leave: the text names it, and it is not `const`
 abbrev pub changing : Conf → Option TableNo → Option TableNo
@@ -142,11 +137,23 @@ abbrev pub expire_by : ℕ → ℕ → Option TableNo → Result What TraceFault
 expire_by row seconds None = Err (fault.Table row)
 expire_by row seconds (Some t) = Ok (what.Expire t seconds)
 
--- what comes, under a configuration: a table is found by its name
-abbrev pub what_of : Conf → ℕ → Told → Result What TraceFault
-what_of conf row told.Skip = Ok what.Skip
-what_of conf row (told.Packet p) = Ok (what.Packet p)
-what_of conf row (told.Expire name seconds) = expire_by row seconds (changing conf (table_named conf name))
+-- what comes of a packet, or of a record that is skipped
+abbrev pub coming : Option Header → What
+coming None = what.Skip
+coming (Some p) = what.Packet p
+
+-- what comes at a moment, or its fault, unless the moment is before the last one
+abbrev pub at_moment : ℕ → Option ℕ → ℕ → Result What TraceFault → Result Event TraceFault
+at_moment row last time read = if falls last time then Err (fault.TimeFell row) else and_then read (λ comes. Ok (record { time = time; what = comes }))
+
+-- the event of a record that tells of a packet
+abbrev pub arrival_at : ℕ → Option ℕ → ℕ → List (List ℕ) → Result Event TraceFault
+arrival_at row last time fields = and_then (packet_at row fields) (λ packet. at_moment row last time (Ok (coming packet)))
+
+-- the event of a record by which entries leave a table, that is found by its name
+abbrev pub leaving_at : Conf → ℕ → Option ℕ → ℕ → List (List ℕ) → Result Event TraceFault
+leaving_at conf row last time fields =
+    and_then (expiry_at row fields) (λ read. at_moment row last time (expire_by row read.1 (changing conf (table_named conf read.0))))
 
 -- the event of a record under a configuration, in this row after this moment, or the first that is wrong with it: it has not nine
 -- fields, a field is not accepted, from left to right, its moment is before the last one, or its table is none that may change
@@ -154,7 +161,5 @@ abbrev pub event_at : Conf → ℕ → Option ℕ → List (List ℕ) → Result
 event_at conf row last fields =
     if length fields == 9
     then in_column row 1 (number_to 4294967295 (column_of fields 1)) (λ time.
-    and_then (told_at row fields) (λ read.
-    if falls last time then Err (fault.TimeFell row)
-    else and_then (what_of conf row read) (λ comes. Ok (record { time = time; what = comes }))))
+    if bytes_eq (column_of fields 2) (codes "expire") then leaving_at conf row last time fields else arrival_at row last time fields)
     else Err (fault.Columns row)

@@ -1,5 +1,4 @@
 pub mod Events
-pub mod Faults
 pub mod Lines
 pub mod Reports
 pub mod Traces

@@ -5,7 +5,7 @@ ghost use Rattle.csv.specs.Records.{fields_of};
 ghost use Rattle.pfs_addr.specs.Protocols.{is_icmp};
 ghost use Rattle.pfs_addr.specs.Texts.{addr_of};
 ghost use Rattle.pfs_conf_rules.specs.Configs.{table_named};
-ghost use Rattle.pfs_cli_report.specs.Events.{beside, changing, column_of, number_to, dir_of, expiry_at, port_of, flags_for, ends_at, nothing_in, packet_at, told_at, what_of, is_header, falls, event_at};
+ghost use Rattle.pfs_cli_report.specs.Events.{beside, changing, column_of, number_to, dir_of, expiry_at, port_of, flags_for, ends_at, nothing_in, arrival_at, leaving_at, is_header, falls, event_at};
 
 use crate::faults::TraceFault;
 use csv::ByteRecord;
@@ -32,15 +32,6 @@ pub fn has_columns(fields: &ByteRecord) -> bool
         && column(fields, 9) == b"flags".as_slice()
 }
 
-// What a record tells before the rules are asked.
-#[derive(Clone, Copy)]
-enum Told {
-    Packet(Packet),
-    Skip,
-    // Entries of a table leave, by its name.
-    Expire { name: TableName, seconds: u64 },
-}
-
 /// The event of a record after the moment `last`, or what is wrong with it: first the number of
 /// its fields, then each field from left to right, then its moment, and then the table that it
 /// names. It takes no memory.
@@ -56,12 +47,10 @@ pub fn read_event(
         return Err(TraceFault::Columns(row));
     }
     let time = read_number(column(fields, 1), 4_294_967_295).ok_or(TraceFault::Field(row, 1))?;
-    let told = read_told(row, fields)?;
-    if has_fallen(last, time) {
-        return Err(TraceFault::TimeFell(row));
+    if column(fields, 2) == b"expire".as_slice() {
+        return read_leaving(row, last, time, config, fields);
     }
-    let what = find_what(row, config, &told)?;
-    Ok(Event { time, what })
+    read_packet(row, last, time, fields)
 }
 
 fn has_fallen(last: Option<u64>, time: u64) -> bool
@@ -73,21 +62,23 @@ fn has_fallen(last: Option<u64>, time: u64) -> bool
     }
 }
 
-// What comes, where a table is found by its name.
-fn find_what(row: u64, config: &Config, told: &Told) -> Result<What, TraceFault>
-    ensures { result ≡ what_of config.now row told.now }
+// The event of a record by which entries leave a table.
+fn read_leaving(
+    row: u64,
+    last: Option<u64>,
+    time: u64,
+    config: &Config,
+    fields: &ByteRecord,
+) -> Result<Event, TraceFault>
+    ensures { result ≡ leaving_at config.now row last time (fields_of fields.now) }
 {
-    match told {
-        Told::Packet(packet) => Ok(What::Packet(*packet)),
-        Told::Skip => Ok(What::Skip),
-        Told::Expire { name, seconds } => match find_table(config, name) {
-            Some(table) => Ok(What::Expire {
-                table,
-                seconds: *seconds,
-            }),
-            None => Err(TraceFault::Table(row)),
-        },
+    let (name, seconds) = read_expiry(row, fields)?;
+    if has_fallen(last, time) {
+        return Err(TraceFault::TimeFell(row));
     }
+    let table = find_table(config, &name).ok_or(TraceFault::Table(row))?;
+    let what = What::Expire { table, seconds };
+    Ok(Event { time, what })
 }
 
 // The table of this name, if there is one and it is not `const`.
@@ -101,18 +92,8 @@ fn find_table(config: &Config, name: &TableName) -> Option<TableNo>
     Some(table)
 }
 
-// What a record tells in its fields behind the first.
-fn read_told(row: u64, fields: &ByteRecord) -> Result<Told, TraceFault>
-    ensures { result ≡ told_at row (fields_of fields.now) }
-{
-    if column(fields, 2) == b"expire".as_slice() {
-        return read_expiry(row, fields);
-    }
-    read_packet(row, fields)
-}
-
 // The name of a table, and how many seconds old its entries are that leave.
-fn read_expiry(row: u64, fields: &ByteRecord) -> Result<Told, TraceFault>
+fn read_expiry(row: u64, fields: &ByteRecord) -> Result<(TableName, u64), TraceFault>
     ensures { result ≡ expiry_at row (fields_of fields.now) }
 {
     let name = TableName::parse(column(fields, 3)).ok_or(TraceFault::Field(row, 3))?;
@@ -122,7 +103,7 @@ fn read_expiry(row: u64, fields: &ByteRecord) -> Result<Told, TraceFault>
     read_nothing(column(fields, 7)).ok_or(TraceFault::Field(row, 7))?;
     read_nothing(column(fields, 8)).ok_or(TraceFault::Field(row, 8))?;
     read_nothing(column(fields, 9)).ok_or(TraceFault::Field(row, 9))?;
-    Ok(Told::Expire { name, seconds })
+    Ok((name, seconds))
 }
 
 fn read_nothing(text: &[u8]) -> Option<()>
@@ -131,19 +112,31 @@ fn read_nothing(text: &[u8]) -> Option<()>
     if text.is_empty() { Some(()) } else { None }
 }
 
-// A packet, or a record that is skipped.
-fn read_packet(row: u64, fields: &ByteRecord) -> Result<Told, TraceFault>
-    ensures { result ≡ packet_at row (fields_of fields.now) }
+// The event of a packet, or of a record that is skipped. Its packet is made where it stays: it is not moved from value to value.
+fn read_packet(
+    row: u64,
+    last: Option<u64>,
+    time: u64,
+    fields: &ByteRecord,
+) -> Result<Event, TraceFault>
+    ensures { result ≡ arrival_at row last time (fields_of fields.now) }
 {
     let dir = read_dir(column(fields, 2)).ok_or(TraceFault::Field(row, 2))?;
     let ifname = parse_ifname(column(fields, 3)).ok_or(TraceFault::Field(row, 3))?;
     let proto = parse_proto(column(fields, 4)).ok_or(TraceFault::Field(row, 4))?;
     let (source, destination) = read_ends(row, &proto, fields)?;
     let flags = read_flags(&proto, column(fields, 9)).ok_or(TraceFault::Field(row, 9))?;
-    if is_skipped(&proto) {
-        return Ok(Told::Skip);
+    if has_fallen(last, time) {
+        return Err(TraceFault::TimeFell(row));
     }
-    Ok(Told::Packet(Packet::new(dir, ifname, proto, source, destination, flags)))
+    if is_skipped(&proto) {
+        let what = What::Skip;
+        return Ok(Event { time, what });
+    }
+    Ok(Event {
+        time,
+        what: What::Packet(Packet::new(dir, ifname, proto, source, destination, flags)),
+    })
 }
 
 fn is_skipped(proto: &Proto) -> bool

@@ -1,4 +1,4 @@
-//! The report of a trace: the event of each record, the lines, and the faults that end it.
+//! The report of a trace: the event of each record, the lines, and what is wrong with a trace.
 #![tactic(auto)]
 
 mod events;
@@ -6,5 +6,5 @@ mod faults;
 mod lines;
 
 pub use events::{has_columns, read_event};
-pub use faults::{ReplayFault, TraceFault, status};
+pub use faults::TraceFault;
 pub use lines::{EndLine, push_end, push_row};

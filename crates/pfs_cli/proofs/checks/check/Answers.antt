@@ -1,7 +1,7 @@
 -- Answers of check: of refused rules nothing is written, else the counts or a front (`answers`, `write`).
 use Rattle.std.proofs.Common.{◌≡◌, [], ◌∙◌}
 use Rattle.pfs_cli.specs.Checks.{counts_text}
-use Rattle.pfs_cli_report.specs.declared.faults.ReplayFault.TheVariants as fault
+use Rattle.pfs_cli.specs.declared.faults.ReplayFault.TheVariants as fault
 use Rattle.pfs_cli.proofs.Checking.{nothing-written, text-written}
 use Rattle.pfs_cli.proofs.Telling.{Appends-nothing}
 use Rattle.pfs_cli.proofs.checks.check.Goals as goal

@@ -1,7 +1,7 @@
 -- Answers of print: of refused rules nothing is written, else the text or a front (`answers`, `write`).
 use Rattle.std.proofs.Common.{◌≡◌, [], ◌∙◌}
 use Rattle.pfs_conf_show.specs.Texts.{text_of}
-use Rattle.pfs_cli_report.specs.declared.faults.ReplayFault.TheVariants as fault
+use Rattle.pfs_cli.specs.declared.faults.ReplayFault.TheVariants as fault
 use Rattle.pfs_cli.proofs.Checking.{nothing-written, text-written}
 use Rattle.pfs_cli.proofs.Telling.{Appends-nothing}
 use Rattle.pfs_cli.proofs.checks.print.Goals as goal

@@ -1,11 +1,11 @@
 -- Answers of fault_at: each way in which a run stopped is told with the fault that a replay has for it.
 use Rattle.std.proofs.Common.{refl, inr}
-use Rattle.pfs_cli_report.specs.declared.faults.ReplayFault.TheVariants as fault
+use Rattle.pfs_cli.specs.declared.faults.ReplayFault.TheVariants as fault
 use Rattle.pfs_cli.proofs.Replaying.{run-fault, run-cut, run-write}
 use Rattle.pfs_cli.proofs.replays.fault_at.Goals as goal
 
 pub returns-in-Fault-clause-told : goal.returns-in-Fault-clause-told
-returns-in-Fault-clause-told g c d rs ts t rules told = rw c.of_replay.ensures (run-fault d rs ts t c.in-Fault.fault rules (rw c.in-Fault.is at told))
+returns-in-Fault-clause-told g c d rs ts t rules told = rw c.of_trace.ensures (run-fault d rs ts t c.in-Fault.fault rules (rw c.in-Fault.is at told))
 
 pub returns-in-Source-clause-told : goal.returns-in-Source-clause-told
 returns-in-Source-clause-told g c d rs ts t rules told = run-cut d rs ts t c.feed_fault.result c.feed_fault.ensures.kinds rules (rw c.in-Source.is at told)

@@ -4,8 +4,8 @@ use Rattle.std.specs.Fmt.{decimal}
 use Rattle.pfs_conf.specs.KindNames.{kind_name}
 use Rattle.pfs_cli_report.specs.declared.faults.TraceFault.{TraceFault}
 use Rattle.pfs_cli_report.specs.declared.faults.TraceFault.TheVariants as trace
-use Rattle.pfs_cli_report.specs.declared.faults.ReplayFault.{ReplayFault}
-use Rattle.pfs_cli_report.specs.declared.faults.ReplayFault.TheVariants as fault
+use Rattle.pfs_cli.specs.declared.faults.ReplayFault.{ReplayFault}
+use Rattle.pfs_cli.specs.declared.faults.ReplayFault.TheVariants as fault
 
 -- the text of a fault, without a line feed
 abbrev pub fault_text : ReplayFault → List ℕ
