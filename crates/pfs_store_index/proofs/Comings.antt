@@ -6,8 +6,12 @@ use Rattle.std.proofs.lemmas.List.{get_or-set_other}
 use Rattle.std.proofs.lemmas.Grind.{get_or-set_at}
 use Rattle.std.proofs.lemmas.Map.Keys.{IsDistinct-head, IsDistinct-tail, IsDistinct-cons}
 use Rattle.pfs_addr.proofs.SameLaws.{same_addr_self, same_addr_true, same_key_true}
+use Rattle.pfs_addr.specs.Keys.{first_end, second_end}
+use Rattle.pfs_addr.specs.Packets.{Header}
 use Rattle.pfs_addr.specs.Sameness.{same_key}
 use Rattle.pfs_addr.specs.declared.addresses.Addr.{Addr}
+use Rattle.pfs_addr.specs.declared.packets.Dir.{Dir}
+use Rattle.pfs_addr.specs.declared.packets.Dir.TheVariants.{In, Out}
 use Rattle.pfs_addr.specs.declared.packets.FlowKey.{FlowKey}
 use Rattle.pfs_conf_rules.specs.Configs.{Conf, scope_of}
 use Rattle.pfs_conf_rules.specs.declared.actions.Scope.{Scope}
@@ -20,6 +24,7 @@ use Rattle.pfs_store_plain.specs.declared.records.NodeScope.{NodeScope}
 use Rattle.pfs_store_plain.specs.declared.records.NodeScope.TheVariants as node_scope
 use Rattle.pfs_store_plain.specs.declared.records.State.{State}
 use Rattle.pfs_store_records.specs.Records.{IsAbove, Placed}
+use Rattle.pfs_store_records.specs.Sourced.{source_at}
 use Rattle.pfs_store_records.specs.Tallies.{is_tally, nodes_of}
 use Rattle.pfs_store_records.specs.declared.nodes.Tally.{Tally}
 use Rattle.pfs_store_index.specs.declared.indexes.Entry.{Entry}
@@ -352,3 +357,10 @@ few-counted conf xs t l h =
     let e : t.states ≡ node_states conf t.node.scope t.node.source xs = ap (λ (u : Tally). u.states) h in
     let d : t.connections ≡ node_connections conf t.node.scope t.node.source xs = ap (λ (u : Tally). u.connections) h in
     (omega (arith, e, count-le (is_of_node conf t.node.scope t.node.source) xs), omega (arith, d, count-le (is_connection conf t.node.scope t.node.source) xs))
+
+-- ---- the source of a state that a packet makes
+
+-- the source of a packet is the end of its key from which packets of its direction come
+pub key-sourced : (d : Dir) (p : Header) → p.source.addr ≡ source_at d (record { proto = p.proto; a = first_end d p; b = second_end d p })
+key-sourced In p = refl
+key-sourced Out p = refl

@@ -13,6 +13,7 @@ ghost use Rattle.pfs_store_plain.specs.Quiet.{turned};
 ghost use Rattle.pfs_store_plain.specs.Touching.{completes_at, nodes_touched, renewed, touch_of};
 ghost use Rattle.pfs_store_plain.specs.Worlds.{IsUpToNow, holds_number, lists, number_of, rule_in, state_with};
 ghost use Rattle.pfs_store_records.specs.Records.{IsAbove, IsRising, placed_at};
+ghost use Rattle.pfs_store_records.specs.Sourced.{IsSourced};
 ghost use Rattle.pfs_store_records.specs.Walks.{IsWalk, StayUntil, looks_of};
 ghost use Rattle.pfs_store_index.specs.Holdings.{IsUncompleted};
 ghost use Rattle.pfs_store_index.specs.Rounds.{waiting, waiting_of};
@@ -275,6 +276,7 @@ impl<S: BuildHasher> Indexes<S> {
         requires fresh { state_with state.key (lists self.old.states [] [] [] 0) ≡ None }
         requires rule { IsSome (options_at self.old.config state.rule.0) }
         requires phase { IsUncompleted state }
+        requires sourced { IsSourced state }
         requires few { length self.old.states ≤ 1000000000 }
         ensures config { self.new.config ≡ self.old.config }
         ensures states { OnOk result (self.new.states ≡ self.old.states ++ state ∷ []) }

@@ -5,6 +5,7 @@ ghost use Rattle.std.specs.BTreeSet.{contains};
 ghost use Rattle.std.specs.List.{AllByRecursion};
 ghost use Rattle.pfs_store_plain.specs.Purging.{node_numbers, state_numbers};
 ghost use Rattle.pfs_store_records.specs.Records.{IsAbove, placed_at, states_of};
+ghost use Rattle.pfs_store_records.specs.Sourced.{IsSourced};
 ghost use Rattle.pfs_store_records.specs.Tallies.{nodes_of};
 ghost use Rattle.pfs_store_index.specs.Ties.{HasPair, IsFew, SamePairs, joined, pair_cmp};
 
@@ -27,6 +28,7 @@ pub(crate) fn place<S: BuildHasher>(
     requires few { AllByRecursion IsFew nodes.old }
     requires above { IsAbove state.number (state_numbers (states_of records.old)) }
     requires nodes_above { IsAbove state.number (node_numbers (nodes_of nodes.old)) }
+    requires sourced { IsSourced state }
     requires absent { contains pair_cmp pairs.old (state.source, state.number) ≡ false }
     ensures records { IfOk result (λ place. records.new ≡ records.old ++ placed_at place state ∷ []) }
     ensures pairs { OnOk result (HasPair (state.source, state.number) pairs.old pairs.new) }

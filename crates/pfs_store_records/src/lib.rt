@@ -1,6 +1,7 @@
 //! The records of states by number and place, and the source nodes with their counts, as a store with indexes keeps them.
 #![tactic(auto)]
 
+mod kept;
 mod nodes;
 mod records;
 mod rounds;

@@ -8,9 +8,11 @@ ghost use Rattle.pfs_store_plain.specs.Purging.{state_numbers};
 ghost use Rattle.pfs_store_plain.specs.Quiet.{turned};
 ghost use Rattle.pfs_store_plain.specs.Worlds.{holds_number};
 ghost use Rattle.pfs_store_records.specs.Keeping.{IsKept, held, number_in, place_in, record_in};
+ghost use Rattle.pfs_store_records.specs.Sourced.{IsSourced};
 ghost use Rattle.pfs_store_records.specs.Walks.{IsWalk, StayUntil, looks_of};
 ghost use Rattle.pfs_store_records.specs.Records.{IsAbove, IsRecordAt, IsRising, between, is_placed, leaves_number, placed_at, put, put_state, stands_at, states_of};
 
+use crate::kept::Kept;
 use crate::rounds::{Round, turned};
 use crate::walks::{StateTest, Walk};
 use pfs_addr::{Meter, NoMemory};
@@ -25,7 +27,7 @@ use std::ops::Bound;
 /// keeps until it is removed. To read a record is a look, and ticks the meter.
 #[derive(Drop)]
 pub struct Records {
-    slab: Slab<State>,
+    slab: Slab<Kept>,
     places: BTreeMap<u64, usize>,
 }
 
@@ -93,6 +95,7 @@ impl Records {
         requires held { list_any (stands_at place) self.now ≡ true }
         requires room { meter.old < 2 ^ 64 - 1 }
         ensures value { IsRecordAt place result self.now }
+        ensures sourced { IsSourced result }
         ensures looks { meter.new ≡ meter.old + 1 }
     {
         look(&self.slab, place, meter)
@@ -135,18 +138,20 @@ impl Records {
 
     /// Writes a state into the record of its number, which stands at this place. It is no look, and takes no memory.
     pub fn write_at(&mut self, place: usize, state: State)
-        requires { list_any (is_placed state.number place) self.old ≡ true }
+        requires placed { list_any (is_placed state.number place) self.old ≡ true }
+        requires sourced { IsSourced state }
         ensures records { self.new ≡ map (put state) self.old }
         ensures states { states_of self.new ≡ map (put_state state) (states_of self.old) }
         ensures rising { IsRising (state_numbers (states_of self.new)) }
     {
-        self.slab[place] = state;
+        self.slab[place] = Kept::of(&state);
     }
 
     /// Adds the record of a state whose number is above all others, and answers its place. `NoMemory` is answered where
     /// memory for it is refused, and then nothing changes.
     pub fn push(&mut self, state: &State) -> Result<usize, NoMemory>
-        requires { IsAbove state.now.number (state_numbers (states_of self.old)) }
+        requires above { IsAbove state.now.number (state_numbers (states_of self.old)) }
+        requires sourced { IsSourced state.now }
         ensures records { IfOk result (λ place. self.new ≡ self.old ++ placed_at place state.now ∷ []) }
         ensures states { OnOk result (states_of self.new ≡ states_of self.old ++ state.now ∷ []) }
         ensures err { OnErr result (self.new ≡ self.old) }
@@ -158,7 +163,7 @@ impl Records {
         // The proof needs the types of a key named here.
         let key = &state.key;
         let _proto = &key.proto;
-        Ok(self.slab.insert_reserved(*state))
+        Ok(self.slab.insert_reserved(Kept::of(state)))
     }
 
     /// Removes the record of this number, of which there is one. It is no look, and takes no memory.
@@ -178,18 +183,19 @@ impl Records {
 }
 
 /// Reads the record at a place: the one look.
-fn look(slab: &Slab<State>, place: usize, meter: &mut Meter) -> State
+fn look(slab: &Slab<Kept>, place: usize, meter: &mut Meter) -> State
     requires held { ContainsKey slab.now place }
     requires room { meter.old < 2 ^ 64 - 1 }
     ensures value { get slab.now place ≡ Some result }
+    ensures sourced { IsSourced result }
     ensures looks { meter.new ≡ meter.old + 1 }
 {
     meter.tick();
-    slab[place]
+    slab[place].state()
 }
 
 fn walk_range<T: StateTest>(
-    slab: &Slab<State>,
+    slab: &Slab<Kept>,
     places: &BTreeMap<u64, usize>,
     above: u64,
     most: u64,

@@ -10,6 +10,7 @@ use Rattle.pfs_store_plain.specs.Touching.{completes_at, connections_in, nodes_t
 use Rattle.pfs_store_plain.specs.Worlds.{IsUpToNow, lists}
 use Rattle.pfs_store_plain.specs.declared.records.State.{State}
 use Rattle.pfs_store_records.specs.Records.{states_of}
+use Rattle.pfs_store_records.specs.Sourced.{IsSourced}
 use Rattle.pfs_store_records.specs.Tallies.{is_tally, nodes_of}
 use Rattle.pfs_store_index.specs.Holdings.{Holding}
 use Rattle.pfs_store_index.specs.Ties.{HasTally, IsCounted, IsFew, at_node, met_by}
@@ -29,13 +30,16 @@ read_at-state-requires-clause-held g c =
     let h = entry-record k c.in-Some.entry.now c.self.inside.records (c.in-Some.ensures.value ∙ ap (hash.get same_key c.self.inside.keys) c.of.ensures ∙ c.self.invariant.by_key k) in
     read-held k c.in-Some.entry.now c.self.inside.records h
 
-pub write_at-requires : goal.write_at-requires
-write_at-requires g c =
+pub write_at-requires-clause-placed : goal.write_at-requires-clause-placed
+write_at-requires-clause-placed g c =
     let k = key_of c.args.packet.now in
     let rs = c.self.inside.records in
     let h = entry-record k c.in-Some.entry.now c.self.inside.records (c.in-Some.ensures.value ∙ ap (hash.get same_key c.self.inside.keys) c.of.ensures ∙ c.self.invariant.by_key k) in
     let q = read-is k c.in-Some.entry.now c.read_at-state.result rs h c.read_at-state.ensures.value in
     write-held k c.in-Some.entry.now _ rs h (ap (λ (s : State). s.number) (q) ∙ sym (ap (λ (s : State). s.number) c.stepped-completed.ensures.state))
+
+pub write_at-requires-clause-sourced : goal.write_at-requires-clause-sourced
+write_at-requires-clause-sourced g c = subst IsSourced (sym c.stepped-completed.ensures.state) c.read_at-state.ensures.sourced
 
 pub meet-met-requires-clause-has : goal.meet-met-requires-clause-has
 meet-met-requires-clause-has g c =

@@ -8,8 +8,10 @@ use Rattle.pfs_store_plain.specs.Worlds.{World, lists}
 use Rattle.pfs_store_plain.specs.declared.records.Limit.{Limit}
 use Rattle.pfs_store_plain.specs.declared.records.State.{State}
 use Rattle.pfs_track.specs.StatePhases.{first_phase}
+use Rattle.pfs_store_records.specs.Sourced.{source_at}
 use Rattle.pfs_store_index.specs.Rounds.{waiting}
 use Rattle.pfs_store_index.specs.Stored.{world_of}
+use Rattle.pfs_store_index.proofs.Comings.{key-sourced}
 use Rattle.pfs_store_index.proofs.Storing.{few-numbered, made-above, stored-came, world-came}
 use Rattle.pfs_store_index.proofs.store.IndexStoreStore.admit.Goals as goal
 
@@ -22,6 +24,10 @@ put-requires-clause-nodes_above g c = made-above c.self.inside.made _ c.self.inv
 pub put-requires-clause-few : goal.put-requires-clause-few
 put-requires-clause-few g c =
     omega (arith, few-numbered c.self.inside.made c.self.inside.indexes.states c.state_count-count.ensures.rising c.self.invariant.numbered, c.self.invariant.few)
+
+pub put-requires-clause-sourced : goal.put-requires-clause-sourced
+put-requires-clause-sourced g c =
+    c.src-source.ensures ∙ key-sourced c.args.packet.now.dir c.args.packet.now ∙ (λ j. source_at (sym c.dir.ensures j) (sym c.of.ensures j))
 
 pub invariant_of-self : goal.invariant_of-self
 invariant_of-self g c =

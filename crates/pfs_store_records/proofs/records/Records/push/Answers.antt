@@ -29,8 +29,8 @@ invariant_of-self-2 c =
     let q = c.vacant_key-place.ensures.value ∙ sym c.insert_reserved.ensures.key in
     kept-pushed number_in place_in (record_in c.reserve.new.self) (record_in c.insert_reserved.new.self) c.insert_reserved.result (placed_at c.insert_reserved.result c.args.state.now) c.self.inside.places.entries _
     (vacant c.reserve.new.self c.insert_reserved.result c.insert_reserved.ensures.was_vacant)
-    (updated c.reserve.new.self c.insert_reserved.new.self c.insert_reserved.result (Some c.args.state.now) c.insert_reserved.ensures.updates)
-    k (rw w (rw (numbers-states c.args.self.now) at c.requires)) refl (rw q at c.in_ok-insert.ensures.entries) c.insert.ensures.ordered
+    (updated c.reserve.new.self c.insert_reserved.new.self c.insert_reserved.result (Some c.args.state.now) (rw c.of.ensures at c.insert_reserved.ensures.updates))
+    k (rw w (rw (numbers-states c.args.self.now) at c.requires.above)) refl (rw q at c.in_ok-insert.ensures.entries) c.insert.ensures.ordered
 
 pub returns-clause-records : goal.returns-clause-records
 returns-clause-records c =
@@ -40,8 +40,8 @@ returns-clause-records c =
     let q = c.vacant_key-place.ensures.value ∙ sym c.insert_reserved.ensures.key in
     held-pushed number_in place_in (record_in c.reserve.new.self) (record_in c.insert_reserved.new.self) c.insert_reserved.result (placed_at c.insert_reserved.result c.args.state.now) c.self.inside.places.entries _
     (vacant c.reserve.new.self c.insert_reserved.result c.insert_reserved.ensures.was_vacant)
-    (updated c.reserve.new.self c.insert_reserved.new.self c.insert_reserved.result (Some c.args.state.now) c.insert_reserved.ensures.updates)
-    k (rw w (rw (numbers-states c.args.self.now) at c.requires)) (rw q at c.in_ok-insert.ensures.entries)
+    (updated c.reserve.new.self c.insert_reserved.new.self c.insert_reserved.result (Some c.args.state.now) (rw c.of.ensures at c.insert_reserved.ensures.updates))
+    k (rw w (rw (numbers-states c.args.self.now) at c.requires.above)) (rw q at c.in_ok-insert.ensures.entries)
     ∙ ap (λ xs. xs ++ placed_at c.insert_reserved.result c.args.state.now ∷ []) w
 
 pub returns-clause-states : goal.returns-clause-states

@@ -7,19 +7,19 @@ use Rattle.pfs_store_records.proofs.records.Records.write_at.Goals as goal
 
 pub index_mut-requires : goal.index_mut-requires
 index_mut-requires c =
-    has-written c.self.inside.slab c.self.inside.places.entries c.args.place c.args.state c.self.invariant (rw c.self.view_is c.requires)
+    has-written c.self.inside.slab c.self.inside.places.entries c.args.place c.args.state c.self.invariant (rw c.self.view_is c.requires.placed)
 
 pub invariant_of-self : goal.invariant_of-self
 invariant_of-self c =
-    kept-put c.self.inside.slab c.self.inside.places.entries c.args.place c.args.state c.self.invariant (rw c.self.view_is c.requires)
+    rw c.of.ensures (kept-put c.self.inside.slab c.self.inside.places.entries c.args.place c.args.state c.self.invariant (rw c.self.view_is c.requires.placed))
 
 pub returns-clause-records : goal.returns-clause-records
 returns-clause-records c =
-    view-put c.self.inside.slab c.self.inside.places.entries c.args.place c.args.state c.self.invariant (rw c.self.view_is c.requires)
+    rw c.of.ensures (view-put c.self.inside.slab c.self.inside.places.entries c.args.place c.args.state c.self.invariant (rw c.self.view_is c.requires.placed))
     ∙ ap (map (put c.args.state)) c.self.view_is
 
 pub returns-clause-states : goal.returns-clause-states
 returns-clause-states c = ap states_of (returns-clause-records c) ∙ states-put c.args.state c.args.self.now
 
 pub returns-clause-rising : goal.returns-clause-rising
-returns-clause-rising c = rising-states (with_value c.self.inside.slab c.args.place c.args.state) c.self.inside.places.entries (invariant_of-self c)
+returns-clause-rising c = rising-states (with_value c.self.inside.slab c.args.place c.of.result) c.self.inside.places.entries (invariant_of-self c)

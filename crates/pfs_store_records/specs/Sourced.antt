@@ -1,0 +1,16 @@
+-- The source of a state, as its key and its direction tell it. (own)
+use Rattle.std.specs.Prelude.{◌≡◌}
+use Rattle.pfs_addr.specs.declared.addresses.Addr.{Addr}
+use Rattle.pfs_addr.specs.declared.packets.Dir.{Dir}
+use Rattle.pfs_addr.specs.declared.packets.Dir.TheVariants.{In, Out}
+use Rattle.pfs_addr.specs.declared.packets.FlowKey.{FlowKey}
+use Rattle.pfs_store_plain.specs.declared.records.State.{State}
+
+-- the address of the end from which packets of a direction come
+abbrev pub source_at : Dir → FlowKey → Addr
+source_at In key = key.a.addr
+source_at Out key = key.b.addr
+
+-- the source of the state is the end of its key from which packets of its direction come
+abbrev pub IsSourced : State → Type 0
+IsSourced s = s.source ≡ source_at s.dir s.key
