@@ -6,6 +6,7 @@ mod flushing;
 mod indexes;
 mod laws;
 mod limits;
+mod numbers;
 mod placing;
 mod purging;
 mod stepping;
