@@ -20,7 +20,6 @@ ghost use Rattle.pfs_store_index.specs.Rounds.{waiting, waiting_of};
 ghost use Rattle.pfs_store_index.specs.Stored.{IsNumbered};
 ghost use Rattle.pfs_store_index.specs.Ties.{HasRule, entry_of};
 
-use crate::numbers::Number;
 use crate::placing::place;
 use crate::stepping::stepped;
 use crate::tallying::{leave, meet};
@@ -58,7 +57,7 @@ pub(crate) struct Indexes<S: BuildHasher> {
     keys: HashMap<FlowKey, Entry, S>,
     counts: Vec<u64>,
     nodes: Nodes<S>,
-    pairs: BTreeSet<(Addr, Number)>,
+    pairs: BTreeSet<(Addr, u64)>,
 }
 
 impl<S: BuildHasher> Model for Indexes<S> {
@@ -192,12 +191,12 @@ impl<S: BuildHasher> Indexes<S> {
         match self
             .pairs
             .range((
-                Bound::Excluded((source, Number::of(above))),
-                Bound::Included((source, Number::of(most))),
+                Bound::Excluded((source, above)),
+                Bound::Included((source, most)),
             ))
             .next()
         {
-            Some((_, number)) => Some(number.get()),
+            Some((_, number)) => Some(*number),
             None => None,
         }
     }
@@ -356,7 +355,7 @@ impl<S: BuildHasher> Indexes<S> {
         let rule = state.rule.0 as usize;
         let scope = node_scope(&self.config, state.rule);
         self.keys.remove(&state.key);
-        self.pairs.remove(&(state.source, Number::of(state.number)));
+        self.pairs.remove(&(state.source, state.number));
         self.counts[rule] -= 1;
         leave(&mut self.nodes, scope, &state, now);
         self.records.remove(state.number);

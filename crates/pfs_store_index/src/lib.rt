@@ -6,7 +6,6 @@ mod flushing;
 mod indexes;
 mod laws;
 mod limits;
-mod numbers;
 mod placing;
 mod purging;
 mod stepping;

@@ -9,7 +9,6 @@ ghost use Rattle.pfs_store_records.specs.Sourced.{IsSourced};
 ghost use Rattle.pfs_store_records.specs.Tallies.{nodes_of};
 ghost use Rattle.pfs_store_index.specs.Ties.{HasPair, IsFew, SamePairs, joined, pair_cmp};
 
-use crate::numbers::Number;
 use crate::tallying::join;
 use pfs_addr::{Addr, NoMemory};
 use pfs_store_plain::{NodeScope, State};
@@ -21,7 +20,7 @@ use std::hash::BuildHasher;
 /// placed.
 pub(crate) fn place<S: BuildHasher>(
     records: &mut Records,
-    pairs: &mut BTreeSet<(Addr, Number)>,
+    pairs: &mut BTreeSet<(Addr, u64)>,
     nodes: &mut Nodes<S>,
     state: State,
     scope: Option<NodeScope>,
@@ -38,17 +37,17 @@ pub(crate) fn place<S: BuildHasher>(
     ensures same_pairs { OnErr result (SamePairs pairs.old pairs.new) }
     ensures same_nodes { OnErr result (nodes.new ≡ nodes.old) }
 {
-    match pairs.insert((state.source, Number::of(state.number))) {
+    match pairs.insert((state.source, state.number)) {
         Err(_) => Err(NoMemory),
         Ok(_) => match records.push(&state) {
             Err(_) => {
-                pairs.remove(&(state.source, Number::of(state.number)));
+                pairs.remove(&(state.source, state.number));
                 Err(NoMemory)
             }
             Ok(place) => match join(nodes, scope, &state) {
                 Err(_) => {
                     records.remove(state.number);
-                    pairs.remove(&(state.source, Number::of(state.number)));
+                    pairs.remove(&(state.source, state.number));
                     Err(NoMemory)
                 }
                 Ok(_) => Ok(place),

@@ -10,10 +10,8 @@ use Rattle.pfs_store_index.proofs.placing.place.Goals as goal
 
 pub returns-in-Err-push-clause-same_pairs : goal.returns-in-Err-push-clause-same_pairs
 returns-in-Err-push-clause-same_pairs g c = λ q.
-    let u = c.in-Ok.ensures.updates.0 q in
-    let v = c.remove.ensures.updates.0 q in
-    (rw c.of-in-Err-push.ensures at v)
-    ∙ pair-undone (c.args.state.source, c.args.state.number) q _ _ _ c.requires.absent (rw c.of.ensures at u) (λ i. ap (contains pair_cmp c.args.pairs.now) (sym (pair_found (c.args.state.source, c.args.state.number) q i)))
+    c.remove.ensures.updates.0 q
+    ∙ pair-undone (c.args.state.source, c.args.state.number) q _ _ _ c.requires.absent (c.in-Ok.ensures.updates.0 q) (λ i. ap (contains pair_cmp c.args.pairs.now) (sym (pair_found (c.args.state.source, c.args.state.number) q i)))
 
 pub returns-in-Err-join-clause-same_records : goal.returns-in-Err-join-clause-same_records
 returns-in-Err-join-clause-same_records g c =
@@ -22,7 +20,5 @@ returns-in-Err-join-clause-same_records g c =
 
 pub returns-in-Err-join-clause-same_pairs : goal.returns-in-Err-join-clause-same_pairs
 returns-in-Err-join-clause-same_pairs g c = λ q.
-    let u = c.in-Ok.ensures.updates.0 q in
-    let v = c.remove-in-Err-join-2.ensures.updates.0 q in
-    (rw c.of-in-Err-join.ensures at v)
-    ∙ pair-undone (c.args.state.source, c.args.state.number) q _ _ _ c.requires.absent (rw c.of.ensures at u) (λ i. ap (contains pair_cmp c.args.pairs.now) (sym (pair_found (c.args.state.source, c.args.state.number) q i)))
+    c.remove-in-Err-join-2.ensures.updates.0 q
+    ∙ pair-undone (c.args.state.source, c.args.state.number) q _ _ _ c.requires.absent (c.in-Ok.ensures.updates.0 q) (λ i. ap (contains pair_cmp c.args.pairs.now) (sym (pair_found (c.args.state.source, c.args.state.number) q i)))

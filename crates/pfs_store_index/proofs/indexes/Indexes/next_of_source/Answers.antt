@@ -1,5 +1,5 @@
 -- Answers of Indexes::next_of_source: the index by source tells the next number of the source, or none.
-use Rattle.std.proofs.Common.{◌∙◌, Some, ap, sym, slice_get}
+use Rattle.std.proofs.Common.{◌∙◌, ap, sym, slice_get}
 use Rattle.pfs_store_records.specs.Records.{states_of}
 use Rattle.pfs_store_index.specs.Holdings.{Holding}
 use Rattle.pfs_store_index.specs.Rounds.{waiting_of}
@@ -7,16 +7,16 @@ use Rattle.pfs_store_index.proofs.Sources.{first-none, first-of-range, first-som
 use Rattle.pfs_store_index.proofs.indexes.Indexes.next_of_source.Goals as goal
 
 pub range-requires : goal.range-requires
-range-requires g c = rw (c.of.ensures, c.of-2.ensures) (pairs-forward c.args.source c.args.above c.args.most c.requires)
+range-requires g c = pairs-forward c.args.source c.args.above c.args.most c.requires
 
 pub returns-in-Some : goal.returns-in-Some
 returns-in-Some g c =
-    let f = first-of-range c.args.source c.args.above c.args.most (states_of c.self.inside.records) c.self.inside.pairs _ _ _ c.self.invariant.paired c.in-Some.ensures.steps (rw (c.of.ensures, c.of-2.ensures) at (c.range.ensures.in_range tt)) in
-    ap Some c.get.ensures ∙ sym (first-some c.args.source c.args.above c.args.most _ (states_of c.self.inside.records) c.len-count.ensures.rising f)
+    let f = first-of-range c.args.source c.args.above c.args.most (states_of c.self.inside.records) c.self.inside.pairs _ _ _ c.self.invariant.paired c.in-Some.ensures.steps (c.range.ensures.in_range tt) in
+    sym (first-some c.args.source c.args.above c.args.most _ (states_of c.self.inside.records) c.len-count.ensures.rising f)
     ∙ ap (λ (h : Holding). slice_get (waiting_of c.args.source c.args.above c.args.most h.states) 0) c.self.view_is
 
 pub returns-in-None : goal.returns-in-None
 returns-in-None g c =
     sym (first-none c.args.source c.args.above c.args.most (states_of c.self.inside.records)
-    (none-of-range c.args.source c.args.above c.args.most (states_of c.self.inside.records) c.self.inside.pairs _ c.self.invariant.paired c.in-None.ensures.steps.0 (rw (c.of.ensures, c.of-2.ensures) at (c.range.ensures.in_range tt))))
+    (none-of-range c.args.source c.args.above c.args.most (states_of c.self.inside.records) c.self.inside.pairs _ c.self.invariant.paired c.in-None.ensures.steps.0 (c.range.ensures.in_range tt)))
     ∙ ap (λ (h : Holding). slice_get (waiting_of c.args.source c.args.above c.args.most h.states) 0) c.self.view_is

@@ -39,7 +39,7 @@ invariant_of-self g c =
     c.leave.ensures ∙ ap (λ (o : Option NodeScope). map (at_node o s.source (left_of s c.args.now)) c.self.inside.nodes) c.node_scope-scope.ensures in
     rw (c.remove-3.ensures.records, at)
     (tied-left c.self.inside.config c.self.inside.records c.self.inside.keys c.self.inside.counts.items c.self.inside.nodes c.self.inside.pairs c.remove.new.self c.remove-2.new.self s c.args.now _
-    c.self.invariant c.len-count.ensures.rising f (get_or_read c.self.inside.counts.items _ _ w c.index_mut.ensures.value 0) c.remove.ensures.updates.0 (rw c.of.ensures at c.remove-2.ensures.updates.0))
+    c.self.invariant c.len-count.ensures.rising f (get_or_read c.self.inside.counts.items _ _ w c.index_mut.ensures.value 0) c.remove.ensures.updates.0 c.remove-2.ensures.updates.0)
 
 pub returns-clause-nodes : goal.returns-clause-nodes
 returns-clause-nodes g c =
