@@ -14,7 +14,7 @@ ghost use Rattle.pfs_store_plain.specs.Touching.{completes_at, nodes_touched, re
 ghost use Rattle.pfs_store_plain.specs.Worlds.{IsUpToNow, holds_number, lists, number_of, rule_in, state_with};
 ghost use Rattle.pfs_store_records.specs.Records.{IsAbove, IsRising, placed_at};
 ghost use Rattle.pfs_store_records.specs.Sourced.{IsSourced};
-ghost use Rattle.pfs_store_records.specs.Walks.{IsWalk, StayUntil, looks_of};
+ghost use Rattle.pfs_store_records.specs.Walks.{IsWalk, StayUntil, glance_of, looks_of};
 ghost use Rattle.pfs_store_index.specs.Holdings.{IsUncompleted};
 ghost use Rattle.pfs_store_index.specs.Rounds.{waiting, waiting_of};
 ghost use Rattle.pfs_store_index.specs.Stored.{IsNumbered};
@@ -233,8 +233,8 @@ impl<S: BuildHasher> Indexes<S> {
     ) -> Walk
         requires range { above ≤ most }
         requires room { meter.old + share < 2 ^ 64 }
-        ensures walk { IsWalk (T.passes test.now) self.now.states above most share result.stayed result.last result.leaver }
-        ensures until { StayUntil (T.moment test.now) self.now.states above result.last result.until }
+        ensures walk { IsWalk (λ s. T.passes test.now (glance_of s)) self.now.states above most share result.stayed result.last result.leaver }
+        ensures until { StayUntil (λ s. T.moment test.now (glance_of s)) self.now.states above result.last result.until }
         ensures looks { meter.new ≡ meter.old + looks_of result.stayed result.leaver }
     {
         self.records.walk(above, most, share, test, meter)

@@ -2,7 +2,9 @@
 
 ghost use Rattle.std.specs.Prelude.{◌≡◌};
 ghost use Rattle.pfs_store_records.specs.Sourced.{IsSourced, source_at};
+ghost use Rattle.pfs_store_records.specs.Walks.{glance_of};
 
+use crate::walks::Glance;
 use pfs_addr::{Addr, Dir, FlowKey};
 use pfs_conf_rules::RuleNo;
 use pfs_store_plain::State;
@@ -44,6 +46,17 @@ impl Kept {
             rule: state.rule,
             phase: state.phase,
             last: state.last,
+        }
+    }
+
+    /// What a glance shows of the state. It takes no memory.
+    pub(crate) fn glance(&self) -> Glance
+        ensures { result ≡ glance_of self.now }
+    {
+        Glance {
+            rule: self.rule,
+            phase: self.phase,
+            last: self.last,
         }
     }
 
