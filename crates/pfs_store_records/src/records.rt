@@ -1,6 +1,6 @@
 //! The records of states: the one module that reads a record, and ticks the meter for it.
 
-ghost use Rattle.std.specs.Prelude.{◌≡◌, ◌+◌, ◌-◌, ◌<◌, ◌≤◌, ◌^◌, ◌==◌, ◌++◌, ◌∷◌, [], IfOk, OnErr, OnOk, Some, filter, length, map, slice_get, true};
+ghost use Rattle.std.specs.Prelude.{◌≡◌, ◌+◌, ◌-◌, ◌<◌, ◌≤◌, ◌^◌, ◌==◌, ◌++◌, ◌∷◌, [], IfOk, IfSome, OnErr, OnOk, Some, filter, length, map, slice_get, true};
 ghost use Rattle.std.specs.List.{AllByRecursion, find, list_any};
 ghost use Rattle.slab.specs.Slab.{ContainsKey, get};
 ghost use Rattle.pfs_store_plain.specs.Leaving.{other_than};
@@ -82,6 +82,7 @@ impl Records {
         requires held { holds_number (states_of self.now) number ≡ true }
         requires room { meter.old < 2 ^ 64 - 1 }
         ensures value { Some result ≡ find (λ s. s.number == number) (states_of self.now) }
+        ensures small { result.number < 2 ^ 32 }
         ensures looks { meter.new ≡ meter.old + 1 }
     {
         match self.places.get(&number) {
@@ -96,6 +97,7 @@ impl Records {
         requires room { meter.old < 2 ^ 64 - 1 }
         ensures value { IsRecordAt place result self.now }
         ensures sourced { IsSourced result }
+        ensures small { result.number < 2 ^ 32 }
         ensures looks { meter.new ≡ meter.old + 1 }
     {
         look(&self.slab, place, meter).state()
@@ -116,6 +118,7 @@ impl Records {
         requires room { meter.old + share < 2 ^ 64 }
         ensures walk { IsWalk (λ s. T.passes test.now (glance_of s)) (states_of self.now) above most share result.stayed result.last result.leaver }
         ensures until { StayUntil (λ s. T.moment test.now (glance_of s)) (states_of self.now) above result.last result.until }
+        ensures small { IfSome result.leaver (λ s. s.number < 2 ^ 32) }
         ensures looks { meter.new ≡ meter.old + looks_of result.stayed result.leaver }
     {
         walk_range(&self.slab, &self.places, above, most, share, test, meter)
@@ -140,6 +143,7 @@ impl Records {
     pub fn write_at(&mut self, place: usize, state: State)
         requires placed { list_any (is_placed state.number place) self.old ≡ true }
         requires sourced { IsSourced state }
+        requires small { state.number < 2 ^ 32 }
         ensures records { self.new ≡ map (put state) self.old }
         ensures states { states_of self.new ≡ map (put_state state) (states_of self.old) }
         ensures rising { IsRising (state_numbers (states_of self.new)) }
@@ -152,6 +156,7 @@ impl Records {
     pub fn push(&mut self, state: &State) -> Result<usize, NoMemory>
         requires above { IsAbove state.now.number (state_numbers (states_of self.old)) }
         requires sourced { IsSourced state.now }
+        requires small { state.now.number < 2 ^ 32 }
         ensures records { IfOk result (λ place. self.new ≡ self.old ++ placed_at place state.now ∷ []) }
         ensures states { OnOk result (states_of self.new ≡ states_of self.old ++ state.now ∷ []) }
         ensures err { OnErr result (self.new ≡ self.old) }
@@ -208,6 +213,7 @@ fn walk_range<T: StateTest>(
     ensures walk { IsWalk (λ s. T.passes test.now (glance_of s)) (states_of (held (record_in slab.now) places.now.entries)) above most share
         result.stayed result.last result.leaver }
     ensures until { StayUntil (λ s. T.moment test.now (glance_of s)) (states_of (held (record_in slab.now) places.now.entries)) above result.last result.until }
+    ensures small { IfSome result.leaver (λ s. s.number < 2 ^ 32) }
     ensures looks { meter.new ≡ meter.old + looks_of result.stayed result.leaver }
 {
     let mut rest = places.range((Bound::Excluded(above), Bound::Included(most)));
