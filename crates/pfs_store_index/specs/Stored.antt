@@ -7,6 +7,8 @@ use Rattle.pfs_track.specs.Lifetimes.{is_expired, scaled_lifetime}
 use Rattle.pfs_store_plain.specs.Purging.{node_numbers, state_numbers}
 use Rattle.pfs_store_plain.specs.Worlds.{World, lists}
 use Rattle.pfs_store_plain.specs.declared.records.State.{State}
+use Rattle.pfs_store_records.specs.Walks.{glance_of}
+use Rattle.pfs_store_records.specs.declared.walks.Glance.{Glance}
 use Rattle.pfs_store_index.specs.Holdings.{Holding}
 use Rattle.pfs_store_index.specs.Rounds.{waiting}
 
@@ -19,13 +21,23 @@ abbrev pub world_of : Holding → ℕ → ℕ → ℕ → ℕ → ℕ → World
 world_of h cursor mark node_cursor node_mark made =
     lists h.states h.nodes (waiting cursor mark (state_numbers h.states)) (waiting node_cursor node_mark (node_numbers h.nodes)) made
 
--- the moment at which a state expires, where the rules had these counts of states and so many were held
-abbrev pub due_at : Conf → List ℕ → ℕ → State → ℕ
-due_at conf counts held s = s.last + scaled_lifetime conf s.rule.0 s.phase (slice_index counts s.rule.0) held
+-- how long a state may stay of which a glance shows so much, where the rules had these counts of states and so many were held
+abbrev pub seconds_of : Conf → List ℕ → ℕ → Glance → ℕ
+seconds_of conf counts held g = scaled_lifetime conf g.rule.0 g.phase (slice_index counts g.rule.0) held
 
--- a state is expired, where the rules had these counts of states and so many were held
+-- the moment at which it expires, and whether it has expired
+abbrev pub glance_due_at : Conf → List ℕ → ℕ → Glance → ℕ
+glance_due_at conf counts held g = g.last + seconds_of conf counts held g
+
+abbrev pub is_glance_due : Conf → List ℕ → ℕ → ℕ → Glance → Bool
+is_glance_due conf counts held now g = is_expired (seconds_of conf counts held g) g.last now
+
+-- the same of the state
+abbrev pub due_at : Conf → List ℕ → ℕ → State → ℕ
+due_at conf counts held s = glance_due_at conf counts held (glance_of s)
+
 abbrev pub is_due : Conf → List ℕ → ℕ → ℕ → State → Bool
-is_due conf counts held now s = is_expired (scaled_lifetime conf s.rule.0 s.phase (slice_index counts s.rule.0) held) s.last now
+is_due conf counts held now s = is_glance_due conf counts held now (glance_of s)
 
 -- a rule scales the lifetimes of its states by a pair of its own, under the count of its states
 abbrev pub has_pair : Conf → ℕ → Bool

@@ -1,11 +1,10 @@
 //! Which states have expired at a second, under the counts by which their lifetimes are scaled.
 
 ghost use Rattle.std.specs.Prelude.{◌≡◌, ◌+◌, ◌-◌, ◌<◌, ◌≤◌, ◌^◌, if◌then◌else◌, length, slice_index};
-ghost use Rattle.pfs_store_index.specs.Stored.{AreUnread, due_at, has_pair, is_due};
+ghost use Rattle.pfs_store_index.specs.Stored.{AreUnread, glance_due_at, has_pair, is_glance_due};
 
 use pfs_conf_rules::{Config, RuleNo, TimeoutName};
-use pfs_store_plain::State;
-use pfs_store_records::StateTest;
+use pfs_store_records::{Glance, StateTest};
 use pfs_track::{is_expired, lifetime};
 
 /// The states that have expired at a second, where the rules had these counts of states and so many were held.
@@ -18,17 +17,17 @@ pub(crate) struct Due<'a> {
 }
 
 impl StateTest for Due<'_> {
-    ghost passes = { λ t s. is_due t.config.now t.counts.now t.held t.now s };
+    ghost passes = { λ t g. is_glance_due t.config.now t.counts.now t.held t.now g };
 
-    ghost moment = { λ t s. due_at t.config.now t.counts.now t.held s };
+    ghost moment = { λ t g. glance_due_at t.config.now t.counts.now t.held g };
 
-    fn until(&self, state: &State) -> Option<u64> {
-        let count = count_at(self.counts, state.rule.0 as usize);
-        let seconds = lifetime(self.config, state.rule, state.phase, count, self.held);
-        if is_expired(seconds, state.last, self.now) {
+    fn until(&self, glance: Glance) -> Option<u64> {
+        let count = count_at(self.counts, glance.rule.0 as usize);
+        let seconds = lifetime(self.config, glance.rule, glance.phase, count, self.held);
+        if is_expired(seconds, glance.last, self.now) {
             None
         } else {
-            Some(state.last.saturating_add(seconds))
+            Some(glance.last.saturating_add(seconds))
         }
     }
 }

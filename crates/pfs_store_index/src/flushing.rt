@@ -26,6 +26,7 @@ pub(crate) fn flush<S: BuildHasher>(
     meter: &mut Meter,
 )
     requires numbered { IsNumbered made (state_numbers indexes.old.states) }
+    requires small { made < 2 ^ 32 }
     requires few { length indexes.old.states ≤ 1000000000 }
     requires room { meter.old ≤ 2 ^ 63 }
     ensures config { indexes.new.config ≡ indexes.old.config }

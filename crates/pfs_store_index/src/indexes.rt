@@ -14,7 +14,7 @@ ghost use Rattle.pfs_store_plain.specs.Touching.{completes_at, nodes_touched, re
 ghost use Rattle.pfs_store_plain.specs.Worlds.{IsUpToNow, holds_number, lists, number_of, rule_in, state_with};
 ghost use Rattle.pfs_store_records.specs.Records.{IsAbove, IsRising, placed_at};
 ghost use Rattle.pfs_store_records.specs.Sourced.{IsSourced};
-ghost use Rattle.pfs_store_records.specs.Walks.{IsWalk, StayUntil, looks_of};
+ghost use Rattle.pfs_store_records.specs.Walks.{IsWalk, StayUntil, glance_of, looks_of};
 ghost use Rattle.pfs_store_index.specs.Holdings.{IsUncompleted};
 ghost use Rattle.pfs_store_index.specs.Rounds.{waiting, waiting_of};
 ghost use Rattle.pfs_store_index.specs.Stored.{IsNumbered};
@@ -33,10 +33,10 @@ use std::hash::BuildHasher;
 use std::marker::Model;
 use std::ops::Bound;
 
-/// What the index by key has of a state: its number, its rule, and the place of its record.
+/// What the index by key has of a state: its number, its rule, and the place of its record. It takes 16 bytes.
 #[derive(Debug, Clone, Copy, PartialEq, Eq)]
 pub(crate) struct Entry {
-    pub(crate) number: u64,
+    pub(crate) number: u32,
     pub(crate) rule: RuleNo,
     pub(crate) place: usize,
 }
@@ -57,7 +57,7 @@ pub(crate) struct Indexes<S: BuildHasher> {
     keys: HashMap<FlowKey, Entry, S>,
     counts: Vec<u64>,
     nodes: Nodes<S>,
-    pairs: BTreeSet<(Addr, u64)>,
+    pairs: BTreeSet<(Addr, u32)>,
 }
 
 impl<S: BuildHasher> Model for Indexes<S> {
@@ -125,7 +125,7 @@ impl<S: BuildHasher> Indexes<S> {
         ensures { result ≡ option_map number_of (state_with key.now (lists self.now.states [] [] [] 0)) }
     {
         match self.keys.get(key) {
-            Some(entry) => Some(StateNo(entry.number)),
+            Some(entry) => Some(StateNo(u64::from(entry.number))),
             None => None,
         }
     }
@@ -184,19 +184,20 @@ impl<S: BuildHasher> Indexes<S> {
 
     /// The least number above one, and up to another, of the states of a source.
     pub(crate) fn next_of_source(&self, source: Addr, above: u64, most: u64) -> Option<u64>
-        requires { above ≤ most }
+        requires range { above ≤ most }
+        requires small { most < 2 ^ 32 }
         ensures { result ≡ slice_get (waiting_of source above most self.now.states) 0 }
     {
         let _count = self.records.len();
         match self
             .pairs
             .range((
-                Bound::Excluded((source, above)),
-                Bound::Included((source, most)),
+                Bound::Excluded((source, above as u32)),
+                Bound::Included((source, most as u32)),
             ))
             .next()
         {
-            Some((_, number)) => Some(*number),
+            Some((_, number)) => Some(u64::from(*number)),
             None => None,
         }
     }
@@ -216,6 +217,7 @@ impl<S: BuildHasher> Indexes<S> {
         requires held { holds_number self.now.states number ≡ true }
         requires room { meter.old < 2 ^ 64 - 1 }
         ensures value { find (λ s. s.number == number) self.now.states ≡ Some result }
+        ensures small { result.number < 2 ^ 32 }
         ensures looks { meter.new ≡ meter.old + 1 }
     {
         self.records.read(number, meter)
@@ -233,8 +235,9 @@ impl<S: BuildHasher> Indexes<S> {
     ) -> Walk
         requires range { above ≤ most }
         requires room { meter.old + share < 2 ^ 64 }
-        ensures walk { IsWalk (T.passes test.now) self.now.states above most share result.stayed result.last result.leaver }
-        ensures until { StayUntil (T.moment test.now) self.now.states above result.last result.until }
+        ensures walk { IsWalk (λ s. T.passes test.now (glance_of s)) self.now.states above most share result.stayed result.last result.leaver }
+        ensures until { StayUntil (λ s. T.moment test.now (glance_of s)) self.now.states above result.last result.until }
+        ensures small { IfSome result.leaver (λ s. s.number < 2 ^ 32) }
         ensures looks { meter.new ≡ meter.old + looks_of result.stayed result.leaver }
     {
         self.records.walk(above, most, share, test, meter)
@@ -277,6 +280,7 @@ impl<S: BuildHasher> Indexes<S> {
         requires rule { IsSome (options_at self.old.config state.rule.0) }
         requires phase { IsUncompleted state }
         requires sourced { IsSourced state }
+        requires small { state.number < 2 ^ 32 }
         requires few { length self.old.states ≤ 1000000000 }
         ensures config { self.new.config ≡ self.old.config }
         ensures states { OnOk result (self.new.states ≡ self.old.states ++ state ∷ []) }
@@ -345,7 +349,8 @@ impl<S: BuildHasher> Indexes<S> {
 
     /// A state leaves. Its node, where it was the last, has been idle since now.
     pub(crate) fn take_out(&mut self, state: State, now: u64)
-        requires { find (λ s. s.number == state.number) self.old.states ≡ Some state }
+        requires held { find (λ s. s.number == state.number) self.old.states ≡ Some state }
+        requires small { state.number < 2 ^ 32 }
         ensures config { self.new.config ≡ self.old.config }
         ensures states { self.new.states ≡ filter (other_than state.number) self.old.states }
         ensures nodes { self.new.nodes
@@ -355,7 +360,7 @@ impl<S: BuildHasher> Indexes<S> {
         let rule = state.rule.0 as usize;
         let scope = node_scope(&self.config, state.rule);
         self.keys.remove(&state.key);
-        self.pairs.remove(&(state.source, state.number));
+        self.pairs.remove(&(state.source, state.number as u32));
         self.counts[rule] -= 1;
         leave(&mut self.nodes, scope, &state, now);
         self.records.remove(state.number);
@@ -376,10 +381,11 @@ impl<S: BuildHasher> Indexes<S> {
 
 /// What the index by key has of a state whose record stands at this place.
 fn entry_of(state: &State, place: usize) -> Entry
+    requires { state.now.number < 2 ^ 32 }
     ensures { result ≡ entry_of (placed_at place state.now) }
 {
     Entry {
-        number: state.number,
+        number: state.number as u32,
         rule: state.rule,
         place,
     }

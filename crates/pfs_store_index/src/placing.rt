@@ -1,6 +1,6 @@
 //! A new state takes its place in the records, in the index by source and in its node, or in none of them.
 
-ghost use Rattle.std.specs.Prelude.{◌≡◌, ◌++◌, ◌∷◌, [], IfOk, OnErr, OnOk, false, Some};
+ghost use Rattle.std.specs.Prelude.{◌≡◌, ◌<◌, ◌^◌, ◌++◌, ◌∷◌, [], IfOk, OnErr, OnOk, false, Some};
 ghost use Rattle.std.specs.BTreeSet.{contains};
 ghost use Rattle.std.specs.List.{AllByRecursion};
 ghost use Rattle.pfs_store_plain.specs.Purging.{node_numbers, state_numbers};
@@ -20,7 +20,7 @@ use std::hash::BuildHasher;
 /// placed.
 pub(crate) fn place<S: BuildHasher>(
     records: &mut Records,
-    pairs: &mut BTreeSet<(Addr, u64)>,
+    pairs: &mut BTreeSet<(Addr, u32)>,
     nodes: &mut Nodes<S>,
     state: State,
     scope: Option<NodeScope>,
@@ -29,6 +29,7 @@ pub(crate) fn place<S: BuildHasher>(
     requires above { IsAbove state.number (state_numbers (states_of records.old)) }
     requires nodes_above { IsAbove state.number (node_numbers (nodes_of nodes.old)) }
     requires sourced { IsSourced state }
+    requires small { state.number < 2 ^ 32 }
     requires absent { contains pair_cmp pairs.old (state.source, state.number) ≡ false }
     ensures records { IfOk result (λ place. records.new ≡ records.old ++ placed_at place state ∷ []) }
     ensures pairs { OnOk result (HasPair (state.source, state.number) pairs.old pairs.new) }
@@ -37,17 +38,17 @@ pub(crate) fn place<S: BuildHasher>(
     ensures same_pairs { OnErr result (SamePairs pairs.old pairs.new) }
     ensures same_nodes { OnErr result (nodes.new ≡ nodes.old) }
 {
-    match pairs.insert((state.source, state.number)) {
+    match pairs.insert((state.source, state.number as u32)) {
         Err(_) => Err(NoMemory),
         Ok(_) => match records.push(&state) {
             Err(_) => {
-                pairs.remove(&(state.source, state.number));
+                pairs.remove(&(state.source, state.number as u32));
                 Err(NoMemory)
             }
             Ok(place) => match join(nodes, scope, &state) {
                 Err(_) => {
                     records.remove(state.number);
-                    pairs.remove(&(state.source, state.number));
+                    pairs.remove(&(state.source, state.number as u32));
                     Err(NoMemory)
                 }
                 Ok(_) => Ok(place),

@@ -1,6 +1,6 @@
 //! The walks of the purge: a slice of the round of the states, and a slice of that of the nodes.
 
-ghost use Rattle.std.specs.Prelude.{◌≡◌, ◌+◌, ◌-◌, ◌<◌, ◌≤◌, ◌^◌, ◌==◌, ◌&&◌, [], Some, drop, filter, length, map, nat_le, take, true};
+ghost use Rattle.std.specs.Prelude.{◌≡◌, ◌+◌, ◌-◌, ◌<◌, ◌≤◌, ◌^◌, ◌==◌, ◌&&◌, [], IfSome, Some, drop, filter, length, map, nat_le, take, true};
 ghost use Rattle.std.specs.List.{AllByRecursion, find};
 ghost use Rattle.pfs_conf_rules.specs.Configs.{rule_retention, timeout_of};
 ghost use Rattle.pfs_conf_rules.specs.declared.timeouts.TimeoutName.TheVariants as timeout;
@@ -203,6 +203,7 @@ fn walk_to_due<S: BuildHasher>(
     requires room { meter.old + share < 2 ^ 64 }
     ensures walk { IsWalk (is_due indexes.now.config counts.now held now) indexes.now.states round.cursor round.mark share result.stayed result.last result.leaver }
     ensures until { StayUntil (due_at indexes.now.config counts.now held) indexes.now.states round.cursor result.last result.until }
+    ensures small { IfSome result.leaver (λ s. s.number < 2 ^ 32) }
     ensures looks { meter.new ≡ meter.old + looks_of result.stayed result.leaver }
 {
     let test = Due {

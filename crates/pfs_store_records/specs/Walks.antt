@@ -5,6 +5,11 @@ use Rattle.std.specs.List.{AllByRecursion, find}
 use Rattle.pfs_store_plain.specs.Purging.{state_numbers}
 use Rattle.pfs_store_plain.specs.declared.records.State.{State}
 use Rattle.pfs_store_records.specs.Records.{between}
+use Rattle.pfs_store_records.specs.declared.walks.Glance.{Glance}
+
+-- what a glance shows of a state
+abbrev pub glance_of : State → Glance
+glance_of s = record { rule = s.rule; phase = s.phase; last = s.last }
 
 -- the walk stopped at this state before its share was used up: it is that of the next number, and passes
 pub record IsNext (test : State → Bool) (states : List State) (last most stayed share : ℕ) (s : State) : Type 0 where

@@ -1,8 +1,10 @@
-//! A state as its record keeps it: without its source, which its key and its direction tell.
+//! A state as its record keeps it: without its source, which its key and its direction tell, and with a number of 32 bits.
 
-ghost use Rattle.std.specs.Prelude.{◌≡◌};
+ghost use Rattle.std.specs.Prelude.{◌≡◌, ◌<◌, ◌^◌};
 ghost use Rattle.pfs_store_records.specs.Sourced.{IsSourced, source_at};
+ghost use Rattle.pfs_store_records.specs.Walks.{glance_of};
 
+use crate::walks::Glance;
 use pfs_addr::{Addr, Dir, FlowKey};
 use pfs_conf_rules::RuleNo;
 use pfs_store_plain::State;
@@ -10,14 +12,16 @@ use pfs_track::StatePhase;
 use std::marker::Model;
 
 /// A state whose source is the end of its key from which packets of its direction come. Clauses see the state.
+///
+/// The fields lie in memory as they are written, the widest first, so that none of its 64 bytes is unused.
 #[derive(Debug, Clone, Copy)]
 pub(crate) struct Kept {
-    number: u64,
+    last: u64,
+    number: u32,
+    rule: RuleNo,
     key: FlowKey,
     dir: Dir,
-    rule: RuleNo,
     phase: StatePhase,
-    last: u64,
 }
 
 impl Model for Kept {
@@ -28,22 +32,34 @@ impl Model for Kept {
 
     ghost view = { λ k. record { number = k.number; key = k.key; dir = k.dir; source = source_at k.dir k.key; rule = k.rule; phase = k.phase; last = k.last } };
 
-    ghost inverse = { λ s. record { number = s.number; key = s.key; dir = s.dir; rule = s.rule; phase = s.phase; last = s.last } };
+    ghost inverse = { λ s. record { last = s.last; number = s.number; rule = s.rule; key = s.key; dir = s.dir; phase = s.phase } };
 }
 
 impl Kept {
     /// What is kept of a state. It takes no memory.
     pub(crate) fn of(state: &State) -> Kept
-        requires { IsSourced state.now }
+        requires sourced { IsSourced state.now }
+        requires small { state.now.number < 2 ^ 32 }
         ensures { result ≡ state.now }
     {
         Kept {
-            number: state.number,
+            last: state.last,
+            number: state.number as u32,
+            rule: state.rule,
             key: state.key,
             dir: state.dir,
-            rule: state.rule,
             phase: state.phase,
-            last: state.last,
+        }
+    }
+
+    /// What a glance shows of the state. It takes no memory.
+    pub(crate) fn glance(&self) -> Glance
+        ensures { result ≡ glance_of self.now }
+    {
+        Glance {
+            rule: self.rule,
+            phase: self.phase,
+            last: self.last,
         }
     }
 
@@ -51,9 +67,10 @@ impl Kept {
     pub(crate) fn state(&self) -> State
         ensures value { result ≡ self.now }
         ensures sourced { IsSourced result }
+        ensures small { result.number < 2 ^ 32 }
     {
         State {
-            number: self.number,
+            number: u64::from(self.number),
             key: self.key,
             dir: self.dir,
             source: source_of(self.dir, &self.key),

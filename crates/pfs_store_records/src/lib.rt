@@ -11,4 +11,4 @@ mod walks;
 pub use nodes::{Nodes, Tally};
 pub use records::Records;
 pub use rounds::Round;
-pub use walks::{StateTest, Walk};
+pub use walks::{Glance, StateTest, Walk};

@@ -1,6 +1,6 @@
 //! The records of states: the one module that reads a record, and ticks the meter for it.
 
-ghost use Rattle.std.specs.Prelude.{◌≡◌, ◌+◌, ◌-◌, ◌<◌, ◌≤◌, ◌^◌, ◌==◌, ◌++◌, ◌∷◌, [], IfOk, OnErr, OnOk, Some, filter, length, map, slice_get, true};
+ghost use Rattle.std.specs.Prelude.{◌≡◌, ◌+◌, ◌-◌, ◌<◌, ◌≤◌, ◌^◌, ◌==◌, ◌++◌, ◌∷◌, [], IfOk, IfSome, OnErr, OnOk, Some, filter, length, map, slice_get, true};
 ghost use Rattle.std.specs.List.{AllByRecursion, find, list_any};
 ghost use Rattle.slab.specs.Slab.{ContainsKey, get};
 ghost use Rattle.pfs_store_plain.specs.Leaving.{other_than};
@@ -9,7 +9,7 @@ ghost use Rattle.pfs_store_plain.specs.Quiet.{turned};
 ghost use Rattle.pfs_store_plain.specs.Worlds.{holds_number};
 ghost use Rattle.pfs_store_records.specs.Keeping.{IsKept, held, number_in, place_in, record_in};
 ghost use Rattle.pfs_store_records.specs.Sourced.{IsSourced};
-ghost use Rattle.pfs_store_records.specs.Walks.{IsWalk, StayUntil, looks_of};
+ghost use Rattle.pfs_store_records.specs.Walks.{IsWalk, StayUntil, glance_of, looks_of};
 ghost use Rattle.pfs_store_records.specs.Records.{IsAbove, IsRecordAt, IsRising, between, is_placed, leaves_number, placed_at, put, put_state, stands_at, states_of};
 
 use crate::kept::Kept;
@@ -82,10 +82,11 @@ impl Records {
         requires held { holds_number (states_of self.now) number ≡ true }
         requires room { meter.old < 2 ^ 64 - 1 }
         ensures value { Some result ≡ find (λ s. s.number == number) (states_of self.now) }
+        ensures small { result.number < 2 ^ 32 }
         ensures looks { meter.new ≡ meter.old + 1 }
     {
         match self.places.get(&number) {
-            Some(place) => look(&self.slab, *place, meter),
+            Some(place) => look(&self.slab, *place, meter).state(),
             None => unreachable!(),
         }
     }
@@ -96,9 +97,10 @@ impl Records {
         requires room { meter.old < 2 ^ 64 - 1 }
         ensures value { IsRecordAt place result self.now }
         ensures sourced { IsSourced result }
+        ensures small { result.number < 2 ^ 32 }
         ensures looks { meter.new ≡ meter.old + 1 }
     {
-        look(&self.slab, place, meter)
+        look(&self.slab, place, meter).state()
     }
 
     /// Walks over the records whose numbers are above `above` and up to `most`, from the least on: over at most `share` of
@@ -114,8 +116,9 @@ impl Records {
     ) -> Walk
         requires range { above ≤ most }
         requires room { meter.old + share < 2 ^ 64 }
-        ensures walk { IsWalk (T.passes test.now) (states_of self.now) above most share result.stayed result.last result.leaver }
-        ensures until { StayUntil (T.moment test.now) (states_of self.now) above result.last result.until }
+        ensures walk { IsWalk (λ s. T.passes test.now (glance_of s)) (states_of self.now) above most share result.stayed result.last result.leaver }
+        ensures until { StayUntil (λ s. T.moment test.now (glance_of s)) (states_of self.now) above result.last result.until }
+        ensures small { IfSome result.leaver (λ s. s.number < 2 ^ 32) }
         ensures looks { meter.new ≡ meter.old + looks_of result.stayed result.leaver }
     {
         walk_range(&self.slab, &self.places, above, most, share, test, meter)
@@ -140,6 +143,7 @@ impl Records {
     pub fn write_at(&mut self, place: usize, state: State)
         requires placed { list_any (is_placed state.number place) self.old ≡ true }
         requires sourced { IsSourced state }
+        requires small { state.number < 2 ^ 32 }
         ensures records { self.new ≡ map (put state) self.old }
         ensures states { states_of self.new ≡ map (put_state state) (states_of self.old) }
         ensures rising { IsRising (state_numbers (states_of self.new)) }
@@ -152,6 +156,7 @@ impl Records {
     pub fn push(&mut self, state: &State) -> Result<usize, NoMemory>
         requires above { IsAbove state.now.number (state_numbers (states_of self.old)) }
         requires sourced { IsSourced state.now }
+        requires small { state.now.number < 2 ^ 32 }
         ensures records { IfOk result (λ place. self.new ≡ self.old ++ placed_at place state.now ∷ []) }
         ensures states { OnOk result (states_of self.new ≡ states_of self.old ++ state.now ∷ []) }
         ensures err { OnErr result (self.new ≡ self.old) }
@@ -183,15 +188,14 @@ impl Records {
 }
 
 /// Reads the record at a place: the one look.
-fn look(slab: &Slab<Kept>, place: usize, meter: &mut Meter) -> State
+fn look<'a>(slab: &'a Slab<Kept>, place: usize, meter: &mut Meter) -> &'a Kept
     requires held { ContainsKey slab.now place }
     requires room { meter.old < 2 ^ 64 - 1 }
-    ensures value { get slab.now place ≡ Some result }
-    ensures sourced { IsSourced result }
+    ensures value { get slab.now place ≡ Some result.now }
     ensures looks { meter.new ≡ meter.old + 1 }
 {
     meter.tick();
-    slab[place].state()
+    &slab[place]
 }
 
 fn walk_range<T: StateTest>(
@@ -206,9 +210,10 @@ fn walk_range<T: StateTest>(
     requires kept { IsKept number_in place_in (record_in slab.now) places.now.entries }
     requires range { above ≤ most }
     requires room { meter.old + share < 2 ^ 64 }
-    ensures walk { IsWalk (T.passes test.now) (states_of (held (record_in slab.now) places.now.entries)) above most share
+    ensures walk { IsWalk (λ s. T.passes test.now (glance_of s)) (states_of (held (record_in slab.now) places.now.entries)) above most share
         result.stayed result.last result.leaver }
-    ensures until { StayUntil (T.moment test.now) (states_of (held (record_in slab.now) places.now.entries)) above result.last result.until }
+    ensures until { StayUntil (λ s. T.moment test.now (glance_of s)) (states_of (held (record_in slab.now) places.now.entries)) above result.last result.until }
+    ensures small { IfSome result.leaver (λ s. s.number < 2 ^ 32) }
     ensures looks { meter.new ≡ meter.old + looks_of result.stayed result.leaver }
 {
     let mut rest = places.range((Bound::Excluded(above), Bound::Included(most)));
@@ -224,15 +229,15 @@ fn walk_range<T: StateTest>(
                 leaver: None,
             };
         };
-        let state = look(slab, *place, meter);
-        match test.until(&state) {
+        let kept = look(slab, *place, meter);
+        match test.until(kept.glance()) {
             Some(moment) => until = until.min(moment),
             None => {
                 return Walk {
                     stayed,
                     last,
                     until,
-                    leaver: Some(state),
+                    leaver: Some(kept.state()),
                 };
             }
         }

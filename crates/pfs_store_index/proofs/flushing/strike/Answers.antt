@@ -8,8 +8,8 @@ use Rattle.pfs_store_index.proofs.Leavings.{state_number}
 use Rattle.pfs_store_index.proofs.Walks.{found-number, has_number, survive-kept, survive-removed}
 use Rattle.pfs_store_index.proofs.flushing.strike.Goals as goal
 
-pub take_out-requires : goal.take_out-requires
-take_out-requires g c =
+pub take_out-requires-clause-held : goal.take_out-requires-clause-held
+take_out-requires-clause-held g c =
     let f = c.read-state.ensures.value in
     subst (λ k. find (has_number state_number k) c.args.indexes.now.states ≡ Some c.read-state.result) (sym (found-number state_number c.args.number c.read-state.result c.args.indexes.now.states f)) f
 

@@ -7,13 +7,14 @@ use Rattle.pfs_store_index.proofs.Sources.{first-none, first-of-range, first-som
 use Rattle.pfs_store_index.proofs.indexes.Indexes.next_of_source.Goals as goal
 
 pub range-requires : goal.range-requires
-range-requires g c = pairs-forward c.args.source c.args.above c.args.most c.requires
+range-requires g c = pairs-forward c.args.source c.args.above c.args.most c.requires.range
 
 pub returns-in-Some : goal.returns-in-Some
 returns-in-Some g c =
     let f = first-of-range c.args.source c.args.above c.args.most (states_of c.self.inside.records) c.self.inside.pairs _ _ _ c.self.invariant.paired c.in-Some.ensures.steps (c.range.ensures.in_range tt) in
-    sym (first-some c.args.source c.args.above c.args.most _ (states_of c.self.inside.records) c.len-count.ensures.rising f)
-    ∙ ap (λ (h : Holding). slice_get (waiting_of c.args.source c.args.above c.args.most h.states) 0) c.self.view_is
+    rw c.from.ensures
+    (sym (first-some c.args.source c.args.above c.args.most _ (states_of c.self.inside.records) c.len-count.ensures.rising f)
+    ∙ ap (λ (h : Holding). slice_get (waiting_of c.args.source c.args.above c.args.most h.states) 0) c.self.view_is)
 
 pub returns-in-None : goal.returns-in-None
 returns-in-None g c =

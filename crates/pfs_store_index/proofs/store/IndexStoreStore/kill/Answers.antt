@@ -7,8 +7,8 @@ use Rattle.pfs_store_index.proofs.Storing.{stored-without, world-without}
 use Rattle.pfs_store_index.proofs.Walks.{found-number, has_number}
 use Rattle.pfs_store_index.proofs.store.IndexStoreStore.kill.Goals as goal
 
-pub take_out-requires : goal.take_out-requires
-take_out-requires g c =
+pub take_out-requires-clause-held : goal.take_out-requires-clause-held
+take_out-requires-clause-held g c =
     let f = c.read-state.ensures.value in
     subst (λ k. find (has_number state_number k) c.self.inside.indexes.states ≡ Some c.read-state.result) (sym (found-number state_number c.args.number.0 c.read-state.result c.self.inside.indexes.states f)) f
 

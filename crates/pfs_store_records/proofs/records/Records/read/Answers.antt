@@ -1,5 +1,5 @@
 -- Answers of Records::read: the number has a place, where the record stands that is told (`value`).
-use Rattle.std.proofs.Common.{◌≡◌, ◌∙◌, ◌==◌, sym, true}
+use Rattle.std.proofs.Common.{◌≡◌, ◌∙◌, ◌==◌, Some, ap, sym, true}
 use Rattle.std.specs.List.{list_any}
 use Rattle.pfs_store_records.specs.Keeping.{number_in, place_in, record_in}
 use Rattle.pfs_store_records.specs.Records.{Placed}
@@ -19,4 +19,4 @@ unreachable-requires c =
 
 pub returns-clause-value : goal.returns-clause-value
 returns-clause-value c =
-    rw (sym c.self.view_is) (read-value c.args.number c.self.inside.slab c.self.inside.places.entries c.in-Some.place.now _ c.self.invariant.placed (sym c.in-Some.ensures.value) c.look.ensures.value)
+    ap Some c.state.ensures.value ∙ rw (sym c.self.view_is) (read-value c.args.number c.self.inside.slab c.self.inside.places.entries c.in-Some.place.now c.look.result.now c.self.invariant.placed (sym c.in-Some.ensures.value) c.look.ensures.value)

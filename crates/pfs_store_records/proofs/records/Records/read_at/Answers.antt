@@ -9,4 +9,4 @@ look-requires-clause-held c =
 
 pub returns-clause-value : goal.returns-clause-value
 returns-clause-value c =
-    rw (sym c.self.view_is) (records-at c.args.place _ c.self.inside.slab c.self.inside.places.entries c.look.ensures.value c.self.invariant.placed)
+    rw (sym c.self.view_is, c.state.ensures.value) (records-at c.args.place c.look.result.now c.self.inside.slab c.self.inside.places.entries c.look.ensures.value c.self.invariant.placed)
