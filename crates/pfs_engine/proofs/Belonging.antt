@@ -8,9 +8,10 @@ use Rattle.pfs_addr.specs.declared.addresses.Addr.{Addr}
 use Rattle.pfs_eval.specs.Holdings.{Holdings}
 use Rattle.pfs_conf_rules.specs.Configs.{Conf, options_of}
 use Rattle.pfs_conf_rules.specs.declared.items.RuleNo.{RuleNo}
-use Rattle.pfs_store_plain.specs.Counts.{is_of_source, source_states}
-use Rattle.pfs_store_plain.specs.Touching.{completes_at, renewed, touch_of, touched, world_touched}
-use Rattle.pfs_store_plain.specs.Worlds.{World, holds_number, number_of, rule_in, state_with}
+use Rattle.pfs_store_plain.specs.Counts.{is_of_source}
+use Rattle.pfs_store_plain.specs.Calls.{source_states, touch_of, world_touched, state_number, state_rule}
+use Rattle.pfs_store_plain.specs.Touching.{completes_at, renewed, touched}
+use Rattle.pfs_store_plain.specs.Worlds.{World, holds_number, state_with}
 use Rattle.pfs_store_plain.specs.declared.records.State.{State}
 use Rattle.pfs_store_plain.specs.declared.records.StateNo.{StateNo}
 use Rattle.pfs_store_plain.specs.declared.records.Touched.{Touched}
@@ -18,17 +19,17 @@ use Rattle.pfs_engine_machine.specs.Kept.{IsKept}
 use Rattle.pfs_engine_machine.specs.Looks.{states_beside}
 use Rattle.pfs_engine_machine.specs.Machine.{Held}
 use Rattle.pfs_engine_machine.specs.Refusals.{is_tcp}
-use Rattle.pfs_engine.specs.Rooms.{HasRoomFor, overload_at}
+use Rattle.pfs_engine.specs.Rooms.{HasRoomFor, rule_overload}
 use Rattle.pfs_engine_machine.proofs.Counts.{count-map}
 use Rattle.pfs_engine_machine.proofs.Renewals.{renewed-same}
 use Rattle.pfs_engine_machine.proofs.KeptHandshakes.{held_touched, proto_of_completed}
 
 -- the state that was found
-pub found_state : (o : Option State) (number : StateNo) → option_map number_of o ≡ Some number → (s : State) × (o ≡ Some s) × (s.number ≡ number.0)
+pub found_state : (o : Option State) (number : StateNo) → option_map state_number o ≡ Some number → (s : State) × (o ≡ Some s) × (s.number ≡ number.0)
 found_state None number e = cc
-found_state (Some s) number e = let same : number_of s ≡ number = cc in (s, refl, ap (λ (n : StateNo). n.0) same)
+found_state (Some s) number e = let same : state_number s ≡ number = cc in (s, refl, ap (λ (n : StateNo). n.0) same)
 
-pub held_after : (conf : Conf) (w after : World) (p : Header) (now : ℕ) (number : StateNo) → option_map number_of (state_with (key_of p) w) ≡ Some number
+pub held_after : (conf : Conf) (w after : World) (p : Header) (now : ℕ) (number : StateNo) → option_map state_number (state_with (key_of p) w) ≡ Some number
     → after ≡ world_touched conf w p now (state_with (key_of p) w) → holds_number after.states number.0 ≡ true
 held_after conf w after p now number e is =
     let (s, found, same) = found_state (state_with (key_of p) w) number e in
@@ -37,23 +38,23 @@ held_after conf w after p now number e is =
     ∙ (ap (λ (n : ℕ). holds_number (touched conf w s p now).states n) (sym same) ∙ held_touched conf w p now s found)
 
 pub room_after : (conf store_conf : Conf) (m : Held) (p : Header) (now : ℕ) (number : StateNo) (t : Touched) (rule : Option RuleNo) (tables : Holdings)
-    → IsKept conf m now → option_map number_of (state_with (key_of p) m.world) ≡ Some number
-    → rule ≡ option_map rule_in (state_with (key_of p) m.world)
+    → IsKept conf m now → option_map state_number (state_with (key_of p) m.world) ≡ Some number
+    → rule ≡ option_map state_rule (state_with (key_of p) m.world)
     → Some t ≡ option_map (touch_of store_conf m.world p now) (state_with (key_of p) m.world)
-    → (is_tcp p.proto ≡ true → HasRoomFor tables (overload_at conf rule))
+    → (is_tcp p.proto ≡ true → HasRoomFor tables (rule_overload conf rule))
     → t.completed ≡ true → HasRoomFor tables (options_of conf t.rule.0).overload
 room_after conf store_conf m p now number t rule tables kept e rule_is touch_is room done =
     let (s, found, same) = found_state (state_with (key_of p) m.world) number e in
     let told : Some t ≡ Some (touch_of store_conf m.world p now s) = touch_is ∙ ap (option_map (touch_of store_conf m.world p now)) found in
     let t_is : t ≡ touch_of store_conf m.world p now s = cc in
     let completes : completes_at p s ≡ true = sym (ap (λ (x : Touched). x.completed) t_is) ∙ done in
-    let at : rule ≡ Some s.rule = rule_is ∙ ap (option_map rule_in) found in
-    let here = subst (λ (r : Option RuleNo). HasRoomFor tables (overload_at conf r)) at (room (proto_of_completed conf m p now s kept found completes)) in
+    let at : rule ≡ Some s.rule = rule_is ∙ ap (option_map state_rule) found in
+    let here = subst (λ (r : Option RuleNo). HasRoomFor tables (rule_overload conf r)) at (room (proto_of_completed conf m p now s kept found completes)) in
     subst (λ (r : RuleNo). HasRoomFor tables (options_of conf r.0).overload) (sym (ap (λ (x : Touched). x.rule) t_is)) here
 
 -- the source of the state has as many states as before
 pub beside_after : (store_conf : Conf) (w after : World) (p : Header) (now : ℕ) (number : StateNo) (t : Touched)
-    → option_map number_of (state_with (key_of p) w) ≡ Some number → after ≡ world_touched store_conf w p now (state_with (key_of p) w)
+    → option_map state_number (state_with (key_of p) w) ≡ Some number → after ≡ world_touched store_conf w p now (state_with (key_of p) w)
     → Some t ≡ option_map (touch_of store_conf w p now) (state_with (key_of p) w)
     → source_states t.source after.states ≡ states_beside w (state_with (key_of p) w)
 beside_after store_conf w after p now number t e is touch_is =

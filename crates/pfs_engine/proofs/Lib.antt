@@ -1,2 +1,3 @@
-mod Watching
 mod Belonging
+mod Free
+mod Watching

@@ -1,3 +1,4 @@
+pub mod Packets
 pub mod Rooms
 pub mod Views
 pub mod Watches

@@ -8,9 +8,9 @@ use Rattle.pfs_conf_rules.specs.declared.actions.Overload.{Overload}
 use Rattle.pfs_conf_rules.specs.declared.items.RuleNo.{RuleNo}
 
 -- the `overload` of the rule of a held state
-abbrev pub overload_at : Conf → Option RuleNo → Option Overload
-overload_at conf None = None
-overload_at conf (Some rule) = (options_of conf rule.0).overload
+abbrev pub rule_overload : Conf → Option RuleNo → Option Overload
+rule_overload conf None = None
+rule_overload conf (Some rule) = (options_of conf rule.0).overload
 
 -- one more entry fits into a table without memory, or the entries are at their limit
 abbrev pub Fits : Holdings → ℕ → Type 0

@@ -13,8 +13,9 @@ ghost use Rattle.pfs_store_plain.specs.declared.records.Limit.{Limit};
 ghost use Rattle.pfs_engine_machine.specs.Kept.{IsWithinLimits, IsWithinShared, moment_of};
 ghost use Rattle.pfs_engine_machine.specs.Looks.{AreLooks, states_beside};
 ghost use Rattle.pfs_engine_machine.specs.Refusals.{IsFree, IsRefused};
-ghost use Rattle.pfs_engine_machine.specs.Machine.{MayCome, MayExpire, advanced, answered, due, entries_held, expired, most_nodes, most_states, nodes_held, start, states_held, step};
-ghost use Rattle.pfs_engine_machine.specs.Runs.{AreAllowed, IsInOrder, IsRefusedIn, IsStopped, machine_after, outcomes_of, packets_in, taken_by};
+ghost use Rattle.pfs_engine_machine.specs.Machine.{advanced, answered, due, entries_held, expired, nodes_held, start, states_held, step, machine_after, outcomes_of};
+ghost use Rattle.pfs_engine_machine.specs.Runs.{MayCome, MayExpire, AreAllowed, IsInOrder, IsRefusedIn, IsStopped, packets_in, taken_by};
+ghost use Rattle.pfs_engine_machine.specs.Shares.{most_nodes, most_states};
 ghost use Rattle.pfs_engine_machine.specs.Visits.{AreVisits};
 
 use crate::packets::{Meters, answer};
@@ -197,7 +198,8 @@ impl<S: Store> Engine<S> {
             IsWithinShared self.old.config rule.0 packet.now.source.addr self.old.machine.held.world self.new.machine.held.world }
 
         // Memory is asked for only where a state is made, or a TCP packet is one of a rule with `overload`.
-        ensures free { IsFree self.old.config self.old.machine.held packet.now (state_with (key_of packet.now) self.old.machine.held.world) → IsOk result }
+        ensures free { IsFree self.old.config packet.now
+            (answered self.old.config self.old.machine.held packet.now (moment_of self.old.machine.last)).0 → IsOk result }
 
         ensures visits { AreVisits self.old.config self.old.machine.held packet.now (state_with (key_of packet.now) self.old.machine.held.world) self.new.work.visits }
         ensures slices { self.new.work.slices ≡ 0 }

@@ -1,21 +1,23 @@
 //! A packet of a held state: what its handshake hits, the overload table, and the states that are killed.
 
-ghost use Rattle.std.specs.Prelude.{◌≡◌, ◌≤◌, ◌<◌, ◌+◌, ◌^◌, ◌||◌, true, false, None, Some, length, option_map, IfOk, IsOk, OnErr, OnOk};
+ghost use Rattle.std.specs.Prelude.{◌≡◌, ◌≤◌, ◌<◌, ◌+◌, ◌^◌, true, false, None, Some, filter, length, option_map, IfOk, IsOk, OnErr, OnOk};
 ghost use Rattle.std.specs.Option.{ForSome, option_copied};
 ghost use Rattle.pfs_addr.specs.Keys.{key_of};
 ghost use Rattle.pfs_conf_rules.specs.Configs.{Conf, limit_of, options_at, options_of};
 ghost use Rattle.pfs_conf_rules.specs.LoadRules.{AreOptions};
 ghost use Rattle.pfs_conf_rules.specs.Bounds.{IsRate};
-ghost use Rattle.pfs_store_plain.specs.Counts.{exceeded, source_states};
-ghost use Rattle.pfs_store_plain.specs.Handshakes.{flush_of, over_rate};
+ghost use Rattle.pfs_store_plain.specs.Counts.{exceeded};
+ghost use Rattle.pfs_store_plain.specs.Calls.{source_states, state_number, state_rule};
+ghost use Rattle.pfs_store_plain.specs.Handshakes.{flush_of, goes_with, over_rate, stays_at_kill};
 ghost use Rattle.pfs_store_plain.specs.Leaving.{without};
-ghost use Rattle.pfs_store_plain.specs.Worlds.{holds_number, number_of, rule_in, state_with};
+ghost use Rattle.pfs_store_plain.specs.Worlds.{holds_number, state_with};
 ghost use Rattle.pfs_engine_machine.specs.Kept.{IsKept};
 ghost use Rattle.pfs_engine_machine.specs.Looks.{AreLooks, AreLooksOfKill, states_beside};
-ghost use Rattle.pfs_engine_machine.specs.Machine.{added_by, by_options, by_state, by_touch, killed_count, held_of, stays_at_kill, tables_by};
+ghost use Rattle.pfs_engine_machine.specs.Machine.{added_by, by_state, held_of, tables_by};
 ghost use Rattle.pfs_store_plain.specs.declared.records.State.{State};
-ghost use Rattle.pfs_engine_machine.specs.Refusals.{IsFree, is_tcp};
-ghost use Rattle.pfs_engine.specs.Rooms.{HasRoomFor, overload_at};
+ghost use Rattle.pfs_engine_machine.specs.Refusals.{IsFreeOf, is_tcp};
+ghost use Rattle.pfs_engine.specs.Packets.{by_touch};
+ghost use Rattle.pfs_engine.specs.Rooms.{HasRoomFor, rule_overload};
 
 use pfs_addr::{Addr, FlowKey, Meter, NoMemory, Packet, Proto};
 use pfs_conf_rules::{Config, LimitName, Overload, Rate, RuleNo, Scope, StateOptions};
@@ -43,7 +45,7 @@ pub(crate) fn take_packet_of_state<S: Store>(
     requires made_for { S.config store.old ≡ config.now }
     requires limit { tables.old.limit ≡ limit_of config.now LimitName.TableEntries }
     requires kept { IsKept config.now (held_of (S.world store.old) tables.old.entries) now }
-    requires held { option_map number_of (state_with (key_of packet.now) (S.world store.old)) ≡ Some number }
+    requires held { option_map state_number (state_with (key_of packet.now) (S.world store.old)) ≡ Some number }
     requires looks { looks.old ≡ 0 }
     ensures ok { IfOk result (λ o. (o, held_of (S.world store.new) tables.new.entries)
         ≡ by_state config.now (held_of (S.world store.old) tables.old.entries) packet.now now (state_with (key_of packet.now) (S.world store.old))) }
@@ -52,7 +54,7 @@ pub(crate) fn take_packet_of_state<S: Store>(
     ensures config { S.config store.new ≡ S.config store.old }
     ensures limit { tables.new.limit ≡ tables.old.limit }
     ensures free { (s : State) → state_with (key_of packet.now) (S.world store.old) ≡ Some s →
-        IsFree config.now (held_of (S.world store.old) tables.old.entries) packet.now (Some s) → IsOk result }
+        IsFreeOf config.now packet.now s.rule → IsOk result }
     ensures looks { S.counts ≡ true → IfOk result (λ o. AreLooks config.now
         (states_beside (S.world store.old) (state_with (key_of packet.now) (S.world store.old))) o looks.new) }
     ensures no_looks { S.counts ≡ true → OnErr result (looks.new ≡ 0) }
@@ -74,9 +76,9 @@ fn make_room<S: Store>(
     ensures entries { tables.new.entries ≡ tables.old.entries }
     ensures limit { tables.new.limit ≡ tables.old.limit }
     ensures room { OnOk result (is_tcp packet.now.proto ≡ true →
-        HasRoomFor tables.new (overload_at config.now (option_map rule_in (state_with (key_of packet.now) (S.world store.now))))) }
+        HasRoomFor tables.new (rule_overload config.now (option_map state_rule (state_with (key_of packet.now) (S.world store.now))))) }
     ensures other { is_tcp packet.now.proto ≡ false → IsOk result }
-    ensures none { overload_at config.now (option_map rule_in (state_with (key_of packet.now) (S.world store.now))) ≡ None → IsOk result }
+    ensures none { rule_overload config.now (option_map state_rule (state_with (key_of packet.now) (S.world store.now))) ≡ None → IsOk result }
 {
     if packet.proto() != Proto::Tcp {
         return Ok(());
@@ -89,7 +91,7 @@ fn make_room<S: Store>(
 
 // The overload of a rule that keeps state, if it has one: of a table that there is.
 fn overload(config: &Config, rule: Option<RuleNo>) -> Option<Overload>
-    ensures value { result ≡ overload_at config.now rule }
+    ensures value { result ≡ rule_overload config.now rule }
     ensures known { ForSome result (λ v. v.table.0 < length config.now.tables) }
 {
     options(config, rule?)?.overload
@@ -100,7 +102,6 @@ fn options(config: &Config, rule: RuleNo) -> Option<&StateOptions>
     ensures value { option_copied result ≡ options_at config.now rule.0 }
     ensures kept { ForSome result (λ o. AreOptions (length config.now.tables) o.now) }
 {
-    let _limit = config.limit(LimitName::States);
     config.options(rule)
 }
 
@@ -121,7 +122,7 @@ fn complete_handshake<S: Store>(
     requires looks { looks.old ≤ 1000000000 }
     requires room { touched.now.completed ≡ true → HasRoomFor tables.old (options_of config.now touched.now.rule.0).overload }
     ensures answer { (result, held_of (S.world store.new) tables.new.entries)
-        ≡ by_touch config.now (held_of (S.world store.old) tables.old.entries) number.0 now touched.now touched.now.completed }
+        ≡ by_touch config.now (held_of (S.world store.old) tables.old.entries) number.0 now touched.now }
     ensures config { S.config store.new ≡ S.config store.old }
     ensures limit { tables.new.limit ≡ tables.old.limit }
     ensures looks { S.counts ≡ true → looks.old ≡ 1 →
@@ -212,8 +213,9 @@ fn kill_with<S: Store>(
 ) -> u64
     requires held { holds_number (S.world store.old).states number.0 ≡ true }
     requires looks { looks.old ≤ 2 ^ 63 }
-    ensures answer { result ≡ killed_count (S.world store.old) flush number.0 touched.now }
-    ensures world { S.world store.new ≡ without (S.config store.old) (S.world store.old) (stays_at_kill flush number.0 touched.now) now }
+    ensures answer { result ≡ length (filter (goes_with flush number.0 touched.now.rule touched.now.source) (S.world store.old).states) }
+    ensures world { S.world store.new
+        ≡ without (S.config store.old) (S.world store.old) (stays_at_kill flush number.0 touched.now.rule touched.now.source) now }
     ensures config { S.config store.new ≡ S.config store.old }
     ensures looks { S.counts ≡ true → looks.old ≡ 1 →
         AreLooksOfKill flush result (source_states touched.now.source (S.world store.old).states) looks.new }

@@ -4,13 +4,13 @@ ghost use Rattle.std.specs.Prelude.{List, ◌≡◌, ◌≤◌, ◌<◌, ◌+◌
 ghost use Rattle.pfs_addr.specs.Keys.{key_of};
 ghost use Rattle.pfs_eval.specs.Entries.{Entry};
 ghost use Rattle.pfs_conf_rules.specs.Configs.{limit_of, options_at};
-ghost use Rattle.pfs_store_plain.specs.Admission.{limit_at};
+ghost use Rattle.pfs_store_plain.specs.Admission.{packet_limit};
 ghost use Rattle.pfs_store_plain.specs.Worlds.{state_with};
 ghost use Rattle.pfs_engine_machine.specs.Kept.{IsKept};
 ghost use Rattle.pfs_engine_machine.specs.Looks.{AreLooks, states_beside};
 ghost use Rattle.pfs_engine_machine.specs.Machine.{answered, by_action, by_limit, by_rule, decided, held_of};
-ghost use Rattle.pfs_engine_machine.specs.Refusals.{IsFree, IsFreeBy};
 ghost use Rattle.pfs_engine_machine.specs.Visits.{AreVisits};
+ghost use Rattle.pfs_engine.specs.Packets.{NeedsNone, NeedsNoneBy};
 
 use crate::handshakes::take_packet_of_state;
 use pfs_addr::{FlowKey, Meter, NoMemory, Packet};
@@ -54,7 +54,7 @@ pub(crate) fn answer<S: Store>(
     ensures limit { tables.new.limit ≡ tables.old.limit }
     ensures visits { AreVisits config.now (held_of (S.world store.old) tables.old.entries) packet.now
         (state_with (key_of packet.now) (S.world store.old)) meters.new.visits }
-    ensures free { IsFree config.now (held_of (S.world store.old) tables.old.entries) packet.now
+    ensures free { NeedsNone config.now (held_of (S.world store.old) tables.old.entries) packet.now
         (state_with (key_of packet.now) (S.world store.old)) → IsOk result }
     ensures looks { S.counts ≡ true → IfOk result (λ o. AreLooks config.now
         (states_beside (S.world store.old) (state_with (key_of packet.now) (S.world store.old))) o meters.new.looks) }
@@ -96,7 +96,7 @@ fn by_rules<S: Store>(
     ensures world { OnErr result (S.world store.new ≡ S.world store.old) }
     ensures config { S.config store.new ≡ S.config store.old }
     ensures visits { AreVisits config.now (held_of (S.world store.old) tables.now.entries) packet.now None visits.new }
-    ensures free { IsFree config.now (held_of (S.world store.old) tables.now.entries) packet.now None → IsOk result }
+    ensures free { NeedsNone config.now (held_of (S.world store.old) tables.now.entries) packet.now None → IsOk result }
     ensures no_looks { IfOk result (λ o. AreLooks config.now 0 o 0) }
 {
     match book.decide(tables, packet, visits) {
@@ -121,7 +121,7 @@ fn by_action<S: Store>(
     ensures world { OnErr result (S.world store.new ≡ S.world store.old) }
     ensures config { S.config store.new ≡ S.config store.old }
     ensures free { (tables : List (List Entry)) →
-        IsFreeBy config.now (held_of (S.world store.old) tables) packet.now (Some rule.0) → IsOk result }
+        NeedsNoneBy config.now (held_of (S.world store.old) tables) packet.now (Some rule.0) → IsOk result }
     ensures no_looks { IfOk result (λ o. AreLooks config.now 0 o 0) }
 {
     let Some(found) = config.rule(rule) else {

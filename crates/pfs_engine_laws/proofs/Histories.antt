@@ -1,5 +1,5 @@
 -- Every act of a run leaves the score of a source's node with the future of its history's, so that the two laws of rates hold.
-use Rattle.std.proofs.Common.{◌≡◌, ℕ, suc, zero, ◌+◌, ◌-◌, ◌*◌, ◌<◌, ◌≤◌, Bool, true, false, nat_lt, ◌&&◌, ◌||◌, cond, ◌==◌, List, [], ◌∷◌, ◌++◌, filter, map, take, Option, Some, None, refl, ap, ◌∙◌, sym, subst, arith}
+use Rattle.std.proofs.Common.{◌≡◌, ℕ, suc, zero, ◌+◌, ◌-◌, ◌*◌, ◌<◌, ◌≤◌, Bool, true, false, nat_lt, ◌&&◌, ◌||◌, cond, if◌then◌else◌, ◌==◌, List, [], ◌∷◌, ◌++◌, filter, map, take, Option, Some, None, refl, ap, ◌∙◌, sym, subst, arith}
 use Rattle.std.specs.Option.{ForSome}
 use Rattle.std.specs.List.{range_with_len}
 use Rattle.std.specs.Prelude.{length, option_map, slice_get}
@@ -12,28 +12,27 @@ use Rattle.pfs_addr.specs.Sameness.{same_addr}
 use Rattle.pfs_addr.specs.declared.addresses.Addr.{Addr}
 use Rattle.pfs_conf_rules.specs.Configs.{Conf, options_of, rate_seconds}
 use Rattle.pfs_conf_rules.specs.Invariants.{IsConfig}
-use Rattle.pfs_conf_rules.specs.declared.actions.Overload.{Overload}
 use Rattle.pfs_conf_rules.specs.declared.actions.Rate.{Rate}
 use Rattle.pfs_store_plain.specs.Admission.{admitted, new_node, new_state, nodes_with}
 use Rattle.pfs_store_plain.specs.Counts.{has_node, is_node, is_of_node, node_scope_of, node_states, same_scope}
 use Rattle.pfs_store_plain.specs.Handshakes.{hits_connections, hits_rate, over_rate}
 use Rattle.pfs_store_plain.specs.Leaving.{without}
 use Rattle.pfs_store_plain.specs.Purging.{node_round, node_share, purge, state_round, state_share, state_slice, stays}
-use Rattle.pfs_store_plain.specs.Touching.{completes_at, node_score, nodes_scored, nodes_touched, score_in, touch_of, touched}
+use Rattle.pfs_store_plain.specs.Touching.{completes_at, node_score, nodes_scored, nodes_touched, score_in, touched}
 use Rattle.pfs_store_plain.specs.Worlds.{World, state_with}
 use Rattle.pfs_store_plain.specs.declared.records.Node.{Node}
 use Rattle.pfs_store_plain.specs.declared.records.NodeScope.{NodeScope}
 use Rattle.pfs_store_plain.specs.declared.records.State.{State}
-use Rattle.pfs_store_plain.specs.declared.records.Touched.{Touched}
 use Rattle.pfs_track.specs.Scores.{score_after, zero_score}
 use Rattle.pfs_track.specs.declared.scores.Score.{Score}
 use Rattle.pfs_engine_machine.proofs.Counts.{any-push, count-filter_le, count-push}
 use Rattle.pfs_engine_machine.proofs.Scopes.{same_scope_self, same_scope_true}
 use Rattle.pfs_engine_machine.specs.Kept.{moment_of, own_scope}
-use Rattle.pfs_engine_machine.specs.Machine.{Held, Machine, acted, advanced, answered, by_hit, by_state, by_touch, due, first_by, held_of, purged, start, step}
+use Rattle.pfs_engine_machine.specs.Machine.{Held, Machine, taken, advanced, answered, killed, by_state, by_handshake, due, first_by, held_of, purged, start, step, machine_after, outcomes_of}
 use Rattle.pfs_engine_machine.specs.Rates.{Handshake, completed_by, folded, handshake_at, handshake_by, handshakes, history_score, is_from, moments_of, with_handshake}
-use Rattle.pfs_engine_machine.specs.Runs.{IsInOrder, machine_after, outcomes_of}
+use Rattle.pfs_engine_machine.specs.Runs.{IsInOrder}
 use Rattle.pfs_engine_machine.specs.declared.events.Event.{Event}
+use Rattle.pfs_engine_machine.specs.declared.events.Outcome.TheVariants as outcome
 use Rattle.pfs_engine_machine.specs.declared.events.What.{What}
 use Rattle.pfs_engine_machine.specs.declared.events.What.TheVariants as what
 use Rattle.pfs_engine_laws.proofs.Changes.{Changes, answered_has}
@@ -207,7 +206,7 @@ due-in conf rule source x history i w (Some last) now h r =
 
 acted-in : (conf : Conf) (rule : ℕ) (source : Addr) (x : Rate) (first now : ℕ) (history : Score) (h : Held) → IsRated conf rule x → (what : What)
     → RemembersIn conf rule source x.seconds now history h.world
-    → RemembersIn conf rule source x.seconds now (heard rule source x.seconds history now (handshake_by h.world what)) (acted conf h first now what).1.world
+    → RemembersIn conf rule source x.seconds now (heard rule source x.seconds history now (handshake_by h.world what)) (taken conf h first now what).1.world
 acted-in conf rule source x first now history h i what.Skip r = r
 acted-in conf rule source x first now history h i (what.Expire table seconds) r = r
 acted-in conf rule source x first now history h i (what.Packet p) r =
@@ -292,7 +291,7 @@ own-handshake s = rw (one s.rule.0, same_addr_self s.source) refl
 
 -- the score that is compared with the limit
 score-in : (conf : Conf) (x : Rate) (now : ℕ) (history : Score) (w : World) (p : Header) (s : State) → IsRated conf s.rule.0 x → state_with (key_of p) w ≡ Some s
-    → completes_at p s ≡ true → RemembersIn conf s.rule.0 s.source x.seconds now history w → (touch_of conf w p now s).score ≡ score_after x.seconds history now
+    → completes_at p s ≡ true → RemembersIn conf s.rule.0 s.source x.seconds now history w → score_in s.source (touched conf w s p now).nodes (node_scope_of conf s.rule.0) ≡ score_after x.seconds history now
 score-in conf x now history w p s i found done r =
     let some : 0 < node_states conf (own_scope s.rule.0) s.source w.states = found-count conf s.rule.0 s.source p w s found (own-handshake s) in
     ap (λ (b : Bool). score_in s.source (nodes_touched conf w.nodes s now b) (node_scope_of conf s.rule.0)) done
@@ -301,22 +300,22 @@ score-in conf x now history w p s i found done r =
     ∙ score-this s.rule.0 s.source x.seconds now history (node_states conf (own_scope s.rule.0) s.source w.states) w.nodes r.nodes (r.noded some)
 
 -- the outcome tells whether the score is over the limit
-rate-hit : (conf : Conf) (h : Held) (number now : ℕ) (t : Touched) (o : Option Overload) (conn rate : Bool) → rate_hit (by_hit conf h number now t o conn rate (conn || rate)).0 ≡ rate
-rate-hit conf h number now t o true rate = refl
-rate-hit conf h number now t o false true = refl
-rate-hit conf h number now t o false false = refl
+rate-hit : (conf : Conf) (h : Held) (s : State) (now : ℕ) (conn rate : Bool)
+    → rate_hit (if conn || rate then killed conf h s.number s.rule s.source now conn rate else (outcome.State s.rule, h)).0 ≡ rate
+rate-hit conf h s now true rate = refl
+rate-hit conf h s now false true = refl
+rate-hit conf h s now false false = refl
 
 hit-in : (conf : Conf) (x : Rate) (now : ℕ) (h : Held) (p : Header) (s : State) → IsRated conf s.rule.0 x → completed_by p (state_with (key_of p) h.world) ≡ Some s
-    → rate_hit (answered conf h p now).0 ≡ nat_lt (1000 * x.limit) (touch_of conf h.world p now s).score.value
+    → rate_hit (answered conf h p now).0 ≡ nat_lt (1000 * x.limit) (score_in s.source (touched conf h.world s p now).nodes (node_scope_of conf s.rule.0)).value
 hit-in conf x now h p s i e =
     let q = completed-is p (state_with (key_of p) h.world) s e in
     let v : Held = held_of (touched conf h.world s p now) h.tables in
-    let t : Touched = touch_of conf h.world p now s in
-    let o = options_of conf s.rule.0 in
+    let score : Score = score_in s.source v.world.nodes (node_scope_of conf s.rule.0) in
     ap (λ (found : Option State). rate_hit (by_state conf h p now found).0) q.0
-    ∙ ap (λ (b : Bool). rate_hit (by_touch conf v s.number now t b).0) q.1
-    ∙ rate-hit conf v s.number now t o.overload (hits_connections o t) (hits_rate o t)
-    ∙ ap (λ (r : Option Rate). over_rate r t.score.value) i.is
+    ∙ ap (λ (b : Bool). rate_hit (by_handshake conf v s now b).0) q.1
+    ∙ rate-hit conf v s now (hits_connections conf v.world s) (hits_rate conf v.world s)
+    ∙ ap (λ (r : Option Rate). over_rate r score.value) i.is
 
 score-at : (conf : Conf) (x : Rate) (now : ℕ) (history : Score) (w : World) (what : What) (s : State) → IsRated conf s.rule.0 x → handshake_by w what ≡ Some s
     → RemembersIn conf s.rule.0 s.source x.seconds now history w → score_compared conf w now what s ≡ score_after x.seconds history now
@@ -326,7 +325,7 @@ score-at conf x now history w (what.Packet p) s i e r =
     let q = completed-is p (state_with (key_of p) w) s e in score-in conf x now history w p s i q.0 q.1 r
 
 hit-at : (conf : Conf) (x : Rate) (first now : ℕ) (h : Held) (what : What) (s : State) → IsRated conf s.rule.0 x → handshake_by h.world what ≡ Some s
-    → rate_hit (acted conf h first now what).0 ≡ nat_lt (1000 * x.limit) (score_compared conf h.world now what s).value
+    → rate_hit (taken conf h first now what).0 ≡ nat_lt (1000 * x.limit) (score_compared conf h.world now what s).value
 hit-at conf x first now h what.Skip s i e = cc
 hit-at conf x first now h (what.Expire table seconds) s i e = cc
 hit-at conf x first now h (what.Packet p) s i e = hit-in conf x now h p s i e

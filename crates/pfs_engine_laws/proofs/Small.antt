@@ -1,5 +1,5 @@
 -- What is held is few, and its numbers are those that were made: for every list of acts, in whatever order their moments come.
-use Rattle.std.proofs.Common.{◌≡◌, ℕ, ◌+◌, ◌≤◌, Bool, true, false, nat_le, cond, List, [], ◌∷◌, ◌++◌, length, filter, take, drop, Option, Some, None, refl, arith, length-drop, length-append}
+use Rattle.std.proofs.Common.{◌≡◌, ℕ, ◌+◌, ◌≤◌, Bool, true, false, nat_le, cond, List, [], ◌∷◌, ◌++◌, length, filter, take, drop, Option, Some, None, refl, sym, ◌∙◌, arith, length-drop, length-append}
 use Rattle.std.proofs.lemmas.Bool.{false≢true}
 use Rattle.std.proofs.lemmas.Bool.Decides.{nat_tests}
 use Rattle.std.proofs.lemmas.List.{length-map}
@@ -8,7 +8,9 @@ use Rattle.pfs_addr.specs.declared.addresses.Addr.{Addr}
 use Rattle.pfs_conf_rules.specs.Configs.{Conf, limit_of, options_of}
 use Rattle.pfs_conf_rules.specs.declared.actions.Rate.{Rate}
 use Rattle.pfs_conf_rules.specs.declared.limits.LimitName.TheVariants as limit_name
-use Rattle.pfs_store_plain.specs.Admission.{admitted, first_of, held_node_limit, limit_at, new_node, new_node_limit, new_state, nodes_with, source_limit}
+use Rattle.pfs_store_plain.proofs.LimitLaws.{met_in_turn}
+use Rattle.pfs_store_plain.specs.Admission.{admitted, packet_limit, new_node, new_state, nodes_with}
+use Rattle.pfs_store_plain.specs.SourceLimits.{first_of, held_node_limit, new_node_limit, source_limit}
 use Rattle.pfs_store_plain.specs.Counts.{has_node, node_scope_of, reached, rule_states, scope_nodes}
 use Rattle.pfs_store_plain.specs.Leaving.{idled, left, without}
 use Rattle.pfs_store_plain.specs.Purging.{is_among, node_numbers, node_round, node_share, node_slice, node_stays, round, state_numbers, state_round, state_share, state_slice, stays}
@@ -82,10 +84,10 @@ made-admitted nodes made source (Some scope) h n k = go (has_node scope source n
     go true e = omega (arith, h n e)
     go false e = made-more (λ (d : Node). d.number) made nodes new refl h n e
 
-small-admitted : (conf : Conf) (w : World) (p : Header) (rule now : ℕ) → limit_at conf w p rule ≡ None → IsSmall conf w → IsSmall conf (admitted conf w p rule now)
+small-admitted : (conf : Conf) (w : World) (p : Header) (rule now : ℕ) → packet_limit conf w p rule ≡ None → IsSmall conf w → IsSmall conf (admitted conf w p rule now)
 small-admitted conf w p rule now e k =
     let new : State = new_state (w.made + 1) p rule now in
-    let a = none_of (cond (reached (options_of conf rule).max (rule_states rule w.states)) (Some limit.Max) None) _ e in
+    let a = none_of (cond (reached (options_of conf rule).max (rule_states rule w.states)) (Some limit.Max) None) _ (sym (met_in_turn conf w rule p.source.addr) ∙ e) in
     let b = none_of (source_limit conf w (options_of conf rule) p.source.addr (node_scope_of conf rule)) (cond (nat_le (state_limit conf) (length w.states)) (Some limit.States) None) a.1 in
     record {
       states = omega (arith, length-append w.states (new ∷ []), room (state_limit conf) (length w.states) limit.States b.1);

@@ -3,14 +3,14 @@
 use Rattle.std.specs.Prelude.{◌≡◌, ℕ, ◌*◌, nat_lt, length, option_map, slice_get, Bool, false, Some, List, [], ◌∷◌, ◌++◌}
 use Rattle.pfs_conf_rules.specs.Configs.{Conf, options_of}
 use Rattle.pfs_conf_rules.specs.declared.actions.Rate.{Rate}
-use Rattle.pfs_store_plain.specs.Touching.{touch_of}
+use Rattle.pfs_store_plain.specs.Counts.{node_scope_of}
+use Rattle.pfs_store_plain.specs.Touching.{score_in, touched}
 use Rattle.pfs_store_plain.specs.Worlds.{World}
 use Rattle.pfs_store_plain.specs.declared.records.State.{State}
 use Rattle.pfs_track.specs.Scores.{zero_score}
 use Rattle.pfs_track.specs.declared.scores.Score.{Score}
-use Rattle.pfs_engine_machine.specs.Machine.{advanced, start}
+use Rattle.pfs_engine_machine.specs.Machine.{advanced, start, machine_after, outcomes_of}
 use Rattle.pfs_engine_machine.specs.Rates.{handshake_at, history_score}
-use Rattle.pfs_engine_machine.specs.Runs.{machine_after, outcomes_of}
 use Rattle.pfs_engine_machine.specs.declared.events.Event.{Event}
 use Rattle.pfs_engine_machine.specs.declared.events.Outcome.{Outcome}
 use Rattle.pfs_engine_machine.specs.declared.events.Outcome.TheVariants as outcome
@@ -26,7 +26,7 @@ pub record IsHandshake (conf : Conf) (events before : List Event) (e : Event) (s
 -- the score that is compared with the limit where a packet completes the handshake of a state: that of its node, with this handshake
 abbrev pub score_compared : Conf → World → ℕ → What → State → Score
 score_compared conf w now what.Skip s = zero_score
-score_compared conf w now (what.Packet p) s = (touch_of conf w p now s).score
+score_compared conf w now (what.Packet p) s = score_in s.source (touched conf w s p now).nodes (node_scope_of conf s.rule.0)
 score_compared conf w now (what.Expire table seconds) s = zero_score
 
 -- at each handshake of a rule with a rate, that score is the one of the whole history of its source's handshakes

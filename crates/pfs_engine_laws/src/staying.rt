@@ -3,8 +3,8 @@
 ghost use Rattle.std.specs.Prelude.{◌≡◌, None};
 ghost use Rattle.pfs_engine_laws.specs.Acts.{StaysWithinLimits, acts_of, after};
 ghost use Rattle.pfs_engine_laws.specs.Staleness.{NodesGo, StatesGo};
-ghost use Rattle.pfs_engine_machine.specs.Machine.{start};
-ghost use Rattle.pfs_engine_machine.specs.Runs.{IsInOrder, machine_after};
+ghost use Rattle.pfs_engine_machine.specs.Machine.{start, machine_after};
+ghost use Rattle.pfs_engine_machine.specs.Runs.{IsInOrder};
 
 use pfs_conf_rules::{Config, LimitName};
 use pfs_engine_machine::Event;

@@ -1,5 +1,5 @@
 -- What may come of a packet: it is one of a held state, or passes, or is blocked, or its state is refused, or made.
-use Rattle.std.proofs.Common.{◌≡◌, ℕ, Bool, true, false, Option, None, Some, IsSome, Result, Ok, Err, IfOk, ap, refl, sym, ◌∙◌, unwrap_or}
+use Rattle.std.proofs.Common.{◌≡◌, ◌&&◌, ◌||◌, ℕ, Bool, true, false, if◌then◌else◌, Option, None, Some, IsSome, Result, Ok, Err, IfOk, ap, refl, sym, ◌∙◌, unwrap_or}
 use Rattle.std.proofs.lemmas.Bool.{false≢true}
 use Rattle.std.specs.Option.{option_and_then}
 use Rattle.pfs_addr.specs.Keys.{key_of}
@@ -8,18 +8,18 @@ use Rattle.pfs_conf_rules.specs.Configs.{Conf, no_rule, options_at, options_in, 
 use Rattle.pfs_conf_rules.specs.Invariants.{IsConfig}
 use Rattle.pfs_conf_rules.specs.declared.actions.Action.{Action}
 use Rattle.pfs_conf_rules.specs.declared.actions.Action.TheVariants as action
-use Rattle.pfs_conf_rules.specs.declared.actions.Overload.{Overload}
 use Rattle.pfs_conf_rules.specs.declared.actions.Scope.TheVariants as scope
 use Rattle.pfs_conf_rules.specs.declared.actions.StateOptions.{StateOptions}
 use Rattle.pfs_conf_rules.specs.declared.items.Rule.{Rule}
 use Rattle.pfs_conf_rules.specs.declared.items.RuleNo.{RuleNo}
-use Rattle.pfs_store_plain.specs.Admission.{admitted, limit_at}
+use Rattle.pfs_store_plain.specs.Admission.{admitted, packet_limit}
+use Rattle.pfs_store_plain.specs.Handshakes.{hits_connections, hits_rate}
+use Rattle.pfs_store_plain.specs.Touching.{completes_at, touched}
 use Rattle.pfs_store_plain.specs.Worlds.{state_with}
 use Rattle.pfs_store_plain.specs.declared.records.Limit.{Limit}
 use Rattle.pfs_store_plain.specs.declared.records.State.{State}
-use Rattle.pfs_store_plain.specs.declared.records.Touched.{Touched}
 use Rattle.pfs_engine_machine.specs.Kept.{IsKept, IsWithinShared}
-use Rattle.pfs_engine_machine.specs.Machine.{Held, answered, by_action, by_hit, by_limit, by_rule, by_state, by_touch, decided, held_of}
+use Rattle.pfs_engine_machine.specs.Machine.{Held, answered, by_action, killed, by_limit, by_rule, by_state, by_handshake, decided, held_of}
 use Rattle.pfs_engine_machine.specs.Refusals.{IsRefused}
 use Rattle.pfs_engine_machine.specs.declared.events.Outcome.{Outcome}
 use Rattle.pfs_engine_machine.specs.declared.events.Outcome.TheVariants as outcome
@@ -32,7 +32,7 @@ pub record Answers (conf : Conf) (m : Held) (p : Header) (now : ℕ) (Q : Outcom
   pub passed : (rule : ℕ) → Q (outcome.Pass (Some (record { 0 = rule })), m)
   pub blocked : (rule : ℕ) → Q (outcome.Block (record { 0 = rule }), m)
   pub refused : (rule : ℕ) (limit : Limit) → IsRefused conf m p rule limit → Q (outcome.Drop (record { 0 = rule }) limit, m)
-  pub made : (rule : ℕ) → limit_at conf m.world p rule ≡ None
+  pub made : (rule : ℕ) → packet_limit conf m.world p rule ≡ None
       → Q (outcome.New (record { 0 = rule }), held_of (admitted conf m.world p rule now) m.tables)
 
 keeps_state : (found : Option Rule) (o : StateOptions) → (unwrap_or found no_rule).action ≡ action.Keep o
@@ -42,7 +42,7 @@ keeps_state (Some r) o e = rw e refl
 
 limit_answers : (conf : Conf) (m : Held) (p : Header) (now rule : ℕ) (Q : Outcome × Held → Type 0) → Answers conf m p now Q
     → state_with (key_of p) m.world ≡ None → decided conf m p ≡ Some rule → IsSome (options_at conf rule)
-    → (limit : Option Limit) → limit_at conf m.world p rule ≡ limit → Q (by_limit conf m p now rule limit)
+    → (limit : Option Limit) → packet_limit conf m.world p rule ≡ limit → Q (by_limit conf m p now rule limit)
 limit_answers conf m p now rule Q a fresh at keeps None e = a.made rule e
 limit_answers conf m p now rule Q a fresh at keeps (Some l) e = a.refused rule l (record { fresh = fresh; rule_is = at; keeps = keeps; met = e })
 
@@ -52,7 +52,7 @@ action_answers : (conf : Conf) (m : Held) (p : Header) (now rule : ℕ) (Q : Out
 action_answers conf m p now rule Q a fresh at action.Block e = a.blocked rule
 action_answers conf m p now rule Q a fresh at action.Pass e = a.passed rule
 action_answers conf m p now rule Q a fresh at (action.Keep o) e =
-    limit_answers conf m p now rule Q a fresh at (keeps_state (rule_at conf rule) o e) (limit_at conf m.world p rule) refl
+    limit_answers conf m p now rule Q a fresh at (keeps_state (rule_at conf rule) o e) (packet_limit conf m.world p rule) refl
 
 rule_answers : (conf : Conf) (m : Held) (p : Header) (now : ℕ) (Q : Outcome × Held → Type 0) → Answers conf m p now Q
     → state_with (key_of p) m.world ≡ None → (rule : Option ℕ) → decided conf m p ≡ rule → Q (by_rule conf m p now rule)
@@ -79,14 +79,15 @@ is_of_held (outcome.Kill r c h o k) = true
 is_of_held outcome.Skip = false
 is_of_held (outcome.Expire n) = false
 
-hit_held : (conf : Conf) (m : Held) (number now : ℕ) (t : Touched) (o : Option Overload) (conn rate hit : Bool)
-    → is_of_held (by_hit conf m number now t o conn rate hit).0 ≡ true
-hit_held conf m number now t o conn rate false = refl
-hit_held conf m number now t o conn rate true = refl
+handshake_held : (conf : Conf) (m : Held) (s : State) (now : ℕ) (completes : Bool) → is_of_held (by_handshake conf m s now completes).0 ≡ true
+handshake_held conf m s now completes = by (completes && (hits_connections conf m.world s || hits_rate conf m.world s))
+  where
+    by : (hit : Bool) → is_of_held (if hit then killed conf m s.number s.rule s.source now (hits_connections conf m.world s) (hits_rate conf m.world s) else (outcome.State s.rule, m)).0 ≡ true
+    by true = refl
+    by false = refl
 
-touch_held : (conf : Conf) (m : Held) (number now : ℕ) (t : Touched) (done : Bool) → is_of_held (by_touch conf m number now t done).0 ≡ true
-touch_held conf m number now t false = refl
-touch_held conf m number now t true = hit_held conf m number now t _ _ _ _
+state_held : (conf : Conf) (m : Held) (p : Header) (now : ℕ) (s : State) → is_of_held (by_state conf m p now (Some s)).0 ≡ true
+state_held conf m p now s = handshake_held conf (held_of (touched conf m.world s p now) m.tables) s now (completes_at p s)
 
 -- ---- a state that is refused, and one that is made with shared nodes
 
@@ -98,7 +99,7 @@ RefusedOnly conf m p a = (rule : RuleNo) (limit : Limit) → a.0 ≡ outcome.Dro
 
 pub refused_only : (conf : Conf) (m : Held) (p : Header) (now : ℕ) → RefusedOnly conf m p (answered conf m p now)
 refused_only conf m p now = answered_has conf m p now (RefusedOnly conf m p) (record {
-  held = λ s found rule limit e. absurd (false≢true (sym (ap is_of_held e) ∙ touch_held conf _ _ now _ _));
+  held = λ s found rule limit e. absurd (false≢true (sym (ap is_of_held e) ∙ state_held conf m p now s));
   passes = λ rule limit e. cc;
   passed = λ r rule limit e. cc;
   blocked = λ r rule limit e. cc;
@@ -115,7 +116,7 @@ MadeShared conf m p a = (rule : RuleNo) → a.0 ≡ outcome.New rule → scope_o
 
 pub made_shared : (conf : Conf) (m : Held) (p : Header) (now : ℕ) → IsConfig conf → IsKept conf m now → MadeShared conf m p (answered conf m p now)
 made_shared conf m p now config kept = answered_has conf m p now (MadeShared conf m p) (record {
-  held = λ s found rule e. absurd (false≢true (sym (ap is_of_held e) ∙ touch_held conf _ _ now _ _));
+  held = λ s found rule e. absurd (false≢true (sym (ap is_of_held e) ∙ state_held conf m p now s));
   passes = λ rule e. cc;
   passed = λ r rule e. cc;
   blocked = λ r rule e. cc;

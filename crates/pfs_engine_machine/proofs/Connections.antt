@@ -9,15 +9,14 @@ use Rattle.pfs_addr.specs.declared.addresses.Addr.{Addr}
 use Rattle.pfs_conf_rules.specs.Configs.{Conf, options_of, scope_of}
 use Rattle.pfs_conf_rules.specs.declared.actions.Scope.{Scope}
 use Rattle.pfs_conf_rules.specs.declared.actions.Scope.TheVariants as scope
-use Rattle.pfs_store_plain.specs.Counts.{exceeded, is_connection, is_of_node, node_connections, node_scope_by}
-use Rattle.pfs_store_plain.specs.Handshakes.{goes_with, hits_connections}
-use Rattle.pfs_store_plain.specs.Touching.{completes_at, connections_in, goes_forward, renewed, stepped, touch_of}
+use Rattle.pfs_store_plain.specs.Counts.{node_scope_of, exceeded, is_connection, is_of_node, node_connections, node_scope_by}
+use Rattle.pfs_store_plain.specs.Handshakes.{goes_with, hits_connections, stays_at_kill}
+use Rattle.pfs_store_plain.specs.Touching.{completes_at, connections_in, goes_forward, renewed, stepped, touched}
 use Rattle.pfs_store_plain.specs.Worlds.{World}
 use Rattle.pfs_store_plain.specs.declared.records.NodeScope.{NodeScope}
 use Rattle.pfs_store_plain.specs.declared.records.State.{State}
 use Rattle.pfs_track.specs.StatePhases.{is_done, phase_after}
 use Rattle.pfs_engine_machine.specs.Kept.{IsWithin, TracksAlone, own_scope}
-use Rattle.pfs_engine_machine.specs.Machine.{stays_at_kill}
 use Rattle.pfs_engine_machine.proofs.Changes.{count-map_at, count-stay_le}
 use Rattle.pfs_engine_machine.proofs.Renewals.{is_done-same}
 
@@ -63,15 +62,15 @@ not_exceeded : (most : Option ℕ) (count : ℕ) → exceeded most count ≡ fal
 not_exceeded None count e = λ n is. cc
 not_exceeded (Some m) count e = λ n is. let same : m ≡ n = cc in omega (arith, ltb-false m count e, same)
 
--- the connections that are told are those of the rule's own node
+-- the connections that count are those of the rule's own node
 told-connections : (conf : Conf) (w : World) (p : Header) (now : ℕ) (s : State) → TracksAlone conf s.rule.0
-    → (touch_of conf w p now s).connections ≡ node_connections conf (own_scope s.rule.0) s.source (map (renewed s.number p now) w.states)
+    → connections_in conf s.source (map (renewed s.number p now) w.states) (node_scope_of conf s.rule.0) ≡ node_connections conf (own_scope s.rule.0) s.source (map (renewed s.number p now) w.states)
 told-connections conf w p now s alone =
     ap (λ (sc : Option Scope). connections_in conf s.source (map (renewed s.number p now) w.states) (node_scope_by s.rule.0 sc)) alone
 
 pub connections-within : (conf : Conf) (w : World) (p : Header) (now : ℕ) (s : State) (rule : ℕ) (source : Addr)
     → TracksAlone conf rule → is_of_node conf (own_scope rule) source s ≡ true
-    → hits_connections (options_of conf s.rule.0) (touch_of conf w p now s) ≡ false
+    → hits_connections conf (touched conf w s p now) s ≡ false
     → IsWithin (options_of conf rule).max_src_conn (node_connections conf (own_scope rule) source (map (renewed s.number p now) w.states))
 connections-within conf w p now s rule source alone own few =
     let parts = and_parts (s.rule.0 == rule) (same_addr s.source source) own in
@@ -89,7 +88,7 @@ connections-within conf w p now s rule source alone own few =
 
 -- the state of the packet is killed in any case
 stepped-goes : (conf : Conf) (w : World) (p : Header) (now : ℕ) (s : State) (flush : Option Scope)
-    → goes_with flush s.number (touch_of conf w p now s) (stepped p now s) ≡ true
+    → goes_with flush s.number s.rule s.source (stepped p now s) ≡ true
 stepped-goes conf w p now s None = eq-eqb s.number s.number refl
 stepped-goes conf w p now s (Some scope.Rule) =
     and_from (s.rule.0 == s.rule.0) (same_addr s.source s.source) (eq-eqb s.rule.0 s.rule.0 refl) (same_addr_self s.source)
@@ -98,7 +97,7 @@ stepped-goes conf w p now s (Some scope.Global) = same_addr_self s.source
 -- so those that stay are as before, and no node has more connections
 pub connections-killed : (conf : Conf) (w : World) (p : Header) (now : ℕ) (s : State) (flush : Option Scope) (sc : NodeScope) (source : Addr)
     → IsAlone s w.states
-    → node_connections conf sc source (filter (stays_at_kill flush s.number (touch_of conf w p now s)) (map (renewed s.number p now) w.states))
+    → node_connections conf sc source (filter (stays_at_kill flush s.number s.rule s.source) (map (renewed s.number p now) w.states))
     ≤ node_connections conf sc source w.states
 connections-killed conf w p now s flush sc source alone =
     count-stay_le (is_connection conf sc source) stays (renewed s.number p now) w.states
@@ -107,7 +106,7 @@ connections-killed conf w p now s flush sc source alone =
     w.states alone)
   where
     stays : State → Bool
-    stays = stays_at_kill flush s.number (touch_of conf w p now s)
+    stays = stays_at_kill flush s.number s.rule s.source
 
     gone : stays (stepped p now s) ≡ false
     gone = ap not (stepped-goes conf w p now s flush)

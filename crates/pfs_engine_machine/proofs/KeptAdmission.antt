@@ -16,8 +16,10 @@ use Rattle.pfs_conf_rules.specs.declared.actions.Scope.{Scope}
 use Rattle.pfs_conf_rules.specs.declared.actions.Scope.TheVariants as scope
 use Rattle.pfs_conf_rules.specs.declared.actions.StateOptions.{StateOptions}
 use Rattle.pfs_conf_rules.specs.declared.limits.LimitName.TheVariants as limit_name
+use Rattle.pfs_store_plain.proofs.LimitLaws.{met_in_turn}
 use Rattle.pfs_store_plain.proofs.MomentLaws.{world_at-up_to_now}
-use Rattle.pfs_store_plain.specs.Admission.{admitted, first_of, held_node_limit, limit_at, limit_met, new_node, new_node_limit, new_state, nodes_with, source_limit}
+use Rattle.pfs_store_plain.specs.Admission.{admitted, packet_limit, limit_met, new_node, new_state, nodes_with}
+use Rattle.pfs_store_plain.specs.SourceLimits.{first_of, held_node_limit, new_node_limit, source_limit}
 use Rattle.pfs_store_plain.specs.Counts.{has_node, is_connection, is_node, is_of_node, is_of_rule, node_connections, node_scope_by, node_scope_of, node_states, reached, rule_states, same_scope, scope_nodes}
 use Rattle.pfs_store_plain.specs.Worlds.{World}
 use Rattle.pfs_store_plain.specs.declared.records.Limit.{Limit}
@@ -57,7 +59,7 @@ meets_none conf w rule source h =
     let most = if reached (options_of conf rule).max (rule_states rule w.states) then Some limit.Max else None in
     let sources = source_limit conf w (options_of conf rule) source (node_scope_of conf rule) in
     let all = if nat_le (limit_of conf limit_name.States) (length w.states) then Some limit.States else None in
-    let outer = first_none most (first_of sources all) h in
+    let outer = first_none most (first_of sources all) (sym (met_in_turn conf w rule source) ∙ h) in
     let inner = first_none sources all outer.1 in
     let free = none_where (nat_le (limit_of conf limit_name.States) (length w.states)) limit.States inner.1 in
     record {
@@ -257,7 +259,7 @@ phase_first (proto.Other n) = tt
 -- ---- what is kept
 
 pub kept_admitted : (conf : Conf) (m : Held) (p : Header) (rule now : ℕ) → IsConfig conf
-    → limit_at conf m.world p rule ≡ None → IsKept conf m now
+    → packet_limit conf m.world p rule ≡ None → IsKept conf m now
     → IsKept conf (held_of (admitted conf m.world p rule now) m.tables) now
 kept_admitted conf m p rule now sound met k =
     let w = m.world in
@@ -285,7 +287,7 @@ kept_admitted conf m p rule now sound met k =
 
 -- directly after it, the maxima of a rule with shared nodes hold too
 pub shared_admitted : (conf : Conf) (m : Held) (p : Header) (rule now : ℕ) → IsConfig conf
-    → limit_at conf m.world p rule ≡ None → scope_of conf rule ≡ Some scope.Global → IsKept conf m now
+    → packet_limit conf m.world p rule ≡ None → scope_of conf rule ≡ Some scope.Global → IsKept conf m now
     → IsWithinShared conf rule p.source.addr m.world (admitted conf m.world p rule now)
 shared_admitted conf m p rule now sound met shared k =
     let w = m.world in

@@ -1,5 +1,5 @@
 -- A packet of a held state keeps what a machine keeps: it is within `max-src-conn`, or states are killed for it.
-use Rattle.std.proofs.Common.{◌≡◌, ◌≤◌, ◌||◌, ◌==◌, eq-eqb, ◌⊎◌, inl, inr, ℕ, Bool, true, false, Option, None, Some, List, All, filter, length, map, refl, ap, sym, ◌∙◌, arith}
+use Rattle.std.proofs.Common.{◌≡◌, ◌≤◌, ◌&&◌, ◌||◌, ◌==◌, eq-eqb, ◌⊎◌, inl, inr, ℕ, Bool, true, false, if◌then◌else◌, Option, None, Some, List, All, filter, length, map, refl, ap, sym, ◌∙◌, arith}
 use Rattle.std.proofs.lemmas.List.{length-map}
 use Rattle.std.proofs.lemmas.List.Elements.{All-filter, All-map, All-weaker}
 use Rattle.pfs_addr.proofs.SameLaws.{same_key_true}
@@ -12,21 +12,22 @@ use Rattle.pfs_eval.specs.Entries.{Entry}
 use Rattle.pfs_eval.specs.Tables.{added_to, entry_count}
 use Rattle.pfs_conf_rules.specs.Configs.{Conf, limit_of, options_of}
 use Rattle.pfs_conf_rules.specs.declared.actions.Overload.{Overload}
+use Rattle.pfs_conf_rules.specs.declared.actions.Scope.{Scope}
 use Rattle.pfs_conf_rules.specs.declared.items.RuleNo.{RuleNo}
 use Rattle.pfs_conf_rules.specs.declared.limits.LimitName.TheVariants as limit_name
 use Rattle.pfs_store_plain.proofs.MomentLaws.{left-up_to_now, world_touched-up_to_now}
 use Rattle.pfs_store_plain.specs.Counts.{has_node, is_of_node, is_of_rule, node_connections, node_scope_of, node_states, rule_states, scope_nodes}
-use Rattle.pfs_store_plain.specs.Handshakes.{flush_of, hits_connections, hits_rate}
+use Rattle.pfs_store_plain.specs.Handshakes.{flush_of, hits_connections, hits_rate, stays_at_kill}
 use Rattle.pfs_store_plain.specs.Leaving.{without}
-use Rattle.pfs_store_plain.specs.Touching.{completes_at, goes_forward, nodes_touched, renewed, touch_of, touched}
+use Rattle.pfs_store_plain.specs.Touching.{completes_at, goes_forward, nodes_touched, renewed, touched}
 use Rattle.pfs_store_plain.specs.Worlds.{IsUpToNow, World, holds_number, state_with}
 use Rattle.pfs_store_plain.specs.declared.records.Node.{Node}
 use Rattle.pfs_store_plain.specs.declared.records.NodeScope.{NodeScope}
 use Rattle.pfs_store_plain.specs.declared.records.State.{State}
-use Rattle.pfs_store_plain.specs.declared.records.Touched.{Touched}
 use Rattle.pfs_engine_machine.specs.Kept.{HasNode, IsKept, IsPhaseOf, IsWithin, Rise, TracksAlone, own_scope}
-use Rattle.pfs_engine_machine.specs.Machine.{Held, by_hit, by_state, by_touch, held_of, stays_at_kill, tables_by}
+use Rattle.pfs_engine_machine.specs.Machine.{Held, killed, by_state, held_of, tables_by}
 use Rattle.pfs_engine_machine.specs.Refusals.{is_tcp}
+use Rattle.pfs_engine_machine.specs.declared.events.Outcome.TheVariants as outcome
 use Rattle.pfs_engine_machine.proofs.Additions.{entries_after-size, entries_after-within}
 use Rattle.pfs_engine_machine.proofs.Alike.{AreAlike, idled_all-alike, nodes_touched-alike}
 use Rattle.pfs_engine_machine.proofs.Changes.{find-all, find-any, find-passes}
@@ -121,7 +122,7 @@ alone_of conf m p now s found k = Rise-alone (λ (t : State). same_key t.key (ke
 
 -- where the handshake does not complete, or hits no `max-src-conn`, no source has too many connections
 few_touched : (conf : Conf) (m : Held) (p : Header) (now : ℕ) (s : State) → state_with (key_of p) m.world ≡ Some s
-    → ((completes_at p s ≡ false) ⊎ (hits_connections (options_of conf s.rule.0) (touch_of conf m.world p now s) ≡ false))
+    → ((completes_at p s ≡ false) ⊎ (hits_connections conf (touched conf m.world s p now) s ≡ false))
     → IsKept conf m now → AreFew conf (touched conf m.world s p now).states
 few_touched conf m p now s found why k rule source tracks = go why (is_of_node conf (own_scope rule) source s) refl
   where
@@ -133,7 +134,7 @@ few_touched conf m p now s found why k rule source tracks = go why (is_of_node c
     same because = λ n is.
         omega (arith, connections-same conf (own_scope rule) source s p now m.world.states alone because, k.limits.source_connections rule source tracks n is)
 
-    go : ((completes_at p s ≡ false) ⊎ (hits_connections (options_of conf s.rule.0) (touch_of conf m.world p now s) ≡ false))
+    go : ((completes_at p s ≡ false) ⊎ (hits_connections conf (touched conf m.world s p now) s ≡ false))
         → (own : Bool) → is_of_node conf (own_scope rule) source s ≡ own
         → IsWithin (options_of conf rule).max_src_conn (node_connections conf (own_scope rule) source (map (renewed s.number p now) m.world.states))
     go (inl before) own e = same (inl before)
@@ -141,7 +142,7 @@ few_touched conf m p now s found why k rule source tracks = go why (is_of_node c
     go (inr few) false e = same (inr e)
 
 pub kept_touched : (conf : Conf) (m : Held) (p : Header) (now : ℕ) (s : State) → state_with (key_of p) m.world ≡ Some s
-    → ((completes_at p s ≡ false) ⊎ (hits_connections (options_of conf s.rule.0) (touch_of conf m.world p now s) ≡ false))
+    → ((completes_at p s ≡ false) ⊎ (hits_connections conf (touched conf m.world s p now) s ≡ false))
     → IsKept conf m now → IsKept conf (held_of (touched conf m.world s p now) m.tables) now
 kept_touched conf m p now s found why k =
     kept_whole conf (held_of (touched conf m.world s p now) m.tables) now (kept_but_touched conf m p now s k) (few_touched conf m p now s found why k)
@@ -197,63 +198,50 @@ kept_but_added conf m source overload now k = record {
   moments = k.moments;
 }
 
-few_killed : (conf : Conf) (m : Held) (p : Header) (now : ℕ) (s : State) (overload : Option Overload) → state_with (key_of p) m.world ≡ Some s
+few_killed : (conf : Conf) (m : Held) (p : Header) (now : ℕ) (s : State) (flush : Option Scope) → state_with (key_of p) m.world ≡ Some s
     → IsKept conf m now
-    → AreFew conf (filter (stays_at_kill (flush_of overload) s.number (touch_of conf m.world p now s)) (touched conf m.world s p now).states)
-few_killed conf m p now s overload found k rule source tracks =
-    within_less (options_of conf rule).max_src_conn _ _ (connections-killed conf m.world p now s (flush_of overload) (own_scope rule) source (alone_of conf m p now s found k)) (k.limits.source_connections rule source tracks)
+    → AreFew conf (filter (stays_at_kill flush s.number s.rule s.source) (touched conf m.world s p now).states)
+few_killed conf m p now s flush found k rule source tracks =
+    within_less (options_of conf rule).max_src_conn _ _ (connections-killed conf m.world p now s flush (own_scope rule) source (alone_of conf m p now s found k)) (k.limits.source_connections rule source tracks)
 
-pub kept_killed : (conf : Conf) (m : Held) (p : Header) (now : ℕ) (s : State) (overload : Option Overload) (conn rate : Bool)
-    → state_with (key_of p) m.world ≡ Some s → IsKept conf m now
-    → IsKept conf (by_hit conf (held_of (touched conf m.world s p now) m.tables) s.number now (touch_of conf m.world p now s) overload conn rate true).1 now
-kept_killed conf m p now s overload conn rate found k =
-    let t = touch_of conf m.world p now s in
-    let stays = stays_at_kill (flush_of overload) s.number t in
+pub kept_killed : (conf : Conf) (m : Held) (p : Header) (now : ℕ) (s : State) (conn rate : Bool) → state_with (key_of p) m.world ≡ Some s
+    → IsKept conf m now → IsKept conf (killed conf (held_of (touched conf m.world s p now) m.tables) s.number s.rule s.source now conn rate).1 now
+kept_killed conf m p now s conn rate found k =
+    let overload = (options_of conf s.rule.0).overload in
+    let stays = stays_at_kill (flush_of overload) s.number s.rule s.source in
     let first = held_of (touched conf m.world s p now) m.tables in
     let second = held_of (without conf first.world stays now) first.tables in
-    kept_whole conf (held_of second.world (tables_by conf second.tables t.source now overload)) now
-    (kept_but_added conf second t.source overload now (kept_but_without conf first stays now now (kept_but_touched conf m p now s k)))
-    (few_killed conf m p now s overload found k)
+    kept_whole conf (held_of second.world (tables_by conf second.tables s.source now overload)) now
+    (kept_but_added conf second s.source overload now (kept_but_without conf first stays now now (kept_but_touched conf m p now s k)))
+    (few_killed conf m p now s (flush_of overload) found k)
 
 -- ---- together
 
-kept_by_hit : (conf : Conf) (m : Held) (p : Header) (now : ℕ) (s : State) (overload : Option Overload) (conn rate : Bool)
-    → state_with (key_of p) m.world ≡ Some s → IsKept conf m now
-    → conn ≡ hits_connections (options_of conf s.rule.0) (touch_of conf m.world p now s)
-    → IsKept conf (by_hit conf (held_of (touched conf m.world s p now) m.tables) s.number now (touch_of conf m.world p now s) overload conn rate (conn || rate)).1 now
-kept_by_hit conf m p now s overload true rate found k is = kept_killed conf m p now s overload true rate found k
-kept_by_hit conf m p now s overload false true found k is = kept_killed conf m p now s overload false true found k
-kept_by_hit conf m p now s overload false false found k is = kept_touched conf m p now s found (inr (sym is)) k
-
-kept_by_touch : (conf : Conf) (m : Held) (p : Header) (now : ℕ) (s : State) (completed : Bool)
-    → state_with (key_of p) m.world ≡ Some s → IsKept conf m now → completes_at p s ≡ completed
-    → IsKept conf (by_touch conf (held_of (touched conf m.world s p now) m.tables) s.number now (touch_of conf m.world p now s) completed).1 now
-kept_by_touch conf m p now s false found k is = kept_touched conf m p now s found (inl is) k
-kept_by_touch conf m p now s true found k is =
-    let o = options_of conf s.rule.0 in
-    let t = touch_of conf m.world p now s in
-    kept_by_hit conf m p now s o.overload (hits_connections o t) (hits_rate o t) found k refl
+kept_by_handshake : (conf : Conf) (m : Held) (p : Header) (now : ℕ) (s : State) (conn rate : Bool) → state_with (key_of p) m.world ≡ Some s
+    → IsKept conf m now → conn ≡ hits_connections conf (touched conf m.world s p now) s
+    → (completes : Bool) → completes_at p s ≡ completes
+    → IsKept conf (if completes && (conn || rate) then killed conf (held_of (touched conf m.world s p now) m.tables) s.number s.rule s.source now conn rate else (outcome.State s.rule, held_of (touched conf m.world s p now) m.tables)).1 now
+kept_by_handshake conf m p now s conn rate found k is false done = kept_touched conf m p now s found (inl done) k
+kept_by_handshake conf m p now s true rate found k is true done = kept_killed conf m p now s true rate found k
+kept_by_handshake conf m p now s false true found k is true done = kept_killed conf m p now s false true found k
+kept_by_handshake conf m p now s false false found k is true done = kept_touched conf m p now s found (inr (sym is)) k
 
 pub kept_held : (conf : Conf) (m : Held) (p : Header) (now : ℕ) (s : State) → state_with (key_of p) m.world ≡ Some s
     → IsKept conf m now → IsKept conf (by_state conf m p now (Some s)).1 now
-kept_held conf m p now s found k = kept_by_touch conf m p now s (completes_at p s) found k refl
+kept_held conf m p now s found k =
+    let after = touched conf m.world s p now in
+    kept_by_handshake conf m p now s (hits_connections conf after s) (hits_rate conf after s) found k refl (completes_at p s) refl
 
 -- no state is made
-made_by_hit : (conf : Conf) (m : Held) (number now : ℕ) (t : Touched) (overload : Option Overload) (conn rate hit : Bool)
-    → (by_hit conf m number now t overload conn rate hit).1.world.made ≡ m.world.made
-made_by_hit conf m number now t overload conn rate true = refl
-made_by_hit conf m number now t overload conn rate false = refl
-
-made_by_touch : (conf : Conf) (m : Held) (number now : ℕ) (t : Touched) (completed : Bool)
-    → (by_touch conf m number now t completed).1.world.made ≡ m.world.made
-made_by_touch conf m number now t false = refl
-made_by_touch conf m number now t true =
-    let o = options_of conf t.rule.0 in
-    made_by_hit conf m number now t o.overload (hits_connections o t) (hits_rate o t) (hits_connections o t || hits_rate o t)
-
 pub made_held : (conf : Conf) (m : Held) (p : Header) (now : ℕ) (s : State) → (by_state conf m p now (Some s)).1.world.made ≡ m.world.made
-made_held conf m p now s =
-    made_by_touch conf (held_of (touched conf m.world s p now) m.tables) s.number now (touch_of conf m.world p now s) (completes_at p s)
+made_held conf m p now s = by (completes_at p s && (hits_connections conf after s || hits_rate conf after s))
+  where
+    after : World
+    after = touched conf m.world s p now
+
+    by : (hit : Bool) → (if hit then killed conf (held_of after m.tables) s.number s.rule s.source now (hits_connections conf after s) (hits_rate conf after s) else (outcome.State s.rule, held_of after m.tables)).1.world.made ≡ m.world.made
+    by true = refl
+    by false = refl
 
 -- ---- of a state that is held
 

@@ -7,7 +7,7 @@ use Rattle.pfs_conf_rules.specs.Configs.{Conf, rule_of}
 use Rattle.pfs_conf_rules.specs.Invariants.{IsConfig}
 use Rattle.pfs_conf_rules.specs.declared.actions.Action.{Action}
 use Rattle.pfs_conf_rules.specs.declared.actions.Action.TheVariants as action
-use Rattle.pfs_store_plain.specs.Admission.{limit_at}
+use Rattle.pfs_store_plain.specs.Admission.{packet_limit}
 use Rattle.pfs_store_plain.specs.Worlds.{World, state_with}
 use Rattle.pfs_store_plain.specs.declared.records.Limit.{Limit}
 use Rattle.pfs_store_plain.specs.declared.records.State.{State}
@@ -18,7 +18,7 @@ use Rattle.pfs_engine_machine.proofs.KeptAdmission.{kept_admitted}
 use Rattle.pfs_engine_machine.proofs.KeptHandshakes.{kept_held, made_held}
 
 kept_limit : (conf : Conf) (m : Held) (p : Header) (now rule : ℕ) → IsConfig conf → IsKept conf m now
-    → (limit : Option Limit) → limit_at conf m.world p rule ≡ limit → IsKept conf (by_limit conf m p now rule limit).1 now
+    → (limit : Option Limit) → packet_limit conf m.world p rule ≡ limit → IsKept conf (by_limit conf m p now rule limit).1 now
 kept_limit conf m p now rule c k None e = kept_admitted conf m p rule now c e k
 kept_limit conf m p now rule c k (Some x) e = k
 
@@ -26,7 +26,7 @@ kept_action : (conf : Conf) (m : Held) (p : Header) (now rule : ℕ) → IsConfi
     → (what : Action) → IsKept conf (by_action conf m p now rule what).1 now
 kept_action conf m p now rule c k action.Block = k
 kept_action conf m p now rule c k action.Pass = k
-kept_action conf m p now rule c k (action.Keep o) = kept_limit conf m p now rule c k (limit_at conf m.world p rule) refl
+kept_action conf m p now rule c k (action.Keep o) = kept_limit conf m p now rule c k (packet_limit conf m.world p rule) refl
 
 kept_rule : (conf : Conf) (m : Held) (p : Header) (now : ℕ) → IsConfig conf → IsKept conf m now
     → (rule : Option ℕ) → IsKept conf (by_rule conf m p now rule).1 now
@@ -51,7 +51,7 @@ made_limit conf m p now rule (Some x) = omega arith
 made_action : (conf : Conf) (m : Held) (p : Header) (now rule : ℕ) (what : Action) → (by_action conf m p now rule what).1.world.made ≤ m.world.made + 1
 made_action conf m p now rule action.Block = omega arith
 made_action conf m p now rule action.Pass = omega arith
-made_action conf m p now rule (action.Keep o) = made_limit conf m p now rule (limit_at conf m.world p rule)
+made_action conf m p now rule (action.Keep o) = made_limit conf m p now rule (packet_limit conf m.world p rule)
 
 made_rule : (conf : Conf) (m : Held) (p : Header) (now : ℕ) (rule : Option ℕ) → (by_rule conf m p now rule).1.world.made ≤ m.world.made + 1
 made_rule conf m p now None = omega arith

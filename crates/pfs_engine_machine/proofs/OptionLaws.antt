@@ -1,11 +1,12 @@
 -- What follows where an option is there.
-use Rattle.std.proofs.Common.{◌≡◌, ℕ, Option, None, Some, Err, IfSome, ap, subst, unwrap_or}
+use Rattle.std.proofs.Common.{◌≡◌, ℕ, Option, None, Some, Ok, Err, IfSome, ap, refl, subst, unwrap_or}
 use Rattle.std.specs.Option.{ForSome}
 use Rattle.pfs_conf_rules.specs.Configs.{Conf, no_options, options_at, options_of}
 use Rattle.pfs_conf_rules.specs.declared.actions.StateOptions.{StateOptions}
-use Rattle.pfs_store_plain.specs.Admission.{answer_at}
+use Rattle.pfs_store_plain.specs.Calls.{answer_at}
 use Rattle.pfs_store_plain.specs.Worlds.{World}
 use Rattle.pfs_store_plain.specs.declared.records.Limit.{Limit}
+use Rattle.pfs_store_plain.specs.declared.records.StateNo.{StateNo}
 
 pub some_of : {A : Type 0} (P : A → Type 0) (o : Option A) → IfSome o P → ForSome o P
 some_of P None h = λ x e. cc
@@ -19,3 +20,8 @@ options_there conf rule o e = ap (λ (x : Option StateOptions). unwrap_or x no_o
 pub refused_at : (w : World) (limit : Option Limit) (l : Limit) → Err l ≡ answer_at w limit → limit ≡ Some l
 refused_at w None l e = cc
 refused_at w (Some m) l e = cc
+
+-- and a number tells that there is none
+pub admitted_at : (w : World) (limit : Option Limit) (n : StateNo) → Ok n ≡ answer_at w limit → limit ≡ None
+admitted_at w None n e = refl
+admitted_at w (Some m) n e = cc

@@ -4,12 +4,14 @@ use Rattle.std.specs.List.{range_with_len}
 use Rattle.std.proofs.Math.Seq.{take-nil, drop-nil}
 use Rattle.pfs_conf_rules.specs.Configs.{Conf}
 use Rattle.pfs_store_plain.specs.Leaving.{idled}
-use Rattle.pfs_store_plain.specs.Purging.{node_numbers, node_share, node_slice, node_slice_of, purge, round, state_numbers, state_share, state_slice, state_slice_of}
+use Rattle.pfs_store_plain.specs.Purging.{node_numbers, node_share, node_slice, purge, round, state_numbers, state_share, state_slice}
+use Rattle.pfs_store_plain.specs.Calls.{node_slice_of, state_slice_of}
 use Rattle.pfs_store_plain.specs.Worlds.{World, lists}
 use Rattle.pfs_store_plain.specs.declared.records.Node.{Node}
 use Rattle.pfs_store_plain.specs.declared.records.Slice.{Slice}
 use Rattle.pfs_store_plain.specs.declared.records.State.{State}
-use Rattle.pfs_engine_machine.specs.Machine.{most_nodes, most_states, purged, seconds}
+use Rattle.pfs_engine_machine.specs.Machine.{purged, seconds}
+use Rattle.pfs_engine_machine.specs.Shares.{most_nodes, most_states}
 
 -- the first second that is due
 pub seconds_next : (from to : ℕ) → from < to → seconds from to ≡ (from + 1) ∷ seconds (from + 1) to

@@ -6,12 +6,14 @@ use Rattle.std.proofs.lemmas.List.Sums.{count_by-le-length, length-filter}
 use Rattle.pfs_conf_rules.specs.Configs.{Conf}
 use Rattle.pfs_store_plain.specs.Counts.{node_states}
 use Rattle.pfs_store_plain.specs.Leaving.{idled}
-use Rattle.pfs_store_plain.specs.Purging.{has_expired, is_among, is_over, node_numbers, node_retention, node_round, node_share, node_slice, node_slice_of, node_stays, purge, round, state_numbers, state_round, state_share, state_slice, state_slice_of, stays}
+use Rattle.pfs_store_plain.specs.Purging.{has_expired, is_among, is_over, node_numbers, node_retention, node_round, node_share, node_slice, node_stays, purge, round, state_numbers, state_round, state_share, state_slice, stays}
+use Rattle.pfs_store_plain.specs.Calls.{node_slice_of, state_slice_of}
 use Rattle.pfs_store_plain.specs.Quiet.{NodeStays, StateStays, moved}
 use Rattle.pfs_store_plain.specs.Worlds.{World, lists}
 use Rattle.pfs_store_plain.specs.declared.records.Node.{Node}
 use Rattle.pfs_store_plain.specs.declared.records.State.{State}
-use Rattle.pfs_engine_machine.specs.Machine.{most_nodes, most_states, purged, seconds}
+use Rattle.pfs_engine_machine.specs.Machine.{purged, seconds}
+use Rattle.pfs_engine_machine.specs.Shares.{most_nodes, most_states}
 use Rattle.pfs_engine_machine.specs.Quiet.{IsQuietUntil, IsSeen}
 use Rattle.pfs_engine_machine.proofs.Purging.{most_nodes_next, most_states_next, purged_next}
 

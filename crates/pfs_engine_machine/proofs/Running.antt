@@ -4,8 +4,8 @@ use Rattle.std.proofs.lemmas.List.{append-nil, take_more}
 use Rattle.pfs_conf_rules.specs.Configs.{Conf}
 use Rattle.pfs_engine_machine.specs.declared.events.Event.{Event}
 use Rattle.pfs_engine_machine.specs.declared.events.Outcome.{Outcome}
-use Rattle.pfs_engine_machine.specs.Machine.{Machine, MayCome, step}
-use Rattle.pfs_engine_machine.specs.Runs.{AreAllowed, IsInOrder, machine_after, outcomes_of, packets_in, taken_by}
+use Rattle.pfs_engine_machine.specs.Machine.{Machine, step, machine_after, outcomes_of}
+use Rattle.pfs_engine_machine.specs.Runs.{MayCome, AreAllowed, IsInOrder, packets_in, taken_by}
 
 -- one event more
 pub machine_after-push : (conf : Conf) (m : Machine) (xs : List Event) (e : Event) → machine_after conf m (xs ++ e ∷ []) ≡ (step conf (machine_after conf m xs) e).1

@@ -27,9 +27,8 @@ use Rattle.pfs_conf_rules.specs.declared.items.What.TheVariants as item
 use Rattle.pfs_conf_rules.specs.declared.tables.TableDef.{TableDef}
 use Rattle.pfs_store_plain.specs.declared.records.Limit.{Limit}
 use Rattle.pfs_store_plain.specs.declared.records.Limit.TheVariants as limit
-use Rattle.pfs_engine_machine.specs.Machine.{Machine, entries_held, nodes_held, start, states_held, step}
+use Rattle.pfs_engine_machine.specs.Machine.{Machine, entries_held, nodes_held, start, states_held, step, machine_after, outcomes_of}
 use Rattle.pfs_engine_machine.specs.Rates.{history_score}
-use Rattle.pfs_engine_machine.specs.Runs.{machine_after, outcomes_of}
 use Rattle.pfs_engine_machine.specs.declared.events.Event.{Event}
 use Rattle.pfs_engine_machine.specs.declared.events.Outcome.{Outcome}
 use Rattle.pfs_engine_machine.specs.declared.events.Outcome.TheVariants as outcome

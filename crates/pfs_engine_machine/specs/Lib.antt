@@ -5,5 +5,6 @@ pub mod Quiet
 pub mod Rates
 pub mod Refusals
 pub mod Runs
+pub mod Shares
 pub mod Sources
 pub mod Visits

@@ -1,5 +1,5 @@
--- The machine: what is held, and what one event does to it. (pf.conf(5), STATEFUL FILTERING and STATEFUL TRACKING OPTIONS)
-use Rattle.std.specs.Prelude.{ℕ, ◌≡◌, ◌<◌, ◌+◌, ◌-◌, ◌||◌, not, max, Bool, true, false, Option, Some, None, List, [], ◌∷◌, length, filter, slice_get, unwrap_or}
+-- The machine: what is held, what one event does to it, and a run of events. (pf.conf(5), STATEFUL FILTERING and STATEFUL TRACKING OPTIONS)
+use Rattle.std.specs.Prelude.{ℕ, ◌+◌, ◌-◌, ◌&&◌, ◌||◌, Bool, if◌then◌else◌, Option, Some, None, List, [], ◌∷◌, length, filter, unwrap_or}
 use Rattle.std.specs.List.{range_with_len}
 use Rattle.pfs_addr.specs.Keys.{key_of}
 use Rattle.pfs_addr.specs.Packets.{Header}
@@ -9,22 +9,20 @@ use Rattle.pfs_eval.specs.Matching.{matches_item}
 use Rattle.pfs_eval.specs.Tables.{added_to, config_entries, entries_after, entries_expired, entry_count, expired_count}
 use Rattle.pfs_eval.specs.Verdict.{verdict}
 use Rattle.pfs_eval.specs.declared.tables.Added.{Added}
-use Rattle.pfs_conf_rules.specs.Configs.{Conf, is_const_table, limit_of, options_of, rule_of}
+use Rattle.pfs_conf_rules.specs.Configs.{Conf, limit_of, options_of, rule_of}
 use Rattle.pfs_conf_rules.specs.declared.actions.Action.{Action}
 use Rattle.pfs_conf_rules.specs.declared.actions.Action.TheVariants as action
 use Rattle.pfs_conf_rules.specs.declared.actions.Overload.{Overload}
-use Rattle.pfs_conf_rules.specs.declared.actions.Scope.{Scope}
-use Rattle.pfs_conf_rules.specs.declared.actions.StateOptions.{StateOptions}
+use Rattle.pfs_conf_rules.specs.declared.items.RuleNo.{RuleNo}
 use Rattle.pfs_conf_rules.specs.declared.limits.LimitName.TheVariants as limit_name
-use Rattle.pfs_store_plain.specs.Admission.{admitted, limit_at}
-use Rattle.pfs_store_plain.specs.Handshakes.{flush_of, goes_with, hits_connections, hits_rate}
+use Rattle.pfs_store_plain.specs.Admission.{admitted, packet_limit}
+use Rattle.pfs_store_plain.specs.Handshakes.{flush_of, goes_with, hits_connections, hits_rate, stays_at_kill}
 use Rattle.pfs_store_plain.specs.Leaving.{without}
-use Rattle.pfs_store_plain.specs.Purging.{node_slice_of, purge, state_slice, state_slice_of}
-use Rattle.pfs_store_plain.specs.Touching.{completes_at, touch_of, touched}
+use Rattle.pfs_store_plain.specs.Purging.{purge}
+use Rattle.pfs_store_plain.specs.Touching.{completes_at, touched}
 use Rattle.pfs_store_plain.specs.Worlds.{World, empty_world, state_with}
 use Rattle.pfs_store_plain.specs.declared.records.Limit.{Limit}
 use Rattle.pfs_store_plain.specs.declared.records.State.{State}
-use Rattle.pfs_store_plain.specs.declared.records.Touched.{Touched}
 use Rattle.pfs_engine_machine.specs.declared.events.Event.{Event}
 use Rattle.pfs_engine_machine.specs.declared.events.Outcome.{Outcome}
 use Rattle.pfs_engine_machine.specs.declared.events.Outcome.TheVariants as outcome
@@ -75,15 +73,6 @@ abbrev pub purged : Conf → World → List ℕ → World
 purged conf w [] = w
 purged conf w (s ∷ ss) = purged conf (purge conf w s) ss
 
--- the most states, and the most nodes, that one slice of these seconds examines
-abbrev pub most_states : Conf → World → List ℕ → ℕ
-most_states conf w [] = 0
-most_states conf w (s ∷ ss) = max (state_slice_of conf w s).examined (most_states conf (purge conf w s) ss)
-
-abbrev pub most_nodes : Conf → World → List ℕ → ℕ
-most_nodes conf w [] = 0
-most_nodes conf w (s ∷ ss) = max (node_slice_of conf (state_slice conf w s) s).examined (most_nodes conf (purge conf w s) ss)
-
 -- the first moment, once an event has come at this one
 abbrev pub first_by : Option ℕ → ℕ → ℕ
 first_by first now = unwrap_or first now
@@ -107,29 +96,21 @@ abbrev pub tables_by : Conf → List (List Entry) → Addr → ℕ → Option Ov
 tables_by conf tables source now None = tables
 tables_by conf tables source now (Some v) = entries_after tables v.table.0 source now (added_to tables (limit_of conf limit_name.TableEntries) v.table.0 source)
 
--- a state stays where the one of this number is killed, with those that its rule flushes
-abbrev pub stays_at_kill : Option Scope → ℕ → Touched → State → Bool
-stays_at_kill flush number t s = not (goes_with flush number t s)
+-- the state of this number, rule and source is killed, with those that its rule flushes
+abbrev pub killed : Conf → Held → ℕ → RuleNo → Addr → ℕ → Bool → Bool → Outcome × Held
+killed conf h number rule source now conn rate =
+    let overload = (options_of conf rule.0).overload in
+    let flush = flush_of overload in (
+      outcome.Kill rule conn rate (added_by conf h.tables source overload) (length (filter (goes_with flush number rule source) h.world.states)),
+      held_of (without conf h.world (stays_at_kill flush number rule source) now) (tables_by conf h.tables source now overload),
+    )
 
--- how many are killed
-abbrev pub killed_count : World → Option Scope → ℕ → Touched → ℕ
-killed_count w flush number t = length (filter (goes_with flush number t) w.states)
-
--- of the limits on connections one is hit, or none
-abbrev pub by_hit : Conf → Held → ℕ → ℕ → Touched → Option Overload → Bool → Bool → Bool → Outcome × Held
-by_hit conf h number now t overload conn rate false = (outcome.State t.rule, h)
-by_hit conf h number now t overload conn rate true =
-    (outcome.Kill t.rule conn rate (added_by conf h.tables t.source overload) (killed_count h.world (flush_of overload) number t), held_of (without conf h.world (stays_at_kill (flush_of overload) number t) now) (tables_by conf h.tables t.source now overload))
-
--- what the handshake hits of the options of its rule
-abbrev pub by_options : Conf → Held → ℕ → ℕ → Touched → StateOptions → Outcome × Held
-by_options conf h number now t o =
-    by_hit conf h number now t o.overload (hits_connections o t) (hits_rate o t) (hits_connections o t || hits_rate o t)
-
--- the handshake of the state of this number completes with its packet, or does not
-abbrev pub by_touch : Conf → Held → ℕ → ℕ → Touched → Bool → Outcome × Held
-by_touch conf h number now t false = (outcome.State t.rule, h)
-by_touch conf h number now t true = by_options conf h number now t (options_of conf t.rule.0)
+-- a packet of this state completes its handshake and hits a limit on connections, or not
+abbrev pub by_handshake : Conf → Held → State → ℕ → Bool → Outcome × Held
+by_handshake conf h s now completes =
+    let conn = hits_connections conf h.world s in
+    let rate = hits_rate conf h.world s in
+    if completes && (conn || rate) then killed conf h s.number s.rule s.source now conn rate else (outcome.State s.rule, h)
 
 -- ---- one packet
 
@@ -142,7 +123,7 @@ by_limit conf h p now rule (Some l) = (outcome.Drop (record { 0 = rule }) l, h)
 abbrev pub by_action : Conf → Held → Header → ℕ → ℕ → Action → Outcome × Held
 by_action conf h p now rule action.Block = (outcome.Block (record { 0 = rule }), h)
 by_action conf h p now rule action.Pass = (outcome.Pass (Some (record { 0 = rule })), h)
-by_action conf h p now rule (action.Keep o) = by_limit conf h p now rule (limit_at conf h.world p rule)
+by_action conf h p now rule (action.Keep o) = by_limit conf h p now rule (packet_limit conf h.world p rule)
 
 -- a rule decides, or none
 abbrev pub by_rule : Conf → Held → Header → ℕ → Option ℕ → Outcome × Held
@@ -156,7 +137,7 @@ decided conf h p = verdict (matches_item h.tables p) conf.items
 -- a held state has its key, or none
 abbrev pub by_state : Conf → Held → Header → ℕ → Option State → Outcome × Held
 by_state conf h p now (Some s) =
-    by_touch conf (held_of (touched conf h.world s p now) h.tables) s.number now (touch_of conf h.world p now s) (completes_at p s)
+    by_handshake conf (held_of (touched conf h.world s p now) h.tables) s now (completes_at p s)
 by_state conf h p now None = by_rule conf h p now (decided conf h p)
 
 -- what a packet does at a moment
@@ -171,10 +152,10 @@ expired h first now table seconds =
     (outcome.Expire (expired_count h.tables table first now seconds), held_of h.world (entries_expired h.tables table first now seconds))
 
 -- what comes
-abbrev pub acted : Conf → Held → ℕ → ℕ → What → Outcome × Held
-acted conf h first now what.Skip = (outcome.Skip, h)
-acted conf h first now (what.Packet p) = answered conf h p now
-acted conf h first now (what.Expire table seconds) = expired h first now table.0 seconds
+abbrev pub taken : Conf → Held → ℕ → ℕ → What → Outcome × Held
+taken conf h first now what.Skip = (outcome.Skip, h)
+taken conf h first now (what.Packet p) = answered conf h p now
+taken conf h first now (what.Expire table seconds) = expired h first now table.0 seconds
 
 -- what it leaves is held
 abbrev pub leaving : Machine → Outcome × Held → Outcome × Machine
@@ -183,16 +164,14 @@ leaving m a = (a.0, record { held = a.1; first = m.first; last = m.last })
 -- the purges due, and then what comes
 unfoldable pub step : Conf → Machine → Event → Outcome × Machine
 step conf m e =
-    leaving (advanced conf m e.time) (acted conf (advanced conf m e.time).held (first_by m.first e.time) e.time e.what)
+    leaving (advanced conf m e.time) (taken conf (advanced conf m e.time).held (first_by m.first e.time) e.time e.what)
 
--- ---- what may come
+-- ---- a run of events: the outcome of each in turn, and the machine after all of them
 
--- a table that the text names, and that is not `const`
-pub record MayExpire (conf : Conf) (table : ℕ) : Type 0 where
-  pub known : table < length conf.tables
-  pub changes : is_const_table (slice_get conf.tables table) ≡ false
+unfoldable pub outcomes_of : Conf → Machine → List Event → List Outcome
+outcomes_of conf m [] = []
+outcomes_of conf m (e ∷ es) = (step conf m e).0 ∷ outcomes_of conf (step conf m e).1 es
 
--- entries are taken out of such tables alone
-abbrev pub MayCome : Conf → What → Type 0
-MayCome conf (what.Expire table seconds) = MayExpire conf table.0
-MayCome conf _ = Unit {0}
+unfoldable pub machine_after : Conf → Machine → List Event → Machine
+machine_after conf m [] = m
+machine_after conf m (e ∷ es) = machine_after conf (step conf m e).1 es

@@ -1,26 +1,26 @@
--- A run of the machine through a list of events.
-use Rattle.std.specs.Prelude.{ℕ, ◌+◌, ◌≡◌, ◌≤◌, ◌<◌, ◌^◌, ◌⊎◌, Option, Some, List, [], ◌∷◌, ◌++◌, length, take, slice_get}
+-- What may come in a run of events, and where a run stops.
+use Rattle.std.specs.Prelude.{ℕ, ◌+◌, ◌≡◌, ◌≤◌, ◌<◌, ◌^◌, ◌⊎◌, false, Option, Some, List, [], ◌∷◌, ◌++◌, length, take, slice_get}
 use Rattle.std.specs.Option.{ForSome}
-use Rattle.pfs_addr.specs.Keys.{key_of}
 use Rattle.pfs_addr.specs.Packets.{Header}
-use Rattle.pfs_conf_rules.specs.Configs.{Conf}
-use Rattle.pfs_store_plain.specs.Worlds.{state_with}
+use Rattle.pfs_conf_rules.specs.Configs.{Conf, is_const_table}
 use Rattle.pfs_engine_machine.specs.declared.events.Event.{Event}
 use Rattle.pfs_engine_machine.specs.declared.events.Outcome.{Outcome}
 use Rattle.pfs_engine_machine.specs.declared.events.What.{What}
 use Rattle.pfs_engine_machine.specs.declared.events.What.TheVariants as what
-use Rattle.pfs_engine_machine.specs.Machine.{Machine, MayCome, advanced, step}
+use Rattle.pfs_engine_machine.specs.Machine.{Machine, advanced, answered, machine_after, outcomes_of}
 use Rattle.pfs_engine_machine.specs.Refusals.{IsFree}
 
--- the outcome of each event in turn
-unfoldable pub outcomes_of : Conf → Machine → List Event → List Outcome
-outcomes_of conf m [] = []
-outcomes_of conf m (e ∷ es) = (step conf m e).0 ∷ outcomes_of conf (step conf m e).1 es
+-- ---- what may come
 
--- the machine after all of them
-unfoldable pub machine_after : Conf → Machine → List Event → Machine
-machine_after conf m [] = m
-machine_after conf m (e ∷ es) = machine_after conf (step conf m e).1 es
+-- a table that the text names, and that is not `const`
+pub record MayExpire (conf : Conf) (table : ℕ) : Type 0 where
+  pub known : table < length conf.tables
+  pub changes : is_const_table (slice_get conf.tables table) ≡ false
+
+-- entries are taken out of such tables alone
+abbrev pub MayCome : Conf → What → Type 0
+MayCome conf (what.Expire table seconds) = MayExpire conf table.0
+MayCome conf _ = Unit {0}
 
 -- an event counts as one packet, or none
 abbrev pub taken_by : What → ℕ
@@ -38,15 +38,17 @@ abbrev pub IsInOrder : Option ℕ → List Event → Type 0
 IsInOrder last [] = Unit {0}
 IsInOrder last (e ∷ es) = ForSome last (λ m. m ≤ e.time) × (e.time < 2 ^ 32) × IsInOrder (Some e.time) es
 
--- entries are taken out of no table that is `const`, nor of one that is not there
+-- each of them may come
 abbrev pub AreAllowed : Conf → List Event → Type 0
 AreAllowed conf [] = Unit {0}
 AreAllowed conf (e ∷ es) = MayCome conf e.what × AreAllowed conf es
 
+-- ---- where a run stops
+
 -- memory was refused in the packet of this event, which needs memory there: the machine is at the event's moment
 pub record IsRefusedIn (conf : Conf) (m : Machine) (e : Event) (p : Header) (new : Machine) : Type 0 where
   pub comes : e.what ≡ what.Packet p
-  pub needs : IsFree conf new.held p (state_with (key_of p) new.held.world) → ⊥
+  pub needs : IsFree conf p (answered conf new.held p e.time).0 → ⊥
   pub moment : new ≡ advanced conf m e.time
 
 -- memory was refused for the outcome of this event, before anything changed, or in its packet

@@ -1,5 +1,6 @@
 mod IdleLaws
+pub mod LimitLaws
 pub mod MomentLaws
-mod SliceLaws
+pub mod SliceLaws
 pub mod Turns
 mod Worked

@@ -7,11 +7,12 @@ use Rattle.pfs_conf_rules.specs.Configs.{Conf, options_of}
 use Rattle.pfs_conf_rules.specs.declared.actions.Rate.{Rate}
 use Rattle.pfs_conf_rules.specs.declared.items.RuleNo.{RuleNo}
 use Rattle.pfs_track.specs.Scores.{score_after}
-use Rattle.pfs_store_plain.specs.Admission.{new_node, nodes_with, world_at}
+use Rattle.pfs_store_plain.specs.Admission.{new_node, nodes_with}
+use Rattle.pfs_store_plain.specs.Calls.{world_at, world_flushed, world_killed, world_touched}
 use Rattle.pfs_store_plain.specs.Counts.{has_node, is_node, node_scope_of, node_states}
-use Rattle.pfs_store_plain.specs.Leaving.{flushed, idled, killed, left}
+use Rattle.pfs_store_plain.specs.Leaving.{idled, left}
 use Rattle.pfs_store_plain.specs.Purging.{node_slice, state_slice}
-use Rattle.pfs_store_plain.specs.Touching.{completes_at, nodes_scored, nodes_touched, rescored, world_touched}
+use Rattle.pfs_store_plain.specs.Touching.{completes_at, nodes_scored, nodes_touched, rescored}
 use Rattle.pfs_store_plain.specs.Worlds.{IsUpToNow, World, empty_world}
 use Rattle.pfs_store_plain.specs.declared.records.Limit.{Limit}
 use Rattle.pfs_store_plain.specs.declared.records.Node.{Node}
@@ -83,11 +84,11 @@ left-up_to_now conf w states pending at now h =
     All-map (IsScoredBy now) (idled conf w.states states at) w.nodes
     (All-weaker (IsScoredBy now) (λ (n : Node). IsScoredBy now (idled conf w.states states at n)) (idled-scored conf w.states states at now) w.nodes h)
 
-pub killed-up_to_now : (conf : Conf) (w : World) (number at now : ℕ) → IsUpToNow now w → IsUpToNow now (killed conf w number at)
+pub killed-up_to_now : (conf : Conf) (w : World) (number at now : ℕ) → IsUpToNow now w → IsUpToNow now (world_killed conf w number at)
 killed-up_to_now conf w number at now h = left-up_to_now conf w _ [] at now h
 
 pub flushed-up_to_now : (conf : Conf) (w : World) (source : Addr) (rule : Option RuleNo) (at now : ℕ) → IsUpToNow now w
-    → IsUpToNow now (flushed conf w source rule at)
+    → IsUpToNow now (world_flushed conf w source rule at)
 flushed-up_to_now conf w source rule at now h = left-up_to_now conf w _ [] at now h
 
 pub state_slice-up_to_now : (conf : Conf) (w : World) (at now : ℕ) → IsUpToNow now w → IsUpToNow now (state_slice conf w at)

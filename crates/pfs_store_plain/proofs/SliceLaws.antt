@@ -1,23 +1,24 @@
 -- What a slice of plain lists leaves is what the definitions say.
-use Rattle.std.proofs.Common.{◌≡◌, ◌∙◌, ◌<◌, ◌≤◌, ◌-◌, ◌&&◌, ◌⊎◌, inl, inr, not, ℕ, Bool, Option, unwrap_or, List, length, filter, map, min, take, drop, refl, ap, sym, subst}
+use Rattle.std.proofs.Common.{◌≡◌, ◌∙◌, ◌<◌, ◌≤◌, ◌-◌, ◌&&◌, ◌⊎◌, inl, inr, not, if◌then◌else◌, ℕ, Bool, false, Option, is_some, List, length, filter, map, min, take, drop, refl, ap, sym, subst}
 use Rattle.std.specs.Prelude.{slice_index}
 use Rattle.std.specs.Option.{option_and_then}
 use Rattle.std.proofs.lemmas.Bool.{cases_lt}
 use Rattle.std.proofs.lemmas.List.{drop_min, length-take, take_min}
 use Rattle.std.proofs.lemmas.List.Elements.{filter_agree}
 use Rattle.std.proofs.lemmas.Option.{slice_get_past}
-use Rattle.pfs_conf_rules.specs.Configs.{Conf, given_timeout, options_in, rule_in, timeout_of}
+use Rattle.pfs_conf_rules.specs.Configs.{Conf, given_timeout, options_in, rule_in, rule_timeout_of}
 use Rattle.pfs_conf_rules.specs.declared.actions.StateOptions.{StateOptions}
 use Rattle.pfs_conf_rules.specs.declared.items.Item.{Item}
 use Rattle.pfs_conf_rules.specs.declared.items.Rule.{Rule}
 use Rattle.pfs_conf_rules.specs.declared.timeouts.TimeoutName.TheVariants.{AdaptiveStart, AdaptiveEnd}
-use Rattle.pfs_track.specs.Lifetimes.{is_expired, scaled_by, scaled_lifetime}
+use Rattle.pfs_track.specs.Lifetimes.{is_expired, scaled, scaled_lifetime, value_for}
 use Rattle.pfs_track.specs.StatePhases.{slot}
 use Rattle.pfs_track.specs.declared.state_phases.StatePhase.{StatePhase}
 use Rattle.pfs_store_plain.specs.Counts.{rule_states}
 use Rattle.pfs_store_plain.specs.Leaving.{idled}
 use Rattle.pfs_store_plain.specs.Plain.{AreCounts}
-use Rattle.pfs_store_plain.specs.Purging.{is_among, node_round, node_share, node_slice, node_slice_of, node_stays, state_round, state_share, state_slice, state_slice_of, stays}
+use Rattle.pfs_store_plain.specs.Purging.{is_among, node_round, node_share, node_slice, node_stays, state_round, state_share, state_slice, stays}
+use Rattle.pfs_store_plain.specs.Calls.{node_slice_of, state_slice_of}
 use Rattle.pfs_store_plain.specs.Worlds.{World, lists}
 use Rattle.pfs_store_plain.specs.declared.records.Node.{Node}
 use Rattle.pfs_store_plain.specs.declared.records.Slice.{Slice}
@@ -27,15 +28,19 @@ use Rattle.pfs_store_plain.specs.declared.records.State.{State}
 abbrev options_by : Option Item → Option StateOptions
 options_by i = option_and_then (λ (r : Rule). options_in r.action) (option_and_then (λ (i : Item). rule_in i.what) i)
 
--- the lifetime does not depend on the states of a rule that there is not
+-- the lifetime does not depend on the states of a rule that has no adaptive pair
+pub lifetime-unread : (conf : Conf) (rule : ℕ) (phase : StatePhase) (a b all : ℕ) → is_some (rule_timeout_of conf rule AdaptiveStart) ≡ false
+    → scaled_lifetime conf rule phase a all ≡ scaled_lifetime conf rule phase b all
+lifetime-unread conf rule phase a b all none =
+    let under : ℕ → ℕ = scaled (value_for conf rule (slot phase)) (value_for conf rule AdaptiveStart) (value_for conf rule AdaptiveEnd) in
+    ap (λ (own : Bool). under (if own then a else all)) none ∙ sym (ap (λ (own : Bool). under (if own then b else all)) none)
+
+-- nor on those of a rule that there is not
 lifetime-past : (conf : Conf) (rule : ℕ) (phase : StatePhase) (a b all : ℕ) → length conf.items ≤ rule
     → scaled_lifetime conf rule phase a all ≡ scaled_lifetime conf rule phase b all
 lifetime-past conf rule phase a b all past =
-    let name = slot phase in
-    subst
-    (λ (i : Option Item). scaled_by conf (unwrap_or (given_timeout name (options_by i)) (timeout_of conf name)) a all (given_timeout AdaptiveStart (options_by i)) (given_timeout AdaptiveEnd (options_by i))
-    ≡ scaled_by conf (unwrap_or (given_timeout name (options_by i)) (timeout_of conf name)) b all (given_timeout AdaptiveStart (options_by i)) (given_timeout AdaptiveEnd (options_by i)))
-    (sym (slice_get_past conf.items rule past)) refl
+    lifetime-unread conf rule phase a b all
+    (subst (λ (i : Option Item). is_some (given_timeout AdaptiveStart (options_by i)) ≡ false) (sym (slice_get_past conf.items rule past)) refl)
 
 -- the lifetime under the counts of the rules is the lifetime under the counts of the states
 lifetime-counts : (conf : Conf) (counts : List ℕ) (states : List State) (all : ℕ) → length counts ≡ length conf.items → AreCounts counts states

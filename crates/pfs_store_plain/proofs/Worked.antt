@@ -15,10 +15,9 @@ use Rattle.pfs_conf_rules.specs.declared.actions.Scope.TheVariants as scope
 use Rattle.pfs_conf_rules.specs.declared.actions.StateOptions.{StateOptions}
 use Rattle.pfs_conf_rules.specs.declared.items.Item.{Item}
 use Rattle.pfs_conf_rules.specs.declared.items.What.TheVariants as what
-use Rattle.pfs_store_plain.specs.Admission.{answer_at, limit_at, world_at}
-use Rattle.pfs_store_plain.specs.Leaving.{killed}
-use Rattle.pfs_store_plain.specs.Purging.{node_slice_of, purge, state_share, state_slice, state_slice_of}
-use Rattle.pfs_store_plain.specs.Touching.{touch_of, world_touched}
+use Rattle.pfs_store_plain.specs.Admission.{packet_limit}
+use Rattle.pfs_store_plain.specs.Calls.{answer_at, world_at, world_killed, node_slice_of, state_slice_of, touch_of, world_touched}
+use Rattle.pfs_store_plain.specs.Purging.{purge, state_share, state_slice}
 use Rattle.pfs_store_plain.specs.Worlds.{World, empty_world, state_with}
 use Rattle.pfs_store_plain.specs.declared.records.Limit.TheVariants as limit
 use Rattle.pfs_store_plain.specs.declared.records.Touched.{Touched}
@@ -92,7 +91,7 @@ syn_ack source port = record {
 
 -- the world after a packet that makes a state, or is refused
 abbrev after_new : Conf → World → Header → ℕ → World
-after_new conf w p now = world_at conf w p 0 now (limit_at conf w p 0)
+after_new conf w p now = world_at conf w p 0 now (packet_limit conf w p 0)
 
 -- the world after a packet of a state
 abbrev after_more : Conf → World → Header → ℕ → World
@@ -106,10 +105,10 @@ two_each = limited 100 100 (record no_options { scope = Some scope.Global; max_s
 abbrev two_states : World
 two_states = after_new two_each (after_new two_each empty_world (udp a1 1) 5) (udp a1 2) 5
 
-third-refused : limit_at two_each two_states (udp a1 3) 0 ≡ Some limit.MaxSrcStates
+third-refused : packet_limit two_each two_states (udp a1 3) 0 ≡ Some limit.MaxSrcStates
 third-refused = refl
 
-other-admitted : answer_at two_states (limit_at two_each two_states (udp a2 1) 0) ≡ Ok (record { 0 = 3 })
+other-admitted : answer_at two_states (packet_limit two_each two_states (udp a2 1) 0) ≡ Ok (record { 0 = 3 })
 other-admitted = refl
 
 two-nodes : length (after_new two_each two_states (udp a2 1) 5).nodes ≡ 2
@@ -121,7 +120,7 @@ abbrev tracked : ℕ → ℕ → Conf
 tracked states src_nodes = limited states src_nodes (record no_options { scope = Some scope.Rule })
 
 one-state : answer_at (after_new (tracked 1 5) empty_world (udp a1 1) 5)
-    (limit_at (tracked 1 5) (after_new (tracked 1 5) empty_world (udp a1 1) 5) (udp a2 1) 0) ≡ Err limit.States
+    (packet_limit (tracked 1 5) (after_new (tracked 1 5) empty_world (udp a1 1) 5) (udp a2 1) 0) ≡ Err limit.States
 one-state = refl
 
 -- a refusal makes no node
@@ -129,10 +128,10 @@ no-node : after_new (tracked 1 5) (after_new (tracked 1 5) empty_world (udp a1 1
     ≡ after_new (tracked 1 5) empty_world (udp a1 1) 5
 no-node = refl
 
-one-node : limit_at (tracked 9 1) (after_new (tracked 9 1) empty_world (udp a1 1) 5) (udp a2 1) 0 ≡ Some limit.SrcNodes
+one-node : packet_limit (tracked 9 1) (after_new (tracked 9 1) empty_world (udp a1 1) 5) (udp a2 1) 0 ≡ Some limit.SrcNodes
 one-node = refl
 
-own-node : limit_at (tracked 9 1) (after_new (tracked 9 1) empty_world (udp a1 1) 5) (udp a1 2) 0 ≡ None
+own-node : packet_limit (tracked 9 1) (after_new (tracked 9 1) empty_world (udp a1 1) 5) (udp a1 2) 0 ≡ None
 own-node = refl
 
 -- ---- handshakes
@@ -180,7 +179,7 @@ no-more : option_map (λ (t : Touched). t.completed)
 no-more = refl
 
 -- a killed state is no connection any more
-killed-counts : told (killed connected (opened empty_world 1 0) 1 0) 2 0 ≡ tells 1 2000 0
+killed-counts : told (world_killed connected (opened empty_world 1 0) 1 0) 2 0 ≡ tells 1 2000 0
 killed-counts = refl
 
 -- ---- states expire under the counts before the slice
@@ -231,7 +230,7 @@ left_alone = purge kept one 5
 alone : length left_alone.states ≡ 0
 alone = refl
 
-kept-refuses : limit_at kept left_alone (udp a2 1) 0 ≡ Some limit.MaxSrcNodes
+kept-refuses : packet_limit kept left_alone (udp a2 1) 0 ≡ Some limit.MaxSrcNodes
 kept-refuses = refl
 
 kept-24 : node_slice_of kept left_alone 24 ≡ record { examined = 1; removed = 0 }

@@ -1,11 +1,10 @@
 -- The limits that a new state meets, and the world with it. (pf.conf(5), OPTIONS, "set limit", and STATEFUL TRACKING OPTIONS;
 -- the order of the limits is own)
-use Rattle.std.specs.Prelude.{ℕ, ◌+◌, nat_le, if◌then◌else◌, Option, Some, None, List, [], ◌∷◌, ◌++◌, length, Result, Ok, Err}
+use Rattle.std.specs.Prelude.{ℕ, ◌+◌, ◌&&◌, not, nat_le, Bool, false, if◌then◌else◌, Option, Some, None, List, [], ◌∷◌, ◌++◌, length}
 use Rattle.pfs_addr.specs.Packets.{Header}
 use Rattle.pfs_addr.specs.Keys.{key_of}
 use Rattle.pfs_addr.specs.declared.addresses.Addr.{Addr}
 use Rattle.pfs_conf_rules.specs.Configs.{Conf, limit_of, options_of}
-use Rattle.pfs_conf_rules.specs.declared.actions.StateOptions.{StateOptions}
 use Rattle.pfs_conf_rules.specs.declared.limits.LimitName.TheVariants as limit_name
 use Rattle.pfs_track.specs.Scores.{zero_score}
 use Rattle.pfs_track.specs.StatePhases.{first_phase}
@@ -16,42 +15,36 @@ use Rattle.pfs_store_plain.specs.declared.records.Limit.TheVariants as limit
 use Rattle.pfs_store_plain.specs.declared.records.Node.{Node}
 use Rattle.pfs_store_plain.specs.declared.records.NodeScope.{NodeScope}
 use Rattle.pfs_store_plain.specs.declared.records.State.{State}
-use Rattle.pfs_store_plain.specs.declared.records.StateNo.{StateNo}
 
 -- ---- limits
 
-abbrev pub first_of : Option Limit → Option Limit → Option Limit
-first_of (Some l) other = Some l
-first_of None other = other
+-- the first limit of these rows whose test holds
+abbrev pub first_met : List (Bool × Limit) → Option Limit
+first_met [] = None
+first_met (row ∷ rows) = if row.0 then Some row.1 else first_met rows
 
--- a source without a node in the scope: the scope's maximum of nodes, then the limit of all nodes
-abbrev pub new_node_limit : Conf → World → StateOptions → NodeScope → Option Limit
-new_node_limit conf w o scope =
-    if reached o.max_src_nodes (scope_nodes scope w.nodes) then Some limit.MaxSrcNodes
-    else (if nat_le (limit_of conf limit_name.SrcNodes) (length w.nodes) then Some limit.SrcNodes else None)
+-- a test of the scope in which a rule tracks sources: it fails where it tracks none
+abbrev pub tracks : Option NodeScope → (NodeScope → Bool) → Bool
+tracks None test = false
+tracks (Some scope) test = test scope
 
--- a source with a node: the maximum of its states
-abbrev pub held_node_limit : Conf → World → StateOptions → NodeScope → Addr → Option Limit
-held_node_limit conf w o scope source =
-    if reached o.max_src_states (node_states conf scope source w.states) then Some limit.MaxSrcStates else None
-
--- the limit that a source meets, where the rule tracks sources
-abbrev pub source_limit : Conf → World → StateOptions → Addr → Option NodeScope → Option Limit
-source_limit conf w o source None = None
-source_limit conf w o source (Some scope) =
-    if has_node scope source w.nodes then held_node_limit conf w o scope source else new_node_limit conf w o scope
-
--- the first limit that a state of this rule and source would meet: the rule's maximum of states; where the rule tracks
--- sources, those on nodes and on the states of a node; the limit of all states
+-- the first limit that a state of this rule and source would meet: the rule's maximum of states; for a source without a
+-- node in the rule's scope, the maximum of its nodes and the limit of all nodes; for one with a node, the maximum of the
+-- node's states; the limit of all states
 abbrev pub limit_met : Conf → World → ℕ → Addr → Option Limit
 limit_met conf w rule source =
-    first_of (if reached (options_of conf rule).max (rule_states rule w.states) then Some limit.Max else None)
-    (first_of (source_limit conf w (options_of conf rule) source (node_scope_of conf rule))
-    (if nat_le (limit_of conf limit_name.States) (length w.states) then Some limit.States else None))
+    let o = options_of conf rule in
+    let scope = node_scope_of conf rule in
+    first_met ((reached o.max (rule_states rule w.states), limit.Max)
+    ∷ (tracks scope (λ s. not (has_node s source w.nodes) && reached o.max_src_nodes (scope_nodes s w.nodes)), limit.MaxSrcNodes)
+    ∷ (tracks scope (λ s. not (has_node s source w.nodes) && nat_le (limit_of conf limit_name.SrcNodes) (length w.nodes)), limit.SrcNodes)
+    ∷ (tracks scope (λ s. has_node s source w.nodes && reached o.max_src_states (node_states conf s source w.states)), limit.MaxSrcStates)
+    ∷ (nat_le (limit_of conf limit_name.States) (length w.states), limit.States)
+    ∷ [])
 
 -- the limit that a packet meets at a rule
-abbrev pub limit_at : Conf → World → Header → ℕ → Option Limit
-limit_at conf w p rule = limit_met conf w rule p.source.addr
+abbrev pub packet_limit : Conf → World → Header → ℕ → Option Limit
+packet_limit conf w p rule = limit_met conf w rule p.source.addr
 
 -- ---- a new state
 
@@ -77,21 +70,8 @@ nodes_with nodes number source (Some scope) = if has_node scope source nodes the
 
 -- the world with one state more: numbers count from 1 and are never used again
 abbrev pub admitted : Conf → World → Header → ℕ → ℕ → World
-admitted conf w p rule now = record {
+admitted conf w p rule now = record w {
   states = w.states ++ new_state (w.made + 1) p rule now ∷ [];
   nodes = nodes_with w.nodes (w.made + 1) p.source.addr (node_scope_of conf rule);
-  pending_states = w.pending_states;
-  pending_nodes = w.pending_nodes;
   made = w.made + 1;
 }
-
--- ---- what a store answers where this limit is met, or none
-
-abbrev pub answer_at : World → Option Limit → Result StateNo Limit
-answer_at w None = Ok (record { 0 = w.made + 1 })
-answer_at w (Some l) = Err l
-
--- and what is held then: a refusal changes nothing
-abbrev pub world_at : Conf → World → Header → ℕ → ℕ → Option Limit → World
-world_at conf w p rule now None = admitted conf w p rule now
-world_at conf w p rule now (Some l) = w

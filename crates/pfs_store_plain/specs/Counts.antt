@@ -1,8 +1,9 @@
 -- Counts, each the length of a filter. (pf.conf(5), STATEFUL TRACKING OPTIONS)
-use Rattle.std.specs.Prelude.{ℕ, ◌==◌, ◌&&◌, nat_le, nat_lt, Bool, true, false, Option, Some, None, List, length, filter}
+use Rattle.std.specs.Prelude.{ℕ, ◌==◌, ◌&&◌, nat_le, nat_lt, Bool, false, Option, Some, None, List, length, filter}
 use Rattle.std.specs.List.{list_any}
 use Rattle.pfs_addr.specs.Sameness.{same_addr}
 use Rattle.pfs_addr.specs.declared.addresses.Addr.{Addr}
+use Rattle.pfs_conf_rules.specs.Bounds.{is_global}
 use Rattle.pfs_conf_rules.specs.Configs.{Conf, scope_of}
 use Rattle.pfs_conf_rules.specs.declared.actions.Scope.{Scope}
 use Rattle.pfs_conf_rules.specs.declared.actions.Scope.TheVariants as scope
@@ -15,27 +16,18 @@ use Rattle.pfs_store_plain.specs.declared.records.NodeScope.TheVariants as node_
 
 -- ---- scopes
 
--- the scope of the source nodes of a rule: its own, or that of all rules that track sources globally
-abbrev pub scope_for : ℕ → Scope → NodeScope
-scope_for rule scope.Rule = node_scope.Rule (record { 0 = rule })
-scope_for rule scope.Global = node_scope.Global
-
+-- the scope of a rule's source nodes: its own, or that of all rules that track sources globally; none where it tracks none
 abbrev pub node_scope_by : ℕ → Option Scope → Option NodeScope
 node_scope_by rule None = None
-node_scope_by rule (Some s) = Some (scope_for rule s)
+node_scope_by rule (Some scope.Rule) = Some (node_scope.Rule (record { 0 = rule }))
+node_scope_by rule (Some scope.Global) = Some node_scope.Global
 
--- the scope of a rule's nodes; none where it does not track sources
 abbrev pub node_scope_of : Conf → ℕ → Option NodeScope
 node_scope_of conf rule = node_scope_by rule (scope_of conf rule)
 
 -- what `==` says of two scopes
 abbrev pub same_scope : NodeScope → NodeScope → Bool
 same_scope = (scope_eq.ghosts).eq
-
-abbrev pub is_global : Option Scope → Bool
-is_global None = false
-is_global (Some scope.Rule) = false
-is_global (Some scope.Global) = true
 
 -- a rule counts in a scope
 abbrev pub in_scope : Conf → NodeScope → ℕ → Bool
@@ -61,10 +53,6 @@ is_connection conf scope source s = is_done s.phase && is_of_node conf scope sou
 -- the states of a rule
 abbrev pub rule_states : ℕ → List State → ℕ
 rule_states rule states = length (filter (is_of_rule rule) states)
-
--- the states of a source, of whatever rules
-abbrev pub source_states : Addr → List State → ℕ
-source_states source states = length (filter (is_of_source source) states)
 
 -- the states and the connections of a node
 abbrev pub node_states : Conf → NodeScope → Addr → List State → ℕ

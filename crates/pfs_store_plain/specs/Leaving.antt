@@ -1,6 +1,6 @@
 -- States leave: by a purge, killed, or flushed. A node that loses its last state gets an idle moment. (pf.conf(5), STATEFUL
 -- TRACKING OPTIONS; the idle moment is own)
-use Rattle.std.specs.Prelude.{ℕ, ◌==◌, ◌&&◌, not, nat_lt, Bool, if◌then◌else◌, Option, Some, None, List, length, filter, map}
+use Rattle.std.specs.Prelude.{ℕ, ◌==◌, ◌&&◌, nat_lt, Bool, if◌then◌else◌, Option, Some, None, List, filter, map}
 use Rattle.pfs_addr.specs.declared.addresses.Addr.{Addr}
 use Rattle.pfs_conf_rules.specs.Configs.{Conf}
 use Rattle.pfs_conf_rules.specs.declared.items.RuleNo.{RuleNo}
@@ -18,36 +18,14 @@ idled conf before after now n =
 
 -- the world in which these states stay, and these state numbers are pending
 abbrev pub left : Conf → World → List State → List ℕ → ℕ → World
-left conf w states pending now = record {
-  states = states;
-  nodes = map (idled conf w.states states now) w.nodes;
-  pending_states = pending;
-  pending_nodes = w.pending_nodes;
-  made = w.made;
-}
+left conf w states pending now =
+    record w { states = states; nodes = map (idled conf w.states states now) w.nodes; pending_states = pending }
 
 -- the world in which the states stay that pass a test; pending numbers of states that left are pending no more
 abbrev pub without : Conf → World → (State → Bool) → ℕ → World
 without conf w stays now = left conf w (filter stays w.states) (filter (holds_number (filter stays w.states)) w.pending_states) now
 
--- one state is killed
-abbrev pub other_than : ℕ → State → Bool
-other_than number s = not (s.number == number)
-
-abbrev pub killed : Conf → World → ℕ → ℕ → World
-killed conf w number now = without conf w (other_than number) now
-
--- the states of a source are flushed, all of them or those of one rule
+-- the states of a source that are flushed: all of them, or those of one rule
 abbrev pub is_flushed : Addr → Option RuleNo → State → Bool
 is_flushed source None s = is_of_source source s
 is_flushed source (Some rule) s = is_of_rule rule.0 s && is_of_source source s
-
-abbrev pub stays_unflushed : Addr → Option RuleNo → State → Bool
-stays_unflushed source rule s = not (is_flushed source rule s)
-
-abbrev pub flushed : Conf → World → Addr → Option RuleNo → ℕ → World
-flushed conf w source rule now = without conf w (stays_unflushed source rule) now
-
--- how many are flushed
-abbrev pub flushed_count : World → Addr → Option RuleNo → ℕ
-flushed_count w source rule = length (filter (is_flushed source rule) w.states)

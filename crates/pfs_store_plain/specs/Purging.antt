@@ -1,7 +1,7 @@
 -- Purging in rounds: each second a slice of the states, then a slice of the source nodes. A round is the numbers that were
 -- held when it began; a slice examines its first ones, and does not go on into the next round. (own; pf.conf(5), OPTIONS,
 -- "interval" for how often all are examined)
-use Rattle.std.specs.Prelude.{ℕ, ◌+◌, ◌-◌, ◌/◌, ◌==◌, ◌&&◌, not, nat_le, Bool, List, [], ◌∷◌, length, take, drop, filter, map}
+use Rattle.std.specs.Prelude.{ℕ, ◌+◌, ◌/◌, ◌==◌, ◌&&◌, not, nat_le, Bool, List, [], ◌∷◌, length, take, drop, filter, map}
 use Rattle.std.specs.List.{list_any}
 use Rattle.pfs_conf_rules.specs.Configs.{Conf, limit_of, timeout_of, options_of, rule_retention}
 use Rattle.pfs_conf_rules.specs.declared.limits.LimitName.TheVariants as limit_name
@@ -13,7 +13,6 @@ use Rattle.pfs_store_plain.specs.Leaving.{left}
 use Rattle.pfs_store_plain.specs.declared.records.Node.{Node}
 use Rattle.pfs_store_plain.specs.declared.records.NodeScope.{NodeScope}
 use Rattle.pfs_store_plain.specs.declared.records.NodeScope.TheVariants as node_scope
-use Rattle.pfs_store_plain.specs.declared.records.Slice.{Slice}
 use Rattle.pfs_store_plain.specs.declared.records.State.{State}
 
 -- ---- rounds
@@ -53,13 +52,6 @@ abbrev pub state_slice : Conf → World → ℕ → World
 state_slice conf w now =
     left conf w (filter (stays conf w.states now (take (state_share conf) (state_round w))) w.states) (drop (state_share conf) (state_round w)) now
 
--- how many a slice examines and takes out
-abbrev pub state_slice_of : Conf → World → ℕ → Slice
-state_slice_of conf w now = record {
-  examined = length (take (state_share conf) (state_round w));
-  removed = length w.states - length (state_slice conf w now).states;
-}
-
 -- ---- nodes
 
 abbrev pub node_numbers : List Node → List ℕ
@@ -88,12 +80,6 @@ abbrev pub node_slice : Conf → World → ℕ → World
 node_slice conf w now = record w {
   nodes = filter (node_stays conf w.states now (take (node_share conf) (node_round w))) w.nodes;
   pending_nodes = drop (node_share conf) (node_round w);
-}
-
-abbrev pub node_slice_of : Conf → World → ℕ → Slice
-node_slice_of conf w now = record {
-  examined = length (take (node_share conf) (node_round w));
-  removed = length w.nodes - length (node_slice conf w now).nodes;
 }
 
 -- ---- one second: the states, then the nodes

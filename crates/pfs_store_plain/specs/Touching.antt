@@ -4,7 +4,6 @@ use Rattle.std.specs.Prelude.{ℕ, ◌==◌, Bool, true, false, if◌then◌else
 use Rattle.std.specs.List.{find}
 use Rattle.pfs_addr.specs.Packets.{Header}
 use Rattle.pfs_addr.specs.declared.addresses.Addr.{Addr}
-use Rattle.pfs_addr.specs.declared.packets.Dir.{Dir}
 use Rattle.pfs_addr.specs.contracts.packets.DirPartialEq.TheImpl as dir_eq
 use Rattle.pfs_conf_rules.specs.Configs.{Conf, options_of}
 use Rattle.pfs_conf_rules.specs.declared.actions.Rate.{Rate}
@@ -16,15 +15,10 @@ use Rattle.pfs_store_plain.specs.Counts.{is_node, node_connections, node_scope_o
 use Rattle.pfs_store_plain.specs.declared.records.Node.{Node}
 use Rattle.pfs_store_plain.specs.declared.records.NodeScope.{NodeScope}
 use Rattle.pfs_store_plain.specs.declared.records.State.{State}
-use Rattle.pfs_store_plain.specs.declared.records.Touched.{Touched}
-
--- what `==` says of two directions
-abbrev pub same_dir : Dir → Dir → Bool
-same_dir = (dir_eq.ghosts).eq
 
 -- a packet goes forward when its direction is that of the packet that made the state
 abbrev pub goes_forward : Header → State → Bool
-goes_forward p s = same_dir p.dir s.dir
+goes_forward p s = (dir_eq.ghosts).eq p.dir s.dir
 
 -- a packet completes the handshake of a state
 abbrev pub completes_at : Header → State → Bool
@@ -63,20 +57,12 @@ nodes_touched conf nodes s now false = nodes
 
 -- the phase and the last moment of the state are renewed, and its node's score
 abbrev pub touched : Conf → World → State → Header → ℕ → World
-touched conf w s p now = record {
+touched conf w s p now = record w {
   states = map (renewed s.number p now) w.states;
   nodes = nodes_touched conf w.nodes s now (completes_at p s);
-  pending_states = w.pending_states;
-  pending_nodes = w.pending_nodes;
-  made = w.made;
 }
 
--- the world after a packet of the state that has its key
-abbrev pub world_touched : Conf → World → Header → ℕ → Option State → World
-world_touched conf w p now None = w
-world_touched conf w p now (Some s) = touched conf w s p now
-
--- ---- what is told of it
+-- ---- the connections and the score of a source in the scope of a rule; none where the rule tracks no sources
 
 abbrev pub connections_in : Conf → Addr → List State → Option NodeScope → ℕ
 connections_in conf source states None = 0
@@ -85,13 +71,3 @@ connections_in conf source states (Some scope) = node_connections conf scope sou
 abbrev pub score_in : Addr → List Node → Option NodeScope → Score
 score_in source nodes None = zero_score
 score_in source nodes (Some scope) = node_score scope source nodes
-
--- the rule, the source, whether the handshake completed, and the connections and the score after it
-abbrev pub touch_of : Conf → World → Header → ℕ → State → Touched
-touch_of conf w p now s = record {
-  rule = s.rule;
-  source = s.source;
-  completed = completes_at p s;
-  connections = connections_in conf s.source (touched conf w s p now).states (node_scope_of conf s.rule.0);
-  score = score_in s.source (touched conf w s p now).nodes (node_scope_of conf s.rule.0);
-}

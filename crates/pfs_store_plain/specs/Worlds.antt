@@ -4,10 +4,8 @@ use Rattle.std.specs.Prelude.{ℕ, ◌≤◌, ◌==◌, Bool, Option, List, [], 
 use Rattle.std.specs.List.{find, list_any}
 use Rattle.pfs_addr.specs.Sameness.{same_key}
 use Rattle.pfs_addr.specs.declared.packets.FlowKey.{FlowKey}
-use Rattle.pfs_conf_rules.specs.declared.items.RuleNo.{RuleNo}
 use Rattle.pfs_store_plain.specs.declared.records.State.{State}
 use Rattle.pfs_store_plain.specs.declared.records.Node.{Node}
-use Rattle.pfs_store_plain.specs.declared.records.StateNo.{StateNo}
 
 -- pending are the numbers that the round of the purge has not examined yet
 pub record World : Type 0 where
@@ -33,13 +31,6 @@ state_with key w = find (λ (s : State). same_key s.key key) w.states
 -- a state of this number is held
 abbrev pub holds_number : List State → ℕ → Bool
 holds_number states n = list_any (λ (s : State). s.number == n) states
-
--- the number and the rule of a state
-abbrev pub number_of : State → StateNo
-number_of s = record { 0 = s.number }
-
-abbrev pub rule_in : State → RuleNo
-rule_in s = s.rule
 
 -- no handshake that a score counts came after this moment
 abbrev pub IsUpToNow : ℕ → World → Type 0

@@ -2,7 +2,8 @@
 
 ghost use Rattle.std.specs.Prelude.{◌≡◌, ◌≤◌, ℕ, List, filter, length, map, vec_capacity};
 ghost use Rattle.pfs_store_plain.specs.Counts.{node_states};
-ghost use Rattle.pfs_store_plain.specs.Leaving.{idled, is_flushed, other_than, stays_unflushed, without};
+ghost use Rattle.pfs_store_plain.specs.Leaving.{idled, is_flushed, without};
+ghost use Rattle.pfs_store_plain.specs.Calls.{other_than, stays_unflushed};
 ghost use Rattle.pfs_store_plain.specs.Plain.{AreScores};
 ghost use Rattle.pfs_store_plain.specs.Worlds.{holds_number, lists};
 

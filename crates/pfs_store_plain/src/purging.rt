@@ -6,7 +6,8 @@ ghost use Rattle.pfs_conf_rules.specs.declared.timeouts.TimeoutName.TheVariants 
 ghost use Rattle.pfs_track.specs.Lifetimes.{is_expired, scaled_lifetime};
 ghost use Rattle.pfs_store_plain.specs.Counts.{rule_states};
 ghost use Rattle.pfs_store_plain.specs.Plain.{AreCounts, AreScores};
-ghost use Rattle.pfs_store_plain.specs.Purging.{is_among, is_over, node_retention, node_share, node_slice, node_slice_of, node_stays, round, share, state_share, state_slice, state_slice_of};
+ghost use Rattle.pfs_store_plain.specs.Purging.{is_among, is_over, node_retention, node_share, node_slice, node_stays, round, share, state_share, state_slice};
+ghost use Rattle.pfs_store_plain.specs.Calls.{node_slice_of, state_slice_of};
 ghost use Rattle.pfs_store_plain.specs.Worlds.{lists};
 
 use crate::counts::{OfNode, Test, count};

@@ -3,13 +3,11 @@
 ghost use Rattle.std.specs.Prelude.{◌≡◌, ◌+◌, ◌<◌, ◌≤◌, ◌^◌, [], Bool, false, true, None, Some, IfOk, IsOk, IsSome, OnErr, length, option_map};
 ghost use Rattle.pfs_addr.specs.Keys.{key_of};
 ghost use Rattle.pfs_conf_rules.specs.Configs.{Conf, options_at};
-ghost use Rattle.pfs_store_plain.specs.Admission.{answer_at, limit_at, world_at};
-ghost use Rattle.pfs_store_plain.specs.Counts.{source_states};
-ghost use Rattle.pfs_store_plain.specs.Leaving.{flushed, flushed_count, killed};
-ghost use Rattle.pfs_store_plain.specs.Purging.{node_slice, node_slice_of, state_slice, state_slice_of};
+ghost use Rattle.pfs_store_plain.specs.Admission.{packet_limit};
+ghost use Rattle.pfs_store_plain.specs.Calls.{answer_at, world_at, source_states, world_flushed, flushed_count, world_killed, node_slice_of, state_slice_of, touch_of, world_touched, state_number, state_rule};
+ghost use Rattle.pfs_store_plain.specs.Purging.{node_slice, state_slice};
 ghost use Rattle.pfs_store_plain.specs.Quiet.{NodesStay, StatesStay, moved};
-ghost use Rattle.pfs_store_plain.specs.Touching.{touch_of, world_touched};
-ghost use Rattle.pfs_store_plain.specs.Worlds.{IsUpToNow, World, holds_number, number_of, rule_in, state_with};
+ghost use Rattle.pfs_store_plain.specs.Worlds.{IsUpToNow, World, holds_number, state_with};
 
 use crate::records::{Limit, Slice, StateNo, Touched, Watched};
 use pfs_addr::{Addr, FlowKey, Meter, NoMemory, Packet};
@@ -32,11 +30,11 @@ pub trait Store {
 
     /// The number of the state that has this key. It looks at no record.
     fn find(&self, key: &FlowKey) -> Option<StateNo>
-        ensures { result ≡ option_map number_of (state_with key.now (world self.now)) };
+        ensures { result ≡ option_map state_number (state_with key.now (world self.now)) };
 
     /// The rule of the state that has this key. It looks at no record.
     fn rule_at(&self, key: &FlowKey) -> Option<RuleNo>
-        ensures { result ≡ option_map rule_in (state_with key.now (world self.now)) };
+        ensures { result ≡ option_map state_rule (state_with key.now (world self.now)) };
 
     /// Whether a state of this number is held. It looks at no record.
     fn holds(&self, number: StateNo) -> bool
@@ -72,12 +70,12 @@ pub trait Store {
         requires keeps { IsSome (options_at (config self.old) rule.0) }
         requires room { (world self.old).made < 1000000000 }
         ensures answer { IfOk result (λ a.
-            a ≡ answer_at (world self.old) (limit_at (config self.old) (world self.old) packet.now rule.0)) }
+            a ≡ answer_at (world self.old) (packet_limit (config self.old) (world self.old) packet.now rule.0)) }
         ensures ok { IfOk result (λ a. world self.new
             ≡ world_at (config self.old) (world self.old) packet.now rule.0 now
-            (limit_at (config self.old) (world self.old) packet.now rule.0)) }
+            (packet_limit (config self.old) (world self.old) packet.now rule.0)) }
         ensures err { OnErr result (world self.new ≡ world self.old) }
-        ensures no_memory { IsSome (limit_at (config self.old) (world self.old) packet.now rule.0) → IsOk result }
+        ensures no_memory { IsSome (packet_limit (config self.old) (world self.old) packet.now rule.0) → IsOk result }
         ensures config { config self.new ≡ config self.old };
 
     /// Takes a packet of the state that has its key, whose number this is: the state's phase and the moment of its last packet
@@ -85,7 +83,7 @@ pub trait Store {
     /// its source's node. No handshake that a score counts came after `now`. It looks at one record.
     /// (pf.conf(5), STATEFUL TRACKING OPTIONS; the table of phases and the score are own to this profile)
     fn touch(&mut self, number: StateNo, packet: &Packet, now: u64, meter: &mut Meter) -> Touched
-        requires held { option_map number_of (state_with (key_of packet.now) (world self.old)) ≡ Some number }
+        requires held { option_map state_number (state_with (key_of packet.now) (world self.old)) ≡ Some number }
         requires order { IsUpToNow now (world self.old) }
         requires meter { meter.old ≤ 2 ^ 63 }
         ensures answer { Some result
@@ -102,7 +100,7 @@ pub trait Store {
     fn kill(&mut self, number: StateNo, now: u64, meter: &mut Meter)
         requires held { holds_number (world self.old).states number.0 ≡ true }
         requires meter { meter.old ≤ 2 ^ 63 }
-        ensures world { world self.new ≡ killed (config self.old) (world self.old) number.0 now }
+        ensures world { world self.new ≡ world_killed (config self.old) (world self.old) number.0 now }
         ensures looks { counts ≡ true → meter.new ≡ meter.old + 1 }
         ensures uncounted { counts ≡ false → meter.new ≡ meter.old }
         ensures most { meter.new ≤ meter.old + 1000000000 }
@@ -114,7 +112,7 @@ pub trait Store {
     fn flush(&mut self, source: Addr, rule: Option<RuleNo>, now: u64, meter: &mut Meter) -> u64
         requires meter { meter.old ≤ 2 ^ 63 }
         ensures answer { result ≡ flushed_count (world self.old) source rule }
-        ensures world { world self.new ≡ flushed (config self.old) (world self.old) source rule now }
+        ensures world { world self.new ≡ world_flushed (config self.old) (world self.old) source rule now }
         ensures looks { counts ≡ true → meter.old + result ≤ meter.new }
         ensures few_looks { counts ≡ true → meter.new ≤ meter.old + source_states source (world self.old).states }
         ensures uncounted { counts ≡ false → meter.new ≡ meter.old }

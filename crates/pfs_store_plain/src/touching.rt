@@ -6,7 +6,8 @@ ghost use Rattle.pfs_conf_rules.specs.Configs.{options_of};
 ghost use Rattle.pfs_conf_rules.specs.Bounds.{IsRate};
 ghost use Rattle.pfs_store_plain.specs.Counts.{node_scope_of};
 ghost use Rattle.pfs_store_plain.specs.Plain.{AreScores};
-ghost use Rattle.pfs_store_plain.specs.Touching.{completes_at, connections_in, goes_forward, node_score, nodes_scored, nodes_touched, renewed, rescored, score_in, touch_of, world_touched};
+ghost use Rattle.pfs_store_plain.specs.Touching.{completes_at, connections_in, goes_forward, node_score, nodes_scored, nodes_touched, renewed, rescored, score_in};
+ghost use Rattle.pfs_store_plain.specs.Calls.{touch_of, world_touched};
 ghost use Rattle.pfs_store_plain.specs.Worlds.{IsUpToNow, lists, state_with};
 
 use crate::counts::{Connections, OfNode, count, node_scope};
@@ -144,7 +145,6 @@ fn rate_of(config: &Config, rule: RuleNo) -> Option<Rate>
     ensures value { result ≡ (options_of config.now rule.0).max_src_conn_rate }
     ensures sound { IfSome result IsRate }
 {
-    let _count = config.item_count();
     match config.options(rule) {
         Some(options) => options.max_src_conn_rate,
         None => None,

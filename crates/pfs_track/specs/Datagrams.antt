@@ -11,22 +11,17 @@ use Rattle.pfs_track.specs.declared.datagrams.Traffic.TheVariants.{Silent, Singl
 -- a sender at NONE becomes SINGLE
 abbrev pub once_sent : Traffic → Traffic
 once_sent Silent = Single
-once_sent Single = Single
-once_sent Multiple = Multiple
+once_sent other = other
 
 -- a receiver at SINGLE becomes MULTIPLE
 abbrev pub once_answered : Traffic → Traffic
-once_answered Silent = Silent
 once_answered Single = Multiple
-once_answered Multiple = Multiple
+once_answered other = other
 
 -- both at MULTIPLE is the stage `multiple`, and else a later packet leaves the stage `single`
 abbrev pub stage_of : Traffic → Traffic → Stage
 stage_of Multiple Multiple = MultipleStage
-stage_of Multiple Single = SingleStage
-stage_of Multiple Silent = SingleStage
-stage_of Single other = SingleStage
-stage_of Silent other = SingleStage
+stage_of _ _ = SingleStage
 
 -- a new state: the maker at SINGLE, the other at NONE, and the timeout is `first` (own)
 abbrev pub first_datagram : DatagramPhase

@@ -1,7 +1,7 @@
 pub mod Datagrams
 pub mod Lifetimes
 pub mod PhaseLaws
-pub mod Protocols
+pub mod Phases
 pub mod Scores
 pub mod StatePhases
 pub mod TcpEstablished

@@ -24,8 +24,7 @@ phase_after (Other p) forward flags = Other (udp_step p forward)
 -- the handshake completes at this packet; only TCP has one
 abbrev pub completes : StatePhase → Bool → Flags → Bool
 completes (Tcp p) forward flags = tcp_completes p forward flags
-completes (Udp p) forward flags = false
-completes (Other p) forward flags = false
+completes _ forward flags = false
 
 -- the timeout whose value is the lifetime
 abbrev pub slot : StatePhase → TimeoutName
@@ -36,5 +35,4 @@ slot (Other p) = other_slot p.stage
 -- the handshake has completed
 abbrev pub is_done : StatePhase → Bool
 is_done (Tcp p) = p.complete
-is_done (Udp p) = false
-is_done (Other p) = false
+is_done _ = false

@@ -22,11 +22,10 @@ rank_number LastAck = 8
 rank_number FinWait2 = 9
 rank_number TimeWait = 10
 
--- a rank is that one
+-- a rank is that one, or below another
 abbrev pub is_rank : TcpRank → TcpRank → Bool
 is_rank rank one = rank_number rank == rank_number one
 
--- a rank is below another
 abbrev pub is_below : TcpRank → TcpRank → Bool
 is_below rank limit = nat_lt (rank_number rank) (rank_number limit)
 
@@ -38,11 +37,10 @@ raised rank least = if is_below rank least then least else rank
 abbrev pub IsEstablished : TcpRank → Type 0
 IsEstablished rank = rank_number Established ≤ rank_number rank
 
--- SYN: a sender below SYN_SENT becomes SYN_SENT
+-- a flag raises its sender: SYN to SYN_SENT, FIN to CLOSING
 abbrev pub after_syn : Bool → TcpRank → TcpRank
 after_syn syn sender = if syn then raised sender SynSent else sender
 
--- FIN: a sender below CLOSING becomes CLOSING
 abbrev pub after_fin : Bool → TcpRank → TcpRank
 after_fin fin sender = if fin then raised sender Closing else sender
 

@@ -1,7 +1,7 @@
 // How long a state may stay without a packet.
 
 ghost use Rattle.std.specs.Prelude.{◌≡◌};
-ghost use Rattle.pfs_track.specs.Lifetimes.{scaled, scaled_lifetime, is_expired};
+ghost use Rattle.pfs_track.specs.Lifetimes.{scaled, scaled_lifetime, is_expired, value_for};
 
 use crate::state_phases::StatePhase;
 use pfs_conf_rules::{Config, RuleNo, TimeoutName};
@@ -19,21 +19,27 @@ pub fn lifetime(
 ) -> u64
     ensures { result ≡ scaled_lifetime config.now rule.0 phase rule_states all_states }
 {
-    let name = phase.slot();
-    let whole = config
+    let own = config.rule_timeout(rule, TimeoutName::AdaptiveStart);
+    let count = if own.is_some() {
+        rule_states
+    } else {
+        all_states
+    };
+    scale(
+        value_for(config, rule, phase.slot()),
+        value_for(config, rule, TimeoutName::AdaptiveStart),
+        value_for(config, rule, TimeoutName::AdaptiveEnd),
+        count,
+    )
+}
+
+/// What a timeout is for the states of a rule: the rule's value, or else the global one.
+fn value_for(config: &Config, rule: RuleNo, name: TimeoutName) -> u64
+    ensures { result ≡ value_for config.now rule.0 name }
+{
+    config
         .rule_timeout(rule, name)
-        .unwrap_or(config.timeout(name));
-    let start = config.rule_timeout(rule, TimeoutName::AdaptiveStart);
-    let end = config.rule_timeout(rule, TimeoutName::AdaptiveEnd);
-    match (start, end) {
-        (Some(start), Some(end)) => scale(whole, start, end, rule_states),
-        _ => scale(
-            whole,
-            config.timeout(TimeoutName::AdaptiveStart),
-            config.timeout(TimeoutName::AdaptiveEnd),
-            all_states,
-        ),
-    }
+        .unwrap_or(config.timeout(name))
 }
 
 /// Whether what came last at the moment `last`, and may stay for `lifetime` seconds, is expired at the moment `second`.

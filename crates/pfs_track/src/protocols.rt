@@ -3,7 +3,7 @@
 ghost use Rattle.std.specs.Prelude.{◌≡◌, ℕ, Bool, false};
 ghost use Rattle.pfs_addr.specs.declared.flag_sets.Flags.{Flags};
 ghost use Rattle.pfs_conf_rules.specs.declared.timeouts.TimeoutName.{TimeoutName};
-ghost use Rattle.pfs_track.specs.Protocols.{NeverFalls, CompletesOnce, StaysComplete};
+ghost use Rattle.pfs_track.specs.Phases.{NeverFalls, CompletesOnce, StaysComplete};
 
 use crate::datagrams::{DatagramPhase, Stage};
 use crate::tcp_phases::TcpPhase;

@@ -2,7 +2,8 @@
 use Rattle.std.proofs.Common.{◌≡◌, ℕ, arith, refl, subst}
 use Rattle.std.specs.Prelude.{option_map}
 use Rattle.pfs_addr.specs.Keys.{key_of}
-use Rattle.pfs_store_plain.specs.Worlds.{rule_in, state_with}
+use Rattle.pfs_store_plain.specs.Worlds.{state_with}
+use Rattle.pfs_store_plain.specs.Calls.{state_rule}
 use Rattle.pfs_engine_machine.specs.Looks.{AreLooks}
 use Rattle.pfs_engine_machine.specs.Machine.{held_of}
 use Rattle.pfs_engine.proofs.Belonging.{beside_after, held_after, room_after}
@@ -17,7 +18,7 @@ pub complete_handshake-requires-clause-room : goal.complete_handshake-requires-c
 complete_handshake-requires-clause-room g c =
     let conf = g.S.Store.config c.args.store.now in
     let m = held_of (g.S.Store.world c.args.store.now) c.args.tables.now.entries in
-    room_after c.args.config.now conf m c.args.packet.now c.args.now c.args.number c.touch-touched.result (option_map rule_in (state_with (key_of c.args.packet.now) (g.S.Store.world c.args.store.now))) c.make_room.new.tables c.requires.kept c.requires.held refl c.touch-touched.ensures.answer c.in_ok-make_room.ensures.room
+    room_after c.args.config.now conf m c.args.packet.now c.args.now c.args.number c.touch-touched.result (option_map state_rule (state_with (key_of c.args.packet.now) (g.S.Store.world c.args.store.now))) c.make_room.new.tables c.requires.kept c.requires.held refl c.touch-touched.ensures.answer c.in_ok-make_room.ensures.room
 
 pub returns-clause-looks : goal.returns-clause-looks
 returns-clause-looks g c = λ on.

@@ -6,7 +6,7 @@ use Rattle.pfs_eval.specs.Verdict.{verdict}
 use Rattle.pfs_conf_rules.specs.declared.items.Item.{Item}
 use Rattle.pfs_conf_rules.specs.declared.items.RuleNo.{RuleNo}
 use Rattle.pfs_engine_machine.specs.Machine.{decided, held_of}
-use Rattle.pfs_engine_machine.specs.Refusals.{IsFreeBy}
+use Rattle.pfs_engine.specs.Packets.{NeedsNoneBy}
 use Rattle.pfs_engine.proofs.packets.by_rules.Goals as goal
 
 pub returns-in-Some-clause-free : goal.returns-in-Some-clause-free
@@ -18,4 +18,4 @@ returns-in-Some-clause-free g c =
     let decides : decided conf m p ≡ Some c.in-Some.rule.0 =
     ap (λ (items : List Item). verdict (matches_item entries p) items) (sym c.requires.book)
     ∙ (sym c.decide.ensures.verdict ∙ ap (option_map (λ (r : RuleNo). r.0)) c.in-Some.is) in
-    λ free. c.by_action.ensures.free entries (subst (λ (r : Option ℕ). IsFreeBy conf m p r) decides free)
+    λ free. c.by_action.ensures.free entries (subst (λ (r : Option ℕ). NeedsNoneBy conf m p r) decides free)

@@ -3,7 +3,8 @@ use Rattle.std.proofs.Common.{◌≡◌, ◌∙◌, ap, arith, subst, sym}
 use Rattle.pfs_conf_rules.specs.Configs.{Conf}
 use Rattle.pfs_store_plain.specs.Worlds.{World}
 use Rattle.pfs_engine_machine.specs.Kept.{IsKept, IsWithinLimits}
-use Rattle.pfs_engine_machine.specs.Machine.{due, held_of, most_nodes, most_states, purged}
+use Rattle.pfs_engine_machine.specs.Machine.{due, held_of, purged}
+use Rattle.pfs_engine_machine.specs.Shares.{most_nodes, most_states}
 use Rattle.pfs_engine.specs.Views.{View, machine_at}
 use Rattle.pfs_engine_machine.proofs.KeptTime.{first_advanced, kept_advanced, made_purged}
 use Rattle.pfs_engine_machine.proofs.Shares.{most_nodes-share, most_states-share}

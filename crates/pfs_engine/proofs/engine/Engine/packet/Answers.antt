@@ -1,10 +1,11 @@
--- Answers of Engine::packet: what an engine keeps, and its clauses `refused_only`, `shared` and `limits`.
+-- Answers of Engine::packet: what an engine keeps, and its clauses `refused_only`, `shared`, `limits` and `free`.
 use Rattle.std.proofs.Common.{◌≡◌, ◌∙◌, ap, arith, subst, sym}
 use Rattle.pfs_engine_machine.specs.Kept.{IsKept, moment_of}
 use Rattle.pfs_engine_machine.specs.Machine.{Held, held_of}
 use Rattle.pfs_engine.specs.Views.{View, machine_at}
 use Rattle.pfs_engine_machine.proofs.Answering.{refused_result, shared_result}
 use Rattle.pfs_engine_machine.proofs.KeptPackets.{few_result, kept_result, made_result}
+use Rattle.pfs_engine.proofs.Free.{needs_none}
 use Rattle.pfs_engine.proofs.engine.Engine.packet.Goals as goal
 
 pub invariant_of-self : goal.invariant_of-self
@@ -72,3 +73,14 @@ returns-clause-limits g c =
     let moment : c.unwrap_or-now.result ≡ moment_of inside.last = c.unwrap_or-now.ensures in
     let before = subst (IsKept inside.config (held_of w inside.tables.entries)) (sym moment) i.kept in
     (kept_result inside.config w after inside.tables.entries entries c.args.packet.now c.unwrap_or-now.result c.answer-outcome.result i.config before a.ok a.world a.entries).limits
+
+pub returns-clause-free : goal.returns-clause-free
+returns-clause-free g c =
+    let inside = c.self.inside in
+    let before = held_of (g.S.Store.world inside.store) inside.tables.entries in
+    let p = c.args.packet.now in
+    let same_held = ap (λ (v : View). v.machine.held) c.self.view_is in
+    let same_config = ap (λ (v : View). v.config) c.self.view_is in
+    let same_last = ap (λ (v : View). v.machine.last) c.self.view_is in
+    rw (sym same_config, sym same_held, sym same_last) (λ free.
+    c.answer-outcome.ensures.free (needs_none inside.config before p (moment_of inside.last) free))

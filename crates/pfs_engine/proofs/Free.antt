@@ -1,0 +1,69 @@
+-- A packet whose outcome needs no memory is found to need none before it is answered.
+use Rattle.std.proofs.Common.{◌≡◌, ◌∙◌, ℕ, Bool, true, false, ◌&&◌, ◌||◌, if◌then◌else◌, Option, Some, None, IsSome, Result, Ok, Err, IsOk, OnErr, ap, refl, subst, sym}
+use Rattle.std.proofs.lemmas.Bool.{false≢true}
+use Rattle.pfs_addr.specs.Keys.{key_of}
+use Rattle.pfs_addr.specs.Packets.{Header}
+use Rattle.pfs_conf_rules.specs.Configs.{Conf, rule_of}
+use Rattle.pfs_conf_rules.specs.declared.actions.Action.{Action}
+use Rattle.pfs_conf_rules.specs.declared.actions.Action.TheVariants as action
+use Rattle.pfs_store_plain.specs.Admission.{packet_limit}
+use Rattle.pfs_store_plain.specs.Handshakes.{hits_connections, hits_rate}
+use Rattle.pfs_store_plain.specs.Touching.{completes_at, touched}
+use Rattle.pfs_store_plain.specs.Worlds.{World, state_with}
+use Rattle.pfs_store_plain.specs.declared.records.Limit.{Limit}
+use Rattle.pfs_store_plain.specs.declared.records.State.{State}
+use Rattle.pfs_engine_machine.specs.Machine.{Held, Machine, advanced, answered, by_action, by_limit, by_rule, by_state, decided, held_of, killed}
+use Rattle.pfs_engine_machine.specs.Kept.{moment_of}
+use Rattle.pfs_engine_machine.specs.Refusals.{IsFree, IsFreeOf}
+use Rattle.pfs_engine_machine.specs.Runs.{IsRefusedIn}
+use Rattle.pfs_engine_machine.specs.declared.events.Event.{Event}
+use Rattle.pfs_engine_machine.specs.declared.events.Outcome.{Outcome}
+use Rattle.pfs_engine_machine.specs.declared.events.Outcome.TheVariants as outcome
+use Rattle.pfs_engine_machine.specs.declared.events.What.TheVariants as what
+use Rattle.pfs_engine.specs.Packets.{NeedsNone, NeedsNoneAt, NeedsNoneBy}
+
+free_limit : (conf : Conf) (m : Held) (p : Header) (now rule : ℕ) (limit : Option Limit) → IsFree conf p (by_limit conf m p now rule limit).0 → IsSome limit
+free_limit conf m p now rule None free = absurd free
+free_limit conf m p now rule (Some l) free = refl
+
+free_action : (conf : Conf) (m : Held) (p : Header) (now rule : ℕ) (what : Action) → IsFree conf p (by_action conf m p now rule what).0
+    → NeedsNoneAt conf m p rule what
+free_action conf m p now rule action.Block free = tt
+free_action conf m p now rule action.Pass free = tt
+free_action conf m p now rule (action.Keep o) free = free_limit conf m p now rule (packet_limit conf m.world p rule) free
+
+free_rule : (conf : Conf) (m : Held) (p : Header) (now : ℕ) (rule : Option ℕ) → IsFree conf p (by_rule conf m p now rule).0 → NeedsNoneBy conf m p rule
+free_rule conf m p now None free = tt
+free_rule conf m p now (Some rule) free = free_action conf m p now rule (rule_of conf rule).action free
+
+free_state : (conf : Conf) (m : Held) (p : Header) (now : ℕ) (found : Option State) → IsFree conf p (by_state conf m p now found).0 → NeedsNone conf m p found
+free_state conf m p now None free = free_rule conf m p now (decided conf m p) free
+free_state conf m p now (Some s) free = by (completes_at p s && (hits_connections conf after s || hits_rate conf after s)) free
+  where
+    after : World
+    after = touched conf m.world s p now
+
+    by : (hit : Bool) → IsFree conf p (if hit then killed conf (held_of after m.tables) s.number s.rule s.source now (hits_connections conf after s) (hits_rate conf after s) else (outcome.State s.rule, held_of after m.tables)).0
+        → IsFreeOf conf p s.rule
+    by true of = of
+    by false of = of
+
+pub needs_none : (conf : Conf) (m : Held) (p : Header) (now : ℕ) → IsFree conf p (answered conf m p now).0 → NeedsNone conf m p (state_with (key_of p) m.world)
+needs_none conf m p now free = free_state conf m p now (state_with (key_of p) m.world) free
+
+-- ---- memory that was refused was needed
+
+pub refused_in : {E : Type 0} (conf : Conf) (m at new : Machine) (e : Event) (p : Header) (r : Result Outcome E) → e.what ≡ what.Packet p
+    → at ≡ advanced conf m e.time → OnErr r (new ≡ at) → (IsFree conf p (answered conf at.held p (moment_of at.last)).0 → IsOk r)
+    → OnErr r ((q : Header) × IsRefusedIn conf m e q new)
+refused_in conf m at new e p (Ok o) comes is same free = tt
+refused_in conf m at new e p (Err x) comes is same free =
+    let now : moment_of at.last ≡ e.time = ap (λ (k : Machine). moment_of k.last) is in (
+      p,
+      record {
+        comes = comes;
+        needs = λ f. absurd (false≢true (free (subst (λ (n : ℕ). IsFree conf p (answered conf at.held p n).0) (sym now)
+            (subst (λ (k : Machine). IsFree conf p (answered conf k.held p e.time).0) same f))));
+        moment = same ∙ is;
+      },
+    )

@@ -1,0 +1,16 @@
+-- Answer of Engine::event: memory is refused only where the packet needs it (`err`).
+use Rattle.std.proofs.Common.{IsOk, subst}
+use Rattle.pfs_conf_rules.specs.Configs.{Conf}
+use Rattle.pfs_engine_machine.specs.Kept.{moment_of}
+use Rattle.pfs_engine_machine.specs.Machine.{answered}
+use Rattle.pfs_engine_machine.specs.Refusals.{IsFree}
+use Rattle.pfs_engine.proofs.Free.{refused_in}
+use Rattle.pfs_engine.proofs.engine.Engine.event.Goals as goal
+
+pub returns-in-Packet-clause-err : goal.returns-in-Packet-clause-err
+returns-in-Packet-clause-err g c =
+    let p = c.in-Packet.packet in
+    let at = c.advance.new.self.machine in
+    let a = c.packet.ensures in
+    refused_in c.args.self.now.config c.args.self.now.machine at c.packet.new.self.machine c.args.event.now p c.packet.result c.in-Packet.is c.advance.ensures.machine a.err
+    (subst (λ (k : Conf). IsFree k p (answered k at.held p (moment_of at.last)).0 → IsOk c.packet.result) c.advance.ensures.config a.free)

@@ -1,0 +1,38 @@
+-- What an engine makes of a packet, by what its store tells of it, and which packets need no memory before they are answered.
+use Rattle.std.specs.Prelude.{ℕ, ◌&&◌, ◌||◌, if◌then◌else◌, Option, Some, None, IsSome}
+use Rattle.pfs_addr.specs.Packets.{Header}
+use Rattle.pfs_conf_rules.specs.Configs.{Conf, options_of, rule_of}
+use Rattle.pfs_conf_rules.specs.declared.actions.Action.{Action}
+use Rattle.pfs_conf_rules.specs.declared.actions.Action.TheVariants as action
+use Rattle.pfs_store_plain.specs.Admission.{packet_limit}
+use Rattle.pfs_store_plain.specs.Counts.{exceeded}
+use Rattle.pfs_store_plain.specs.Handshakes.{over_rate}
+use Rattle.pfs_store_plain.specs.declared.records.State.{State}
+use Rattle.pfs_store_plain.specs.declared.records.Touched.{Touched}
+use Rattle.pfs_engine_machine.specs.Machine.{Held, decided, killed}
+use Rattle.pfs_engine_machine.specs.Refusals.{IsFreeOf}
+use Rattle.pfs_engine_machine.specs.declared.events.Outcome.{Outcome}
+use Rattle.pfs_engine_machine.specs.declared.events.Outcome.TheVariants as outcome
+
+-- a packet touched the state of this number
+abbrev pub by_touch : Conf → Held → ℕ → ℕ → Touched → Outcome × Held
+by_touch conf h number now t =
+    let o = options_of conf t.rule.0 in
+    let conn = exceeded o.max_src_conn t.connections in
+    let rate = over_rate o.max_src_conn_rate t.score.value in
+    if t.completed && (conn || rate) then killed conf h number t.rule t.source now conn rate else (outcome.State t.rule, h)
+
+-- a rule makes no state, or the state is refused
+abbrev pub NeedsNoneAt : Conf → Held → Header → ℕ → Action → Type 0
+NeedsNoneAt conf h p rule action.Block = Unit {0}
+NeedsNoneAt conf h p rule action.Pass = Unit {0}
+NeedsNoneAt conf h p rule (action.Keep o) = IsSome (packet_limit conf h.world p rule)
+
+abbrev pub NeedsNoneBy : Conf → Held → Header → Option ℕ → Type 0
+NeedsNoneBy conf h p None = Unit {0}
+NeedsNoneBy conf h p (Some rule) = NeedsNoneAt conf h p rule (rule_of conf rule).action
+
+-- a packet of this state needs none, or, where there is none, by the rule that decides
+abbrev pub NeedsNone : Conf → Held → Header → Option State → Type 0
+NeedsNone conf h p None = NeedsNoneBy conf h p (decided conf h p)
+NeedsNone conf h p (Some s) = IsFreeOf conf p s.rule

@@ -1,0 +1,15 @@
+-- The fullest slices of the seconds of a jump. (own)
+use Rattle.std.specs.Prelude.{ℕ, max, List, [], ◌∷◌}
+use Rattle.pfs_conf_rules.specs.Configs.{Conf}
+use Rattle.pfs_store_plain.specs.Calls.{node_slice_of, state_slice_of}
+use Rattle.pfs_store_plain.specs.Purging.{purge, state_slice}
+use Rattle.pfs_store_plain.specs.Worlds.{World}
+
+-- the most states, and the most nodes, that one slice of these seconds examines
+abbrev pub most_states : Conf → World → List ℕ → ℕ
+most_states conf w [] = 0
+most_states conf w (s ∷ ss) = max (state_slice_of conf w s).examined (most_states conf (purge conf w s) ss)
+
+abbrev pub most_nodes : Conf → World → List ℕ → ℕ
+most_nodes conf w [] = 0
+most_nodes conf w (s ∷ ss) = max (node_slice_of conf (state_slice conf w s) s).examined (most_nodes conf (purge conf w s) ss)
