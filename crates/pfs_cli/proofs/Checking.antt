@@ -11,9 +11,9 @@ use Rattle.pfs_conf.specs.declared.kinds.Kind.{Kind}
 use Rattle.pfs_conf.specs.declared.kinds.Kind.TheVariants as kind
 use Rattle.pfs_cli.specs.declared.faults.ReplayFault.{ReplayFault}
 use Rattle.pfs_cli.specs.declared.faults.ReplayFault.TheVariants as fault
-use Rattle.pfs_cli.specs.Rules.{IsKept}
-use Rattle.pfs_cli.specs.Replays.{IsFeedFault}
-use Rattle.pfs_cli.specs.Checks.{Answers, RefusesText, fault_by, fault_of}
+use Rattle.pfs_cli.specs.Rules.{IsKept, IsRefused}
+use Rattle.pfs_cli.specs.Refusing.{IsFeedFault, RefusesText, fault_by, fault_of}
+use Rattle.pfs_cli.specs.Checks.{Answers}
 use Rattle.pfs_cli.proofs.Replaying.{kept-refused}
 
 -- what is told of a text without a configuration
@@ -45,7 +45,7 @@ feed-refused text f h = elim h [
 
 -- nothing is written then
 pub nothing-written : (text_of : Conf → List ℕ) (text : List ℕ) (f : ReplayFault) → RefusesText text f → Answers text_of text [] (Err f)
-nothing-written text_of text (fault.Rules e) h = (h, refl)
+nothing-written text_of text (fault.Rules e) h = (h.1, refl)
 nothing-written text_of text fault.Read h = refl
 nothing-written text_of text fault.Endless h = refl
 nothing-written text_of text fault.Memory h = refl
@@ -63,3 +63,7 @@ pub text-written : (text_of : Conf → List ℕ) (text : List ℕ) (conf : Conf)
 text-written text_of text conf reads bytes same a b (Ok u) ok err kind = (bytes, ok, (conf, reads, same))
 text-written text_of text conf reads bytes same a b (Err f) ok err kind =
     (err.0, err.1, subst (λ (x : ReplayFault). Answers text_of text err.0 (Err x)) (sym kind) (conf, reads, (err.2.0, sym same ∙ err.2.1)))
+
+-- a fault of the rules that is handed on is one of the text
+pub told-refused : (text : List ℕ) (e : ReplayFault) (f : LoadFault) → RefusesText text e → e ≡ fault.Rules f → IsRefused text f
+told-refused text e f h is = rw is at h

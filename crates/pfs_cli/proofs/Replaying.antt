@@ -22,7 +22,8 @@ use Rattle.pfs_cli.specs.Faults.{replay_fault}
 use Rattle.pfs_cli.specs.Rules.{IsRefused, IsKept, rules_limit}
 use Rattle.pfs_cli_report.specs.Reports.{report, AreFirstLines, BeginsReport}
 use Rattle.pfs_cli.specs.Turns.{Tells}
-use Rattle.pfs_cli.specs.Replays.{Replays, RefusesRules, IsFeedFault, trace_of}
+use Rattle.pfs_cli.specs.Refusing.{RefusesRules, IsFeedFault}
+use Rattle.pfs_cli.specs.Replays.{Replays, trace_of}
 
 pub Appends-kept : (a b c : Option (List ℕ)) (bs : List ℕ) → Appends a b bs → Keeps b c → Appends a c bs
 Appends-kept None b c bs p q = tt
@@ -118,7 +119,7 @@ kept-refused kept text f k (other, none, is) = (
 
 -- rules that are not accepted leave nothing
 pub rules-refused : (kept text ts : List ℕ) (f : ReplayFault) → IsKept kept text → RefusesRules kept f → Replays text ts [] (Err f)
-rules-refused kept text ts (fault.Rules f) k told = (kept-refused kept text f k told, refl)
+rules-refused kept text ts (fault.Rules f) k told = ((kept-refused kept text f k told).1, refl)
 rules-refused kept text ts (fault.Columns row) k told = absurd told
 rules-refused kept text ts (fault.Field row column) k told = absurd told
 rules-refused kept text ts (fault.TimeFell row) k told = absurd told
@@ -133,3 +134,11 @@ rules-refused kept text ts fault.Endless k told = absurd told
 pub handed-on : (rs ts t : List ℕ) (f : ReplayFault) (r : Result Unit ReplayFault) → IsErrAnd r (λ e. e ≡ f) → Replays rs ts t (Err f) → Replays rs ts t r
 handed-on rs ts t f (Ok u) is told = absurd is
 handed-on rs ts t f (Err e) is told = rw is told
+
+-- and the fault is one that the text may have
+pub rules-told : (kept text : List ℕ) (e : ReplayFault) (f : LoadFault) (r : Result Unit ReplayFault) → IsKept kept text → RefusesRules kept e
+    → IsErrAnd r (λ x. x ≡ e) → r ≡ Err (fault.Rules f) → IsRefused text f
+rules-told kept text e f (Ok u) k told is told_rules = absurd is
+rules-told kept text e f (Err g) k told is told_rules =
+    let same : e ≡ fault.Rules f = cc in
+    kept-refused kept text f k (rw same at told)

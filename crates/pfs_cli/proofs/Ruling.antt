@@ -7,8 +7,7 @@ use Rattle.pfs_conf.specs.Faults.{IsFault}
 use Rattle.pfs_conf.specs.declared.faults.LoadFault.{LoadFault}
 use Rattle.pfs_conf.specs.declared.kinds.Kind.{Kind}
 use Rattle.pfs_conf.specs.declared.kinds.Kind.TheVariants as kind
-use Rattle.pfs_cli.specs.Checks.{fault_by, fault_of}
-use Rattle.pfs_cli.specs.Replays.{RefusesRules}
+use Rattle.pfs_cli.specs.Refusing.{RefusesRules, fault_by, fault_of}
 
 -- a fault of the text, if it is told of a text with a configuration only where memory runs out
 pub refuses : (text : List ℕ) (f : LoadFault) → IsFault text f → ((conf : Conf) → Reads text conf → f ≡ no_memory) → RefusesRules text (fault_of f)

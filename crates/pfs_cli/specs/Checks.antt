@@ -3,12 +3,8 @@ use Rattle.std.specs.Prelude.{◌≡◌, ◌++◌, ℕ, List, [], codes, length,
 use Rattle.std.specs.Fmt.{decimal}
 use Rattle.pfs_conf_rules.specs.Configs.{Conf, entry_count_of}
 use Rattle.pfs_conf.specs.Reads.{Reads}
-use Rattle.pfs_conf.specs.declared.kinds.Kind.{Kind}
-use Rattle.pfs_conf.specs.declared.kinds.Kind.TheVariants as kind
-use Rattle.pfs_conf.specs.declared.faults.LoadFault.{LoadFault}
 use Rattle.pfs_cli.specs.declared.faults.ReplayFault.{ReplayFault}
 use Rattle.pfs_cli.specs.declared.faults.ReplayFault.TheVariants as fault
-use Rattle.pfs_cli.specs.Rules.{IsRefused}
 
 -- how many rules and anchors, tables and table entries a configuration has
 abbrev pub counts_text : Conf → List ℕ
@@ -19,25 +15,9 @@ counts_text conf =
 -- where reading stopped or memory was refused; a front of the text where writing failed
 abbrev pub Answers : (Conf → List ℕ) → List ℕ → List ℕ → Result Unit ReplayFault → Type 0
 Answers text_of rules text (Ok u) = (conf : Conf) × Reads rules conf × (text ≡ text_of conf)
-Answers text_of rules text (Err (fault.Rules f)) = IsRefused rules f × (text ≡ [])
+Answers text_of rules text (Err (fault.Rules f)) = ((conf : Conf) → Reads rules conf → ⊥) × (text ≡ [])
 Answers text_of rules text (Err fault.Read) = text ≡ []
 Answers text_of rules text (Err fault.Endless) = text ≡ []
 Answers text_of rules text (Err fault.Memory) = text ≡ []
 Answers text_of rules text (Err fault.Write) = (conf : Conf) × Reads rules conf × ((rest : List ℕ) × (text_of conf ≡ text ++ rest))
 Answers text_of rules text (Err _) = ⊥
-
--- what may be told of a rules text without a configuration, or that is not read to its end
-abbrev pub RefusesText : List ℕ → ReplayFault → Type 0
-RefusesText rules (fault.Rules f) = IsRefused rules f
-RefusesText rules fault.Read = Unit {0}
-RefusesText rules fault.Endless = Unit {0}
-RefusesText rules fault.Memory = Unit {0}
-RefusesText rules _ = ⊥
-
--- the fault of a replay for a fault of its rules; want of memory is told as such
-abbrev pub fault_by : LoadFault → Kind → ReplayFault
-fault_by f kind.Memory = fault.Memory
-fault_by f _ = fault.Rules f
-
-abbrev pub fault_of : LoadFault → ReplayFault
-fault_of f = fault_by f f.kind

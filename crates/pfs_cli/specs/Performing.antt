@@ -16,6 +16,11 @@ Performs (job.Check name) rules trace text result = Answers counts_text rules te
 Performs (job.Show name) rules trace text result = Answers text_of rules text result
 Performs (job.Replay name other) rules trace text result = Replays rules trace text result
 
+-- the rules text among the bytes that a job reads it from: without words what comes before the split line
+abbrev pub rules_within : Job → List ℕ → List ℕ
+rules_within job.Joined bytes = (split_joined bytes).0
+rules_within _ bytes = bytes
+
 -- a fact of a replay of two files, the one job that reads a trace of its own
 abbrev pub OfReplay : Job → Type 0 → Type 0
 OfReplay (job.Replay name other) P = P

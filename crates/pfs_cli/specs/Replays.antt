@@ -6,7 +6,6 @@ use Rattle.pfs_cli.specs.declared.faults.ReplayFault.{ReplayFault}
 use Rattle.pfs_cli.specs.declared.faults.ReplayFault.TheVariants as fault
 use Rattle.pfs_conf_rules.specs.Configs.{Conf}
 use Rattle.pfs_conf.specs.Reads.{Reads}
-use Rattle.pfs_cli.specs.Rules.{IsRefused}
 use Rattle.pfs_cli_report.specs.Traces.{Trace, events_of, records_of}
 use Rattle.pfs_cli_report.specs.Reports.{report, AreFirstLines, BeginsReport}
 
@@ -28,12 +27,12 @@ WritesLines rules bytes text =
 abbrev pub WritesFront : List ℕ → List ℕ → List ℕ → Type 0
 WritesFront rules bytes text = (conf : Conf) × Reads rules conf × BeginsReport conf (trace_of conf bytes) text
 
--- what is written, by how the replay ends. A rules text that is not accepted leaves nothing; a faulty trace, and one
--- without a fault, its report; a failed read, an endless reader or refused memory the lines of the first records; a
--- failed write a front of the report.
+-- what is written, by how the replay ends. Rules are told only of a text that reads as no configuration, and leave
+-- nothing; a faulty trace, and one without a fault, its report; a failed read, an endless reader or refused memory the
+-- lines of the first records; a failed write a front of the report.
 abbrev pub Replays : List ℕ → List ℕ → List ℕ → Result Unit ReplayFault → Type 0
 Replays rules bytes text (Ok u) = WritesReport rules bytes text None
-Replays rules bytes text (Err (fault.Rules f)) = IsRefused rules f × (text ≡ [])
+Replays rules bytes text (Err (fault.Rules f)) = ((conf : Conf) → Reads rules conf → ⊥) × (text ≡ [])
 Replays rules bytes text (Err (fault.Columns row)) = WritesReport rules bytes text (Some (trace.Columns row))
 Replays rules bytes text (Err (fault.Field row column)) = WritesReport rules bytes text (Some (trace.Field row column))
 Replays rules bytes text (Err (fault.TimeFell row)) = WritesReport rules bytes text (Some (trace.TimeFell row))
@@ -43,13 +42,3 @@ Replays rules bytes text (Err fault.Read) = WritesLines rules bytes text
 Replays rules bytes text (Err fault.Memory) = WritesLines rules bytes text
 Replays rules bytes text (Err fault.Endless) = WritesLines rules bytes text
 Replays rules bytes text (Err fault.Write) = WritesFront rules bytes text
-
--- what may be told of a rules text in place of its machine: a fault of it, or that memory was refused
-abbrev pub RefusesRules : List ℕ → ReplayFault → Type 0
-RefusesRules rules (fault.Rules f) = IsRefused rules f
-RefusesRules rules fault.Memory = Unit {0}
-RefusesRules rules _ = ⊥
-
--- what a feed that gives no more may be told as
-abbrev pub IsFeedFault : ReplayFault → Type 0
-IsFeedFault f = (f ≡ fault.Read) ⊎ (f ≡ fault.Endless) ⊎ (f ≡ fault.Memory)

@@ -6,8 +6,10 @@ ghost use Rattle.pfs_cli_streams.specs.Feeds.{unread, IsFresh, IsSpent, failures
 ghost use Rattle.pfs_cli_streams.specs.Sinks.{held, failures_of};
 ghost use Rattle.pfs_conf.specs.Reads.{Reads};
 ghost use Rattle.pfs_conf_show.specs.Texts.{text_of};
-ghost use Rattle.pfs_cli.specs.Rules.{rules_limit};
-ghost use Rattle.pfs_cli.specs.Checks.{Answers, RefusesText, counts_text};
+ghost use Rattle.pfs_conf.specs.declared.faults.LoadFault.{LoadFault};
+ghost use Rattle.pfs_cli.specs.Rules.{IsRefused, rules_limit};
+ghost use Rattle.pfs_cli.specs.Refusing.{RefusesText};
+ghost use Rattle.pfs_cli.specs.Checks.{Answers, counts_text};
 
 use crate::faults::ReplayFault;
 use crate::replays::read_text;
@@ -30,6 +32,7 @@ pub fn check<R: Read, W: Write>(
     requires { IsFresh rules.old }
     ensures answers { (rs : List ℕ) → unread R.remaining rules.old ≡ Some rs →
         ((t : List ℕ) × Appends (held W.contents out.old) (held W.contents out.new) t × Answers counts_text rs t result) }
+    ensures refused { (rs : List ℕ) (f : LoadFault) → unread R.remaining rules.old ≡ Some rs → result ≡ Err (ReplayFault.Rules f) → IsRefused rs f }
     ensures few { (rs : List ℕ) → unread R.remaining rules.old ≡ Some rs → (k : ℕ) × (k ≤ rules_limit + 1) × (unread R.remaining rules.new ≡ Some (drop k rs)) }
     ensures read { result ≡ Err ReplayFault.Read → 0 < read_failures rules.new }
     ensures endless { result ≡ Err ReplayFault.Endless → IsSpent rules.new }
@@ -58,6 +61,7 @@ pub fn print<R: Read, W: Write>(
     requires { IsFresh rules.old }
     ensures answers { (rs : List ℕ) → unread R.remaining rules.old ≡ Some rs →
         ((t : List ℕ) × Appends (held W.contents out.old) (held W.contents out.new) t × Answers text_of rs t result) }
+    ensures refused { (rs : List ℕ) (f : LoadFault) → unread R.remaining rules.old ≡ Some rs → result ≡ Err (ReplayFault.Rules f) → IsRefused rs f }
     ensures few { (rs : List ℕ) → unread R.remaining rules.old ≡ Some rs → (k : ℕ) × (k ≤ rules_limit + 1) × (unread R.remaining rules.new ≡ Some (drop k rs)) }
     ensures read { result ≡ Err ReplayFault.Read → 0 < read_failures rules.new }
     ensures endless { result ≡ Err ReplayFault.Endless → IsSpent rules.new }

@@ -4,7 +4,8 @@ ghost use Rattle.std.specs.Prelude.{◌≡◌, ◌⊎◌, Some, Ok, Err, ◌<◌
 ghost use Rattle.std.specs.Io.KnownBytes.{Appends};
 ghost use Rattle.pfs_cli_streams.specs.Feeds.{unread, IsSpent, failures_of as read_failures};
 ghost use Rattle.pfs_cli_streams.specs.Sinks.{held, failures_of};
-ghost use Rattle.pfs_cli.specs.Rules.{IsKept, rules_limit};
+ghost use Rattle.pfs_conf.specs.declared.faults.LoadFault.{LoadFault};
+ghost use Rattle.pfs_cli.specs.Rules.{IsKept, IsRefused, rules_limit};
 ghost use Rattle.pfs_cli.specs.Replays.{Replays, trace_of};
 ghost use Rattle.pfs_cli.specs.Joined.{split_joined};
 ghost use Rattle.pfs_cli.specs.Places.{IsPastSplit, ends_split, place_after, place_over, split_at, split_mark};
@@ -158,6 +159,7 @@ pub fn replay_joined<R: Read, W: Write>(
 ) -> Result<(), ReplayFault>
     ensures reports { (xs : List ℕ) → unread R.remaining input.old ≡ Some xs →
         ((t : List ℕ) × Appends (held W.contents out.old) (held W.contents out.new) t × Replays (split_joined xs).0 (split_joined xs).1 t result) }
+    ensures refused { (xs : List ℕ) (f : LoadFault) → unread R.remaining input.old ≡ Some xs → result ≡ Err (ReplayFault.Rules f) → IsRefused (split_joined xs).0 f }
     ensures read { result ≡ Err ReplayFault.Read → 0 < read_failures input.new }
     ensures endless { result ≡ Err ReplayFault.Endless → IsSpent input.new }
     ensures write { result ≡ Err ReplayFault.Write → 0 < failures_of out.new }

@@ -1,14 +1,16 @@
 //! A replay of a trace under rules, each from a reader of its own.
 
-ghost use Rattle.std.specs.Prelude.{◌≡◌, ◌⊎◌, Some, Ok, Err, ◌<◌, ◌≤◌, ◌+◌, ℕ, List, true, IfOk, IfErr, length, drop};
+ghost use Rattle.std.specs.Prelude.{◌≡◌, ◌≢◌, ◌⊎◌, Some, Ok, Err, ◌<◌, ◌≤◌, ◌+◌, ℕ, List, true, IfOk, IfErr, length, drop};
 ghost use Rattle.std.specs.Io.KnownBytes.{Appends, Keeps};
 ghost use Rattle.pfs_cli_streams.specs.Feeds.{unread, has_ended, IsFresh, IsSpent, failures_of as read_failures};
 ghost use Rattle.pfs_cli_streams.specs.Sinks.{held, failures_of};
 ghost use Rattle.pfs_conf_rules.specs.Configs.{Conf};
+ghost use Rattle.pfs_conf.specs.declared.faults.LoadFault.{LoadFault};
 ghost use Rattle.pfs_conf.specs.Reads.{Reads};
 ghost use Rattle.pfs_cli.specs.Turns.{Tells};
-ghost use Rattle.pfs_cli.specs.Rules.{IsKept, rules_limit};
-ghost use Rattle.pfs_cli.specs.Replays.{Replays, IsFeedFault, trace_of};
+ghost use Rattle.pfs_cli.specs.Rules.{IsKept, IsRefused, rules_limit};
+ghost use Rattle.pfs_cli.specs.Refusing.{IsFeedFault};
+ghost use Rattle.pfs_cli.specs.Replays.{Replays, trace_of};
 
 use crate::faults::{ReplayFault, of_trace};
 use crate::records::{Stop, tell_records};
@@ -35,6 +37,7 @@ pub(crate) fn feed_fault<R>(feed: &Feed<R>) -> ReplayFault
 // The fault of a run over this feed that stopped.
 pub(crate) fn fault_at<R>(stop: Stop, feed: &Feed<R>) -> ReplayFault
     ensures told { (conf : Conf) (rs : List ℕ) (ts : List ℕ) (t : List ℕ) → Reads rs conf → Tells conf (trace_of conf ts) t (Err stop) → Replays rs ts t (Err result) }
+    ensures no_rules { (f : LoadFault) → result ≢ ReplayFault.Rules f }
     ensures read { result ≡ ReplayFault.Read → 0 < read_failures feed.now }
     ensures endless { result ≡ ReplayFault.Endless → IsSpent feed.now }
     ensures write { result ≡ ReplayFault.Write → stop ≡ Stop.Write }
@@ -84,6 +87,7 @@ pub(crate) fn finish<R, W: Write>(
     requires { outcome ≡ Err (Stop.Write) → 0 < failures_of out.old }
     ensures kept { Keeps (held W.contents out.old) (held W.contents out.new) }
     ensures told { (conf : Conf) (rs : List ℕ) (ts : List ℕ) (t : List ℕ) → Reads rs conf → Tells conf (trace_of conf ts) t outcome → Replays rs ts t result }
+    ensures no_rules { (f : LoadFault) → result ≢ Err (ReplayFault.Rules f) }
     ensures read { result ≡ Err ReplayFault.Read → 0 < read_failures feed.now }
     ensures endless { result ≡ Err ReplayFault.Endless → IsSpent feed.now }
     ensures write { result ≡ Err ReplayFault.Write → 0 < failures_of out.new }
@@ -130,6 +134,9 @@ pub fn replay<R: Read, T: Read, W: Write>(
     // The report of the bytes that the two readers hold, as far as the result says.
     ensures reports { (rs : List ℕ) (ts : List ℕ) → unread R.remaining rules.old ≡ Some rs → unread T.remaining trace.old ≡ Some ts →
         ((t : List ℕ) × Appends (held W.contents out.old) (held W.contents out.new) t × Replays rs ts t result) }
+
+    // A fault of the rules is one that this text may have: its kind, its line, and the token at which reading stops.
+    ensures refused { (rs : List ℕ) (f : LoadFault) → unread R.remaining rules.old ≡ Some rs → result ≡ Err (ReplayFault.Rules f) → IsRefused rs f }
 
     // The rules come first, and no more of them than is needed.
     ensures rules_first { (out.new ≡ out.old) ⊎ ((has_ended rules.new ≡ true) × (read_failures rules.new ≡ 0)) }

@@ -3,8 +3,7 @@
 ghost use Rattle.std.specs.Prelude.{◌≡◌, IfOk, IfErr};
 ghost use Rattle.pfs_conf.specs.Reads.{Reads};
 ghost use Rattle.pfs_engine_machine.specs.Machine.{start};
-ghost use Rattle.pfs_cli.specs.Checks.{fault_of};
-ghost use Rattle.pfs_cli.specs.Replays.{RefusesRules};
+ghost use Rattle.pfs_cli.specs.Refusing.{RefusesRules, fault_of};
 
 use crate::faults::ReplayFault;
 use crate::machine::{TraceEngine, first_machine};

@@ -1,13 +1,18 @@
--- Answers of print: of refused rules nothing is written, else the text or a front (`answers`, `write`).
+-- Answers of print: of refused rules nothing is written, else the text or a front (`answers`, `refused`, `write`).
 use Rattle.std.proofs.Common.{◌≡◌, [], ◌∙◌}
 use Rattle.pfs_conf_show.specs.Texts.{text_of}
 use Rattle.pfs_cli.specs.declared.faults.ReplayFault.TheVariants as fault
-use Rattle.pfs_cli.proofs.Checking.{nothing-written, text-written}
+use Rattle.pfs_cli.proofs.Checking.{nothing-written, text-written, told-refused}
 use Rattle.pfs_cli.proofs.Telling.{Appends-nothing}
 use Rattle.pfs_cli.proofs.checks.print.Goals as goal
 
 pub returns-in-Err-clause-answers : goal.returns-in-Err-clause-answers
 returns-in-Err-clause-answers g c rs er = ([], Appends-nothing _, nothing-written text_of rs c.in-Err.fault (c.in-Err.ensures.err rs er))
+
+pub returns-in-Err-clause-refused : goal.returns-in-Err-clause-refused
+returns-in-Err-clause-refused g c rs f er is =
+    let same : c.in-Err.fault ≡ fault.Rules f = cc in
+    told-refused rs c.in-Err.fault f (c.in-Err.ensures.err rs er) same
 
 pub returns-in-Err-clause-write : goal.returns-in-Err-clause-write
 returns-in-Err-clause-write g c e = let same : c.in-Err.fault ≡ fault.Write = cc in absurd (c.in-Err.ensures.no_write same)

@@ -2,7 +2,7 @@
 use Rattle.std.proofs.Common.{ℕ, List, subst, sym}
 use Rattle.pfs_conf.specs.Reads.{Reads}
 use Rattle.pfs_conf.specs.Faults.{IsFault}
-use Rattle.pfs_cli.specs.Checks.{RefusesText}
+use Rattle.pfs_cli.specs.Refusing.{RefusesText}
 use Rattle.pfs_cli.proofs.Checking.{kept-told}
 use Rattle.pfs_cli.proofs.Replaying.{kept-reads}
 use Rattle.pfs_cli.proofs.checks.read_config.Goals as goal

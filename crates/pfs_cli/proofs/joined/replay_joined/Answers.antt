@@ -1,11 +1,11 @@
--- Answers of replay_joined: what is written is the report of the two parts of the joined text (`reports`).
+-- Answers of replay_joined: what is written is the report of the two parts of the joined text (`reports`), and refused rules have their fault (`refused`).
 use Rattle.std.proofs.Common.{refl, ◌≡◌, Some, ℕ, List, [], Option, MutBor}
 use Rattle.std.specs.Io.Buffered.{reader_remaining, reader_buffer, reader_inner, reader_capacity}
 use Rattle.std.specs.declared.io.buffered.BufReader.{BufReader}
 use Rattle.pfs_cli_streams.specs.Feeds.{FeedView, unread}
 use Rattle.pfs_cli.specs.Joined.{split_joined}
 use Rattle.pfs_cli.proofs.Telling.{Appends-nothing}
-use Rattle.pfs_cli.proofs.Replaying.{Appends-kept, kept-reads, rules-refused, handed-on}
+use Rattle.pfs_cli.proofs.Replaying.{Appends-kept, kept-reads, rules-refused, rules-told, handed-on}
 use Rattle.pfs_cli.proofs.joined.replay_joined.Goals as goal
 
 -- a new buffered reader holds what the reader under it does
@@ -27,3 +27,12 @@ returns-clause-reports g c xs e =
     let trace = c.in-Ok-read_joined.ensures.trace xs start c.in_ok-engine.ensures.ok.short in
     let (t, grown, told) = c.tell_records-outcome.ensures.tells (split_joined xs).1 trace in
     (t, Appends-kept _ _ _ t grown c.finish.ensures.kept, c.finish.ensures.told conf (split_joined xs).0 (split_joined xs).1 t known told)
+
+pub returns-in_err-engine-clause-refused : goal.returns-in_err-engine-clause-refused
+returns-in_err-engine-clause-refused g c xs f e is =
+    let start = fresh_holds (λ (r : MutBor (FeedView g.row.R.Denot)). unread g.R.Read.remaining r.now) c.in-Ok.reader _ xs c.in-Ok.ensures.inner c.in-Ok.ensures.empty c.in-Ok.ensures.capacity e in
+    rules-told c.in-Ok-read_joined.text.items (split_joined xs).0 c.in_err-engine.field-0.0 f c.from_residual.result (c.in-Ok-read_joined.ensures.rules xs start) c.in_err-engine.ensures.err
+    c.from_residual.ensures.1 is
+
+pub returns-clause-refused : goal.returns-clause-refused
+returns-clause-refused g c xs f e is = absurd (c.finish.ensures.no_rules f is)

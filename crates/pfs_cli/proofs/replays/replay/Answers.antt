@@ -1,6 +1,6 @@
--- Answers of replay: the report, also of refused rules (`reports`), and a failed read of the trace (`read`).
+-- Answers of replay: the report, also of refused rules (`reports`), their fault (`refused`), and a feed that gives no more (`read`, `endless`).
 use Rattle.std.proofs.Common.{[], inr}
-use Rattle.pfs_cli.proofs.Replaying.{Appends-kept, kept-reads, rules-refused, handed-on}
+use Rattle.pfs_cli.proofs.Replaying.{Appends-kept, kept-reads, rules-refused, rules-told, handed-on}
 use Rattle.pfs_cli.proofs.Telling.{Appends-nothing}
 use Rattle.pfs_cli.proofs.replays.replay.Goals as goal
 
@@ -16,5 +16,16 @@ returns-in_err-engine-clause-reports g c rs ts er et =
     let told = rules-refused c.in_ok-text.text.items rs ts c.in_err-engine.field-0.0 (c.in_ok-text.ensures.text rs er) c.in_err-engine.ensures.err in
     ([], Appends-nothing _, handed-on rs ts [] c.in_err-engine.field-0.0 c.from_residual-in_err-engine.result c.from_residual-in_err-engine.ensures.1 told)
 
+pub returns-clause-refused : goal.returns-clause-refused
+returns-clause-refused g c rs f er is = absurd (c.finish.ensures.no_rules f is)
+
+pub returns-in_err-engine-clause-refused : goal.returns-in_err-engine-clause-refused
+returns-in_err-engine-clause-refused g c rs f er is =
+    rules-told c.in_ok-text.text.items rs c.in_err-engine.field-0.0 f c.from_residual-in_err-engine.result (c.in_ok-text.ensures.text rs er) c.in_err-engine.ensures.err
+    c.from_residual-in_err-engine.ensures.1 is
+
 pub returns-clause-read : goal.returns-clause-read
 returns-clause-read g c is = inr (c.finish.ensures.read is)
+
+pub returns-clause-endless : goal.returns-clause-endless
+returns-clause-endless g c is = inr (c.finish.ensures.endless is)

@@ -2,7 +2,7 @@
 use Rattle.std.proofs.Common.{subst, sym, List, ℕ}
 use Rattle.pfs_conf.specs.Reads.{Reads}
 use Rattle.pfs_conf.specs.Faults.{IsFault}
-use Rattle.pfs_cli.specs.Replays.{RefusesRules}
+use Rattle.pfs_cli.specs.Refusing.{RefusesRules}
 use Rattle.pfs_cli.proofs.Ruling.{refuses}
 use Rattle.pfs_cli.proofs.rules.load_machine.Goals as goal
 

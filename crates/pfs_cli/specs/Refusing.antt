@@ -1,0 +1,34 @@
+-- What the reading of a rules text ends with where it gives no configuration, as the calls hand it on. (own)
+use Rattle.std.specs.Prelude.{◌≡◌, ◌⊎◌, ℕ, List}
+use Rattle.pfs_conf.specs.declared.kinds.Kind.{Kind}
+use Rattle.pfs_conf.specs.declared.kinds.Kind.TheVariants as kind
+use Rattle.pfs_conf.specs.declared.faults.LoadFault.{LoadFault}
+use Rattle.pfs_cli.specs.declared.faults.ReplayFault.{ReplayFault}
+use Rattle.pfs_cli.specs.declared.faults.ReplayFault.TheVariants as fault
+use Rattle.pfs_cli.specs.Rules.{IsRefused}
+
+-- what may be told of a rules text without a configuration, or that is not read to its end
+abbrev pub RefusesText : List ℕ → ReplayFault → Type 0
+RefusesText rules (fault.Rules f) = IsRefused rules f
+RefusesText rules fault.Read = Unit {0}
+RefusesText rules fault.Endless = Unit {0}
+RefusesText rules fault.Memory = Unit {0}
+RefusesText rules _ = ⊥
+
+-- the fault of a replay for a fault of its rules; want of memory is told as such
+abbrev pub fault_by : LoadFault → Kind → ReplayFault
+fault_by f kind.Memory = fault.Memory
+fault_by f _ = fault.Rules f
+
+abbrev pub fault_of : LoadFault → ReplayFault
+fault_of f = fault_by f f.kind
+
+-- what may be told of a rules text in place of its machine: a fault of it, or that memory was refused
+abbrev pub RefusesRules : List ℕ → ReplayFault → Type 0
+RefusesRules rules (fault.Rules f) = IsRefused rules f
+RefusesRules rules fault.Memory = Unit {0}
+RefusesRules rules _ = ⊥
+
+-- what a feed that gives no more may be told as
+abbrev pub IsFeedFault : ReplayFault → Type 0
+IsFeedFault f = (f ≡ fault.Read) ⊎ (f ≡ fault.Endless) ⊎ (f ≡ fault.Memory)
