@@ -12,8 +12,7 @@ use Rattle.std.proofs.lemmas.Bool.Decides.{nat_tests}
 use Rattle.std.proofs.lemmas.List.Elements.{All-get_or, All-head, All-tail}
 use Rattle.pfs_conf_tokens.specs.declared.keys.Key.{Key}
 use Rattle.pfs_conf_tokens.specs.Lexis.{is_word_byte}
-use Rattle.pfs_conf_tokens.specs.Words.{key_of_text}
-use Rattle.pfs_conf_tokens.specs.WordGroups.{setting_words, action_words, filter_words, state_words, option_words, tcp_timeout_words, other_timeout_words, protocol_words, service_words, foreign_statement_words, foreign_option_words, foreign_other_words}
+use Rattle.pfs_conf_tokens.specs.Words.{key_of_text, statement_words, option_words, named_words, foreign_words}
 use Rattle.pfs_conf_tokens.proofs.ShownLaws.{decimal_text, is_word_text, key_of-decimal}
 use Rattle.pfs_addr.specs.Addresses.{IsAddr, addr_text, width_of}
 use Rattle.pfs_addr.specs.Prefixes.{IsNetwork, Network}
@@ -61,10 +60,8 @@ colonless w (entry ∷ entries) h g =
 
 colon_plain : (w : List ℕ) → has_colon w ≡ true → is_plain_word (key_of_text w) ≡ true
 colon_plain w h =
-    key_passes is_plain_word w refl refl (colonless w setting_words h refl) (colonless w action_words h refl) (colonless w filter_words h refl)
-    (colonless w state_words h refl) (colonless w option_words h refl) (colonless w tcp_timeout_words h refl) (colonless w other_timeout_words h refl)
-    (colonless w protocol_words h refl) (colonless w service_words h refl) (colonless w foreign_statement_words h refl)
-    (colonless w foreign_option_words h refl) (colonless w foreign_other_words h refl)
+    key_passes is_plain_word w refl refl (colonless w statement_words h refl) (colonless w option_words h refl)
+    (colonless w named_words h refl) (colonless w foreign_words h refl)
 
 colon_in_front : (v w : List ℕ) → has_colon v ≡ true → has_colon (v ++ w) ≡ true
 colon_in_front [] w h = absurd (cc h)

@@ -4,5 +4,4 @@ pub mod NumberLaws
 pub mod Laws
 pub mod ReaderLaws
 pub mod ShownLaws
-pub mod WordGroups
 pub mod WordKeys

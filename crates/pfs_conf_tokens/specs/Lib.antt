@@ -1,7 +1,6 @@
 pub mod Keys
 pub mod Tokens
 pub mod Words
-pub mod WordGroups
 pub mod Lexis
 pub mod Scanning
 pub mod Numbers

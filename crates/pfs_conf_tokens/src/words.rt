@@ -1,243 +1,34 @@
-// Which word has which key.
+//! Which word has which key.
 
-ghost use Rattle.std.specs.Prelude.{◌≡◌};
-ghost use Rattle.pfs_conf_tokens.specs.Words.{find_word, key_of_text, starts_with_digit};
-ghost use Rattle.pfs_conf_tokens.specs.WordGroups.{key_by_groups, setting_words, action_words, filter_words, state_words, option_words, tcp_timeout_words, other_timeout_words, protocol_words, service_words, foreign_statement_words, foreign_option_words, foreign_other_words};
+ghost use Rattle.std.specs.Prelude.{◌≡◌, map};
+ghost use Rattle.std.specs.Map.{lookup};
+ghost use Rattle.std.specs.Str.{bytes_eq};
+ghost use Rattle.pfs_conf_tokens.specs.Words.{foreign_words, key_of_text, named_words, option_words, starts_with_digit, statement_words};
 
 use crate::keys::Key;
 
-/// The key of the word in a table of words, if it stands there.
-macro_rules! find_word {
-    ($word:expr;) => {
-        None
-    };
-    ($word:expr; $text:literal => $key:ident, $($rest:tt)*) => {
-        if $word == $text.as_slice() {
-            Some(Key::$key)
-        } else {
-            find_word!($word; $($rest)*)
-        }
-    };
-}
-
-#[tactic(auto, unfolding(crate::specs::Words::find_word))]
-fn setting_word(word: &[u8]) -> Option<Key>
-    ensures { result ≡ find_word setting_words word.now }
+/// The key of a word of a rules text, which is given without the bytes around it: `Number` if it begins with a digit,
+/// the word's own key if the grammar has it, `Foreign` if only pf has it, and else `Name`. (pf.conf(5), GRAMMAR)
+#[tactic(auto, unfolding(crate::specs::Words::key_of_text))]
+pub fn key_of(word: &[u8]) -> Key
+    ensures { result ≡ key_of_text word.now }
 {
-    find_word! { word;
-        b"set" => Set,
-        b"limit" => Limit,
-        b"timeout" => Timeout,
-        b"states" => States,
-        b"src-nodes" => SrcNodes,
-        b"tables" => Tables,
-        b"table-entries" => TableEntries,
-        b"frags" => Frags,
-        b"table" => Table,
-        b"persist" => Persist,
-        b"const" => Const,
-        b"counters" => Counters,
+    if starts_with_digit(word) {
+        return Key::Number;
     }
-}
-
-#[tactic(auto, unfolding(crate::specs::Words::find_word))]
-fn action_word(word: &[u8]) -> Option<Key>
-    ensures { result ≡ find_word action_words word.now }
-{
-    find_word! { word;
-        b"pass" => Pass,
-        b"block" => Block,
-        b"drop" => Drop,
-        b"return" => Return,
-        b"return-rst" => ReturnRst,
-        b"return-icmp" => ReturnIcmp,
-        b"return-icmp6" => ReturnIcmp6,
-        b"in" => In,
-        b"out" => Out,
-        b"anchor" => Anchor,
-        b"inet6" => Inet6,
+    if let Some(key) = find_word(statement_words(), word) {
+        return key;
     }
-}
-
-#[tactic(auto, unfolding(crate::specs::Words::find_word))]
-fn filter_word(word: &[u8]) -> Option<Key>
-    ensures { result ≡ find_word filter_words word.now }
-{
-    find_word! { word;
-        b"log" => Log,
-        b"all" => All,
-        b"matches" => Matches,
-        b"user" => User,
-        b"to" => To,
-        b"quick" => Quick,
-        b"on" => On,
-        b"inet" => Inet,
-        b"proto" => Proto,
-        b"from" => From,
-        b"port" => Port,
+    if let Some(key) = find_word(option_words(), word) {
+        return key;
     }
-}
-
-#[tactic(auto, unfolding(crate::specs::Words::find_word))]
-fn state_word(word: &[u8]) -> Option<Key>
-    ensures { result ≡ find_word state_words word.now }
-{
-    find_word! { word;
-        b"any" => Any,
-        b"flags" => Flags,
-        b"no" => No,
-        b"state" => State,
-        b"keep" => Keep,
-        b"max" => Max,
-        b"source-track" => SourceTrack,
-        b"rule" => Rule,
-        b"global" => Global,
-        b"max-src-nodes" => MaxSrcNodes,
-        b"max-src-states" => MaxSrcStates,
+    if let Some(key) = find_word(named_words(), word) {
+        return key;
     }
-}
-
-#[tactic(auto, unfolding(crate::specs::Words::find_word))]
-fn option_word(word: &[u8]) -> Option<Key>
-    ensures { result ≡ find_word option_words word.now }
-{
-    find_word! { word;
-        b"max-src-conn" => MaxSrcConn,
-        b"max-src-conn-rate" => MaxSrcConnRate,
-        b"overload" => Overload,
-        b"flush" => Flush,
-        b"sloppy" => Sloppy,
-        b"floating" => Floating,
-        b"no-sync" => NoSync,
-        b"frag" => Frag,
-        b"tcp.tsdiff" => TcpTsdiff,
-        b"icmp.first" => IcmpFirst,
-        b"icmp.error" => IcmpError,
+    if let Some(key) = find_word(foreign_words(), word) {
+        return key;
     }
-}
-
-#[tactic(auto, unfolding(crate::specs::Words::find_word))]
-fn tcp_timeout_word(word: &[u8]) -> Option<Key>
-    ensures { result ≡ find_word tcp_timeout_words word.now }
-{
-    find_word! { word;
-        b"tcp.first" => TcpFirst,
-        b"tcp.opening" => TcpOpening,
-        b"tcp.established" => TcpEstablished,
-        b"tcp.closing" => TcpClosing,
-        b"tcp.finwait" => TcpFinwait,
-        b"tcp.closed" => TcpClosed,
-        b"udp.first" => UdpFirst,
-        b"udp.single" => UdpSingle,
-        b"udp.multiple" => UdpMultiple,
-    }
-}
-
-#[tactic(auto, unfolding(crate::specs::Words::find_word))]
-fn other_timeout_word(word: &[u8]) -> Option<Key>
-    ensures { result ≡ find_word other_timeout_words word.now }
-{
-    find_word! { word;
-        b"other.first" => OtherFirst,
-        b"other.single" => OtherSingle,
-        b"other.multiple" => OtherMultiple,
-        b"src.track" => SrcTrack,
-        b"interval" => Interval,
-        b"adaptive.start" => AdaptiveStart,
-        b"adaptive.end" => AdaptiveEnd,
-        b"rdomain" => Rdomain,
-    }
-}
-
-#[tactic(auto, unfolding(crate::specs::Words::find_word))]
-fn protocol_word(word: &[u8]) -> Option<Key>
-    ensures { result ≡ find_word protocol_words word.now }
-{
-    find_word! { word;
-        b"tcp" => Tcp,
-        b"udp" => Udp,
-        b"icmp" => Icmp,
-        b"icmp6" => Icmp6,
-        b"esp" => Esp,
-        b"ah" => Ah,
-        b"gre" => Gre,
-    }
-}
-
-#[tactic(auto, unfolding(crate::specs::Words::find_word))]
-fn service_word(word: &[u8]) -> Option<Key>
-    ensures { result ≡ find_word service_words word.now }
-{
-    find_word! { word;
-        b"ssh" => Ssh,
-        b"smtp" => Smtp,
-        b"domain" => Domain,
-        b"www" => Www,
-        b"http" => Http,
-        b"https" => Https,
-    }
-}
-
-#[tactic(auto, unfolding(crate::specs::Words::find_word))]
-fn foreign_statement_word(word: &[u8]) -> Option<Key>
-    ensures { result ≡ find_word foreign_statement_words word.now }
-{
-    find_word! { word;
-        b"match" => Foreign,
-        b"antispoof" => Foreign,
-        b"queue" => Foreign,
-        b"include" => Foreign,
-        b"load" => Foreign,
-        b"group" => Foreign,
-        b"icmp-type" => Foreign,
-        b"icmp6-type" => Foreign,
-        b"tos" => Foreign,
-        b"prio" => Foreign,
-        b"tag" => Foreign,
-        b"tagged" => Foreign,
-        b"label" => Foreign,
-    }
-}
-
-#[tactic(auto, unfolding(crate::specs::Words::find_word))]
-fn foreign_option_word(word: &[u8]) -> Option<Key>
-    ensures { result ≡ find_word foreign_option_words word.now }
-{
-    find_word! { word;
-        b"allow-opts" => Foreign,
-        b"once" => Foreign,
-        b"probability" => Foreign,
-        b"rtable" => Foreign,
-        b"divert-to" => Foreign,
-        b"divert-reply" => Foreign,
-        b"divert-packet" => Foreign,
-        b"nat-to" => Foreign,
-        b"rdr-to" => Foreign,
-        b"binat-to" => Foreign,
-        b"af-to" => Foreign,
-        b"route-to" => Foreign,
-        b"reply-to" => Foreign,
-    }
-}
-
-#[tactic(auto, unfolding(crate::specs::Words::find_word))]
-fn foreign_other_word(word: &[u8]) -> Option<Key>
-    ensures { result ≡ find_word foreign_other_words word.now }
-{
-    find_word! { word;
-        b"dup-to" => Foreign,
-        b"scrub" => Foreign,
-        b"received-on" => Foreign,
-        b"fragment" => Foreign,
-        b"fragments" => Foreign,
-        b"os" => Foreign,
-        b"modulate" => Foreign,
-        b"synproxy" => Foreign,
-        b"file" => Foreign,
-        b"initializers" => Foreign,
-        b"if-bound" => Foreign,
-        b"pflow" => Foreign,
-    }
+    Key::Name
 }
 
 fn starts_with_digit(word: &[u8]) -> bool
@@ -249,57 +40,175 @@ fn starts_with_digit(word: &[u8]) -> bool
     }
 }
 
-/// The key of a word of a rules text, which is given without the bytes around it: `Number` if it begins with a digit,
-/// the word's own key if the grammar has it, `Foreign` if only pf has it, and else `Name`. (pf.conf(5), GRAMMAR)
-#[tactic(auto, using(crate::proofs::WordGroups::key_in_groups))]
-pub fn key_of(word: &[u8]) -> Key
-    ensures { result ≡ key_of_text word.now }
+/// The key of the word in a table of words, if it stands there.
+fn find_word(words: &[(&'static [u8], Key)], word: &[u8]) -> Option<Key>
+    ensures { result ≡ lookup (bytes_eq word.now) (map (λ e. (e.0.now, e.1)) words.now) }
 {
-    key_by_groups(word)
+    for (text, key) in words {
+        if word == *text {
+            return Some(*key);
+        }
+    }
+    None
 }
 
-#[tactic(auto, unfolding(crate::specs::WordGroups::key_by_groups))]
-fn key_by_groups(word: &[u8]) -> Key
-    ensures { result ≡ key_by_groups word.now }
+// Four tables, since the time of a proof grows with the square of a table's length.
+fn statement_words() -> &'static [(&'static [u8], Key)]
+    ensures { map (λ e. (e.0.now, e.1)) result.now ≡ statement_words }
 {
-    if starts_with_digit(word) {
-        return Key::Number;
-    }
-    if let Some(key) = setting_word(word) {
-        return key;
-    }
-    if let Some(key) = action_word(word) {
-        return key;
-    }
-    if let Some(key) = filter_word(word) {
-        return key;
-    }
-    if let Some(key) = state_word(word) {
-        return key;
-    }
-    if let Some(key) = option_word(word) {
-        return key;
-    }
-    if let Some(key) = tcp_timeout_word(word) {
-        return key;
-    }
-    if let Some(key) = other_timeout_word(word) {
-        return key;
-    }
-    if let Some(key) = protocol_word(word) {
-        return key;
-    }
-    if let Some(key) = service_word(word) {
-        return key;
-    }
-    if let Some(key) = foreign_statement_word(word) {
-        return key;
-    }
-    if let Some(key) = foreign_option_word(word) {
-        return key;
-    }
-    if let Some(key) = foreign_other_word(word) {
-        return key;
-    }
-    Key::Name
+    &STATEMENT_WORDS
 }
+
+fn option_words() -> &'static [(&'static [u8], Key)]
+    ensures { map (λ e. (e.0.now, e.1)) result.now ≡ option_words }
+{
+    &OPTION_WORDS
+}
+
+fn named_words() -> &'static [(&'static [u8], Key)]
+    ensures { map (λ e. (e.0.now, e.1)) result.now ≡ named_words }
+{
+    &NAMED_WORDS
+}
+
+fn foreign_words() -> &'static [(&'static [u8], Key)]
+    ensures { map (λ e. (e.0.now, e.1)) result.now ≡ foreign_words }
+{
+    &FOREIGN_WORDS
+}
+
+static STATEMENT_WORDS: [(&[u8], Key); 37] = [
+    (b"any", Key::Any),
+    (b"rdomain", Key::Rdomain),
+    (b"set", Key::Set),
+    (b"limit", Key::Limit),
+    (b"timeout", Key::Timeout),
+    (b"states", Key::States),
+    (b"src-nodes", Key::SrcNodes),
+    (b"tables", Key::Tables),
+    (b"table-entries", Key::TableEntries),
+    (b"frags", Key::Frags),
+    (b"table", Key::Table),
+    (b"persist", Key::Persist),
+    (b"const", Key::Const),
+    (b"counters", Key::Counters),
+    (b"pass", Key::Pass),
+    (b"block", Key::Block),
+    (b"drop", Key::Drop),
+    (b"return", Key::Return),
+    (b"return-rst", Key::ReturnRst),
+    (b"return-icmp", Key::ReturnIcmp),
+    (b"return-icmp6", Key::ReturnIcmp6),
+    (b"in", Key::In),
+    (b"out", Key::Out),
+    (b"anchor", Key::Anchor),
+    (b"inet6", Key::Inet6),
+    (b"log", Key::Log),
+    (b"all", Key::All),
+    (b"matches", Key::Matches),
+    (b"user", Key::User),
+    (b"to", Key::To),
+    (b"quick", Key::Quick),
+    (b"on", Key::On),
+    (b"inet", Key::Inet),
+    (b"proto", Key::Proto),
+    (b"from", Key::From),
+    (b"port", Key::Port),
+    (b"flags", Key::Flags),
+];
+
+static OPTION_WORDS: [(&[u8], Key); 36] = [
+    (b"no", Key::No),
+    (b"state", Key::State),
+    (b"keep", Key::Keep),
+    (b"max", Key::Max),
+    (b"source-track", Key::SourceTrack),
+    (b"rule", Key::Rule),
+    (b"global", Key::Global),
+    (b"max-src-nodes", Key::MaxSrcNodes),
+    (b"max-src-states", Key::MaxSrcStates),
+    (b"max-src-conn", Key::MaxSrcConn),
+    (b"max-src-conn-rate", Key::MaxSrcConnRate),
+    (b"overload", Key::Overload),
+    (b"flush", Key::Flush),
+    (b"sloppy", Key::Sloppy),
+    (b"floating", Key::Floating),
+    (b"no-sync", Key::NoSync),
+    (b"frag", Key::Frag),
+    (b"tcp.tsdiff", Key::TcpTsdiff),
+    (b"icmp.first", Key::IcmpFirst),
+    (b"icmp.error", Key::IcmpError),
+    (b"tcp.first", Key::TcpFirst),
+    (b"tcp.opening", Key::TcpOpening),
+    (b"tcp.established", Key::TcpEstablished),
+    (b"tcp.closing", Key::TcpClosing),
+    (b"tcp.finwait", Key::TcpFinwait),
+    (b"tcp.closed", Key::TcpClosed),
+    (b"udp.first", Key::UdpFirst),
+    (b"udp.single", Key::UdpSingle),
+    (b"udp.multiple", Key::UdpMultiple),
+    (b"other.first", Key::OtherFirst),
+    (b"other.single", Key::OtherSingle),
+    (b"other.multiple", Key::OtherMultiple),
+    (b"src.track", Key::SrcTrack),
+    (b"interval", Key::Interval),
+    (b"adaptive.start", Key::AdaptiveStart),
+    (b"adaptive.end", Key::AdaptiveEnd),
+];
+
+static NAMED_WORDS: [(&[u8], Key); 13] = [
+    (b"tcp", Key::Tcp),
+    (b"udp", Key::Udp),
+    (b"icmp", Key::Icmp),
+    (b"icmp6", Key::Icmp6),
+    (b"esp", Key::Esp),
+    (b"ah", Key::Ah),
+    (b"gre", Key::Gre),
+    (b"ssh", Key::Ssh),
+    (b"smtp", Key::Smtp),
+    (b"domain", Key::Domain),
+    (b"www", Key::Www),
+    (b"http", Key::Http),
+    (b"https", Key::Https),
+];
+
+static FOREIGN_WORDS: [(&[u8], Key); 38] = [
+    (b"match", Key::Foreign),
+    (b"antispoof", Key::Foreign),
+    (b"queue", Key::Foreign),
+    (b"include", Key::Foreign),
+    (b"load", Key::Foreign),
+    (b"group", Key::Foreign),
+    (b"icmp-type", Key::Foreign),
+    (b"icmp6-type", Key::Foreign),
+    (b"tos", Key::Foreign),
+    (b"prio", Key::Foreign),
+    (b"tag", Key::Foreign),
+    (b"tagged", Key::Foreign),
+    (b"label", Key::Foreign),
+    (b"allow-opts", Key::Foreign),
+    (b"once", Key::Foreign),
+    (b"probability", Key::Foreign),
+    (b"rtable", Key::Foreign),
+    (b"divert-to", Key::Foreign),
+    (b"divert-reply", Key::Foreign),
+    (b"divert-packet", Key::Foreign),
+    (b"nat-to", Key::Foreign),
+    (b"rdr-to", Key::Foreign),
+    (b"binat-to", Key::Foreign),
+    (b"af-to", Key::Foreign),
+    (b"route-to", Key::Foreign),
+    (b"reply-to", Key::Foreign),
+    (b"dup-to", Key::Foreign),
+    (b"scrub", Key::Foreign),
+    (b"received-on", Key::Foreign),
+    (b"fragment", Key::Foreign),
+    (b"fragments", Key::Foreign),
+    (b"os", Key::Foreign),
+    (b"modulate", Key::Foreign),
+    (b"synproxy", Key::Foreign),
+    (b"file", Key::Foreign),
+    (b"initializers", Key::Foreign),
+    (b"if-bound", Key::Foreign),
+    (b"pflow", Key::Foreign),
+];
