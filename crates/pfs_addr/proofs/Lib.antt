@@ -2,7 +2,9 @@ pub mod AddrLaws
 mod ByteLaws
 pub mod GroupLaws
 mod HexLaws
+pub mod LastBytes
 mod Laying
+pub mod LetterLaws
 pub mod NumberLaws
 pub mod OctetLaws
 pub mod PrefixLaws

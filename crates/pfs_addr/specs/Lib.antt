@@ -2,6 +2,7 @@ pub mod Addresses
 pub mod FlagSets
 pub mod Groups
 pub mod Keys
+pub mod LetterSteps
 pub mod Names
 pub mod Numbers
 pub mod Octets

@@ -80,10 +80,10 @@ pub fn parse_addr(text: &[u8]) -> Option<Addr>
     ensures reads { IfSome result (λ a. IsAddr a × IsAddrText text.now a) }
     ensures only { (a : Addr) → IsAddr a → IsAddrText text.now a → result ≡ Some a }
 {
-    match quad(text) {
-        Some(addr) => Some(addr),
-        None => groups(text),
+    if let Some(addr) = quad(text) {
+        return Some(addr);
     }
+    groups(text)
 }
 
 // An IPv6 address, where the text is one.

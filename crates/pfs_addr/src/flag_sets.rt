@@ -1,8 +1,8 @@
 // Sets of TCP flags.
 
 ghost use Rattle.std.specs.Prelude.{◌≡◌};
-ghost use Rattle.std.specs.List.{list_all};
 ghost use Rattle.pfs_addr.specs.FlagSets.{flags_of, is_flag_letter};
+ghost use Rattle.pfs_addr.specs.LetterSteps.{with_letter};
 
 /// A set of TCP flags, each by its letter. (pf.conf(5), PARAMETERS, "flags"; RFC 9293, section 3.1)
 #[derive(Debug, Clone, Copy, PartialEq, Eq, PartialOrd, Ord, Hash, Default)]
@@ -30,25 +30,30 @@ pub struct Flags {
 pub fn parse_flags(text: &[u8]) -> Option<Flags>
     ensures { result ≡ flags_of text.now }
 {
-    if !are_letters(text) {
-        return None;
+    let mut flags = Flags::default();
+    for letter in text {
+        if !is_letter(*letter) {
+            return None;
+        }
+        flags = with_letter(flags, *letter);
     }
-    Some(Flags {
-        fin: text.contains(&b'F'),
-        syn: text.contains(&b'S'),
-        rst: text.contains(&b'R'),
-        psh: text.contains(&b'P'),
-        ack: text.contains(&b'A'),
-        urg: text.contains(&b'U'),
-        ece: text.contains(&b'E'),
-        cwr: text.contains(&b'W'),
-    })
+    Some(flags)
 }
 
-fn are_letters(text: &[u8]) -> bool
-    ensures { result ≡ list_all is_flag_letter text.now }
+// The flags with that of one letter more.
+fn with_letter(flags: Flags, letter: u8) -> Flags
+    ensures { result ≡ with_letter flags letter }
 {
-    text.iter().all(|b| is_letter(*b))
+    Flags {
+        fin: flags.fin || letter == b'F',
+        syn: flags.syn || letter == b'S',
+        rst: flags.rst || letter == b'R',
+        psh: flags.psh || letter == b'P',
+        ack: flags.ack || letter == b'A',
+        urg: flags.urg || letter == b'U',
+        ece: flags.ece || letter == b'E',
+        cwr: flags.cwr || letter == b'W',
+    }
 }
 
 fn is_letter(b: u8) -> bool

@@ -1,6 +1,7 @@
 // Packets, as the rules and the states look at them, and the keys by which states are found.
 
 ghost use Rattle.std.specs.Prelude.{◌≡◌, false};
+ghost use Rattle.std.specs.Str.{bytes_eq};
 ghost use Rattle.pfs_addr.specs.Keys.{key_of};
 ghost use Rattle.pfs_addr.specs.Protocols.{has_ports};
 
@@ -121,6 +122,13 @@ impl Packet {
         ensures { result ≡ self.now.ifname }
     {
         self.ifname
+    }
+
+    /// Whether the packet is on the interface of this name. (pf.conf(5), PARAMETERS, "on")
+    pub fn is_on(&self, name: &IfName) -> bool
+        ensures { result ≡ bytes_eq name.now self.now.ifname }
+    {
+        *name == self.ifname
     }
 
     /// The protocol.

@@ -12,11 +12,11 @@ returns-in-Some-clause-reads c = addr_reads c.args.text.now _ (quad_first c.args
 pub returns-in-Some-clause-only : goal.returns-in-Some-clause-only
 returns-in-Some-clause-only c a h k = quad_first c.args.text.now c.in-Some.addr c.in-Some.ensures ∙ addr_of-text c.args.text.now a h k
 
-pub returns-in-None-clause-value : goal.returns-in-None-clause-value
-returns-in-None-clause-value c = groups_then c.args.text.now c.groups.result c.in-None.ensures c.groups.ensures
+pub returns-clause-value : goal.returns-clause-value
+returns-clause-value c = groups_then c.args.text.now c.groups.result c.in_default.ensures c.groups.ensures
 
-pub returns-in-None-clause-reads : goal.returns-in-None-clause-reads
-returns-in-None-clause-reads c = addr_reads c.args.text.now c.groups.result (groups_then c.args.text.now c.groups.result c.in-None.ensures c.groups.ensures)
+pub returns-clause-reads : goal.returns-clause-reads
+returns-clause-reads c = addr_reads c.args.text.now c.groups.result (groups_then c.args.text.now c.groups.result c.in_default.ensures c.groups.ensures)
 
-pub returns-in-None-clause-only : goal.returns-in-None-clause-only
-returns-in-None-clause-only c a h k = groups_then c.args.text.now c.groups.result c.in-None.ensures c.groups.ensures ∙ addr_of-text c.args.text.now a h k
+pub returns-clause-only : goal.returns-clause-only
+returns-clause-only c a h k = groups_then c.args.text.now c.groups.result c.in_default.ensures c.groups.ensures ∙ addr_of-text c.args.text.now a h k
