@@ -4,7 +4,7 @@
 
 ghost use Rattle.std.specs.Prelude.{◌≡◌, ◌<◌, ◌≤◌, ◌^◌, true};
 ghost use Rattle.std.specs.Option.{ForSome};
-ghost use Rattle.pfs_engine_machine.specs.Machine.{MayExpire};
+ghost use Rattle.pfs_engine_machine.specs.Runs.{MayExpire};
 
 use csv::{ByteRecord, Reader, ReaderBuilder};
 use pfs_cli_report::{EndLine, TraceFault, has_columns, push_end, push_row, read_event};

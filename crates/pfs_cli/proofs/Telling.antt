@@ -13,8 +13,7 @@ use Rattle.csv.specs.declared.reader.Trim.TheVariants as trim
 use Rattle.csv.proofs.ReadFacts.{rows-more, rows-end}
 use Rattle.pfs_conf_rules.specs.Configs.{Conf}
 use Rattle.pfs_engine_machine.specs.declared.events.Event.{Event}
-use Rattle.pfs_engine_machine.specs.Machine.{Machine, start, step}
-use Rattle.pfs_engine_machine.specs.Runs.{outcomes_of, machine_after}
+use Rattle.pfs_engine_machine.specs.Machine.{Machine, start, step, outcomes_of, machine_after}
 use Rattle.pfs_engine.specs.Views.{View}
 use Rattle.pfs_cli_report.specs.declared.faults.TraceFault.{TraceFault}
 use Rattle.pfs_cli_report.specs.declared.faults.TraceFault.TheVariants as fault

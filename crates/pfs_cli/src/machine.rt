@@ -2,7 +2,8 @@
 
 ghost use Rattle.std.specs.Prelude.{◌≡◌, ◌<◌, ◌≤◌, ◌+◌, ◌^◌, IfOk};
 ghost use Rattle.std.specs.Option.{ForSome};
-ghost use Rattle.pfs_engine_machine.specs.Machine.{MayCome, start, step};
+ghost use Rattle.pfs_engine_machine.specs.Machine.{start, step};
+ghost use Rattle.pfs_engine_machine.specs.Runs.{MayCome};
 
 use pfs_addr::NoMemory;
 use pfs_conf_rules::Config;

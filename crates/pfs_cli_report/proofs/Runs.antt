@@ -4,8 +4,7 @@ use Rattle.std.proofs.lemmas.List.{append-nil}
 use Rattle.pfs_conf_rules.specs.Configs.{Conf}
 use Rattle.pfs_engine_machine.specs.declared.events.Event.{Event}
 use Rattle.pfs_engine_machine.specs.declared.events.Outcome.{Outcome}
-use Rattle.pfs_engine_machine.specs.Machine.{Machine, start, step}
-use Rattle.pfs_engine_machine.specs.Runs.{outcomes_of, machine_after}
+use Rattle.pfs_engine_machine.specs.Machine.{Machine, start, step, outcomes_of, machine_after}
 use Rattle.pfs_cli_report.specs.Lines.{row_text}
 use Rattle.pfs_cli_report.specs.Reports.{lines_from, lines_of}
 

@@ -3,8 +3,7 @@ use Rattle.std.specs.Prelude.{◌≡◌, ◌+◌, ◌++◌, ℕ, List, [], ◌�
 use Rattle.pfs_conf_rules.specs.Configs.{Conf}
 use Rattle.pfs_engine_machine.specs.declared.events.Event.{Event}
 use Rattle.pfs_engine_machine.specs.declared.events.Outcome.{Outcome}
-use Rattle.pfs_engine_machine.specs.Machine.{Machine, start, states_held, nodes_held, entries_held}
-use Rattle.pfs_engine_machine.specs.Runs.{outcomes_of, machine_after}
+use Rattle.pfs_engine_machine.specs.Machine.{Machine, start, states_held, nodes_held, entries_held, outcomes_of, machine_after}
 use Rattle.pfs_cli_report.specs.Lines.{row_text, end_text}
 use Rattle.pfs_cli_report.specs.Traces.{Trace}
 

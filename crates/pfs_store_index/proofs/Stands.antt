@@ -1,18 +1,16 @@
 -- The records of states as the states themselves, by number and by key.
-use Rattle.std.proofs.Common.{◌≡◌, ◌∙◌, ◌<◌, ◌≤◌, ◌==◌, ℕ, Bool, true, false, if◌then◌else◌, not, Option, Some, None, List, [], ◌∷◌, length, map, filter, option_map, refl, ap, sym, subst}
+use Rattle.std.proofs.Common.{◌≡◌, ◌∙◌, ◌<◌, ◌≤◌, ◌==◌, ℕ, Bool, true, false, if◌then◌else◌, not, Option, Some, None, List, [], ◌∷◌, length, map, filter, option_map, refl, ap, sym, subst, ◌⊎◌, inl, inr, IsSome}
 use Rattle.std.specs.List.{find}
 use Rattle.pfs_addr.specs.Sameness.{same_key}
 use Rattle.pfs_addr.specs.declared.packets.FlowKey.{FlowKey}
-use Rattle.std.proofs.Common.{◌⊎◌, inl, inr, IsSome}
 use Rattle.std.specs.Option.{option_and_then}
 use Rattle.std.proofs.lemmas.Bool.{cases_lt}
 use Rattle.std.proofs.lemmas.Option.{slice_get_past}
 use Rattle.pfs_conf_rules.specs.Configs.{Conf, options_at, options_in, rule_in as rule_in_item}
 use Rattle.pfs_conf_rules.specs.declared.items.Item.{Item}
 use Rattle.pfs_conf_rules.specs.declared.items.Rule.{Rule}
-use Rattle.pfs_store_plain.specs.Leaving.{other_than}
+use Rattle.pfs_store_plain.specs.Calls.{other_than, state_number, state_rule}
 use Rattle.pfs_store_plain.specs.Purging.{node_numbers, state_numbers}
-use Rattle.pfs_store_plain.specs.Worlds.{number_of, rule_in}
 use Rattle.pfs_store_plain.specs.declared.records.State.{State}
 use Rattle.pfs_store_records.specs.Records.{IsAbove, IsRising, Placed, leaves_number, states_of}
 use Rattle.pfs_store_records.specs.Tallies.{nodes_of}
@@ -69,18 +67,18 @@ none-found test rs f = go (find (λ (p : Placed). test p.state) rs) refl
 
 -- what the index by key tells of the state with a key
 pub number-at : (k : FlowKey) (rs : List Placed) (g : Option Entry) → g ≡ option_map entry_of (find (has_key k) rs)
-    → option_map (λ (e : Entry). record { 0 = e.number }) g ≡ option_map number_of (find (λ (s : State). same_key s.key k) (states_of rs))
-number-at k rs g e = ap (option_map (λ (e : Entry). record { 0 = e.number })) e ∙ go (find (has_key k) rs) ∙ ap (option_map number_of) (sym (find-part (λ (p : Placed). p.state) (λ (s : State). same_key s.key k) rs))
+    → option_map (λ (e : Entry). record { 0 = e.number }) g ≡ option_map state_number (find (λ (s : State). same_key s.key k) (states_of rs))
+number-at k rs g e = ap (option_map (λ (e : Entry). record { 0 = e.number })) e ∙ go (find (has_key k) rs) ∙ ap (option_map state_number) (sym (find-part (λ (p : Placed). p.state) (λ (s : State). same_key s.key k) rs))
   where
-    go : (o : Option Placed) → option_map (λ (e : Entry). record { 0 = e.number }) (option_map entry_of o) ≡ option_map number_of (option_map (λ (p : Placed). p.state) o)
+    go : (o : Option Placed) → option_map (λ (e : Entry). record { 0 = e.number }) (option_map entry_of o) ≡ option_map state_number (option_map (λ (p : Placed). p.state) o)
     go None = refl
     go (Some p) = refl
 
 pub rule-at : (k : FlowKey) (rs : List Placed) (g : Option Entry) → g ≡ option_map entry_of (find (has_key k) rs)
-    → option_map (λ (e : Entry). e.rule) g ≡ option_map rule_in (find (λ (s : State). same_key s.key k) (states_of rs))
-rule-at k rs g e = ap (option_map (λ (e : Entry). e.rule)) e ∙ go (find (has_key k) rs) ∙ ap (option_map rule_in) (sym (find-part (λ (p : Placed). p.state) (λ (s : State). same_key s.key k) rs))
+    → option_map (λ (e : Entry). e.rule) g ≡ option_map state_rule (find (λ (s : State). same_key s.key k) (states_of rs))
+rule-at k rs g e = ap (option_map (λ (e : Entry). e.rule)) e ∙ go (find (has_key k) rs) ∙ ap (option_map state_rule) (sym (find-part (λ (p : Placed). p.state) (λ (s : State). same_key s.key k) rs))
   where
-    go : (o : Option Placed) → option_map (λ (e : Entry). e.rule) (option_map entry_of o) ≡ option_map rule_in (option_map (λ (p : Placed). p.state) o)
+    go : (o : Option Placed) → option_map (λ (e : Entry). e.rule) (option_map entry_of o) ≡ option_map state_rule (option_map (λ (p : Placed). p.state) o)
     go None = refl
     go (Some p) = refl
 

@@ -5,16 +5,16 @@ use Rattle.std.proofs.lemmas.Bool.Decides.{nat_tests}
 use Rattle.std.proofs.lemmas.Option.{slice_get_past}
 use Rattle.pfs_addr.specs.Packets.{Header}
 use Rattle.pfs_addr.specs.declared.addresses.Addr.{Addr}
-use Rattle.pfs_conf_rules.specs.Configs.{Conf, rule_timeout_of}
-use Rattle.pfs_conf_rules.specs.declared.timeouts.TimeoutName.TheVariants.{AdaptiveEnd, AdaptiveStart}
+use Rattle.pfs_conf_rules.specs.Configs.{Conf}
 use Rattle.pfs_conf_rules.specs.declared.actions.Rate.{Rate}
 use Rattle.pfs_conf_rules.specs.declared.items.RuleNo.{RuleNo}
-use Rattle.pfs_track.specs.Lifetimes.{is_expired, scaled_by, scaled_lifetime, value_for}
-use Rattle.pfs_track.specs.StatePhases.{slot}
+use Rattle.pfs_track.specs.Lifetimes.{is_expired, scaled_lifetime}
 use Rattle.pfs_track.specs.Scores.{score_after}
 use Rattle.pfs_store_plain.specs.Admission.{new_node, nodes_with}
-use Rattle.pfs_store_plain.specs.Counts.{has_node, is_node, is_of_source, node_scope_of, node_states, rule_states, source_states}
-use Rattle.pfs_store_plain.specs.Leaving.{idled, is_flushed, stays_unflushed, without}
+use Rattle.pfs_store_plain.proofs.SliceLaws.{lifetime-unread}
+use Rattle.pfs_store_plain.specs.Counts.{has_node, is_node, is_of_source, node_scope_of, node_states, rule_states}
+use Rattle.pfs_store_plain.specs.Calls.{source_states, stays_unflushed}
+use Rattle.pfs_store_plain.specs.Leaving.{idled, is_flushed, without}
 use Rattle.pfs_store_plain.specs.Plain.{AreCounts}
 use Rattle.pfs_store_plain.specs.Purging.{has_expired, is_among, node_numbers, node_share, node_slice, node_stays, round, state_numbers, state_share, state_slice, stays}
 use Rattle.pfs_store_plain.specs.Touching.{completes_at, nodes_scored, nodes_touched, renewed, rescored, touched}
@@ -307,11 +307,6 @@ stored-came s h h' c m c' m' made places l i n g e f = record {
 
 -- ---- a slice under the counts before it
 
--- a count that is not read changes nothing
-unread-same : (conf : Conf) (life a b all : ℕ) (start end : Option ℕ) → is_some start ≡ false → scaled_by conf life a all start end ≡ scaled_by conf life b all start end
-unread-same conf life a b all (Some start) end h = absurd cc
-unread-same conf life a b all None end h = refl
-
 is_less : (n m : ℕ) → nat_lt n m ≡ true → n < m
 is_less n m h = grind (arith, nat_tests)
 
@@ -326,8 +321,8 @@ due-lifetime conf counts xs s h u = go (nat_lt s.rule.0 (length counts)) refl
         → scaled_lifetime conf s.rule.0 s.phase (slice_index counts s.rule.0) (length xs) ≡ scaled_lifetime conf s.rule.0 s.phase (rule_states s.rule.0 xs) (length xs)
     go true t = ap (λ count. scaled_lifetime conf s.rule.0 s.phase count (length xs)) (h s.rule.0 (is_less s.rule.0 (length counts) t))
     go false t =
-        unread-same conf (value_for conf s.rule.0 (slot s.phase)) (slice_index counts s.rule.0) (rule_states s.rule.0 xs) (length xs)
-        (rule_timeout_of conf s.rule.0 AdaptiveStart) (rule_timeout_of conf s.rule.0 AdaptiveEnd) (u s.rule.0 (is_not_less s.rule.0 (length counts) t))
+        lifetime-unread conf s.rule.0 s.phase (slice_index counts s.rule.0) (rule_states s.rule.0 xs) (length xs)
+        (u s.rule.0 (is_not_less s.rule.0 (length counts) t))
 
 due-expired : (conf : Conf) (counts : List ℕ) (xs : List State) (now : ℕ) (s : State) → AreCounts counts xs → AreUnread conf (length counts)
     → is_due conf counts (length xs) now s ≡ has_expired conf xs now s

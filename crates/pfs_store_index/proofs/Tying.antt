@@ -13,7 +13,7 @@ use Rattle.pfs_addr.specs.declared.packets.FlowKey.{FlowKey}
 use Rattle.pfs_conf_rules.specs.Configs.{Conf, options_of}
 use Rattle.pfs_track.specs.StatePhases.{is_done}
 use Rattle.pfs_store_plain.specs.Counts.{node_scope_of, rule_states}
-use Rattle.pfs_store_plain.specs.Leaving.{other_than}
+use Rattle.pfs_store_plain.specs.Calls.{other_than}
 use Rattle.pfs_store_plain.specs.Plain.{AreCounts}
 use Rattle.pfs_store_plain.specs.Purging.{state_numbers}
 use Rattle.pfs_store_plain.specs.Touching.{completes_at, renewed}

@@ -1,8 +1,8 @@
 //! The states of a source are flushed: a walk over its own states alone.
 
 ghost use Rattle.std.specs.Prelude.{◌≡◌, ◌+◌, ◌-◌, ◌<◌, ◌≤◌, ◌^◌, filter, length, map, true};
-ghost use Rattle.pfs_store_plain.specs.Counts.{source_states};
-ghost use Rattle.pfs_store_plain.specs.Leaving.{idled, is_flushed, stays_unflushed};
+ghost use Rattle.pfs_store_plain.specs.Calls.{source_states, stays_unflushed};
+ghost use Rattle.pfs_store_plain.specs.Leaving.{idled, is_flushed};
 ghost use Rattle.pfs_store_plain.specs.Purging.{state_numbers};
 ghost use Rattle.pfs_store_plain.specs.Worlds.{holds_number};
 ghost use Rattle.pfs_store_records.specs.Records.{IsRising};

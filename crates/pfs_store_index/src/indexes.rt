@@ -6,12 +6,13 @@ ghost use Rattle.pfs_addr.specs.Keys.{key_of};
 ghost use Rattle.pfs_conf_rules.specs.Configs.{options_at};
 ghost use Rattle.pfs_store_plain.specs.Admission.{nodes_with};
 ghost use Rattle.pfs_store_plain.specs.Counts.{has_node, node_scope_of, node_states, rule_states, scope_nodes};
-ghost use Rattle.pfs_store_plain.specs.Leaving.{idled, other_than};
+ghost use Rattle.pfs_store_plain.specs.Leaving.{idled};
+ghost use Rattle.pfs_store_plain.specs.Calls.{other_than, touch_of, state_number, state_rule};
 ghost use Rattle.pfs_store_plain.specs.Plain.{AreCounts};
 ghost use Rattle.pfs_store_plain.specs.Purging.{node_numbers, state_numbers};
 ghost use Rattle.pfs_store_plain.specs.Quiet.{turned};
-ghost use Rattle.pfs_store_plain.specs.Touching.{completes_at, nodes_touched, renewed, touch_of};
-ghost use Rattle.pfs_store_plain.specs.Worlds.{IsUpToNow, holds_number, lists, number_of, rule_in, state_with};
+ghost use Rattle.pfs_store_plain.specs.Touching.{completes_at, nodes_touched, renewed};
+ghost use Rattle.pfs_store_plain.specs.Worlds.{IsUpToNow, holds_number, lists, state_with};
 ghost use Rattle.pfs_store_records.specs.Records.{IsAbove, IsRising, placed_at};
 ghost use Rattle.pfs_store_records.specs.Sourced.{IsSourced};
 ghost use Rattle.pfs_store_records.specs.Walks.{IsWalk, StayUntil, glance_of, looks_of};
@@ -122,7 +123,7 @@ impl<S: BuildHasher> Indexes<S> {
 
     /// The number of the state that has a key.
     pub(crate) fn find(&self, key: &FlowKey) -> Option<StateNo>
-        ensures { result ≡ option_map number_of (state_with key.now (lists self.now.states [] [] [] 0)) }
+        ensures { result ≡ option_map state_number (state_with key.now (lists self.now.states [] [] [] 0)) }
     {
         match self.keys.get(key) {
             Some(entry) => Some(StateNo(u64::from(entry.number))),
@@ -132,7 +133,7 @@ impl<S: BuildHasher> Indexes<S> {
 
     /// The rule of the state that has a key.
     pub(crate) fn rule_at(&self, key: &FlowKey) -> Option<RuleNo>
-        ensures { result ≡ option_map rule_in (state_with key.now (lists self.now.states [] [] [] 0)) }
+        ensures { result ≡ option_map state_rule (state_with key.now (lists self.now.states [] [] [] 0)) }
     {
         match self.keys.get(key) {
             Some(entry) => Some(entry.rule),

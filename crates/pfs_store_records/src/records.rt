@@ -3,7 +3,7 @@
 ghost use Rattle.std.specs.Prelude.{◌≡◌, ◌+◌, ◌-◌, ◌<◌, ◌≤◌, ◌^◌, ◌==◌, ◌++◌, ◌∷◌, [], IfOk, IfSome, OnErr, OnOk, Some, filter, length, map, slice_get, true};
 ghost use Rattle.std.specs.List.{AllByRecursion, find, list_any};
 ghost use Rattle.slab.specs.Slab.{ContainsKey, get};
-ghost use Rattle.pfs_store_plain.specs.Leaving.{other_than};
+ghost use Rattle.pfs_store_plain.specs.Calls.{other_than};
 ghost use Rattle.pfs_store_plain.specs.Purging.{state_numbers};
 ghost use Rattle.pfs_store_plain.specs.Quiet.{turned};
 ghost use Rattle.pfs_store_plain.specs.Worlds.{holds_number};

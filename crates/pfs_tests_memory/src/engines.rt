@@ -2,8 +2,7 @@
 
 ghost use Rattle.std.specs.Prelude.{◌≡◌, ◌<◌, ◌≤◌, ◌^◌, true};
 ghost use Rattle.std.specs.Option.{ForSome};
-ghost use Rattle.pfs_engine_machine.specs.Runs.{AreAllowed, IsInOrder};
-ghost use Rattle.pfs_engine_machine.specs.Machine.{MayCome, MayExpire};
+ghost use Rattle.pfs_engine_machine.specs.Runs.{AreAllowed, IsInOrder, MayCome, MayExpire};
 
 use crate::packets::{A1, A2, Sent, packet};
 use crate::telling::{Stop, begin, begin_free, end, plain, refused};

@@ -2,7 +2,7 @@
 use Rattle.std.proofs.Common.{◌≡◌, ◌∙◌, Some, sym, ap, filter, subst}
 use Rattle.std.specs.List.{find}
 use Rattle.pfs_store_plain.specs.Leaving.{is_flushed}
-use Rattle.pfs_store_plain.specs.Leaving.{other_than}
+use Rattle.pfs_store_plain.specs.Calls.{other_than}
 use Rattle.pfs_store_index.proofs.Idling.{idled-same}
 use Rattle.pfs_store_index.proofs.Leavings.{state_number}
 use Rattle.pfs_store_index.proofs.Walks.{found-number, has_number, survive-kept, survive-removed}

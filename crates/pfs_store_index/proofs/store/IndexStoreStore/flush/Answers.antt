@@ -1,7 +1,6 @@
 -- Answers of IndexStore's flush: the world without the flushed (`world`), how many (`answer`), and the looks.
 use Rattle.std.proofs.Common.{◌≡◌, ◌∙◌, ◌-◌, ap, length, arith, rules}
-use Rattle.pfs_store_plain.specs.Counts.{source_states}
-use Rattle.pfs_store_plain.specs.Leaving.{flushed, flushed_count, stays_unflushed}
+use Rattle.pfs_store_plain.specs.Calls.{source_states, world_flushed, flushed_count, stays_unflushed}
 use Rattle.pfs_store_plain.specs.Plain.{Plain}
 use Rattle.pfs_store_index.proofs.Searches.{count-le}
 use Rattle.pfs_store_plain.specs.Counts.{is_of_source}
@@ -21,7 +20,7 @@ pub returns-clause-world : goal.returns-clause-world
 returns-clause-world g c =
     world-without (stays_unflushed c.args.source c.args.rule) c.args.now c.self.inside.indexes c.flush.new.indexes c.self.inside.states_round.cursor c.self.inside.states_round.mark c.self.inside.nodes_round.cursor c.self.inside.nodes_round.mark c.self.inside.made
     c.state_count-held.ensures.rising c.flush.ensures.states c.flush.ensures.nodes
-    ∙ ap (λ (p : Plain). flushed p.config p.world c.args.source c.args.rule c.args.now) c.self.view_is
+    ∙ ap (λ (p : Plain). world_flushed p.config p.world c.args.source c.args.rule c.args.now) c.self.view_is
 
 pub returns-clause-answer : goal.returns-clause-answer
 returns-clause-answer g c =

@@ -1,7 +1,8 @@
 -- Answers of IndexStore's kill: the state is there to be taken out, and the world without it is as defined.
 use Rattle.std.proofs.Common.{◌≡◌, ◌∙◌, Some, ap, subst, sym, map}
 use Rattle.std.specs.List.{find}
-use Rattle.pfs_store_plain.specs.Leaving.{idled, killed, other_than}
+use Rattle.pfs_store_plain.specs.Leaving.{idled}
+use Rattle.pfs_store_plain.specs.Calls.{world_killed, other_than}
 use Rattle.pfs_store_index.proofs.Leavings.{state_number}
 use Rattle.pfs_store_index.proofs.Storing.{stored-without, world-without}
 use Rattle.pfs_store_index.proofs.Walks.{found-number, has_number}
@@ -28,4 +29,4 @@ returns-clause-world g c =
     let q = found-number state_number c.args.number.0 c.read-state.result h.states c.read-state.ensures.value in
     world-without (other_than c.read-state.result.number) c.args.now h c.take_out.new.self c.self.inside.states_round.cursor c.self.inside.states_round.mark c.self.inside.nodes_round.cursor c.self.inside.nodes_round.mark c.self.inside.made
     c.state_count-count.ensures.rising c.take_out.ensures.states ns
-    ∙ (λ j. killed (c.self.view_is j).config (c.self.view_is j).world (q j) c.args.now)
+    ∙ (λ j. world_killed (c.self.view_is j).config (c.self.view_is j).world (q j) c.args.now)

@@ -4,22 +4,22 @@ use Rattle.std.specs.List.{find}
 use Rattle.pfs_addr.specs.Keys.{key_of}
 use Rattle.pfs_addr.specs.Sameness.{same_key}
 use Rattle.pfs_store_plain.specs.Plain.{Plain}
-use Rattle.pfs_store_plain.specs.Touching.{touch_of, world_touched}
-use Rattle.pfs_store_plain.specs.Worlds.{number_of, state_with}
+use Rattle.pfs_store_plain.specs.Calls.{touch_of, world_touched, state_number}
+use Rattle.pfs_store_plain.specs.Worlds.{state_with}
 use Rattle.pfs_store_plain.specs.declared.records.State.{State}
 use Rattle.pfs_store_plain.specs.declared.records.StateNo.{StateNo}
 use Rattle.pfs_store_index.specs.Stored.{world_of}
 use Rattle.pfs_store_index.proofs.Storing.{few-numbered, stored-touched, world-touched}
 use Rattle.pfs_store_index.proofs.store.IndexStoreStore.touch.Goals as goal
 
-some_of : (o : Option State) (n : StateNo) → option_map number_of o ≡ Some n → is_some o ≡ true
+some_of : (o : Option State) (n : StateNo) → option_map state_number o ≡ Some n → is_some o ≡ true
 some_of None n h = absurd cc
 some_of (Some s) n h = refl
 
 pub renew-requires-clause-held : goal.renew-requires-clause-held
 renew-requires-clause-held g c =
     some_of (find (λ (s : State). same_key s.key (key_of c.args.packet.now)) c.self.inside.indexes.states) c.args._number
-    (ap (λ (p : Plain). option_map number_of (state_with (key_of c.args.packet.now) p.world)) c.self.view_is ∙ c.requires.held)
+    (ap (λ (p : Plain). option_map state_number (state_with (key_of c.args.packet.now) p.world)) c.self.view_is ∙ c.requires.held)
 
 pub renew-requires-clause-few : goal.renew-requires-clause-few
 renew-requires-clause-few g c =

@@ -2,7 +2,8 @@
 use Rattle.std.proofs.Common.{◌≡◌, ◌∙◌, ◌-◌, ap, length, take, rules}
 use Rattle.pfs_store_plain.specs.Worlds.{World}
 use Rattle.pfs_store_plain.specs.Plain.{Plain}
-use Rattle.pfs_store_plain.specs.Purging.{node_numbers, node_share, node_slice, node_slice_of}
+use Rattle.pfs_store_plain.specs.Purging.{node_numbers, node_share, node_slice}
+use Rattle.pfs_store_plain.specs.Calls.{node_slice_of}
 use Rattle.pfs_store_index.proofs.Storing.{stored-nodes, world-node_slice}
 use Rattle.pfs_store_index.specs.Rounds.{waiting}
 use Rattle.pfs_store_index.proofs.store.IndexStoreStore.watch_nodes.Goals as goal

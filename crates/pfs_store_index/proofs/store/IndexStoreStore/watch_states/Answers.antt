@@ -4,7 +4,8 @@ use Rattle.pfs_store_plain.specs.Worlds.{World}
 use Rattle.pfs_store_index.specs.Rounds.{waiting}
 use Rattle.pfs_store_index.specs.Stored.{IsStored}
 use Rattle.pfs_store_plain.specs.Plain.{Plain}
-use Rattle.pfs_store_plain.specs.Purging.{state_numbers, state_share, state_slice, state_slice_of}
+use Rattle.pfs_store_plain.specs.Purging.{state_numbers, state_share, state_slice}
+use Rattle.pfs_store_plain.specs.Calls.{state_slice_of}
 use Rattle.pfs_store_index.proofs.Leavings.{state_number}
 use Rattle.pfs_store_index.proofs.Storing.{few-numbered, stored-without, world-slice}
 use Rattle.pfs_store_index.proofs.Walks.{all-fewer}
