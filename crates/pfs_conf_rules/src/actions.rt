@@ -5,7 +5,7 @@ use crate::timeouts::RuleTimeouts;
 
 /// For whom a rule counts sources, or of whom it flushes states.
 /// (pf.conf(5), STATEFUL TRACKING OPTIONS, "source-track" and "flush")
-#[derive(Debug, Clone, Copy, PartialEq, Eq, Hash)]
+#[derive(Debug, Clone, Copy, PartialEq, Eq)]
 pub enum Scope {
     /// The rule's own states.
     Rule,
@@ -14,7 +14,7 @@ pub enum Scope {
 }
 
 /// `max-src-conn-rate N/S`: at most N handshakes in S seconds.
-#[derive(Debug, Clone, Copy, PartialEq, Eq, Hash)]
+#[derive(Debug, Clone, Copy, PartialEq, Eq)]
 pub struct Rate {
     /// Handshakes: 1 to 4294967.
     pub limit: u32,
@@ -23,7 +23,7 @@ pub struct Rate {
 }
 
 /// `overload <t>`, with what is flushed.
-#[derive(Debug, Clone, Copy, PartialEq, Eq, Hash)]
+#[derive(Debug, Clone, Copy, PartialEq, Eq)]
 pub struct Overload {
     /// The table to which the source is added.
     pub table: TableNo,

@@ -195,13 +195,9 @@ impl Config {
         ensures { IfOk result (λ c. c ≡ self.now) }
     {
         let alloc = *self.tables.allocator();
-        Ok(Config {
-            limits: self.limits,
-            timeouts: self.timeouts,
-            tables: copy_tables(alloc, &self.tables)?,
-            entries: self.entry_count(),
-            items: Vec::from_slice(alloc, &self.items)?,
-        })
+        let items = Vec::from_slice(alloc, &self.items)?;
+        let tables = copy_tables(alloc, &self.tables)?;
+        Ok(Config::of_parts(self.limits, self.timeouts, tables, self.entries, items))
     }
 }
 

@@ -4,7 +4,7 @@ ghost use Rattle.std.specs.Prelude.{◌≡◌};
 ghost use Rattle.pfs_conf_rules.specs.Limits.{limit_value, limits_with};
 
 /// What `set limit` bounds. (pf.conf(5), OPTIONS, "set limit")
-#[derive(Debug, Clone, Copy, PartialEq, Eq, PartialOrd, Ord, Hash)]
+#[derive(Debug, Clone, Copy, PartialEq, Eq)]
 pub enum LimitName {
     /// The states that are held at a time. 100,000 unless set.
     States,

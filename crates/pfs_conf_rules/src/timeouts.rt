@@ -7,7 +7,7 @@ use std::marker::Model;
 
 /// A timeout of `set timeout`, in seconds but for the last two, which count states.
 /// (pf.conf(5), OPTIONS, "set timeout")
-#[derive(Debug, Clone, Copy, PartialEq, Eq, PartialOrd, Ord, Hash)]
+#[derive(Debug, Clone, Copy, PartialEq, Eq)]
 pub enum TimeoutName {
     /// `tcp.first`: after the first packet. 120 unless set.
     TcpFirst,
@@ -202,25 +202,24 @@ impl Timeouts {
     pub fn resolved(given: &RuleTimeouts, states: u32) -> Timeouts
         ensures { result ≡ resolved_timeouts states given.now }
     {
-        let value = |name| given.resolved(name, states);
         Timeouts {
             values: [
-                value(TimeoutName::TcpFirst),
-                value(TimeoutName::TcpOpening),
-                value(TimeoutName::TcpEstablished),
-                value(TimeoutName::TcpClosing),
-                value(TimeoutName::TcpFinwait),
-                value(TimeoutName::TcpClosed),
-                value(TimeoutName::UdpFirst),
-                value(TimeoutName::UdpSingle),
-                value(TimeoutName::UdpMultiple),
-                value(TimeoutName::OtherFirst),
-                value(TimeoutName::OtherSingle),
-                value(TimeoutName::OtherMultiple),
-                value(TimeoutName::SrcTrack),
-                value(TimeoutName::Interval),
-                value(TimeoutName::AdaptiveStart),
-                value(TimeoutName::AdaptiveEnd),
+                given.resolved(TimeoutName::TcpFirst, states),
+                given.resolved(TimeoutName::TcpOpening, states),
+                given.resolved(TimeoutName::TcpEstablished, states),
+                given.resolved(TimeoutName::TcpClosing, states),
+                given.resolved(TimeoutName::TcpFinwait, states),
+                given.resolved(TimeoutName::TcpClosed, states),
+                given.resolved(TimeoutName::UdpFirst, states),
+                given.resolved(TimeoutName::UdpSingle, states),
+                given.resolved(TimeoutName::UdpMultiple, states),
+                given.resolved(TimeoutName::OtherFirst, states),
+                given.resolved(TimeoutName::OtherSingle, states),
+                given.resolved(TimeoutName::OtherMultiple, states),
+                given.resolved(TimeoutName::SrcTrack, states),
+                given.resolved(TimeoutName::Interval, states),
+                given.resolved(TimeoutName::AdaptiveStart, states),
+                given.resolved(TimeoutName::AdaptiveEnd, states),
             ],
         }
     }
