@@ -1,11 +1,11 @@
 -- Lists in rising numbers, of which a walk examines one number after another: what leaves, and what is still to come.
-use Rattle.std.proofs.Common.{◌≡◌, ◌∙◌, ◌+◌, ◌<◌, ◌≤◌, ◌==◌, ◌&&◌, ◌||◌, ℕ, suc, Bool, true, false, not, if◌then◌else◌, Some, None, List, [], ◌∷◌, ◌++◌, length, map, filter, take, drop, get_or, slice_get, refl, ap, sym, subst, arith, add-one, length-drop, drop-cons}
+use Rattle.std.proofs.Common.{◌≡◌, ◌∙◌, ◌+◌, ◌<◌, ◌≤◌, ◌==◌, ◌&&◌, ◌||◌, ℕ, suc, Bool, true, false, not, if◌then◌else◌, Some, None, List, [], ◌∷◌, ◌++◌, length, map, filter, take, drop, get_or, slice_get, refl, ap, sym, subst, arith, add-one, length-drop, length-take, drop-cons}
 use Rattle.std.specs.List.{find, list_any, AllByRecursion}
 use Rattle.std.specs.List.Sorted.{IsStrictlySortedBy}
 use Rattle.std.specs.Ordering.{nat_cmp}
 use Rattle.std.specs.declared.cmp.Ordering.TheVariants.{Less}
 use Rattle.std.proofs.lemmas.Bool.Decides.{nat_tests}
-use Rattle.std.proofs.lemmas.List.{take_more}
+use Rattle.std.proofs.lemmas.List.{drop_min, take_min, take_more}
 use Rattle.std.proofs.lemmas.Map.Keys.{sorted_head, sorted_tail}
 use Rattle.pfs_store_plain.specs.Purging.{is_among}
 use Rattle.pfs_store_records.specs.Records.{between}
@@ -172,6 +172,15 @@ module _ {X : Type 0} (number : X → ℕ) where
       → xs' ≡ filter (survives number leaves n) xs → take (i + 1) ws ≡ take i ws ++ n ∷ [] → xs' ≡ filter (stays_by number leaves (take (i + 1) ws)) xs0
   step-stays leaves n i ws xs0 xs xs' e e' t =
       e' ∙ ap (filter (survives number leaves n)) e ∙ stays-more leaves n (take i ws) xs0 ∙ ap (λ zs. filter (stays_by number leaves zs) xs0) (sym t)
+
+-- ---- a share of the numbers is examined
+
+-- so many as a share has of these numbers: they are the share's, and the others are left
+pub examined-taken : (examined share : ℕ) (ns : List ℕ) → examined ≡ length (take share ns) → take examined ns ≡ take share ns
+examined-taken examined share ns h = ap (λ k. take k ns) (h ∙ length-take share ns) ∙ take_min share ns
+
+pub examined-dropped : (examined share : ℕ) (ns : List ℕ) → examined ≡ length (take share ns) → drop examined ns ≡ drop share ns
+examined-dropped examined share ns h = ap (λ k. drop k ns) (h ∙ length-take share ns) ∙ drop_min share ns
 
 -- ---- the numbers that wait
 

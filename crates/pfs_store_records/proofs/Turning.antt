@@ -1,5 +1,5 @@
 -- Rounds over the numbers of an ordered map: a slice passes by the next ones, and whole rounds change nothing.
-use Rattle.std.proofs.Common.{◌≡◌, ◌≤◌, ◌<◌, ◌+◌, ◌-◌, ◌/◌, ◌%◌, ◌==◌, ℕ, suc, true, false, List, [], ◌∷◌, ◌++◌, length, drop, filter, refl, ap, sym, ◌∙◌, arith, length-drop, div-add-mod', mod-lt}
+use Rattle.std.proofs.Common.{◌≡◌, ◌≤◌, ◌<◌, ◌+◌, ◌-◌, ◌/◌, ◌%◌, ◌==◌, ℕ, suc, true, false, List, [], ◌∷◌, ◌++◌, length, drop, filter, refl, ap, subst, sym, ◌∙◌, arith, length-drop, div-add-mod', mod-lt}
 use Rattle.std.specs.List.{AllByRecursion}
 use Rattle.std.specs.Map.{keys_of}
 use Rattle.std.specs.Ordering.{nat_cmp}
@@ -88,3 +88,8 @@ round-begun share left made numbers pending next n l h e =
     let more : left ≡ suc (left - 1) = omega (arith, l) in
     ap (turned share numbers (left - 1)) (e ∙ ap (drop share) (all-numbers made numbers n))
     ∙ (λ i. turned share numbers (sym more i) (sym (over-empty pending h) i))
+
+-- a round over numbers goes on as over others that are the same
+pub turned-same : (share slices cursor mark most least : ℕ) (ns ks : List ℕ) → ns ≡ ks → filter (between cursor mark) ks ≡ turned share ks slices (filter (between least most) ks)
+    → filter (between cursor mark) ns ≡ turned share ns slices (filter (between least most) ns)
+turned-same share slices cursor mark most least ns ks e h = subst (λ xs. filter (between cursor mark) xs ≡ turned share xs slices (filter (between least most) xs)) (sym e) h

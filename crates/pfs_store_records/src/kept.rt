@@ -13,15 +13,15 @@ use std::marker::Model;
 
 /// A state whose source is the end of its key from which packets of its direction come. Clauses see the state.
 ///
-/// The fields lie in memory as they are written, the widest first, so that none of its 64 bytes is unused.
+/// The fields lie in memory as they stand here: what a glance shows comes first, and none of the 64 bytes is unused.
 #[derive(Debug, Clone, Copy)]
 pub(crate) struct Kept {
     last: u64,
     number: u32,
     rule: RuleNo,
-    key: FlowKey,
-    dir: Dir,
     phase: StatePhase,
+    dir: Dir,
+    key: FlowKey,
 }
 
 impl Model for Kept {
@@ -32,7 +32,7 @@ impl Model for Kept {
 
     ghost view = { λ k. record { number = k.number; key = k.key; dir = k.dir; source = source_at k.dir k.key; rule = k.rule; phase = k.phase; last = k.last } };
 
-    ghost inverse = { λ s. record { last = s.last; number = s.number; rule = s.rule; key = s.key; dir = s.dir; phase = s.phase } };
+    ghost inverse = { λ s. record { last = s.last; number = s.number; rule = s.rule; phase = s.phase; dir = s.dir; key = s.key } };
 }
 
 impl Kept {
@@ -46,9 +46,9 @@ impl Kept {
             last: state.last,
             number: state.number as u32,
             rule: state.rule,
-            key: state.key,
-            dir: state.dir,
             phase: state.phase,
+            dir: state.dir,
+            key: state.key,
         }
     }
 

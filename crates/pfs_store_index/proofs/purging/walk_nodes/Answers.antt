@@ -1,6 +1,5 @@
 -- Answers of walk_nodes: one node more, and at the end that the share was examined and which nodes stay.
-use Rattle.std.proofs.Common.{◌≡◌, ◌∙◌, ℕ, List, Some, None, slice_get, option_map, sym, ap, subst, ◌+◌, refl, filter, length, take, drop, min, arith, length-take}
-use Rattle.std.proofs.lemmas.List.{take_min, drop_min}
+use Rattle.std.proofs.Common.{◌≡◌, ◌∙◌, List, Some, None, slice_get, option_map, sym, ap, subst, ◌+◌, refl, filter, take, arith, length-take}
 use Rattle.pfs_store_plain.specs.Purging.{is_over, node_numbers, node_stays}
 use Rattle.pfs_store_records.specs.declared.nodes.Tally.{Tally}
 use Rattle.pfs_conf_rules.specs.Configs.{Conf}
@@ -10,7 +9,7 @@ use Rattle.pfs_store_index.specs.Rounds.{node_survives, waiting}
 use Rattle.pfs_store_index.specs.Staying.{NodeHolds, NodesHold}
 use Rattle.pfs_store_index.proofs.Untils.{hold-none, node-more}
 use Rattle.pfs_store_index.proofs.Idling.{node_number}
-use Rattle.pfs_store_index.proofs.Walks.{all-examined, all-in, all-next, at_next, stays-none, step-stays}
+use Rattle.pfs_store_index.proofs.Walks.{all-examined, all-in, all-next, at_next, examined-dropped, examined-taken, stays-none, step-stays}
 use Rattle.pfs_store_index.proofs.purging.walk_nodes.Goals as goal
 use Rattle.pfs_store_index.proofs.purging.walk_nodes.Goals.{else-loop-examined-test, then-loop-examined-test+in_default}
 
@@ -67,27 +66,22 @@ returns-clause-examined g c =
           omega (arith, l, i.share, i.within, w.loop-examined-test.true, all-examined c.loop-examined.examined ws (waiting c.loop-examined.cursor c.args.round.mark (node_numbers c.loop-examined.indexes.nodes)) i.rest none)
     ]
 
--- the number of those examined, of the share and of those that wait
-examined-min : (e share : ℕ) (ws : List ℕ) → e ≡ length (take share ws) → e ≡ min share (length ws)
-examined-min e share ws h = h ∙ length-take share ws
-
 pub returns-clause-nodes : goal.returns-clause-nodes
 returns-clause-nodes g c =
     let i = c.loop-examined.invariant in
     let ws = waiting c.args.round.cursor c.args.round.mark (node_numbers c.args.indexes.now.nodes) in
-    let m = examined-min c.loop-examined.examined c.args.share ws (returns-clause-examined g c) in
-    let z : take c.loop-examined.examined ws ≡ take c.args.share ws = ap (λ k. take k ws) m ∙ take_min c.args.share ws in
+    let z = examined-taken c.loop-examined.examined c.args.share ws (returns-clause-examined g c) in
     i.nodes ∙ ap (λ zs. filter (node_stays c.args.indexes.now.config c.args.indexes.now.states c.args.now zs) c.args.indexes.now.nodes) z
 
 pub returns-clause-waiting : goal.returns-clause-waiting
 returns-clause-waiting g c =
     let i = c.loop-examined.invariant in
     let ws = waiting c.args.round.cursor c.args.round.mark (node_numbers c.args.indexes.now.nodes) in
-    i.rest ∙ ap (λ k. drop k ws) (examined-min c.loop-examined.examined c.args.share ws (returns-clause-examined g c)) ∙ drop_min c.args.share ws
+    i.rest ∙ examined-dropped c.loop-examined.examined c.args.share ws (returns-clause-examined g c)
 
 pub returns-clause-until : goal.returns-clause-until
 returns-clause-until g c =
     let i = c.loop-examined.invariant in
     let ws = waiting c.args.round.cursor c.args.round.mark (node_numbers c.args.indexes.now.nodes) in
-    let m = examined-min c.loop-examined.examined c.args.share ws (returns-clause-examined g c) in
-    subst (λ ns. NodesHold c.args.indexes.now.config c.args.indexes.now.states ns c.loop-examined.until c.loop-examined.indexes.nodes) (ap (λ k. take k ws) m ∙ take_min c.args.share ws) i.until
+    let z = examined-taken c.loop-examined.examined c.args.share ws (returns-clause-examined g c) in
+    subst (λ ns. NodesHold c.args.indexes.now.config c.args.indexes.now.states ns c.loop-examined.until c.loop-examined.indexes.nodes) z i.until

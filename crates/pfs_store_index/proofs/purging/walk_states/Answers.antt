@@ -1,6 +1,5 @@
 -- Answers of walk_states: one stretch more, and at the end which states stay (`states`) and still wait.
-use Rattle.std.proofs.Common.{◌≡◌, ◌∙◌, ◌-◌, ℕ, List, ap, refl, subst, ◌≤◌, filter, length, take, drop, min, map, arith, length-take, length-drop}
-use Rattle.std.proofs.lemmas.List.{take_min, drop_min}
+use Rattle.std.proofs.Common.{◌≡◌, ◌∙◌, ◌-◌, ℕ, List, ap, refl, subst, ◌≤◌, filter, length, take, map, arith, length-take, length-drop}
 use Rattle.pfs_store_plain.specs.Leaving.{idled}
 use Rattle.pfs_store_plain.specs.Purging.{state_numbers}
 use Rattle.pfs_store_index.specs.Rounds.{states_survive, waiting}
@@ -13,7 +12,7 @@ use Rattle.pfs_store_index.proofs.Leavings.{state_number}
 use Rattle.pfs_store_index.proofs.Storing.{due-hold, due-stays}
 use Rattle.pfs_store_index.proofs.Untils.{hold-more, hold-none}
 use Rattle.pfs_store_index.proofs.Stretches.{all-more, rest-more, stretch-more}
-use Rattle.pfs_store_index.proofs.Walks.{stays-none, stays_by}
+use Rattle.pfs_store_index.proofs.Walks.{examined-dropped, examined-taken, stays-none, stays_by}
 use Rattle.pfs_store_index.proofs.purging.walk_states.Goals as goal
 
 abbrev IsStaying : Conf → List ℕ → ℕ → ℕ → State → Type 0
@@ -72,18 +71,13 @@ loop-left-preserved g c =
       looks = omega (arith, f.looks, i.looks);
     }
 
--- the number of those examined, of the share and of those that wait
-examined-min : (e share : ℕ) (ws : List ℕ) → e ≡ length (take share ws) → e ≡ min share (length ws)
-examined-min e share ws h = h ∙ length-take share ws
-
 pub returns-clause-states : goal.returns-clause-states
 returns-clause-states g c =
     let i = c.loop-left.invariant in
     let ws = waiting c.args.round.cursor c.args.round.mark (state_numbers c.args.indexes.now.states) in
     let conf = c.args.indexes.now.config in
     let xs = c.args.indexes.now.states in
-    let m = examined-min c.loop-left.examined c.args.share ws (i.ends (omega (arith, c.loop-left-test.false))) in
-    let z : take c.loop-left.examined ws ≡ take c.args.share ws = ap (λ k. take k ws) m ∙ take_min c.args.share ws in
+    let z = examined-taken c.loop-left.examined c.args.share ws (i.ends (omega (arith, c.loop-left-test.false))) in
     i.states ∙ ap (λ zs. filter (stays_by state_number (is_due conf c.args.counts.now (length xs) c.args.now) zs) xs) z
     ∙ due-stays conf c.args.counts.now xs c.args.now (take c.args.share ws) xs c.requires.counts c.requires.unread
 
@@ -91,7 +85,7 @@ pub returns-clause-waiting : goal.returns-clause-waiting
 returns-clause-waiting g c =
     let i = c.loop-left.invariant in
     let ws = waiting c.args.round.cursor c.args.round.mark (state_numbers c.args.indexes.now.states) in
-    i.rest ∙ ap (λ k. drop k ws) (examined-min c.loop-left.examined c.args.share ws (i.ends (omega (arith, c.loop-left-test.false)))) ∙ drop_min c.args.share ws
+    i.rest ∙ examined-dropped c.loop-left.examined c.args.share ws (i.ends (omega (arith, c.loop-left-test.false)))
 
 pub returns-clause-until : goal.returns-clause-until
 returns-clause-until g c =
@@ -99,7 +93,6 @@ returns-clause-until g c =
     let ws = waiting c.args.round.cursor c.args.round.mark (state_numbers c.args.indexes.now.states) in
     let conf = c.args.indexes.now.config in
     let xs = c.args.indexes.now.states in
-    let m = examined-min c.loop-left.examined c.args.share ws (i.ends (omega (arith, c.loop-left-test.false))) in
-    let z : take c.loop-left.examined ws ≡ take c.args.share ws = ap (λ k. take k ws) m ∙ take_min c.args.share ws in
+    let z = examined-taken c.loop-left.examined c.args.share ws (i.ends (omega (arith, c.loop-left-test.false))) in
     due-hold conf c.args.counts.now xs (take c.args.share ws) c.loop-left.until c.loop-left.indexes.states c.requires.counts c.requires.unread
     (subst (λ ns. StatesHold (due_at conf c.args.counts.now (length xs)) ns c.loop-left.until c.loop-left.indexes.states) z i.until)

@@ -1,9 +1,7 @@
 -- Answers of IndexStore's watch_nodes: the slice of the definition, up to when its nodes stay, the round's end.
 use Rattle.std.proofs.Common.{◌≡◌, ◌∙◌, ◌-◌, ap, length, take, rules}
-use Rattle.pfs_store_plain.specs.Worlds.{World}
 use Rattle.pfs_store_plain.specs.Plain.{Plain}
-use Rattle.pfs_store_plain.specs.Purging.{node_numbers, node_share, node_slice}
-use Rattle.pfs_store_plain.specs.Calls.{node_slice_of}
+use Rattle.pfs_store_plain.specs.Purging.{node_numbers, node_round, node_share, node_slice}
 use Rattle.pfs_store_index.proofs.Storing.{stored-nodes, world-node_slice}
 use Rattle.pfs_store_index.specs.Rounds.{waiting}
 use Rattle.pfs_store_index.proofs.store.IndexStoreStore.watch_nodes.Goals as goal
@@ -24,12 +22,8 @@ returns-clause-world g c =
 
 pub returns-clause-answer : goal.returns-clause-answer
 returns-clause-answer g c =
-    let h = c.self.inside.indexes in
     let s : c.share_of-share.result ≡ node_share c.self.inside.indexes.config = search rules in
-    let w = world-node_slice c.args.now c.share_of-share.result h c.walk_nodes-steps.new.indexes c.self.inside.states_round.cursor c.self.inside.states_round.mark
-    c.self.inside.nodes_round.cursor c.self.inside.nodes_round.mark c.walk_nodes-steps.result.cursor c.node_round-round.result.mark c.self.inside.made
-    (waiting c.node_round-round.result.cursor c.node_round-round.result.mark (node_numbers h.nodes)) s c.node_round-round.ensures.waiting
-    c.walk_nodes-steps.ensures.states c.walk_nodes-steps.ensures.nodes c.walk_nodes-steps.ensures.waiting in
-    let e = c.walk_nodes-steps.ensures.examined ∙ (λ j. length (take (s j) (c.node_round-round.ensures.waiting j))) in
-    let r = c.walk_nodes-steps.ensures.removed ∙ ap (λ (v : World). length h.nodes - length v.nodes) w in
-    (λ j. record { examined = e j; removed = r j }) ∙ ap (λ (p : Plain). node_slice_of p.config p.world c.args.now) c.self.view_is
+    let e = c.walk_nodes-steps.ensures.examined ∙ (λ j. length (take (s j) (c.node_round-round.ensures.waiting j)))
+    ∙ ap (λ (p : Plain). length (take (node_share p.config) (node_round p.world))) c.self.view_is in
+    let r = c.walk_nodes-steps.ensures.removed ∙ (λ j. length (c.self.view_is j).world.nodes - length (returns-clause-world g c j).nodes) in
+    (λ j. record { examined = e j; removed = r j })

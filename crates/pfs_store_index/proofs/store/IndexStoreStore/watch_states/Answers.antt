@@ -1,11 +1,9 @@
 -- Answers of IndexStore's watch_states: the slice of the definition, up to when its states stay, its looks.
 use Rattle.std.proofs.Common.{◌≡◌, ◌∙◌, ◌-◌, ◌≤◌, ℕ, List, length-take, ap, length, subst, take, arith, rules}
-use Rattle.pfs_store_plain.specs.Worlds.{World}
 use Rattle.pfs_store_index.specs.Rounds.{waiting}
 use Rattle.pfs_store_index.specs.Stored.{IsStored}
 use Rattle.pfs_store_plain.specs.Plain.{Plain}
-use Rattle.pfs_store_plain.specs.Purging.{state_numbers, state_share, state_slice}
-use Rattle.pfs_store_plain.specs.Calls.{state_slice_of}
+use Rattle.pfs_store_plain.specs.Purging.{state_numbers, state_round, state_share, state_slice}
 use Rattle.pfs_store_index.proofs.Leavings.{state_number}
 use Rattle.pfs_store_index.proofs.Storing.{few-numbered, stored-without, world-slice}
 use Rattle.pfs_store_index.proofs.Walks.{all-fewer}
@@ -34,15 +32,11 @@ returns-clause-world g c =
 
 pub returns-clause-answer : goal.returns-clause-answer
 returns-clause-answer g c =
-    let h = c.self.inside.indexes in
     let s : c.share_of-share.result ≡ state_share c.self.inside.indexes.config = search rules in
-    let w = world-slice c.args.now c.share_of-share.result h c.walk_states-steps.new.indexes c.self.inside.states_round.cursor c.self.inside.states_round.mark
-    c.walk_states-steps.result.cursor c.state_round-round.result.mark c.self.inside.nodes_round.cursor c.self.inside.nodes_round.mark c.self.inside.made
-    (waiting c.state_round-round.result.cursor c.state_round-round.result.mark (state_numbers h.states)) s c.state_round-round.ensures.waiting
-    c.walk_states-steps.ensures.states c.walk_states-steps.ensures.nodes c.walk_states-steps.ensures.waiting in
-    let e = c.walk_states-steps.ensures.examined ∙ (λ j. length (take (s j) (c.state_round-round.ensures.waiting j))) in
-    let r = c.walk_states-steps.ensures.removed ∙ ap (λ (v : World). length h.states - length v.states) w in
-    (λ j. record { examined = e j; removed = r j }) ∙ ap (λ (p : Plain). state_slice_of p.config p.world c.args.now) c.self.view_is
+    let e = c.walk_states-steps.ensures.examined ∙ (λ j. length (take (s j) (c.state_round-round.ensures.waiting j)))
+    ∙ ap (λ (p : Plain). length (take (state_share p.config) (state_round p.world))) c.self.view_is in
+    let r = c.walk_states-steps.ensures.removed ∙ (λ j. length (c.self.view_is j).world.states - length (returns-clause-world g c j).states) in
+    (λ j. record { examined = e j; removed = r j })
 
 pub returns-clause-most : goal.returns-clause-most
 returns-clause-most g c =

@@ -1,16 +1,15 @@
 -- Answers of Nodes::turned: the round goes on over the numbers of the nodes, which are those of the map.
-use Rattle.std.proofs.Common.{◌≡◌, ◌≤◌, ◌∙◌, List, ap, filter, subst, sym}
+use Rattle.std.proofs.Common.{◌≡◌, ◌≤◌, ◌∙◌, List, ap, subst, sym}
 use Rattle.std.specs.List.{AllByRecursion}
 use Rattle.std.specs.Map.{keys_of}
 use Rattle.indexmap.specs.IndexMap.{get}
 use Rattle.pfs_store_plain.specs.Purging.{node_numbers}
-use Rattle.pfs_store_plain.specs.Quiet.{turned}
 use Rattle.pfs_store_records.specs.Keeping.{number_of_node, place_of_node, same_place}
-use Rattle.pfs_store_records.specs.Records.{between}
 use Rattle.pfs_store_records.specs.Tallies.{nodes_of}
 use Rattle.pfs_store_records.specs.declared.nodes.Tally.{Tally}
 use Rattle.pfs_store_records.proofs.NodeLaws.{numbers-nodes}
 use Rattle.pfs_store_records.proofs.Ordered.{numbers-held}
+use Rattle.pfs_store_records.proofs.Turning.{turned-same}
 use Rattle.pfs_store_records.proofs.nodes.Nodes.turned.Goals as goal
 
 -- the numbers of the nodes are those of the map
@@ -23,7 +22,4 @@ pub turned-requires-clause-numbered : goal.turned-requires-clause-numbered
 turned-requires-clause-numbered g c = subst (AllByRecursion (λ n. (1 ≤ n) × (n ≤ c.args.made))) (numbers g c) c.requires.numbered
 
 pub returns-clause-waiting : goal.returns-clause-waiting
-returns-clause-waiting g c =
-    let e = numbers g c.before in
-    ap (filter (between c.turned.result.cursor c.turned.result.mark)) e ∙ c.turned.ensures.waiting
-    ∙ (λ i. turned c.args.share (sym e i) c.args.slices (filter (between c.args.round.cursor c.args.round.mark) (sym e i)))
+returns-clause-waiting g c = turned-same c.args.share c.args.slices _ _ _ _ _ _ (numbers g c.before) c.turned.ensures.waiting

@@ -1,10 +1,10 @@
 -- Answers of Records::turned: the round goes on over the numbers of the records, which are those of the map.
-use Rattle.std.proofs.Common.{◌≡◌, ◌≤◌, ◌∙◌, List, ap, filter, subst, sym}
+use Rattle.std.proofs.Common.{◌≡◌, ◌≤◌, ◌∙◌, List, ap, subst, sym}
 use Rattle.std.specs.List.{AllByRecursion}
 use Rattle.std.specs.Map.{keys_of}
 use Rattle.pfs_store_plain.specs.Purging.{state_numbers}
-use Rattle.pfs_store_plain.specs.Quiet.{turned}
-use Rattle.pfs_store_records.specs.Records.{Placed, between, states_of}
+use Rattle.pfs_store_records.specs.Records.{Placed, states_of}
+use Rattle.pfs_store_records.proofs.Turning.{turned-same}
 use Rattle.pfs_store_records.proofs.Walking.{numbers-keys}
 use Rattle.pfs_store_records.proofs.records.Records.turned.Goals as goal
 
@@ -18,7 +18,4 @@ pub turned-requires-clause-numbered : goal.turned-requires-clause-numbered
 turned-requires-clause-numbered c = subst (AllByRecursion (λ n. (1 ≤ n) × (n ≤ c.args.made))) (numbers c) c.requires.numbered
 
 pub returns-clause-waiting : goal.returns-clause-waiting
-returns-clause-waiting c =
-    let e = numbers c.before in
-    ap (filter (between c.turned.result.cursor c.turned.result.mark)) e ∙ c.turned.ensures.waiting
-    ∙ (λ i. turned c.args.share (sym e i) c.args.slices (filter (between c.args.round.cursor c.args.round.mark) (sym e i)))
+returns-clause-waiting c = turned-same c.args.share c.args.slices _ _ _ _ _ _ (numbers c.before) c.turned.ensures.waiting
