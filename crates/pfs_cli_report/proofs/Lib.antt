@@ -1,3 +1,4 @@
+pub mod Parts
 pub mod Rest
 pub mod Runs
 pub mod Stepping

@@ -5,7 +5,7 @@ ghost use Rattle.csv.specs.Records.{fields_of};
 ghost use Rattle.pfs_addr.specs.Protocols.{is_icmp};
 ghost use Rattle.pfs_addr.specs.Texts.{addr_of};
 ghost use Rattle.pfs_conf_rules.specs.Configs.{table_named};
-ghost use Rattle.pfs_cli_report.specs.Events.{beside, changing, column_of, number_to, dir_of, expiry_at, port_of, flags_for, ends_at, nothing_in, arrival_at, leaving_at, is_header, falls, event_at};
+ghost use Rattle.pfs_cli_report.specs.Events.{beside, changing, column_of, number_to, dir_of, expiry_at, port_of, flags_for, nothing_in, arrival_at, leaving_at, is_header, falls, event_at};
 
 use crate::faults::TraceFault;
 use csv::ByteRecord;
@@ -62,7 +62,8 @@ fn has_fallen(last: Option<u64>, time: u64) -> bool
     }
 }
 
-// The event of a record by which entries leave a table.
+// The event of a record by which entries leave a table. Such records are few: they are read apart from the way of a packet.
+#[inline(never)]
 fn read_leaving(
     row: u64,
     last: Option<u64>,
@@ -124,7 +125,10 @@ fn read_packet(
     let dir = read_dir(column(fields, 2)).ok_or(TraceFault::Field(row, 2))?;
     let ifname = parse_ifname(column(fields, 3)).ok_or(TraceFault::Field(row, 3))?;
     let proto = parse_proto(column(fields, 4)).ok_or(TraceFault::Field(row, 4))?;
-    let (source, destination) = read_ends(row, &proto, fields)?;
+    let src = parse_addr(column(fields, 5)).ok_or(TraceFault::Field(row, 5))?;
+    let sport = read_port(&proto, column(fields, 6)).ok_or(TraceFault::Field(row, 6))?;
+    let dst = read_beside(src, column(fields, 7)).ok_or(TraceFault::Field(row, 7))?;
+    let dport = read_port(&proto, column(fields, 8)).ok_or(TraceFault::Field(row, 8))?;
     let flags = read_flags(&proto, column(fields, 9)).ok_or(TraceFault::Field(row, 9))?;
     if has_fallen(last, time) {
         return Err(TraceFault::TimeFell(row));
@@ -133,6 +137,14 @@ fn read_packet(
         let what = What::Skip;
         return Ok(Event { time, what });
     }
+    let source = Endpoint {
+        addr: src,
+        port: sport,
+    };
+    let destination = Endpoint {
+        addr: dst,
+        port: dport,
+    };
     Ok(Event {
         time,
         what: What::Packet(Packet::new(dir, ifname, proto, source, destination, flags)),
@@ -143,30 +155,6 @@ fn is_skipped(proto: &Proto) -> bool
     ensures { result ≡ is_icmp proto.now }
 {
     proto.is_icmp()
-}
-
-// The two ends of a packet.
-fn read_ends(
-    row: u64,
-    proto: &Proto,
-    fields: &ByteRecord,
-) -> Result<(Endpoint, Endpoint), TraceFault>
-    ensures { result ≡ ends_at row proto.now (fields_of fields.now) }
-{
-    let src = parse_addr(column(fields, 5)).ok_or(TraceFault::Field(row, 5))?;
-    let sport = read_port(proto, column(fields, 6)).ok_or(TraceFault::Field(row, 6))?;
-    let dst = read_beside(src, column(fields, 7)).ok_or(TraceFault::Field(row, 7))?;
-    let dport = read_port(proto, column(fields, 8)).ok_or(TraceFault::Field(row, 8))?;
-    Ok((
-        Endpoint {
-            addr: src,
-            port: sport,
-        },
-        Endpoint {
-            addr: dst,
-            port: dport,
-        },
-    ))
 }
 
 // An address of the same family as another.

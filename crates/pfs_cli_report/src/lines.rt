@@ -1,7 +1,8 @@
 //! The lines of a report.
 
 ghost use Rattle.std.specs.Prelude.{◌≡◌, ◌++◌, OnOk, decimal};
-ghost use Rattle.pfs_cli_report.specs.Lines.{row_text, end_text, word_of, mark_text, rule_of, note_text, overload_word};
+ghost use Rattle.pfs_cli_report.specs.Lines.{row_text, end_text, rule_of, note_text, overload_word};
+ghost use Rattle.pfs_cli_report.specs.LineParts.{lead_of, number_text};
 
 use itoa::Buffer;
 use pfs_conf_rules::RuleNo;
@@ -23,14 +24,14 @@ pub struct EndLine {
 
 /// Appends the line of a record: its row, what the machine did with it, and by which rule. An error comes where memory
 /// was refused; a part of the line may stand there then.
+#[inline(never)]
+#[tactic(auto, using(crate::proofs::Parts::parted))]
 pub fn push_row(out: &mut Vec<u8>, row: u64, outcome: &Outcome) -> Result<(), AllocError>
     ensures { OnOk result (out.new.items ≡ out.old.items ++ row_text row outcome.now) }
 {
     push_number(out, row)?;
-    out.extend_from_slice(b" ")?;
-    out.extend_from_slice(word(outcome).as_bytes())?;
-    out.extend_from_slice(b" ")?;
-    push_mark(out, rule(outcome))?;
+    out.extend_from_slice(lead(outcome).as_bytes())?;
+    push_rule(out, rule(outcome))?;
     push_note(out, outcome)?;
     out.extend_from_slice(b"\n")
 }
@@ -60,16 +61,13 @@ fn push_number(out: &mut Vec<u8>, number: u64) -> Result<(), AllocError>
     out.extend_from_slice(buffer.format(number).as_bytes())
 }
 
-// The rule of a line, `-` where there is none.
-fn push_mark(out: &mut Vec<u8>, rule: Option<RuleNo>) -> Result<(), AllocError>
-    ensures { OnOk result (out.new.items ≡ out.old.items ++ mark_text rule) }
+// The number of a rule, behind the `@` of its line.
+fn push_rule(out: &mut Vec<u8>, rule: Option<RuleNo>) -> Result<(), AllocError>
+    ensures { OnOk result (out.new.items ≡ out.old.items ++ number_text rule) }
 {
     match rule {
-        Some(RuleNo(number)) => {
-            out.extend_from_slice(b"@")?;
-            push_number(out, u64::from(number))
-        }
-        None => out.extend_from_slice(b"-"),
+        Some(RuleNo(number)) => push_number(out, u64::from(number)),
+        None => Ok(()),
     }
 }
 
@@ -118,27 +116,29 @@ fn rule(outcome: &Outcome) -> Option<RuleNo>
     }
 }
 
-fn word(outcome: &Outcome) -> &'static str
-    ensures { result.now ≡ word_of outcome.now }
+// What stands between the row and the number of the rule: the word, and `@`, or `-` where there is no rule.
+fn lead(outcome: &Outcome) -> &'static str
+    ensures { result.now ≡ lead_of outcome.now }
 {
     match *outcome {
-        Outcome::State(_) => "state",
-        Outcome::New(_) => "new",
-        Outcome::Pass(_) => "pass",
-        Outcome::Block(_) => "block",
-        Outcome::Drop(_, Limit::Max) => "drop:max",
-        Outcome::Drop(_, Limit::MaxSrcNodes) => "drop:max-src-nodes",
-        Outcome::Drop(_, Limit::SrcNodes) => "drop:src-nodes",
-        Outcome::Drop(_, Limit::MaxSrcStates) => "drop:max-src-states",
-        Outcome::Drop(_, Limit::States) => "drop:states",
+        Outcome::State(_) => " state @",
+        Outcome::New(_) => " new @",
+        Outcome::Pass(Some(_)) => " pass @",
+        Outcome::Pass(None) => " pass -",
+        Outcome::Block(_) => " block @",
+        Outcome::Drop(_, Limit::Max) => " drop:max @",
+        Outcome::Drop(_, Limit::MaxSrcNodes) => " drop:max-src-nodes @",
+        Outcome::Drop(_, Limit::SrcNodes) => " drop:src-nodes @",
+        Outcome::Drop(_, Limit::MaxSrcStates) => " drop:max-src-states @",
+        Outcome::Drop(_, Limit::States) => " drop:states @",
         Outcome::Kill {
             conn: true,
             rate: true,
             ..
-        } => "kill:max-src-conn+max-src-conn-rate",
-        Outcome::Kill { conn: true, .. } => "kill:max-src-conn",
-        Outcome::Kill { .. } => "kill:max-src-conn-rate",
-        Outcome::Skip => "skip",
-        Outcome::Expire(_) => "expire",
+        } => " kill:max-src-conn+max-src-conn-rate @",
+        Outcome::Kill { conn: true, .. } => " kill:max-src-conn @",
+        Outcome::Kill { .. } => " kill:max-src-conn-rate @",
+        Outcome::Skip => " skip -",
+        Outcome::Expire(_) => " expire -",
     }
 }

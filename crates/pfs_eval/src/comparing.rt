@@ -6,7 +6,7 @@ ghost use Rattle.pfs_eval.specs.Matching.{common_flags, dir_holds, family_holds,
 ghost use Rattle.pfs_eval.specs.Parameters.{IsSame, holds_at, same_test};
 
 use crate::tables::Tables;
-use pfs_addr::{Addr, Dir, Flags, IfName, Meter, Packet, Prefix, Proto};
+use pfs_addr::{Addr, Dir, Flags, Meter, Packet, Prefix, Proto};
 use pfs_conf_rules::{Family, Filter, FlagTest, Host, Interface, Ports, TableNo, What};
 
 /// A parameter of an item, in the order in which they are compared. (pf.conf(5), PARAMETERS)
@@ -84,7 +84,7 @@ impl Asked {
 fn first_failing(tables: &Tables, packet: &Packet, filter: &Filter) -> Option<Parameter>
     ensures { MatchOption result (filter_holds tables.now.entries packet.now filter.now ≡ true) (λ k. holds_at tables.now.entries packet.now k filter.now ≡ false) }
 {
-    if !interface_holds(&filter.on, &packet.ifname()) {
+    if !interface_holds(&filter.on, packet) {
         return Some(Parameter::Interface);
     }
     if !dir_holds(filter.dir, packet.dir()) {
@@ -120,12 +120,13 @@ fn dir_holds(wanted: Option<Dir>, dir: Dir) -> bool
     wanted.is_none_or(|wanted| wanted == dir)
 }
 
-fn interface_holds(on: &Option<Interface>, name: &IfName) -> bool
-    ensures { result ≡ interface_holds on.now name.now }
+// The packet is asked, so that its name is compared where it stands and not copied for each item.
+fn interface_holds(on: &Option<Interface>, packet: &Packet) -> bool
+    ensures { result ≡ interface_holds on.now packet.now.ifname }
 {
     match on {
         None => true,
-        Some(interface) => turned(interface.negated, interface.name == *name),
+        Some(interface) => turned(interface.negated, packet.is_on(&interface.name)),
     }
 }
 
