@@ -10,7 +10,7 @@ use Rattle.pfs_addr.specs.Packets.{Header}
 use Rattle.pfs_conf_rules.specs.Configs.{Conf, has_name, is_const_table, table_named}
 use Rattle.pfs_conf_rules.specs.declared.filters.TableNo.{TableNo}
 use Rattle.pfs_engine_machine.specs.Kept.{moment_of}
-use Rattle.pfs_engine_machine.specs.Machine.{Machine, taken, advanced, answered, expired, first_by, leaving, step}
+use Rattle.pfs_engine_machine.specs.Machine.{Machine, handled, advanced, answered, expired, first_by, leaving, step}
 use Rattle.pfs_engine_machine.specs.Runs.{MayCome, MayExpire}
 use Rattle.pfs_engine_machine.specs.declared.events.Event.{Event}
 use Rattle.pfs_engine_machine.specs.declared.events.Outcome.{Outcome}
@@ -162,7 +162,7 @@ event-read conf row last fields e q = by_length (length fields == 9) q
 
 -- what comes of an event, by what it is
 abbrev stepped : Conf → Machine → ℕ → What → Outcome × Machine
-stepped conf m now w = leaving (advanced conf m now) (taken conf (advanced conf m now).held (first_by m.first now) now w)
+stepped conf m now w = leaving (advanced conf m now) (handled conf (advanced conf m now).held (first_by m.first now) now w)
 
 pub step-skip : (conf : Conf) (m new : Machine) (e : Event) → new ≡ advanced conf m e.time → e.what ≡ what.Skip → (outcome.Skip, new) ≡ step conf m e
 unfolding step

@@ -6,7 +6,7 @@ use Rattle.pfs_addr.specs.Packets.{Header}
 use Rattle.pfs_conf_rules.specs.Configs.{Conf, rule_of}
 use Rattle.pfs_conf_rules.specs.declared.actions.Action.{Action}
 use Rattle.pfs_conf_rules.specs.declared.actions.Action.TheVariants as action
-use Rattle.pfs_store_plain.specs.Admission.{packet_limit}
+use Rattle.pfs_store_plain.specs.Calls.{packet_limit}
 use Rattle.pfs_store_plain.specs.Handshakes.{hits_connections, hits_rate}
 use Rattle.pfs_store_plain.specs.Touching.{completes_at, touched}
 use Rattle.pfs_store_plain.specs.Worlds.{World, state_with}

@@ -11,8 +11,8 @@ use Rattle.pfs_store_plain.specs.declared.records.Node.{Node}
 use Rattle.pfs_store_plain.specs.declared.records.Slice.{Slice}
 use Rattle.pfs_store_plain.specs.declared.records.State.{State}
 use Rattle.pfs_store_plain.specs.declared.records.Watched.{Watched}
-use Rattle.pfs_engine_machine.specs.Machine.{purged, seconds}
-use Rattle.pfs_engine_machine.specs.Shares.{most_nodes, most_states}
+use Rattle.pfs_engine_machine.specs.Machine.{purged}
+use Rattle.pfs_engine_machine.specs.Shares.{seconds, most_nodes, most_states}
 use Rattle.pfs_engine_machine.specs.Quiet.{IsQuietUntil}
 use Rattle.pfs_engine_machine.proofs.Purging.{idle_from, most_nodes_next, most_states_next, purged_next}
 use Rattle.pfs_engine_machine.proofs.Quiet.{half, half-stood, nodes-seen, round-fits, second-stood, seconds-quiet, states-seen}

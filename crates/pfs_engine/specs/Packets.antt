@@ -4,7 +4,7 @@ use Rattle.pfs_addr.specs.Packets.{Header}
 use Rattle.pfs_conf_rules.specs.Configs.{Conf, options_of, rule_of}
 use Rattle.pfs_conf_rules.specs.declared.actions.Action.{Action}
 use Rattle.pfs_conf_rules.specs.declared.actions.Action.TheVariants as action
-use Rattle.pfs_store_plain.specs.Admission.{packet_limit}
+use Rattle.pfs_store_plain.specs.Calls.{packet_limit}
 use Rattle.pfs_store_plain.specs.Counts.{exceeded}
 use Rattle.pfs_store_plain.specs.Handshakes.{over_rate}
 use Rattle.pfs_store_plain.specs.declared.records.State.{State}

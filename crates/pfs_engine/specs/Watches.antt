@@ -7,8 +7,8 @@ use Rattle.pfs_store_plain.specs.Quiet.{NodeStays, StateStays}
 use Rattle.pfs_store_plain.specs.Worlds.{World}
 use Rattle.pfs_store_plain.specs.declared.records.Node.{Node}
 use Rattle.pfs_store_plain.specs.declared.records.State.{State}
-use Rattle.pfs_engine_machine.specs.Machine.{purged, seconds}
-use Rattle.pfs_engine_machine.specs.Shares.{most_nodes, most_states}
+use Rattle.pfs_engine_machine.specs.Machine.{purged}
+use Rattle.pfs_engine_machine.specs.Shares.{seconds, most_nodes, most_states}
 use Rattle.pfs_engine_machine.specs.Quiet.{IsSeen}
 use Rattle.pfs_engine.specs.declared.purges.Passage.{Passage}
 use Rattle.pfs_engine.specs.declared.watches.Watch.{Watch}

@@ -12,7 +12,7 @@ ghost use Rattle.pfs_conf_rules.specs.declared.items.RuleNo.{RuleNo};
 ghost use Rattle.pfs_store_plain.specs.declared.records.Limit.{Limit};
 ghost use Rattle.pfs_engine_machine.specs.Kept.{IsWithinLimits, IsWithinShared, moment_of};
 ghost use Rattle.pfs_engine_machine.specs.Looks.{AreLooks, states_beside};
-ghost use Rattle.pfs_engine_machine.specs.Refusals.{IsFree, IsRefused};
+ghost use Rattle.pfs_engine_machine.specs.Refusals.{IsFree, IsDropped};
 ghost use Rattle.pfs_engine_machine.specs.Machine.{advanced, answered, due, entries_held, expired, nodes_held, start, states_held, step, machine_after, outcomes_of};
 ghost use Rattle.pfs_engine_machine.specs.Runs.{MayCome, MayExpire, AreAllowed, IsInOrder, IsRefusedIn, IsStopped, packets_in, taken_by};
 ghost use Rattle.pfs_engine_machine.specs.Shares.{most_nodes, most_states};
@@ -189,9 +189,9 @@ impl<S: Store> Engine<S> {
 
         // A state is refused exactly where a limit is met; then nothing has changed.
         ensures refused { (rule : RuleNo) (limit : Limit) →
-            IsRefused self.old.config self.old.machine.held packet.now rule.0 limit → result ≡ Ok (Outcome.Drop rule limit) }
+            IsDropped self.old.config self.old.machine.held packet.now rule.0 limit → result ≡ Ok (Outcome.Drop rule limit) }
         ensures refused_only { (rule : RuleNo) (limit : Limit) → result ≡ Ok (Outcome.Drop rule limit) →
-            IsRefused self.old.config self.old.machine.held packet.now rule.0 limit × (self.new.machine ≡ self.old.machine) }
+            IsDropped self.old.config self.old.machine.held packet.now rule.0 limit × (self.new.machine ≡ self.old.machine) }
 
         // Of a new state of a rule with shared source nodes, directly after it.
         ensures shared { (rule : RuleNo) → result ≡ Ok (Outcome.New rule) → scope_of self.old.config rule.0 ≡ Some Scope.Global →

@@ -8,7 +8,7 @@ ghost use Rattle.pfs_conf_rules.specs.LoadRules.{AreOptions};
 ghost use Rattle.pfs_conf_rules.specs.Bounds.{IsRate};
 ghost use Rattle.pfs_store_plain.specs.Counts.{exceeded};
 ghost use Rattle.pfs_store_plain.specs.Calls.{source_states, state_number, state_rule};
-ghost use Rattle.pfs_store_plain.specs.Handshakes.{flush_of, goes_with, over_rate, stays_at_kill};
+ghost use Rattle.pfs_store_plain.specs.Handshakes.{stays_at_kill, flush_of, goes_with, over_rate};
 ghost use Rattle.pfs_store_plain.specs.Leaving.{without};
 ghost use Rattle.pfs_store_plain.specs.Worlds.{holds_number, state_with};
 ghost use Rattle.pfs_engine_machine.specs.Kept.{IsKept};

@@ -4,7 +4,7 @@ ghost use Rattle.std.specs.Prelude.{List, ◌≡◌, ◌≤◌, ◌<◌, ◌+◌
 ghost use Rattle.pfs_addr.specs.Keys.{key_of};
 ghost use Rattle.pfs_eval.specs.Entries.{Entry};
 ghost use Rattle.pfs_conf_rules.specs.Configs.{limit_of, options_at};
-ghost use Rattle.pfs_store_plain.specs.Admission.{packet_limit};
+ghost use Rattle.pfs_store_plain.specs.Calls.{packet_limit};
 ghost use Rattle.pfs_store_plain.specs.Worlds.{state_with};
 ghost use Rattle.pfs_engine_machine.specs.Kept.{IsKept};
 ghost use Rattle.pfs_engine_machine.specs.Looks.{AreLooks, states_beside};

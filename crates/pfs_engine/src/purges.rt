@@ -2,8 +2,8 @@
 
 ghost use Rattle.std.specs.Prelude.{◌≡◌, ◌+◌, ◌*◌, ◌<◌, ◌≤◌, ◌^◌, ◌==◌, ◌&&◌, not, if◌then◌else◌, true, false, length, max};
 ghost use Rattle.std.specs.Option.{ForSome};
-ghost use Rattle.pfs_engine_machine.specs.Machine.{due, purged, seconds};
-ghost use Rattle.pfs_engine_machine.specs.Shares.{most_nodes, most_states};
+ghost use Rattle.pfs_engine_machine.specs.Machine.{due, purged};
+ghost use Rattle.pfs_engine_machine.specs.Shares.{seconds, most_nodes, most_states};
 ghost use Rattle.pfs_engine.specs.Watches.{IsOnTheWay, IsWatched};
 
 use crate::watches::Watch;

@@ -3,8 +3,9 @@ use Rattle.std.proofs.Common.{◌≡◌, ◌∙◌, ◌&&◌, ◌||◌, ℕ, Boo
 use Rattle.pfs_addr.specs.Keys.{key_of}
 use Rattle.pfs_addr.specs.Packets.{Header}
 use Rattle.pfs_conf_rules.specs.Configs.{Conf, options_of}
-use Rattle.pfs_store_plain.specs.Admission.{admitted, packet_limit}
-use Rattle.pfs_store_plain.specs.Handshakes.{flush_of, hits_connections, hits_rate, stays_at_kill}
+use Rattle.pfs_store_plain.specs.Admission.{admitted}
+use Rattle.pfs_store_plain.specs.Calls.{packet_limit}
+use Rattle.pfs_store_plain.specs.Handshakes.{stays_at_kill, flush_of, hits_connections, hits_rate}
 use Rattle.pfs_store_plain.specs.Leaving.{without}
 use Rattle.pfs_store_plain.specs.Touching.{completes_at, touched}
 use Rattle.pfs_store_plain.specs.Worlds.{World, state_with}

@@ -28,7 +28,7 @@ use Rattle.pfs_track.specs.declared.scores.Score.{Score}
 use Rattle.pfs_engine_machine.proofs.Counts.{any-push, count-filter_le, count-push}
 use Rattle.pfs_engine_machine.proofs.Scopes.{same_scope_self, same_scope_true}
 use Rattle.pfs_engine_machine.specs.Kept.{moment_of, own_scope}
-use Rattle.pfs_engine_machine.specs.Machine.{Held, Machine, taken, advanced, answered, killed, by_state, by_handshake, due, first_by, held_of, purged, start, step, machine_after, outcomes_of}
+use Rattle.pfs_engine_machine.specs.Machine.{Held, Machine, handled, advanced, answered, killed, by_state, by_handshake, due, first_by, held_of, purged, start, step, machine_after, outcomes_of}
 use Rattle.pfs_engine_machine.specs.Rates.{Handshake, completed_by, folded, handshake_at, handshake_by, handshakes, history_score, is_from, moments_of, with_handshake}
 use Rattle.pfs_engine_machine.specs.Runs.{IsInOrder}
 use Rattle.pfs_engine_machine.specs.declared.events.Event.{Event}
@@ -206,7 +206,7 @@ due-in conf rule source x history i w (Some last) now h r =
 
 acted-in : (conf : Conf) (rule : ℕ) (source : Addr) (x : Rate) (first now : ℕ) (history : Score) (h : Held) → IsRated conf rule x → (what : What)
     → RemembersIn conf rule source x.seconds now history h.world
-    → RemembersIn conf rule source x.seconds now (heard rule source x.seconds history now (handshake_by h.world what)) (taken conf h first now what).1.world
+    → RemembersIn conf rule source x.seconds now (heard rule source x.seconds history now (handshake_by h.world what)) (handled conf h first now what).1.world
 acted-in conf rule source x first now history h i what.Skip r = r
 acted-in conf rule source x first now history h i (what.Expire table seconds) r = r
 acted-in conf rule source x first now history h i (what.Packet p) r =
@@ -325,7 +325,7 @@ score-at conf x now history w (what.Packet p) s i e r =
     let q = completed-is p (state_with (key_of p) w) s e in score-in conf x now history w p s i q.0 q.1 r
 
 hit-at : (conf : Conf) (x : Rate) (first now : ℕ) (h : Held) (what : What) (s : State) → IsRated conf s.rule.0 x → handshake_by h.world what ≡ Some s
-    → rate_hit (taken conf h first now what).0 ≡ nat_lt (1000 * x.limit) (score_compared conf h.world now what s).value
+    → rate_hit (handled conf h first now what).0 ≡ nat_lt (1000 * x.limit) (score_compared conf h.world now what s).value
 hit-at conf x first now h what.Skip s i e = cc
 hit-at conf x first now h (what.Expire table seconds) s i e = cc
 hit-at conf x first now h (what.Packet p) s i e = hit-in conf x now h p s i e

@@ -2,7 +2,7 @@
 use Rattle.std.proofs.Common.{◌≡◌, ℕ, List, [], ◌∷◌, ◌++◌, map, refl, sym, ◌∙◌, Some}
 use Rattle.pfs_conf_rules.specs.Configs.{Conf}
 use Rattle.pfs_store_plain.specs.Purging.{purge}
-use Rattle.pfs_engine_machine.specs.Machine.{Held, Machine, taken, advanced, due, first_by, held_of, purged, step, machine_after}
+use Rattle.pfs_engine_machine.specs.Machine.{Held, Machine, handled, advanced, due, first_by, held_of, purged, step, machine_after}
 use Rattle.pfs_engine_machine.specs.declared.events.Event.{Event}
 use Rattle.pfs_engine_machine.specs.declared.events.What.{What}
 use Rattle.pfs_engine_machine.specs.declared.events.What.TheVariants as what
@@ -18,7 +18,7 @@ purges-done conf h [] rest = refl
 purges-done conf h (s ∷ ss) rest = purges-done conf (held_of (purge conf h.world s) h.tables) ss rest
 
 arrivals-done : (conf : Conf) (h : Held) (first now : ℕ) (what : What) (rest : List Act)
-    → done_all conf h (arrivals first now what ++ rest) ≡ done_all conf (taken conf h first now what).1 rest
+    → done_all conf h (arrivals first now what ++ rest) ≡ done_all conf (handled conf h first now what).1 rest
 arrivals-done conf h first now what.Skip rest = refl
 arrivals-done conf h first now (what.Packet p) rest = refl
 arrivals-done conf h first now (what.Expire table seconds) rest = refl

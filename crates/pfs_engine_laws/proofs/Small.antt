@@ -9,7 +9,8 @@ use Rattle.pfs_conf_rules.specs.Configs.{Conf, limit_of, options_of}
 use Rattle.pfs_conf_rules.specs.declared.actions.Rate.{Rate}
 use Rattle.pfs_conf_rules.specs.declared.limits.LimitName.TheVariants as limit_name
 use Rattle.pfs_store_plain.proofs.LimitLaws.{met_in_turn}
-use Rattle.pfs_store_plain.specs.Admission.{admitted, packet_limit, new_node, new_state, nodes_with}
+use Rattle.pfs_store_plain.specs.Admission.{admitted, new_node, new_state, nodes_with}
+use Rattle.pfs_store_plain.specs.Calls.{packet_limit}
 use Rattle.pfs_store_plain.specs.SourceLimits.{first_of, held_node_limit, new_node_limit, source_limit}
 use Rattle.pfs_store_plain.specs.Counts.{has_node, node_scope_of, reached, rule_states, scope_nodes}
 use Rattle.pfs_store_plain.specs.Leaving.{idled, left, without}

@@ -12,7 +12,8 @@ use Rattle.pfs_conf_rules.specs.declared.actions.Scope.TheVariants as scope
 use Rattle.pfs_conf_rules.specs.declared.actions.StateOptions.{StateOptions}
 use Rattle.pfs_conf_rules.specs.declared.items.Rule.{Rule}
 use Rattle.pfs_conf_rules.specs.declared.items.RuleNo.{RuleNo}
-use Rattle.pfs_store_plain.specs.Admission.{admitted, packet_limit}
+use Rattle.pfs_store_plain.specs.Admission.{admitted}
+use Rattle.pfs_store_plain.specs.Calls.{packet_limit}
 use Rattle.pfs_store_plain.specs.Handshakes.{hits_connections, hits_rate}
 use Rattle.pfs_store_plain.specs.Touching.{completes_at, touched}
 use Rattle.pfs_store_plain.specs.Worlds.{state_with}
@@ -20,7 +21,7 @@ use Rattle.pfs_store_plain.specs.declared.records.Limit.{Limit}
 use Rattle.pfs_store_plain.specs.declared.records.State.{State}
 use Rattle.pfs_engine_machine.specs.Kept.{IsKept, IsWithinShared}
 use Rattle.pfs_engine_machine.specs.Machine.{Held, answered, by_action, killed, by_limit, by_rule, by_state, by_handshake, decided, held_of}
-use Rattle.pfs_engine_machine.specs.Refusals.{IsRefused}
+use Rattle.pfs_engine_machine.specs.Refusals.{IsDropped}
 use Rattle.pfs_engine_machine.specs.declared.events.Outcome.{Outcome}
 use Rattle.pfs_engine_machine.specs.declared.events.Outcome.TheVariants as outcome
 use Rattle.pfs_engine_machine.proofs.KeptAdmission.{shared_admitted}
@@ -31,7 +32,7 @@ pub record Answers (conf : Conf) (m : Held) (p : Header) (now : ℕ) (Q : Outcom
   pub passes : Q (outcome.Pass None, m)
   pub passed : (rule : ℕ) → Q (outcome.Pass (Some (record { 0 = rule })), m)
   pub blocked : (rule : ℕ) → Q (outcome.Block (record { 0 = rule }), m)
-  pub refused : (rule : ℕ) (limit : Limit) → IsRefused conf m p rule limit → Q (outcome.Drop (record { 0 = rule }) limit, m)
+  pub refused : (rule : ℕ) (limit : Limit) → IsDropped conf m p rule limit → Q (outcome.Drop (record { 0 = rule }) limit, m)
   pub made : (rule : ℕ) → packet_limit conf m.world p rule ≡ None
       → Q (outcome.New (record { 0 = rule }), held_of (admitted conf m.world p rule now) m.tables)
 
@@ -95,7 +96,7 @@ abbrev numbered : ℕ → RuleNo
 numbered n = record { 0 = n }
 
 abbrev pub RefusedOnly : Conf → Held → Header → Outcome × Held → Type 0
-RefusedOnly conf m p a = (rule : RuleNo) (limit : Limit) → a.0 ≡ outcome.Drop rule limit → IsRefused conf m p rule.0 limit × (a.1 ≡ m)
+RefusedOnly conf m p a = (rule : RuleNo) (limit : Limit) → a.0 ≡ outcome.Drop rule limit → IsDropped conf m p rule.0 limit × (a.1 ≡ m)
 
 pub refused_only : (conf : Conf) (m : Held) (p : Header) (now : ℕ) → RefusedOnly conf m p (answered conf m p now)
 refused_only conf m p now = answered_has conf m p now (RefusedOnly conf m p) (record {
@@ -131,7 +132,7 @@ made_shared conf m p now config kept = answered_has conf m p now (MadeShared con
 
 pub refused_result : {E : Type 0} (conf : Conf) (m before after : Held) (p : Header) (now : ℕ) (r : Result Outcome E) → before ≡ m
     → IfOk r (λ o. (o, after) ≡ answered conf before p now) → (rule : RuleNo) (limit : Limit) → r ≡ Ok (outcome.Drop rule limit)
-    → IsRefused conf m p rule.0 limit × (after ≡ before)
+    → IsDropped conf m p rule.0 limit × (after ≡ before)
 refused_result conf m before after p now (Ok o) same ok rule limit e =
     let dropped : o ≡ outcome.Drop rule limit = cc in
     let told = refused_only conf before p now rule limit (sym (ap (λ (a : Outcome × Held). a.0) ok) ∙ dropped) in

@@ -18,7 +18,8 @@ use Rattle.pfs_conf_rules.specs.declared.actions.StateOptions.{StateOptions}
 use Rattle.pfs_conf_rules.specs.declared.limits.LimitName.TheVariants as limit_name
 use Rattle.pfs_store_plain.proofs.LimitLaws.{met_in_turn}
 use Rattle.pfs_store_plain.proofs.MomentLaws.{world_at-up_to_now}
-use Rattle.pfs_store_plain.specs.Admission.{admitted, packet_limit, limit_met, new_node, new_state, nodes_with}
+use Rattle.pfs_store_plain.specs.Admission.{admitted, limit_met, new_node, new_state, nodes_with}
+use Rattle.pfs_store_plain.specs.Calls.{packet_limit}
 use Rattle.pfs_store_plain.specs.SourceLimits.{first_of, held_node_limit, new_node_limit, source_limit}
 use Rattle.pfs_store_plain.specs.Counts.{has_node, is_connection, is_node, is_of_node, is_of_rule, node_connections, node_scope_by, node_scope_of, node_states, reached, rule_states, same_scope, scope_nodes}
 use Rattle.pfs_store_plain.specs.Worlds.{World}

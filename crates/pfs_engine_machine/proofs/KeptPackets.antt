@@ -7,7 +7,7 @@ use Rattle.pfs_conf_rules.specs.Configs.{Conf, rule_of}
 use Rattle.pfs_conf_rules.specs.Invariants.{IsConfig}
 use Rattle.pfs_conf_rules.specs.declared.actions.Action.{Action}
 use Rattle.pfs_conf_rules.specs.declared.actions.Action.TheVariants as action
-use Rattle.pfs_store_plain.specs.Admission.{packet_limit}
+use Rattle.pfs_store_plain.specs.Calls.{packet_limit}
 use Rattle.pfs_store_plain.specs.Worlds.{World, state_with}
 use Rattle.pfs_store_plain.specs.declared.records.Limit.{Limit}
 use Rattle.pfs_store_plain.specs.declared.records.State.{State}

@@ -10,8 +10,8 @@ use Rattle.pfs_store_plain.specs.Worlds.{World, lists}
 use Rattle.pfs_store_plain.specs.declared.records.Node.{Node}
 use Rattle.pfs_store_plain.specs.declared.records.Slice.{Slice}
 use Rattle.pfs_store_plain.specs.declared.records.State.{State}
-use Rattle.pfs_engine_machine.specs.Machine.{purged, seconds}
-use Rattle.pfs_engine_machine.specs.Shares.{most_nodes, most_states}
+use Rattle.pfs_engine_machine.specs.Machine.{purged}
+use Rattle.pfs_engine_machine.specs.Shares.{seconds, most_nodes, most_states}
 
 -- the first second that is due
 pub seconds_next : (from to : ℕ) → from < to → seconds from to ≡ (from + 1) ∷ seconds (from + 1) to

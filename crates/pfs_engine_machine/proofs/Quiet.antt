@@ -12,8 +12,8 @@ use Rattle.pfs_store_plain.specs.Quiet.{NodeStays, StateStays, moved}
 use Rattle.pfs_store_plain.specs.Worlds.{World, lists}
 use Rattle.pfs_store_plain.specs.declared.records.Node.{Node}
 use Rattle.pfs_store_plain.specs.declared.records.State.{State}
-use Rattle.pfs_engine_machine.specs.Machine.{purged, seconds}
-use Rattle.pfs_engine_machine.specs.Shares.{most_nodes, most_states}
+use Rattle.pfs_engine_machine.specs.Machine.{purged}
+use Rattle.pfs_engine_machine.specs.Shares.{seconds, most_nodes, most_states}
 use Rattle.pfs_engine_machine.specs.Quiet.{IsQuietUntil, IsSeen}
 use Rattle.pfs_engine_machine.proofs.Purging.{most_nodes_next, most_states_next, purged_next}
 

@@ -15,7 +15,7 @@ use Rattle.pfs_conf_rules.specs.declared.actions.Action.TheVariants as action
 use Rattle.pfs_conf_rules.specs.declared.actions.Overload.{Overload}
 use Rattle.pfs_conf_rules.specs.declared.items.RuleNo.{RuleNo}
 use Rattle.pfs_conf_rules.specs.declared.limits.LimitName.TheVariants as limit_name
-use Rattle.pfs_store_plain.specs.Admission.{admitted, packet_limit}
+use Rattle.pfs_store_plain.specs.Admission.{admitted, limit_met}
 use Rattle.pfs_store_plain.specs.Handshakes.{flush_of, goes_with, hits_connections, hits_rate, stays_at_kill}
 use Rattle.pfs_store_plain.specs.Leaving.{without}
 use Rattle.pfs_store_plain.specs.Purging.{purge}
@@ -59,14 +59,10 @@ entries_held m = entry_count m.held.tables
 
 -- ---- time passes: in each whole second a slice of the states and one of the nodes
 
--- the whole seconds after one moment up to another, in rising order
-abbrev pub seconds : ℕ → ℕ → List ℕ
-seconds from to = range_with_len (from + 1) (to - from)
-
--- the seconds due at a moment: none before the first event
+-- the seconds due at a moment, in rising order: those after the last one up to it, and none before the first event
 abbrev pub due : Option ℕ → ℕ → List ℕ
 due None now = []
-due (Some last) now = seconds last now
+due (Some last) now = range_with_len (last + 1) (now - last)
 
 -- the world after the purges of these seconds
 abbrev pub purged : Conf → World → List ℕ → World
@@ -123,7 +119,7 @@ by_limit conf h p now rule (Some l) = (outcome.Drop (record { 0 = rule }) l, h)
 abbrev pub by_action : Conf → Held → Header → ℕ → ℕ → Action → Outcome × Held
 by_action conf h p now rule action.Block = (outcome.Block (record { 0 = rule }), h)
 by_action conf h p now rule action.Pass = (outcome.Pass (Some (record { 0 = rule })), h)
-by_action conf h p now rule (action.Keep o) = by_limit conf h p now rule (packet_limit conf h.world p rule)
+by_action conf h p now rule (action.Keep o) = by_limit conf h p now rule (limit_met conf h.world rule p.source.addr)
 
 -- a rule decides, or none
 abbrev pub by_rule : Conf → Held → Header → ℕ → Option ℕ → Outcome × Held
@@ -152,10 +148,10 @@ expired h first now table seconds =
     (outcome.Expire (expired_count h.tables table first now seconds), held_of h.world (entries_expired h.tables table first now seconds))
 
 -- what comes
-abbrev pub taken : Conf → Held → ℕ → ℕ → What → Outcome × Held
-taken conf h first now what.Skip = (outcome.Skip, h)
-taken conf h first now (what.Packet p) = answered conf h p now
-taken conf h first now (what.Expire table seconds) = expired h first now table.0 seconds
+abbrev pub handled : Conf → Held → ℕ → ℕ → What → Outcome × Held
+handled conf h first now what.Skip = (outcome.Skip, h)
+handled conf h first now (what.Packet p) = answered conf h p now
+handled conf h first now (what.Expire table seconds) = expired h first now table.0 seconds
 
 -- what it leaves is held
 abbrev pub leaving : Machine → Outcome × Held → Outcome × Machine
@@ -164,7 +160,7 @@ leaving m a = (a.0, record { held = a.1; first = m.first; last = m.last })
 -- the purges due, and then what comes
 unfoldable pub step : Conf → Machine → Event → Outcome × Machine
 step conf m e =
-    leaving (advanced conf m e.time) (taken conf (advanced conf m e.time).held (first_by m.first e.time) e.time e.what)
+    leaving (advanced conf m e.time) (handled conf (advanced conf m e.time).held (first_by m.first e.time) e.time e.what)
 
 -- ---- a run of events: the outcome of each in turn, and the machine after all of them
 

@@ -6,7 +6,7 @@ use Rattle.pfs_addr.specs.declared.protocols.Proto.{Proto}
 use Rattle.pfs_addr.specs.declared.protocols.Proto.TheVariants as proto
 use Rattle.pfs_conf_rules.specs.Configs.{Conf, options_at, options_of}
 use Rattle.pfs_conf_rules.specs.declared.items.RuleNo.{RuleNo}
-use Rattle.pfs_store_plain.specs.Admission.{packet_limit}
+use Rattle.pfs_store_plain.specs.Calls.{packet_limit}
 use Rattle.pfs_store_plain.specs.Worlds.{state_with}
 use Rattle.pfs_store_plain.specs.declared.records.Limit.{Limit}
 use Rattle.pfs_engine_machine.specs.Machine.{Held, decided}
@@ -20,7 +20,7 @@ is_tcp proto.Udp = false
 is_tcp (proto.Other n) = false
 
 -- no held state has the packet's key, this rule decides on it and keeps state, and this is the first limit that the state meets
-pub record IsRefused (conf : Conf) (h : Held) (p : Header) (rule : ℕ) (limit : Limit) : Type 0 where
+pub record IsDropped (conf : Conf) (h : Held) (p : Header) (rule : ℕ) (limit : Limit) : Type 0 where
   pub fresh : state_with (key_of p) h.world ≡ None
   pub rule_is : decided conf h p ≡ Some rule
   pub keeps : IsSome (options_at conf rule)

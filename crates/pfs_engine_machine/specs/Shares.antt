@@ -1,9 +1,14 @@
--- The fullest slices of the seconds of a jump. (own)
-use Rattle.std.specs.Prelude.{ℕ, max, List, [], ◌∷◌}
+-- The seconds of a jump, and the fullest slices of them. (own)
+use Rattle.std.specs.Prelude.{ℕ, ◌+◌, ◌-◌, max, List, [], ◌∷◌}
+use Rattle.std.specs.List.{range_with_len}
 use Rattle.pfs_conf_rules.specs.Configs.{Conf}
 use Rattle.pfs_store_plain.specs.Calls.{node_slice_of, state_slice_of}
 use Rattle.pfs_store_plain.specs.Purging.{purge, state_slice}
 use Rattle.pfs_store_plain.specs.Worlds.{World}
+
+-- the whole seconds after one moment up to another, in rising order
+abbrev pub seconds : ℕ → ℕ → List ℕ
+seconds from to = range_with_len (from + 1) (to - from)
 
 -- the most states, and the most nodes, that one slice of these seconds examines
 abbrev pub most_states : Conf → World → List ℕ → ℕ

@@ -42,10 +42,6 @@ limit_met conf w rule source =
     ∷ (nat_le (limit_of conf limit_name.States) (length w.states), limit.States)
     ∷ [])
 
--- the limit that a packet meets at a rule
-abbrev pub packet_limit : Conf → World → Header → ℕ → Option Limit
-packet_limit conf w p rule = limit_met conf w rule p.source.addr
-
 -- ---- a new state
 
 -- the state that a packet makes

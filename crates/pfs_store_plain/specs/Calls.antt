@@ -4,7 +4,7 @@ use Rattle.pfs_addr.specs.Packets.{Header}
 use Rattle.pfs_addr.specs.declared.addresses.Addr.{Addr}
 use Rattle.pfs_conf_rules.specs.Configs.{Conf}
 use Rattle.pfs_conf_rules.specs.declared.items.RuleNo.{RuleNo}
-use Rattle.pfs_store_plain.specs.Admission.{admitted}
+use Rattle.pfs_store_plain.specs.Admission.{admitted, limit_met}
 use Rattle.pfs_store_plain.specs.Counts.{is_of_source, node_scope_of}
 use Rattle.pfs_store_plain.specs.Leaving.{is_flushed, without}
 use Rattle.pfs_store_plain.specs.Purging.{node_round, node_share, node_slice, state_round, state_share, state_slice}
@@ -24,8 +24,13 @@ state_number s = record { 0 = s.number }
 abbrev pub state_rule : State → RuleNo
 state_rule s = s.rule
 
--- ---- a new state, where this limit is met, or none
+-- ---- a new state
 
+-- the limit that a packet meets at a rule
+abbrev pub packet_limit : Conf → World → Header → ℕ → Option Limit
+packet_limit conf w p rule = limit_met conf w rule p.source.addr
+
+-- where this limit is met, or none
 abbrev pub answer_at : World → Option Limit → Result StateNo Limit
 answer_at w None = Ok (record { 0 = w.made + 1 })
 answer_at w (Some l) = Err l

@@ -4,8 +4,8 @@ use Rattle.std.proofs.Common.{arith, refl, lit≤}
 use Rattle.pfs_addr.specs.declared.flag_sets.Flags.{Flags}
 use Rattle.pfs_track.specs.declared.tcp_ranks.Ends.{Ends}
 use Rattle.pfs_track.specs.declared.tcp_ranks.TcpRank.{TcpRank}
-use Rattle.pfs_track.specs.declared.tcp_ranks.TcpRank.TheVariants.{SynSent, Closing}
-use Rattle.pfs_track.specs.TcpRanks.{rank_number, raised, IsEstablished, after_syn, after_fin, after_ack, after_rst, acted, peers_after}
+use Rattle.pfs_track.specs.declared.tcp_ranks.TcpRank.TheVariants.{SynSent, Closing, TimeWait}
+use Rattle.pfs_track.specs.TcpRanks.{rank_number, raised, IsEstablished, acknowledged, acted, ends, peers_after}
 
 -- once it has completed, now or before, both are there
 abbrev IsShown : Bool → Ends → Type 0
@@ -15,22 +15,23 @@ raised-keeps : (on : Bool) (rank least : TcpRank) → rank_number rank ≤ rank_
 raised-keeps true rank least = grind arith
 raised-keeps false rank least = omega arith
 
-ack-shows : (complete ack forward : Bool) (s r : TcpRank) → (complete ≡ true → IsEstablished s × IsEstablished r) → IsShown complete (after_ack ack forward s r)
+ack-shows : (complete ack forward : Bool) (s r : TcpRank) → (complete ≡ true → IsEstablished s × IsEstablished r)
+    → IsShown complete (if ack then acknowledged forward s r else ends s r false)
 ack-shows true true forward s r were = let b = were refl in let c = b.0 in let d = b.1 in λ h. (grind (arith, c, d), grind (arith, c, d))
 ack-shows true false forward s r were = λ h. were refl
 ack-shows false true forward s r were = λ h. (grind (arith, h), grind (arith, h))
 ack-shows false false forward s r were = λ h. absurd cc
 
-rst-shows : (complete rst : Bool) (e : Ends) → IsShown complete e → IsShown complete (after_rst rst e)
+rst-shows : (complete rst : Bool) (e : Ends) → IsShown complete e → IsShown complete (if rst then ends TimeWait TimeWait e.completes else e)
 rst-shows complete true e shown = λ h. (lit≤ tt, lit≤ tt)
 rst-shows complete false e shown = shown
 
 acted-shows : (complete forward : Bool) (flags : Flags) (s r : TcpRank) → (complete ≡ true → IsEstablished s × IsEstablished r) → IsShown complete (acted forward flags s r)
 acted-shows complete forward flags s r were =
-    let syn = after_syn flags.syn s in
-    let fin = after_fin flags.fin syn in
+    let syn = if flags.syn then raised s SynSent else s in
+    let fin = if flags.fin then raised syn Closing else syn in
     let risen : complete ≡ true → IsEstablished fin × IsEstablished r = λ h. (omega (arith, raised-keeps flags.syn s SynSent, raised-keeps flags.fin syn Closing, (were h).0), (were h).1) in
-    rst-shows complete flags.rst (after_ack flags.ack forward fin r) (ack-shows complete flags.ack forward fin r risen)
+    rst-shows complete flags.rst (if flags.ack then acknowledged forward fin r else ends fin r false) (ack-shows complete flags.ack forward fin r risen)
 
 pub peers_established : (complete forward : Bool) (flags : Flags) (maker other : TcpRank)
     → (complete ≡ true → IsEstablished maker × IsEstablished other)

@@ -1,5 +1,5 @@
 -- What the rules of TCP ranks keep: no packet lowers a rank, and where the handshake completes both peers are at least at ESTABLISHED.
-use Rattle.std.specs.Prelude.{Bool, true, false, ◌≡◌, ◌≤◌}
+use Rattle.std.specs.Prelude.{Bool, true, false, ◌≡◌, ◌≤◌, if◌then◌else◌}
 use Rattle.std.proofs.Common.{arith, lit≤}
 use Rattle.std.proofs.lemmas.Bool.{false≢true}
 use Rattle.pfs_addr.specs.declared.flag_sets.Flags.{Flags}
@@ -7,7 +7,23 @@ use Rattle.pfs_track.specs.declared.tcp_ranks.Ends.{Ends}
 use Rattle.pfs_track.specs.declared.tcp_ranks.Peers.{Peers}
 use Rattle.pfs_track.specs.declared.tcp_ranks.TcpRank.{TcpRank}
 use Rattle.pfs_track.specs.declared.tcp_ranks.TcpRank.TheVariants.{Closed, SynSent, Closing, TimeWait}
-use Rattle.pfs_track.specs.TcpRanks.{rank_number, raised, IsEstablished, after_syn, after_fin, acknowledged, after_ack, after_rst, acted, peers_after}
+use Rattle.pfs_track.specs.TcpRanks.{rank_number, raised, IsEstablished, ends, acknowledged, acted, peers_after}
+
+-- ---- the acts of a packet, one by one
+
+abbrev after_syn : Bool → TcpRank → TcpRank
+after_syn syn sender = if syn then raised sender SynSent else sender
+
+abbrev after_fin : Bool → TcpRank → TcpRank
+after_fin fin sender = if fin then raised sender Closing else sender
+
+abbrev after_ack : Bool → Bool → TcpRank → TcpRank → Ends
+after_ack ack forward s r = if ack then acknowledged forward s r else ends s r false
+
+abbrev after_rst : Bool → Ends → Ends
+after_rst rst e = if rst then ends TimeWait TimeWait e.completes else e
+
+-- ---- none lowers a rank
 
 -- no rank of these ends is below what it was
 pub record IsRise (sender receiver : TcpRank) (after : Ends) : Type 0 where

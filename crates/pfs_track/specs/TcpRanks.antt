@@ -37,13 +37,6 @@ raised rank least = if is_below rank least then least else rank
 abbrev pub IsEstablished : TcpRank → Type 0
 IsEstablished rank = rank_number Established ≤ rank_number rank
 
--- a flag raises its sender: SYN to SYN_SENT, FIN to CLOSING
-abbrev pub after_syn : Bool → TcpRank → TcpRank
-after_syn syn sender = if syn then raised sender SynSent else sender
-
-abbrev pub after_fin : Bool → TcpRank → TcpRank
-after_fin fin sender = if fin then raised sender Closing else sender
-
 -- the ranks of a packet's sender and receiver after it, and whether the handshake completes at it
 abbrev pub ends : TcpRank → TcpRank → Bool → Ends
 ends sender receiver completes = record { sender = sender; receiver = receiver; completes = completes }
@@ -62,17 +55,14 @@ acknowledged forward s r =
     else (if is_rank s Closing && is_rank r Established && forward then ends s Closing false
     else ends s r false)))
 
--- a packet without ACK leaves the ranks, and completes nothing
-abbrev pub after_ack : Bool → Bool → TcpRank → TcpRank → Ends
-after_ack ack forward s r = if ack then acknowledged forward s r else ends s r false
-
--- RST: both become TIME_WAIT; a handshake that the same packet's ACK completes stays complete
-abbrev pub after_rst : Bool → Ends → Ends
-after_rst rst e = if rst then ends TimeWait TimeWait e.completes else e
-
--- what a packet makes of the ranks of its sender and its receiver: SYN acts first, then FIN, ACK and RST (own)
+-- what a packet makes of the ranks of its sender and its receiver (own): SYN raises the sender to SYN_SENT, then FIN raises
+-- it to CLOSING; then ACK acts; RST makes both TIME_WAIT, and a handshake that the same packet's ACK completes stays complete
 abbrev pub acted : Bool → Flags → TcpRank → TcpRank → Ends
-acted forward flags s r = after_rst flags.rst (after_ack flags.ack forward (after_fin flags.fin (after_syn flags.syn s)) r)
+acted forward flags s r =
+    let syn = if flags.syn then raised s SynSent else s in
+    let fin = if flags.fin then raised syn Closing else syn in
+    let e = if flags.ack then acknowledged forward fin r else ends fin r false in
+    if flags.rst then ends TimeWait TimeWait e.completes else e
 
 -- what it makes of the ranks of the maker and the other peer: the maker is the sender of a packet that goes forward
 abbrev pub peers_after : Bool → Flags → TcpRank → TcpRank → Peers

@@ -1,7 +1,7 @@
 -- Invariant of purge_each: the seconds to come leave what all leave, and what is known of them.
 use Rattle.std.proofs.Common.{◌≡◌, ◌≤◌, ◌-◌, max, true, false}
-use Rattle.pfs_engine_machine.specs.Machine.{purged, seconds}
-use Rattle.pfs_engine_machine.specs.Shares.{most_nodes, most_states}
+use Rattle.pfs_engine_machine.specs.Machine.{purged}
+use Rattle.pfs_engine_machine.specs.Shares.{seconds, most_nodes, most_states}
 use Rattle.pfs_engine.specs.Watches.{IsWatched}
 use Rattle.pfs_engine.proofs.purges.purge_each.Given as goal
 

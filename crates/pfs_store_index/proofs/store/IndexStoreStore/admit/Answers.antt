@@ -1,7 +1,7 @@
 -- Answers of IndexStore's admit: a new number is above all others, and the world then is as defined (`ok`).
 use Rattle.std.proofs.Common.{◌≡◌, ◌∙◌, ◌+◌, ◌<◌, ◌++◌, ◌∷◌, [], None, Option, ap, refl, sym, arith}
-use Rattle.pfs_store_plain.specs.Admission.{packet_limit, limit_met, new_state, nodes_with}
-use Rattle.pfs_store_plain.specs.Calls.{world_at}
+use Rattle.pfs_store_plain.specs.Admission.{limit_met, new_state, nodes_with}
+use Rattle.pfs_store_plain.specs.Calls.{packet_limit, world_at}
 use Rattle.pfs_store_plain.specs.Counts.{node_scope_of}
 use Rattle.pfs_store_plain.specs.Plain.{Plain}
 use Rattle.pfs_store_plain.specs.Purging.{node_numbers, state_numbers}
