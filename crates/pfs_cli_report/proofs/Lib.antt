@@ -1,3 +1,5 @@
+pub mod Heading
 pub mod Rest
+pub mod Rows
 pub mod Runs
 pub mod Stepping

@@ -1,7 +1,8 @@
 //! The lines of a report.
 
 ghost use Rattle.std.specs.Prelude.{◌≡◌, ◌++◌, OnOk, decimal};
-ghost use Rattle.pfs_cli_report.specs.Lines.{row_text, end_text, word_of, mark_text, rule_of, note_text, overload_word};
+ghost use Rattle.pfs_cli_report.specs.Lines.{row_text, end_text, mark_text, overload_word};
+ghost use Rattle.pfs_cli_report.specs.Words.{word_of, rule_by, note_text};
 
 use itoa::Buffer;
 use pfs_conf_rules::RuleNo;
@@ -23,6 +24,7 @@ pub struct EndLine {
 
 /// Appends the line of a record: its row, what the machine did with it, and by which rule. An error comes where memory
 /// was refused; a part of the line may stand there then.
+#[tactic(auto, using(crate::proofs::Rows::row_parts))]
 pub fn push_row(out: &mut Vec<u8>, row: u64, outcome: &Outcome) -> Result<(), AllocError>
     ensures { OnOk result (out.new.items ≡ out.old.items ++ row_text row outcome.now) }
 {
@@ -105,7 +107,7 @@ fn overload_name(overload: Option<Added>) -> &'static str
 }
 
 fn rule(outcome: &Outcome) -> Option<RuleNo>
-    ensures { result ≡ rule_of outcome.now }
+    ensures { result ≡ rule_by outcome.now }
 {
     match *outcome {
         Outcome::State(rule)
