@@ -11,13 +11,13 @@ use Rattle.pfs_conf.specs.declared.kinds.Kind.{Kind}
 use Rattle.pfs_conf.specs.declared.kinds.Kind.TheVariants as kind
 use Rattle.pfs_cli.specs.declared.faults.ReplayFault.{ReplayFault}
 use Rattle.pfs_cli.specs.declared.faults.ReplayFault.TheVariants as fault
-use Rattle.pfs_cli.specs.Rules.{IsKept, IsRefused}
+use Rattle.pfs_cli.specs.Rules.{KeepsEnough, AreRefused}
 use Rattle.pfs_cli.specs.Refusing.{IsFeedFault, RefusesText, fault_by, fault_of}
 use Rattle.pfs_cli.specs.Checks.{Answers}
 use Rattle.pfs_cli.proofs.Replaying.{kept-refused}
 
 -- what is told of a text without a configuration
-pub kept-told : (kept text : List ℕ) (f : LoadFault) → IsKept kept text → IsFault kept f → ((conf : Conf) → Reads kept conf → f ≡ no_memory) → RefusesText text (fault_of f)
+pub kept-told : (kept text : List ℕ) (f : LoadFault) → KeepsEnough kept text → IsFault kept f → ((conf : Conf) → Reads kept conf → f ≡ no_memory) → RefusesText text (fault_of f)
 kept-told kept text f k h only = go f.kind refl
   where
     go : (c : Kind) → f.kind ≡ c → RefusesText text (fault_by f c)
@@ -65,5 +65,5 @@ text-written text_of text conf reads bytes same a b (Err f) ok err kind =
     (err.0, err.1, subst (λ (x : ReplayFault). Answers text_of text err.0 (Err x)) (sym kind) (conf, reads, (err.2.0, sym same ∙ err.2.1)))
 
 -- a fault of the rules that is handed on is one of the text
-pub told-refused : (text : List ℕ) (e : ReplayFault) (f : LoadFault) → RefusesText text e → e ≡ fault.Rules f → IsRefused text f
+pub told-refused : (text : List ℕ) (e : ReplayFault) (f : LoadFault) → RefusesText text e → e ≡ fault.Rules f → AreRefused text f
 told-refused text e f h is = rw is at h

@@ -7,7 +7,7 @@ use Rattle.std.proofs.Math.Seq.{take-append_seam, drop-append_seam}
 use Rattle.std.specs.Io.KnownBytes.{Consumes, IsAtEnd}
 use Rattle.pfs_cli.specs.declared.joined.Place.{Place}
 use Rattle.pfs_cli.specs.declared.joined.Place.TheVariants as place
-use Rattle.pfs_cli.specs.Rules.{IsKept, rules_limit}
+use Rattle.pfs_cli.specs.Rules.{KeepsEnough, rules_limit}
 use Rattle.pfs_cli.specs.Joined.{Parts, ahead, split_from, split_joined}
 use Rattle.pfs_cli.specs.Places.{IsPastSplit, pending, place_after, place_over, split_at, split_mark, settled, ends_split}
 
@@ -131,7 +131,7 @@ kept-end rules tail kept all =
     let n : length kept - length tail ≡ length rules = omega arith in
     rw (n, all) (take-append_seam rules tail)
 
-kept-is : (v rules : List ℕ) → v ≡ rules → IsKept v rules
+kept-is : (v rules : List ℕ) → v ≡ rules → KeepsEnough v rules
 kept-is v rules e = rw e (λ short. refl, λ long. long)
 
 pending-few : (p : Place) → length (pending p) ≤ 2
@@ -148,7 +148,7 @@ left-is (Some xs) (Some zs) left bs e took = let same : xs ≡ left = cc in (zs,
 
 -- what the reading of a joined text answers
 abbrev Answers : List ℕ → Option (List ℕ) → List ℕ → Type 0
-Answers xs new kept = IsKept kept (split_joined xs).0 × (new ≡ Some (split_joined xs).1)
+Answers xs new kept = KeepsEnough kept (split_joined xs).0 × (new ≡ Some (split_joined xs).1)
 
 pub joins-end : (xs : List ℕ) (now new : Option (List ℕ)) (kept v : List ℕ) (p : Place) → Joins xs now kept p → Consumes now new [] → IsAtEnd new
     → v ≡ take (length kept - length (split_mark p)) kept → Answers xs new v
@@ -184,7 +184,7 @@ joins-more xs now new kept after p c h not_split took more =
     }
 
 -- more than a rules text may have is kept
-pub joins-full : (xs : List ℕ) (now : Option (List ℕ)) (kept : List ℕ) (p : Place) → Joins xs now kept p → 1048579 ≤ length kept → IsKept kept (split_joined xs).0 × (rules_limit < length kept)
+pub joins-full : (xs : List ℕ) (now : Option (List ℕ)) (kept : List ℕ) (p : Place) → Joins xs now kept p → 1048579 ≤ length kept → KeepsEnough kept (split_joined xs).0 × (rules_limit < length kept)
 joins-full xs now kept p h full =
     let few : length (pending p) ≤ 2 = pending-few p in
     let size : length kept ≡ length h.rules + length (pending p) = ap length h.all ∙ length-append h.rules (pending p) in

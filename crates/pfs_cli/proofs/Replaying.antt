@@ -5,7 +5,7 @@ use Rattle.std.specs.Prelude.{IsErrAnd, Result, Ok, Err, nat_lt}
 use Rattle.std.proofs.lemmas.Bool.Decides.{nat_tests}
 use Rattle.std.proofs.lemmas.List.{append-nil, take-append-drop}
 use Rattle.pfs_engine_machine.specs.declared.events.Event.{Event}
-use Rattle.pfs_cli_report.specs.Traces.{Trace}
+use Rattle.pfs_cli_report.specs.Traces.{Trace, trace_of}
 use Rattle.pfs_cli.proofs.Telling.{report-front}
 use Rattle.std.specs.Io.KnownBytes.{Appends, Keeps, Consumes}
 use Rattle.pfs_cli_report.specs.declared.faults.TraceFault.{TraceFault}
@@ -19,11 +19,11 @@ use Rattle.pfs_conf.specs.Reads.{Reads}
 use Rattle.pfs_conf.specs.Faults.{IsFault, memory, long, breaks, stops}
 use Rattle.pfs_cli.specs.declared.records.Stop.TheVariants as stop
 use Rattle.pfs_cli.specs.Faults.{replay_fault}
-use Rattle.pfs_cli.specs.Rules.{IsRefused, IsKept, rules_limit}
-use Rattle.pfs_cli_report.specs.Reports.{report, AreFirstLines, BeginsReport}
+use Rattle.pfs_cli.specs.Rules.{AreRefused, KeepsEnough, rules_limit}
+use Rattle.pfs_cli_report.specs.Reports.{report, report_of, AreFirstLines, BeginsReport}
 use Rattle.pfs_cli.specs.Turns.{Tells}
 use Rattle.pfs_cli.specs.Refusing.{RefusesRules, IsFeedFault}
-use Rattle.pfs_cli.specs.Replays.{Replays, trace_of}
+use Rattle.pfs_cli.specs.Replays.{Replays}
 
 pub Appends-kept : (a b c : Option (List ℕ)) (bs : List ℕ) → Appends a b bs → Keeps b c → Appends a c bs
 Appends-kept None b c bs p q = tt
@@ -38,13 +38,18 @@ first-lines-begin conf trace text (k, e) =
     let (rest, begins) = report-front conf (take k trace.0) (drop k trace.0) trace.1 in
     (rest, ap (λ (es : List Event). report conf (es, trace.1)) (sym whole) ∙ (begins ∙ ap (λ (t : List ℕ). t ++ rest) (sym e)))
 
+-- a text that is written whole, with the fault of its trace
+whole-report : (conf : Conf) (ts t : List ℕ) (o : Option TraceFault) → (trace_of conf ts).1 ≡ o → t ≡ report conf (trace_of conf ts) → report_of conf ts ≡ (t, o)
+whole-report conf ts t o fault_is text_is =
+    ap (λ (w : List ℕ). (w, (trace_of conf ts).1)) (sym text_is) ∙ ap (λ (f : Option TraceFault). (t, f)) fault_is
+
 -- a faulty trace leaves its report
 pub run-fault : (conf : Conf) (rs ts t : List ℕ) (f : TraceFault) → Reads rs conf → Tells conf (trace_of conf ts) t (Err (stop.Fault f)) → Replays rs ts t (Err (replay_fault f))
-run-fault conf rs ts t (trace.Columns row) reads told = (conf, reads, told.0, told.1)
-run-fault conf rs ts t (trace.Field row column) reads told = (conf, reads, told.0, told.1)
-run-fault conf rs ts t (trace.TimeFell row) reads told = (conf, reads, told.0, told.1)
-run-fault conf rs ts t (trace.Table row) reads told = (conf, reads, told.0, told.1)
-run-fault conf rs ts t trace.TooManyRows reads told = (conf, reads, told.0, told.1)
+run-fault conf rs ts t (trace.Columns row) reads told = (conf, reads, whole-report conf ts t _ told.0 told.1)
+run-fault conf rs ts t (trace.Field row column) reads told = (conf, reads, whole-report conf ts t _ told.0 told.1)
+run-fault conf rs ts t (trace.TimeFell row) reads told = (conf, reads, whole-report conf ts t _ told.0 told.1)
+run-fault conf rs ts t (trace.Table row) reads told = (conf, reads, whole-report conf ts t _ told.0 told.1)
+run-fault conf rs ts t trace.TooManyRows reads told = (conf, reads, whole-report conf ts t _ told.0 told.1)
 
 -- a trace that is not read to its end leaves the lines of its first records
 pub run-cut : (conf : Conf) (rs ts t : List ℕ) (f : ReplayFault) → IsFeedFault f → Reads rs conf → AreFirstLines conf (trace_of conf ts) t → Replays rs ts t (Err f)
@@ -60,7 +65,7 @@ pub run-write : (conf : Conf) (rs ts t : List ℕ) → Reads rs conf → BeginsR
 run-write conf rs ts t reads front = (conf, reads, front)
 
 pub run-done : (conf : Conf) (rs ts t : List ℕ) → Reads rs conf → Tells conf (trace_of conf ts) t (Ok tt) → Replays rs ts t (Ok tt)
-run-done conf rs ts t reads told = (conf, reads, told.0, told.1)
+run-done conf rs ts t reads told = (conf, reads, whole-report conf ts t None told.0 told.1)
 
 pub run-unflushed : (conf : Conf) (rs ts t : List ℕ) → Reads rs conf → Tells conf (trace_of conf ts) t (Ok tt) → Replays rs ts t (Err fault.Write)
 run-unflushed conf rs ts t reads told = (conf, reads, ([], sym (append-nil t ∙ told.1)))
@@ -82,10 +87,10 @@ left-after (Some xs) (Some zs) rs text bs ys e all took =
     rw (all, ← same, took, rest) refl
 
 -- a text that is no longer than it may be is kept whole
-pub kept-short : (kept text : List ℕ) → IsKept kept text → length kept ≤ rules_limit → kept ≡ text
+pub kept-short : (kept text : List ℕ) → KeepsEnough kept text → length kept ≤ rules_limit → kept ≡ text
 kept-short kept text k short = let few : length text ≤ rules_limit = grind (arith, k.1) in k.0 few
 
-kept-long : (kept text : List ℕ) → IsKept kept text → rules_limit < length kept → (b : Bool) → nat_lt rules_limit (length text) ≡ b → rules_limit < length text
+kept-long : (kept text : List ℕ) → KeepsEnough kept text → rules_limit < length kept → (b : Bool) → nat_lt rules_limit (length text) ≡ b → rules_limit < length text
 kept-long kept text k many true test = grind (arith, nat_tests, test)
 kept-long kept text k many false test =
     let few : length text ≤ rules_limit = grind (arith, nat_tests, test) in
@@ -93,7 +98,7 @@ kept-long kept text k many false test =
     absurd (omega arith)
 
 -- a fault of what is kept of a text may be told of the text
-pub kept-fault : (kept text : List ℕ) (f : LoadFault) → f ≢ no_memory → IsKept kept text → IsFault kept f → IsFault text f
+pub kept-fault : (kept text : List ℕ) (f : LoadFault) → f ≢ no_memory → KeepsEnough kept text → IsFault kept f → IsFault text f
 kept-fault kept text f other k (memory e) = absurd (other e)
 kept-fault kept text f other k (long many e) = long (kept-long kept text k many (nat_lt rules_limit (length text)) refl) e
 kept-fault kept text f other k (breaks short broken e) =
@@ -104,13 +109,13 @@ kept-fault kept text f other k (stops t behind short at line kind) =
     subst P (kept-short kept text k short) (stops t behind short at line kind)
 
 -- the configuration of what is kept of a text is that of the text
-pub kept-reads : (kept text : List ℕ) (conf : Conf) → IsKept kept text → Reads kept conf → Reads text conf
+pub kept-reads : (kept text : List ℕ) (conf : Conf) → KeepsEnough kept text → Reads kept conf → Reads text conf
 kept-reads kept text conf k reads =
     let P : List ℕ → Type 0 = λ t. Reads t conf in
     subst P (kept-short kept text k reads.short) reads
 
 -- a text is refused as what is kept of it is
-pub kept-refused : (kept text : List ℕ) (f : LoadFault) → IsKept kept text → IsRefused kept f → IsRefused text f
+pub kept-refused : (kept text : List ℕ) (f : LoadFault) → KeepsEnough kept text → AreRefused kept f → AreRefused text f
 kept-refused kept text f k (other, none, is) = (
   other,
   λ conf reads. none conf (let P : List ℕ → Type 0 = λ t. Reads t conf in subst P (sym (k.0 reads.short)) reads),
@@ -118,7 +123,7 @@ kept-refused kept text f k (other, none, is) = (
 )
 
 -- rules that are not accepted leave nothing
-pub rules-refused : (kept text ts : List ℕ) (f : ReplayFault) → IsKept kept text → RefusesRules kept f → Replays text ts [] (Err f)
+pub rules-refused : (kept text ts : List ℕ) (f : ReplayFault) → KeepsEnough kept text → RefusesRules kept f → Replays text ts [] (Err f)
 rules-refused kept text ts (fault.Rules f) k told = ((kept-refused kept text f k told).1, refl)
 rules-refused kept text ts (fault.Columns row) k told = absurd told
 rules-refused kept text ts (fault.Field row column) k told = absurd told
@@ -136,8 +141,8 @@ handed-on rs ts t f (Ok u) is told = absurd is
 handed-on rs ts t f (Err e) is told = rw is told
 
 -- and the fault is one that the text may have
-pub rules-told : (kept text : List ℕ) (e : ReplayFault) (f : LoadFault) (r : Result Unit ReplayFault) → IsKept kept text → RefusesRules kept e
-    → IsErrAnd r (λ x. x ≡ e) → r ≡ Err (fault.Rules f) → IsRefused text f
+pub rules-told : (kept text : List ℕ) (e : ReplayFault) (f : LoadFault) (r : Result Unit ReplayFault) → KeepsEnough kept text → RefusesRules kept e
+    → IsErrAnd r (λ x. x ≡ e) → r ≡ Err (fault.Rules f) → AreRefused text f
 rules-told kept text e f (Ok u) k told is told_rules = absurd is
 rules-told kept text e f (Err g) k told is told_rules =
     let same : e ≡ fault.Rules f = cc in

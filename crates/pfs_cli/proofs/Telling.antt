@@ -21,8 +21,9 @@ use Rattle.pfs_cli.specs.declared.records.Stop.{Stop}
 use Rattle.pfs_cli.specs.declared.records.Stop.TheVariants as stop
 use Rattle.pfs_cli_report.specs.Events.{event_at, is_header}
 use Rattle.pfs_cli_report.specs.Lines.{row_text}
-use Rattle.pfs_cli_report.specs.Traces.{Fields, Trace, row_limit, events_from, events_of, records_left}
-use Rattle.pfs_cli_report.specs.Reports.{lines_from, lines_of, end_of, end_line, report, AreFirstLines}
+use Rattle.pfs_cli_report.specs.Traces.{Fields, Trace, row_limit, events_from, events_of}
+use Rattle.pfs_cli_report.specs.Reading.{records_left}
+use Rattle.pfs_cli_report.specs.Reports.{lines_from, lines_of, end_of, report, AreFirstLines}
 use Rattle.pfs_cli.specs.Turns.{Tells, WritesLine, TakesEvent, TakesRecord}
 use Rattle.pfs_cli_report.proofs.Rest.{records_left-more, records_left-end}
 use Rattle.pfs_cli_report.proofs.Runs.{machine_after-more, lines_of-more, lines_of-none, outcomes-front, lines_from-front}
@@ -151,6 +152,10 @@ told-all : {S : Type 0} (rem : S → Option (List ℕ)) (conf : Conf) (trace : T
     → a.config ≡ default_config → ReadRecord rem a b false f → trace ≡ (h.seen, None)
 told-all rem conf trace before now rows m a b f h config r =
     h.split ∙ rw (read-end rem a b f h.left config h.source r, events_from-end conf rows m.last) (ap (λ (es : List Event). (es, None)) (append-nil h.seen))
+
+-- the last line of a report whose records are these events
+abbrev end_line : Conf → List Event → List ℕ
+end_line conf es = end_of (length es) (machine_after conf (start conf) es)
 
 -- the last line, where these are all events
 last-line : (conf : Conf) (seen : List Event) (rows : ℕ) (m : Machine) → length seen ≡ rows → m ≡ machine_after conf (start conf) seen → end_of rows m ≡ end_line conf seen

@@ -5,11 +5,11 @@ use Rattle.pfs_conf.specs.declared.kinds.Kind.TheVariants as kind
 use Rattle.pfs_conf.specs.declared.faults.LoadFault.{LoadFault}
 use Rattle.pfs_cli.specs.declared.faults.ReplayFault.{ReplayFault}
 use Rattle.pfs_cli.specs.declared.faults.ReplayFault.TheVariants as fault
-use Rattle.pfs_cli.specs.Rules.{IsRefused}
+use Rattle.pfs_cli.specs.Rules.{AreRefused}
 
 -- what may be told of a rules text without a configuration, or that is not read to its end
 abbrev pub RefusesText : List ℕ → ReplayFault → Type 0
-RefusesText rules (fault.Rules f) = IsRefused rules f
+RefusesText rules (fault.Rules f) = AreRefused rules f
 RefusesText rules fault.Read = Unit {0}
 RefusesText rules fault.Endless = Unit {0}
 RefusesText rules fault.Memory = Unit {0}
@@ -25,7 +25,7 @@ fault_of f = fault_by f f.kind
 
 -- what may be told of a rules text in place of its machine: a fault of it, or that memory was refused
 abbrev pub RefusesRules : List ℕ → ReplayFault → Type 0
-RefusesRules rules (fault.Rules f) = IsRefused rules f
+RefusesRules rules (fault.Rules f) = AreRefused rules f
 RefusesRules rules fault.Memory = Unit {0}
 RefusesRules rules _ = ⊥
 

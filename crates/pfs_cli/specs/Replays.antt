@@ -6,26 +6,17 @@ use Rattle.pfs_cli.specs.declared.faults.ReplayFault.{ReplayFault}
 use Rattle.pfs_cli.specs.declared.faults.ReplayFault.TheVariants as fault
 use Rattle.pfs_conf_rules.specs.Configs.{Conf}
 use Rattle.pfs_conf.specs.Reads.{Reads}
-use Rattle.pfs_cli_report.specs.Traces.{Trace, events_of, records_of}
-use Rattle.pfs_cli_report.specs.Reports.{report, AreFirstLines, BeginsReport}
+use Rattle.pfs_cli_report.specs.Traces.{trace_of}
+use Rattle.pfs_cli_report.specs.Reports.{report_of, AreFirstLines, BeginsReport}
 
--- the events of a trace under a configuration, and its fault
-abbrev pub trace_of : Conf → List ℕ → Trace
-trace_of conf bytes = events_of conf (records_of bytes)
-
--- the whole report of a trace with this fault, or with none
+-- the whole report, under the configuration of the rules; its trace has this fault, or none
 abbrev pub WritesReport : List ℕ → List ℕ → List ℕ → Option TraceFault → Type 0
-WritesReport rules bytes text f =
-    (conf : Conf) × Reads rules conf × ((trace_of conf bytes).1 ≡ f) × (text ≡ report conf (trace_of conf bytes))
+WritesReport rules bytes text f = (conf : Conf) × Reads rules conf × (report_of conf bytes ≡ (text, f))
 
 -- nothing, or the lines of the first records of the trace, which begin its report
 abbrev pub WritesLines : List ℕ → List ℕ → List ℕ → Type 0
 WritesLines rules bytes text =
     (text ≡ []) ⊎ ((conf : Conf) × Reads rules conf × AreFirstLines conf (trace_of conf bytes) text × BeginsReport conf (trace_of conf bytes) text)
-
--- a front of the report
-abbrev pub WritesFront : List ℕ → List ℕ → List ℕ → Type 0
-WritesFront rules bytes text = (conf : Conf) × Reads rules conf × BeginsReport conf (trace_of conf bytes) text
 
 -- what is written, by how the replay ends. Rules are told only of a text that reads as no configuration, and leave
 -- nothing; a faulty trace, and one without a fault, its report; a failed read, an endless reader or refused memory the
@@ -41,4 +32,4 @@ Replays rules bytes text (Err fault.TooManyRows) = WritesReport rules bytes text
 Replays rules bytes text (Err fault.Read) = WritesLines rules bytes text
 Replays rules bytes text (Err fault.Memory) = WritesLines rules bytes text
 Replays rules bytes text (Err fault.Endless) = WritesLines rules bytes text
-Replays rules bytes text (Err fault.Write) = WritesFront rules bytes text
+Replays rules bytes text (Err fault.Write) = (conf : Conf) × Reads rules conf × BeginsReport conf (trace_of conf bytes) text

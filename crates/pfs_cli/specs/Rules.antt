@@ -11,9 +11,9 @@ abbrev pub rules_limit : ℕ
 rules_limit = 1048576
 
 -- a text without a configuration, and a fault that it may be told with; want of memory is told by a fault of its own
-abbrev pub IsRefused : List ℕ → LoadFault → Type 0
-IsRefused text f = (f ≢ no_memory) × ((conf : Conf) → Reads text conf → ⊥) × IsFault text f
+abbrev pub AreRefused : List ℕ → LoadFault → Type 0
+AreRefused text f = (f ≢ no_memory) × ((conf : Conf) → Reads text conf → ⊥) × IsFault text f
 
 -- what is kept of the bytes before the end of a rules text: all, or enough to show that it is too long
-abbrev pub IsKept : List ℕ → List ℕ → Type 0
-IsKept kept text = (length text ≤ rules_limit → kept ≡ text) × (rules_limit < length text → rules_limit < length kept)
+abbrev pub KeepsEnough : List ℕ → List ℕ → Type 0
+KeepsEnough kept text = (length text ≤ rules_limit → kept ≡ text) × (rules_limit < length text → rules_limit < length kept)

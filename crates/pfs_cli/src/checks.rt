@@ -2,12 +2,12 @@
 
 ghost use Rattle.std.specs.Prelude.{◌≡◌, ◌≢◌, ◌⊎◌, ◌++◌, Some, Ok, Err, ◌<◌, ◌≤◌, ◌+◌, ℕ, List, IfOk, IfErr, OnOk, OnErr, length, drop, string_bytes};
 ghost use Rattle.std.specs.Io.KnownBytes.{Appends, Keeps};
-ghost use Rattle.pfs_cli_streams.specs.Feeds.{unread, IsFresh, IsSpent, failures_of as read_failures};
-ghost use Rattle.pfs_cli_streams.specs.Sinks.{held, failures_of};
+ghost use Rattle.pfs_cli_streams.specs.Feeds.{unread, IsFresh, IsSpent, read_failures};
+ghost use Rattle.pfs_cli_streams.specs.Sinks.{held, write_failures};
 ghost use Rattle.pfs_conf.specs.Reads.{Reads};
 ghost use Rattle.pfs_conf_show.specs.Texts.{text_of};
 ghost use Rattle.pfs_conf.specs.declared.faults.LoadFault.{LoadFault};
-ghost use Rattle.pfs_cli.specs.Rules.{IsRefused, rules_limit};
+ghost use Rattle.pfs_cli.specs.Rules.{AreRefused, rules_limit};
 ghost use Rattle.pfs_cli.specs.Refusing.{RefusesText};
 ghost use Rattle.pfs_cli.specs.Checks.{Answers, counts_text};
 
@@ -32,11 +32,11 @@ pub fn check<R: Read, W: Write>(
     requires { IsFresh rules.old }
     ensures answers { (rs : List ℕ) → unread R.remaining rules.old ≡ Some rs →
         ((t : List ℕ) × Appends (held W.contents out.old) (held W.contents out.new) t × Answers counts_text rs t result) }
-    ensures refused { (rs : List ℕ) (f : LoadFault) → unread R.remaining rules.old ≡ Some rs → result ≡ Err (ReplayFault.Rules f) → IsRefused rs f }
+    ensures refused { (rs : List ℕ) (f : LoadFault) → unread R.remaining rules.old ≡ Some rs → result ≡ Err (ReplayFault.Rules f) → AreRefused rs f }
     ensures few { (rs : List ℕ) → unread R.remaining rules.old ≡ Some rs → (k : ℕ) × (k ≤ rules_limit + 1) × (unread R.remaining rules.new ≡ Some (drop k rs)) }
     ensures read { result ≡ Err ReplayFault.Read → 0 < read_failures rules.new }
     ensures endless { result ≡ Err ReplayFault.Endless → IsSpent rules.new }
-    ensures write { result ≡ Err ReplayFault.Write → 0 < failures_of out.new }
+    ensures write { result ≡ Err ReplayFault.Write → 0 < write_failures out.new }
 {
     let config = match read_config(alloc, rules) {
         Ok(config) => config,
@@ -61,11 +61,11 @@ pub fn print<R: Read, W: Write>(
     requires { IsFresh rules.old }
     ensures answers { (rs : List ℕ) → unread R.remaining rules.old ≡ Some rs →
         ((t : List ℕ) × Appends (held W.contents out.old) (held W.contents out.new) t × Answers text_of rs t result) }
-    ensures refused { (rs : List ℕ) (f : LoadFault) → unread R.remaining rules.old ≡ Some rs → result ≡ Err (ReplayFault.Rules f) → IsRefused rs f }
+    ensures refused { (rs : List ℕ) (f : LoadFault) → unread R.remaining rules.old ≡ Some rs → result ≡ Err (ReplayFault.Rules f) → AreRefused rs f }
     ensures few { (rs : List ℕ) → unread R.remaining rules.old ≡ Some rs → (k : ℕ) × (k ≤ rules_limit + 1) × (unread R.remaining rules.new ≡ Some (drop k rs)) }
     ensures read { result ≡ Err ReplayFault.Read → 0 < read_failures rules.new }
     ensures endless { result ≡ Err ReplayFault.Endless → IsSpent rules.new }
-    ensures write { result ≡ Err ReplayFault.Write → 0 < failures_of out.new }
+    ensures write { result ≡ Err ReplayFault.Write → 0 < write_failures out.new }
 {
     let config = match read_config(alloc, rules) {
         Ok(config) => config,
@@ -113,7 +113,7 @@ fn write_text<W: Write>(out: &mut Sink<W>, bytes: &[u8]) -> Result<(), ReplayFau
     ensures ok { OnOk result (Appends (held W.contents out.old) (held W.contents out.new) bytes.now) }
     ensures err { OnErr result ((t : List ℕ) × Appends (held W.contents out.old) (held W.contents out.new) t × ((rest : List ℕ) × (bytes.now ≡ t ++ rest))) }
     ensures kind { IfErr result (λ f. f ≡ ReplayFault.Write) }
-    ensures fails { OnErr result (0 < failures_of out.new) }
+    ensures fails { OnErr result (0 < write_failures out.new) }
 {
     match write_whole(out, bytes) {
         Ok(()) => flushed(out),
@@ -125,7 +125,7 @@ fn write_text<W: Write>(out: &mut Sink<W>, bytes: &[u8]) -> Result<(), ReplayFau
 fn flushed<W: Write>(out: &mut Sink<W>) -> Result<(), ReplayFault>
     ensures kept { Keeps (held W.contents out.old) (held W.contents out.new) }
     ensures kind { IfErr result (λ f. f ≡ ReplayFault.Write) }
-    ensures fails { OnErr result (0 < failures_of out.new) }
+    ensures fails { OnErr result (0 < write_failures out.new) }
 {
     match out.flush() {
         Ok(()) => Ok(()),

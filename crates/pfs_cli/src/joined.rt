@@ -2,11 +2,11 @@
 
 ghost use Rattle.std.specs.Prelude.{◌≡◌, ◌⊎◌, Some, Ok, Err, ◌<◌, ◌≤◌, ◌+◌, ◌-◌, ◌^◌, ◌++◌, ℕ, List, true, IfOk, IfErr, OnOk, ◌∷◌, [], length, take, drop};
 ghost use Rattle.std.specs.Io.KnownBytes.{Appends};
-ghost use Rattle.pfs_cli_streams.specs.Feeds.{unread, IsSpent, failures_of as read_failures};
-ghost use Rattle.pfs_cli_streams.specs.Sinks.{held, failures_of};
+ghost use Rattle.pfs_cli_streams.specs.Feeds.{unread, IsSpent, read_failures};
+ghost use Rattle.pfs_cli_streams.specs.Sinks.{held, write_failures};
 ghost use Rattle.pfs_conf.specs.declared.faults.LoadFault.{LoadFault};
-ghost use Rattle.pfs_cli.specs.Rules.{IsKept, IsRefused, rules_limit};
-ghost use Rattle.pfs_cli.specs.Replays.{Replays, trace_of};
+ghost use Rattle.pfs_cli.specs.Rules.{KeepsEnough, AreRefused, rules_limit};
+ghost use Rattle.pfs_cli.specs.Replays.{Replays};
 ghost use Rattle.pfs_cli.specs.Joined.{split_joined};
 ghost use Rattle.pfs_cli.specs.Places.{IsPastSplit, ends_split, place_after, place_over, split_at, split_mark};
 
@@ -116,7 +116,7 @@ fn read_on<B: Read>(input: &mut B, place: Place) -> Result<(), JoinStop>
 // Reads the rules of a joined text, and leaves `input` at the trace. Of rules that are too long a
 // front is kept, and the rest is read on, so that memory is bounded.
 fn read_joined<B: Read>(alloc: Global, input: &mut B) -> Result<Vec<u8>, JoinStop>
-    ensures rules { IfOk result (λ v. (xs : List ℕ) → B.remaining input.old ≡ Some xs → IsKept v.items (split_joined xs).0) }
+    ensures rules { IfOk result (λ v. (xs : List ℕ) → B.remaining input.old ≡ Some xs → KeepsEnough v.items (split_joined xs).0) }
     ensures trace { IfOk result (λ v. (xs : List ℕ) → B.remaining input.old ≡ Some xs → length v.items ≤ rules_limit → B.remaining input.new ≡ Some (split_joined xs).1) }
     ensures past { OnOk result ((xs : List ℕ) → B.remaining input.old ≡ Some xs → length xs < 2 ^ 64 - 1 →
         IsPastSplit (split_joined xs) (B.remaining input.new)) }
@@ -159,10 +159,10 @@ pub fn replay_joined<R: Read, W: Write>(
 ) -> Result<(), ReplayFault>
     ensures reports { (xs : List ℕ) → unread R.remaining input.old ≡ Some xs →
         ((t : List ℕ) × Appends (held W.contents out.old) (held W.contents out.new) t × Replays (split_joined xs).0 (split_joined xs).1 t result) }
-    ensures refused { (xs : List ℕ) (f : LoadFault) → unread R.remaining input.old ≡ Some xs → result ≡ Err (ReplayFault.Rules f) → IsRefused (split_joined xs).0 f }
+    ensures refused { (xs : List ℕ) (f : LoadFault) → unread R.remaining input.old ≡ Some xs → result ≡ Err (ReplayFault.Rules f) → AreRefused (split_joined xs).0 f }
     ensures read { result ≡ Err ReplayFault.Read → 0 < read_failures input.new }
     ensures endless { result ≡ Err ReplayFault.Endless → IsSpent input.new }
-    ensures write { result ≡ Err ReplayFault.Write → 0 < failures_of out.new }
+    ensures write { result ≡ Err ReplayFault.Write → 0 < write_failures out.new }
 {
     let Ok(mut reader) = BufReader::new(alloc, &mut *input) else {
         return Err(ReplayFault::Memory);

@@ -2,10 +2,10 @@
 
 ghost use Rattle.std.specs.Prelude.{◌≡◌, ◌⊎◌, Some, Err, ◌<◌, ◌≤◌, ◌+◌, ℕ, List, drop, true};
 ghost use Rattle.std.specs.Io.KnownBytes.{Appends};
-ghost use Rattle.pfs_cli_streams.specs.Feeds.{unread, has_ended, IsFresh, IsSpent, failures_of as read_failures};
-ghost use Rattle.pfs_cli_streams.specs.Sinks.{held, failures_of};
+ghost use Rattle.pfs_cli_streams.specs.Feeds.{unread, has_ended, IsFresh, IsSpent, read_failures};
+ghost use Rattle.pfs_cli_streams.specs.Sinks.{held, write_failures};
 ghost use Rattle.pfs_conf.specs.declared.faults.LoadFault.{LoadFault};
-ghost use Rattle.pfs_cli.specs.Rules.{IsRefused, rules_limit};
+ghost use Rattle.pfs_cli.specs.Rules.{AreRefused, rules_limit};
 ghost use Rattle.pfs_cli.specs.Performing.{OfReplay, OfRulesFile, Performs, ReadsRulesAlone, rules_within};
 
 use crate::checks::{check, print};
@@ -31,14 +31,14 @@ pub fn perform<R: Read, T: Read, W: Write>(
     requires { IsFresh rules.old }
     ensures performs { (rs : List ℕ) (ts : List ℕ) → unread R.remaining rules.old ≡ Some rs → OfReplay job.now (unread T.remaining trace.old ≡ Some ts) →
         ((t : List ℕ) × Appends (held W.contents out.old) (held W.contents out.new) t × Performs job.now rs ts t result) }
-    ensures refused { (rs : List ℕ) (f : LoadFault) → unread R.remaining rules.old ≡ Some rs → result ≡ Err (ReplayFault.Rules f) → IsRefused (rules_within job.now rs) f }
+    ensures refused { (rs : List ℕ) (f : LoadFault) → unread R.remaining rules.old ≡ Some rs → result ≡ Err (ReplayFault.Rules f) → AreRefused (rules_within job.now rs) f }
     ensures untouched { ReadsRulesAlone job.now (trace.new ≡ trace.old) }
     ensures rules_first { OfReplay job.now ((out.new ≡ out.old) ⊎ ((has_ended rules.new ≡ true) × (read_failures rules.new ≡ 0))) }
     ensures few { OfRulesFile job.now ((rs : List ℕ) → unread R.remaining rules.old ≡ Some rs →
         (k : ℕ) × (k ≤ rules_limit + 1) × (unread R.remaining rules.new ≡ Some (drop k rs))) }
     ensures read { result ≡ Err ReplayFault.Read → (0 < read_failures rules.new) ⊎ (0 < read_failures trace.new) }
     ensures endless { result ≡ Err ReplayFault.Endless → IsSpent rules.new ⊎ IsSpent trace.new }
-    ensures write { result ≡ Err ReplayFault.Write → 0 < failures_of out.new }
+    ensures write { result ≡ Err ReplayFault.Write → 0 < write_failures out.new }
 {
     match job {
         Job::Joined => replay_joined(alloc, rules, out),

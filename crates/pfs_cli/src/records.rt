@@ -5,14 +5,15 @@ ghost use Rattle.std.specs.Io.KnownBytes.{Appends};
 ghost use Rattle.csv.specs.Reading.{Ready, source_of, reader_trim, reader_config, reader_state, default_config};
 ghost use Rattle.csv.specs.declared.reader.Trim.TheVariants as trim;
 ghost use Rattle.csv.specs.Records.{fields_of};
-ghost use Rattle.pfs_cli_streams.specs.Sinks.{held, failures_of};
+ghost use Rattle.pfs_cli_streams.specs.Sinks.{held, write_failures as failures_of};
 ghost use Rattle.pfs_cli_report.specs.Lines.{row_text, end_text};
 ghost use Rattle.std.specs.Option.{ForSome};
 ghost use Rattle.pfs_engine_machine.specs.Machine.{start, step};
 ghost use Rattle.pfs_engine_machine.specs.Runs.{MayCome};
 ghost use Rattle.pfs_cli_report.specs.Reports.{end_of};
 ghost use Rattle.pfs_cli.specs.Turns.{Tells, WritesLine, TakesEvent, TakesRecord};
-ghost use Rattle.pfs_cli_report.specs.Traces.{events_of, events_from, records_of, records_left};
+ghost use Rattle.pfs_cli_report.specs.Reading.{records_of, records_left};
+ghost use Rattle.pfs_cli_report.specs.Traces.{events_of, events_from};
 
 use crate::machine::{TraceEngine, take};
 use csv::{ByteRecord, Reader, ReaderBuilder};

@@ -2,15 +2,16 @@
 
 ghost use Rattle.std.specs.Prelude.{◌≡◌, ◌≢◌, ◌⊎◌, Some, Ok, Err, ◌<◌, ◌≤◌, ◌+◌, ℕ, List, true, IfOk, IfErr, length, drop};
 ghost use Rattle.std.specs.Io.KnownBytes.{Appends, Keeps};
-ghost use Rattle.pfs_cli_streams.specs.Feeds.{unread, has_ended, IsFresh, IsSpent, failures_of as read_failures};
-ghost use Rattle.pfs_cli_streams.specs.Sinks.{held, failures_of};
+ghost use Rattle.pfs_cli_streams.specs.Feeds.{unread, has_ended, IsFresh, IsSpent, read_failures};
+ghost use Rattle.pfs_cli_streams.specs.Sinks.{held, write_failures};
 ghost use Rattle.pfs_conf_rules.specs.Configs.{Conf};
 ghost use Rattle.pfs_conf.specs.declared.faults.LoadFault.{LoadFault};
 ghost use Rattle.pfs_conf.specs.Reads.{Reads};
 ghost use Rattle.pfs_cli.specs.Turns.{Tells};
-ghost use Rattle.pfs_cli.specs.Rules.{IsKept, IsRefused, rules_limit};
+ghost use Rattle.pfs_cli.specs.Rules.{KeepsEnough, AreRefused, rules_limit};
 ghost use Rattle.pfs_cli.specs.Refusing.{IsFeedFault};
-ghost use Rattle.pfs_cli.specs.Replays.{Replays, trace_of};
+ghost use Rattle.pfs_cli_report.specs.Traces.{trace_of};
+ghost use Rattle.pfs_cli.specs.Replays.{Replays};
 
 use crate::faults::{ReplayFault, of_trace};
 use crate::records::{Stop, tell_records};
@@ -53,7 +54,7 @@ pub(crate) fn fault_at<R>(stop: Stop, feed: &Feed<R>) -> ReplayFault
 // The bytes of a rules text, of which no more is read than shows that it is too long.
 pub(crate) fn read_text<R: Read>(alloc: Global, rules: &mut Feed<R>) -> Result<Vec<u8>, ReplayFault>
     requires { read_failures rules.old ≡ 0 }
-    ensures text { IfOk result (λ v. (rs : List ℕ) → unread R.remaining rules.old ≡ Some rs → IsKept v.items rs) }
+    ensures text { IfOk result (λ v. (rs : List ℕ) → unread R.remaining rules.old ≡ Some rs → KeepsEnough v.items rs) }
     ensures ended { IfOk result (λ v. length v.items ≤ rules_limit → has_ended rules.new ≡ true) }
     ensures sound { IfOk result (λ v. read_failures rules.new ≡ 0) }
     ensures few { (rs : List ℕ) → unread R.remaining rules.old ≡ Some rs → (k : ℕ) × (k ≤ rules_limit + 1) × (unread R.remaining rules.new ≡ Some (drop k rs)) }
@@ -84,13 +85,13 @@ pub(crate) fn finish<R, W: Write>(
     feed: &Feed<R>,
     out: &mut Sink<W>,
 ) -> Result<(), ReplayFault>
-    requires { outcome ≡ Err (Stop.Write) → 0 < failures_of out.old }
+    requires { outcome ≡ Err (Stop.Write) → 0 < write_failures out.old }
     ensures kept { Keeps (held W.contents out.old) (held W.contents out.new) }
     ensures told { (conf : Conf) (rs : List ℕ) (ts : List ℕ) (t : List ℕ) → Reads rs conf → Tells conf (trace_of conf ts) t outcome → Replays rs ts t result }
     ensures no_rules { (f : LoadFault) → result ≢ Err (ReplayFault.Rules f) }
     ensures read { result ≡ Err ReplayFault.Read → 0 < read_failures feed.now }
     ensures endless { result ≡ Err ReplayFault.Endless → IsSpent feed.now }
-    ensures write { result ≡ Err ReplayFault.Write → 0 < failures_of out.new }
+    ensures write { result ≡ Err ReplayFault.Write → 0 < write_failures out.new }
 {
     match outcome {
         Ok(()) => {
@@ -136,7 +137,7 @@ pub fn replay<R: Read, T: Read, W: Write>(
         ((t : List ℕ) × Appends (held W.contents out.old) (held W.contents out.new) t × Replays rs ts t result) }
 
     // A fault of the rules is one that this text may have: its kind, its line, and the token at which reading stops.
-    ensures refused { (rs : List ℕ) (f : LoadFault) → unread R.remaining rules.old ≡ Some rs → result ≡ Err (ReplayFault.Rules f) → IsRefused rs f }
+    ensures refused { (rs : List ℕ) (f : LoadFault) → unread R.remaining rules.old ≡ Some rs → result ≡ Err (ReplayFault.Rules f) → AreRefused rs f }
 
     // The rules come first, and no more of them than is needed.
     ensures rules_first { (out.new ≡ out.old) ⊎ ((has_ended rules.new ≡ true) × (read_failures rules.new ≡ 0)) }
@@ -145,7 +146,7 @@ pub fn replay<R: Read, T: Read, W: Write>(
     // No fault is told of a reader or a writer that did not have it.
     ensures read { result ≡ Err ReplayFault.Read → (0 < read_failures rules.new) ⊎ (0 < read_failures trace.new) }
     ensures endless { result ≡ Err ReplayFault.Endless → IsSpent rules.new ⊎ IsSpent trace.new }
-    ensures write { result ≡ Err ReplayFault.Write → 0 < failures_of out.new }
+    ensures write { result ≡ Err ReplayFault.Write → 0 < write_failures out.new }
 {
     let text = read_text(alloc, rules)?;
     let mut engine = load_machine(alloc, text)?;

@@ -1,4 +1,5 @@
-pub mod Parts
+pub mod Heading
 pub mod Rest
+pub mod Rows
 pub mod Runs
 pub mod Stepping

@@ -6,7 +6,7 @@ use Rattle.csv.specs.Reading.{records_from, records_next}
 use Rattle.csv.specs.declared.parser.Config.{Config}
 use Rattle.csv.specs.declared.parser.State.{State}
 use Rattle.csv.specs.declared.parser.State.TheVariants as st
-use Rattle.pfs_cli_report.specs.Traces.{records_left}
+use Rattle.pfs_cli_report.specs.Reading.{records_left}
 
 -- a text that is at its end gives a last record at most
 last_next : (cfg : Config) (s : State) (f : List (List ℕ)) (p : List ℕ) (r : Read) → next_record cfg s f p [] ≡ Some r → (r.1 ≡ st.StartRecord) × (r.2 ≡ [])

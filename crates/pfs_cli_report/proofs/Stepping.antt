@@ -1,8 +1,9 @@
 -- The moment of the machine is that of its last event, and what a record says of its own moment.
 use Rattle.std.proofs.Common.{◌≡◌, ◌<◌, ◌≤◌, ℕ, List, Bool, true, false, Option, Some, None, refl, sym, ap, ◌∙◌, arith, subst}
-use Rattle.std.specs.Prelude.{Result, Ok, Err, IfOk, codes, ◌^◌, ◌==◌, if◌then◌else◌, length, nat_le, nat_lt, option_map, slice_get}
+use Rattle.std.specs.Prelude.{Result, Ok, Err, IfOk, codes, cond, not, ◌^◌, ◌==◌, if◌then◌else◌, length, nat_le, nat_lt, ok_or, option_map, slice_get}
+use Rattle.std.specs.Option.{ForSome, option_map_or}
+use Rattle.std.proofs.lemmas.Map.Entries.{option_filter}
 use Rattle.std.specs.List.{position_or_len}
-use Rattle.std.specs.Option.{ForSome}
 use Rattle.std.specs.Str.{bytes_eq}
 use Rattle.std.proofs.lemmas.Bool.Decides.{nat_tests}
 use Rattle.pfs_addr.specs.Numbers.{number_of}
@@ -19,7 +20,8 @@ use Rattle.pfs_engine_machine.specs.declared.events.What.{What}
 use Rattle.pfs_engine_machine.specs.declared.events.What.TheVariants as what
 use Rattle.pfs_cli_report.specs.declared.faults.TraceFault.{TraceFault}
 use Rattle.pfs_cli_report.specs.declared.faults.TraceFault.TheVariants as fault
-use Rattle.pfs_cli_report.specs.Events.{at_most, changing, column_of, expire_by, number_to, falls, coming, at_moment, packet_at, expiry_at, arrival_at, leaving_at, event_at, in_column, and_then}
+use Rattle.pfs_cli_report.specs.Events.{changing, column_of, number_to, falls, at_moment, packet_at, expiry_at, event_at, in_column, and_then}
+use Rattle.pfs_cli_report.specs.Reading.{arrival_at, leaving_at}
 
 pub last-step : (conf : Conf) (m : Machine) (e : Event) → (step conf m e).1.last ≡ Some e.time
 unfolding step
@@ -27,11 +29,11 @@ last-step conf m e = refl
 
 -- ---- the moment of a record
 
-at_most-bound : (most : ℕ) (o : Option ℕ) (n : ℕ) → at_most most o ≡ Some n → n ≤ most
-at_most-bound most None n q = cc
-at_most-bound most (Some x) n q = by (nat_le x most) refl q
+number_to-bound : (most : ℕ) (o : Option ℕ) (n : ℕ) → option_filter (λ x. nat_le x most) o ≡ Some n → n ≤ most
+number_to-bound most None n q = cc
+number_to-bound most (Some x) n q = by (nat_le x most) refl q
   where
-    by : (b : Bool) → nat_le x most ≡ b → (if b then Some x else None) ≡ Some n → n ≤ most
+    by : (b : Bool) → nat_le x most ≡ b → cond b (Some x) None ≡ Some n → n ≤ most
     by true test e = let same : x ≡ n = cc in rw (← same) (grind (arith, nat_tests, test))
     by false test e = cc
 
@@ -61,29 +63,27 @@ changing-may : (conf : Conf) (o : Option TableNo) (t : TableNo) → ((u : TableN
 changing-may conf None t known e = cc
 changing-may conf (Some u) t known e = by (is_const_table (slice_get conf.tables u.0)) refl e
   where
-    by : (b : Bool) → is_const_table (slice_get conf.tables u.0) ≡ b → (if b then None else Some u) ≡ Some t → MayExpire conf t.0
+    by : (b : Bool) → is_const_table (slice_get conf.tables u.0) ≡ b → cond (not b) (Some u) None ≡ Some t → MayExpire conf t.0
     by true test h = cc
     by false test h =
         let same : u ≡ t = cc in
         subst (λ (x : TableNo). MayExpire conf x.0) same (record { known = known u refl; changes = test })
 
 -- what comes of an expiry may come
-expire-may : (conf : Conf) (row seconds : ℕ) (name : List ℕ) (w : What) → expire_by row seconds (changing conf (table_named conf name)) ≡ Ok w → MayCome conf w
-expire-may conf row seconds name w e = by (changing conf (table_named conf name)) refl e
+expire-may : (conf : Conf) (seconds : ℕ) (name : List ℕ) (w : What)
+    → option_map (λ t. what.Expire t seconds) (changing conf (table_named conf name)) ≡ Some w → MayCome conf w
+expire-may conf seconds name w e = by (changing conf (table_named conf name)) refl e
   where
-    by : (o : Option TableNo) → changing conf (table_named conf name) ≡ o → expire_by row seconds o ≡ Ok w → MayCome conf w
+    by : (o : Option TableNo) → changing conf (table_named conf name) ≡ o → option_map (λ t. what.Expire t seconds) o ≡ Some w → MayCome conf w
     by None at h = cc
     by (Some t) at h =
         let same : what.Expire t seconds ≡ w = cc in
         subst (MayCome conf) same (changing-may conf (table_named conf name) t (named-known conf name) at)
 
-abbrev arrived : Option Header → Result What TraceFault
-arrived o = Ok (coming o)
-
--- what comes of a packet, and of a record that is skipped, may come
-arrived-may : (conf : Conf) (o : Option Header) (w : What) → arrived o ≡ Ok w → MayCome conf w
-arrived-may conf None w e = let same : what.Skip ≡ w = cc in subst (MayCome conf) same tt
-arrived-may conf (Some p) w e = let same : what.Packet p ≡ w = cc in subst (MayCome conf) same tt
+-- a packet, and a record that is skipped, may come
+arrived-may : (conf : Conf) (packet : Option Header) → MayCome conf (option_map_or what.Packet packet what.Skip)
+arrived-may conf None = tt
+arrived-may conf (Some p) = tt
 
 -- it is not before the last one, and may come
 record IsRead (conf : Conf) (last : Option ℕ) (time : ℕ) (e : Event) : Type 0 where
@@ -91,14 +91,14 @@ record IsRead (conf : Conf) (last : Option ℕ) (time : ℕ) (e : Event) : Type 
   moment : e.time ≡ time
   may : MayCome conf e.what
 
-moment-read : (conf : Conf) (row : ℕ) (last : Option ℕ) (time : ℕ) (r : Result What TraceFault) (e : Event) → ((w : What) → r ≡ Ok w → MayCome conf w)
-    → at_moment row last time r ≡ Ok e → IsRead conf last time e
-moment-read conf row last time r e may q = by (falls last time) refl q
+moment-read : (conf : Conf) (row : ℕ) (last : Option ℕ) (time : ℕ) (o : Option What) (e : Event) → ((w : What) → o ≡ Some w → MayCome conf w)
+    → at_moment row last time o ≡ Ok e → IsRead conf last time e
+moment-read conf row last time o e may q = by (falls last time) refl q
   where
-    made : falls last time ≡ false → (w : Result What TraceFault) → r ≡ w
-        → and_then w (λ comes. Ok (record { time = time; what = comes })) ≡ Ok e → IsRead conf last time e
-    made test (Err f) at h = cc
-    made test (Ok w) at h =
+    made : falls last time ≡ false → (w : Option What) → o ≡ w
+        → and_then (ok_or w (fault.Table row)) (λ comes. Ok (record { time = time; what = comes })) ≡ Ok e → IsRead conf last time e
+    made test None at h = cc
+    made test (Some w) at h =
         let same : record { time = time; what = w } ≡ e = cc in record {
           order = test;
           moment = sym (ap (λ (d : Event). d.time) same);
@@ -106,24 +106,26 @@ moment-read conf row last time r e may q = by (falls last time) refl q
         }
 
     by : (b : Bool) → falls last time ≡ b
-        → (if b then Err (fault.TimeFell row) else and_then r (λ comes. Ok (record { time = time; what = comes }))) ≡ Ok e → IsRead conf last time e
+        → (if b then Err (fault.TimeFell row) else and_then (ok_or o (fault.Table row)) (λ comes. Ok (record { time = time; what = comes }))) ≡ Ok e → IsRead conf last time e
     by true test h = cc
-    by false test h = made test r refl h
+    by false test h = made test o refl h
 
 arrival-read : (conf : Conf) (row : ℕ) (last : Option ℕ) (time : ℕ) (fields : List (List ℕ)) (e : Event) → arrival_at row last time fields ≡ Ok e → IsRead conf last time e
 arrival-read conf row last time fields e q = by (packet_at row fields) q
   where
-    by : (r : Result (Option Header) TraceFault) → and_then r (λ packet. at_moment row last time (Ok (coming packet))) ≡ Ok e → IsRead conf last time e
+    by : (r : Result (Option Header) TraceFault) → and_then r (λ packet. at_moment row last time (Some (option_map_or what.Packet packet what.Skip))) ≡ Ok e → IsRead conf last time e
     by (Err f) h = cc
-    by (Ok o) h = moment-read conf row last time (arrived o) e (arrived-may conf o) h
+    by (Ok o) h =
+        let comes : What = option_map_or what.Packet o what.Skip in
+        moment-read conf row last time (Some comes) e (λ w same. let is : comes ≡ w = cc in subst (MayCome conf) is (arrived-may conf o)) h
 
 leaving-read : (conf : Conf) (row : ℕ) (last : Option ℕ) (time : ℕ) (fields : List (List ℕ)) (e : Event) → leaving_at conf row last time fields ≡ Ok e → IsRead conf last time e
 leaving-read conf row last time fields e q = by (expiry_at row fields) q
   where
     by : (r : Result (List ℕ × ℕ) TraceFault)
-        → and_then r (λ read. at_moment row last time (expire_by row read.1 (changing conf (table_named conf read.0)))) ≡ Ok e → IsRead conf last time e
+        → and_then r (λ read. at_moment row last time (option_map (λ t. what.Expire t read.1) (changing conf (table_named conf read.0)))) ≡ Ok e → IsRead conf last time e
     by (Err f) h = cc
-    by (Ok x) h = moment-read conf row last time (expire_by row x.1 (changing conf (table_named conf x.0))) e (expire-may conf row x.1 x.0) h
+    by (Ok x) h = moment-read conf row last time (option_map (λ t. what.Expire t x.1) (changing conf (table_named conf x.0))) e (expire-may conf x.1 x.0) h
 
 -- the event of a record: its moment is not before the last one, and is small, and it may come
 pub record IsEvent (conf : Conf) (last : Option ℕ) (e : Event) : Type 0 where
@@ -146,7 +148,7 @@ event-read conf row last fields e q = by_length (length fields == 9) q
     by_time None test h = cc
     by_time (Some time) test h =
         let read = by_kind time (bytes_eq (column_of fields 2) (codes "expire")) h in
-        let small : time ≤ 4294967295 = at_most-bound 4294967295 (number_of (column_of fields 1)) time test in record {
+        let small : time ≤ 4294967295 = number_to-bound 4294967295 (number_of (column_of fields 1)) time test in record {
           order = rw read.moment (order-kept last time read.order);
           moment = omega (arith, small, read.moment);
           table = read.may;

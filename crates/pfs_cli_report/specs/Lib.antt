@@ -1,5 +1,6 @@
 pub mod Events
-pub mod LineParts
 pub mod Lines
+pub mod Reading
 pub mod Reports
 pub mod Traces
+pub mod Words

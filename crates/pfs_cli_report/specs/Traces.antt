@@ -1,8 +1,6 @@
 -- The events of a trace under a configuration, up to its first faulty record. (own)
-use Rattle.std.specs.Prelude.{◌+◌, ℕ, List, [], ◌∷◌, length, Option, Some, None, Result, Ok, Err, if◌then◌else◌, nat_lt}
-use Rattle.csv.specs.Reading.{records, records_from, default_config, strip_bom}
-use Rattle.csv.specs.declared.parser.Config.{Config}
-use Rattle.csv.specs.declared.parser.State.{State}
+use Rattle.std.specs.Prelude.{◌+◌, ℕ, List, [], ◌∷◌, Option, Some, None, Result, Ok, Err, if◌then◌else◌, nat_lt}
+use Rattle.csv.specs.Reading.{records, default_config, strip_bom}
 use Rattle.pfs_conf_rules.specs.Configs.{Conf}
 use Rattle.pfs_engine_machine.specs.declared.events.Event.{Event}
 use Rattle.pfs_cli_report.specs.declared.faults.TraceFault.{TraceFault}
@@ -13,14 +11,6 @@ use Rattle.pfs_cli_report.specs.Events.{event_at, is_header}
 abbrev pub Fields : Type 0
 Fields = List (List ℕ)
 
--- the records of a trace are those that the `csv` crate gives, a byte order mark at the start left out
-abbrev pub records_of : List ℕ → List Fields
-records_of bytes = records default_config (strip_bom bytes)
-
--- the records that are left of a text, from a state of the `csv` crate's machine
-abbrev pub records_left : Config → State → List ℕ → List Fields
-records_left cfg s xs = records_from cfg (length xs + 1) s xs
-
 -- the most records that a trace may have after its header
 abbrev pub row_limit : ℕ
 row_limit = 1000000000
@@ -29,20 +19,22 @@ row_limit = 1000000000
 abbrev pub Trace : Type 0
 Trace = List Event × Option TraceFault
 
--- an event, and then those after it
-abbrev pub and_then : Result Event TraceFault → (Event → Trace) → Trace
-and_then (Ok e) more = (e ∷ (more e).0, (more e).1)
-and_then (Err f) more = ([], Some f)
+-- an event, and then those after it; or a fault
+abbrev pub ahead_of : Result Event TraceFault → (Event → Trace) → Trace
+ahead_of (Ok e) more = (e ∷ (more e).0, (more e).1)
+ahead_of (Err f) more = ([], Some f)
 
 -- the events of the records after so many rows, the last of them at this moment
 unfoldable pub events_from : Conf → ℕ → Option ℕ → List Fields → Trace
 events_from conf rows last [] = ([], None)
 events_from conf rows last (r ∷ rs) =
-    if nat_lt rows row_limit
-    then and_then (event_at conf (rows + 1) last r) (λ e. events_from conf (rows + 1) (Some e.time) rs)
-    else ([], Some fault.TooManyRows)
+    ahead_of (if nat_lt rows row_limit then event_at conf (rows + 1) last r else Err fault.TooManyRows) (λ e. events_from conf (rows + 1) (Some e.time) rs)
 
--- the events of a trace: its first record is the header
+-- the events of a trace's records: the first is the header
 unfoldable pub events_of : Conf → List Fields → Trace
 events_of conf [] = ([], Some (fault.Columns 0))
 events_of conf (r ∷ rs) = if is_header r then events_from conf 0 None rs else ([], Some (fault.Columns 0))
+
+-- the events of a trace, whose records are those that the `csv` crate gives, a byte order mark at the start left out
+abbrev pub trace_of : Conf → List ℕ → Trace
+trace_of conf bytes = events_of conf (records default_config (strip_bom bytes))

@@ -5,7 +5,8 @@ ghost use Rattle.csv.specs.Records.{fields_of};
 ghost use Rattle.pfs_addr.specs.Protocols.{is_icmp};
 ghost use Rattle.pfs_addr.specs.Texts.{addr_of};
 ghost use Rattle.pfs_conf_rules.specs.Configs.{table_named};
-ghost use Rattle.pfs_cli_report.specs.Events.{beside, changing, column_of, number_to, dir_of, expiry_at, port_of, flags_for, nothing_in, arrival_at, leaving_at, is_header, falls, event_at};
+ghost use Rattle.pfs_cli_report.specs.Events.{changing, column_of, number_to, dir_of, expiry_at, port_for, flags_for, nothing_in, is_header, falls, event_at};
+ghost use Rattle.pfs_cli_report.specs.Reading.{arrival_at, beside, leaving_at};
 
 use crate::faults::TraceFault;
 use csv::ByteRecord;
@@ -191,7 +192,7 @@ fn read_dir(text: &[u8]) -> Option<Dir>
 }
 
 fn read_port(proto: &Proto, text: &[u8]) -> Option<u16>
-    ensures { result ≡ port_of proto.now text.now }
+    ensures { result ≡ port_for proto.now text.now }
 {
     if proto.has_ports() {
         return match parse_number(text) {

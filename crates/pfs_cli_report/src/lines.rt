@@ -1,8 +1,8 @@
 //! The lines of a report.
 
 ghost use Rattle.std.specs.Prelude.{◌≡◌, ◌++◌, OnOk, decimal};
-ghost use Rattle.pfs_cli_report.specs.Lines.{row_text, end_text, rule_of, note_text, overload_word};
-ghost use Rattle.pfs_cli_report.specs.LineParts.{lead_of, number_text};
+ghost use Rattle.pfs_cli_report.specs.Lines.{row_text, end_text, overload_word};
+ghost use Rattle.pfs_cli_report.specs.Words.{lead_of, note_text, number_text, rule_by};
 
 use itoa::Buffer;
 use pfs_conf_rules::RuleNo;
@@ -25,7 +25,7 @@ pub struct EndLine {
 /// Appends the line of a record: its row, what the machine did with it, and by which rule. An error comes where memory
 /// was refused; a part of the line may stand there then.
 #[inline(never)]
-#[tactic(auto, using(crate::proofs::Parts::parted))]
+#[tactic(auto, using(crate::proofs::Rows::parted))]
 pub fn push_row(out: &mut Vec<u8>, row: u64, outcome: &Outcome) -> Result<(), AllocError>
     ensures { OnOk result (out.new.items ≡ out.old.items ++ row_text row outcome.now) }
 {
@@ -103,7 +103,7 @@ fn overload_name(overload: Option<Added>) -> &'static str
 }
 
 fn rule(outcome: &Outcome) -> Option<RuleNo>
-    ensures { result ≡ rule_of outcome.now }
+    ensures { result ≡ rule_by outcome.now }
 {
     match *outcome {
         Outcome::State(rule)

@@ -26,8 +26,8 @@ abbrev pub reads_of : {R : Type 0} → FeedView R → ℕ
 reads_of f = f.made
 
 -- the reads of the reader that failed
-abbrev pub failures_of : {R : Type 0} → FeedView R → ℕ
-failures_of f = f.failures
+abbrev pub read_failures : {R : Type 0} → FeedView R → ℕ
+read_failures f = f.failures
 
 -- whether a read of the reader, into a buffer with room, gave no byte
 abbrev pub has_ended : {R : Type 0} → FeedView R → Bool

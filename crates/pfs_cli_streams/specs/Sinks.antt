@@ -11,8 +11,8 @@ abbrev pub writer_of : {W : Type 0} → SinkView W → W
 writer_of s = s.writer
 
 -- the writes and flushes that failed
-abbrev pub failures_of : {W : Type 0} → SinkView W → ℕ
-failures_of s = s.failures
+abbrev pub write_failures : {W : Type 0} → SinkView W → ℕ
+write_failures s = s.failures
 
 -- what the writer of a sink holds, where it says
 abbrev pub held : {W : Type 0} → (W → Option (List ℕ)) → SinkView W → Option (List ℕ)

@@ -4,7 +4,7 @@ ghost use Rattle.std.specs.Prelude.{◌≡◌, ◌≢◌, ◌⊎◌, ◌+◌, �
 ghost use Rattle.std.specs.Io.{ReadsAtMost};
 ghost use Rattle.std.specs.Io.KnownBytes.{ReadConsumes};
 ghost use Rattle.std.specs.IoError.{error_kind};
-ghost use Rattle.pfs_cli_streams.specs.Feeds.{FeedView, unread, reader_of, bound_of, reads_of, failures_of, has_ended, IsSpent, IsFresh, MayRead, IsClosed};
+ghost use Rattle.pfs_cli_streams.specs.Feeds.{FeedView, unread, reader_of, bound_of, reads_of, read_failures, has_ended, IsSpent, IsFresh, MayRead, IsClosed};
 
 use std::io;
 use std::io::{Error, ErrorKind, Read};
@@ -53,7 +53,7 @@ impl<R> Feed<R> {
 
     /// How many reads of the reader failed. It is 0 or 1, since no read follows a failure.
     pub fn failures(&self) -> u64
-        ensures { result ≡ failures_of self.now }
+        ensures { result ≡ read_failures self.now }
     {
         self.failures
     }
@@ -88,11 +88,11 @@ impl<R: Read> Read for Feed<R> {
         // What is known after it.
         ensures at_end { result ≡ Ok 0 → 0 < length buf.old → has_ended self.new ≡ true }
         ensures goes_on { IfOk result (λ n. 0 < n → has_ended self.new ≡ false) }
-        ensures gives { OnOk result (failures_of self.new ≡ failures_of self.old) }
-        ensures fails { OnErr result ((0 < failures_of self.new) ⊎ IsSpent self.new) }
+        ensures gives { OnOk result (read_failures self.new ≡ read_failures self.old) }
+        ensures fails { OnErr result ((0 < read_failures self.new) ⊎ IsSpent self.new) }
         ensures refuses { IfErr result (λ e. error_kind e ≢ ErrorKind.Interrupted) }
-        ensures counts { (failures_of self.new ≡ failures_of self.old)
-            ⊎ (IsErr result × MayRead self.old × (0 < length buf.old) × (failures_of self.new ≡ failures_of self.old + 1)) }
+        ensures counts { (read_failures self.new ≡ read_failures self.old)
+            ⊎ (IsErr result × MayRead self.old × (0 < length buf.old) × (read_failures self.new ≡ read_failures self.old + 1)) }
     {
         if buf.is_empty() || self.ended {
             return Ok(0);

@@ -3,7 +3,7 @@
 ghost use Rattle.std.specs.Prelude.{◌≡◌, ◌⊎◌, ◌<◌, length, IfOk, OnOk, OnErr};
 ghost use Rattle.std.specs.Io.{WritesAtMost};
 ghost use Rattle.std.specs.Io.KnownBytes.{WriteAppends, Keeps};
-ghost use Rattle.pfs_cli_streams.specs.Sinks.{SinkView, writer_of, failures_of, held, one_more};
+ghost use Rattle.pfs_cli_streams.specs.Sinks.{SinkView, writer_of, write_failures, held, one_more};
 
 use std::io;
 use std::io::Write;
@@ -26,7 +26,7 @@ impl<W> Sink<W> {
     /// A sink of `writer` that has written nothing and has not failed.
     pub fn new(writer: W) -> Sink<W>
         ensures writer { writer_of result ≡ writer }
-        ensures fresh { failures_of result ≡ 0 }
+        ensures fresh { write_failures result ≡ 0 }
     {
         Sink {
             writer,
@@ -37,7 +37,7 @@ impl<W> Sink<W> {
     /// How many writes failed or took 0 bytes of a slice that is not empty, and how many
     /// flushes failed. The count stays at the greatest `u64`.
     pub fn failures(&self) -> u64
-        ensures { result ≡ failures_of self.now }
+        ensures { result ≡ write_failures self.now }
     {
         self.failures
     }
@@ -60,9 +60,9 @@ impl<W: Write> Sink<W> {
     pub fn write(&mut self, bytes: &[u8]) -> io::Result<usize>
         ensures bound { WritesAtMost result bytes.now }
         ensures bytes { WriteAppends (held W.contents self.old) (held W.contents self.new) result bytes.now }
-        ensures takes { IfOk result (λ n. (0 < n) ⊎ (length bytes.now ≡ 0) → failures_of self.new ≡ failures_of self.old) }
-        ensures takes_none { result ≡ Ok 0 → 0 < length bytes.now → failures_of self.new ≡ one_more (failures_of self.old) }
-        ensures fails { OnErr result (failures_of self.new ≡ one_more (failures_of self.old)) }
+        ensures takes { IfOk result (λ n. (0 < n) ⊎ (length bytes.now ≡ 0) → write_failures self.new ≡ write_failures self.old) }
+        ensures takes_none { result ≡ Ok 0 → 0 < length bytes.now → write_failures self.new ≡ one_more (write_failures self.old) }
+        ensures fails { OnErr result (write_failures self.new ≡ one_more (write_failures self.old)) }
     {
         let outcome = self.writer.write(bytes);
         let failed = match &outcome {
@@ -79,8 +79,8 @@ impl<W: Write> Sink<W> {
     /// memory of its own.
     pub fn flush(&mut self) -> io::Result<()>
         ensures bytes { Keeps (held W.contents self.old) (held W.contents self.new) }
-        ensures flushes { OnOk result (failures_of self.new ≡ failures_of self.old) }
-        ensures fails { OnErr result (failures_of self.new ≡ one_more (failures_of self.old)) }
+        ensures flushes { OnOk result (write_failures self.new ≡ write_failures self.old) }
+        ensures fails { OnErr result (write_failures self.new ≡ one_more (write_failures self.old)) }
     {
         let outcome = self.writer.flush();
         if outcome.is_err() {

@@ -2,7 +2,7 @@
 
 ghost use Rattle.std.specs.Prelude.{◌≡◌, ◌≤◌, Some, OnOk, OnErr, take, length, codes, ℕ};
 ghost use Rattle.std.specs.Io.KnownBytes.{Appends};
-ghost use Rattle.pfs_cli_streams.specs.Sinks.{failures_of, held, one_more};
+ghost use Rattle.pfs_cli_streams.specs.Sinks.{write_failures, held, one_more};
 
 use crate::sinks::Sink;
 use std::io::Write;
@@ -27,9 +27,9 @@ impl error::Error for WriteFailed {}
 /// its own. There is no flush.
 pub fn write_whole<W: Write>(out: &mut Sink<W>, bytes: &[u8]) -> Result<(), WriteFailed>
     ensures ok { OnOk result (Appends (held W.contents out.old) (held W.contents out.new) bytes.now) }
-    ensures still { OnOk result (failures_of out.new ≡ failures_of out.old) }
+    ensures still { OnOk result (write_failures out.new ≡ write_failures out.old) }
     ensures err { OnErr result ((k : ℕ) × (k ≤ length bytes.now) × Appends (held W.contents out.old) (held W.contents out.new) (take k bytes.now)) }
-    ensures fails { OnErr result (failures_of out.new ≡ one_more (failures_of out.old)) }
+    ensures fails { OnErr result (write_failures out.new ≡ one_more (write_failures out.old)) }
 {
     let mut at = 0;
     while at < bytes.len() {
