@@ -13,11 +13,11 @@ use Rattle.pfs_conf_rules.specs.declared.limits.LimitName.{LimitName}
 use Rattle.pfs_conf_rules.specs.declared.limits.LimitName.TheVariants as limit
 use Rattle.pfs_conf_rules.specs.declared.timeouts.TimeoutName.{TimeoutName}
 use Rattle.pfs_conf_rules.specs.Drafts.{Drafted, with_limit, with_timeout, is_defined}
-use Rattle.pfs_conf_settings.specs.Settings.{timeout_named, bounded_at, limited, limit_by, limit_at, least_value, greatest_value, unkept, timed, time_by, time_at, lined_limit_at, lined_time_at, limits_by, limits_at, times_by, times_at, settings_by, settings_at}
-use Rattle.pfs_conf_settings.specs.Tables.{sign_by, sign_at, again, joined, entered, entry_by, entry_at, lined_entry_at, entries_by, entries_at, unless, part_by, part_at, parts_at}
+use Rattle.pfs_conf_settings.specs.Settings.{timeout_named, bounded_at, limited, limit_by, set_limit_at, least_value, greatest_value, unkept, timed, time_by, time_at, lined_limit_at, lined_time_at, limits_by, limits_at, times_by, times_at, settings_by, settings_at}
+use Rattle.pfs_conf_settings.specs.Tables.{sign_by, sign_at, again, entry_joined, entered, entry_by, entry_at, lined_entry_at, entries_by, braced_entries_at, unless, part_by, part_at, parts_at}
 use Rattle.pfs_conf_settings.specs.TableGrammar.{no_parts}
 use Rattle.pfs_conf_settings.specs.declared.tables.Parts.{Parts}
-use Rattle.pfs_conf.specs.Reading.{open_by, angle_by, table_named, new_name_by, new_name_at}
+use Rattle.pfs_conf.specs.Reading.{open_by, angle_by, new_table_named, new_name_by, new_name_at}
 use Rattle.pfs_conf.proofs.BraceLaws.{Keeps, KeepsAct, keeps_done, keeps_chain, keeps_front, keeps_if, keeps_once, keeps_word, keeps_number, keeps_up_to_line, keeps_list, keeps_skipping}
 
 -- ---- options (pf.conf(5), OPTIONS)
@@ -38,8 +38,8 @@ limit_acts lined d key.TableEntries = limited_acts lined limit.TableEntries d ke
 limit_acts lined d key.Frags = keeps_word lined lined key.Frags _ refl (keeps_chain (bounded_at lined 1 4294967295) (λ n. done d) (keeps_value lined 1 4294967295) (λ n. keeps_done d))
 limit_acts lined d _ = tt
 
-keeps_limit : (lined : Bool) (d : Drafted) → Keeps lined lined (limit_at lined d)
-unfolding limit_at
+keeps_limit : (lined : Bool) (d : Drafted) → Keeps lined lined (set_limit_at lined d)
+unfolding set_limit_at
 keeps_limit lined d = keeps_front (λ t. limit_by lined d t.key) (λ t. limit_acts lined d t.key)
 
 named_is_word : (k : Key) (name : TimeoutName) → timeout_named k ≡ Some name → is_word_key k ≡ true
@@ -82,7 +82,7 @@ keeps_lines x = keeps_skipping (done x) (keeps_done x)
 
 keeps_lined_limit : (d : Drafted) → Keeps true true (lined_limit_at d)
 unfolding lined_limit_at
-keeps_lined_limit d = keeps_skipping (chain (limit_at true d) (λ e. skipping (done e))) (keeps_chain (limit_at true d) (λ e. skipping (done e)) (keeps_limit true d) (λ e. keeps_lines e))
+keeps_lined_limit d = keeps_skipping (chain (set_limit_at true d) (λ e. skipping (done e))) (keeps_chain (set_limit_at true d) (λ e. skipping (done e)) (keeps_limit true d) (λ e. keeps_lines e))
 
 keeps_lined_time : (d : Drafted) → Keeps true true (lined_time_at d)
 unfolding lined_time_at
@@ -132,7 +132,7 @@ again_acts k entries false false e = held_acts k entries e
 again_acts k entries true false e = tt
 again_acts k entries false true e = tt
 
-joined_acts : (k : Key) (entries : List Entry) (negated : Bool) (p : Network) (o : Option Bool) → is_word_key k ≡ true → KeepsAct true true k (joined entries negated p o)
+joined_acts : (k : Key) (entries : List Entry) (negated : Bool) (p : Network) (o : Option Bool) → is_word_key k ≡ true → KeepsAct true true k (entry_joined entries negated p o)
 joined_acts k entries negated p None e = held_acts k (entries ++ (p, negated) ∷ []) e
 joined_acts k entries negated p (Some held) e = again_acts k entries negated held e
 
@@ -158,8 +158,8 @@ entries_acts : (k : Key) → KeepsAct true false k (entries_by k)
 entries_acts key.CloseBrace = (refl, keeps_done [])
 entries_acts _ = keeps_list lined_entry_at keeps_lined_entry []
 
-keeps_entries : Keeps true false entries_at
-unfolding entries_at
+keeps_entries : Keeps true false braced_entries_at
+unfolding braced_entries_at
 keeps_entries = keeps_skipping (on_front (λ t. entries_by t.key)) (keeps_front (λ t. entries_by t.key) (λ t. entries_acts t.key))
 
 unless_acts : {A : Type 0} (k : Key) (b : Bool) (a : Act A) → KeepsAct false false k a → KeepsAct false false k (unless b a)
@@ -170,7 +170,7 @@ part_acts : (p : Parts) (k : Key) → KeepsAct false false k (part_by p k)
 part_acts p key.Persist = unless_acts key.Persist p.persist _ (refl, keeps_done (record p { persist = true }))
 part_acts p key.Const = unless_acts key.Const p.is_const _ (refl, keeps_done (record p { is_const = true }))
 part_acts p key.Counters = unless_acts key.Counters p.counters _ (refl, keeps_done (record p { counters = true }))
-part_acts p key.OpenBrace = keeps_once false false key.OpenBrace p.entries _ (refl, keeps_chain entries_at (λ entries. done (record p { entries = Some entries })) keeps_entries (λ entries. keeps_done (record p { entries = Some entries })))
+part_acts p key.OpenBrace = keeps_once false false key.OpenBrace p.entries _ (refl, keeps_chain braced_entries_at (λ entries. done (record p { entries = Some entries })) keeps_entries (λ entries. keeps_done (record p { entries = Some entries })))
 part_acts p _ = tt
 
 keeps_part : (p : Parts) → Keeps false false (part_at p)
@@ -189,7 +189,7 @@ close_acts : (k : Key) → KeepsAct false false k (angle_by k)
 close_acts key.CloseAngle = (refl, keeps_done tt)
 close_acts _ = tt
 
-named_acts : (d : Drafted) (k : Key) (o : Option (List ℕ)) → is_word_key k ≡ true → KeepsAct false false k (table_named d o)
+named_acts : (d : Drafted) (k : Key) (o : Option (List ℕ)) → is_word_key k ≡ true → KeepsAct false false k (new_table_named d o)
 named_acts d k None e = tt
 named_acts d k (Some name) e = keeps_if false false k (is_defined name d) (refuse why.Again) (take (done name)) (λ h. tt) (λ h. keeps_word false false k (done name) e (keeps_done name))
 
@@ -198,5 +198,5 @@ unfolding new_name_at
 keeps_table_name d = keeps_chain (on_front (λ t. open_by t.key)) (λ u. chain (on_front (λ t. new_name_by d t)) (λ n. chain (on_front (λ t. angle_by t.key)) (λ v. done n)))
     (keeps_front (λ t. open_by t.key) (λ t. open_acts t.key))
     (λ u. keeps_chain (on_front (λ t. new_name_by d t)) (λ n. chain (on_front (λ t. angle_by t.key)) (λ v. done n))
-    (keeps_front (λ t. new_name_by d t) (λ t. keeps_if false false t.key (is_word_key t.key) (table_named d (name_of 31 t.text)) (refuse why.Plain) (λ e. named_acts d t.key (name_of 31 t.text) e) (λ e. tt)))
+    (keeps_front (λ t. new_name_by d t) (λ t. keeps_if false false t.key (is_word_key t.key) (new_table_named d (name_of 31 t.text)) (refuse why.Plain) (λ e. named_acts d t.key (name_of 31 t.text) e) (λ e. tt)))
     (λ n. keeps_chain (on_front (λ t. angle_by t.key)) (λ v. done n) (keeps_front (λ t. angle_by t.key) (λ t. close_acts t.key)) (λ v. keeps_done n)))

@@ -28,7 +28,7 @@ use Rattle.pfs_conf.specs.declared.progress.Progress.{Progress}
 use Rattle.pfs_conf.specs.Grammar.{names_anchor, RuleOf, AnchorOf, StatementOf}
 use Rattle.pfs_conf.specs.Faults.{Statements, none, before, Breaks, at_rule, at_anchor, at_end}
 use Rattle.pfs_conf.specs.Statements.{nothing, no_clauses, with_rule, with_anchor, with_definition, rule_breaks, anchor_breaks, text_breaks}
-use Rattle.pfs_conf.specs.Reading.{with_draft, anchor_closed, told, clause_by, clause_at, rule_text_at, rule_at, anchor_named, anchor_name_by, anchor_name_at, brace_by, brace_at, anchor_parts_at, in_head, anchor_text_at, anchor_at, set_at, open_by, angle_by, table_named, new_name_by, new_name_at, definition_at, statement_by, statement_at, all_closed, told_of, statements_at, text_at}
+use Rattle.pfs_conf.specs.Reading.{with_draft, anchor_closed, told, clause_by, clause_at, rule_text_at, rule_line_at, anchor_named, anchor_name_by, anchor_name_at, brace_by, brace_at, anchor_parts_at, in_head, anchor_text_at, anchor_at, set_at, open_by, angle_by, new_table_named, new_name_by, new_name_at, definition_at, statement_by, statement_at, all_closed, told_of, statements_at, text_at}
 use Rattle.pfs_conf.proofs.OnlineLaws.{ruled, anchored}
 use Rattle.pfs_conf.proofs.PhraseLaws.{rule_text_is, anchor_text_is, statement_is, statements_are, closed_ok}
 use Rattle.pfs_conf.proofs.UnbrokenLaws.{Unbroken, UnbrokenAct, unbroken_done, unbroken_chain, unbroken_front, unbroken_if, unbroken_once, unbroken_perhaps, unbroken_until, unbroken_ended}
@@ -96,7 +96,7 @@ close_acts : (k : Key) → UnbrokenAct (angle_by k)
 close_acts key.CloseAngle = unbroken_done tt
 close_acts _ = tt
 
-table_acts : (d : Drafted) (o : Option (List ℕ)) → UnbrokenAct (table_named d o)
+table_acts : (d : Drafted) (o : Option (List ℕ)) → UnbrokenAct (new_table_named d o)
 table_acts d None = tt
 table_acts d (Some name) = unbroken_if (is_defined name d) (refuse why.Again) (take (done name)) tt (unbroken_done name)
 
@@ -105,7 +105,7 @@ unfolding new_name_at
 unbroken_table_name d = unbroken_chain (on_front (λ t. open_by t.key)) (λ u. chain (on_front (λ t. new_name_by d t)) (λ n. chain (on_front (λ t. angle_by t.key)) (λ v. done n)))
     (unbroken_front (λ t. open_by t.key) (λ t. open_acts t.key))
     (λ u. unbroken_chain (on_front (λ t. new_name_by d t)) (λ n. chain (on_front (λ t. angle_by t.key)) (λ v. done n))
-    (unbroken_front (λ t. new_name_by d t) (λ t. unbroken_if (is_word_key t.key) (table_named d (name_of 31 t.text)) (refuse why.Plain) (table_acts d (name_of 31 t.text)) tt))
+    (unbroken_front (λ t. new_name_by d t) (λ t. unbroken_if (is_word_key t.key) (new_table_named d (name_of 31 t.text)) (refuse why.Plain) (table_acts d (name_of 31 t.text)) tt))
     (λ n. unbroken_chain (on_front (λ t. angle_by t.key)) (λ v. done n) (unbroken_front (λ t. angle_by t.key) (λ t. close_acts t.key)) (λ v. unbroken_done n)))
 
 unbroken_table : (p : Progress) → Unbroken (definition_at p)
@@ -126,9 +126,9 @@ told_of_broken (Some x) ts c n e =
     let q : x.1 ≡ n = cc in
     ap (λ (z : LoadRule). Some (z, x.1)) p ∙ ap (λ (z : ℕ). Some (c, z)) q
 
-rule_breaks_is : (line : ℕ) (p : Progress) (ts : List Tok) (c : LoadRule) (n : ℕ) → rule_at line p ts ≡ Err (broken c n)
+rule_breaks_is : (line : ℕ) (p : Progress) (ts : List Tok) (c : LoadRule) (n : ℕ) → rule_line_at line p ts ≡ Err (broken c n)
     → (r : RuleText) × (left : List Tok) × RuleOf ts r left × (rule_breaks p.draft r ≡ Some c) × (line ≡ n)
-unfolding rule_at
+unfolding rule_line_at
 rule_breaks_is line p ts c n e = elim (bind_err (rule_text_at ts) (λ x. chain (told (rule_breaks p.draft x.0) line) (λ u. done (with_rule line x.0 p)) x.1) (broken c n) e) [
   | inl h ↦ absurd (unbroken_rule_text.never ts c n h)
   | inr b ↦ elim (bind_err (told (rule_breaks p.draft b.0.0) line b.0.1) (λ x. done (with_rule line b.0.0 p) x.1) (broken c n) b.2) [

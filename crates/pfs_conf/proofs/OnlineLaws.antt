@@ -31,7 +31,7 @@ use Rattle.pfs_conf.specs.declared.phrases.AnchorText.{AnchorText}
 use Rattle.pfs_conf.specs.declared.progress.Progress.{Progress}
 use Rattle.pfs_conf.specs.Grammar.{names_anchor}
 use Rattle.pfs_conf.specs.Statements.{nothing, no_clauses, with_rule, with_anchor, with_definition, rule_breaks, anchor_breaks, text_breaks}
-use Rattle.pfs_conf.specs.Reading.{with_draft, anchor_closed, told, clause_by, clause_at, rule_text_at, rule_at, anchor_named, anchor_name_by, anchor_name_at, brace_by, brace_at, anchor_parts_at, why_in_head, in_head, anchor_text_at, anchor_at, set_at, open_by, angle_by, table_named, new_name_by, new_name_at, definition_at, statement_by, statement_at, all_closed, told_of, statements_at, text_at}
+use Rattle.pfs_conf.specs.Reading.{with_draft, anchor_closed, told, clause_by, clause_at, rule_text_at, rule_line_at, anchor_named, anchor_name_by, anchor_name_at, brace_by, brace_at, anchor_parts_at, why_in_head, in_head, anchor_text_at, anchor_at, set_at, open_by, angle_by, new_table_named, new_name_by, new_name_at, definition_at, statement_by, statement_at, all_closed, told_of, statements_at, text_at}
 
 -- ---- forms
 
@@ -118,12 +118,12 @@ rule_text_shrinks = chain_shrinks across verb_at (λ v. chain (parameters_at sta
 judged_online : (n : ℕ) (p : Progress) (r : RuleText) → Online across (chain (told (rule_breaks p.draft r) n) (λ u. done (with_rule n r p)))
 judged_online n p r = online_chain (told (rule_breaks p.draft r) n) (λ u. done (with_rule n r p)) (online_told across (rule_breaks p.draft r) n) (λ u. online_done (with_rule n r p))
 
-pub online_rule : (n : ℕ) (p : Progress) → Online across (rule_at n p)
-unfolding rule_at
+pub online_rule : (n : ℕ) (p : Progress) → Online across (rule_line_at n p)
+unfolding rule_line_at
 online_rule n p = online_chain rule_text_at (λ r. chain (told (rule_breaks p.draft r) n) (λ u. done (with_rule n r p))) online_rule_text (judged_online n p)
 
-pub rule_shrinks : (n : ℕ) (p : Progress) → Shrinks (rule_at n p)
-unfolding rule_at
+pub rule_shrinks : (n : ℕ) (p : Progress) → Shrinks (rule_line_at n p)
+unfolding rule_line_at
 rule_shrinks n p = chain_shrinks across rule_text_at (λ r. chain (told (rule_breaks p.draft r) n) (λ u. done (with_rule n r p))) rule_text_shrinks (judged_online n p)
 
 -- ---- anchors
@@ -220,9 +220,9 @@ close_taking key.CloseAngle = (refl, online_done tt)
 close_taking _ = tt
 
 table_name_taking : (d : Drafted) (t : Tok) → Taking inside t.key (new_name_by d t)
-table_name_taking d t = if_takes inside t.key (is_word_key t.key) (table_named d (name_of 31 t.text)) (refuse why.Plain) (λ e. named e (name_of 31 t.text)) (λ e. tt)
+table_name_taking d t = if_takes inside t.key (is_word_key t.key) (new_table_named d (name_of 31 t.text)) (refuse why.Plain) (λ e. named e (name_of 31 t.text)) (λ e. tt)
   where
-    named : is_word_key t.key ≡ true → (o : Option (List ℕ)) → Taking inside t.key (table_named d o)
+    named : is_word_key t.key ≡ true → (o : Option (List ℕ)) → Taking inside t.key (new_table_named d o)
     named e None = tt
     named e (Some name) = if_takes inside t.key (is_defined name d) (refuse why.Again) (take (done name)) (λ h. tt) (λ h. (word_in_line t.key e, online_done name))
 

@@ -11,7 +11,7 @@ use Rattle.pfs_conf_tokens.specs.declared.refusals.Why.TheVariants as why
 use Rattle.pfs_conf_tokens.specs.Keys.{ends_line, is_word_key}
 use Rattle.pfs_conf_tokens.specs.Grammar.{Word, Perhaps, absent, present, Until, ends, goes, UpTo}
 use Rattle.pfs_conf_tokens.specs.Giving.{Gives}
-use Rattle.pfs_conf_tokens.proofs.Laws.{chain_ok, ok_parts}
+use Rattle.pfs_conf_tokens.proofs.Laws.{chain_ok, ok_parts, not_refused}
 use Rattle.pfs_conf_tokens.proofs.ReaderLaws.{line_end_key, ends_text_key, word_is, ended_is, perhaps_is, until_is, up_to_is}
 use Rattle.pfs_conf_tokens.proofs.WordKeys.{key_of-Anchor}
 use Rattle.pfs_addr.specs.Names.{is_name, name_of}
@@ -47,7 +47,7 @@ use Rattle.pfs_conf.specs.declared.phrases.AnchorText.{AnchorText}
 use Rattle.pfs_conf.specs.declared.progress.Progress.{Progress}
 use Rattle.pfs_conf.specs.Grammar.{ClauseOf, flags, state, RuleOf, names_anchor, AnchorNameOf, unnamed, named, AnchorOf, NewTableOf, StatementOf, blank, set, table, rule, anchor, close, TextOf}
 use Rattle.pfs_conf.specs.Statements.{nothing, no_clauses, state_options, with_rule, with_anchor, with_definition, rule_breaks, anchor_breaks, text_breaks}
-use Rattle.pfs_conf.specs.Reading.{with_draft, anchor_closed, told, clause_by, clause_at, rule_text_at, rule_at, anchor_named, anchor_name_at, brace_by, brace_at, anchor_parts_at, anchor_text_at, anchor_at, set_at, open_by, angle_by, table_named, new_name_by, new_name_at, definition_at, statement_by, statement_at, all_closed, told_of, statements_at, text_at}
+use Rattle.pfs_conf.specs.Reading.{with_draft, anchor_closed, told, clause_by, clause_at, rule_text_at, rule_line_at, anchor_named, anchor_name_at, brace_by, brace_at, anchor_parts_at, anchor_text_at, anchor_at, set_at, open_by, angle_by, new_table_named, new_name_by, new_name_at, definition_at, statement_by, statement_at, all_closed, told_of, statements_at, text_at}
 use Rattle.pfs_conf.specs.Within.{AreLexed, more, IsRuleText, IsAnchorText}
 use Rattle.pfs_conf.proofs.WithinLaws.{word_lexed, name_is, flags_within, parameters_within}
 use Rattle.pfs_conf.proofs.OnlineLaws.{ruled, anchored, in_head_ok}
@@ -84,7 +84,7 @@ clause_is v p c ts d left e = by_key (head ts).key e
     by_key key.Flags h = flags_clause_is c c.flags refl ts d left h
     by_key key.No h = state_clause_is c c.state refl ts d left h
     by_key key.Keep h = state_clause_is c c.state refl ts d left h
-    by_key _ h = absurd cc
+    by_key _ h = absurd (not_refused _ _ _ h)
 
 pub rule_text_is : (ts : List Tok) (r : RuleText) (left : List Tok) → rule_text_at ts ≡ Ok (r, left) → RuleOf ts r left
 unfolding rule_text_at
@@ -141,9 +141,9 @@ told_ok : (b : Option LoadRule) (n : ℕ) (ts : List Tok) (u : Unit {0}) (left :
 told_ok None n ts u left e = (refl, (ok_parts tt u ts left e).1)
 told_ok (Some x) n ts u left e = absurd cc
 
-pub rule_is : (n : ℕ) (p : Progress) (ts : List Tok) (q : Progress) (left : List Tok) → rule_at n p ts ≡ Ok (q, left)
+pub rule_is : (n : ℕ) (p : Progress) (ts : List Tok) (q : Progress) (left : List Tok) → rule_line_at n p ts ≡ Ok (q, left)
     → (r : RuleText) × RuleOf ts r left × (rule_breaks p.draft r ≡ None) × (with_rule n r p ≡ q)
-unfolding rule_at
+unfolding rule_line_at
 rule_is n p ts q left e =
     let a = chain_ok rule_text_at (λ r. chain (told (rule_breaks p.draft r) n) (λ u. done (with_rule n r p))) ts q left e in
     let b = chain_ok (told (rule_breaks p.draft a.0) n) (λ u. done (with_rule n a.0 p)) a.1 q left a.3 in
@@ -177,7 +177,7 @@ brace_is p f ts u left e = by_key (head ts).key refl e
   where
     by_key : (k : Key) → (head ts).key ≡ k → act (brace_by p f k) ts ≡ Ok (u, left) → Word key.OpenBrace ts left
     by_key key.OpenBrace g h = subst (λ (z : List Tok). Word key.OpenBrace ts z) (ok_parts tt u (rest ts) left h).1 (word_is key.OpenBrace ts g (λ q. cc))
-    by_key _ g h = absurd cc
+    by_key _ g h = absurd (not_refused _ _ _ h)
 
 -- behind the word `anchor`
 pub anchor_parts_are : (p : Progress) (whole ts : List Tok) → Word key.Anchor whole ts → (a : AnchorText) (left : List Tok) → anchor_parts_at p ts ≡ Ok (a, left) → AnchorOf p whole a left
@@ -264,14 +264,14 @@ open_is ts u left e = by_key (head ts).key refl e
   where
     by_key : (k : Key) → (head ts).key ≡ k → act (open_by k) ts ≡ Ok (u, left) → Word key.OpenAngle ts left
     by_key key.OpenAngle g h = subst (λ (z : List Tok). Word key.OpenAngle ts z) (ok_parts tt u (rest ts) left h).1 (word_is key.OpenAngle ts g (λ q. cc))
-    by_key _ g h = absurd cc
+    by_key _ g h = absurd (not_refused _ _ _ h)
 
 close_is : (ts : List Tok) (u : Unit {0}) (left : List Tok) → on_front (λ t. angle_by t.key) ts ≡ Ok (u, left) → Word key.CloseAngle ts left
 close_is ts u left e = by_key (head ts).key refl e
   where
     by_key : (k : Key) → (head ts).key ≡ k → act (angle_by k) ts ≡ Ok (u, left) → Word key.CloseAngle ts left
     by_key key.CloseAngle g h = subst (λ (z : List Tok). Word key.CloseAngle ts z) (ok_parts tt u (rest ts) left h).1 (word_is key.CloseAngle ts g (λ q. cc))
-    by_key _ g h = absurd cc
+    by_key _ g h = absurd (not_refused _ _ _ h)
 
 -- the word that names a table
 record NameWord (d : Drafted) (ts : List Tok) (name : List ℕ) (left : List Tok) : Type 0 where
@@ -290,11 +290,11 @@ name_word_is d (t ∷ ts) name left e = may (is_word_key t.key) refl e
     new g n e true f h = absurd cc
     new g n e false f h = moved (λ us x l. NameWord d us x l) (t ∷ ts) (ok_parts n name ts left h) (record { t = t; front = refl; is_word = g; says = e; is_new = f })
 
-    by_name : is_word_key t.key ≡ true → (m : Option (List ℕ)) → name_of 31 t.text ≡ m → act (table_named d m) (t ∷ ts) ≡ Ok (name, left) → NameWord d (t ∷ ts) name left
+    by_name : is_word_key t.key ≡ true → (m : Option (List ℕ)) → name_of 31 t.text ≡ m → act (new_table_named d m) (t ∷ ts) ≡ Ok (name, left) → NameWord d (t ∷ ts) name left
     by_name g None e h = absurd cc
     by_name g (Some n) e h = new g n e (is_defined n d) refl h
 
-    may : (b : Bool) → is_word_key t.key ≡ b → act (cond b (table_named d (name_of 31 t.text)) (refuse why.Plain)) (t ∷ ts) ≡ Ok (name, left) → NameWord d (t ∷ ts) name left
+    may : (b : Bool) → is_word_key t.key ≡ b → act (cond b (new_table_named d (name_of 31 t.text)) (refuse why.Plain)) (t ∷ ts) ≡ Ok (name, left) → NameWord d (t ∷ ts) name left
     may true g h = by_name g (name_of 31 t.text) refl h
     may false g h = absurd cc
 
@@ -349,7 +349,7 @@ statement_is p ts q left e = by_key (head ts).key refl e
     by_key key.Block g h = let r = rule_is (head ts).line p ts q left h in subst (λ (z : Progress). StatementOf p ts z left) r.3 (rule r.0 r.1 r.2)
     by_key key.Anchor g h = let a = anchor_is (head ts).line p ts (rest ts) (word_is key.Anchor ts g (λ q. cc)) q left h in subst (λ (z : Progress). StatementOf p ts z left) a.5 (anchor a.0 a.2 a.3 a.4)
     by_key key.CloseBrace g h = close_case g (p.depth == 0) refl h
-    by_key _ g h = absurd cc
+    by_key _ g h = absurd (not_refused _ _ _ h)
 
 pub closed_ok : (depth : ℕ) (ts : List Tok) (u : Unit {0}) (left : List Tok) → all_closed depth ts ≡ Ok (u, left) → (depth ≡ 0) × (ts ≡ left)
 closed_ok depth ts u left e = choose (depth == 0) refl e

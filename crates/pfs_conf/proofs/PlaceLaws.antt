@@ -26,7 +26,7 @@ use Rattle.pfs_conf.specs.Stopping.{is_again, wants_number, is_left_out, kind_at
 use Rattle.pfs_conf.specs.Grammar.{StatementOf}
 use Rattle.pfs_conf.specs.Faults.{Statements, none, before}
 use Rattle.pfs_conf.specs.Statements.{nothing, no_clauses, with_rule, with_anchor, with_definition, rule_breaks, anchor_breaks, text_breaks}
-use Rattle.pfs_conf.specs.Reading.{with_draft, anchor_closed, told, clause_at, rule_text_at, rule_at, anchor_text_at, anchor_at, set_at, new_name_at, definition_at, statement_by, statement_at, all_closed, told_of, statements_at, text_at}
+use Rattle.pfs_conf.specs.Reading.{with_draft, anchor_closed, told, clause_at, rule_text_at, rule_line_at, anchor_text_at, anchor_at, set_at, new_name_at, definition_at, statement_by, statement_at, all_closed, told_of, statements_at, text_at}
 use Rattle.pfs_conf.specs.Places.{InBraces, has_braces, IsBegun, in_a_line, with_braces}
 use Rattle.pfs_conf.proofs.OnlineLaws.{online_clause, clause_shrinks, online_anchor_text, ruled}
 use Rattle.pfs_conf.proofs.PhraseLaws.{statement_is, statements_are}
@@ -81,8 +81,8 @@ rule_text_stops ts left w e =
       | inr b ↦ passes_then (online_verb.took ts b.0.0 b.0.1 b.1) (behind_verb_stops b.0.0 b.0.1 left w b.2)
     ]
 
-rule_stops : (n : ℕ) (p : Progress) (ts left : List Tok) (w : Why) → rule_at n p ts ≡ Err (stop left w) → Passes in_line ts left
-unfolding rule_at
+rule_stops : (n : ℕ) (p : Progress) (ts left : List Tok) (w : Why) → rule_line_at n p ts ≡ Err (stop left w) → Passes in_line ts left
+unfolding rule_line_at
 rule_stops n p ts left w e = elim (bind_err (rule_text_at ts) (λ x. chain (told (rule_breaks p.draft x.0) n) (λ u. done (with_rule n x.0 p)) x.1) (stop left w) e) [
   | inl h ↦ rule_text_stops ts left w h
   | inr b ↦ elim (bind_err (told (rule_breaks p.draft b.0.0) n b.0.1) (λ y. done (with_rule n b.0.0 p) y.1) (stop left w) b.2) [

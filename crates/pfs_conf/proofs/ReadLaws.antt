@@ -35,7 +35,7 @@ use Rattle.pfs_conf.specs.declared.phrases.AnchorText.{AnchorText}
 use Rattle.pfs_conf.specs.declared.progress.Progress.{Progress}
 use Rattle.pfs_conf.specs.Grammar.{ClauseOf, flags, state, RuleOf, names_anchor, AnchorNameOf, unnamed, named, AnchorOf, NewTableOf, StatementOf, blank, set, table, rule, anchor, close, TextOf}
 use Rattle.pfs_conf.specs.Statements.{nothing, with_rule, with_anchor, with_definition, rule_breaks, anchor_breaks, text_breaks}
-use Rattle.pfs_conf.specs.Reading.{with_draft, anchor_closed, clause_at, rule_text_at, rule_at, anchor_name_at, brace_at, anchor_parts_at, in_head, anchor_text_at, anchor_at, set_at, new_name_at, definition_at, statement_at, statements_at, text_at}
+use Rattle.pfs_conf.specs.Reading.{with_draft, anchor_closed, clause_at, rule_text_at, rule_line_at, anchor_name_at, brace_at, anchor_parts_at, in_head, anchor_text_at, anchor_at, set_at, new_name_at, definition_at, statement_at, statements_at, text_at}
 use Rattle.pfs_conf.proofs.OnlineLaws.{clause_shrinks, statement_shrinks}
 
 -- ---- rules
@@ -72,12 +72,12 @@ rule_text_reads {r = r} q =
     let behind_parameters = clauses_head (λ k. ends_parameters k ≡ true) refl refl refl refl q.clauses in
     rw (verb_reads q.verb behind_verb, parameters_read statement.Rule q.parameters behind_parameters, until_reads (clauses_read r.verb r.parameters) q.clauses) refl
 
-pub rule_reads : (n : ℕ) (p : Progress) {ts : List Tok} (r : RuleText) {left : List Tok} → RuleOf ts r left → rule_breaks p.draft r ≡ None → rule_at n p ts ≡ Ok (with_rule n r p, left)
-unfolding rule_at
+pub rule_reads : (n : ℕ) (p : Progress) {ts : List Tok} (r : RuleText) {left : List Tok} → RuleOf ts r left → rule_breaks p.draft r ≡ None → rule_line_at n p ts ≡ Ok (with_rule n r p, left)
+unfolding rule_line_at
 rule_reads n p r q e = rw (rule_text_reads q, e) refl
 
-pub rule_told : (n : ℕ) (p : Progress) {ts : List Tok} (r : RuleText) {left : List Tok} (b : LoadRule) → RuleOf ts r left → rule_breaks p.draft r ≡ Some b → rule_at n p ts ≡ Err (broken b n)
-unfolding rule_at
+pub rule_told : (n : ℕ) (p : Progress) {ts : List Tok} (r : RuleText) {left : List Tok} (b : LoadRule) → RuleOf ts r left → rule_breaks p.draft r ≡ Some b → rule_line_at n p ts ≡ Err (broken b n)
+unfolding rule_line_at
 rule_told n p r b q e = rw (rule_text_reads q, e) refl
 
 -- ---- anchors
@@ -173,11 +173,11 @@ pub verb_key : {ts left : List Tok} {v : Verb} → VerbOf ts v left → (Q : Key
 verb_key (pass w) Q a b = subst Q (sym (word_head w).0) a
 verb_key (block w p) Q a b = subst Q (sym (word_head w).0) b
 
-at_rule : (p : Progress) (ts : List Tok) (k : Key) → (head ts).key ≡ k → (res : Result (Progress × List Tok) Refused) → rule_at (head ts).line p ts ≡ res → (k ≡ key.Pass → statement_at p ts ≡ res) × (k ≡ key.Block → statement_at p ts ≡ res)
+at_rule : (p : Progress) (ts : List Tok) (k : Key) → (head ts).key ≡ k → (res : Result (Progress × List Tok) Refused) → rule_line_at (head ts).line p ts ≡ res → (k ≡ key.Pass → statement_at p ts ≡ res) × (k ≡ key.Block → statement_at p ts ≡ res)
 unfolding statement_at
 at_rule p ts k g res e = (λ h. rw (g ∙ h) e, λ h. rw (g ∙ h) e)
 
-pub rule_statement : (p : Progress) {ts left : List Tok} {v : Verb} → VerbOf ts v left → (res : Result (Progress × List Tok) Refused) → rule_at (head ts).line p ts ≡ res → statement_at p ts ≡ res
+pub rule_statement : (p : Progress) {ts left : List Tok} {v : Verb} → VerbOf ts v left → (res : Result (Progress × List Tok) Refused) → rule_line_at (head ts).line p ts ≡ res → statement_at p ts ≡ res
 rule_statement p {ts = ts} (pass w) res e = (at_rule p ts key.Pass (word_head w).0 res e).0 refl
 rule_statement p {ts = ts} (block w q) res e = (at_rule p ts key.Block (word_head w).0 res e).1 refl
 

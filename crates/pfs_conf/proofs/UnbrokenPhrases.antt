@@ -29,15 +29,15 @@ use Rattle.pfs_conf_filters.specs.Values.{in_word, in_plain_word, interface_name
 use Rattle.pfs_conf_filters.specs.Reading.{valued, value_at, behind, clause, part, begins_dir, begins_on, begins_family, begins_proto, begins_from, begins_to, begins_port, begins_flags, interface_at, host_table_at, policy_by, policy_at, verb_by, verb_at, dir_by, dir_at, log_item_by, log_item_at, log_list_by, log_list_at, log_by, log_at, quick_by, quick_at, marked, marks_by, marks_at, negation_by, negation_at, interface, on_at, on_part_at, family_by, family_part_at, proto_at, proto_part_at, head_at, close_by, close_at, place_by, place_at, host_by, host_at, equals_by, equals_at, ports_at, ports_part_at, side_host_by, side_host_at, side, side_at, from_part_at, to_part_at, all_hosts, given_hosts, hosts_by, hosts_at, parameters_at, flags_at}
 use Rattle.pfs_conf_options.specs.Options.{none_given, rule_place}
 use Rattle.pfs_conf_options.specs.Reading as option_reading
-use Rattle.pfs_conf_options.specs.Reading.{track_by, track_at, rate_of, rate_found, rate_by, rate_at, name_found, table_name_by, name_closed_by, name_closed, table_by, table_at, flushed_by, flush_by, flush_at, overload_at, mark_once, timeout_by, mark_by, connection_by, option_by, option_at, options_at, kept_by, kept_at, kept_clause, behind_state, state_word, state_by, state_at}
+use Rattle.pfs_conf_options.specs.Reading.{track_by, track_at, rate_of, rate_found, rate_by, rate_at, name_found, table_name_by, name_closed_by, name_closed, table_by, table_at, flushed_by, flush_by, flush_at, overload_text_at, mark_once, timeout_by, mark_by, connection_by, option_by, option_at, state_options_at, kept_by, kept_at, kept_clause, behind_state, state_word, state_by, state_at}
 use Rattle.pfs_conf_options.specs.declared.clauses.Track.TheVariants as track
 use Rattle.pfs_conf_options.specs.declared.clauses.Options.{Options}
 use Rattle.pfs_conf_options.specs.declared.clauses.StateClause.{StateClause}
 use Rattle.pfs_conf_options.specs.declared.clauses.StateClause.TheVariants as state_clause
 use Rattle.pfs_conf_settings.specs.Settings as setting
-use Rattle.pfs_conf_settings.specs.Settings.{timeout_named, limited, limit_by, limit_at, least_value, greatest_value, unkept, timed, time_by, time_at, lined_limit_at, lined_time_at, limits_by, limits_at, times_by, times_at, settings_by, settings_at}
+use Rattle.pfs_conf_settings.specs.Settings.{timeout_named, limited, limit_by, set_limit_at, least_value, greatest_value, unkept, timed, time_by, time_at, lined_limit_at, lined_time_at, limits_by, limits_at, times_by, times_at, settings_by, settings_at}
 use Rattle.pfs_conf_settings.specs.Tables as tables
-use Rattle.pfs_conf_settings.specs.Tables.{again, joined, entered, entry_by, entry_at, lined_entry_at, entries_by, entries_at, unless, part_by, part_at, parts_at}
+use Rattle.pfs_conf_settings.specs.Tables.{again, entry_joined, entered, entry_by, entry_at, lined_entry_at, entries_by, braced_entries_at, unless, part_by, part_at, parts_at}
 use Rattle.pfs_conf_settings.specs.TableGrammar.{no_parts}
 use Rattle.pfs_conf_settings.specs.declared.tables.Parts.{Parts}
 use Rattle.pfs_conf.proofs.UnbrokenLaws.{Unbroken, UnbrokenAct, unbroken_done, unbroken_chain, unbroken_front, unbroken_if, unbroken_once, unbroken_perhaps, unbroken_up_to, unbroken_list, unbroken_skipping, unbroken_number}
@@ -317,8 +317,8 @@ unbroken_flush : Unbroken flush_at
 unfolding flush_at
 unbroken_flush = unbroken_front (λ t. flush_by t.key) (λ t. flush_acts t.key)
 
-unbroken_overload : Unbroken overload_at
-unfolding overload_at
+unbroken_overload : Unbroken overload_text_at
+unfolding overload_text_at
 unbroken_overload = unbroken_chain table_at _ unbroken_option_table (λ name. unbroken_chain flush_at _ unbroken_flush (λ f. unbroken_done (record { table = name; flush = f })))
 
 timeout_acts : (o : Options) (place : Option ℕ) → UnbrokenAct (timeout_by place o)
@@ -338,7 +338,7 @@ mark_acts o k = timeout_acts o (rule_place k)
 connection_acts : (o : Options) (k : Key) → UnbrokenAct (connection_by k o)
 connection_acts o key.MaxSrcConn = unbroken_once o.max_src_conn _ (unbroken_chain (number_at 1 4294967295) _ (unbroken_number 1 4294967295) (λ n. unbroken_done (record o { max_src_conn = Some n })))
 connection_acts o key.MaxSrcConnRate = unbroken_once o.max_src_conn_rate _ (unbroken_chain rate_at _ unbroken_rate (λ r. unbroken_done (record o { max_src_conn_rate = Some r })))
-connection_acts o key.Overload = unbroken_once o.overload _ (unbroken_chain overload_at _ unbroken_overload (λ v. unbroken_done (record o { overload = Some v })))
+connection_acts o key.Overload = unbroken_once o.overload _ (unbroken_chain overload_text_at _ unbroken_overload (λ v. unbroken_done (record o { overload = Some v })))
 connection_acts o k = mark_acts o k
 
 option_acts : (o : Options) (k : Key) → UnbrokenAct (option_by k o)
@@ -352,8 +352,8 @@ unbroken_option : (o : Options) → Unbroken (option_at o)
 unfolding option_at
 unbroken_option o = unbroken_front (λ t. option_by t.key o) (λ t. option_acts o t.key)
 
-unbroken_options : Unbroken options_at
-unfolding options_at
+unbroken_options : Unbroken state_options_at
+unfolding state_options_at
 unbroken_options = unbroken_list closes_parens option_at unbroken_option none_given
 
 kept_acts : (k : Key) → UnbrokenAct (kept_by k)
@@ -398,8 +398,8 @@ limit_acts lined d key.TableEntries = limited_acts lined limit.TableEntries d
 limit_acts lined d key.Frags = unbroken_chain (setting.bounded_at lined 1 4294967295) _ (unbroken_setting lined 1 4294967295) (λ n. unbroken_done d)
 limit_acts lined d _ = tt
 
-unbroken_limit : (lined : Bool) (d : Drafted) → Unbroken (limit_at lined d)
-unfolding limit_at
+unbroken_limit : (lined : Bool) (d : Drafted) → Unbroken (set_limit_at lined d)
+unfolding set_limit_at
 unbroken_limit lined d = unbroken_front (λ t. limit_by lined d t.key) (λ t. limit_acts lined d t.key)
 
 timed_acts : (lined : Bool) (d : Drafted) (o : Option TimeoutName) → UnbrokenAct (timed lined d o)
@@ -425,7 +425,7 @@ unbroken_lines_behind d = unbroken_skipping (done d) (unbroken_done d)
 
 unbroken_lined_limit : (d : Drafted) → Unbroken (lined_limit_at d)
 unfolding lined_limit_at
-unbroken_lined_limit d = unbroken_skipping (chain (limit_at true d) (λ e. skipping (done e))) (unbroken_chain (limit_at true d) (λ e. skipping (done e)) (unbroken_limit true d) unbroken_lines_behind)
+unbroken_lined_limit d = unbroken_skipping (chain (set_limit_at true d) (λ e. skipping (done e))) (unbroken_chain (set_limit_at true d) (λ e. skipping (done e)) (unbroken_limit true d) unbroken_lines_behind)
 
 unbroken_lined_time : (d : Drafted) → Unbroken (lined_time_at d)
 unfolding lined_time_at
@@ -472,7 +472,7 @@ again_acts entries true false = tt
 again_acts entries false true = tt
 again_acts entries false false = unbroken_done entries
 
-joined_acts : (entries : List Entry) (negated : Bool) (p : Network) (o : Option Bool) → UnbrokenAct (joined entries negated p o)
+joined_acts : (entries : List Entry) (negated : Bool) (p : Network) (o : Option Bool) → UnbrokenAct (entry_joined entries negated p o)
 joined_acts entries negated p None = unbroken_done _
 joined_acts entries negated p (Some held) = again_acts entries negated held
 
@@ -497,8 +497,8 @@ entries_acts : (k : Key) → UnbrokenAct (entries_by k)
 entries_acts key.CloseBrace = unbroken_done []
 entries_acts _ = unbroken_list closes_braces lined_entry_at unbroken_lined_entry []
 
-unbroken_entries : Unbroken entries_at
-unfolding entries_at
+unbroken_entries : Unbroken braced_entries_at
+unfolding braced_entries_at
 unbroken_entries = unbroken_skipping _ (unbroken_front (λ t. entries_by t.key) (λ t. entries_acts t.key))
 
 unless_acts : {A : Type 0} (b : Bool) (a : Act A) → UnbrokenAct a → UnbrokenAct (unless b a)
@@ -509,7 +509,7 @@ part_acts : (p : Parts) (k : Key) → UnbrokenAct (part_by p k)
 part_acts p key.Persist = unless_acts p.persist _ (unbroken_done (record p { persist = true }))
 part_acts p key.Const = unless_acts p.is_const _ (unbroken_done (record p { is_const = true }))
 part_acts p key.Counters = unless_acts p.counters _ (unbroken_done (record p { counters = true }))
-part_acts p key.OpenBrace = unbroken_once p.entries _ (unbroken_chain entries_at _ unbroken_entries (λ entries. unbroken_done (record p { entries = Some entries })))
+part_acts p key.OpenBrace = unbroken_once p.entries _ (unbroken_chain braced_entries_at _ unbroken_entries (λ entries. unbroken_done (record p { entries = Some entries })))
 part_acts p _ = tt
 
 unbroken_table_part : (p : Parts) → Unbroken (part_at p)

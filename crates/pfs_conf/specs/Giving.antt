@@ -15,6 +15,6 @@ Comes (Err error.Memory) left p read = Unit {0}
 Comes (Err (error.Refused e)) left p read = read ≡ Err (refused e left)
 
 -- the next item may stand as deep as this
-pub record IsInOrder (p : Progress) : Type 0 where
+pub record IsAtDepth (p : Progress) : Type 0 where
   pub order : p.depth ≤ depth_after 0 p.draft.items
   pub shallow : p.depth ≤ 16

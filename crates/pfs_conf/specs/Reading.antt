@@ -64,8 +64,8 @@ rule_text_at ts = chain verb_at (λ v. chain (parameters_at statement.Rule) (λ 
     done (record { verb = v; parameters = p; clauses = c })))) ts
 
 -- a rule that begins on a line; its load rules are asked when its line end has been read
-unfoldable pub rule_at : ℕ → Progress → Reader Progress
-rule_at line p ts = chain rule_text_at (λ r. chain (told (rule_breaks p.draft r) line) (λ u. done (with_rule line r p))) ts
+unfoldable pub rule_line_at : ℕ → Progress → Reader Progress
+rule_line_at line p ts = chain rule_text_at (λ r. chain (told (rule_breaks p.draft r) line) (λ u. done (with_rule line r p))) ts
 
 -- ---- anchors
 
@@ -138,12 +138,12 @@ angle_by _ = refuse why.Plain
 abbrev pub new_table : Drafted → List ℕ → Act (List ℕ)
 new_table d name = if is_defined name d then refuse why.Again else take (done name)
 
-abbrev pub table_named : Drafted → Option (List ℕ) → Act (List ℕ)
-table_named d None = refuse why.Plain
-table_named d (Some name) = new_table d name
+abbrev pub new_table_named : Drafted → Option (List ℕ) → Act (List ℕ)
+new_table_named d None = refuse why.Plain
+new_table_named d (Some name) = new_table d name
 
 abbrev pub new_name_by : Drafted → Tok → Act (List ℕ)
-new_name_by d t = if is_word_key t.key then table_named d (name_of 31 t.text) else refuse why.Plain
+new_name_by d t = if is_word_key t.key then new_table_named d (name_of 31 t.text) else refuse why.Plain
 
 -- a name in angle brackets
 unfoldable pub new_name_at : Drafted → Reader (List ℕ)
@@ -166,8 +166,8 @@ abbrev pub statement_by : Progress → ℕ → Key → Act Progress
 statement_by p line key.LineEnd = take (done p)
 statement_by p line key.Set = outside p.depth (take (set_at p))
 statement_by p line key.Table = outside p.depth (take (definition_at p))
-statement_by p line key.Pass = stay (rule_at line p)
-statement_by p line key.Block = stay (rule_at line p)
+statement_by p line key.Pass = stay (rule_line_at line p)
+statement_by p line key.Block = stay (rule_line_at line p)
 statement_by p line key.Anchor = take (anchor_at line p)
 statement_by p line key.CloseBrace = inside_anchor p.depth (take (ended (anchor_closed p)))
 statement_by p line _ = refuse why.Statement

@@ -6,7 +6,7 @@ ghost use Rattle.pfs_conf_rules.specs.Order.{repeats_by};
 ghost use Rattle.pfs_conf.specs.Grammar.{names_anchor};
 ghost use Rattle.pfs_conf.specs.Statements.{anchor_breaks, with_anchor};
 ghost use Rattle.pfs_conf.specs.Reading.{anchor_at, anchor_name_at, anchor_parts_at, anchor_text_at, brace_at, repeats_head};
-ghost use Rattle.pfs_conf.specs.Giving.{Comes, IsInOrder};
+ghost use Rattle.pfs_conf.specs.Giving.{Comes, IsAtDepth};
 ghost use Rattle.pfs_conf.specs.Within.{AreLexed, IsAnchorText};
 
 use crate::breaking::anchor_breaks;
@@ -23,9 +23,9 @@ use pfs_conf_tokens::{Cursor, Key, ReadError, Refusal, Why};
 #[tactic(auto, unfolding(crate::specs::Reading::anchor_at))]
 pub fn anchor(cursor: &mut Cursor, progress: &mut Progress, line: u64) -> Result<(), ReadError>
     requires lexed { AreLexed cursor.old }
-    requires order { IsInOrder progress.old }
+    requires order { IsAtDepth progress.old }
     ensures value { Comes result cursor.new progress.new (anchor_at line progress.old cursor.old) }
-    ensures order { OnOk result (IsInOrder progress.new) }
+    ensures order { OnOk result (IsAtDepth progress.new) }
 {
     let text = match anchor_text(cursor, progress) {
         Ok(text) => text,
@@ -44,11 +44,11 @@ pub fn anchor(cursor: &mut Cursor, progress: &mut Progress, line: u64) -> Result
 /// Puts an anchor behind the other items; what follows stands in it.
 fn push_anchor(progress: &mut Progress, line: u64, text: &AnchorText) -> Result<(), NoMemory>
     requires text { IsAnchorText text.now }
-    requires order { IsInOrder progress.old }
+    requires order { IsAtDepth progress.old }
     requires keeps { anchor_breaks progress.old.depth progress.old.draft text.now ≡ None }
     requires name { repeats_by progress.old.depth text.now.name progress.old.draft.items ≡ false }
     ensures ok { OnOk result (progress.new ≡ with_anchor line text.now progress.old) }
-    ensures order { OnOk result (IsInOrder progress.new) }
+    ensures order { OnOk result (IsAtDepth progress.new) }
 {
     match number_anchor(&mut progress.draft, text) {
         Ok(anchor) => progress.draft.push_anchor(progress.depth, anchor)?,

@@ -5,7 +5,7 @@ ghost use Rattle.pfs_conf_tokens.specs.Giving.{Gives};
 ghost use Rattle.pfs_addr.specs.Names.{is_name};
 ghost use Rattle.pfs_conf.specs.Statements.{with_definition};
 ghost use Rattle.pfs_conf.specs.Reading.{set_at, definition_at, new_name_at};
-ghost use Rattle.pfs_conf.specs.Giving.{Comes, IsInOrder};
+ghost use Rattle.pfs_conf.specs.Giving.{Comes, IsAtDepth};
 
 use crate::progress::Progress;
 use pfs_addr::{Name, NoMemory};
@@ -18,7 +18,7 @@ use std::alloc::Global;
 #[tactic(auto, using(crate::proofs::OrderLaws::outside_in_order), unfolding(crate::specs::Reading::set_at))]
 pub fn set(cursor: &mut Cursor, progress: &mut Progress) -> Result<(), ReadError>
     requires outside { progress.old.depth ≡ 0 }
-    ensures order { IsInOrder progress.new }
+    ensures order { IsAtDepth progress.new }
     ensures value { Comes result cursor.new progress.new (set_at progress.old cursor.old) }
 {
     read_settings(cursor, &mut progress.draft)?;
@@ -30,7 +30,7 @@ pub fn set(cursor: &mut Cursor, progress: &mut Progress) -> Result<(), ReadError
 #[tactic(auto, using(crate::proofs::OrderLaws::outside_in_order), unfolding(crate::specs::Reading::definition_at))]
 pub fn table(alloc: Global, cursor: &mut Cursor, progress: &mut Progress) -> Result<(), ReadError>
     requires outside { progress.old.depth ≡ 0 }
-    ensures order { IsInOrder progress.new }
+    ensures order { IsAtDepth progress.new }
     ensures value { Comes result cursor.new progress.new (definition_at progress.old cursor.old) }
 {
     let name = table_name(cursor, &progress.draft)?;

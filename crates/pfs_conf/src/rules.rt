@@ -5,8 +5,8 @@ ghost use Rattle.pfs_conf_tokens.specs.Keys.{ends_line};
 ghost use Rattle.pfs_conf_tokens.specs.Reading.{until_all};
 ghost use Rattle.pfs_conf_tokens.specs.Giving.{Gives};
 ghost use Rattle.pfs_conf.specs.Statements.{no_clauses, rule_breaks, with_rule};
-ghost use Rattle.pfs_conf.specs.Reading.{clause_at, rule_text_at, rule_at};
-ghost use Rattle.pfs_conf.specs.Giving.{Comes, IsInOrder};
+ghost use Rattle.pfs_conf.specs.Reading.{clause_at, rule_text_at, rule_line_at};
+ghost use Rattle.pfs_conf.specs.Giving.{Comes, IsAtDepth};
 ghost use Rattle.pfs_conf.specs.Within.{AreLexed, IsRuleText};
 
 use crate::breaking::rule_breaks;
@@ -19,12 +19,12 @@ use pfs_conf_options::state_clause;
 use pfs_conf_tokens::{Cursor, Key, ReadError, Refusal, Why};
 
 /// Reads a rule that begins on this line. Its load rules are asked when its line end has been read. (pf.conf(5), PACKET FILTERING)
-#[tactic(auto, unfolding(crate::specs::Reading::rule_at))]
+#[tactic(auto, unfolding(crate::specs::Reading::rule_line_at))]
 pub fn rule(cursor: &mut Cursor, progress: &mut Progress, line: u64) -> Result<(), ReadError>
     requires lexed { AreLexed cursor.old }
-    requires order { IsInOrder progress.old }
-    ensures value { Comes result cursor.new progress.new (rule_at line progress.old cursor.old) }
-    ensures order { OnOk result (IsInOrder progress.new) }
+    requires order { IsAtDepth progress.old }
+    ensures value { Comes result cursor.new progress.new (rule_line_at line progress.old cursor.old) }
+    ensures order { OnOk result (IsAtDepth progress.new) }
 {
     let text = match rule_text(cursor) {
         Ok(text) => text,
@@ -42,10 +42,10 @@ pub fn rule(cursor: &mut Cursor, progress: &mut Progress, line: u64) -> Result<(
 /// Puts a rule behind the other items.
 fn push_rule(progress: &mut Progress, line: u64, text: &RuleText) -> Result<(), NoMemory>
     requires text { IsRuleText text.now }
-    requires order { IsInOrder progress.old }
+    requires order { IsAtDepth progress.old }
     requires keeps { rule_breaks progress.old.draft text.now ≡ None }
     ensures ok { OnOk result (progress.new ≡ with_rule line text.now progress.old) }
-    ensures order { OnOk result (IsInOrder progress.new) }
+    ensures order { OnOk result (IsAtDepth progress.new) }
 {
     match number_rule(&mut progress.draft, text) {
         Ok(rule) => progress.draft.push_rule(progress.depth, rule)?,

@@ -4,7 +4,7 @@ ghost use Rattle.std.specs.Prelude.{◌≡◌, ◌≤◌, OnOk};
 ghost use Rattle.pfs_conf_tokens.specs.Giving.{GivesOrMemory};
 ghost use Rattle.pfs_conf_tokens.specs.Reading.{ended};
 ghost use Rattle.pfs_conf.specs.Reading.{anchor_closed, statement_at, statements_at, text_at};
-ghost use Rattle.pfs_conf.specs.Giving.{Comes, IsInOrder};
+ghost use Rattle.pfs_conf.specs.Giving.{Comes, IsAtDepth};
 ghost use Rattle.pfs_conf.specs.Within.{AreLexed};
 
 use crate::anchors::anchor;
@@ -48,9 +48,9 @@ fn statements(alloc: Global, cursor: &mut Cursor) -> Result<Progress, ReadError>
 #[tactic(auto, unfolding(crate::specs::Reading::statement_at))]
 fn statement(alloc: Global, cursor: &mut Cursor, progress: &mut Progress) -> Result<(), ReadError>
     requires lexed { AreLexed cursor.old }
-    requires order { IsInOrder progress.old }
+    requires order { IsAtDepth progress.old }
     ensures value { Comes result cursor.new progress.new (statement_at progress.old cursor.old) }
-    ensures order { OnOk result (IsInOrder progress.new) }
+    ensures order { OnOk result (IsAtDepth progress.new) }
 {
     let line = cursor.line();
     match cursor.key() {

@@ -10,7 +10,7 @@ use Rattle.pfs_conf_tokens.specs.declared.keys.Key.{Key}
 use Rattle.pfs_conf_tokens.specs.declared.keys.Key.TheVariants as key
 use Rattle.pfs_conf_tokens.specs.declared.refusals.Why.{Why}
 use Rattle.pfs_conf_tokens.specs.declared.refusals.Why.TheVariants as why
-use Rattle.pfs_conf_tokens.proofs.Laws.{ok_parts, chain_ok}
+use Rattle.pfs_conf_tokens.proofs.Laws.{ok_parts, chain_ok, not_refused}
 use Rattle.pfs_conf_tokens.proofs.ReaderLaws.{closes_parens_key, word_is, perhaps_is, list_is}
 use Rattle.pfs_addr.specs.Protocols.{proto_in}
 use Rattle.pfs_addr.specs.Texts.{prefix_of}
@@ -142,7 +142,7 @@ verb_is ts x left e = by_key (head ts).key refl e
     by_key key.Block g h =
         let c = chain_ok policy_at (λ p. done (verb.Block p)) (rest ts) x left h in
         moved VerbOf ts (ok_parts (verb.Block c.0) x c.1 left c.3) (block (word_is key.Block ts g (λ q. cc)) (policy_is (rest ts) c.0 c.1 c.2))
-    by_key _ g h = absurd cc
+    by_key _ g h = absurd (not_refused _ _ _ h)
 
 -- ---- direction, log and quick
 
@@ -152,7 +152,7 @@ dir_word_is ts x left e = by_key (head ts).key refl e
     by_key : (k : Key) → (head ts).key ≡ k → act (dir_by k) ts ≡ Ok (x, left) → DirOf ts x left
     by_key key.In g h = moved DirOf ts (ok_parts dir.In x (rest ts) left h) (inward (word_is key.In ts g (λ q. cc)))
     by_key key.Out g h = moved DirOf ts (ok_parts dir.Out x (rest ts) left h) (outward (word_is key.Out ts g (λ q. cc)))
-    by_key _ g h = absurd cc
+    by_key _ g h = absurd (not_refused _ _ _ h)
 
 pub dir_is : (ts : List Tok) (o : Option Dir) (left : List Tok) → dir_at ts ≡ Ok (o, left) → Perhaps DirOf ts o left
 unfolding dir_at
@@ -169,7 +169,7 @@ log_item_is u ts v left e = by_key (head ts).key refl e
     by_key key.To g h =
         let c = chain_ok interface_at (λ n. done tt) (rest ts) v left h in
         moved (LogItemOf u) ts (ok_parts tt v c.1 left c.3) (to (word_is key.To ts g (λ q. cc)) (interface_name_is (rest ts) c.0 c.1 c.2))
-    by_key _ g h = absurd cc
+    by_key _ g h = absurd (not_refused _ _ _ h)
 
 log_list_is : (ts : List Tok) (u : Unit {0}) (left : List Tok) → log_list_at ts ≡ Ok (u, left) → LogListOf ts left
 unfolding log_list_at
@@ -245,7 +245,7 @@ family_word_is ts x left e = by_key (head ts).key refl e
     by_key : (k : Key) → (head ts).key ≡ k → act (family_by k) ts ≡ Ok (x, left) → FamilyOf ts x left
     by_key key.Inet g h = moved FamilyOf ts (ok_parts family.Inet x (rest ts) left h) (inet (word_is key.Inet ts g (λ q. cc)))
     by_key key.Inet6 g h = moved FamilyOf ts (ok_parts family.Inet6 x (rest ts) left h) (inet6 (word_is key.Inet6 ts g (λ q. cc)))
-    by_key _ g h = absurd cc
+    by_key _ g h = absurd (not_refused _ _ _ h)
 
 family_part_is : (ts : List Tok) (o : Option Family) (left : List Tok) → family_part_at ts ≡ Ok (o, left) → Perhaps FamilyOf ts o left
 unfolding family_part_at
@@ -290,7 +290,7 @@ close_is ts u left e = by_key (head ts).key refl e
   where
     by_key : (k : Key) → (head ts).key ≡ k → act (close_by k) ts ≡ Ok (u, left) → Word key.CloseAngle ts left
     by_key key.CloseAngle g h = let p = ok_parts tt u (rest ts) left h in subst (λ (z : List Tok). Word key.CloseAngle ts z) p.1 (word_is key.CloseAngle ts g (λ q. cc))
-    by_key _ g h = absurd cc
+    by_key _ g h = absurd (not_refused _ _ _ h)
 
 place_is : (whole : List Tok) (b : Bool) (ts : List Tok) → NegationOf whole b ts → (x : Host (List ℕ)) (left : List Tok) → place_at b ts ≡ Ok (x, left) → HostOf whole x left
 unfolding place_at

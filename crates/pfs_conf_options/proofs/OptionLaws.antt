@@ -18,7 +18,7 @@ use Rattle.pfs_conf_options.specs.declared.clauses.StateClause.{StateClause}
 use Rattle.pfs_conf_options.specs.declared.clauses.StateClause.TheVariants as clause
 use Rattle.pfs_conf_options.specs.Options.{none_given, rule_place}
 use Rattle.pfs_conf_rules.specs.Bounds.{greatest_timeout}
-use Rattle.pfs_conf_options.specs.Reading.{track_by, track_at, rate_of, rate_found, rate_by, rate_at, name_found, table_name_by, table_name_at, name_closed_by, name_closed, table_by, table_at, flushed_by, flush_by, flush_at, overload_at, mark_once, timeout_by, mark_by, connection_by, option_by, option_at, options_at, kept_by, kept_at, kept_clause, behind_state, state_word, state_by, state_at}
+use Rattle.pfs_conf_options.specs.Reading.{track_by, track_at, rate_of, rate_found, rate_by, rate_at, name_found, table_name_by, table_name_at, name_closed_by, name_closed, table_by, table_at, flushed_by, flush_by, flush_at, overload_text_at, mark_once, timeout_by, mark_by, connection_by, option_by, option_at, state_options_at, kept_by, kept_at, kept_clause, behind_state, state_word, state_by, state_at}
 
 -- ---- what stands behind an option's word
 
@@ -82,8 +82,8 @@ pub online_flush : Online inside flush_at
 unfolding flush_at
 online_flush = online_front (λ t. flush_by t.key) (λ t. flush_acts t.key)
 
-pub online_overload : Online inside overload_at
-unfolding overload_at
+pub online_overload : Online inside overload_text_at
+unfolding overload_text_at
 online_overload =
     online_chain table_at _ online_table (λ name.
     online_chain flush_at _ online_flush (λ f.
@@ -125,7 +125,7 @@ mark_taking o k = timeout_taking k o (rule_place k) refl
 connection_taking : (o : Options) (k : Key) → Taking inside k (connection_by k o)
 connection_taking o key.MaxSrcConn = once_taking inside key.MaxSrcConn o.max_src_conn _ (refl, online_chain (number_at 1 4294967295) _ (online_number 1 4294967295) (λ n. online_done (record o { max_src_conn = Some n })))
 connection_taking o key.MaxSrcConnRate = once_taking inside key.MaxSrcConnRate o.max_src_conn_rate _ (refl, online_chain rate_at _ online_rate (λ r. online_done (record o { max_src_conn_rate = Some r })))
-connection_taking o key.Overload = once_taking inside key.Overload o.overload _ (refl, online_chain overload_at _ online_overload (λ v. online_done (record o { overload = Some v })))
+connection_taking o key.Overload = once_taking inside key.Overload o.overload _ (refl, online_chain overload_text_at _ online_overload (λ v. online_done (record o { overload = Some v })))
 connection_taking o k = mark_taking o k
 
 option_taking : (o : Options) (k : Key) → Taking inside k (option_by k o)
@@ -150,8 +150,8 @@ closing : (k : Key) → closes_parens k ≡ true → in_line k ≡ true
 closing key.CloseParen e = refl
 closing _ e = absurd cc
 
-pub online_options : Online inside options_at
-unfolding options_at
+pub online_options : Online inside state_options_at
+unfolding state_options_at
 online_options = online_list closes_parens option_at closing option_shrinks online_option none_given
 
 -- ---- the clause

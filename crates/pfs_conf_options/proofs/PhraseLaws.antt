@@ -12,7 +12,7 @@ use Rattle.pfs_conf_tokens.specs.declared.refusals.Why.TheVariants as why
 use Rattle.pfs_conf_tokens.specs.Keys.{is_word_key}
 use Rattle.pfs_conf_tokens.specs.Numbers.{number_written, split_around}
 use Rattle.pfs_conf_tokens.specs.Grammar.{WordOf, Word, Number, ListOf}
-use Rattle.pfs_conf_tokens.proofs.Laws.{ok_parts, chain_ok}
+use Rattle.pfs_conf_tokens.proofs.Laws.{ok_parts, chain_ok, not_refused}
 use Rattle.pfs_conf_tokens.proofs.ReaderLaws.{word_head, word_is, number_is, number_reads, list_is, list_reads, ReadsList, no_comma}
 use Rattle.pfs_addr.specs.Names.{name_of}
 use Rattle.pfs_conf_rules.specs.Bounds.{greatest_timeout}
@@ -27,7 +27,7 @@ use Rattle.pfs_conf_options.specs.declared.clauses.StateClause.{StateClause}
 use Rattle.pfs_conf_options.specs.declared.clauses.StateClause.TheVariants as clause
 use Rattle.pfs_conf_options.specs.Options.{none_given, rule_place}
 use Rattle.pfs_conf_options.specs.Grammar.{TrackOf, bare, rule, global, IsRateText, RateOf, TableOf, FlushOf, nothing, own, all, OverloadOf, OptionOf, max, source_track, max_src_nodes, max_src_states, max_src_conn, max_src_conn_rate, overload, sloppy, floating, no_sync, timeout, KeptOf, plainly, listed, StateOf, no, keep}
-use Rattle.pfs_conf_options.specs.Reading.{track_by, track_at, count_in, counted, rate_with, rate_parts, rate_of, rate_found, rate_by, rate_at, name_found, table_name_at, name_closed_by, name_closed, table_by, table_at, flushed_by, flush_by, flush_at, overload_at, mark_once, timeout_by, mark_by, connection_by, option_by, option_at, options_at, kept_by, kept_at, kept_clause, behind_state, state_word, state_by, state_at}
+use Rattle.pfs_conf_options.specs.Reading.{track_by, track_at, count_in, counted, rate_with, rate_parts, rate_of, rate_found, rate_by, rate_at, name_found, table_name_at, name_closed_by, name_closed, table_by, table_at, flushed_by, flush_by, flush_at, overload_text_at, mark_once, timeout_by, mark_by, connection_by, option_by, option_at, state_options_at, kept_by, kept_at, kept_clause, behind_state, state_word, state_by, state_at}
 use Rattle.pfs_conf_options.proofs.OptionLaws.{option_shrinks}
 
 -- ---- readers of one part and then a value that holds it
@@ -131,7 +131,7 @@ rate_is ts r left e = by_key (head ts).key refl e
 
     by_key : (k : Key) → (head ts).key ≡ k → act (rate_by (head ts).text k) ts ≡ Ok (r, left) → RateOf ts r left
     by_key key.Number g h = found g (rate_of (head ts).text) refl h
-    by_key _ g h = absurd cc
+    by_key _ g h = absurd (not_refused _ _ _ h)
 
 pub rate_reads : {ts : List Tok} {r : Rate} {left : List Tok} → RateOf ts r left → rate_at ts ≡ Ok (r, left)
 unfolding rate_at
@@ -158,7 +158,7 @@ closed_is name ts x left e = by_key (head ts).key refl e
   where
     by_key : (k : Key) → (head ts).key ≡ k → act (name_closed_by name k) ts ≡ Ok (x, left) → (name ≡ x) × Word key.CloseAngle ts left
     by_key key.CloseAngle g h = let p = ok_parts name x (rest ts) left h in (p.0, subst (λ (z : List Tok). Word key.CloseAngle ts z) p.1 (word_is key.CloseAngle ts g (λ q. cc)))
-    by_key _ g h = absurd cc
+    by_key _ g h = absurd (not_refused _ _ _ h)
 
 pub table_is : (ts : List Tok) (name : List ℕ) (left : List Tok) → table_at ts ≡ Ok (name, left) → TableOf ts name left
 unfolding table_at
@@ -169,7 +169,7 @@ table_is ts name left e = by_key (head ts).key refl e
         let c = chain_ok table_name_at name_closed (rest ts) name left h in
         let d = closed_is c.0 c.1 name left c.3 in
         record { inner = rest ts; behind = c.1; opens = word_is key.OpenAngle ts g (λ q. cc); named = table_name_is (rest ts) name c.1 (c.2 ∙ ap (λ z. Ok (z, c.1)) d.0); closes = d.1 }
-    by_key _ g h = absurd cc
+    by_key _ g h = absurd (not_refused _ _ _ h)
 
 pub table_reads : {ts : List Tok} {name : List ℕ} {left : List Tok} → TableOf ts name left → table_at ts ≡ Ok (name, left)
 unfolding table_at
@@ -211,15 +211,15 @@ flush_reads {ts = ts} nothing e = rw (flush_stays (head ts).key e) refl
 flush_reads {left = left} (own w) e = let h = word_head w in rw (h.0, h.1, flushed_stays (head left).key e) refl
 flush_reads (all w v) e = let h = word_head w in let i = word_head v in rw (h.0, h.1, i.0, i.1) refl
 
-pub overload_is : (ts : List Tok) (v : OverloadText) (left : List Tok) → overload_at ts ≡ Ok (v, left) → OverloadOf ts v left
-unfolding overload_at
+pub overload_is : (ts : List Tok) (v : OverloadText) (left : List Tok) → overload_text_at ts ≡ Ok (v, left) → OverloadOf ts v left
+unfolding overload_text_at
 overload_is ts v left e =
     let c = chain_ok table_at (λ name. chain flush_at (λ f. done (record { table = name; flush = f }))) ts v left e in
     let d = read_then flush_at FlushOf flush_is (λ f. record { table = c.0; flush = f }) c.1 v left c.3 in
     subst (λ (z : OverloadText). OverloadOf ts z left) d.2 (record { mid = c.1; table = table_is ts c.0 c.1 c.2; flush = d.1 })
 
-pub overload_reads : {ts : List Tok} {v : OverloadText} {left : List Tok} → OverloadOf ts v left → ends_overload (head left).key ≡ true → overload_at ts ≡ Ok (v, left)
-unfolding overload_at
+pub overload_reads : {ts : List Tok} {v : OverloadText} {left : List Tok} → OverloadOf ts v left → ends_overload (head left).key ≡ true → overload_text_at ts ≡ Ok (v, left)
+unfolding overload_text_at
 overload_reads w e = rw (table_reads w.table, flush_reads w.flush e) refl
 
 -- ---- options
@@ -269,7 +269,7 @@ connection_is o ts p left key.MaxSrcConnRate g h =
     let q = valued o o.max_src_conn_rate rate_at RateOf rate_is (λ r. record o { max_src_conn_rate = Some r }) ts p left h in
     subst (λ (z : Options). OptionOf o ts z left) q.1.2 (max_src_conn_rate q.1.0 (word_is key.MaxSrcConnRate ts g (λ r. cc)) q.0 q.1.1)
 connection_is o ts p left key.Overload g h =
-    let q = valued o o.overload overload_at OverloadOf overload_is (λ v. record o { overload = Some v }) ts p left h in
+    let q = valued o o.overload overload_text_at OverloadOf overload_is (λ v. record o { overload = Some v }) ts p left h in
     subst (λ (z : Options). OptionOf o ts z left) q.1.2 (overload q.1.0 (word_is key.Overload ts g (λ r. cc)) q.0 q.1.1)
 connection_is o ts p left k g h = mark_is o ts p left k g h
 
@@ -373,15 +373,15 @@ closing : (k : Key) → closes_parens k ≡ true → k ≡ key.CloseParen
 closing key.CloseParen e = refl
 closing _ e = absurd cc
 
-pub options_are : (ts : List Tok) (o : Options) (left : List Tok) → options_at ts ≡ Ok (o, left) → ListOf key.CloseParen OptionOf none_given ts o left
-unfolding options_at
+pub options_are : (ts : List Tok) (o : Options) (left : List Tok) → state_options_at ts ≡ Ok (o, left) → ListOf key.CloseParen OptionOf none_given ts o left
+unfolding state_options_at
 options_are ts o left e = list_is key.CloseParen closes_parens OptionOf option_at closing (λ r. cc) option_is none_given ts o left e
 
 listed_options : ReadsList key.CloseParen closes_parens ends_option OptionOf option_at
 listed_options = record { closes = refl; close_follows = refl; comma_goes = refl; comma_follows = refl; begins = λ q. option_begins q; reads = λ q f. option_reads q f; shrinks = option_shrinks }
 
-pub options_read : {ts : List Tok} {o : Options} {left : List Tok} → ListOf key.CloseParen OptionOf none_given ts o left → options_at ts ≡ Ok (o, left)
-unfolding options_at
+pub options_read : {ts : List Tok} {o : Options} {left : List Tok} → ListOf key.CloseParen OptionOf none_given ts o left → state_options_at ts ≡ Ok (o, left)
+unfolding state_options_at
 options_read q = list_reads listed_options q
 
 pub kept_is : (ts : List Tok) (o : Options) (left : List Tok) → kept_at ts ≡ Ok (o, left) → KeptOf ts o left
@@ -411,7 +411,7 @@ state_word_is f ts x left e = by_key (head ts).key refl e
   where
     by_key : (k : Key) → (head ts).key ≡ k → act (behind_state f k) ts ≡ Ok (x, left) → Word key.State ts (rest ts) × (f (rest ts) ≡ Ok (x, left))
     by_key key.State g h = (word_is key.State ts g (λ q. cc), h)
-    by_key _ g h = absurd cc
+    by_key _ g h = absurd (not_refused _ _ _ h)
 
 pub state_is : (ts : List Tok) (x : StateClause) (left : List Tok) → state_at ts ≡ Ok (x, left) → StateOf ts x left
 unfolding state_at
@@ -426,7 +426,7 @@ state_is ts x left e = by_key (head ts).key refl e
         let s = state_word_is kept_clause (rest ts) x left h in
         let k = read_then kept_at KeptOf kept_is (λ o. clause.Keep o) (rest (rest ts)) x left s.1 in
         subst (λ (z : StateClause). StateOf ts z left) k.2 (keep (word_is key.Keep ts g (λ q. cc)) s.0 k.1)
-    by_key _ g h = absurd cc
+    by_key _ g h = absurd (not_refused _ _ _ h)
 
 pub state_reads : {ts : List Tok} {x : StateClause} {left : List Tok} → StateOf ts x left → ends_state (head left).key ≡ true → state_at ts ≡ Ok (x, left)
 unfolding state_at

@@ -97,20 +97,20 @@ abbrev pub flushed_by : Key → Act (Option Scope)
 flushed_by key.Global = take (done (Some scope.Global))
 flushed_by _ = stay (done (Some scope.Rule))
 
-abbrev pub flushed : Reader (Option Scope)
-flushed ts = on_front (λ t. flushed_by t.key) ts
+abbrev pub flush_scope_at : Reader (Option Scope)
+flush_scope_at ts = on_front (λ t. flushed_by t.key) ts
 
 -- from `flush` on
 abbrev pub flush_by : Key → Act (Option Scope)
-flush_by key.Flush = take flushed
+flush_by key.Flush = take flush_scope_at
 flush_by _ = stay (done None)
 
 unfoldable pub flush_at : Reader (Option Scope)
 flush_at ts = on_front (λ t. flush_by t.key) ts
 
 -- the table behind `overload`, and what is flushed
-unfoldable pub overload_at : Reader OverloadText
-overload_at ts = chain table_at (λ name. chain flush_at (λ f. done (record { table = name; flush = f }))) ts
+unfoldable pub overload_text_at : Reader OverloadText
+overload_text_at ts = chain table_at (λ name. chain flush_at (λ f. done (record { table = name; flush = f }))) ts
 
 -- ---- options: each is given at most once
 
@@ -134,14 +134,14 @@ mark_by key.Floating o = mark_once o.floating (take (done (record o { floating =
 mark_by key.NoSync o = mark_once o.no_sync (take (done (record o { no_sync = true })))
 mark_by k o = timeout_by (rule_place k) o
 
-unfoldable pub mark_at : Options → Reader Options
-mark_at o ts = on_front (λ t. mark_by t.key o) ts
+unfoldable pub state_mark_at : Options → Reader Options
+state_mark_at o ts = on_front (λ t. mark_by t.key o) ts
 
 -- an option on the connections of a source
 abbrev pub connection_by : Key → Options → Act Options
 connection_by key.MaxSrcConn o = once o.max_src_conn (take (chain (number_at 1 4294967295) (λ n. done (record o { max_src_conn = Some n }))))
 connection_by key.MaxSrcConnRate o = once o.max_src_conn_rate (take (chain rate_at (λ r. done (record o { max_src_conn_rate = Some r }))))
-connection_by key.Overload o = once o.overload (take (chain overload_at (λ v. done (record o { overload = Some v }))))
+connection_by key.Overload o = once o.overload (take (chain overload_text_at (λ v. done (record o { overload = Some v }))))
 connection_by k o = mark_by k o
 
 unfoldable pub connection_at : Options → Reader Options
@@ -161,12 +161,12 @@ option_at o ts = on_front (λ t. option_by t.key o) ts
 -- ---- the clause
 
 -- one option or more, up to the closing parenthesis
-unfoldable pub options_at : Reader Options
-options_at ts = list_all closes_parens option_at none_given ts
+unfoldable pub state_options_at : Reader Options
+state_options_at ts = list_all closes_parens option_at none_given ts
 
 -- behind `keep state`: options in parentheses, or none
 abbrev pub kept_by : Key → Act Options
-kept_by key.OpenParen = take options_at
+kept_by key.OpenParen = take state_options_at
 kept_by _ = stay (done none_given)
 
 unfoldable pub kept_at : Reader Options

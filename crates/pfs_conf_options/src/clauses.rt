@@ -3,7 +3,7 @@
 use pfs_conf_rules::{Rate, RuleTimeouts, Scope, TableName};
 
 /// What stands behind `source-track`. (pf.conf(5), STATEFUL TRACKING OPTIONS, "source-track")
-#[derive(Debug, Clone, Copy, PartialEq, Eq, Hash)]
+#[derive(Debug, Clone, Copy, PartialEq, Eq)]
 pub enum Track {
     /// Nothing: `source-track` alone.
     Bare,

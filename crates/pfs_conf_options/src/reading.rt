@@ -7,7 +7,7 @@ ghost use Rattle.pfs_conf_tokens.specs.Giving.{Gives};
 ghost use Rattle.pfs_conf_options.specs.Options.{rule_place, options_given};
 ghost use Rattle.pfs_conf_options.specs.Bounds.{AreRead};
 ghost use Rattle.pfs_conf_rules.specs.Bounds.{greatest_timeout};
-ghost use Rattle.pfs_conf_options.specs.Reading.{track_at, counted, rate_of, rate_at, table_name_at, table_at, flush_at, overload_at, mark_at, timeout_at, connection_at, option_at, options_at, kept_at, state_at};
+ghost use Rattle.pfs_conf_options.specs.Reading.{track_at, counted, rate_of, rate_at, table_name_at, table_at, flush_at, overload_text_at, state_mark_at, timeout_at, connection_at, option_at, state_options_at, kept_at, state_at};
 
 use crate::clauses::{Options, OverloadText, StateClause, Track};
 use pfs_conf_rules::{Rate, Scope, TableName};
@@ -45,7 +45,7 @@ fn clause(cursor: &mut Cursor) -> Result<StateClause, Refusal>
     }
 }
 
-#[tactic(auto, unfolding(crate::specs::Reading::kept_at, crate::specs::Reading::options_at))]
+#[tactic(auto, unfolding(crate::specs::Reading::kept_at, crate::specs::Reading::state_options_at))]
 fn kept(cursor: &mut Cursor) -> Result<Options, Refusal>
     ensures { Gives result cursor.new (kept_at cursor.old) }
 {
@@ -124,7 +124,7 @@ fn option(cursor: &mut Cursor, options: Options) -> Result<Options, Refusal>
 }
 
 // An option on the connections of a source.
-#[tactic(auto, unfolding(crate::specs::Reading::connection_at, crate::specs::Reading::mark_at))]
+#[tactic(auto, unfolding(crate::specs::Reading::connection_at, crate::specs::Reading::state_mark_at))]
 fn connection_option(cursor: &mut Cursor, options: Options) -> Result<Options, Refusal>
     ensures { Gives result cursor.new (connection_at options cursor.old) }
 {
@@ -161,9 +161,9 @@ fn connection_option(cursor: &mut Cursor, options: Options) -> Result<Options, R
 }
 
 // A word of its own, which has no effect, or a timeout.
-#[tactic(auto, unfolding(crate::specs::Reading::mark_at, crate::specs::Reading::timeout_at))]
+#[tactic(auto, unfolding(crate::specs::Reading::state_mark_at, crate::specs::Reading::timeout_at))]
 fn mark(cursor: &mut Cursor, options: Options) -> Result<Options, Refusal>
-    ensures { Gives result cursor.new (mark_at options cursor.old) }
+    ensures { Gives result cursor.new (state_mark_at options cursor.old) }
 {
     match cursor.key() {
         Key::Sloppy => {
@@ -305,9 +305,9 @@ fn parse_count(text: &[u8], high: u32) -> Option<u32>
     }
 }
 
-#[tactic(auto, unfolding(crate::specs::Reading::overload_at))]
+#[tactic(auto, unfolding(crate::specs::Reading::overload_text_at))]
 fn overload(cursor: &mut Cursor) -> Result<OverloadText, Refusal>
-    ensures { Gives result cursor.new (overload_at cursor.old) }
+    ensures { Gives result cursor.new (overload_text_at cursor.old) }
 {
     let table = table(cursor)?;
     let flush = flush(cursor)?;

@@ -12,7 +12,7 @@ use Rattle.pfs_conf_tokens.specs.declared.keys.Key.TheVariants as key
 use Rattle.pfs_conf_tokens.specs.declared.lexer.Run.TheVariants as run
 use Rattle.pfs_conf_tokens.specs.Keys.{is_word_key}
 use Rattle.pfs_conf_tokens.specs.Lexis.{goes_on, is_word_byte}
-use Rattle.pfs_conf_tokens.specs.Words.{key_of_text, key_in, statement_words, option_words, named_words, foreign_words, starts_with_digit}
+use Rattle.pfs_conf_tokens.specs.Words.{key_of_text, key_among, statement_words, option_words, named_words, foreign_words, starts_with_digit}
 use Rattle.pfs_conf_tokens.proofs.ShownLaws.{is_word_text}
 use Rattle.pfs_addr.specs.Names.{is_name, is_name_byte, name_of}
 use Rattle.pfs_conf_filters.specs.Values.{may_name_interface}
@@ -58,13 +58,13 @@ abbrev pub passes : (Key → Bool) → List ℕ → (List ℕ × Key) → Bool
 passes g w entry = not (bytes_eq w entry.0) || g entry.1
 
 -- what a table of words gives, or else another key, passes a test
-found : (g : Key → Bool) (w : List ℕ) (entries : List (List ℕ × Key)) (k : Key) → list_all (passes g w) entries ≡ true → g k ≡ true → g (key_in entries w k) ≡ true
+found : (g : Key → Bool) (w : List ℕ) (entries : List (List ℕ × Key)) (k : Key) → list_all (passes g w) entries ≡ true → g k ≡ true → g (key_among entries w k) ≡ true
 found g w [] k h e = e
 found g w (entry ∷ entries) k h e =
     let p = and_parts (passes g w entry) (list_all (passes g w) entries) h in
     go p.0 (found g w entries k p.1 e) (bytes_eq w entry.0) refl
   where
-    go : passes g w entry ≡ true → g (key_in entries w k) ≡ true → (b : Bool) → bytes_eq w entry.0 ≡ b
+    go : passes g w entry ≡ true → g (key_among entries w k) ≡ true → (b : Bool) → bytes_eq w entry.0 ≡ b
         → g (unwrap_or (if b then Some entry.1 else lookup (bytes_eq w) entries) k) ≡ true
     go one others true q = sym (ap (λ (b : Bool). not b || g entry.1) q) ∙ one
     go one others false q = others

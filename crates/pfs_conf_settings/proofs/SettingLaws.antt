@@ -10,7 +10,7 @@ use Rattle.pfs_conf_rules.specs.declared.limits.LimitName.{LimitName}
 use Rattle.pfs_conf_rules.specs.declared.limits.LimitName.TheVariants as limit
 use Rattle.pfs_conf_rules.specs.declared.timeouts.TimeoutName.{TimeoutName}
 use Rattle.pfs_conf_rules.specs.Drafts.{Drafted, with_limit, with_timeout}
-use Rattle.pfs_conf_settings.specs.Settings.{timeout_named, bounded_at, limited, limit_by, limit_at, least_value, greatest_value, unkept, timed, time_by, time_at, lined_limit_at, lined_time_at, limits_by, limits_at, times_by, times_at, settings_by, settings_at}
+use Rattle.pfs_conf_settings.specs.Settings.{timeout_named, bounded_at, limited, limit_by, set_limit_at, least_value, greatest_value, unkept, timed, time_by, time_at, lined_limit_at, lined_time_at, limits_by, limits_at, times_by, times_at, settings_by, settings_at}
 
 -- ---- a pair of a name and a number
 
@@ -30,12 +30,12 @@ limit_taking lined d key.TableEntries = limited_taking lined limit.TableEntries 
 limit_taking lined d key.Frags = (refl, online_chain (bounded_at lined 1 4294967295) _ (online_value lined 1 4294967295) (λ n. online_done d))
 limit_taking lined d _ = tt
 
-pub online_limit : (lined : Bool) (d : Drafted) → Online across (limit_at lined d)
-unfolding limit_at
+pub online_limit : (lined : Bool) (d : Drafted) → Online across (set_limit_at lined d)
+unfolding set_limit_at
 online_limit lined d = online_taking (λ t. limit_by lined d t.key) (λ t. limit_taking lined d t.key)
 
-limit_shrinks : (lined : Bool) (d : Drafted) → Shrinks (limit_at lined d)
-unfolding limit_at
+limit_shrinks : (lined : Bool) (d : Drafted) → Shrinks (set_limit_at lined d)
+unfolding set_limit_at
 limit_shrinks lined d = front_shrinks across (λ t. limit_by lined d t.key) (λ t. limit_taking lined d t.key)
 
 named_before_end : (k : Key) (name : TimeoutName) → timeout_named k ≡ Some name → before_end k ≡ true
@@ -72,12 +72,12 @@ online_behind d = online_skipping (done d) (online_done d)
 
 pub online_lined_limit : (d : Drafted) → Online across (lined_limit_at d)
 unfolding lined_limit_at
-online_lined_limit d = online_skipping (chain (limit_at true d) (λ e. skipping (done e))) (online_chain (limit_at true d) (λ e. skipping (done e)) (online_limit true d) online_behind)
+online_lined_limit d = online_skipping (chain (set_limit_at true d) (λ e. skipping (done e))) (online_chain (set_limit_at true d) (λ e. skipping (done e)) (online_limit true d) online_behind)
 
 pub lined_limit_shrinks : (d : Drafted) → Shrinks (lined_limit_at d)
 unfolding lined_limit_at
 lined_limit_shrinks d =
-    skipping_shrinks (chain (limit_at true d) (λ e. skipping (done e))) (chain_shrinks across (limit_at true d) (λ e. skipping (done e)) (limit_shrinks true d) online_behind)
+    skipping_shrinks (chain (set_limit_at true d) (λ e. skipping (done e))) (chain_shrinks across (set_limit_at true d) (λ e. skipping (done e)) (limit_shrinks true d) online_behind)
 
 pub next_limit_shrinks : (d : Drafted) → Shrinks (next_of lined_limit_at d)
 next_limit_shrinks d = next_shrinks lined_limit_at lined_limit_shrinks d

@@ -6,13 +6,13 @@ use Rattle.pfs_conf_tokens.specs.Tokens.{Tok, head}
 use Rattle.pfs_conf_tokens.specs.Reading.{rest, closes_braces, stay, act, chain, done, skipping}
 use Rattle.pfs_conf_tokens.specs.Keys.{ends_line}
 use Rattle.pfs_conf_tokens.specs.Grammar.{Word, skip_lines}
-use Rattle.pfs_conf_tokens.proofs.Laws.{ok_parts, chain_ok}
+use Rattle.pfs_conf_tokens.proofs.Laws.{ok_parts, chain_ok, not_refused}
 use Rattle.pfs_conf_tokens.proofs.ReaderLaws.{word_head, word_is, number_is, number_reads, list_is, list_reads, ReadsList, no_comma}
 use Rattle.pfs_conf_tokens.proofs.LineLaws.{skip_stays}
 use Rattle.pfs_conf_rules.specs.declared.limits.LimitName.TheVariants as limit_name
 use Rattle.pfs_conf_rules.specs.declared.timeouts.TimeoutName.{TimeoutName}
 use Rattle.pfs_conf_rules.specs.Drafts.{Drafted, with_limit, with_timeout}
-use Rattle.pfs_conf_settings.specs.Settings.{timeout_named, bounded_at, limit_by, limit_at, least_value, greatest_value, timed, time_by, time_at, lined_limit_at, lined_time_at, limits_by, limits_at, times_by, times_at, settings_by, settings_at}
+use Rattle.pfs_conf_settings.specs.Settings.{timeout_named, bounded_at, limit_by, set_limit_at, least_value, greatest_value, timed, time_by, time_at, lined_limit_at, lined_time_at, limits_by, limits_at, times_by, times_at, settings_by, settings_at}
 use Rattle.pfs_conf_settings.specs.SettingGrammar.{ValueOf, plain, lined, LimitOf, states, src_nodes, tables, table_entries, frags, TimeOf, kept, frag, tsdiff, icmp_first, icmp_error, AmongLines, SettingOf, limit, limits, timeout, timeouts}
 use Rattle.pfs_conf_settings.proofs.SettingLaws.{lined_limit_shrinks, lined_time_shrinks}
 use Rattle.pfs_conf_settings.proofs.TimeoutKeys.{placed, named}
@@ -32,8 +32,8 @@ pair_is inside low high f ts e left h =
     let q = ok_parts (f c.0) e c.1 left c.3 in
     (c.0, subst (λ (z : List Tok). ValueOf low high inside ts c.0 z) q.1 (value_is inside low high ts c.0 c.1 c.2), q.0)
 
-pub limit_is : (inside : Bool) (d : Drafted) (ts : List Tok) (e : Drafted) (left : List Tok) → limit_at inside d ts ≡ Ok (e, left) → LimitOf inside d ts e left
-unfolding limit_at
+pub limit_is : (inside : Bool) (d : Drafted) (ts : List Tok) (e : Drafted) (left : List Tok) → set_limit_at inside d ts ≡ Ok (e, left) → LimitOf inside d ts e left
+unfolding set_limit_at
 limit_is inside d ts e left h = by_key (head ts).key refl h
   where
     by_key : (k : Key) → (head ts).key ≡ k → act (limit_by inside d k) ts ≡ Ok (e, left) → LimitOf inside d ts e left
@@ -42,7 +42,7 @@ limit_is inside d ts e left h = by_key (head ts).key refl h
     by_key key.Tables g q = let p = pair_is inside 1 4294967295 (λ n. with_limit limit_name.Tables n d) (rest ts) e left q in subst (λ (z : Drafted). LimitOf inside d ts z left) p.2 (tables (word_is key.Tables ts g (λ r. cc)) p.1)
     by_key key.TableEntries g q = let p = pair_is inside 1 4294967295 (λ n. with_limit limit_name.TableEntries n d) (rest ts) e left q in subst (λ (z : Drafted). LimitOf inside d ts z left) p.2 (table_entries (word_is key.TableEntries ts g (λ r. cc)) p.1)
     by_key key.Frags g q = let p = pair_is inside 1 4294967295 (λ n. d) (rest ts) e left q in subst (λ (z : Drafted). LimitOf inside d ts z left) p.2 (frags (word_is key.Frags ts g (λ r. cc)) p.1)
-    by_key _ g q = absurd cc
+    by_key _ g q = absurd (not_refused _ _ _ q)
 
 timed_is : (inside : Bool) (d : Drafted) (ts : List Tok) (e : Drafted) (left : List Tok) (o : Option TimeoutName) → timeout_named (head ts).key ≡ o → act (timed inside d o) ts ≡ Ok (e, left) → TimeOf inside d ts e left
 timed_is inside d ts e left None g q = absurd cc
@@ -65,7 +65,7 @@ time_is inside d ts e left h = by_key (head ts).key refl h
 pub lined_limit_is : (d : Drafted) (ts : List Tok) (e : Drafted) (left : List Tok) → lined_limit_at d ts ≡ Ok (e, left) → (AmongLines (LimitOf true)) d ts e left
 unfolding lined_limit_at
 lined_limit_is d ts e left h =
-    let c = chain_ok (limit_at true d) (λ x. skipping (done x)) (skip_lines ts) e left h in
+    let c = chain_ok (set_limit_at true d) (λ x. skipping (done x)) (skip_lines ts) e left h in
     let q = ok_parts c.0 e (skip_lines c.1) left c.3 in
     record { mid = c.1; item = subst (λ (z : Drafted). LimitOf true d (skip_lines ts) z c.1) q.0 (limit_is true d (skip_lines ts) c.0 c.1 c.2); behind = sym q.1 }
 
@@ -103,7 +103,7 @@ settings_are d ts e left h = by_key (head ts).key refl h
     by_key : (k : Key) → (head ts).key ≡ k → act (settings_by d k) ts ≡ Ok (e, left) → SettingOf d ts e left
     by_key key.Limit g q = limits_are d ts (rest ts) e left (word_is key.Limit ts g (λ r. cc)) q
     by_key key.Timeout g q = times_are d ts (rest ts) e left (word_is key.Timeout ts g (λ r. cc)) q
-    by_key _ g q = absurd cc
+    by_key _ g q = absurd (not_refused _ _ _ q)
 
 -- ---- reads
 
@@ -112,8 +112,8 @@ unfolding bounded_at
 value_reads {low = low} {high = high} (plain w) = number_reads low high w
 value_reads {low = low} {high = high} (lined w) = number_reads low high w
 
-pub limit_reads : {inside : Bool} {d e : Drafted} {ts left : List Tok} → LimitOf inside d ts e left → limit_at inside d ts ≡ Ok (e, left)
-unfolding limit_at
+pub limit_reads : {inside : Bool} {d e : Drafted} {ts left : List Tok} → LimitOf inside d ts e left → set_limit_at inside d ts ≡ Ok (e, left)
+unfolding set_limit_at
 limit_reads (states w v) = let h = word_head w in rw (h.0, h.1, value_reads v) refl
 limit_reads (src_nodes w v) = let h = word_head w in rw (h.0, h.1, value_reads v) refl
 limit_reads (tables w v) = let h = word_head w in rw (h.0, h.1, value_reads v) refl
@@ -190,7 +190,7 @@ unfolding anything
 times_readable = record { closes = refl; close_follows = refl; comma_goes = refl; comma_follows = refl; begins = λ {a} {b} {ts} {left} q. lined_begins ts (time_begins q.item); reads = λ q f. lined_time_reads q; shrinks = lined_time_shrinks }
 
 -- what begins a pair is no brace
-limits_stay : (d : Drafted) {inside : Bool} {e : Drafted} {ts left : List Tok} → LimitOf inside d ts e left → limits_by d (head ts).key ≡ stay (limit_at false d)
+limits_stay : (d : Drafted) {inside : Bool} {e : Drafted} {ts left : List Tok} → LimitOf inside d ts e left → limits_by d (head ts).key ≡ stay (set_limit_at false d)
 limits_stay d (states w v) = rw (word_head w).0 refl
 limits_stay d (src_nodes w v) = rw (word_head w).0 refl
 limits_stay d (tables w v) = rw (word_head w).0 refl

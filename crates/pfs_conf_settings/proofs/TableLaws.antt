@@ -12,7 +12,7 @@ use Rattle.pfs_addr.specs.Prefixes.{Network}
 use Rattle.pfs_addr.specs.Texts.{prefix_of}
 use Rattle.pfs_conf_rules.specs.Entries.{Entry, sign_of}
 use Rattle.pfs_conf_settings.specs.declared.tables.Parts.{Parts}
-use Rattle.pfs_conf_settings.specs.Tables.{sign_by, sign_at, again, joined, entered, entry_by, entry_at, lined_entry_at, entries_by, entries_at, unless, part_by, part_at, parts_at}
+use Rattle.pfs_conf_settings.specs.Tables.{sign_by, sign_at, again, entry_joined, entered, entry_by, entry_at, lined_entry_at, entries_by, braced_entries_at, unless, part_by, part_at, parts_at}
 use Rattle.pfs_conf_settings.specs.TableGrammar.{no_parts}
 
 -- ---- an entry
@@ -31,7 +31,7 @@ again_taking k entries false false h = (h, online_done entries)
 again_taking k entries true false h = tt
 again_taking k entries false true h = tt
 
-joined_taking : (k : Key) (entries : List Entry) (negated : Bool) (p : Network) (o : Option Bool) → in_line k ≡ true → Taking inside k (joined entries negated p o)
+joined_taking : (k : Key) (entries : List Entry) (negated : Bool) (p : Network) (o : Option Bool) → in_line k ≡ true → Taking inside k (entry_joined entries negated p o)
 joined_taking k entries negated p None h = (h, online_done (entries ++ (p, negated) ∷ []))
 joined_taking k entries negated p (Some held) h = again_taking k entries negated held h
 
@@ -96,8 +96,8 @@ entries_act : (k : Key) → OnlineAct across k (entries_by k)
 entries_act key.CloseBrace = (refl, online_done [])
 entries_act _ = online_listed
 
-pub online_entries : Online across entries_at
-unfolding entries_at
+pub online_entries : Online across braced_entries_at
+unfolding braced_entries_at
 online_entries = online_skipping _ (online_front (λ t. entries_by t.key) (λ t. entries_act t.key))
 
 -- ---- the parts
@@ -111,7 +111,7 @@ part_taking p key.Persist = unless_taking key.Persist p.persist _ (refl, online_
 part_taking p key.Const = unless_taking key.Const p.is_const _ (refl, online_done (record p { is_const = true }))
 part_taking p key.Counters = unless_taking key.Counters p.counters _ (refl, online_done (record p { counters = true }))
 part_taking p key.OpenBrace =
-    once_taking across key.OpenBrace p.entries _ (refl, online_chain entries_at _ online_entries (λ entries. online_done (record p { entries = Some entries })))
+    once_taking across key.OpenBrace p.entries _ (refl, online_chain braced_entries_at _ online_entries (λ entries. online_done (record p { entries = Some entries })))
 part_taking p _ = tt
 
 pub online_part : (p : Parts) → Online across (part_at p)

@@ -8,14 +8,14 @@ use Rattle.pfs_conf_tokens.specs.Tokens.{Tok, head}
 use Rattle.pfs_conf_tokens.specs.Reading.{rest, closes_braces, Act, take, stay, refuse, act, chain, done, once, list_all, skipping}
 use Rattle.pfs_conf_tokens.specs.Keys.{ends_line, is_word_key}
 use Rattle.pfs_conf_tokens.specs.Grammar.{WordOf, Word, skip_lines}
-use Rattle.pfs_conf_tokens.proofs.Laws.{ok_parts, chain_ok}
+use Rattle.pfs_conf_tokens.proofs.Laws.{ok_parts, chain_ok, not_refused}
 use Rattle.pfs_conf_tokens.proofs.ReaderLaws.{word_head, word_is, list_is, list_reads, ReadsList, no_comma, skip_head, up_to_is, up_to_reads, Reads}
 use Rattle.pfs_conf_tokens.proofs.LineLaws.{skip_stays}
 use Rattle.pfs_addr.specs.Prefixes.{Network}
 use Rattle.pfs_addr.specs.Texts.{prefix_of}
 use Rattle.pfs_conf_rules.specs.Entries.{Entry, sign_of}
 use Rattle.pfs_conf_settings.specs.declared.tables.Parts.{Parts}
-use Rattle.pfs_conf_settings.specs.Tables.{sign_by, sign_at, again, joined, entered, entry_by, entry_at, lined_entry_at, entries_by, entries_at, unless, part_by, part_at, parts_at}
+use Rattle.pfs_conf_settings.specs.Tables.{sign_by, sign_at, again, entry_joined, entered, entry_by, entry_at, lined_entry_at, entries_by, braced_entries_at, unless, part_by, part_at, parts_at}
 use Rattle.pfs_conf_settings.specs.TableGrammar.{no_parts, SignOf, plain, negated, Enters, comes, stands, EntryOf, EntriesOf, none, some, PartOf, persist, constant, counters, entries, PartsOf}
 use Rattle.pfs_conf_settings.proofs.TableLaws.{lined_entry_shrinks, part_shrinks}
 
@@ -48,7 +48,7 @@ again_is es true false ts more left e = absurd cc
 again_is es false true ts more left e = absurd cc
 
 joined_is : (es : List Entry) (n : Bool) (p : Network) (o : Option Bool) → sign_of es p ≡ o → (ts : List Tok) (more : List Entry) (left : List Tok)
-    → act (joined es n p o) ts ≡ Ok (more, left) → Enters es n p more × (rest ts ≡ left)
+    → act (entry_joined es n p o) ts ≡ Ok (more, left) → Enters es n p more × (rest ts ≡ left)
 joined_is es n p None f ts more left e =
     let q = ok_parts (es ++ (p, n) ∷ []) more (rest ts) left e in
     (subst (λ (z : List Entry). Enters es n p z) q.0 (comes f), q.1)
@@ -98,8 +98,8 @@ closing : (k : Key) → closes_braces k ≡ true → k ≡ key.CloseBrace
 closing key.CloseBrace e = refl
 closing _ e = absurd cc
 
-pub entries_are : (ts : List Tok) (es : List Entry) (left : List Tok) → entries_at ts ≡ Ok (es, left) → EntriesOf ts es left
-unfolding entries_at
+pub entries_are : (ts : List Tok) (es : List Entry) (left : List Tok) → braced_entries_at ts ≡ Ok (es, left) → EntriesOf ts es left
+unfolding braced_entries_at
 entries_are ts es left e = by_key (head (skip_lines ts)).key refl e
   where
     listed : list_all closes_braces lined_entry_at [] (skip_lines ts) ≡ Ok (es, left) → EntriesOf ts es left
@@ -118,10 +118,10 @@ part_once_is p q k ts left false g n e =
     (refl, r.0, subst (λ (z : List Tok). Word k ts z) r.1 (word_is k ts g n))
 
 braces_are : (p q : Parts) (ts left : List Tok) (o : Option (List Entry)) → p.entries ≡ o → (head ts).key ≡ key.OpenBrace
-    → act (once o (take (chain entries_at (λ es. done (record p { entries = Some es }))))) ts ≡ Ok (q, left) → PartOf p ts q left
+    → act (once o (take (chain braced_entries_at (λ es. done (record p { entries = Some es }))))) ts ≡ Ok (q, left) → PartOf p ts q left
 braces_are p q ts left (Some x) f g e = absurd cc
 braces_are p q ts left None f g e =
-    let c = chain_ok entries_at (λ es. done (record p { entries = Some es })) (rest ts) q left e in
+    let c = chain_ok braced_entries_at (λ es. done (record p { entries = Some es })) (rest ts) q left e in
     let r = ok_parts (record p { entries = Some c.0 }) q c.1 left c.3 in
     subst (λ (z : Parts). PartOf p ts z left) r.0
     (entries (word_is key.OpenBrace ts g (λ s. cc)) f (subst (λ (z : List Tok). EntriesOf (rest ts) c.0 z) r.1 (entries_are (rest ts) c.0 c.1 c.2)))
@@ -141,7 +141,7 @@ part_is p ts q left e = by_key (head ts).key refl e
         let r = part_once_is q (record p { counters = true }) key.Counters ts left p.counters g (λ s. cc) h in
         subst (λ (z : Parts). PartOf p ts z left) r.1 (counters r.2 r.0)
     by_key key.OpenBrace g h = braces_are p q ts left p.entries refl g h
-    by_key _ g h = absurd cc
+    by_key _ g h = absurd (not_refused _ _ _ h)
 
 line_closing : (k : Key) → ends_line k ≡ true → k ≡ key.LineEnd
 line_closing key.LineEnd e = refl
@@ -162,9 +162,9 @@ again_reads : (es : List Entry) (n : Bool) → again es n n ≡ take (done es)
 again_reads es true = refl
 again_reads es false = refl
 
-entered_reads : {es : List Entry} {n : Bool} {p : Network} {more : List Entry} → Enters es n p more → joined es n p (sign_of es p) ≡ take (done more)
-entered_reads {es = es} {n = n} {p = p} (comes f) = ap (joined es n p) f
-entered_reads {es = es} {n = n} {p = p} (stands f) = ap (joined es n p) f ∙ again_reads es n
+entered_reads : {es : List Entry} {n : Bool} {p : Network} {more : List Entry} → Enters es n p more → entry_joined es n p (sign_of es p) ≡ take (done more)
+entered_reads {es = es} {n = n} {p = p} (comes f) = ap (entry_joined es n p) f
+entered_reads {es = es} {n = n} {p = p} (stands f) = ap (entry_joined es n p) f ∙ again_reads es n
 
 entry_reads : {es : List Entry} {n : Bool} {p : Network} {ts : List Tok} {more : List Entry} {left : List Tok} → WordOf prefix_of ts p left → Enters es n p more → entry_at es n ts ≡ Ok (more, left)
 unfolding entry_at
@@ -224,8 +224,8 @@ entries_stay : (k : Key) → closes_braces k ≡ false → entries_by k ≡ stay
 entries_stay key.CloseBrace e = absurd cc
 entries_stay _ e = refl
 
-pub entries_read : {ts : List Tok} {es : List Entry} {left : List Tok} → EntriesOf ts es left → entries_at ts ≡ Ok (es, left)
-unfolding entries_at
+pub entries_read : {ts : List Tok} {es : List Entry} {left : List Tok} → EntriesOf ts es left → braced_entries_at ts ≡ Ok (es, left)
+unfolding braced_entries_at
 entries_read (none w) = let h = word_head w in rw (h.0, h.1) refl
 entries_read {ts = ts} (some q) = rw (entries_stay (head (skip_lines ts)).key (lined_entry_begins q.begins).0) (list_reads entries_readable q)
 

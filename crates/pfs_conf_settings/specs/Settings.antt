@@ -49,8 +49,8 @@ limit_by inside d key.TableEntries = limited inside limit.TableEntries d
 limit_by inside d key.Frags = take (chain (bounded_at inside 1 4294967295) (λ n. done d))
 limit_by inside d _ = refuse why.Plain
 
-unfoldable pub limit_at : Bool → Drafted → Reader Drafted
-limit_at inside d ts = on_front (λ t. limit_by inside d t.key) ts
+unfoldable pub set_limit_at : Bool → Drafted → Reader Drafted
+set_limit_at inside d ts = on_front (λ t. limit_by inside d t.key) ts
 
 -- the least and the greatest value of a timeout
 abbrev pub least_value : TimeoutName → ℕ
@@ -79,7 +79,7 @@ time_at inside d ts = on_front (λ t. time_by inside d t.key) ts
 
 -- one of them among line ends
 unfoldable pub lined_limit_at : Drafted → Reader Drafted
-lined_limit_at d ts = skipping (chain (limit_at true d) (λ e. skipping (done e))) ts
+lined_limit_at d ts = skipping (chain (set_limit_at true d) (λ e. skipping (done e))) ts
 
 unfoldable pub lined_time_at : Drafted → Reader Drafted
 lined_time_at d ts = skipping (chain (time_at true d) (λ e. skipping (done e))) ts
@@ -87,7 +87,7 @@ lined_time_at d ts = skipping (chain (time_at true d) (λ e. skipping (done e)))
 -- limits: one, or a list in braces
 abbrev pub limits_by : Drafted → Key → Act Drafted
 limits_by d key.OpenBrace = take (list_all closes_braces lined_limit_at d)
-limits_by d _ = stay (limit_at false d)
+limits_by d _ = stay (set_limit_at false d)
 
 unfoldable pub limits_at : Drafted → Reader Drafted
 limits_at d ts = on_front (λ t. limits_by d t.key) ts

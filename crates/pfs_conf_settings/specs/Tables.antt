@@ -26,13 +26,13 @@ again entries true true = take (done entries)
 again entries false false = take (done entries)
 again entries _ _ = refuse why.Again
 
-abbrev pub joined : List Entry → Bool → Network → Option Bool → Act (List Entry)
-joined entries negated p None = take (done (entries ++ (p, negated) ∷ []))
-joined entries negated p (Some held) = again entries negated held
+abbrev pub entry_joined : List Entry → Bool → Network → Option Bool → Act (List Entry)
+entry_joined entries negated p None = take (done (entries ++ (p, negated) ∷ []))
+entry_joined entries negated p (Some held) = again entries negated held
 
 abbrev pub entered : List Entry → Bool → Option Network → Act (List Entry)
 entered entries negated None = refuse why.Host
-entered entries negated (Some p) = joined entries negated p (sign_of entries p)
+entered entries negated (Some p) = entry_joined entries negated p (sign_of entries p)
 
 abbrev pub entry_by : List Entry → Bool → Tok → Act (List Entry)
 entry_by entries negated t = if is_word_key t.key then entered entries negated (prefix_of t.text) else refuse why.Host
@@ -49,8 +49,8 @@ abbrev pub entries_by : Key → Act (List Entry)
 entries_by key.CloseBrace = take (done [])
 entries_by _ = stay (list_all closes_braces lined_entry_at [])
 
-unfoldable pub entries_at : Reader (List Entry)
-entries_at ts = skipping (on_front (λ t. entries_by t.key)) ts
+unfoldable pub braced_entries_at : Reader (List Entry)
+braced_entries_at ts = skipping (on_front (λ t. entries_by t.key)) ts
 
 -- a part of a definition, each at most once
 abbrev pub unless : {A : Type 0} → Bool → Act A → Act A
@@ -61,7 +61,7 @@ abbrev pub part_by : Parts → Key → Act Parts
 part_by p key.Persist = unless p.persist (take (done (record p { persist = true })))
 part_by p key.Const = unless p.is_const (take (done (record p { is_const = true })))
 part_by p key.Counters = unless p.counters (take (done (record p { counters = true })))
-part_by p key.OpenBrace = once p.entries (take (chain entries_at (λ entries. done (record p { entries = Some entries }))))
+part_by p key.OpenBrace = once p.entries (take (chain braced_entries_at (λ entries. done (record p { entries = Some entries }))))
 part_by p _ = refuse why.Plain
 
 unfoldable pub part_at : Parts → Reader Parts

@@ -4,7 +4,7 @@ ghost use Rattle.std.specs.Prelude.{◌≡◌, ◌≤◌, Some, IfOk};
 ghost use Rattle.pfs_conf_tokens.specs.Reading.{closes_braces, act, number_at, until_all, next_of};
 ghost use Rattle.pfs_conf_tokens.specs.Giving.{Gives};
 ghost use Rattle.pfs_conf_settings.specs.Draws.{Draws};
-ghost use Rattle.pfs_conf_settings.specs.Settings.{timeout_named, bounded_at, least_value, greatest_value, limited, timed, limit_at, time_at, lined_limit_at, lined_time_at, limits_at, times_at, settings_at};
+ghost use Rattle.pfs_conf_settings.specs.Settings.{timeout_named, bounded_at, least_value, greatest_value, limited, timed, set_limit_at, time_at, lined_limit_at, lined_time_at, limits_at, times_at, settings_at};
 
 use pfs_conf_rules::{Draft, LimitName, TimeoutName};
 use pfs_conf_tokens::{Cursor, Key, Refusal, Why, number, skip_lines};
@@ -122,9 +122,9 @@ fn lined_time(cursor: &mut Cursor, draft: &mut Draft) -> Result<(), Refusal>
 }
 
 /// A limit: its name and its value.
-#[tactic(auto, unfolding(crate::specs::Settings::limit_at))]
+#[tactic(auto, unfolding(crate::specs::Settings::set_limit_at))]
 fn limit(cursor: &mut Cursor, draft: &mut Draft, inside: bool) -> Result<(), Refusal>
-    ensures { Draws result cursor.new draft.new (limit_at inside draft.old cursor.old) }
+    ensures { Draws result cursor.new draft.new (set_limit_at inside draft.old cursor.old) }
 {
     match cursor.key() {
         Key::States => set_limit(cursor, draft, inside, LimitName::States),

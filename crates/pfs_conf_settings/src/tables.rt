@@ -4,7 +4,7 @@ ghost use Rattle.std.specs.Prelude.{◌≡◌, []};
 ghost use Rattle.pfs_conf_tokens.specs.Keys.{ends_line};
 ghost use Rattle.pfs_conf_tokens.specs.Reading.{closes_braces, until_all, up_to_all, next_of};
 ghost use Rattle.pfs_conf_tokens.specs.Giving.{GivesOrMemory};
-ghost use Rattle.pfs_conf_settings.specs.Tables.{entry_at, lined_entry_at, entries_at, part_at, parts_at};
+ghost use Rattle.pfs_conf_settings.specs.Tables.{entry_at, lined_entry_at, braced_entries_at, part_at, parts_at};
 ghost use Rattle.pfs_conf_settings.specs.Extending.{Extends};
 
 use pfs_addr::parse_prefix;
@@ -98,9 +98,9 @@ fn part(alloc: Global, cursor: &mut Cursor, parts: Parts) -> Result<Parts, ReadE
 }
 
 /// The entries in braces, behind the opening one.
-#[tactic(auto, unfolding(crate::specs::Tables::entries_at))]
+#[tactic(auto, unfolding(crate::specs::Tables::braced_entries_at))]
 fn entries(alloc: Global, cursor: &mut Cursor) -> Result<Entries, ReadError>
-    ensures { GivesOrMemory result cursor.new (entries_at cursor.old) }
+    ensures { GivesOrMemory result cursor.new (braced_entries_at cursor.old) }
 {
     skip_lines(cursor);
     let mut entries = Entries::new(alloc);

@@ -54,6 +54,10 @@ ok_parts {A} x y ts us e =
     let p : ◌≡◌ {A = A × List Tok} (x, ts) (y, us) = ok_is (x, ts) (y, us) e in
     (ap (λ (q : A × List Tok). q.0) p, ap (λ (q : A × List Tok). q.1) p)
 
+-- where a token is refused nothing is read. (In a case for all other keys it stands in the place of a search for each.)
+pub not_refused : {A : Type 0} (w : Why) (ts : List Tok) (x : A × List Tok) → act (refuse w) ts ≡ Ok x → ⊥
+not_refused w ts x e = cc
+
 -- what one reader after another gave, taken apart
 pub chain_ok : {A B : Type 0} (f : Reader A) (g : A → Reader B) (ts : List Tok) (y : B) (left : List Tok) → chain f g ts ≡ Ok (y, left)
     → (x : A) × (mid : List Tok) × (f ts ≡ Ok (x, mid)) × (g x mid ≡ Ok (y, left))

@@ -13,7 +13,7 @@ use Rattle.pfs_conf_tokens.specs.Keys.{in_line, before_end, ends_line, is_word_k
 use Rattle.pfs_conf_tokens.specs.Numbers.{number_written}
 use Rattle.pfs_conf_tokens.specs.Grammar.{Word, Number, Perhaps, absent, present, Until, ends, goes, UpTo, stands, steps, NextOf, plain, comma, ListOf, Passes, stays, over, skip_lines}
 use Rattle.pfs_conf_tokens.proofs.LineLaws.{skip_stays}
-use Rattle.pfs_conf_tokens.proofs.Laws.{passes_then, passes_less, bind_ok, ok_parts, chain_ok, Reach, inside, line, across, stopping, taking, first, Share, here, next, Online, online_done, online_chain, online_front, online_taking, OnlineAct, Taking, Shrinks, chain_shrinks_behind, front_shrinks, online_until_all, until_goes_on, until_stops, up_to_goes_on, up_to_stops}
+use Rattle.pfs_conf_tokens.proofs.Laws.{passes_then, passes_less, bind_ok, ok_parts, chain_ok, Reach, inside, line, across, stopping, taking, first, Share, here, next, Online, online_done, online_chain, online_front, online_taking, OnlineAct, Taking, Shrinks, chain_shrinks_behind, front_shrinks, online_until_all, until_goes_on, until_stops, up_to_goes_on, up_to_stops, not_refused}
 
 -- ---- keys
 
@@ -174,7 +174,7 @@ ended_is {A = A} x ts y left e = by_key (head ts).key refl e
   where
     by_key : (k : Key) → (head ts).key ≡ k → act (ended_by x k) ts ≡ Ok (y, left) → (x ≡ y) × Word key.LineEnd ts left
     by_key key.LineEnd g h = let p = ok_parts x y (rest ts) left h in (p.0, subst (λ (z : List Tok). Word key.LineEnd ts z) p.1 (word_is key.LineEnd ts g (λ q. cc)))
-    by_key _ g h = absurd cc
+    by_key _ g h = absurd (not_refused _ _ _ h)
 
 pub ended_reads : {A : Type 0} (x : A) {ts left : List Tok} → Word key.LineEnd ts left → ended x ts ≡ Ok (x, left)
 ended_reads x w = let h = word_head w in rw (h.0, h.1) refl
@@ -201,7 +201,7 @@ number_is low high (t ∷ ts) n left e = by_key t.key refl e
   where
     by_key : (k : Key) → t.key ≡ k → act (number_by low high t.text k) (t ∷ ts) ≡ Ok (n, left) → Number low high (t ∷ ts) n left
     by_key key.Number g h = let b = in_bounds low high n (number_written t.text) (t ∷ ts) left h in (t, ap (λ z. t ∷ z) b.3, g, b.0, b.1, b.2)
-    by_key _ g h = absurd cc
+    by_key _ g h = absurd (not_refused _ _ _ h)
 
 pub number_reads : (low high : ℕ) {ts : List Tok} {n : ℕ} {left : List Tok} → Number low high ts n left → number_at low high ts ≡ Ok (n, left)
 unfolding number_at

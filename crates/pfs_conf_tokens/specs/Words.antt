@@ -65,8 +65,8 @@ foreign_words =
     ∷ (codes "if-bound", key.Foreign) ∷ (codes "pflow", key.Foreign) ∷ []
 
 -- the key that a table gives a word; of a word that is not in it this one
-abbrev pub key_in : List (List ℕ × Key) → List ℕ → Key → Key
-key_in entries w other = unwrap_or (lookup (bytes_eq w) entries) other
+abbrev pub key_among : List (List ℕ × Key) → List ℕ → Key → Key
+key_among entries w other = unwrap_or (lookup (bytes_eq w) entries) other
 
 -- the word begins with a digit
 abbrev pub starts_with_digit : List ℕ → Bool
@@ -77,4 +77,4 @@ starts_with_digit (b ∷ bs) = nat_le 48 b && nat_le b 57
 unfoldable pub key_of_text : List ℕ → Key
 key_of_text w =
     if starts_with_digit w then key.Number
-    else key_in statement_words w (key_in option_words w (key_in named_words w (key_in foreign_words w key.Name)))
+    else key_among statement_words w (key_among option_words w (key_among named_words w (key_among foreign_words w key.Name)))

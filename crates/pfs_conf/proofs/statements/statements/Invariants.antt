@@ -3,12 +3,12 @@ use Rattle.std.proofs.Common.{◌≡◌, length}
 use Rattle.pfs_conf_tokens.specs.Reading.{ends_text, up_to_all}
 use Rattle.pfs_conf.specs.Statements.{nothing}
 use Rattle.pfs_conf.specs.Reading.{statement_at}
-use Rattle.pfs_conf.specs.Giving.{IsInOrder}
+use Rattle.pfs_conf.specs.Giving.{IsAtDepth}
 use Rattle.pfs_conf.specs.Within.{AreLexed}
 use Rattle.pfs_conf.proofs.statements.statements.Given as goal
 
 abbrev pub invariant-loop-alloc : goal.invariant-loop-alloc
-invariant-loop-alloc l = (up_to_all ends_text statement_at l.progress l.cursor ≡ up_to_all ends_text statement_at nothing l.fn.cursor) × IsInOrder l.progress × AreLexed l.cursor
+invariant-loop-alloc l = (up_to_all ends_text statement_at l.progress l.cursor ≡ up_to_all ends_text statement_at nothing l.fn.cursor) × IsAtDepth l.progress × AreLexed l.cursor
 
 abbrev pub decreases-loop-alloc : goal.decreases-loop-alloc
 decreases-loop-alloc l = length l.cursor
