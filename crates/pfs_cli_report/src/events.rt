@@ -63,8 +63,7 @@ fn has_fallen(last: Option<u64>, time: u64) -> bool
     }
 }
 
-// The event of a record by which entries leave a table. Such records are few: they are read apart from the way of a packet.
-#[inline(never)]
+// The event of a record by which entries leave a table.
 fn read_leaving(
     row: u64,
     last: Option<u64>,
@@ -158,7 +157,8 @@ fn is_skipped(proto: &Proto) -> bool
     proto.is_icmp()
 }
 
-// An address of the same family as another.
+// An address of the same family as another. Inlined, as `read_port` is, so that what is read is not moved once more.
+#[inline(always)]
 fn read_beside(other: Addr, text: &[u8]) -> Option<Addr>
     ensures { result ≡ beside other (addr_of text.now) }
 {
@@ -191,6 +191,7 @@ fn read_dir(text: &[u8]) -> Option<Dir>
     }
 }
 
+#[inline(always)]
 fn read_port(proto: &Proto, text: &[u8]) -> Option<u16>
     ensures { result ≡ port_for proto.now text.now }
 {

@@ -24,7 +24,6 @@ pub struct EndLine {
 
 /// Appends the line of a record: its row, what the machine did with it, and by which rule. An error comes where memory
 /// was refused; a part of the line may stand there then.
-#[inline(never)]
 #[tactic(auto, using(crate::proofs::Rows::parted))]
 pub fn push_row(out: &mut Vec<u8>, row: u64, outcome: &Outcome) -> Result<(), AllocError>
     ensures { OnOk result (out.new.items ≡ out.old.items ++ row_text row outcome.now) }
