@@ -1,5 +1,5 @@
 -- The first limit of the rows is the one that a store finds by asking in turn.
-use Rattle.std.proofs.Common.{◌≡◌, ◌&&◌, not, ℕ, Bool, true, false, if◌then◌else◌, nat_le, Option, Some, None, List, [], ◌∷◌, length, refl}
+use Rattle.std.proofs.Common.{◌≡◌, ◌&&◌, not, ℕ, Bool, true, false, if◌then◌else◌, nat_le, Option, Some, None, [], ◌∷◌, length, refl}
 use Rattle.pfs_addr.specs.declared.addresses.Addr.{Addr}
 use Rattle.pfs_conf_rules.specs.Configs.{Conf, limit_of, options_of}
 use Rattle.pfs_conf_rules.specs.declared.actions.StateOptions.{StateOptions}
@@ -8,7 +8,6 @@ use Rattle.pfs_store_plain.specs.Admission.{first_met, limit_met, tracks}
 use Rattle.pfs_store_plain.specs.Counts.{has_node, node_scope_of, node_states, reached, rule_states, scope_nodes}
 use Rattle.pfs_store_plain.specs.SourceLimits.{first_of, limit_in_turn, source_limit}
 use Rattle.pfs_store_plain.specs.Worlds.{World}
-use Rattle.pfs_store_plain.specs.declared.records.Limit.{Limit}
 use Rattle.pfs_store_plain.specs.declared.records.Limit.TheVariants as limit
 use Rattle.pfs_store_plain.specs.declared.records.NodeScope.{NodeScope}
 
