@@ -1,5 +1,5 @@
 -- A line is what its parts are together: for push_row.
-use Rattle.std.proofs.Common.{ℕ, List, [], ◌≡◌, ◌++◌, ◌∙◌, Option, Some, None, codes, append_assoc, ap, decimal, refl, sym}
+use Rattle.std.proofs.Common.{ℕ, List, ◌≡◌, ◌++◌, ◌∙◌, Option, Some, None, codes, append_assoc, ap, decimal, refl, sym}
 use Rattle.pfs_conf_rules.specs.declared.items.RuleNo.{RuleNo}
 use Rattle.pfs_engine_machine.specs.declared.events.Outcome.{Outcome}
 use Rattle.pfs_cli_report.specs.Lines.{mark_text, note_text, row_text, rule_of, word_of}
