@@ -1,5 +1,5 @@
 -- The flags of a text, letter by letter: for parse_flags.
-use Rattle.std.proofs.Common.{ℕ, List, [], ◌∷◌, ◌≡◌, ◌<◌, ◌+◌, Bool, true, false, ◌||◌, ◌&&◌, Option, Some, None, add-one, ap, drop, get_or, length, refl, sym, ◌∙◌}
+use Rattle.std.proofs.Common.{ℕ, List, [], ◌∷◌, ◌≡◌, ◌<◌, ◌+◌, Bool, true, false, ◌||◌, ◌&&◌, Some, None, add-one, ap, drop, get_or, length, refl, sym, ◌∙◌}
 use Rattle.std.proofs.Math.Seq.{drop-cons}
 use Rattle.std.proofs.lemmas.Bool.{cond-true}
 use Rattle.std.specs.List.{list_all}

@@ -1,7 +1,6 @@
 -- Answers of parse_flags: one letter more, and the end of the text.
 use Rattle.std.proofs.Common.{◌∙◌, arith, drop, sym}
 use Rattle.std.proofs.lemmas.List.{drop_all}
-use Rattle.pfs_addr.specs.LetterSteps.{no_letter, with_letters}
 use Rattle.pfs_addr.proofs.LetterLaws.{letters-left, flags-left, flags-found}
 use Rattle.pfs_addr.proofs.flag_sets.parse_flags.Goals as goal
 
