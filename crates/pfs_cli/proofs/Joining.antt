@@ -8,8 +8,9 @@ use Rattle.std.specs.Io.KnownBytes.{Consumes, IsAtEnd}
 use Rattle.pfs_cli.specs.declared.joined.Place.{Place}
 use Rattle.pfs_cli.specs.declared.joined.Place.TheVariants as place
 use Rattle.pfs_cli.specs.Rules.{KeepsEnough, rules_limit}
-use Rattle.pfs_cli.specs.Joined.{Parts, ahead, split_from, split_joined}
-use Rattle.pfs_cli.specs.Places.{IsPastSplit, pending, place_after, place_over, split_at, split_mark, settled, ends_split}
+use Rattle.pfs_cli.specs.Joined.{split_joined}
+use Rattle.pfs_cli.proofs.Splitting.{split-lines}
+use Rattle.pfs_cli.specs.Places.{Parts, ahead, split_from, IsPastSplit, pending, place_after, place_over, split_at, split_mark, settled, ends_split}
 
 pub ahead-ahead : (a b : List ℕ) (p : Parts) → ahead a (ahead b p) ≡ ahead (a ++ b) p
 ahead-ahead a b p = ap (λ (l : List ℕ). (l, p.1)) (sym (append_assoc a b p.0))
@@ -120,7 +121,7 @@ joins-start xs now kept e none = record {
   left = xs;
   unread = e;
   few = omega arith;
-  split = refl;
+  split = split-lines xs;
   all = none;
 }
 

@@ -2,4 +2,5 @@ pub mod Checking
 pub mod Joining
 pub mod Replaying
 pub mod Ruling
+pub mod Splitting
 pub mod Telling

@@ -1,8 +1,23 @@
--- Where in a line the reading of a joined text stands. (own)
-use Rattle.std.specs.Prelude.{◌≡◌, ◌++◌, ◌==◌, ℕ, Bool, true, false, List, [], ◌∷◌, drop, Option, Some, None, if◌then◌else◌}
+-- Where in a line the reading of a joined text stands, and how its bytes are split. (own)
+use Rattle.std.specs.Prelude.{◌≡◌, ◌++◌, ◌==◌, ◌&&◌, ℕ, Bool, true, false, List, [], ◌∷◌, drop, Option, Some, None, if◌then◌else◌}
+use Rattle.std.specs.Io.BufRead.{take_through, drop_through}
 use Rattle.pfs_cli.specs.declared.joined.Place.{Place}
 use Rattle.pfs_cli.specs.declared.joined.Place.TheVariants as place
-use Rattle.pfs_cli.specs.Joined.{Parts, split_from}
+use Rattle.pfs_cli.specs.Joined.{is_split}
+
+-- rules and a trace
+abbrev pub Parts : Type 0
+Parts = List ℕ × List ℕ
+
+-- bytes that come before the rest of the rules
+abbrev pub ahead : List ℕ → Parts → Parts
+ahead bytes parts = (bytes ++ parts.0, parts.1)
+
+-- the bytes before the first split line, and those after it; the flag says that a line starts here
+unfoldable pub split_from : Bool → List ℕ → Parts
+split_from start [] = ([], [])
+split_from start (c ∷ xs) =
+    if start && is_split (take_through 10 (c ∷ xs)) then ([], drop_through 10 (c ∷ xs)) else ahead (c ∷ []) (split_from (c == 10) xs)
 
 -- the bytes of the line so far, where it may still be the split line
 abbrev pub pending : Place → List ℕ

@@ -151,7 +151,8 @@ fn read_joined<B: Read>(alloc: Global, input: &mut B) -> Result<Vec<u8>, JoinSto
 /// is such a line. Rules that are too long are read on to the split line or the end before that is
 /// told, in bounded memory.
 ///
-/// What is written, each fault, and the memory are as `replay` says of the two parts.
+/// What is written, also of entries that expire, each fault, and the memory are as `replay` says of the
+/// two parts.
 pub fn replay_joined<R: Read, W: Write>(
     alloc: Global,
     input: &mut Feed<R>,

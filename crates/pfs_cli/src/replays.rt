@@ -106,8 +106,9 @@ pub(crate) fn finish<R, W: Write>(
 
 /// Replays the trace under the rules, and writes its report: a line for each record, and a last line
 /// with what is held. Every accepted rules text runs, and a record of every protocol is taken; those of
-/// ICMP are skipped. Each line is written before the next record is read, and the whole is flushed
-/// once, at its end. `rules` and `out` are as `new` gives them.
+/// ICMP are skipped. By a record `expire` the entries that are old enough leave its table, and its line
+/// tells how many. Each line is written before the next record is read, and the whole is flushed once,
+/// at its end. `rules` and `out` are as `new` gives them.
 ///
 /// The rules are told before anything of the trace. Nothing is written before they are read to
 /// their end, and of rules that are too long no more than 1,048,577 bytes are read.
