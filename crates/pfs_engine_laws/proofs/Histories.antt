@@ -292,9 +292,9 @@ own-handshake s = rw (one s.rule.0, same_addr_self s.source) refl
 -- the score that is compared with the limit
 score-in : (conf : Conf) (x : Rate) (now : ℕ) (history : Score) (w : World) (p : Header) (s : State) → IsRated conf s.rule.0 x → state_with (key_of p) w ≡ Some s
     → completes_at p s ≡ true → RemembersIn conf s.rule.0 s.source x.seconds now history w → score_in s.source (touched conf w s p now).nodes (node_scope_of conf s.rule.0) ≡ score_after x.seconds history now
-score-in conf x now history w p s i found done r =
+score-in conf x now history w p s i found act_done r =
     let some : 0 < node_states conf (own_scope s.rule.0) s.source w.states = found-count conf s.rule.0 s.source p w s found (own-handshake s) in
-    ap (λ (b : Bool). score_in s.source (nodes_touched conf w.nodes s now b) (node_scope_of conf s.rule.0)) done
+    ap (λ (b : Bool). score_in s.source (nodes_touched conf w.nodes s now b) (node_scope_of conf s.rule.0)) act_done
     ∙ ap (λ (o : Option NodeScope). score_in s.source (nodes_scored w.nodes s.source now o (options_of conf s.rule.0).max_src_conn_rate) o) (scope-rated conf s.rule.0 x i)
     ∙ ap (λ (o : Option Rate). node_score (own_scope s.rule.0) s.source (nodes_scored w.nodes s.source now (Some (own_scope s.rule.0)) o)) i.is
     ∙ score-this s.rule.0 s.source x.seconds now history (node_states conf (own_scope s.rule.0) s.source w.states) w.nodes r.nodes (r.noded some)

@@ -6,24 +6,24 @@ use Rattle.pfs_engine_machine.specs.Machine.{Held, Machine, handled, advanced, d
 use Rattle.pfs_engine_machine.specs.declared.events.Event.{Event}
 use Rattle.pfs_engine_machine.specs.declared.events.What.{What}
 use Rattle.pfs_engine_machine.specs.declared.events.What.TheVariants as what
-use Rattle.pfs_engine_laws.specs.Acts.{Act, Purge, acts_from, arrivals, done, done_all}
+use Rattle.pfs_engine_laws.specs.Acts.{RunAct, Purge, acts_from, arrivals, act_done, acts_done}
 
-pub done_all-append : (conf : Conf) (h : Held) (xs ys : List Act) → done_all conf h (xs ++ ys) ≡ done_all conf (done_all conf h xs) ys
+pub done_all-append : (conf : Conf) (h : Held) (xs ys : List RunAct) → acts_done conf h (xs ++ ys) ≡ acts_done conf (acts_done conf h xs) ys
 done_all-append conf h [] ys = refl
-done_all-append conf h (x ∷ xs) ys = done_all-append conf (done conf h x) xs ys
+done_all-append conf h (x ∷ xs) ys = done_all-append conf (act_done conf h x) xs ys
 
-purges-done : (conf : Conf) (h : Held) (ss : List ℕ) (rest : List Act)
-    → done_all conf h (map (λ s. Purge s) ss ++ rest) ≡ done_all conf (held_of (purged conf h.world ss) h.tables) rest
+purges-done : (conf : Conf) (h : Held) (ss : List ℕ) (rest : List RunAct)
+    → acts_done conf h (map (λ s. Purge s) ss ++ rest) ≡ acts_done conf (held_of (purged conf h.world ss) h.tables) rest
 purges-done conf h [] rest = refl
 purges-done conf h (s ∷ ss) rest = purges-done conf (held_of (purge conf h.world s) h.tables) ss rest
 
-arrivals-done : (conf : Conf) (h : Held) (first now : ℕ) (what : What) (rest : List Act)
-    → done_all conf h (arrivals first now what ++ rest) ≡ done_all conf (handled conf h first now what).1 rest
+arrivals-done : (conf : Conf) (h : Held) (first now : ℕ) (what : What) (rest : List RunAct)
+    → acts_done conf h (arrivals first now what ++ rest) ≡ acts_done conf (handled conf h first now what).1 rest
 arrivals-done conf h first now what.Skip rest = refl
 arrivals-done conf h first now (what.Packet p) rest = refl
 arrivals-done conf h first now (what.Expire table seconds) rest = refl
 
-pub acts-done : (conf : Conf) (m : Machine) (es : List Event) → (machine_after conf m es).held ≡ done_all conf m.held (acts_from m.first m.last es)
+pub acts-done : (conf : Conf) (m : Machine) (es : List Event) → (machine_after conf m es).held ≡ acts_done conf m.held (acts_from m.first m.last es)
 unfolding machine_after step
 acts-done conf m [] = refl
 acts-done conf m (e ∷ es) =

@@ -26,7 +26,7 @@ use Rattle.pfs_engine_machine.specs.Machine.{Held}
 use Rattle.pfs_engine_laws.proofs.Changes.{answered_keeps}
 use Rattle.pfs_engine_laws.proofs.Numbers.{among-same, made-more, numbers-idled, numbers-renewed, numbers-touched, was}
 use Rattle.pfs_engine_laws.proofs.Rounds.{length-filter-le}
-use Rattle.pfs_engine_laws.specs.Acts.{Act, Arrive, Expire, Purge, done, done_all}
+use Rattle.pfs_engine_laws.specs.Acts.{RunAct, Arrive, Expire, Purge, act_done, acts_done}
 
 abbrev pub state_limit : Conf → ℕ
 state_limit conf = limit_of conf limit_name.States
@@ -161,15 +161,15 @@ small-nodes conf w s k =
 
 -- ---- together
 
-pub small-done : (conf : Conf) (m : Held) (a : Act) → IsSmall conf m.world → IsSmall conf (done conf m a).world
+pub small-done : (conf : Conf) (m : Held) (a : RunAct) → IsSmall conf m.world → IsSmall conf (act_done conf m a).world
 small-done conf m (Purge s) k = small-nodes conf (state_slice conf m.world s) s (small-states conf m.world s k)
 small-done conf m (Arrive now p) k =
     answered_keeps conf (IsSmall conf) (record { touches = small-touched conf; kills = small-without conf; admits = small-admitted conf }) m p now k
 small-done conf m (Expire first now table seconds) k = k
 
-pub small-done_all : (conf : Conf) (m : Held) (acts : List Act) → IsSmall conf m.world → IsSmall conf (done_all conf m acts).world
+pub small-done_all : (conf : Conf) (m : Held) (acts : List RunAct) → IsSmall conf m.world → IsSmall conf (acts_done conf m acts).world
 small-done_all conf m [] k = k
-small-done_all conf m (a ∷ acts) k = small-done_all conf (done conf m a) acts (small-done conf m a k)
+small-done_all conf m (a ∷ acts) k = small-done_all conf (act_done conf m a) acts (small-done conf m a k)
 
 pub small-empty : (conf : Conf) → IsSmall conf empty_world
 small-empty conf = record {

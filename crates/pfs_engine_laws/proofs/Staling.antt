@@ -25,7 +25,7 @@ use Rattle.pfs_engine_laws.proofs.Numbers.{any-number, gone, numbers-idled, numb
 use Rattle.pfs_engine_laws.proofs.Rounds.{IsDue, due-end, due-filter, due-slice, due-start, share-enough}
 use Rattle.pfs_engine_laws.proofs.Runs.{done_all-append}
 use Rattle.pfs_engine_laws.proofs.Small.{IsSmall, node_limit, small-done, small-done_all, small-empty, small-states, state_limit}
-use Rattle.pfs_engine_laws.specs.Acts.{Act, Arrive, Expire, Purge, after, done, done_all, purges}
+use Rattle.pfs_engine_laws.specs.Acts.{RunAct, Arrive, Expire, Purge, after, act_done, acts_done, purges}
 use Rattle.pfs_engine_laws.specs.Staleness.{IsOver, NodesGo}
 
 abbrev pub interval_of : Conf → ℕ
@@ -120,27 +120,27 @@ state-end conf n w one h = go h.fate
     go (inr d) = absurd (due-end (state_share conf) (interval_of conf) n w.pending_states one d)
 
 -- at each purge among these acts the state of this number, where it is still held, is expired
-abbrev pub IsExpiredThroughout : Conf → Held → ℕ → List Act → Type 0
+abbrev pub IsExpiredThroughout : Conf → Held → ℕ → List RunAct → Type 0
 IsExpiredThroughout conf m n acts =
-    (before rest : List Act) (s : ℕ) → acts ≡ before ++ Purge s ∷ rest →
-    All (λ (t : State). t.number ≡ n → has_expired conf (done_all conf m before).world.states s t ≡ true) (done_all conf m before).world.states
+    (before rest : List RunAct) (s : ℕ) → acts ≡ before ++ Purge s ∷ rest →
+    All (λ (t : State). t.number ≡ n → has_expired conf (acts_done conf m before).world.states s t ≡ true) (acts_done conf m before).world.states
 
-state-goes : (conf : Conf) (n : ℕ) (m : Held) (acts : List Act) → 1 ≤ interval_of conf → IsSmall conf m.world → StateAwaits conf (purges acts) n m.world
-    → IsExpiredThroughout conf m n acts → is_among (state_numbers (done_all conf m acts).world.states) n ≡ false
+state-goes : (conf : Conf) (n : ℕ) (m : Held) (acts : List RunAct) → 1 ≤ interval_of conf → IsSmall conf m.world → StateAwaits conf (purges acts) n m.world
+    → IsExpiredThroughout conf m n acts → is_among (state_numbers (acts_done conf m acts).world.states) n ≡ false
 state-goes conf n m [] one small h all = state-end conf n m.world one h
 state-goes conf n m (Purge s ∷ acts) one small h all =
-    state-goes conf n (done conf m (Purge s)) acts one (small-done conf m (Purge s) small) (state-purged conf (purges acts) n m.world s one small (all [] acts s refl) h)
-    (λ before rest t e. all (Purge s ∷ before) rest t (ap (λ (xs : List Act). Purge s ∷ xs) e))
+    state-goes conf n (act_done conf m (Purge s)) acts one (small-done conf m (Purge s) small) (state-purged conf (purges acts) n m.world s one small (all [] acts s refl) h)
+    (λ before rest t e. all (Purge s ∷ before) rest t (ap (λ (xs : List RunAct). Purge s ∷ xs) e))
 state-goes conf n m (Arrive now p ∷ acts) one small h all =
-    state-goes conf n (done conf m (Arrive now p)) acts one (small-done conf m (Arrive now p) small)
+    state-goes conf n (act_done conf m (Arrive now p)) acts one (small-done conf m (Arrive now p) small)
     (answered_keeps conf (StateAwaits conf (purges acts) n) (state-packets conf (purges acts) n) m p now h)
-    (λ before rest t e. all (Arrive now p ∷ before) rest t (ap (λ (xs : List Act). Arrive now p ∷ xs) e))
+    (λ before rest t e. all (Arrive now p ∷ before) rest t (ap (λ (xs : List RunAct). Arrive now p ∷ xs) e))
 state-goes conf n m (Expire first now table seconds ∷ acts) one small h all =
-    state-goes conf n (done conf m (Expire first now table seconds)) acts one small h
-    (λ before rest t e. all (Expire first now table seconds ∷ before) rest t (ap (λ (xs : List Act). Expire first now table seconds ∷ xs) e))
+    state-goes conf n (act_done conf m (Expire first now table seconds)) acts one small h
+    (λ before rest t e. all (Expire first now table seconds ∷ before) rest t (ap (λ (xs : List RunAct). Expire first now table seconds ∷ xs) e))
 
 -- in any 2 * interval purges in a row, the state of a number that is made by then, and expired at each of them, goes
-pub numbered-go : (conf : Conf) (earlier meanwhile : List Act) (n : ℕ) → IsConfig conf → purges meanwhile ≡ 2 * interval_of conf
+pub numbered-go : (conf : Conf) (earlier meanwhile : List RunAct) (n : ℕ) → IsConfig conf → purges meanwhile ≡ 2 * interval_of conf
     → n ≤ (after conf earlier).world.made → IsExpiredThroughout conf (after conf earlier) n meanwhile
     → is_among (state_numbers (after conf (earlier ++ meanwhile)).world.states) n ≡ false
 numbered-go conf earlier meanwhile n sound count made all =
@@ -208,25 +208,25 @@ node-end conf n w one h = go h.fate
     go (inr d) = absurd (due-end (node_share conf) (interval_of conf) n w.pending_nodes one d)
 
 -- at each purge among these acts the node of this number, where it is still held, is over
-abbrev IsOverThroughout : Conf → Held → ℕ → List Act → Type 0
-IsOverThroughout conf m n acts = (before rest : List Act) (s : ℕ) → acts ≡ before ++ Purge s ∷ rest → IsOver conf n (done_all conf m before).world s
+abbrev IsOverThroughout : Conf → Held → ℕ → List RunAct → Type 0
+IsOverThroughout conf m n acts = (before rest : List RunAct) (s : ℕ) → acts ≡ before ++ Purge s ∷ rest → IsOver conf n (acts_done conf m before).world s
 
-node-goes : (conf : Conf) (n : ℕ) (m : Held) (acts : List Act) → 1 ≤ interval_of conf → IsSmall conf m.world → NodeAwaits conf (purges acts) n m.world
-    → IsOverThroughout conf m n acts → is_among (node_numbers (done_all conf m acts).world.nodes) n ≡ false
+node-goes : (conf : Conf) (n : ℕ) (m : Held) (acts : List RunAct) → 1 ≤ interval_of conf → IsSmall conf m.world → NodeAwaits conf (purges acts) n m.world
+    → IsOverThroughout conf m n acts → is_among (node_numbers (acts_done conf m acts).world.nodes) n ≡ false
 node-goes conf n m [] one small h all = node-end conf n m.world one h
 node-goes conf n m (Purge s ∷ acts) one small h all =
     let v : World = state_slice conf m.world s in
     let sliced = node-left conf (suc (purges acts)) n m.world v.states v.pending_states s h in
-    node-goes conf n (done conf m (Purge s)) acts one (small-done conf m (Purge s) small)
+    node-goes conf n (act_done conf m (Purge s)) acts one (small-done conf m (Purge s) small)
     (node-purged conf (purges acts) n m.world s one (small-states conf m.world s small) (all [] acts s refl) sliced)
-    (λ before rest t e. all (Purge s ∷ before) rest t (ap (λ (xs : List Act). Purge s ∷ xs) e))
+    (λ before rest t e. all (Purge s ∷ before) rest t (ap (λ (xs : List RunAct). Purge s ∷ xs) e))
 node-goes conf n m (Arrive now p ∷ acts) one small h all =
-    node-goes conf n (done conf m (Arrive now p)) acts one (small-done conf m (Arrive now p) small)
+    node-goes conf n (act_done conf m (Arrive now p)) acts one (small-done conf m (Arrive now p) small)
     (answered_keeps conf (NodeAwaits conf (purges acts) n) (node-packets conf (purges acts) n) m p now h)
-    (λ before rest t e. all (Arrive now p ∷ before) rest t (ap (λ (xs : List Act). Arrive now p ∷ xs) e))
+    (λ before rest t e. all (Arrive now p ∷ before) rest t (ap (λ (xs : List RunAct). Arrive now p ∷ xs) e))
 node-goes conf n m (Expire first now table seconds ∷ acts) one small h all =
-    node-goes conf n (done conf m (Expire first now table seconds)) acts one small h
-    (λ before rest t e. all (Expire first now table seconds ∷ before) rest t (ap (λ (xs : List Act). Expire first now table seconds ∷ xs) e))
+    node-goes conf n (act_done conf m (Expire first now table seconds)) acts one small h
+    (λ before rest t e. all (Expire first now table seconds ∷ before) rest t (ap (λ (xs : List RunAct). Expire first now table seconds ∷ xs) e))
 
 pub nodes-go : (conf : Conf) (events : List Event) → IsConfig conf → NodesGo conf events
 nodes-go conf events sound earlier meanwhile later n rounds all held =

@@ -25,7 +25,7 @@ use Rattle.pfs_engine_laws.proofs.Numbers.{any-number}
 use Rattle.pfs_engine_laws.proofs.Runs.{done_all-append}
 use Rattle.pfs_engine_laws.proofs.Small.{IsSmall, small-done_all, small-empty}
 use Rattle.pfs_engine_laws.proofs.Staling.{IsExpiredThroughout, numbered-go}
-use Rattle.pfs_engine_laws.specs.Acts.{Act, Arrive, Expire, Purge, after, done, done_all}
+use Rattle.pfs_engine_laws.specs.Acts.{RunAct, Arrive, Expire, Purge, after, act_done, acts_done}
 use Rattle.pfs_engine_laws.specs.Staleness.{StatesGo, brings}
 
 -- ---- numbers rise
@@ -44,13 +44,13 @@ numbered-packets conf = record {
   admits = λ w p rule now none h. record { rise = Rise-push 0 w.made w.states (new_state (w.made + 1) p rule now) refl h.rise };
 }
 
-numbered-all : (conf : Conf) (m : Held) (acts : List Act) → AreNumbered m.world → AreNumbered (done_all conf m acts).world
+numbered-all : (conf : Conf) (m : Held) (acts : List RunAct) → AreNumbered m.world → AreNumbered (acts_done conf m acts).world
 numbered-all conf m [] h = h
 numbered-all conf m (Purge s ∷ acts) h =
-    numbered-all conf (done conf m (Purge s)) acts (record { rise = Rise-filter (stays conf m.world.states s (take (state_share conf) (state_round m.world))) 0 m.world.made m.world.states h.rise })
+    numbered-all conf (act_done conf m (Purge s)) acts (record { rise = Rise-filter (stays conf m.world.states s (take (state_share conf) (state_round m.world))) 0 m.world.made m.world.states h.rise })
 numbered-all conf m (Arrive now p ∷ acts) h =
-    numbered-all conf (done conf m (Arrive now p)) acts (answered_keeps conf AreNumbered (numbered-packets conf) m p now h)
-numbered-all conf m (Expire first now table seconds ∷ acts) h = numbered-all conf (done conf m (Expire first now table seconds)) acts h
+    numbered-all conf (act_done conf m (Arrive now p)) acts (answered_keeps conf AreNumbered (numbered-packets conf) m p now h)
+numbered-all conf m (Expire first now table seconds ∷ acts) h = numbered-all conf (act_done conf m (Expire first now table seconds)) acts h
 
 above : (low high : ℕ) (ss : List State) → Rise low ss high → AllByRecursion (λ (t : State). low < t.number) ss
 above low high [] r = tt
@@ -118,7 +118,7 @@ before-packet conf s w p now apart h = record {
   kills = λ v stay k. record { made = k.made; same = each-filter (λ (t : State). t.number ≡ s.number → t ≡ s) stay v.states k.same };
 }
 
-before-done : (conf : Conf) (s : State) (m : Held) (a : Act) → brings s.key a ≡ false → IsAsBefore s m.world → IsAsBefore s (done conf m a).world
+before-done : (conf : Conf) (s : State) (m : Held) (a : RunAct) → brings s.key a ≡ false → IsAsBefore s m.world → IsAsBefore s (act_done conf m a).world
 before-done conf s m (Purge now) apart h = record {
   made = h.made;
   same = each-filter (λ (t : State). t.number ≡ s.number → t ≡ s) (stays conf m.world.states now (take (state_share conf) (state_round m.world))) m.world.states h.same;
@@ -126,10 +126,10 @@ before-done conf s m (Purge now) apart h = record {
 before-done conf s m (Arrive now p) apart h = answered_has conf m p now (IsAsBefore s) (before-packet conf s m.world p now apart h)
 before-done conf s m (Expire first now table seconds) apart h = h
 
-before-all : (conf : Conf) (s : State) (m : Held) (acts rest : List Act) → AllByRecursion (λ (a : Act). brings s.key a ≡ false) (acts ++ rest) → IsAsBefore s m.world
-    → IsAsBefore s (done_all conf m acts).world
+before-all : (conf : Conf) (s : State) (m : Held) (acts rest : List RunAct) → AllByRecursion (λ (a : RunAct). brings s.key a ≡ false) (acts ++ rest) → IsAsBefore s m.world
+    → IsAsBefore s (acts_done conf m acts).world
 before-all conf s m [] rest all h = h
-before-all conf s m (a ∷ acts) rest all h = before-all conf s (done conf m a) acts rest all.1 (before-done conf s m a all.0 h)
+before-all conf s m (a ∷ acts) rest all h = before-all conf s (act_done conf m a) acts rest all.1 (before-done conf s m a all.0 h)
 
 -- ---- so it is expired at each purge
 
@@ -183,9 +183,9 @@ states-go conf events sound earlier meanwhile later s rounds held apart expired 
   where
     through : (m : Held) → IsAsBefore s m.world → after conf earlier ≡ m → IsExpiredThroughout conf m s.number meanwhile
     through m first is before rest now e =
-        let v : Held = done_all conf m before in
-        let there : after conf (earlier ++ before) ≡ v = done_all-append conf (start conf).held earlier before ∙ ap (λ (u : Held). done_all conf u before) is in
-        let apart' : AllByRecursion (λ (a : Act). brings s.key a ≡ false) (before ++ Purge now ∷ rest) =
-        subst (AllByRecursion (λ (a : Act). brings s.key a ≡ false)) e (recursion_from_All (λ (a : Act). brings s.key a ≡ false) meanwhile apart) in
+        let v : Held = acts_done conf m before in
+        let there : after conf (earlier ++ before) ≡ v = done_all-append conf (start conf).held earlier before ∙ ap (λ (u : Held). acts_done conf u before) is in
+        let apart' : AllByRecursion (λ (a : RunAct). brings s.key a ≡ false) (before ++ Purge now ∷ rest) =
+        subst (AllByRecursion (λ (a : RunAct). brings s.key a ≡ false)) e (recursion_from_All (λ (a : RunAct). brings s.key a ≡ false) meanwhile apart) in
         all-expired conf s v.world now (before-all conf s m before (Purge now ∷ rest) apart' first)
         (λ h. ap (λ (u : Held). has_expired conf u.world.states now s) (sym there) ∙ expired before rest now e (ap (λ (u : Held). holds_number u.world.states s.number) there ∙ h))

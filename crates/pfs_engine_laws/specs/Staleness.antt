@@ -11,20 +11,20 @@ use Rattle.pfs_store_plain.specs.Worlds.{World, holds_number}
 use Rattle.pfs_store_plain.specs.declared.records.Node.{Node}
 use Rattle.pfs_store_plain.specs.declared.records.State.{State}
 use Rattle.pfs_engine_machine.specs.declared.events.Event.{Event}
-use Rattle.pfs_engine_laws.specs.Acts.{Act, Arrive, Expire, Purge, acts_of, after, purges}
+use Rattle.pfs_engine_laws.specs.Acts.{RunAct, Arrive, Expire, Purge, acts_of, after, purges}
 
 -- these acts come one after another in the run of these events, the second part with twice as many purges as `interval` has seconds
-pub record AreTwoRounds (conf : Conf) (events : List Event) (earlier meanwhile later : List Act) : Type 0 where
+pub record AreTwoRounds (conf : Conf) (events : List Event) (earlier meanwhile later : List RunAct) : Type 0 where
   pub run : acts_of None events ≡ (earlier ++ meanwhile) ++ later
   pub purges : purges meanwhile ≡ 2 * timeout_of conf timeout.Interval
 
 -- at each purge of the second part this holds of the world before it and of its second
-abbrev pub AtEachPurge : Conf → List Act → List Act → (World → ℕ → Type 0) → Type 0
+abbrev pub AtEachPurge : Conf → List RunAct → List RunAct → (World → ℕ → Type 0) → Type 0
 AtEachPurge conf earlier meanwhile Holds =
-    (before rest : List Act) (now : ℕ) → meanwhile ≡ before ++ Purge now ∷ rest → Holds (after conf (earlier ++ before)).world now
+    (before rest : List RunAct) (now : ℕ) → meanwhile ≡ before ++ Purge now ∷ rest → Holds (after conf (earlier ++ before)).world now
 
 -- a packet with this key arrives
-abbrev pub brings : FlowKey → Act → Bool
+abbrev pub brings : FlowKey → RunAct → Bool
 brings key (Purge s) = false
 brings key (Arrive now p) = same_key key (key_of p)
 brings key (Expire first now table seconds) = false
@@ -33,9 +33,9 @@ brings key (Expire first now table seconds) = false
 -- each of these purges at which it is still held, is not held after the last of them.
 abbrev pub StatesGo : Conf → List Event → Type 0
 StatesGo conf events =
-    (earlier meanwhile later : List Act) (s : State) → AreTwoRounds conf events earlier meanwhile later →
+    (earlier meanwhile later : List RunAct) (s : State) → AreTwoRounds conf events earlier meanwhile later →
     Contains (after conf earlier).world.states s →
-    All (λ (a : Act). brings s.key a ≡ false) meanwhile →
+    All (λ (a : RunAct). brings s.key a ≡ false) meanwhile →
     AtEachPurge conf earlier meanwhile (λ w now. holds_number w.states s.number ≡ true → has_expired conf w.states now s ≡ true) →
     holds_number (after conf (earlier ++ meanwhile)).world.states s.number ≡ false
 
@@ -52,7 +52,7 @@ IsOver conf number w now =
 -- the last of them
 abbrev pub NodesGo : Conf → List Event → Type 0
 NodesGo conf events =
-    (earlier meanwhile later : List Act) (number : ℕ) → AreTwoRounds conf events earlier meanwhile later →
+    (earlier meanwhile later : List RunAct) (number : ℕ) → AreTwoRounds conf events earlier meanwhile later →
     AtEachPurge conf earlier meanwhile (IsOver conf number) →
     holds_node (after conf earlier).world.nodes number ≡ true →
     holds_node (after conf (earlier ++ meanwhile)).world.nodes number ≡ false
