@@ -1,14 +1,15 @@
 -- A store of what is held, and of two rounds of the purge, each of which is two numbers. (own)
-use Rattle.std.specs.Prelude.{ℕ, ◌≡◌, ◌≤◌, ◌+◌, Bool, false, is_some, List, length, slice_index}
+use Rattle.std.specs.Prelude.{ℕ, ◌≡◌, ◌≤◌, ◌+◌, Bool, false, if◌then◌else◌, is_some, List, length, slice_index}
 use Rattle.std.specs.List.{AllByRecursion}
 use Rattle.pfs_conf_rules.specs.Configs.{Conf, rule_timeout_of}
-use Rattle.pfs_conf_rules.specs.declared.timeouts.TimeoutName.TheVariants.{AdaptiveStart}
-use Rattle.pfs_track.specs.Lifetimes.{is_expired, scaled_lifetime}
+use Rattle.pfs_conf_rules.specs.declared.items.RuleNo.{RuleNo}
+use Rattle.pfs_conf_rules.specs.declared.timeouts.TimeoutName.{TimeoutName}
+use Rattle.pfs_conf_rules.specs.declared.timeouts.TimeoutName.TheVariants.{AdaptiveEnd, AdaptiveStart}
+use Rattle.pfs_track.specs.Lifetimes.{scaled, value_for}
 use Rattle.pfs_store_plain.specs.Purging.{node_numbers, state_numbers}
 use Rattle.pfs_store_plain.specs.Worlds.{World, lists}
 use Rattle.pfs_store_plain.specs.declared.records.State.{State}
-use Rattle.pfs_store_records.specs.Walks.{glance_of}
-use Rattle.pfs_store_records.specs.declared.walks.Glance.{Glance}
+use Rattle.pfs_store_records.specs.Walks.{end_of, has_ended}
 use Rattle.pfs_store_index.specs.Holdings.{Holding}
 use Rattle.pfs_store_index.specs.Rounds.{waiting}
 
@@ -21,27 +22,22 @@ abbrev pub world_of : Holding → ℕ → ℕ → ℕ → ℕ → ℕ → World
 world_of h cursor mark node_cursor node_mark made =
     lists h.states h.nodes (waiting cursor mark (state_numbers h.states)) (waiting node_cursor node_mark (node_numbers h.nodes)) made
 
--- how long a state may stay of which a glance shows so much, where the rules had these counts of states and so many were held
-abbrev pub seconds_of : Conf → List ℕ → ℕ → Glance → ℕ
-seconds_of conf counts held g = scaled_lifetime conf g.rule.0 g.phase (slice_index counts g.rule.0) held
-
--- the moment at which it expires, and whether it has expired
-abbrev pub glance_due_at : Conf → List ℕ → ℕ → Glance → ℕ
-glance_due_at conf counts held g = g.last + seconds_of conf counts held g
-
-abbrev pub is_glance_due : Conf → List ℕ → ℕ → ℕ → Glance → Bool
-is_glance_due conf counts held now g = is_expired (seconds_of conf counts held g) g.last now
-
--- the same of the state
-abbrev pub due_at : Conf → List ℕ → ℕ → State → ℕ
-due_at conf counts held s = glance_due_at conf counts held (glance_of s)
-
-abbrev pub is_due : Conf → List ℕ → ℕ → ℕ → State → Bool
-is_due conf counts held now s = is_glance_due conf counts held now (glance_of s)
-
 -- a rule scales the lifetimes of its states by a pair of its own, under the count of its states
 abbrev pub has_pair : Conf → ℕ → Bool
 has_pair conf rule = is_some (rule_timeout_of conf rule AdaptiveStart)
+
+-- how long a state of a rule may stay in phases of a timeout, where the rules had these counts of states and so many were held
+abbrev pub seconds_of : Conf → List ℕ → ℕ → RuleNo → TimeoutName → ℕ
+seconds_of conf counts held rule timeout =
+    scaled (value_for conf rule.0 timeout) (value_for conf rule.0 AdaptiveStart) (value_for conf rule.0 AdaptiveEnd)
+    (if has_pair conf rule.0 then slice_index counts rule.0 else held)
+
+-- the moment at which a state expires, and whether it has expired at a second
+abbrev pub due_at : Conf → List ℕ → ℕ → State → ℕ
+due_at conf counts held s = end_of (seconds_of conf counts held) s
+
+abbrev pub is_due : Conf → List ℕ → ℕ → ℕ → State → Bool
+is_due conf counts held now s = has_ended (seconds_of conf counts held) now s
 
 -- no rule but the first ones has such a pair
 abbrev pub AreUnread : Conf → ℕ → Type 0

@@ -1,34 +1,26 @@
-//! Which states have expired at a second, under the counts by which their lifetimes are scaled.
+//! How long states may stay, under the counts by which their lifetimes are scaled.
 
 ghost use Rattle.std.specs.Prelude.{◌≡◌, ◌+◌, ◌-◌, ◌<◌, ◌≤◌, ◌^◌, if◌then◌else◌, length, slice_index};
-ghost use Rattle.pfs_store_index.specs.Stored.{AreUnread, glance_due_at, has_pair, is_glance_due};
+ghost use Rattle.pfs_store_index.specs.Stored.{AreUnread, has_pair, seconds_of};
 
 use pfs_conf_rules::{Config, RuleNo, TimeoutName};
-use pfs_store_records::{Glance, StateTest};
-use pfs_track::{is_expired, lifetime};
+use pfs_store_records::Lifetimes;
+use pfs_track::{StatePhase, lifetime};
 
-/// The states that have expired at a second, where the rules had these counts of states and so many were held.
+/// The lifetimes of states, where the rules had these counts of states and so many were held.
 #[derive(Clone, Copy)]
-pub(crate) struct Due<'a> {
+pub(crate) struct Scaled<'a> {
     pub(crate) config: &'a Config,
     pub(crate) counts: &'a [u64],
     pub(crate) held: u64,
-    pub(crate) now: u64,
 }
 
-impl StateTest for Due<'_> {
-    ghost passes = { λ t g. is_glance_due t.config.now t.counts.now t.held t.now g };
+impl Lifetimes for Scaled<'_> {
+    ghost lifetime = { λ t rule timeout. seconds_of t.config.now t.counts.now t.held rule timeout };
 
-    ghost moment = { λ t g. glance_due_at t.config.now t.counts.now t.held g };
-
-    fn until(&self, glance: Glance) -> Option<u64> {
-        let count = count_at(self.counts, glance.rule.0 as usize);
-        let seconds = lifetime(self.config, glance.rule, glance.phase, count, self.held);
-        if is_expired(seconds, glance.last, self.now) {
-            None
-        } else {
-            Some(glance.last.saturating_add(seconds))
-        }
+    fn seconds(&self, rule: RuleNo, phase: StatePhase) -> u64 {
+        let count = count_at(self.counts, rule.0 as usize);
+        lifetime(self.config, rule, phase, count, self.held)
     }
 }
 

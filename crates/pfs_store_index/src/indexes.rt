@@ -15,7 +15,7 @@ ghost use Rattle.pfs_store_plain.specs.Touching.{completes_at, nodes_touched, re
 ghost use Rattle.pfs_store_plain.specs.Worlds.{IsUpToNow, holds_number, lists, state_with};
 ghost use Rattle.pfs_store_records.specs.Records.{IsAbove, IsRising, placed_at};
 ghost use Rattle.pfs_store_records.specs.Sourced.{IsSourced};
-ghost use Rattle.pfs_store_records.specs.Walks.{IsWalk, StayUntil, glance_of, looks_of};
+ghost use Rattle.pfs_store_records.specs.Walks.{IsWalk, StayUntil, end_of, has_ended, looks_of};
 ghost use Rattle.pfs_store_index.specs.Holdings.{IsUncompleted};
 ghost use Rattle.pfs_store_index.specs.Rounds.{waiting, waiting_of};
 ghost use Rattle.pfs_store_index.specs.Stored.{IsNumbered};
@@ -27,7 +27,7 @@ use crate::tallying::{leave, meet};
 use pfs_addr::{Addr, FlowKey, Meter, NoMemory, Packet};
 use pfs_conf_rules::{Config, RuleNo, Scope};
 use pfs_store_plain::{Node, NodeScope, State, StateNo, Touched};
-use pfs_store_records::{Nodes, Records, Round, StateTest, Tally, Walk};
+use pfs_store_records::{Lifetimes, Nodes, Records, Round, Tally, Walk};
 use std::alloc::{AllocError, Global};
 use std::collections::{BTreeSet, HashMap};
 use std::hash::BuildHasher;
@@ -224,24 +224,25 @@ impl<S: BuildHasher> Indexes<S> {
         self.records.read(number, meter)
     }
 
-    /// Walks over the states whose numbers are above one and up to another, from the least on: over at most so many of them,
-    /// and up to the first that passes the test. Each is one look.
-    pub(crate) fn walk<T: StateTest>(
+    /// Walks over the states that are still to be examined in a round, from the least number on: over at most so many of
+    /// them, and up to the first that has expired at a second. Each is one look.
+    pub(crate) fn walk<T: Lifetimes>(
         &self,
-        above: u64,
-        most: u64,
+        round: Round,
         share: u64,
-        test: &T,
+        now: u64,
+        lifetimes: &T,
         meter: &mut Meter,
     ) -> Walk
-        requires range { above ≤ most }
+        requires range { round.cursor ≤ round.mark }
         requires room { meter.old + share < 2 ^ 64 }
-        ensures walk { IsWalk (λ s. T.passes test.now (glance_of s)) self.now.states above most share result.stayed result.last result.leaver }
-        ensures until { StayUntil (λ s. T.moment test.now (glance_of s)) self.now.states above result.last result.until }
+        ensures walk { IsWalk (has_ended (T.lifetime lifetimes.now) now) self.now.states round.cursor round.mark share
+            result.stayed result.last result.leaver }
+        ensures until { StayUntil (end_of (T.lifetime lifetimes.now)) self.now.states round.cursor result.last result.until }
         ensures small { IfSome result.leaver (λ s. s.number < 2 ^ 32) }
         ensures looks { meter.new ≡ meter.old + looks_of result.stayed result.leaver }
     {
-        self.records.walk(above, most, share, test, meter)
+        self.records.walk(round, share, now, lifetimes, meter)
     }
 
     /// The round of the states after so many slices, while none comes or goes. It looks at no record.

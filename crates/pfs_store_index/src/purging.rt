@@ -15,7 +15,7 @@ ghost use Rattle.pfs_store_index.specs.Staying.{NodeHolds, NodesHold, StatesHold
 ghost use Rattle.pfs_store_index.specs.Stored.{AreUnread, IsNumbered, due_at, is_due};
 ghost use Rattle.pfs_store_index.specs.Rounds.{node_survives, states_survive, waiting};
 
-use crate::expiring::Due;
+use crate::expiring::Scaled;
 use crate::indexes::Indexes;
 use pfs_addr::Meter;
 use pfs_conf_rules::{Config, StateOptions, TimeoutName};
@@ -206,13 +206,12 @@ fn walk_to_due<S: BuildHasher>(
     ensures small { IfSome result.leaver (λ s. s.number < 2 ^ 32) }
     ensures looks { meter.new ≡ meter.old + looks_of result.stayed result.leaver }
 {
-    let test = Due {
+    let lifetimes = Scaled {
         config: indexes.config(),
         counts,
         held,
-        now,
     };
-    indexes.walk(round.cursor, round.mark, share, &test, meter)
+    indexes.walk(round, share, now, &lifetimes, meter)
 }
 
 // ---- nodes

@@ -3,3 +3,4 @@ pub mod Records
 pub mod Tallies
 pub mod Walks
 pub mod Sourced
+pub mod Stays

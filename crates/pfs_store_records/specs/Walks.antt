@@ -1,15 +1,22 @@
 -- A walk over the records in a range of numbers, from the least on: up to the first whose state passes a test, or to a share
--- of them. (own)
+-- of them; the test is that it has expired. (own)
 use Rattle.std.specs.Prelude.{◌≡◌, ℕ, ◌+◌, ◌<◌, ◌≤◌, ◌==◌, Bool, true, false, Option, Some, None, List, [], filter, length, slice_get, take, drop}
 use Rattle.std.specs.List.{AllByRecursion, find}
+use Rattle.pfs_conf_rules.specs.declared.items.RuleNo.{RuleNo}
+use Rattle.pfs_conf_rules.specs.declared.timeouts.TimeoutName.{TimeoutName}
+use Rattle.pfs_track.specs.Lifetimes.{is_expired}
+use Rattle.pfs_track.specs.StatePhases.{slot}
 use Rattle.pfs_store_plain.specs.Purging.{state_numbers}
 use Rattle.pfs_store_plain.specs.declared.records.State.{State}
 use Rattle.pfs_store_records.specs.Records.{between}
-use Rattle.pfs_store_records.specs.declared.walks.Glance.{Glance}
 
--- what a glance shows of a state
-abbrev pub glance_of : State → Glance
-glance_of s = record { rule = s.rule; phase = s.phase; last = s.last }
+-- the moment at which a state expires, and whether it has expired at a second, where states of a rule may stay so long in
+-- phases of a timeout
+abbrev pub end_of : (RuleNo → TimeoutName → ℕ) → State → ℕ
+end_of lifetime s = s.last + lifetime s.rule (slot s.phase)
+
+abbrev pub has_ended : (RuleNo → TimeoutName → ℕ) → ℕ → State → Bool
+has_ended lifetime now s = is_expired (lifetime s.rule (slot s.phase)) s.last now
 
 -- the walk stopped at this state before its share was used up: it is that of the next number, and passes
 pub record IsNext (test : State → Bool) (states : List State) (last most stayed share : ℕ) (s : State) : Type 0 where

@@ -2,18 +2,17 @@
 
 ghost use Rattle.std.specs.Prelude.{◌≡◌, ◌<◌, ◌^◌};
 ghost use Rattle.pfs_store_records.specs.Sourced.{IsSourced, source_at};
-ghost use Rattle.pfs_store_records.specs.Walks.{glance_of};
+ghost use Rattle.pfs_track.specs.StatePhases.{slot};
 
-use crate::walks::Glance;
 use pfs_addr::{Addr, Dir, FlowKey};
-use pfs_conf_rules::RuleNo;
+use pfs_conf_rules::{RuleNo, TimeoutName};
 use pfs_store_plain::State;
 use pfs_track::StatePhase;
 use std::marker::Model;
 
 /// A state whose source is the end of its key from which packets of its direction come. Clauses see the state.
 ///
-/// The fields lie in memory as they stand here: what a glance shows comes first, and none of the 64 bytes is unused.
+/// The fields lie in memory as they stand here: what a walk reads comes first, and none of the 64 bytes is unused.
 #[derive(Debug, Clone, Copy)]
 pub(crate) struct Kept {
     last: u64,
@@ -52,15 +51,32 @@ impl Kept {
         }
     }
 
-    /// What a glance shows of the state. It takes no memory.
-    pub(crate) fn glance(&self) -> Glance
-        ensures { result ≡ glance_of self.now }
+    /// The rule that made the state. It takes no memory.
+    pub(crate) fn rule(&self) -> RuleNo
+        ensures { result ≡ self.now.rule }
     {
-        Glance {
-            rule: self.rule,
-            phase: self.phase,
-            last: self.last,
-        }
+        self.rule
+    }
+
+    /// How far the connection of the state has come. It takes no memory.
+    pub(crate) fn phase(&self) -> StatePhase
+        ensures { result ≡ self.now.phase }
+    {
+        self.phase
+    }
+
+    /// The timeout of the phase. It takes no memory.
+    pub(crate) fn timeout(&self) -> TimeoutName
+        ensures { result ≡ slot self.now.phase }
+    {
+        self.phase.slot()
+    }
+
+    /// The moment of the last packet of the state, in seconds. It takes no memory.
+    pub(crate) fn last(&self) -> u64
+        ensures { result ≡ self.now.last }
+    {
+        self.last
     }
 
     /// The state. It takes no memory.

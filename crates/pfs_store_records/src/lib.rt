@@ -6,9 +6,10 @@ mod nodes;
 mod records;
 mod rounds;
 mod scope_counts;
+mod stays;
 mod walks;
 
 pub use nodes::{Nodes, Tally};
 pub use records::Records;
 pub use rounds::Round;
-pub use walks::{Glance, StateTest, Walk};
+pub use walks::{Lifetimes, Walk};

@@ -9,12 +9,13 @@ ghost use Rattle.pfs_store_plain.specs.Quiet.{turned};
 ghost use Rattle.pfs_store_plain.specs.Worlds.{holds_number};
 ghost use Rattle.pfs_store_records.specs.Keeping.{IsKept, held, number_in, place_in, record_in};
 ghost use Rattle.pfs_store_records.specs.Sourced.{IsSourced};
-ghost use Rattle.pfs_store_records.specs.Walks.{IsWalk, StayUntil, glance_of, looks_of};
+ghost use Rattle.pfs_store_records.specs.Walks.{IsWalk, StayUntil, end_of, has_ended, looks_of};
 ghost use Rattle.pfs_store_records.specs.Records.{IsAbove, IsRecordAt, IsRising, between, is_placed, leaves_number, placed_at, put, put_state, stands_at, states_of};
 
 use crate::kept::Kept;
 use crate::rounds::{Round, turned};
-use crate::walks::{StateTest, Walk};
+use crate::stays::{Stay, stay_of, stays_until};
+use crate::walks::{Lifetimes, Walk};
 use pfs_addr::{Meter, NoMemory};
 use pfs_store_plain::State;
 use slab::Slab;
@@ -103,25 +104,26 @@ impl Records {
         look(&self.slab, place, meter).state()
     }
 
-    /// Walks over the records whose numbers are above `above` and up to `most`, from the least on: over at most `share` of
-    /// them, and up to the first whose state passes the test. Each is one look, and all are found by one search. It takes
-    /// no memory.
-    pub fn walk<T: StateTest>(
+    /// Walks over the records that are still to be examined in a round, from the least number on: over at most `share` of
+    /// them, and up to the first whose state has expired at the second `now`. Each is one look, and all are found by one
+    /// search. It takes no memory.
+    pub fn walk<T: Lifetimes>(
         &self,
-        above: u64,
-        most: u64,
+        round: Round,
         share: u64,
-        test: &T,
+        now: u64,
+        lifetimes: &T,
         meter: &mut Meter,
     ) -> Walk
-        requires range { above ≤ most }
+        requires range { round.cursor ≤ round.mark }
         requires room { meter.old + share < 2 ^ 64 }
-        ensures walk { IsWalk (λ s. T.passes test.now (glance_of s)) (states_of self.now) above most share result.stayed result.last result.leaver }
-        ensures until { StayUntil (λ s. T.moment test.now (glance_of s)) (states_of self.now) above result.last result.until }
+        ensures walk { IsWalk (has_ended (T.lifetime lifetimes.now) now) (states_of self.now) round.cursor round.mark share
+            result.stayed result.last result.leaver }
+        ensures until { StayUntil (end_of (T.lifetime lifetimes.now)) (states_of self.now) round.cursor result.last result.until }
         ensures small { IfSome result.leaver (λ s. s.number < 2 ^ 32) }
         ensures looks { meter.new ≡ meter.old + looks_of result.stayed result.leaver }
     {
-        walk_range(&self.slab, &self.places, above, most, share, test, meter)
+        walk_range(&self.slab, &self.places, round, share, now, lifetimes, meter)
     }
 
     /// The round after so many slices, while no record comes or goes: each passes by the next numbers of the round, `share` at
@@ -198,28 +200,29 @@ fn look<'a>(slab: &'a Slab<Kept>, place: usize, meter: &mut Meter) -> &'a Kept
     &slab[place]
 }
 
-fn walk_range<T: StateTest>(
+fn walk_range<T: Lifetimes>(
     slab: &Slab<Kept>,
     places: &BTreeMap<u64, usize>,
-    above: u64,
-    most: u64,
+    round: Round,
     share: u64,
-    test: &T,
+    now: u64,
+    lifetimes: &T,
     meter: &mut Meter,
 ) -> Walk
     requires kept { IsKept number_in place_in (record_in slab.now) places.now.entries }
-    requires range { above ≤ most }
+    requires range { round.cursor ≤ round.mark }
     requires room { meter.old + share < 2 ^ 64 }
-    ensures walk { IsWalk (λ s. T.passes test.now (glance_of s)) (states_of (held (record_in slab.now) places.now.entries)) above most share
+    ensures walk { IsWalk (has_ended (T.lifetime lifetimes.now) now) (states_of (held (record_in slab.now) places.now.entries)) round.cursor round.mark share
         result.stayed result.last result.leaver }
-    ensures until { StayUntil (λ s. T.moment test.now (glance_of s)) (states_of (held (record_in slab.now) places.now.entries)) above result.last result.until }
+    ensures until { StayUntil (end_of (T.lifetime lifetimes.now)) (states_of (held (record_in slab.now) places.now.entries)) round.cursor result.last result.until }
     ensures small { IfSome result.leaver (λ s. s.number < 2 ^ 32) }
     ensures looks { meter.new ≡ meter.old + looks_of result.stayed result.leaver }
 {
-    let mut rest = places.range((Bound::Excluded(above), Bound::Included(most)));
+    let mut rest = places.range((Bound::Excluded(round.cursor), Bound::Included(round.mark)));
     let mut stayed = 0;
-    let mut last = above;
+    let mut last = round.cursor;
     let mut until = u64::MAX;
+    let mut known: Option<Stay> = None;
     while stayed < share {
         let Some((number, place)) = rest.next() else {
             return Walk {
@@ -230,7 +233,9 @@ fn walk_range<T: StateTest>(
             };
         };
         let kept = look(slab, *place, meter);
-        match test.until(kept.glance()) {
+        let stay = stay_of(lifetimes, kept, known);
+        known = Some(stay);
+        match stays_until(kept, stay.seconds, now) {
             Some(moment) => until = until.min(moment),
             None => {
                 return Walk {
