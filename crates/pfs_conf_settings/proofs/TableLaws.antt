@@ -4,7 +4,7 @@ use Rattle.pfs_conf_tokens.specs.declared.keys.Key.{Key}
 use Rattle.pfs_conf_tokens.specs.declared.keys.Key.TheVariants as key
 use Rattle.pfs_conf_tokens.specs.declared.refusals.Why.TheVariants as why
 use Rattle.pfs_conf_tokens.specs.Tokens.{Tok}
-use Rattle.pfs_conf_tokens.specs.Keys.{ends_line, is_word_key, in_line, before_end}
+use Rattle.pfs_conf_tokens.specs.Keys.{ends_line, is_word_key, in_line}
 use Rattle.pfs_conf_tokens.specs.Reading.{closes_braces, Act, refuse, chain, done, list_all, next_of, skipping}
 use Rattle.pfs_conf_tokens.proofs.Laws.{Taking, OnlineAct, Online, inside, across, online_done, online_chain, online_taking, online_front, once_taking, front_shrinks, chain_shrinks, chain_shrinks_behind, Shrinks, online_across, online_up_to_all}
 use Rattle.pfs_conf_tokens.proofs.ReaderLaws.{closes_braces_before_end, online_list, next_shrinks, online_skipping, skipping_shrinks, word_in_line}
