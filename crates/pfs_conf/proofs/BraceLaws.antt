@@ -1,5 +1,6 @@
 -- Readers that end no line, with braces open or not: each part of a reader keeps it.
 use Rattle.std.proofs.Common.{◌≡◌, ℕ, zero, suc, Bool, true, false, cond, leb, ◌&&◌, List, [], ◌∷◌, length, Option, Some, None, Result, Ok, Err, refl, subst, inl, inr}
+use borrow.Author.Tests.{clash}
 use Rattle.pfs_conf_tokens.specs.Tokens.{Tok, head}
 use Rattle.pfs_conf_tokens.specs.Keys.{is_word_key, ends_line}
 use Rattle.pfs_conf_tokens.specs.Reading.{closes_braces, Refused, stop, Reader, Act, take, stay, refuse, act, on_front, done, chain, once, turns, taken, left_there, until_all, up_to_all, comma_by, comma_at, next_of, list_all, skipping, number_in, number_by, number_at}
@@ -124,7 +125,7 @@ keeps_until_brace {A = A} step h x = record {
   where
     closed : (y : A) (k : Key) → closes_braces k ≡ true → KeepsAct true false k (taken y)
     closed y key.CloseBrace e = (refl, keeps_done y)
-    closed y _ e = absurd cc
+    closed y _ e = absurd (clash e)
 
 pub keeps_up_to_line : {A : Type 0} (step : A → Reader A) → ((x : A) → Keeps false false (step x)) → (x : A) → Keeps false false (up_to_all ends_line step x)
 keeps_up_to_line step h x = record {
@@ -148,7 +149,7 @@ keeps_list item h x = keeps_chain (item x) (until_all closes_braces (next_of ite
 
 line_end_in_braces : (k : Key) → ends_line k ≡ true → (ends_no_line true k ≡ true) × (true ≡ braces_behind true k)
 line_end_in_braces key.LineEnd e = (refl, refl)
-line_end_in_braces _ e = absurd cc
+line_end_in_braces _ e = absurd (clash e)
 
 lines_in_braces : (ts : List Tok) → InBraces true ts true (skip_lines ts)
 unfolding skip_lines

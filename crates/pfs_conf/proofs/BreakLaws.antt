@@ -31,7 +31,7 @@ use Rattle.pfs_conf.specs.Statements.{nothing, no_clauses, with_rule, with_ancho
 use Rattle.pfs_conf.specs.Reading.{with_draft, anchor_closed, told, clause_by, clause_at, rule_text_at, rule_line_at, anchor_named, anchor_name_by, anchor_name_at, brace_by, brace_at, anchor_parts_at, in_head, anchor_text_at, anchor_at, set_at, open_by, angle_by, new_table_named, new_name_by, new_name_at, definition_at, statement_by, statement_at, all_closed, told_of, statements_at, text_at}
 use Rattle.pfs_conf.proofs.OnlineLaws.{ruled, anchored}
 use Rattle.pfs_conf.proofs.PhraseLaws.{rule_text_is, anchor_text_is, statement_is, statements_are, closed_ok}
-use Rattle.pfs_conf.proofs.UnbrokenLaws.{Unbroken, UnbrokenAct, unbroken_done, unbroken_chain, unbroken_front, unbroken_if, unbroken_once, unbroken_perhaps, unbroken_until, unbroken_ended}
+use Rattle.pfs_conf.proofs.UnbrokenLaws.{Unbroken, UnbrokenAct, refused_unbroken, unbroken_done, unbroken_chain, unbroken_front, unbroken_if, unbroken_once, unbroken_perhaps, unbroken_until, unbroken_ended}
 use Rattle.pfs_conf.proofs.UnbrokenPhrases.{unbroken_verb, unbroken_parameters, unbroken_flags, unbroken_state, unbroken_settings, unbroken_parts}
 
 -- ---- statements as they are written ask no load rule
@@ -163,7 +163,7 @@ statement_breaks {all = all} p ts c n s e = by_key (head ts).key refl e
     by_key key.Block g h = let r = rule_breaks_is (head ts).line p ts c n h in subst (λ (z : ℕ). Breaks all c z) r.4 (at_rule r.0 s r.2 r.3)
     by_key key.Anchor g h = let a = anchor_breaks_is (head ts).line p ts (rest ts) (word_is key.Anchor ts g (λ q. cc)) c n h in subst (λ (z : ℕ). Breaks all c z) a.4 (at_anchor a.0 s a.2 a.3)
     by_key key.CloseBrace g h = absurd (if_never (p.depth == 0) (refuse why.Statement) (take (ended (anchor_closed p))) tt (unbroken_ended (anchor_closed p)) ts c n h)
-    by_key _ g h = absurd cc
+    by_key _ g h = absurd (refused_unbroken {A = Progress} why.Statement ts c n h)
 
 -- ---- the text
 

@@ -48,13 +48,17 @@ told_leaves : (b : Option LoadRule) (n : ℕ) (ts : List Tok) (u : Unit {0}) (le
 told_leaves None n ts u left e = (ok_parts tt u ts left e).1
 told_leaves (Some rule) n ts u left e = absurd cc
 
+-- where a token is refused, reading stops at it. (In a case for all other keys it stands in the place of a search for each.)
+refused_there : {A : Type 0} (v : Why) (ts left : List Tok) (w : Why) → act {A = A} (refuse v) ts ≡ Err (stop left w) → ts ≡ left
+refused_there v ts left w e = cc
+
 -- a line end that is wanted and lacks stops at once
 ended_stops : {A : Type 0} (x : A) (ts left : List Tok) (w : Why) → ended x ts ≡ Err (stop left w) → ts ≡ left
 ended_stops x ts left w e = by_key (head ts).key e
   where
     by_key : (k : Key) → act (ended_by x k) ts ≡ Err (stop left w) → ts ≡ left
     by_key key.LineEnd h = absurd cc
-    by_key _ h = cc
+    by_key _ h = refused_there why.Plain ts left w h
 
 stay_there : {ts left : List Tok} → ts ≡ left → Passes in_line ts left
 stay_there {ts = ts} e = subst (λ (z : List Tok). Passes in_line ts z) e stays
@@ -146,7 +150,7 @@ if_stops true x y ts left w p q e = p e
 if_stops false x y ts left w p q e = q e
 
 refuse_stops : {A : Type 0} (v : Why) (ts left : List Tok) (w : Why) → act {A = A} (refuse v) ts ≡ Err (stop left w) → IsBegun ts left
-refuse_stops v ts left w e = begun_there (let p : ts ≡ left = cc in p)
+refuse_stops v ts left w e = begun_there (refused_there v ts left w e)
 
 statement_stops : (p : Progress) (ts left : List Tok) (w : Why) → statement_at p ts ≡ Err (stop left w) → IsBegun ts left
 unfolding statement_at

@@ -5,6 +5,7 @@ use Rattle.pfs_conf_tokens.specs.Reading.{rest, Refused, broken, Reader, Act, ta
 use Rattle.pfs_conf_tokens.specs.declared.keys.Key.{Key}
 use Rattle.pfs_conf_tokens.specs.declared.keys.Key.TheVariants as key
 use Rattle.pfs_conf_tokens.specs.declared.refusals.LoadRule.{LoadRule}
+use Rattle.pfs_conf_tokens.specs.declared.refusals.Why.{Why}
 use Rattle.pfs_conf_tokens.specs.declared.refusals.Why.TheVariants as why
 use Rattle.pfs_conf_tokens.specs.Numbers.{number_written}
 use Rattle.pfs_conf_tokens.specs.Grammar.{skip_lines}
@@ -29,10 +30,14 @@ UnbrokenAct (take f) = Unbroken f
 UnbrokenAct (stay f) = Unbroken f
 UnbrokenAct (refuse w) = Unit {0}
 
+-- where a token is refused no load rule is told. (In a case for all other keys it stands in the place of a search for each.)
+pub refused_unbroken : {A : Type 0} (w : Why) (ts : List Tok) (rule : LoadRule) (n : ℕ) → act {A = A} (refuse w) ts ≡ Err (broken rule n) → ⊥
+refused_unbroken w ts rule n e = cc
+
 unbroken_act : {A : Type 0} (b : Act A) → UnbrokenAct b → (ts : List Tok) (rule : LoadRule) (n : ℕ) → act b ts ≡ Err (broken rule n) → ⊥
 unbroken_act (take f) h ts rule n e = h.never (rest ts) rule n e
 unbroken_act (stay f) h ts rule n e = h.never ts rule n e
-unbroken_act (refuse w) h ts rule n e = cc
+unbroken_act (refuse w) h ts rule n e = refused_unbroken w ts rule n e
 
 pub unbroken_front : {A : Type 0} (d : Tok → Act A) → ((t : Tok) → UnbrokenAct (d t)) → Unbroken (on_front d)
 unbroken_front d h = record { never = λ ts rule n e. unbroken_act (d (head ts)) (h (head ts)) ts rule n e }

@@ -18,6 +18,7 @@ use Rattle.pfs_conf_rules.specs.Bounds.{greatest_timeout}
 use Rattle.pfs_conf_rules.specs.declared.actions.Rate.{Rate}
 use Rattle.pfs_conf_rules.specs.declared.actions.Scope.TheVariants as scope
 use Rattle.pfs_conf_rules.specs.declared.filters.Family.TheVariants as family
+use Rattle.pfs_conf_rules.specs.declared.filters.Host.{Host}
 use Rattle.pfs_conf_rules.specs.declared.filters.Host.TheVariants as host
 use Rattle.pfs_conf_rules.specs.declared.limits.LimitName.{LimitName}
 use Rattle.pfs_conf_rules.specs.declared.limits.LimitName.TheVariants as limit
@@ -134,9 +135,12 @@ unbroken_quick : Unbroken quick_at
 unfolding quick_at
 unbroken_quick = unbroken_front (λ t. quick_by t.key) (λ t. quick_acts t.key)
 
+log_then_quick : Unbroken (chain log_at (λ l. chain quick_at (λ q. done (marked l q))))
+log_then_quick = unbroken_chain log_at (λ l. chain quick_at (λ q. done (marked l q))) unbroken_log (λ l. unbroken_chain quick_at (λ q. done (marked l q)) unbroken_quick (λ q. unbroken_done (marked l q)))
+
 marks_acts : (s : Statement) (k : Key) → UnbrokenAct (marks_by s k)
 marks_acts statement.Rule key.Quick = unbroken_chain log_at (λ l. done (marked l true)) unbroken_log (λ l. unbroken_done (marked l true))
-marks_acts statement.Rule _ = unbroken_chain log_at (λ l. chain quick_at (λ q. done (marked l q))) unbroken_log (λ l. unbroken_chain quick_at (λ q. done (marked l q)) unbroken_quick (λ q. unbroken_done (marked l q)))
+marks_acts statement.Rule _ = log_then_quick
 marks_acts statement.Anchor k = unbroken_chain quick_at (λ q. done (marked false q)) unbroken_quick (λ q. unbroken_done (marked false q))
 
 unbroken_marks : (s : Statement) → Unbroken (marks_at s)
@@ -191,17 +195,23 @@ unbroken_close : Unbroken close_at
 unfolding close_at
 unbroken_close = unbroken_front (λ t. close_by t.key) (λ t. close_acts t.key)
 
+unbroken_prefix : (b : Bool) → Unbroken {A = Host (List ℕ)} (chain (value_at why.Host (in_plain_word prefix_of)) (λ p. done (host.Prefix p b)))
+unbroken_prefix b = unbroken_chain (value_at why.Host (in_plain_word prefix_of)) (λ p. done (host.Prefix p b)) (unbroken_value why.Host (in_plain_word prefix_of)) (λ p. unbroken_done (host.Prefix p b))
+
 place_acts : (b : Bool) (k : Key) → UnbrokenAct (place_by b k)
 place_acts b key.OpenAngle = unbroken_chain host_table_at _ unbroken_table_name (λ n. unbroken_chain close_at _ unbroken_close (λ u. unbroken_done (host.Table n b)))
-place_acts b _ = unbroken_chain (value_at why.Host (in_plain_word prefix_of)) (λ p. done (host.Prefix p b)) (unbroken_value why.Host (in_plain_word prefix_of)) (λ p. unbroken_done (host.Prefix p b))
+place_acts b _ = unbroken_prefix b
 
 unbroken_place : (b : Bool) → Unbroken (place_at b)
 unfolding place_at
 unbroken_place b = unbroken_front (λ t. place_by b t.key) (λ t. place_acts b t.key)
 
+unbroken_any_place : Unbroken (chain negation_at place_at)
+unbroken_any_place = unbroken_chain negation_at place_at unbroken_negation unbroken_place
+
 host_acts : (k : Key) → UnbrokenAct (host_by k)
 host_acts key.Any = unbroken_done host.Any
-host_acts _ = unbroken_chain negation_at place_at unbroken_negation unbroken_place
+host_acts _ = unbroken_any_place
 
 unbroken_host : Unbroken host_at
 unfolding host_at
@@ -243,9 +253,12 @@ unbroken_to_part : Unbroken to_part_at
 unfolding to_part_at
 unbroken_to_part = unbroken_part begins_to side_at unbroken_side
 
+unbroken_sides : Unbroken (chain from_part_at (λ f. chain to_part_at (λ t. done (given_hosts f t))))
+unbroken_sides = unbroken_chain from_part_at (λ f. chain to_part_at (λ t. done (given_hosts f t))) unbroken_from_part (λ f. unbroken_chain to_part_at (λ t. done (given_hosts f t)) unbroken_to_part (λ t. unbroken_done (given_hosts f t)))
+
 hosts_acts : (k : Key) → UnbrokenAct (hosts_by k)
 hosts_acts key.All = unbroken_done all_hosts
-hosts_acts _ = unbroken_chain from_part_at (λ f. chain to_part_at (λ t. done (given_hosts f t))) unbroken_from_part (λ f. unbroken_chain to_part_at (λ t. done (given_hosts f t)) unbroken_to_part (λ t. unbroken_done (given_hosts f t)))
+hosts_acts _ = unbroken_sides
 
 unbroken_hosts : Unbroken hosts_at
 unfolding hosts_at

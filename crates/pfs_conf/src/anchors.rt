@@ -1,7 +1,9 @@
 //! Anchors, from their word to the end of the line.
 
 ghost use Rattle.std.specs.Prelude.{◌≡◌, IfOk, OnOk, None, false};
+ghost use Rattle.pfs_conf_tokens.specs.Reading.{perhaps};
 ghost use Rattle.pfs_conf_tokens.specs.Giving.{Gives};
+ghost use Rattle.pfs_conf_filters.specs.Reading.{begins_flags, flags_at};
 ghost use Rattle.pfs_conf_rules.specs.Order.{repeats_by};
 ghost use Rattle.pfs_conf.specs.Grammar.{names_anchor};
 ghost use Rattle.pfs_conf.specs.Statements.{anchor_breaks, with_anchor};
@@ -86,16 +88,22 @@ fn anchor_parts(cursor: &mut Cursor, progress: &Progress) -> Result<AnchorText, 
 {
     let name = anchor_name(cursor, progress)?;
     let parameters = read_parameters(cursor, Statement::Anchor)?;
-    let flags = match cursor.key() {
-        Key::Flags => Some(read_flags(cursor)?),
-        _ => None,
-    };
+    let flags = flags_part(cursor)?;
     brace(cursor, &parameters, flags)?;
     Ok(AnchorText {
         name,
         parameters,
         flags,
     })
+}
+
+fn flags_part(cursor: &mut Cursor) -> Result<Option<FlagTest>, Refusal>
+    ensures { Gives result cursor.new (perhaps begins_flags flags_at cursor.old) }
+{
+    match cursor.key() {
+        Key::Flags => Ok(Some(read_flags(cursor)?)),
+        _ => Ok(None),
+    }
 }
 
 #[tactic(auto, unfolding(crate::specs::Reading::anchor_name_at))]

@@ -2,6 +2,7 @@
 --
 -- A crate above imports them as `use Rattle.pfs_conf_filters.proofs.OnlineLaws.{online_verb, ..}`.
 use Rattle.std.proofs.Common.{◌≡◌, ℕ, Bool, true, false, cond, List, Option, Some, None, refl}
+use borrow.Author.Tests.{clash}
 use Rattle.pfs_conf_tokens.specs.Tokens.{Tok}
 use Rattle.pfs_conf_tokens.specs.Keys.{in_line, is_word_key}
 use Rattle.pfs_conf_tokens.specs.Reading.{closes_parens, Reader, on_front, done, chain, next_of}
@@ -81,27 +82,27 @@ online_part begins f h g = online_perhaps begins (clause begins f) (online_claus
 
 on_in_line : (k : Key) → begins_on k ≡ true → in_line k ≡ true
 on_in_line key.On e = refl
-on_in_line _ e = absurd cc
+on_in_line _ e = absurd (clash e)
 
 proto_in_line : (k : Key) → begins_proto k ≡ true → in_line k ≡ true
 proto_in_line key.Proto e = refl
-proto_in_line _ e = absurd cc
+proto_in_line _ e = absurd (clash e)
 
 from_in_line : (k : Key) → begins_from k ≡ true → in_line k ≡ true
 from_in_line key.From e = refl
-from_in_line _ e = absurd cc
+from_in_line _ e = absurd (clash e)
 
 to_in_line : (k : Key) → begins_to k ≡ true → in_line k ≡ true
 to_in_line key.To e = refl
-to_in_line _ e = absurd cc
+to_in_line _ e = absurd (clash e)
 
 port_in_line : (k : Key) → begins_port k ≡ true → in_line k ≡ true
 port_in_line key.Port e = refl
-port_in_line _ e = absurd cc
+port_in_line _ e = absurd (clash e)
 
 flags_word_in_line : (k : Key) → begins_flags k ≡ true → in_line k ≡ true
 flags_word_in_line key.Flags e = refl
-flags_word_in_line _ e = absurd cc
+flags_word_in_line _ e = absurd (clash e)
 
 -- ---- names
 

@@ -2,6 +2,7 @@
 --
 -- A crate above imports them as `use Rattle.pfs_conf_filters.proofs.PhraseLaws.{verb_is, parameters_are, flags_are}`.
 use Rattle.std.proofs.Common.{◌≡◌, ℕ, Bool, true, false, cond, List, [], ◌∷◌, Option, Some, None, Ok, refl, sym, ap, subst, ◌∙◌}
+use borrow.Author.Tests.{clash}
 use Rattle.pfs_conf_tokens.specs.Tokens.{Tok, head}
 use Rattle.pfs_conf_tokens.specs.Reading.{rest, closes_parens, Reader, stay, act, on_front, done, chain}
 use Rattle.pfs_conf_tokens.specs.Keys.{in_line}
@@ -87,27 +88,27 @@ started {A} begins f ts o left b e = within (begins (head ts).key) b e
 
 on_only : (k : Key) → begins_on k ≡ true → k ≡ key.On
 on_only key.On e = refl
-on_only _ e = absurd cc
+on_only _ e = absurd (clash e)
 
 proto_only : (k : Key) → begins_proto k ≡ true → k ≡ key.Proto
 proto_only key.Proto e = refl
-proto_only _ e = absurd cc
+proto_only _ e = absurd (clash e)
 
 from_only : (k : Key) → begins_from k ≡ true → k ≡ key.From
 from_only key.From e = refl
-from_only _ e = absurd cc
+from_only _ e = absurd (clash e)
 
 to_only : (k : Key) → begins_to k ≡ true → k ≡ key.To
 to_only key.To e = refl
-to_only _ e = absurd cc
+to_only _ e = absurd (clash e)
 
 port_only : (k : Key) → begins_port k ≡ true → k ≡ key.Port
 port_only key.Port e = refl
-port_only _ e = absurd cc
+port_only _ e = absurd (clash e)
 
 flags_only : (k : Key) → begins_flags k ≡ true → k ≡ key.Flags
 flags_only key.Flags e = refl
-flags_only _ e = absurd cc
+flags_only _ e = absurd (clash e)
 
 -- ---- names
 
@@ -125,13 +126,16 @@ policy_is : (ts : List Tok) (x : Bool) (left : List Tok) → policy_at ts ≡ Ok
 unfolding policy_at
 policy_is ts x left e = by_key (head ts).key refl e
   where
+    not_there : act (stay (done false)) ts ≡ Ok (x, left) → PolicyOf ts x left
+    not_there h = moved PolicyOf ts (ok_parts false x ts left h) none
+
     by_key : (k : Key) → (head ts).key ≡ k → act (policy_by k) ts ≡ Ok (x, left) → PolicyOf ts x left
     by_key key.Drop g h = moved PolicyOf ts (ok_parts true x (rest ts) left h) (drop (word_is key.Drop ts g (λ q. cc)))
     by_key key.Return g h = moved PolicyOf ts (ok_parts true x (rest ts) left h) (return (word_is key.Return ts g (λ q. cc)))
     by_key key.ReturnRst g h = moved PolicyOf ts (ok_parts true x (rest ts) left h) (return_rst (word_is key.ReturnRst ts g (λ q. cc)))
     by_key key.ReturnIcmp g h = moved PolicyOf ts (ok_parts true x (rest ts) left h) (return_icmp (word_is key.ReturnIcmp ts g (λ q. cc)))
     by_key key.ReturnIcmp6 g h = moved PolicyOf ts (ok_parts true x (rest ts) left h) (return_icmp6 (word_is key.ReturnIcmp6 ts g (λ q. cc)))
-    by_key _ g h = moved PolicyOf ts (ok_parts false x ts left h) none
+    by_key _ g h = not_there h
 
 pub verb_is : (ts : List Tok) (x : Verb) (left : List Tok) → verb_at ts ≡ Ok (x, left) → VerbOf ts x left
 unfolding verb_at
@@ -175,27 +179,36 @@ log_list_is : (ts : List Tok) (u : Unit {0}) (left : List Tok) → log_list_at t
 unfolding log_list_at
 log_list_is ts u left e = by_key (head ts).key refl e
   where
+    not_there : act (stay (done tt)) ts ≡ Ok (u, left) → LogListOf ts left
+    not_there h = let p = ok_parts tt u ts left h in subst (λ (z : List Tok). LogListOf ts z) p.1 bare
+
     by_key : (k : Key) → (head ts).key ≡ k → act (log_list_by k) ts ≡ Ok (u, left) → LogListOf ts left
     by_key key.OpenParen g h = listed (word_is key.OpenParen ts g (λ q. cc)) (list_is key.CloseParen closes_parens LogItemOf log_item_at closes_parens_key (λ q. cc) log_item_is tt (rest ts) u left h)
-    by_key _ g h = let p = ok_parts tt u ts left h in subst (λ (z : List Tok). LogListOf ts z) p.1 bare
+    by_key _ g h = not_there h
 
 log_is : (ts : List Tok) (x : Bool) (left : List Tok) → log_at ts ≡ Ok (x, left) → LogOf ts x left
 unfolding log_at
 log_is ts x left e = by_key (head ts).key refl e
   where
+    not_there : act (stay (done false)) ts ≡ Ok (x, left) → LogOf ts x left
+    not_there h = moved LogOf ts (ok_parts false x ts left h) silent
+
     by_key : (k : Key) → (head ts).key ≡ k → act (log_by k) ts ≡ Ok (x, left) → LogOf ts x left
     by_key key.Log g h =
         let c = chain_ok log_list_at (λ u. done true) (rest ts) x left h in
         moved LogOf ts (ok_parts true x c.1 left c.3) (logs (word_is key.Log ts g (λ q. cc)) (log_list_is (rest ts) c.0 c.1 c.2))
-    by_key _ g h = moved LogOf ts (ok_parts false x ts left h) silent
+    by_key _ g h = not_there h
 
 quick_is : (ts : List Tok) (x : Bool) (left : List Tok) → quick_at ts ≡ Ok (x, left) → QuickOf ts x left
 unfolding quick_at
 quick_is ts x left e = by_key (head ts).key refl e
   where
+    not_there : act (stay (done false)) ts ≡ Ok (x, left) → QuickOf ts x left
+    not_there h = moved QuickOf ts (ok_parts false x ts left h) slow
+
     by_key : (k : Key) → (head ts).key ≡ k → act (quick_by k) ts ≡ Ok (x, left) → QuickOf ts x left
     by_key key.Quick g h = moved QuickOf ts (ok_parts true x (rest ts) left h) (quick (word_is key.Quick ts g (λ q. cc)))
-    by_key _ g h = moved QuickOf ts (ok_parts false x ts left h) slow
+    by_key _ g h = not_there h
 
 -- a `quick` in front, with or without `log` behind it
 quick_then : {ts mid left : List Tok} {l : Bool} → Word key.Quick ts mid → LogOf mid l left → MarksOf statement.Rule ts (marked l true) left
@@ -206,14 +219,17 @@ pub marks_are : (s : Statement) (ts : List Tok) (m : Marks) (left : List Tok) �
 unfolding marks_at
 marks_are s ts m left e = by_key s (head ts).key refl e
   where
+    log_in_front : act (stay (chain log_at (λ l. chain quick_at (λ q. done (marked l q))))) ts ≡ Ok (m, left) → MarksOf statement.Rule ts m left
+    log_in_front h =
+        let c = chain_ok log_at (λ l. chain quick_at (λ q. done (marked l q))) ts m left h in
+        let d = chain_ok quick_at (λ q. done (marked c.0 q)) c.1 m left c.3 in
+        moved (MarksOf statement.Rule) ts (ok_parts (marked c.0 d.0) m d.1 left d.3) (log_first (log_is ts c.0 c.1 c.2) (quick_is c.1 d.0 d.1 d.2))
+
     by_key : (s : Statement) (k : Key) → (head ts).key ≡ k → act (marks_by s k) ts ≡ Ok (m, left) → MarksOf s ts m left
     by_key statement.Rule key.Quick g h =
         let c = chain_ok log_at (λ l. done (marked l true)) (rest ts) m left h in
         moved (MarksOf statement.Rule) ts (ok_parts (marked c.0 true) m c.1 left c.3) (quick_then (word_is key.Quick ts g (λ q. cc)) (log_is (rest ts) c.0 c.1 c.2))
-    by_key statement.Rule _ g h =
-        let c = chain_ok log_at (λ l. chain quick_at (λ q. done (marked l q))) ts m left h in
-        let d = chain_ok quick_at (λ q. done (marked c.0 q)) c.1 m left c.3 in
-        moved (MarksOf statement.Rule) ts (ok_parts (marked c.0 d.0) m d.1 left d.3) (log_first (log_is ts c.0 c.1 c.2) (quick_is c.1 d.0 d.1 d.2))
+    by_key statement.Rule _ g h = log_in_front h
     by_key statement.Anchor k g h =
         let c = chain_ok quick_at (λ q. done (marked false q)) ts m left h in
         moved (MarksOf statement.Anchor) ts (ok_parts (marked false c.0) m c.1 left c.3) (of_anchor (quick_is ts c.0 c.1 c.2))
@@ -224,9 +240,12 @@ negation_is : (ts : List Tok) (x : Bool) (left : List Tok) → negation_at ts �
 unfolding negation_at
 negation_is ts x left e = by_key (head ts).key refl e
   where
+    not_there : act (stay (done false)) ts ≡ Ok (x, left) → NegationOf ts x left
+    not_there h = moved NegationOf ts (ok_parts false x ts left h) affirmed
+
     by_key : (k : Key) → (head ts).key ≡ k → act (negation_by k) ts ≡ Ok (x, left) → NegationOf ts x left
     by_key key.Not g h = moved NegationOf ts (ok_parts true x (rest ts) left h) (negated (word_is key.Not ts g (λ q. cc)))
-    by_key _ g h = moved NegationOf ts (ok_parts false x ts left h) affirmed
+    by_key _ g h = not_there h
 
 interface_is : (ts : List Tok) (x : Interface) (left : List Tok) → on_at ts ≡ Ok (x, left) → OnOf ts x left
 unfolding on_at
@@ -296,24 +315,30 @@ place_is : (whole : List Tok) (b : Bool) (ts : List Tok) → NegationOf whole b 
 unfolding place_at
 place_is whole b ts n x left e = by_key (head ts).key refl e
   where
+    a_prefix : act (stay (chain (value_at why.Host (in_plain_word prefix_of)) (λ p. done (host.Prefix p b)))) ts ≡ Ok (x, left) → HostOf whole x left
+    a_prefix h =
+        let c = chain_ok (value_at why.Host (in_plain_word prefix_of)) (λ p. done (host.Prefix p b)) ts x left h in
+        moved HostOf whole (ok_parts (host.Prefix c.0 b) x c.1 left c.3) (prefix n (value_is why.Host (in_plain_word prefix_of) (in_plain_word_in_line prefix_of) ts c.0 c.1 c.2))
+
     by_key : (k : Key) → (head ts).key ≡ k → act (place_by b k) ts ≡ Ok (x, left) → HostOf whole x left
     by_key key.OpenAngle g h =
         let c = chain_ok host_table_at (λ n. chain close_at (λ u. done (host.Table n b))) (rest ts) x left h in
         let d = chain_ok close_at (λ u. done (host.Table c.0 b)) c.1 x left c.3 in
         moved HostOf whole (ok_parts (host.Table c.0 b) x d.1 left d.3) (table n (word_is key.OpenAngle ts g (λ q. cc)) (table_name_is (rest ts) c.0 c.1 c.2) (close_is c.1 d.0 d.1 d.2))
-    by_key _ g h =
-        let c = chain_ok (value_at why.Host (in_plain_word prefix_of)) (λ p. done (host.Prefix p b)) ts x left h in
-        moved HostOf whole (ok_parts (host.Prefix c.0 b) x c.1 left c.3) (prefix n (value_is why.Host (in_plain_word prefix_of) (in_plain_word_in_line prefix_of) ts c.0 c.1 c.2))
+    by_key _ g h = a_prefix h
 
 pub host_is : (ts : List Tok) (x : Host (List ℕ)) (left : List Tok) → host_at ts ≡ Ok (x, left) → HostOf ts x left
 unfolding host_at
 host_is ts x left e = by_key (head ts).key refl e
   where
-    by_key : (k : Key) → (head ts).key ≡ k → act (host_by k) ts ≡ Ok (x, left) → HostOf ts x left
-    by_key key.Any g h = moved HostOf ts (ok_parts host.Any x (rest ts) left h) (any (word_is key.Any ts g (λ q. cc)))
-    by_key _ g h =
+    a_place : act (stay (chain negation_at place_at)) ts ≡ Ok (x, left) → HostOf ts x left
+    a_place h =
         let c = chain_ok negation_at place_at ts x left h in
         place_is ts c.0 c.1 (negation_is ts c.0 c.1 c.2) x left c.3
+
+    by_key : (k : Key) → (head ts).key ≡ k → act (host_by k) ts ≡ Ok (x, left) → HostOf ts x left
+    by_key key.Any g h = moved HostOf ts (ok_parts host.Any x (rest ts) left h) (any (word_is key.Any ts g (λ q. cc)))
+    by_key _ g h = a_place h
 
 ports_are : (ts : List Tok) (x : Ports) (left : List Tok) → ports_at ts ≡ Ok (x, left) → PortsOf ts x left
 unfolding ports_at equals_at
@@ -321,9 +346,12 @@ ports_are ts x left e =
     let c = chain_ok (on_front (λ t. equals_by t.key)) (λ b. value_at why.Service (in_word ports_of)) ts x left e in
     by_key (head ts).key refl c.0 c.1 c.2 (value_is why.Service (in_word ports_of) (in_word_in_line ports_of) c.1 x left c.3)
   where
+    bare_ports : (b : Bool) (mid : List Tok) → act (stay (done false)) ts ≡ Ok (b, mid) → Says (in_word ports_of) mid x left → PortsOf ts x left
+    bare_ports b mid h s = let p = ok_parts false b ts mid h in subst (λ (z : List Tok). PortsOf z x left) (sym p.1) (plainly s)
+
     by_key : (k : Key) → (head ts).key ≡ k → (b : Bool) (mid : List Tok) → act (equals_by k) ts ≡ Ok (b, mid) → Says (in_word ports_of) mid x left → PortsOf ts x left
     by_key key.Equals g b mid h s = let p = ok_parts true b (rest ts) mid h in equals (subst (λ (z : List Tok). Word key.Equals ts z) p.1 (word_is key.Equals ts g (λ q. cc))) s
-    by_key _ g b mid h s = let p = ok_parts false b ts mid h in subst (λ (z : List Tok). PortsOf z x left) (sym p.1) (plainly s)
+    by_key _ g b mid h s = bare_ports b mid h s
 
 ports_part_is : (ts : List Tok) (o : Option Ports) (left : List Tok) → ports_part_at ts ≡ Ok (o, left) → Perhaps (Behind key.Port PortsOf) ts o left
 unfolding ports_part_at
@@ -361,12 +389,15 @@ pub hosts_are : (ts : List Tok) (x : Hosts) (left : List Tok) → hosts_at ts �
 unfolding hosts_at
 hosts_are ts x left e = by_key (head ts).key refl e
   where
-    by_key : (k : Key) → (head ts).key ≡ k → act (hosts_by k) ts ≡ Ok (x, left) → HostsOf ts x left
-    by_key key.All g h = moved HostsOf ts (ok_parts all_hosts x (rest ts) left h) (every (word_is key.All ts g (λ q. cc)))
-    by_key _ g h =
+    both_sides : act (stay (chain from_part_at (λ f. chain to_part_at (λ t. done (given_hosts f t))))) ts ≡ Ok (x, left) → HostsOf ts x left
+    both_sides h =
         let c = chain_ok from_part_at (λ f. chain to_part_at (λ t. done (given_hosts f t))) ts x left h in
         let d = chain_ok to_part_at (λ t. done (given_hosts c.0 t)) c.1 x left c.3 in
         moved HostsOf ts (ok_parts (given_hosts c.0 d.0) x d.1 left d.3) (sides (from_part_is ts c.0 c.1 c.2) (to_part_is c.1 d.0 d.1 d.2))
+
+    by_key : (k : Key) → (head ts).key ≡ k → act (hosts_by k) ts ≡ Ok (x, left) → HostsOf ts x left
+    by_key key.All g h = moved HostsOf ts (ok_parts all_hosts x (rest ts) left h) (every (word_is key.All ts g (λ q. cc)))
+    by_key _ g h = both_sides h
 
 -- ---- parameters and flags
 

@@ -5,10 +5,10 @@ use Rattle.pfs_conf_tokens.specs.Tokens.{Tok}
 use Rattle.pfs_conf_tokens.specs.declared.keys.Key.{Key}
 use Rattle.pfs_conf_tokens.specs.declared.keys.Key.TheVariants as key
 use Rattle.pfs_conf_tokens.specs.declared.refusals.Why.TheVariants as why
-use Rattle.pfs_conf_tokens.specs.Keys.{timeout_place, in_line, is_word_key}
+use Rattle.pfs_conf_tokens.specs.Keys.{timeout_place, is_word_key}
 use Rattle.pfs_conf_tokens.specs.Reading.{closes_parens, Refused, Act, refuse, done, number_at, next_of}
 use Rattle.pfs_conf_tokens.proofs.Laws.{Taking, OnlineAct, Online, inside, online_done, online_chain, online_front, online_taking, once_taking, front_shrinks, Shrinks}
-use Rattle.pfs_conf_tokens.proofs.ReaderLaws.{online_number, online_list, next_shrinks, timeout_in_line, word_in_line}
+use Rattle.pfs_conf_tokens.proofs.ReaderLaws.{closes_parens_in_line, online_number, online_list, next_shrinks, timeout_in_line, word_in_line}
 use Rattle.pfs_addr.specs.Names.{name_of}
 use Rattle.pfs_conf_rules.specs.declared.actions.Scope.TheVariants as scope
 use Rattle.pfs_conf_rules.specs.declared.actions.Rate.{Rate}
@@ -146,13 +146,9 @@ option_shrinks o = front_shrinks inside (λ t. option_by t.key o) (λ t. option_
 pub next_option_shrinks : (o : Options) → Shrinks (next_of option_at o)
 next_option_shrinks o = next_shrinks option_at option_shrinks o
 
-closing : (k : Key) → closes_parens k ≡ true → in_line k ≡ true
-closing key.CloseParen e = refl
-closing _ e = absurd cc
-
 pub online_options : Online inside state_options_at
 unfolding state_options_at
-online_options = online_list closes_parens option_at closing option_shrinks online_option none_given
+online_options = online_list closes_parens option_at closes_parens_in_line option_shrinks online_option none_given
 
 -- ---- the clause
 

@@ -13,7 +13,7 @@ use Rattle.pfs_conf_tokens.specs.Keys.{is_word_key}
 use Rattle.pfs_conf_tokens.specs.Numbers.{number_written, split_around}
 use Rattle.pfs_conf_tokens.specs.Grammar.{WordOf, Word, Number, ListOf}
 use Rattle.pfs_conf_tokens.proofs.Laws.{ok_parts, chain_ok, not_refused}
-use Rattle.pfs_conf_tokens.proofs.ReaderLaws.{word_head, word_is, number_is, number_reads, list_is, list_reads, ReadsList, no_comma}
+use Rattle.pfs_conf_tokens.proofs.ReaderLaws.{closes_parens_key, word_head, word_is, number_is, number_reads, list_is, list_reads, ReadsList, no_comma}
 use Rattle.pfs_addr.specs.Names.{name_of}
 use Rattle.pfs_conf_rules.specs.Bounds.{greatest_timeout}
 use Rattle.pfs_conf_rules.specs.declared.actions.Rate.{Rate}
@@ -54,10 +54,13 @@ pub track_is : (ts : List Tok) (s : Track) (left : List Tok) → track_at ts ≡
 unfolding track_at
 track_is ts s left e = by_key (head ts).key refl e
   where
+    not_there : act (stay (done track.Bare)) ts ≡ Ok (s, left) → TrackOf ts s left
+    not_there h = let p = ok_parts track.Bare s ts left h in rw (← p.0, ← p.1) bare
+
     by_key : (k : Key) → (head ts).key ≡ k → act (track_by k) ts ≡ Ok (s, left) → TrackOf ts s left
     by_key key.Rule g h = let p = ok_parts track.Rule s (rest ts) left h in rw (← p.0, ← p.1) (rule (word_is key.Rule ts g (λ q. cc)))
     by_key key.Global g h = let p = ok_parts track.Global s (rest ts) left h in rw (← p.0, ← p.1) (global (word_is key.Global ts g (λ q. cc)))
-    by_key _ g h = let p = ok_parts track.Bare s ts left h in rw (← p.0, ← p.1) bare
+    by_key _ g h = not_there h
 
 -- the keys before which `source-track` may stand
 abbrev pub ends_track : Key → Bool
@@ -181,13 +184,19 @@ pub flush_is : (ts : List Tok) (f : Option Scope) (left : List Tok) → flush_at
 unfolding flush_at
 flush_is ts f left e = by_key (head ts).key refl e
   where
+    not_there : act (stay (done None)) ts ≡ Ok (f, left) → FlushOf ts f left
+    not_there h = let p = ok_parts None f ts left h in rw (← p.0, ← p.1) nothing
+
+    alone : (mid : List Tok) → Word key.Flush ts mid → act (stay (done (Some scope.Rule))) mid ≡ Ok (f, left) → FlushOf ts f left
+    alone mid w h = let p = ok_parts (Some scope.Rule) f mid left h in rw (← p.0, ← p.1) (own w)
+
     behind : (mid : List Tok) → Word key.Flush ts mid → (k : Key) → (head mid).key ≡ k → act (flushed_by k) mid ≡ Ok (f, left) → FlushOf ts f left
     behind mid w key.Global g h = let p = ok_parts (Some scope.Global) f (rest mid) left h in rw (← p.0, ← p.1) (all w (word_is key.Global mid g (λ q. cc)))
-    behind mid w _ g h = let p = ok_parts (Some scope.Rule) f mid left h in rw (← p.0, ← p.1) (own w)
+    behind mid w _ g h = alone mid w h
 
     by_key : (k : Key) → (head ts).key ≡ k → act (flush_by k) ts ≡ Ok (f, left) → FlushOf ts f left
     by_key key.Flush g h = behind (rest ts) (word_is key.Flush ts g (λ q. cc)) (head (rest ts)).key refl h
-    by_key _ g h = let p = ok_parts None f ts left h in rw (← p.0, ← p.1) nothing
+    by_key _ g h = not_there h
 
 -- the keys before which `overload <t>` may stand
 abbrev pub ends_overload : Key → Bool
@@ -369,13 +378,9 @@ option_begins (timeout k place n w e fresh number) = rw (word_head w).0 (place_b
 
 -- ---- the clause
 
-closing : (k : Key) → closes_parens k ≡ true → k ≡ key.CloseParen
-closing key.CloseParen e = refl
-closing _ e = absurd cc
-
 pub options_are : (ts : List Tok) (o : Options) (left : List Tok) → state_options_at ts ≡ Ok (o, left) → ListOf key.CloseParen OptionOf none_given ts o left
 unfolding state_options_at
-options_are ts o left e = list_is key.CloseParen closes_parens OptionOf option_at closing (λ r. cc) option_is none_given ts o left e
+options_are ts o left e = list_is key.CloseParen closes_parens OptionOf option_at closes_parens_key (λ r. cc) option_is none_given ts o left e
 
 listed_options : ReadsList key.CloseParen closes_parens ends_option OptionOf option_at
 listed_options = record { closes = refl; close_follows = refl; comma_goes = refl; comma_follows = refl; begins = λ q. option_begins q; reads = λ q f. option_reads q f; shrinks = option_shrinks }
@@ -388,9 +393,12 @@ pub kept_is : (ts : List Tok) (o : Options) (left : List Tok) → kept_at ts ≡
 unfolding kept_at
 kept_is ts o left e = by_key (head ts).key refl e
   where
+    not_there : act (stay (done none_given)) ts ≡ Ok (o, left) → KeptOf ts o left
+    not_there h = let p = ok_parts none_given o ts left h in rw (← p.0, ← p.1) plainly
+
     by_key : (k : Key) → (head ts).key ≡ k → act (kept_by k) ts ≡ Ok (o, left) → KeptOf ts o left
     by_key key.OpenParen g h = listed (word_is key.OpenParen ts g (λ q. cc)) (options_are (rest ts) o left h)
-    by_key _ g h = let p = ok_parts none_given o ts left h in rw (← p.0, ← p.1) plainly
+    by_key _ g h = not_there h
 
 -- the keys before which a state clause may stand
 abbrev pub ends_state : Key → Bool

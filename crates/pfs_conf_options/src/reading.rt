@@ -2,7 +2,7 @@
 // token that goes on no statement.
 
 ghost use Rattle.std.specs.Prelude.{◌≡◌, ◌<◌, ◌≤◌, IfOk, IfSome, MatchBool, Ok, Err};
-ghost use Rattle.pfs_conf_tokens.specs.Reading.{closes_parens, act, until_all, next_of, list_all, number_at};
+ghost use Rattle.pfs_conf_tokens.specs.Reading.{closes_parens, act, once, take, until_all, next_of, list_all, number_at};
 ghost use Rattle.pfs_conf_tokens.specs.Giving.{Gives};
 ghost use Rattle.pfs_conf_options.specs.Options.{rule_place, options_given};
 ghost use Rattle.pfs_conf_options.specs.Bounds.{AreRead};
@@ -84,36 +84,28 @@ fn option(cursor: &mut Cursor, options: Options) -> Result<Options, Refusal>
 {
     match cursor.key() {
         Key::Max => {
-            only_once(options.max.is_some())?;
-            cursor.advance();
-            let max = maximum(cursor)?;
+            let max = maximum_once(cursor, options.max)?;
             Ok(Options {
                 max: Some(max),
                 ..options
             })
         }
         Key::SourceTrack => {
-            only_once(options.track.is_some())?;
-            cursor.advance();
-            let track = track(cursor)?;
+            let track = track_once(cursor, options.track)?;
             Ok(Options {
                 track: Some(track),
                 ..options
             })
         }
         Key::MaxSrcNodes => {
-            only_once(options.max_src_nodes.is_some())?;
-            cursor.advance();
-            let nodes = maximum(cursor)?;
+            let nodes = maximum_once(cursor, options.max_src_nodes)?;
             Ok(Options {
                 max_src_nodes: Some(nodes),
                 ..options
             })
         }
         Key::MaxSrcStates => {
-            only_once(options.max_src_states.is_some())?;
-            cursor.advance();
-            let states = maximum(cursor)?;
+            let states = maximum_once(cursor, options.max_src_states)?;
             Ok(Options {
                 max_src_states: Some(states),
                 ..options
@@ -130,27 +122,21 @@ fn connection_option(cursor: &mut Cursor, options: Options) -> Result<Options, R
 {
     match cursor.key() {
         Key::MaxSrcConn => {
-            only_once(options.max_src_conn.is_some())?;
-            cursor.advance();
-            let connections = maximum(cursor)?;
+            let connections = maximum_once(cursor, options.max_src_conn)?;
             Ok(Options {
                 max_src_conn: Some(connections),
                 ..options
             })
         }
         Key::MaxSrcConnRate => {
-            only_once(options.max_src_conn_rate.is_some())?;
-            cursor.advance();
-            let rate = rate(cursor)?;
+            let rate = rate_once(cursor, options.max_src_conn_rate)?;
             Ok(Options {
                 max_src_conn_rate: Some(rate),
                 ..options
             })
         }
         Key::Overload => {
-            only_once(options.overload.is_some())?;
-            cursor.advance();
-            let overload = overload(cursor)?;
+            let overload = overload_once(cursor, options.overload)?;
             Ok(Options {
                 overload: Some(overload),
                 ..options
@@ -238,6 +224,39 @@ fn only_once(is_given: bool) -> Result<(), Refusal>
     } else {
         Ok(())
     }
+}
+
+// What stands behind the word of an option, at that word: it is refused where the option is given already.
+fn maximum_once(cursor: &mut Cursor, given: Option<u32>) -> Result<u32, Refusal>
+    ensures { Gives result cursor.new (act (once given (take (number_at 1 4294967295))) cursor.old) }
+{
+    only_once(given.is_some())?;
+    cursor.advance();
+    maximum(cursor)
+}
+
+fn track_once(cursor: &mut Cursor, given: Option<Track>) -> Result<Track, Refusal>
+    ensures { Gives result cursor.new (act (once given (take track_at)) cursor.old) }
+{
+    only_once(given.is_some())?;
+    cursor.advance();
+    track(cursor)
+}
+
+fn rate_once(cursor: &mut Cursor, given: Option<Rate>) -> Result<Rate, Refusal>
+    ensures { Gives result cursor.new (act (once given (take rate_at)) cursor.old) }
+{
+    only_once(given.is_some())?;
+    cursor.advance();
+    rate(cursor)
+}
+
+fn overload_once(cursor: &mut Cursor, given: Option<OverloadText>) -> Result<OverloadText, Refusal>
+    ensures { Gives result cursor.new (act (once given (take overload_text_at)) cursor.old) }
+{
+    only_once(given.is_some())?;
+    cursor.advance();
+    overload(cursor)
 }
 
 fn maximum(cursor: &mut Cursor) -> Result<u32, Refusal>

@@ -5,7 +5,7 @@ use Rattle.pfs_conf_tokens.specs.declared.keys.Key.TheVariants as key
 use Rattle.pfs_conf_tokens.specs.Keys.{before_end}
 use Rattle.pfs_conf_tokens.specs.Reading.{closes_braces, chain, done, next_of, skipping, number_at}
 use Rattle.pfs_conf_tokens.proofs.Laws.{Taking, OnlineAct, Online, across, online_done, online_chain, online_taking, online_front, front_shrinks, chain_shrinks, Shrinks, online_across}
-use Rattle.pfs_conf_tokens.proofs.ReaderLaws.{online_list, next_shrinks, online_skipping, skipping_shrinks, online_number}
+use Rattle.pfs_conf_tokens.proofs.ReaderLaws.{closes_braces_before_end, online_list, next_shrinks, online_skipping, skipping_shrinks, online_number}
 use Rattle.pfs_conf_rules.specs.declared.limits.LimitName.{LimitName}
 use Rattle.pfs_conf_rules.specs.declared.limits.LimitName.TheVariants as limit
 use Rattle.pfs_conf_rules.specs.declared.timeouts.TimeoutName.{TimeoutName}
@@ -96,12 +96,8 @@ next_time_shrinks d = next_shrinks lined_time_at lined_time_shrinks d
 
 -- ---- whole statements
 
-closing : (k : Key) → closes_braces k ≡ true → before_end k ≡ true
-closing key.CloseBrace e = refl
-closing _ e = absurd cc
-
 limits_act : (d : Drafted) (k : Key) → OnlineAct across k (limits_by d k)
-limits_act d key.OpenBrace = (refl, online_list closes_braces lined_limit_at closing lined_limit_shrinks online_lined_limit d)
+limits_act d key.OpenBrace = (refl, online_list closes_braces lined_limit_at closes_braces_before_end lined_limit_shrinks online_lined_limit d)
 limits_act d _ = online_limit false d
 
 pub online_limits : (d : Drafted) → Online across (limits_at d)
@@ -109,7 +105,7 @@ unfolding limits_at
 online_limits d = online_front (λ t. limits_by d t.key) (λ t. limits_act d t.key)
 
 times_act : (d : Drafted) (k : Key) → OnlineAct across k (times_by d k)
-times_act d key.OpenBrace = (refl, online_list closes_braces lined_time_at closing lined_time_shrinks online_lined_time d)
+times_act d key.OpenBrace = (refl, online_list closes_braces lined_time_at closes_braces_before_end lined_time_shrinks online_lined_time d)
 times_act d _ = online_time false d
 
 pub online_times : (d : Drafted) → Online across (times_at d)

@@ -7,7 +7,7 @@ use Rattle.pfs_conf_tokens.specs.Reading.{rest, closes_braces, stay, act, chain,
 use Rattle.pfs_conf_tokens.specs.Keys.{ends_line}
 use Rattle.pfs_conf_tokens.specs.Grammar.{Word, skip_lines}
 use Rattle.pfs_conf_tokens.proofs.Laws.{ok_parts, chain_ok, not_refused}
-use Rattle.pfs_conf_tokens.proofs.ReaderLaws.{word_head, word_is, number_is, number_reads, list_is, list_reads, ReadsList, no_comma}
+use Rattle.pfs_conf_tokens.proofs.ReaderLaws.{closes_braces_key, line_end_key, word_head, word_is, number_is, number_reads, list_is, list_reads, ReadsList, no_comma}
 use Rattle.pfs_conf_tokens.proofs.LineLaws.{skip_stays}
 use Rattle.pfs_conf_rules.specs.declared.limits.LimitName.TheVariants as limit_name
 use Rattle.pfs_conf_rules.specs.declared.timeouts.TimeoutName.{TimeoutName}
@@ -76,16 +76,12 @@ lined_time_is d ts e left h =
     let q = ok_parts c.0 e (skip_lines c.1) left c.3 in
     record { mid = c.1; item = subst (λ (z : Drafted). TimeOf true d (skip_lines ts) z c.1) q.0 (time_is true d (skip_lines ts) c.0 c.1 c.2); behind = sym q.1 }
 
-closing : (k : Key) → closes_braces k ≡ true → k ≡ key.CloseBrace
-closing key.CloseBrace e = refl
-closing _ e = absurd cc
-
 limits_are : (d : Drafted) (ts a : List Tok) (e : Drafted) (left : List Tok) → Word key.Limit ts a → limits_at d a ≡ Ok (e, left) → SettingOf d ts e left
 unfolding limits_at
 limits_are d ts a e left w h = by_key (head a).key refl h
   where
     by_key : (k : Key) → (head a).key ≡ k → act (limits_by d k) a ≡ Ok (e, left) → SettingOf d ts e left
-    by_key key.OpenBrace g q = limits w (word_is key.OpenBrace a g (λ r. cc)) (list_is key.CloseBrace closes_braces (AmongLines (LimitOf true)) lined_limit_at closing (λ r. cc) lined_limit_is d (rest a) e left q)
+    by_key key.OpenBrace g q = limits w (word_is key.OpenBrace a g (λ r. cc)) (list_is key.CloseBrace closes_braces (AmongLines (LimitOf true)) lined_limit_at closes_braces_key (λ r. cc) lined_limit_is d (rest a) e left q)
     by_key _ g q = limit w (limit_is false d a e left q)
 
 times_are : (d : Drafted) (ts a : List Tok) (e : Drafted) (left : List Tok) → Word key.Timeout ts a → times_at d a ≡ Ok (e, left) → SettingOf d ts e left
@@ -93,7 +89,7 @@ unfolding times_at
 times_are d ts a e left w h = by_key (head a).key refl h
   where
     by_key : (k : Key) → (head a).key ≡ k → act (times_by d k) a ≡ Ok (e, left) → SettingOf d ts e left
-    by_key key.OpenBrace g q = timeouts w (word_is key.OpenBrace a g (λ r. cc)) (list_is key.CloseBrace closes_braces (AmongLines (TimeOf true)) lined_time_at closing (λ r. cc) lined_time_is d (rest a) e left q)
+    by_key key.OpenBrace g q = timeouts w (word_is key.OpenBrace a g (λ r. cc)) (list_is key.CloseBrace closes_braces (AmongLines (TimeOf true)) lined_time_at closes_braces_key (λ r. cc) lined_time_is d (rest a) e left q)
     by_key _ g q = timeout w (time_is false d a e left q)
 
 pub settings_are : (d : Drafted) (ts : List Tok) (e : Drafted) (left : List Tok) → settings_at d ts ≡ Ok (e, left) → SettingOf d ts e left
@@ -168,8 +164,7 @@ time_begins (icmp_first w v) = rw (word_head w).0 (refl, refl, refl)
 time_begins (icmp_error w v) = rw (word_head w).0 (refl, refl, refl)
 
 line_end_begins : (k : Key) → ends_line k ≡ true → Begins k
-line_end_begins key.LineEnd e = (refl, refl, refl)
-line_end_begins _ e = absurd cc
+line_end_begins k e = subst Begins (sym (line_end_key k e)) (refl, refl, refl)
 
 lined_begins : (ts : List Tok) → Begins (head (skip_lines ts)).key → Begins (head ts).key
 lined_begins ts h = go (ends_line (head ts).key) refl

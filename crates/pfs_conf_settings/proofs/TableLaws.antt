@@ -4,10 +4,10 @@ use Rattle.pfs_conf_tokens.specs.declared.keys.Key.{Key}
 use Rattle.pfs_conf_tokens.specs.declared.keys.Key.TheVariants as key
 use Rattle.pfs_conf_tokens.specs.declared.refusals.Why.TheVariants as why
 use Rattle.pfs_conf_tokens.specs.Tokens.{Tok}
-use Rattle.pfs_conf_tokens.specs.Keys.{ends_line, is_word_key, in_line, before_end}
+use Rattle.pfs_conf_tokens.specs.Keys.{ends_line, is_word_key, in_line}
 use Rattle.pfs_conf_tokens.specs.Reading.{closes_braces, Act, refuse, chain, done, list_all, next_of, skipping}
 use Rattle.pfs_conf_tokens.proofs.Laws.{Taking, OnlineAct, Online, inside, across, online_done, online_chain, online_taking, online_front, once_taking, front_shrinks, chain_shrinks, chain_shrinks_behind, Shrinks, online_across, online_up_to_all}
-use Rattle.pfs_conf_tokens.proofs.ReaderLaws.{online_list, next_shrinks, online_skipping, skipping_shrinks, word_in_line}
+use Rattle.pfs_conf_tokens.proofs.ReaderLaws.{closes_braces_before_end, online_list, next_shrinks, online_skipping, skipping_shrinks, word_in_line}
 use Rattle.pfs_addr.specs.Prefixes.{Network}
 use Rattle.pfs_addr.specs.Texts.{prefix_of}
 use Rattle.pfs_conf_rules.specs.Entries.{Entry, sign_of}
@@ -85,12 +85,8 @@ next_entry_shrinks entries = next_shrinks lined_entry_at lined_entry_shrinks ent
 
 -- ---- the entries in braces
 
-closing : (k : Key) → closes_braces k ≡ true → before_end k ≡ true
-closing key.CloseBrace e = refl
-closing _ e = absurd cc
-
 online_listed : Online across (list_all closes_braces lined_entry_at [])
-online_listed = online_list closes_braces lined_entry_at closing lined_entry_shrinks online_lined_entry []
+online_listed = online_list closes_braces lined_entry_at closes_braces_before_end lined_entry_shrinks online_lined_entry []
 
 entries_act : (k : Key) → OnlineAct across k (entries_by k)
 entries_act key.CloseBrace = (refl, online_done [])

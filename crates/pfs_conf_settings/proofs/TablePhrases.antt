@@ -9,7 +9,7 @@ use Rattle.pfs_conf_tokens.specs.Reading.{rest, closes_braces, Act, take, stay, 
 use Rattle.pfs_conf_tokens.specs.Keys.{ends_line, is_word_key}
 use Rattle.pfs_conf_tokens.specs.Grammar.{WordOf, Word, skip_lines}
 use Rattle.pfs_conf_tokens.proofs.Laws.{ok_parts, chain_ok, not_refused}
-use Rattle.pfs_conf_tokens.proofs.ReaderLaws.{word_head, word_is, list_is, list_reads, ReadsList, no_comma, skip_head, up_to_is, up_to_reads, Reads}
+use Rattle.pfs_conf_tokens.proofs.ReaderLaws.{closes_braces_key, line_end_key, word_head, word_is, list_is, list_reads, ReadsList, no_comma, skip_head, up_to_is, up_to_reads, Reads}
 use Rattle.pfs_conf_tokens.proofs.LineLaws.{skip_stays}
 use Rattle.pfs_addr.specs.Prefixes.{Network}
 use Rattle.pfs_addr.specs.Texts.{prefix_of}
@@ -94,16 +94,12 @@ lined_entry_is es ts more left e =
       behind = sym q.1;
     }
 
-closing : (k : Key) → closes_braces k ≡ true → k ≡ key.CloseBrace
-closing key.CloseBrace e = refl
-closing _ e = absurd cc
-
 pub entries_are : (ts : List Tok) (es : List Entry) (left : List Tok) → braced_entries_at ts ≡ Ok (es, left) → EntriesOf ts es left
 unfolding braced_entries_at
 entries_are ts es left e = by_key (head (skip_lines ts)).key refl e
   where
     listed : list_all closes_braces lined_entry_at [] (skip_lines ts) ≡ Ok (es, left) → EntriesOf ts es left
-    listed h = some (list_is key.CloseBrace closes_braces EntryOf lined_entry_at closing (λ q. cc) lined_entry_is [] (skip_lines ts) es left h)
+    listed h = some (list_is key.CloseBrace closes_braces EntryOf lined_entry_at closes_braces_key (λ q. cc) lined_entry_is [] (skip_lines ts) es left h)
 
     by_key : (k : Key) → (head (skip_lines ts)).key ≡ k → act (entries_by k) (skip_lines ts) ≡ Ok (es, left) → EntriesOf ts es left
     by_key key.CloseBrace g h =
@@ -143,13 +139,9 @@ part_is p ts q left e = by_key (head ts).key refl e
     by_key key.OpenBrace g h = braces_are p q ts left p.entries refl g h
     by_key _ g h = absurd (not_refused _ _ _ h)
 
-line_closing : (k : Key) → ends_line k ≡ true → k ≡ key.LineEnd
-line_closing key.LineEnd e = refl
-line_closing _ e = absurd cc
-
 pub parts_are : (ts : List Tok) (p : Parts) (left : List Tok) → parts_at ts ≡ Ok (p, left) → PartsOf ts p left
 unfolding parts_at
-parts_are ts p left e = up_to_is key.LineEnd ends_line PartOf part_at line_closing part_is no_parts ts p left e
+parts_are ts p left e = up_to_is key.LineEnd ends_line PartOf part_at line_end_key part_is no_parts ts p left e
 
 -- ---- reads
 
@@ -193,8 +185,7 @@ abbrev Begins : Key → Type 0
 Begins k = (closes_braces k ≡ false) × (true ≡ true) × (no_comma k ≡ true)
 
 line_end_begins : (k : Key) → ends_line k ≡ true → Begins k
-line_end_begins key.LineEnd e = (refl, refl, refl)
-line_end_begins _ e = absurd cc
+line_end_begins k e = subst Begins (sym (line_end_key k e)) (refl, refl, refl)
 
 word_begins : (k : Key) → is_word_key k ≡ true → Begins k
 word_begins key.CloseBrace e = absurd cc

@@ -1,8 +1,8 @@
 // The parts of a table's definition.
 
-ghost use Rattle.std.specs.Prelude.{◌≡◌, []};
+ghost use Rattle.std.specs.Prelude.{◌≡◌, [], Some, true};
 ghost use Rattle.pfs_conf_tokens.specs.Keys.{ends_line};
-ghost use Rattle.pfs_conf_tokens.specs.Reading.{closes_braces, until_all, up_to_all, next_of};
+ghost use Rattle.pfs_conf_tokens.specs.Reading.{chain, closes_braces, done, list_all, next_of, until_all, up_to_all};
 ghost use Rattle.pfs_conf_tokens.specs.Giving.{GivesOrMemory};
 ghost use Rattle.pfs_conf_settings.specs.Tables.{entry_at, lined_entry_at, braced_entries_at, part_at, parts_at};
 ghost use Rattle.pfs_conf_settings.specs.Extending.{Extends};
@@ -63,38 +63,62 @@ fn part(alloc: Global, cursor: &mut Cursor, parts: Parts) -> Result<Parts, ReadE
     match cursor.key() {
         Key::Persist if !parts.persist => {
             cursor.advance();
-            Ok(Parts {
-                persist: true,
-                ..parts
-            })
+            Ok(persistent(parts))
         }
         Key::Const if !parts.is_const => {
             cursor.advance();
-            Ok(Parts {
-                is_const: true,
-                ..parts
-            })
+            Ok(constant(parts))
         }
         Key::Counters if !parts.counters => {
             cursor.advance();
-            Ok(Parts {
-                counters: true,
-                ..parts
-            })
+            Ok(counted(parts))
         }
         Key::OpenBrace if parts.entries.is_none() => {
             cursor.advance();
-            let entries = entries(alloc, cursor)?;
-            Ok(Parts {
-                entries: Some(entries),
-                ..parts
-            })
+            with_entries(alloc, cursor, parts)
         }
         Key::Persist | Key::Const | Key::Counters | Key::OpenBrace => Err(ReadError::Refused(
             Refusal::Stop(Why::Again),
         )),
         _ => Err(ReadError::Refused(Refusal::Stop(Why::Plain))),
     }
+}
+
+fn persistent(parts: Parts) -> Parts
+    ensures { result ≡ record parts { persist = true } }
+{
+    Parts {
+        persist: true,
+        ..parts
+    }
+}
+
+fn constant(parts: Parts) -> Parts
+    ensures { result ≡ record parts { is_const = true } }
+{
+    Parts {
+        is_const: true,
+        ..parts
+    }
+}
+
+fn counted(parts: Parts) -> Parts
+    ensures { result ≡ record parts { counters = true } }
+{
+    Parts {
+        counters: true,
+        ..parts
+    }
+}
+
+fn with_entries(alloc: Global, cursor: &mut Cursor, parts: Parts) -> Result<Parts, ReadError>
+    ensures { GivesOrMemory result cursor.new (chain braced_entries_at (λ e. done (record parts { entries = Some e })) cursor.old) }
+{
+    let entries = entries(alloc, cursor)?;
+    Ok(Parts {
+        entries: Some(entries),
+        ..parts
+    })
 }
 
 /// The entries in braces, behind the opening one.
@@ -106,12 +130,16 @@ fn entries(alloc: Global, cursor: &mut Cursor) -> Result<Entries, ReadError>
     let mut entries = Entries::new(alloc);
     match cursor.key() {
         Key::CloseBrace => cursor.advance(),
-        _ => {
-            lined_entry(cursor, &mut entries)?;
-            more_entries(cursor, &mut entries)?;
-        }
+        _ => some_entries(cursor, &mut entries)?,
     }
     Ok(entries)
+}
+
+fn some_entries(cursor: &mut Cursor, entries: &mut Entries) -> Result<(), ReadError>
+    ensures { Extends result cursor.new entries.new (list_all closes_braces lined_entry_at entries.old cursor.old) }
+{
+    lined_entry(cursor, entries)?;
+    more_entries(cursor, entries)
 }
 
 fn more_entries(cursor: &mut Cursor, entries: &mut Entries) -> Result<(), ReadError>

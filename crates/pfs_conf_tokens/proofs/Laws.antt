@@ -489,7 +489,7 @@ ended_shrinks {A = A} x = record { less = λ ts y left e. by_tokens ts (head ts)
     by_tokens : (ts : List Tok) (k : Key) → (head ts).key ≡ k → (y : A) (left : List Tok) → act (ended_by x k) ts ≡ Ok (y, left) → length left < length ts
     by_tokens [] key.LineEnd g y left e = absurd cc
     by_tokens (t ∷ ts) key.LineEnd g y left e = let p = ok_parts x y ts left e in omega (arith, ap length p.1)
-    by_tokens ts _ g y left e = absurd cc
+    by_tokens ts _ g y left e = absurd (not_refused why.Plain ts (y, left) e)
 
 -- ---- a whole text
 

@@ -4,6 +4,7 @@
 -- beside its `online`: `x_is`, that what is read is a phrase of the grammar, and `x_reads`, that each phrase is read.
 use Rattle.std.proofs.Common.{◌≡◌, ℕ, zero, suc, ◌≤◌, Bool, true, false, cond, List, [], ◌∷◌, length, Option, Some, None, Result, Ok, refl, sym, ap, subst, ◌∙◌, arith, leb, ◌&&◌}
 use Rattle.std.proofs.lemmas.Bool.{and_parts, leb-true, le-leb}
+use borrow.Author.Tests.{clash}
 use Rattle.pfs_conf_tokens.specs.Tokens.{Tok, head}
 use Rattle.pfs_conf_tokens.specs.Reading.{rest, ends_text, closes_parens, closes_braces, Refused, Reader, take, stay, refuse, act, done, chain, perhaps, turns, taken, left_there, until_all, up_to_all, comma_by, comma_at, next_of, list_all, ended_by, ended, skipping, number_in, number_by, number_at}
 use Rattle.pfs_conf_tokens.specs.declared.keys.Key.{Key}
@@ -32,31 +33,31 @@ timeout_in_line _ place e = refl
 -- what stops a loop stands within its reach, and is one key
 pub closes_parens_in_line : (k : Key) → closes_parens k ≡ true → in_line k ≡ true
 closes_parens_in_line key.CloseParen e = refl
-closes_parens_in_line _ e = absurd cc
+closes_parens_in_line _ e = absurd (clash e)
 
 pub closes_braces_before_end : (k : Key) → closes_braces k ≡ true → before_end k ≡ true
 closes_braces_before_end key.CloseBrace e = refl
-closes_braces_before_end _ e = absurd cc
+closes_braces_before_end _ e = absurd (clash e)
 
 pub closes_parens_key : (k : Key) → closes_parens k ≡ true → k ≡ key.CloseParen
 closes_parens_key key.CloseParen e = refl
-closes_parens_key _ e = absurd cc
+closes_parens_key _ e = absurd (clash e)
 
 pub closes_braces_key : (k : Key) → closes_braces k ≡ true → k ≡ key.CloseBrace
 closes_braces_key key.CloseBrace e = refl
-closes_braces_key _ e = absurd cc
+closes_braces_key _ e = absurd (clash e)
 
 pub ends_text_key : (k : Key) → ends_text k ≡ true → k ≡ key.End
 ends_text_key key.End e = refl
-ends_text_key _ e = absurd cc
+ends_text_key _ e = absurd (clash e)
 
 pub line_end_before_end : (k : Key) → ends_line k ≡ true → before_end k ≡ true
 line_end_before_end key.LineEnd e = refl
-line_end_before_end _ e = absurd cc
+line_end_before_end _ e = absurd (clash e)
 
 pub line_end_key : (k : Key) → ends_line k ≡ true → k ≡ key.LineEnd
 line_end_key key.LineEnd e = refl
-line_end_key _ e = absurd cc
+line_end_key _ e = absurd (clash e)
 
 -- the key in front of a word, and what is behind it
 pub word_head : {k : Key} {ts left : List Tok} → Word k ts left → ((head ts).key ≡ k) × (rest ts ≡ left)
