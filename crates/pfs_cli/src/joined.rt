@@ -11,9 +11,9 @@ ghost use Rattle.pfs_cli.specs.Joined.{split_joined};
 ghost use Rattle.pfs_cli.specs.Places.{IsPastSplit, ends_split, place_after, place_over, split_at, split_mark};
 
 use crate::faults::ReplayFault;
-use crate::records::tell_records;
 use crate::replays::{feed_fault, finish};
 use crate::rules::{RULES_LIMIT, load_machine};
+use pfs_cli_records::tell_records;
 use pfs_cli_streams::{Feed, Sink};
 use std::alloc::Global;
 use std::io::{BufReader, Read, Write};

@@ -7,15 +7,15 @@ ghost use Rattle.pfs_cli_streams.specs.Sinks.{held, write_failures};
 ghost use Rattle.pfs_conf_rules.specs.Configs.{Conf};
 ghost use Rattle.pfs_conf.specs.declared.faults.LoadFault.{LoadFault};
 ghost use Rattle.pfs_conf.specs.Reads.{Reads};
-ghost use Rattle.pfs_cli.specs.Turns.{Tells};
+ghost use Rattle.pfs_cli_records.specs.Turns.{Tells};
 ghost use Rattle.pfs_cli.specs.Rules.{KeepsEnough, AreRefused, rules_limit};
 ghost use Rattle.pfs_cli.specs.Refusing.{IsFeedFault};
 ghost use Rattle.pfs_cli_report.specs.Traces.{trace_of};
 ghost use Rattle.pfs_cli.specs.Replays.{Replays};
 
 use crate::faults::{ReplayFault, of_trace};
-use crate::records::{Stop, tell_records};
 use crate::rules::{RULES_LIMIT, load_machine};
+use pfs_cli_records::{Stop, tell_records};
 use pfs_cli_streams::{Feed, Sink};
 use std::alloc::Global;
 use std::io::{Read, Write};

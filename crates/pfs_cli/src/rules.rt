@@ -6,7 +6,7 @@ ghost use Rattle.pfs_engine_machine.specs.Machine.{start};
 ghost use Rattle.pfs_cli.specs.Refusing.{RefusesRules, fault_of};
 
 use crate::faults::ReplayFault;
-use crate::machine::{TraceEngine, first_machine};
+use pfs_cli_records::{TraceEngine, first_machine};
 use pfs_conf::{Kind, LoadFault, load};
 use std::alloc::Global;
 

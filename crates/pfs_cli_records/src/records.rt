@@ -11,7 +11,7 @@ ghost use Rattle.std.specs.Option.{ForSome};
 ghost use Rattle.pfs_engine_machine.specs.Machine.{start, step};
 ghost use Rattle.pfs_engine_machine.specs.Runs.{MayCome};
 ghost use Rattle.pfs_cli_report.specs.Reports.{end_of};
-ghost use Rattle.pfs_cli.specs.Turns.{Tells, WritesLine, TakesEvent, TakesRecord};
+ghost use Rattle.pfs_cli_records.specs.Turns.{Tells, WritesLine, TakesEvent, TakesRecord};
 ghost use Rattle.pfs_cli_report.specs.Reading.{records_of, records_left};
 ghost use Rattle.pfs_cli_report.specs.Traces.{events_of, events_from};
 
@@ -28,7 +28,7 @@ const ROW_LIMIT: u64 = 1_000_000_000;
 
 /// Why the records stop before their end.
 #[derive(Clone, Copy, Debug, PartialEq, Eq)]
-pub(crate) enum Stop {
+pub enum Stop {
     /// A record is faulty.
     Fault(TraceFault),
     /// The source gave no record: a read failed, or memory was refused.
@@ -202,8 +202,17 @@ fn tell_trace<S: Read, W: Write>(
 }
 
 /// Reads the trace of `source`, and writes the line of each record before it reads the next, and
-/// the last line. Nothing is flushed.
-pub(crate) fn tell_records<S: Read + Drop, W: Write>(
+/// the last line, with what is held. Nothing is flushed. The engine is as `first_machine` gives it.
+///
+/// What is written at a stop:
+///
+/// - `Fault`: the lines of the records before the first faulty one, whose fault it is; of a faulty header
+///   none.
+/// - `Source`, `Memory`: the lines of the first records.
+/// - `Write`: a front of the report. It is told only where `out` has counted a failure.
+///
+/// Memory is taken for what the engine holds, and for one record and one line, however long the trace is.
+pub fn tell_records<S: Read + Drop, W: Write>(
     alloc: Global,
     source: S,
     engine: &mut TraceEngine,
