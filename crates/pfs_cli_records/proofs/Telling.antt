@@ -317,6 +317,12 @@ pub ends-empty : {S : Type 0} (rem : S → Option (List ℕ)) (conf : Conf) (bef
 ends-empty rem conf before a b f xs config source r =
     no-header conf _ before (rw (read-end rem a b f xs config source r) (events_of-none conf))
 
+-- a run under a configuration that is this one
+pub ends-under : (conf d : Conf) (fs : List Fields) (before after : Option (List ℕ)) (r : Result Unit Stop) → d ≡ conf → Ends d (events_of d fs) before after r → Ends conf (events_of conf fs) before after r
+ends-under conf d fs before after r same ends =
+    let P : Conf → Type 0 = λ x. Ends x (events_of x fs) before after r in
+    subst P same ends
+
 -- a run that stopped before the first record
 pub no-lines : (conf : Conf) (trace : Trace) → AreFirstLines conf trace []
 no-lines conf trace = (0, sym (lines_of-none conf))

@@ -3,6 +3,7 @@
 
 mod machine;
 mod records;
+mod reports;
 
-pub use machine::{TraceEngine, first_machine};
-pub use records::{Stop, tell_records};
+pub use records::Stop;
+pub use reports::write_report;

@@ -13,10 +13,10 @@ use std::alloc::Global;
 use std::hash::{BuildHasherDefault, FoldHasher};
 
 /// The engine of a replay; here alone is it said what kind of store it runs over.
-pub type TraceEngine = Engine<IndexStore<BuildHasherDefault<FoldHasher>>>;
+pub(crate) type TraceEngine = Engine<IndexStore<BuildHasherDefault<FoldHasher>>>;
 
-/// The machine of a configuration, before the first event. It takes memory; `NoMemory` comes where that was refused.
-pub fn first_machine(alloc: Global, config: Config) -> Result<TraceEngine, NoMemory>
+/// The machine of a configuration, before the first event.
+pub(crate) fn first_machine(alloc: Global, config: Config) -> Result<TraceEngine, NoMemory>
     ensures config { IfOk result (λ e. e.config ≡ config) }
     ensures first { IfOk result (λ e. e.machine ≡ start config) }
     ensures taken { IfOk result (λ e. e.taken ≡ 0) }

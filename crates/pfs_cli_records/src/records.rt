@@ -202,17 +202,8 @@ fn tell_trace<S: Read, W: Write>(
 }
 
 /// Reads the trace of `source`, and writes the line of each record before it reads the next, and
-/// the last line, with what is held. Nothing is flushed. The engine is as `first_machine` gives it.
-///
-/// What is written at a stop:
-///
-/// - `Fault`: the lines of the records before the first faulty one, whose fault it is; of a faulty header
-///   none.
-/// - `Source`, `Memory`: the lines of the first records.
-/// - `Write`: a front of the report. It is told only where `out` has counted a failure.
-///
-/// Memory is taken for what the engine holds, and for one record and one line, however long the trace is.
-pub fn tell_records<S: Read + Drop, W: Write>(
+/// the last line. Nothing is flushed.
+pub(crate) fn tell_records<S: Read + Drop, W: Write>(
     alloc: Global,
     source: S,
     engine: &mut TraceEngine,
