@@ -3,4 +3,3 @@ pub mod Joining
 pub mod Replaying
 pub mod Ruling
 pub mod Splitting
-pub mod Telling

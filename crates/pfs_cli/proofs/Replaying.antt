@@ -3,11 +3,10 @@ use Rattle.std.proofs.Common.{◌≡◌, ◌≢◌, ◌≤◌, ◌<◌, ◌+◌,
 use Rattle.std.proofs.Math.Seq.{drop-append_seam, drop-append-add}
 use Rattle.std.specs.Prelude.{IsErrAnd, Result, Ok, Err, nat_lt}
 use Rattle.std.proofs.lemmas.Bool.Decides.{nat_tests}
-use Rattle.std.proofs.lemmas.List.{append-nil, take-append-drop}
-use Rattle.pfs_engine_machine.specs.declared.events.Event.{Event}
-use Rattle.pfs_cli_report.specs.Traces.{Trace, trace_of}
-use Rattle.pfs_cli.proofs.Telling.{report-front}
-use Rattle.std.specs.Io.KnownBytes.{Appends, Keeps, Consumes}
+use Rattle.std.proofs.lemmas.List.{append-nil}
+use Rattle.pfs_cli_report.specs.Traces.{trace_of}
+use Rattle.pfs_cli_records.proofs.Telling.{first-lines-begin, whole-report}
+use Rattle.std.specs.Io.KnownBytes.{Consumes}
 use Rattle.pfs_cli_report.specs.declared.faults.TraceFault.{TraceFault}
 use Rattle.pfs_cli_report.specs.declared.faults.TraceFault.TheVariants as trace
 use Rattle.pfs_cli.specs.declared.faults.ReplayFault.{ReplayFault}
@@ -17,31 +16,13 @@ use Rattle.pfs_conf_rules.specs.Configs.{Conf}
 use Rattle.pfs_conf.specs.Kinds.{no_memory}
 use Rattle.pfs_conf.specs.Reads.{Reads}
 use Rattle.pfs_conf.specs.Faults.{IsFault, memory, long, breaks, stops}
-use Rattle.pfs_cli.specs.declared.records.Stop.TheVariants as stop
+use Rattle.pfs_cli_records.specs.declared.records.Stop.TheVariants as stop
 use Rattle.pfs_cli.specs.Faults.{replay_fault}
 use Rattle.pfs_cli.specs.Rules.{AreRefused, KeepsEnough, rules_limit}
-use Rattle.pfs_cli_report.specs.Reports.{report, report_of, AreFirstLines, BeginsReport}
-use Rattle.pfs_cli.specs.Turns.{Tells}
+use Rattle.pfs_cli_report.specs.Reports.{AreFirstLines, BeginsReport}
+use Rattle.pfs_cli_records.specs.Turns.{Tells}
 use Rattle.pfs_cli.specs.Refusing.{RefusesRules, IsFeedFault}
 use Rattle.pfs_cli.specs.Replays.{Replays}
-
-pub Appends-kept : (a b c : Option (List ℕ)) (bs : List ℕ) → Appends a b bs → Keeps b c → Appends a c bs
-Appends-kept None b c bs p q = tt
-Appends-kept (Some xs) None c bs p q = absurd p
-Appends-kept (Some xs) (Some ys) None bs p q = absurd q
-Appends-kept (Some xs) (Some ys) (Some zs) bs p q = q ∙ p
-
--- the lines of the first records begin the report
-first-lines-begin : (conf : Conf) (trace : Trace) (text : List ℕ) → AreFirstLines conf trace text → BeginsReport conf trace text
-first-lines-begin conf trace text (k, e) =
-    let whole : take k trace.0 ++ drop k trace.0 ≡ trace.0 = take-append-drop k trace.0 in
-    let (rest, begins) = report-front conf (take k trace.0) (drop k trace.0) trace.1 in
-    (rest, ap (λ (es : List Event). report conf (es, trace.1)) (sym whole) ∙ (begins ∙ ap (λ (t : List ℕ). t ++ rest) (sym e)))
-
--- a text that is written whole, with the fault of its trace
-whole-report : (conf : Conf) (ts t : List ℕ) (o : Option TraceFault) → (trace_of conf ts).1 ≡ o → t ≡ report conf (trace_of conf ts) → report_of conf ts ≡ (t, o)
-whole-report conf ts t o fault_is text_is =
-    ap (λ (w : List ℕ). (w, (trace_of conf ts).1)) (sym text_is) ∙ ap (λ (f : Option TraceFault). (t, f)) fault_is
 
 -- a faulty trace leaves its report
 pub run-fault : (conf : Conf) (rs ts t : List ℕ) (f : TraceFault) → Reads rs conf → Tells conf (trace_of conf ts) t (Err (stop.Fault f)) → Replays rs ts t (Err (replay_fault f))

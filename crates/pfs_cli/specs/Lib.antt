@@ -6,4 +6,3 @@ pub mod Places
 pub mod Refusing
 pub mod Replays
 pub mod Rules
-pub mod Turns

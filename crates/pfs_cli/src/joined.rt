@@ -11,9 +11,9 @@ ghost use Rattle.pfs_cli.specs.Joined.{split_joined};
 ghost use Rattle.pfs_cli.specs.Places.{IsPastSplit, ends_split, place_after, place_over, split_at, split_mark};
 
 use crate::faults::ReplayFault;
-use crate::records::tell_records;
 use crate::replays::{feed_fault, finish};
-use crate::rules::{RULES_LIMIT, load_machine};
+use crate::rules::{RULES_LIMIT, load_config};
+use pfs_cli_records::write_report;
 use pfs_cli_streams::{Feed, Sink};
 use std::alloc::Global;
 use std::io::{BufReader, Read, Write};
@@ -176,7 +176,7 @@ pub fn replay_joined<R: Read, W: Write>(
             return Err(feed_fault(input));
         }
     };
-    let mut engine = load_machine(alloc, text)?;
-    let outcome = tell_records(alloc, reader, &mut engine, out);
+    let config = load_config(alloc, text)?;
+    let outcome = write_report(alloc, config, reader, out);
     finish(outcome, input, out)
 }

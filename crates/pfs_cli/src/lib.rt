@@ -5,9 +5,7 @@
 mod checks;
 mod faults;
 mod joined;
-mod machine;
 mod performing;
-mod records;
 mod replays;
 mod rules;
 

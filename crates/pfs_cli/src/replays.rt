@@ -7,15 +7,15 @@ ghost use Rattle.pfs_cli_streams.specs.Sinks.{held, write_failures};
 ghost use Rattle.pfs_conf_rules.specs.Configs.{Conf};
 ghost use Rattle.pfs_conf.specs.declared.faults.LoadFault.{LoadFault};
 ghost use Rattle.pfs_conf.specs.Reads.{Reads};
-ghost use Rattle.pfs_cli.specs.Turns.{Tells};
+ghost use Rattle.pfs_cli_records.specs.Turns.{Tells};
 ghost use Rattle.pfs_cli.specs.Rules.{KeepsEnough, AreRefused, rules_limit};
 ghost use Rattle.pfs_cli.specs.Refusing.{IsFeedFault};
 ghost use Rattle.pfs_cli_report.specs.Traces.{trace_of};
 ghost use Rattle.pfs_cli.specs.Replays.{Replays};
 
 use crate::faults::{ReplayFault, of_trace};
-use crate::records::{Stop, tell_records};
-use crate::rules::{RULES_LIMIT, load_machine};
+use crate::rules::{RULES_LIMIT, load_config};
+use pfs_cli_records::{Stop, write_report};
 use pfs_cli_streams::{Feed, Sink};
 use std::alloc::Global;
 use std::io::{Read, Write};
@@ -150,7 +150,7 @@ pub fn replay<R: Read, T: Read, W: Write>(
     ensures write { result ≡ Err ReplayFault.Write → 0 < write_failures out.new }
 {
     let text = read_text(alloc, rules)?;
-    let mut engine = load_machine(alloc, text)?;
-    let outcome = tell_records(alloc, &mut *trace, &mut engine, out);
+    let config = load_config(alloc, text)?;
+    let outcome = write_report(alloc, config, &mut *trace, out);
     finish(outcome, trace, out)
 }

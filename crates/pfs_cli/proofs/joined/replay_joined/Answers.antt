@@ -4,8 +4,8 @@ use Rattle.std.specs.Io.Buffered.{reader_remaining, reader_buffer, reader_inner,
 use Rattle.std.specs.declared.io.buffered.BufReader.{BufReader}
 use Rattle.pfs_cli_streams.specs.Feeds.{FeedView, unread}
 use Rattle.pfs_cli.specs.Joined.{split_joined}
-use Rattle.pfs_cli.proofs.Telling.{Appends-nothing}
-use Rattle.pfs_cli.proofs.Replaying.{Appends-kept, kept-reads, rules-refused, rules-told, handed-on}
+use Rattle.pfs_cli_records.proofs.Telling.{Appends-nothing, Appends-kept}
+use Rattle.pfs_cli.proofs.Replaying.{kept-reads, rules-refused, rules-told, handed-on}
 use Rattle.pfs_cli.proofs.joined.replay_joined.Goals as goal
 
 -- a new buffered reader holds what the reader under it does
@@ -13,25 +13,25 @@ fresh_holds : {T A : Type 0} (rem : T → Option (List ℕ)) (r : BufReader T A)
     → reader_remaining rem r ≡ Some xs
 fresh_holds rem r inner xs i b n e = rw (n, b, i, e) refl
 
-pub returns-in_err-engine-clause-reports : goal.returns-in_err-engine-clause-reports
-returns-in_err-engine-clause-reports g c xs e =
+pub returns-in_err-config-clause-reports : goal.returns-in_err-config-clause-reports
+returns-in_err-config-clause-reports g c xs e =
     let start = fresh_holds (λ (r : MutBor (FeedView g.row.R.Denot)). unread g.R.Read.remaining r.now) c.in-Ok.reader _ xs c.in-Ok.ensures.inner c.in-Ok.ensures.empty c.in-Ok.ensures.capacity e in
-    let told = rules-refused c.in-Ok-read_joined.text.items (split_joined xs).0 (split_joined xs).1 c.in_err-engine.field-0.0 (c.in-Ok-read_joined.ensures.rules xs start) c.in_err-engine.ensures.err in
-    ([], Appends-nothing _, handed-on (split_joined xs).0 (split_joined xs).1 [] c.in_err-engine.field-0.0 c.from_residual.result c.from_residual.ensures.1 told)
+    let told = rules-refused c.in-Ok-read_joined.text.items (split_joined xs).0 (split_joined xs).1 c.in_err-config.field-0.0 (c.in-Ok-read_joined.ensures.rules xs start) c.in_err-config.ensures.err in
+    ([], Appends-nothing _, handed-on (split_joined xs).0 (split_joined xs).1 [] c.in_err-config.field-0.0 c.from_residual.result c.from_residual.ensures.1 told)
 
 pub returns-clause-reports : goal.returns-clause-reports
 returns-clause-reports g c xs e =
     let start = fresh_holds (λ (r : MutBor (FeedView g.row.R.Denot)). unread g.R.Read.remaining r.now) c.in-Ok.reader _ xs c.in-Ok.ensures.inner c.in-Ok.ensures.empty c.in-Ok.ensures.capacity e in
-    let conf = c.in_ok-engine.engine.config in
-    let known = kept-reads c.in-Ok-read_joined.text.items (split_joined xs).0 conf (c.in-Ok-read_joined.ensures.rules xs start) c.in_ok-engine.ensures.ok in
-    let trace = c.in-Ok-read_joined.ensures.trace xs start c.in_ok-engine.ensures.ok.short in
-    let (t, grown, told) = c.tell_records-outcome.ensures.tells (split_joined xs).1 trace in
+    let conf = c.in_ok-config.config in
+    let known = kept-reads c.in-Ok-read_joined.text.items (split_joined xs).0 conf (c.in-Ok-read_joined.ensures.rules xs start) c.in_ok-config.ensures.ok in
+    let trace = c.in-Ok-read_joined.ensures.trace xs start c.in_ok-config.ensures.ok.short in
+    let (t, grown, told) = c.write_report-outcome.ensures.tells (split_joined xs).1 trace in
     (t, Appends-kept _ _ _ t grown c.finish.ensures.kept, c.finish.ensures.told conf (split_joined xs).0 (split_joined xs).1 t known told)
 
-pub returns-in_err-engine-clause-refused : goal.returns-in_err-engine-clause-refused
-returns-in_err-engine-clause-refused g c xs f e is =
+pub returns-in_err-config-clause-refused : goal.returns-in_err-config-clause-refused
+returns-in_err-config-clause-refused g c xs f e is =
     let start = fresh_holds (λ (r : MutBor (FeedView g.row.R.Denot)). unread g.R.Read.remaining r.now) c.in-Ok.reader _ xs c.in-Ok.ensures.inner c.in-Ok.ensures.empty c.in-Ok.ensures.capacity e in
-    rules-told c.in-Ok-read_joined.text.items (split_joined xs).0 c.in_err-engine.field-0.0 f c.from_residual.result (c.in-Ok-read_joined.ensures.rules xs start) c.in_err-engine.ensures.err
+    rules-told c.in-Ok-read_joined.text.items (split_joined xs).0 c.in_err-config.field-0.0 f c.from_residual.result (c.in-Ok-read_joined.ensures.rules xs start) c.in_err-config.ensures.err
     c.from_residual.ensures.1 is
 
 pub returns-clause-refused : goal.returns-clause-refused

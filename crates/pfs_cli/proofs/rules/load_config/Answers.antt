@@ -1,13 +1,13 @@
--- Answer of load_machine: a text whose rules are refused has the fault that is told (`err`).
+-- Answer of load_config: a text whose rules are refused has the fault that is told (`err`).
 use Rattle.std.proofs.Common.{subst, sym, List, ℕ}
 use Rattle.pfs_conf.specs.Reads.{Reads}
 use Rattle.pfs_conf.specs.Faults.{IsFault}
 use Rattle.pfs_cli.specs.Refusing.{RefusesRules}
 use Rattle.pfs_cli.proofs.Ruling.{refuses}
-use Rattle.pfs_cli.proofs.rules.load_machine.Goals as goal
+use Rattle.pfs_cli.proofs.rules.load_config.Goals as goal
 
-pub returns-in-Err-clause-err : goal.returns-in-Err-clause-err
-returns-in-Err-clause-err c =
+pub returns-clause-err : goal.returns-clause-err
+returns-clause-err c =
     subst (RefusesRules c.args.text.items) (sym c.told.ensures)
     (refuses c.args.text.items c.in-Err.fault
     (subst (λ (t : List ℕ). IsFault t c.in-Err.fault) c.as_slice.ensures.value c.in-Err.ensures.fault)

@@ -1,7 +1,7 @@
 -- Invariant of tell_rows: the lines written and the machine are those of the records read so far.
 use Rattle.pfs_cli_streams.specs.Sinks.{held}
-use Rattle.pfs_cli.proofs.Telling.{Running}
-use Rattle.pfs_cli.proofs.records.tell_rows.Given as goal
+use Rattle.pfs_cli_records.proofs.Telling.{Running}
+use Rattle.pfs_cli_records.proofs.records.tell_rows.Given as goal
 
 abbrev pub invariant-loop-rows : goal.invariant-loop-rows
 invariant-loop-rows g l =

@@ -11,7 +11,7 @@ ghost use Rattle.std.specs.Option.{ForSome};
 ghost use Rattle.pfs_engine_machine.specs.Machine.{start, step};
 ghost use Rattle.pfs_engine_machine.specs.Runs.{MayCome};
 ghost use Rattle.pfs_cli_report.specs.Reports.{end_of};
-ghost use Rattle.pfs_cli.specs.Turns.{Tells, WritesLine, TakesEvent, TakesRecord};
+ghost use Rattle.pfs_cli_records.specs.Turns.{Tells, WritesLine, TakesEvent, TakesRecord};
 ghost use Rattle.pfs_cli_report.specs.Reading.{records_of, records_left};
 ghost use Rattle.pfs_cli_report.specs.Traces.{events_of, events_from};
 
@@ -28,7 +28,7 @@ const ROW_LIMIT: u64 = 1_000_000_000;
 
 /// Why the records stop before their end.
 #[derive(Clone, Copy, Debug, PartialEq, Eq)]
-pub(crate) enum Stop {
+pub enum Stop {
     /// A record is faulty.
     Fault(TraceFault),
     /// The source gave no record: a read failed, or memory was refused.

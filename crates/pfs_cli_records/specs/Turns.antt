@@ -3,8 +3,8 @@ use Rattle.std.specs.Prelude.{◌≡◌, ℕ, List, [], take, Some, None, Result
 use Rattle.pfs_conf_rules.specs.Configs.{Conf}
 use Rattle.pfs_engine_machine.specs.declared.events.Event.{Event}
 use Rattle.pfs_engine_machine.specs.Machine.{Machine, step}
-use Rattle.pfs_cli.specs.declared.records.Stop.{Stop}
-use Rattle.pfs_cli.specs.declared.records.Stop.TheVariants as stop
+use Rattle.pfs_cli_records.specs.declared.records.Stop.{Stop}
+use Rattle.pfs_cli_records.specs.declared.records.Stop.TheVariants as stop
 use Rattle.pfs_cli_report.specs.Events.{event_at}
 use Rattle.pfs_cli_report.specs.Lines.{row_text}
 use Rattle.pfs_cli_report.specs.Reports.{AreFirstLines, BeginsReport, report}

@@ -4,7 +4,7 @@ use Rattle.std.specs.Prelude.{Result, Ok, Err, nat_lt}
 use Rattle.std.proofs.lemmas.List.{append-nil, take-append-drop}
 use Rattle.std.proofs.Math.Seq.{take-append_seam}
 use Rattle.std.proofs.lemmas.Bool.Decides.{nat_tests}
-use Rattle.std.specs.Io.KnownBytes.{Appends}
+use Rattle.std.specs.Io.KnownBytes.{Appends, Keeps}
 use Rattle.csv.specs.Reading.{Reached, ReadRecord, Ready, source_of, default_config}
 use Rattle.csv.specs.Machine.{Read, next_record}
 use Rattle.csv.specs.declared.parser.State.{State}
@@ -17,14 +17,14 @@ use Rattle.pfs_engine_machine.specs.Machine.{Machine, start, step, outcomes_of, 
 use Rattle.pfs_engine.specs.Views.{View}
 use Rattle.pfs_cli_report.specs.declared.faults.TraceFault.{TraceFault}
 use Rattle.pfs_cli_report.specs.declared.faults.TraceFault.TheVariants as fault
-use Rattle.pfs_cli.specs.declared.records.Stop.{Stop}
-use Rattle.pfs_cli.specs.declared.records.Stop.TheVariants as stop
+use Rattle.pfs_cli_records.specs.declared.records.Stop.{Stop}
+use Rattle.pfs_cli_records.specs.declared.records.Stop.TheVariants as stop
 use Rattle.pfs_cli_report.specs.Events.{event_at, is_header}
 use Rattle.pfs_cli_report.specs.Lines.{row_text}
-use Rattle.pfs_cli_report.specs.Traces.{Fields, Trace, row_limit, events_from, events_of}
+use Rattle.pfs_cli_report.specs.Traces.{Fields, Trace, row_limit, events_from, events_of, trace_of}
 use Rattle.pfs_cli_report.specs.Reading.{records_left}
-use Rattle.pfs_cli_report.specs.Reports.{lines_from, lines_of, end_of, report, AreFirstLines}
-use Rattle.pfs_cli.specs.Turns.{Tells, WritesLine, TakesEvent, TakesRecord}
+use Rattle.pfs_cli_report.specs.Reports.{lines_from, lines_of, end_of, report, report_of, AreFirstLines, BeginsReport}
+use Rattle.pfs_cli_records.specs.Turns.{Tells, WritesLine, TakesEvent, TakesRecord}
 use Rattle.pfs_cli_report.proofs.Rest.{records_left-more, records_left-end}
 use Rattle.pfs_cli_report.proofs.Runs.{machine_after-more, lines_of-more, lines_of-none, outcomes-front, lines_from-front}
 use Rattle.pfs_cli_report.proofs.Stepping.{last-step}
@@ -40,6 +40,13 @@ Appends-more None b c bs cs p q = tt
 Appends-more (Some xs) None c bs cs p q = absurd p
 Appends-more (Some xs) (Some ys) None bs cs p q = absurd q
 Appends-more (Some xs) (Some ys) (Some zs) bs cs p q = rw (q, p) (append_assoc xs bs cs)
+
+-- known bytes that grew, and then did not
+pub Appends-kept : (a b c : Option (List ℕ)) (bs : List ℕ) → Appends a b bs → Keeps b c → Appends a c bs
+Appends-kept None b c bs p q = tt
+Appends-kept (Some xs) None c bs p q = absurd p
+Appends-kept (Some xs) (Some ys) None bs p q = absurd q
+Appends-kept (Some xs) (Some ys) (Some zs) bs p q = q ∙ p
 
 -- events, and then a trace
 abbrev pub behind : List Event → Trace → Trace
@@ -205,11 +212,23 @@ lines-front conf es fs =
     (more, ap (lines_from 1) e ∙ begins)
 
 -- and the report
-pub report-front : (conf : Conf) (es fs : List Event) (o : Option TraceFault) → (rest : List ℕ) × (report conf (es ++ fs, o) ≡ lines_of conf es ++ rest)
+report-front : (conf : Conf) (es fs : List Event) (o : Option TraceFault) → (rest : List ℕ) × (report conf (es ++ fs, o) ≡ lines_of conf es ++ rest)
 report-front conf es fs None =
     let (rest, e) = lines-front conf es fs in
     (rest ++ end_line conf (es ++ fs), ap (λ (t : List ℕ). t ++ end_line conf (es ++ fs)) e ∙ append_assoc (lines_of conf es) rest (end_line conf (es ++ fs)))
 report-front conf es fs (Some f) = lines-front conf es fs
+
+-- the lines of the first records begin the report
+pub first-lines-begin : (conf : Conf) (trace : Trace) (text : List ℕ) → AreFirstLines conf trace text → BeginsReport conf trace text
+first-lines-begin conf trace text (k, e) =
+    let whole : take k trace.0 ++ drop k trace.0 ≡ trace.0 = take-append-drop k trace.0 in
+    let (rest, begins) = report-front conf (take k trace.0) (drop k trace.0) trace.1 in
+    (rest, ap (λ (es : List Event). report conf (es, trace.1)) (sym whole) ∙ (begins ∙ ap (λ (t : List ℕ). t ++ rest) (sym e)))
+
+-- a text that is written whole, with the fault of its trace
+pub whole-report : (conf : Conf) (ts t : List ℕ) (o : Option TraceFault) → (trace_of conf ts).1 ≡ o → t ≡ report conf (trace_of conf ts) → report_of conf ts ≡ (t, o)
+whole-report conf ts t o fault_is text_is =
+    ap (λ (w : List ℕ). (w, (trace_of conf ts).1)) (sym text_is) ∙ ap (λ (f : Option TraceFault). (t, f)) fault_is
 
 report-begins : (conf : Conf) (seen : List Event) (e : Event) (more : Trace) → (rest : List ℕ) × (report conf (seen ++ (e ∷ more.0), more.1) ≡ lines_of conf (seen ++ e ∷ []) ++ rest)
 report-begins conf seen e more =
@@ -297,6 +316,12 @@ pub ends-empty : {S : Type 0} (rem : S → Option (List ℕ)) (conf : Conf) (bef
     → Ends conf (events_of conf (records_left default_config a.state xs)) before before (Err (stop.Fault (fault.Columns 0)))
 ends-empty rem conf before a b f xs config source r =
     no-header conf _ before (rw (read-end rem a b f xs config source r) (events_of-none conf))
+
+-- a run under a configuration that is this one
+pub ends-under : (conf d : Conf) (fs : List Fields) (before after : Option (List ℕ)) (r : Result Unit Stop) → d ≡ conf → Ends d (events_of d fs) before after r → Ends conf (events_of conf fs) before after r
+ends-under conf d fs before after r same ends =
+    let P : Conf → Type 0 = λ x. Ends x (events_of x fs) before after r in
+    subst P same ends
 
 -- a run that stopped before the first record
 pub no-lines : (conf : Conf) (trace : Trace) → AreFirstLines conf trace []

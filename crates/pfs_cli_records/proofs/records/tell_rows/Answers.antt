@@ -1,9 +1,9 @@
 -- Answers of tell_rows: one record more, and at each end the lines of the records so far (`tells`).
 use Rattle.std.proofs.Common.{refl, arith, subst, ◌<◌, ◌+◌, ◌∙◌, ℕ, List, inl, Err}
 use Rattle.csv.specs.Records.{fields_of}
-use Rattle.pfs_cli.specs.Turns.{WritesLine}
-use Rattle.pfs_cli.proofs.Telling.{so_far-start, so_far-more, ends-source, ends-end, ends-limit, ends-record, TakesRecord-rules}
-use Rattle.pfs_cli.proofs.records.tell_rows.Goals as goal
+use Rattle.pfs_cli_records.specs.Turns.{WritesLine}
+use Rattle.pfs_cli_records.proofs.Telling.{so_far-start, so_far-more, ends-source, ends-end, ends-limit, ends-record, TakesRecord-rules}
+use Rattle.pfs_cli_records.proofs.records.tell_rows.Goals as goal
 
 pub loop-rows-init : goal.loop-rows-init
 loop-rows-init g c = record {

@@ -5,8 +5,8 @@ use Rattle.csv.specs.Records.{fields_of}
 use Rattle.pfs_cli_report.specs.Traces.{events_of}
 use Rattle.pfs_cli_report.specs.Reading.{records_left}
 use Rattle.pfs_cli_report.specs.Events.{is_header}
-use Rattle.pfs_cli.proofs.Telling.{Appends-nothing, ends-other, ends-empty, no-lines, trace-rest}
-use Rattle.pfs_cli.proofs.records.tell_trace.Goals as goal
+use Rattle.pfs_cli_records.proofs.Telling.{Appends-nothing, ends-other, ends-empty, no-lines, trace-rest}
+use Rattle.pfs_cli_records.proofs.records.tell_trace.Goals as goal
 
 pub returns-in-Ok-false-clause-tells : goal.returns-in-Ok-false-clause-tells
 returns-in-Ok-false-clause-tells g c xs s =

@@ -2,8 +2,8 @@
 use Rattle.std.proofs.Common.{[]}
 use Rattle.pfs_cli_report.specs.Traces.{events_of}
 use Rattle.pfs_cli_report.specs.Reading.{records_of}
-use Rattle.pfs_cli.proofs.Telling.{Appends-nothing, no-lines}
-use Rattle.pfs_cli.proofs.records.tell_records.Goals as goal
+use Rattle.pfs_cli_records.proofs.Telling.{Appends-nothing, no-lines}
+use Rattle.pfs_cli_records.proofs.records.tell_records.Goals as goal
 
 pub returns-then-is_err-clause-tells : goal.returns-then-is_err-clause-tells
 returns-then-is_err-clause-tells g c xs e =

@@ -2,8 +2,8 @@
 use Rattle.std.proofs.Common.{sym, ◌∙◌, [], refl}
 use Rattle.csv.specs.Records.{fields_of}
 use Rattle.pfs_cli_report.proofs.Stepping.{event-read}
-use Rattle.pfs_cli.proofs.Telling.{Appends-nothing, takes-event}
-use Rattle.pfs_cli.proofs.records.take_record.Goals as goal
+use Rattle.pfs_cli_records.proofs.Telling.{Appends-nothing, takes-event}
+use Rattle.pfs_cli_records.proofs.records.take_record.Goals as goal
 
 pub take_event-requires-clause-order : goal.take_event-requires-clause-order
 take_event-requires-clause-order g c =

@@ -1,0 +1,44 @@
+//! The report of a trace under a configuration.
+
+ghost use Rattle.std.specs.Prelude.{◌≡◌, Some, Err, ◌<◌, ℕ, List};
+ghost use Rattle.std.specs.Io.KnownBytes.{Appends};
+ghost use Rattle.pfs_cli_streams.specs.Sinks.{held, write_failures};
+ghost use Rattle.pfs_cli_report.specs.Reading.{records_of};
+ghost use Rattle.pfs_cli_report.specs.Traces.{events_of};
+ghost use Rattle.pfs_cli_records.specs.Turns.{Tells};
+
+use crate::machine::first_machine;
+use crate::records::{Stop, tell_records};
+use pfs_cli_streams::Sink;
+use pfs_conf_rules::Config;
+use std::alloc::Global;
+use std::io::{Read, Write};
+
+/// Reads the trace of `source`, and writes its report under a configuration: the line of each record
+/// before the next is read, and the last line, with what is held. Nothing is flushed.
+///
+/// What is written at a stop:
+///
+/// - `Fault`: the lines of the records before the first faulty one, whose fault it is; of a faulty header
+///   none.
+/// - `Source`, `Memory`: the lines of the first records.
+/// - `Write`: a front of the report. It is told only where `out` has counted a failure.
+///
+/// Memory is taken for the states, the source nodes and the table entries that are held, and for one
+/// record and one line, however long the trace is.
+pub fn write_report<S: Read + Drop, W: Write>(
+    alloc: Global,
+    config: Config,
+    source: S,
+    out: &mut Sink<W>,
+) -> Result<(), Stop>
+    ensures tells { (xs : List ℕ) → S.remaining source ≡ Some xs →
+        ((t : List ℕ) × Appends (held W.contents out.old) (held W.contents out.new) t
+        × Tells config (events_of config (records_of xs)) t result) }
+    ensures fails { result ≡ Err (Stop.Write) → 0 < write_failures out.new }
+{
+    match first_machine(alloc, config) {
+        Ok(mut engine) => tell_records(alloc, source, &mut engine, out),
+        Err(_) => Err(Stop::Memory),
+    }
+}
