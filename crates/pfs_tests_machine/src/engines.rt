@@ -100,7 +100,7 @@ pub fn expire<S: Store>(
     assert!(rt; engine.last().is_some() && may_expire(engine.config(), table));
     let before = (engine.first(), engine.taken(), engine.work());
     let left = engine.expire(table, seconds);
-    assert_eq!(rt; (engine.first(), engine.taken(), engine.work()), before);
+    same!(rt; (engine.first(), engine.taken(), engine.work()), before);
     Outcome::Expire(left)
 }
 
@@ -117,7 +117,7 @@ fn ends<S: Store + Drop>(
     case: &Case,
 ) -> Result<(), Fail> {
     let mut engine = engine;
-    assert_eq!(rt; (engine.last(), engine.taken()), (None, 0));
+    same!(rt; (engine.last(), engine.taken()), (None, 0));
     for (event, outcome) in script.events.iter().zip(&script.outcomes) {
         pass_time(rt, &mut engine, event.time);
         let before = held(&engine);
@@ -126,7 +126,7 @@ fn ends<S: Store + Drop>(
             What::Skip => Outcome::Skip,
             What::Expire { table, seconds } => expire(rt, &mut engine, *table, *seconds),
         };
-        assert_eq!(rt; told, *outcome, "{}: at {event:?}", case.shows);
+        same!(rt; told, *outcome, (case.shows, event));
         assert!(rt; !matches!(told, Outcome::Drop(..)) || held(&engine) == before);
     }
     check_end(rt, &engine, script, case);
@@ -146,20 +146,24 @@ fn runs<S: Store + Drop>(
     assert!(rt; engine.taken() == 0 && script.events.len() <= 1_000_000_000);
     assert!(rt; are_allowed(engine.config(), &script.events));
     engine.run(&script.events, &mut outcomes)?;
-    assert_eq!(rt; outcomes, script.outcomes, "{}", case.shows);
+    same!(rt; outcomes, script.outcomes, case.shows);
     check_end(rt, &engine, script, case);
     Ok(())
 }
 
 // What is held after the script, how many packets were taken, and the last moment
 fn check_end<S: Store>(rt: &impl Abort, engine: &Engine<S>, script: &Script, case: &Case) {
-    assert_eq!(rt; held(engine), case.end, "{}", case.shows);
-    assert_eq!(rt; engine.taken(), script.packets);
-    assert_eq!(rt;
-        engine.first(),
-        script.events.first().map(|event| event.time)
-    );
-    assert_eq!(rt; engine.last(), script.events.last().map(|event| event.time));
+    same!(rt; held(engine), case.end, case.shows);
+    same!(rt; engine.taken(), script.packets);
+    same!(rt; engine.first(), time_of(script.events.first()));
+    same!(rt; engine.last(), time_of(script.events.last()));
+}
+
+fn time_of(event: Option<&Event>) -> Option<u64> {
+    match event {
+        Some(event) => Some(event.time),
+        None => None,
+    }
 }
 
 fn is_in_time(last: Option<u64>, time: u64) -> bool

@@ -136,6 +136,21 @@ fn shake<S: Store>(
     touch(store, &packet(&Sent::Tcp(80, ACK), A1, port)?, now)
 }
 
+fn numbered(answer: Result<StateNo, Limit>) -> Result<u64, Limit> {
+    match answer {
+        Ok(number) => Ok(number.0),
+        Err(limit) => Err(limit),
+    }
+}
+
+// The rule of a state that was admitted
+fn rule_of(answer: Result<StateNo, Limit>, rule: u32) -> Option<RuleNo> {
+    match answer {
+        Ok(_) => Some(RuleNo(rule)),
+        Err(_) => None,
+    }
+}
+
 fn come<S: Store>(
     rt: &impl Abort,
     store: &mut S,
@@ -152,18 +167,15 @@ fn come<S: Store>(
         Step::Admit(source, port, rule, want) => {
             let packet = packet(&Sent::Udp(53), source, port)?;
             let answer = admit(rt, store, config, &packet, RuleNo(rule), now)?;
-            assert_eq!(rt; answer.map(|number| number.0), want);
+            same!(rt; numbered(answer), want);
             let key = FlowKey::of(&packet);
-            assert_eq!(rt; store.find(&key), answer.ok());
-            assert_eq!(rt; store.rule_at(&key), answer.ok().map(|_| RuleNo(rule)));
+            same!(rt; store.find(&key), answer.ok());
+            same!(rt; store.rule_at(&key), rule_of(answer, rule));
         }
         Step::Again(source, port, rule) => {
             let told = touch(store, &packet(&Sent::Udp(53), source, port)?, now)?;
-            assert_eq!(rt;
-                (told.rule, told.source, told.completed),
-                (RuleNo(rule), source, false)
-            );
-            assert_eq!(rt; (told.connections, told.score), (0, Score::default()));
+            same!(rt; (told.rule, told.source, told.completed), (RuleNo(rule), source, false));
+            same!(rt; (told.connections, told.score), (0, Score::default()));
         }
         Step::Shake(port, connections, value) => {
             let told = shake(rt, store, config, port, now)?;
@@ -174,7 +186,7 @@ fn come<S: Store>(
                 connections,
                 score: Score { value, last: now },
             };
-            assert_eq!(rt; told, wanted);
+            same!(rt; told, wanted);
         }
         _ => {}
     }
@@ -188,14 +200,14 @@ fn leave<S: Store>(rt: &impl Abort, store: &mut S, now: u64, step: &Step)
 {
     match *step {
         Step::Kill(number) => kill(rt, store, StateNo(number), now),
-        Step::Flush(rule, killed) => assert_eq!(rt; flush(store, A1, rule, now), killed),
+        Step::Flush(rule, killed) => same!(rt; flush(store, A1, rule, now), killed),
         Step::States(examined, removed) => {
             let slice = purge_states(store, now);
-            assert_eq!(rt; (slice.examined, slice.removed), (examined, removed));
+            same!(rt; (slice.examined, slice.removed), (examined, removed));
         }
         Step::Nodes(examined, removed) => {
             let slice = purge_nodes(store, now);
-            assert_eq!(rt; (slice.examined, slice.removed), (examined, removed));
+            same!(rt; (slice.examined, slice.removed), (examined, removed));
         }
         _ => {}
     }
@@ -234,31 +246,22 @@ fn watch<S: Store>(rt: &impl Abort, store: &mut S, now: u64, step: &Step)
     match *step {
         Step::WatchStates(examined, until, over) => {
             let told = watch_states(store, now);
-            assert_eq!(rt;
-                (told.slice.examined, told.until, told.over),
-                (examined, until, over)
-            );
+            same!(rt; (told.slice.examined, told.until, told.over), (examined, until, over));
         }
         Step::WatchNodes(examined, until, over) => {
             let told = watch_nodes(store, now);
-            assert_eq!(rt;
-                (told.slice.examined, told.until, told.over),
-                (examined, until, over)
-            );
+            same!(rt; (told.slice.examined, told.until, told.over), (examined, until, over));
         }
-        Step::PassOver(seconds) => assert_eq!(rt; pass_over(store, now, seconds), seconds),
+        Step::PassOver(seconds) => same!(rt; pass_over(store, now, seconds), seconds),
         _ => {}
     }
 }
 
 fn look<S: Store>(rt: &impl Abort, store: &S, step: &Step) {
     match *step {
-        Step::Holds(number, wanted) => assert_eq!(rt; store.holds(StateNo(number)), wanted),
+        Step::Holds(number, wanted) => same!(rt; store.holds(StateNo(number)), wanted),
         Step::Held(states, nodes, made) => {
-            assert_eq!(rt;
-                (store.state_count(), store.node_count(), store.made()),
-                (states, nodes, made)
-            );
+            same!(rt; (store.state_count(), store.node_count(), store.made()), (states, nodes, made));
         }
         _ => {}
     }
@@ -329,7 +332,7 @@ fn tell(rt: &(impl Abort + AllocGlobal), rules: &[u8], rows: &[Row]) -> Result<(
     follow(rt, &mut plain, &config, rows)?;
     let mut tallied = Tallied::new(PlainStore::new(alloc, &config)?);
     follow(rt, &mut tallied, &config, rows)?;
-    assert_eq!(rt; tallied.calls, all_changes(rows));
+    same!(rt; tallied.calls, all_changes(rows));
     let mut indexed = IndexStore::new(alloc, &config)?;
     follow(rt, &mut indexed, &config, rows)
 }

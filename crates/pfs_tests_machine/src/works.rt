@@ -58,11 +58,11 @@ fn follow<S: Store + Drop>(
     end: (u64, u64, u64),
 ) -> Result<(), Fail> {
     let mut engine = engine;
-    assert_eq!(rt; engine.work(), work_of(&[0; 5], counts));
+    same!(rt; engine.work(), work_of(&[0; 5], counts));
     for (step, work) in rows {
         act(rt, &mut engine, step, work_of(work, counts))?;
     }
-    assert_eq!(rt; held(&engine), end);
+    same!(rt; held(&engine), end);
     Ok(())
 }
 
@@ -75,14 +75,14 @@ fn act<S: Store>(
     match *step {
         Step::Until(time) => {
             pass_time(rt, engine, time);
-            assert_eq!(rt; engine.last(), Some(time));
+            same!(rt; engine.last(), Some(time));
         }
         Step::Packet(sent, source, port, outcome) => {
             let packet = packet(&sent, source, port)?;
-            assert_eq!(rt; take(rt, engine, &packet)?, outcome);
+            same!(rt; take(rt, engine, &packet)?, outcome);
         }
     }
-    assert_eq!(rt; engine.work(), wanted);
+    same!(rt; engine.work(), wanted);
     Ok(())
 }
 

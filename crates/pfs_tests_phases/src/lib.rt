@@ -2,6 +2,19 @@
 
 #![tactic(auto)]
 
+/// Two values are the same; a third is shown where they are not.
+#[cfg(test)]
+macro_rules! same {
+    ($rt:expr; $told:expr, $wanted:expr) => {
+        crate::checks::same(&$rt, stringify!($told), &$told, &$wanted)
+    };
+    ($rt:expr; $told:expr, $wanted:expr, $at:expr) => {
+        crate::checks::same_at(&$rt, stringify!($told), &$told, &$wanted, &$at)
+    };
+}
+
+#[cfg(test)]
+mod checks;
 #[cfg(test)]
 mod lifetimes;
 #[cfg(test)]

@@ -17,7 +17,7 @@ const EXPIRED: &[(u64, u64, u64, bool)] = &[
 #[test]
 fn what_stays_long_enough_is_expired(rt: HostRuntime) {
     for &(lifetime, last, now, wanted) in EXPIRED {
-        assert_eq!(rt; is_expired(lifetime, last, now), wanted);
+        same!(rt; is_expired(lifetime, last, now), wanted);
     }
 }
 
@@ -40,10 +40,10 @@ fn lifetimes_shrink_by_the_default_pair(rt: HostRuntime) -> Result<(), Fail> {
     let first = StatePhase::first(Proto::Tcp);
     for &(count, wanted) in DEFAULT {
         let told = lifetime(&config, RuleNo(0), first, 0, count);
-        assert_eq!(rt; told, wanted, "at {count} states");
+        same!(rt; told, wanted, count);
     }
     let (opening, _) = first.step(false, SYN_ACK);
-    assert_eq!(rt; lifetime(&config, RuleNo(0), opening, 0, 11), 5);
+    same!(rt; lifetime(&config, RuleNo(0), opening, 0, 11), 5);
     Ok(())
 }
 
@@ -66,7 +66,7 @@ fn lifetimes_shrink_by_a_pair_that_is_set(rt: HostRuntime) -> Result<(), Fail> {
     let first = StatePhase::first(Proto::Tcp);
     for &(rules, count, wanted) in SET {
         let config = configured(rt.alloc(), b"", rules)?;
-        assert_eq!(rt; lifetime(&config, RuleNo(0), first, 0, count), wanted);
+        same!(rt; lifetime(&config, RuleNo(0), first, 0, count), wanted);
     }
     Ok(())
 }
@@ -78,9 +78,9 @@ fn lifetimes_of_a_rule_shrink_by_its_own_pair(rt: HostRuntime) -> Result<(), Fai
     let first = StatePhase::first(Proto::Tcp);
     for (count, wanted) in [(0, 60), (1, 60), (2, 40), (3, 20), (4, 0)] {
         let told = lifetime(&config, RuleNo(0), first, count, 1_000_000);
-        assert_eq!(rt; told, wanted, "at {count} states");
+        same!(rt; told, wanted, count);
     }
     let (opening, _) = first.step(false, SYN_ACK);
-    assert_eq!(rt; lifetime(&config, RuleNo(0), opening, 2, 1_000_000), 20);
+    same!(rt; lifetime(&config, RuleNo(0), opening, 2, 1_000_000), 20);
     Ok(())
 }

@@ -28,13 +28,13 @@ const CONNECTION: &[(bool, Flags, TimeoutName, bool)] = &[
 #[test]
 fn a_tcp_connection_opens_and_closes(rt: HostRuntime) {
     let mut phase = StatePhase::first(Proto::Tcp);
-    assert_eq!(rt; phase.slot(), TimeoutName::TcpFirst);
+    same!(rt; phase.slot(), TimeoutName::TcpFirst);
     let mut done = false;
     for &(forward, flags, slot, completes) in CONNECTION {
         let (after, now) = phase.step(forward, flags);
         done = done || now;
-        assert_eq!(rt; (after.slot(), now), (slot, completes));
-        assert_eq!(rt; after.done(), done);
+        same!(rt; (after.slot(), now), (slot, completes));
+        same!(rt; after.done(), done);
         phase = after;
     }
 }
@@ -63,7 +63,7 @@ const TCP: &[(&[(bool, Flags)], TimeoutName, bool)] = &[
 #[test]
 fn tcp_goes_through_its_timeouts(rt: HostRuntime) {
     for &(packets, slot, completes) in TCP {
-        assert_eq!(rt; after_all::<Tcp>(packets), (slot, completes));
+        same!(rt; after_all::<Tcp>(packets), (slot, completes));
     }
 }
 
@@ -89,8 +89,8 @@ const OTHERS: &[(&[(bool, Flags)], TimeoutName, TimeoutName)] = &[
 #[test]
 fn other_protocols_go_through_three_timeouts(rt: HostRuntime) {
     for &(packets, udp, other) in OTHERS {
-        assert_eq!(rt; after_all::<Udp>(packets), (udp, false));
-        assert_eq!(rt; after_all::<Other>(packets), (other, false));
+        same!(rt; after_all::<Udp>(packets), (udp, false));
+        same!(rt; after_all::<Other>(packets), (other, false));
     }
 }
 
@@ -105,12 +105,9 @@ fn a_phase_goes_by_its_protocol(rt: HostRuntime) {
         ),
     ] {
         let phase = StatePhase::first(proto);
-        assert_eq!(rt; phase.slot(), first);
+        same!(rt; phase.slot(), first);
         let (phase, _) = phase.step(false, ACK);
         let (phase, completes) = phase.step(true, ACK);
-        assert_eq!(rt;
-            (phase.slot(), completes, phase.done()),
-            (last, false, false)
-        );
+        same!(rt; (phase.slot(), completes, phase.done()), (last, false, false));
     }
 }

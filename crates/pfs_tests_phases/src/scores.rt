@@ -13,7 +13,7 @@ fn check(rt: &impl Abort, handshakes: &[(u64, u64)]) {
             value: *value,
             last: *moment,
         };
-        assert_eq!(rt; score, wanted);
+        same!(rt; score, wanted);
     }
 }
 
@@ -52,10 +52,10 @@ fn a_score_has_a_greatest_value(rt: HostRuntime) {
         last: 7,
     };
     let greatest = near.add(7, 10);
-    assert_eq!(rt; greatest.value, 4_294_968_000);
+    same!(rt; greatest.value, 4_294_968_000);
     assert!(rt; greatest.over(4_294_967));
     let slow = near.add(8, u64::MAX);
-    assert_eq!(rt; slow.value, 4_294_968_000);
+    same!(rt; slow.value, 4_294_968_000);
     let three = Score {
         value: 3000,
         last: 0,

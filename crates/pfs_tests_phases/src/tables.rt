@@ -38,7 +38,7 @@ fn a_table_answers_by_its_narrowest_entry(rt: HostRuntime) -> Result<(), Fail> {
     let tables = Tables::new(rt.alloc(), &config)?;
     for &(table, text, answer) in ANSWERS {
         let addr = parse_addr(text).ok_or("no address")?;
-        assert_eq!(rt; tables.matches(TableNo(table), addr), answer, "at {addr:?}");
+        same!(rt; tables.matches(TableNo(table), addr), answer, addr);
     }
     Ok(())
 }
@@ -65,14 +65,14 @@ fn a_host_is_added_while_there_is_room(rt: HostRuntime) -> Result<(), Fail> {
         let config = configured(rt.alloc(), first, b"table <bad> { 203.0.113.9 }")?;
         assert!(rt; config.table_count() == 1);
         let mut tables = Tables::new(rt.alloc(), &config)?;
-        assert_eq!(rt; tables.entries(), 1);
+        same!(rt; tables.entries(), 1);
         tables.make_room(TableNo(0))?;
         assert!(rt; is_full || tables.has_room(TableNo(0)));
-        assert_eq!(rt; tables.add_host(TableNo(0), A1, 5)?, answer);
-        assert_eq!(rt; tables.add_host(TableNo(0), A1, 5)?, again);
-        assert_eq!(rt; tables.add_host(TableNo(0), held, 5)?, Added::Held);
-        assert_eq!(rt; tables.entries(), entries);
-        assert_eq!(rt; tables.matches(TableNo(0), A1), !is_full);
+        same!(rt; tables.add_host(TableNo(0), A1, 5)?, answer);
+        same!(rt; tables.add_host(TableNo(0), A1, 5)?, again);
+        same!(rt; tables.add_host(TableNo(0), held, 5)?, Added::Held);
+        same!(rt; tables.entries(), entries);
+        same!(rt; tables.matches(TableNo(0), A1), !is_full);
     }
     Ok(())
 }
@@ -83,12 +83,12 @@ fn a_host_of_ipv6_is_an_entry_of_128_bits(rt: HostRuntime) -> Result<(), Fail> {
     assert!(rt; config.table_count() == 1);
     let mut tables = Tables::new(rt.alloc(), &config)?;
     let beside = parse_addr(b"2001:db8::2").ok_or("no address")?;
-    assert_eq!(rt; tables.add_host(TableNo(0), S6, 5)?, Added::New);
-    assert_eq!(rt; tables.add_host(TableNo(0), S6, 6)?, Added::Held);
+    same!(rt; tables.add_host(TableNo(0), S6, 5)?, Added::New);
+    same!(rt; tables.add_host(TableNo(0), S6, 6)?, Added::Held);
     assert!(rt; tables.matches(TableNo(0), S6) && !tables.matches(TableNo(0), beside));
-    assert_eq!(rt; tables.add_host(TableNo(0), A1, 7)?, Added::New);
-    assert_eq!(rt; tables.expire(TableNo(0), 5, 10, 5), 2);
+    same!(rt; tables.add_host(TableNo(0), A1, 7)?, Added::New);
+    same!(rt; tables.expire(TableNo(0), 5, 10, 5), 2);
     assert!(rt; !tables.matches(TableNo(0), S6) && tables.matches(TableNo(0), A1));
-    assert_eq!(rt; tables.entries(), 1);
+    same!(rt; tables.entries(), 1);
     Ok(())
 }

@@ -156,9 +156,12 @@ type Pair = (StatePhase, Seen);
 
 // Whether each of the phases is this one just where its ranks are
 fn is_one_to_one(reached: &[Pair], pair: &Pair) -> bool {
-    reached
-        .iter()
-        .all(|(phase, seen)| (*phase == pair.0) == (*seen == pair.1))
+    for (phase, seen) in reached {
+        if (*phase == pair.0) != (*seen == pair.1) {
+            return false;
+        }
+    }
+    true
 }
 
 #[test]
@@ -172,10 +175,7 @@ fn every_reachable_phase_steps_by_the_table(rt: HostRuntime) -> Result<(), Fail>
     let first = StatePhase::first(Proto::Tcp);
     let mut reached: Vec<Pair> = Vec::new(rt.alloc());
     reached.push((first, closed))?;
-    assert_eq!(rt;
-        (first.slot(), first.done()),
-        (TimeoutName::TcpFirst, false)
-    );
+    same!(rt; (first.slot(), first.done()), (TimeoutName::TcpFirst, false));
     for place in 0..100 {
         let Some(pair) = reached.get(place).copied() else {
             break;
@@ -186,16 +186,13 @@ fn every_reachable_phase_steps_by_the_table(rt: HostRuntime) -> Result<(), Fail>
             let flags = flags_of(number % 16);
             let (after, completes) = phase.step(forward, flags);
             let (wanted, is_third) = expected(seen, forward, flags).ok_or("no timeout")?;
-            assert_eq!(rt;
-                (after.slot(), after.done(), completes),
-                (wanted.timeout, wanted.complete, is_third)
-            );
+            same!(rt; (after.slot(), after.done(), completes), (wanted.timeout, wanted.complete, is_third));
             assert!(rt; is_one_to_one(&reached, &(after, wanted)));
             if !reached.contains(&(after, wanted)) {
                 reached.push((after, wanted))?;
             }
         }
     }
-    assert_eq!(rt; reached.len(), 31);
+    same!(rt; reached.len(), 31);
     Ok(())
 }

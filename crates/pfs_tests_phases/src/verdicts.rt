@@ -56,7 +56,7 @@ fn each_parameter_is_asked(rt: HostRuntime) -> Result<(), Fail> {
         for (packet, is_decided) in [(&tcp, of_tcp), (&udp, of_udp)] {
             let decided = decided(rt.alloc(), rule, packet)?;
             let wanted = if is_decided { Some(RuleNo(0)) } else { None };
-            assert_eq!(rt; decided, (wanted, 1), "{rule:?}");
+            same!(rt; decided, (wanted, 1), rule);
         }
     }
     Ok(())
@@ -101,7 +101,7 @@ fn families_are_asked_apart(rt: HostRuntime) -> Result<(), Fail> {
         for (packet, is_decided) in [(&four, of_four), (&six, of_six)] {
             let mut visits = Meter::new();
             let decided = book.decide(&tables, packet, &mut visits);
-            assert_eq!(rt; decided.is_some(), is_decided, "{rule:?}");
+            same!(rt; decided.is_some(), is_decided, rule);
         }
     }
     Ok(())
@@ -123,9 +123,9 @@ fn flags_are_asked_of_tcp_alone(rt: HostRuntime) -> Result<(), Fail> {
     let udp = packet(Dir::In, Proto::Udp, A1, 80)?;
     for &(rule, holds) in FLAGS {
         let (decided_tcp, _) = decided(rt.alloc(), rule, &tcp)?;
-        assert_eq!(rt; decided_tcp.is_some(), holds, "{rule:?}");
+        same!(rt; decided_tcp.is_some(), holds, rule);
         let (decided_udp, _) = decided(rt.alloc(), rule, &udp)?;
-        assert!(rt; decided_udp.is_some(), "{rule:?}");
+        same!(rt; decided_udp.is_some(), true, rule);
     }
     Ok(())
 }
@@ -162,7 +162,7 @@ fn quick_ends_the_whole_evaluation(rt: HostRuntime) -> Result<(), Fail> {
             packet(dir, Proto::Udp, A1, port)?
         };
         let decided = decided(rt.alloc(), ANCHORED, &packet)?;
-        assert_eq!(rt; decided, (Some(RuleNo(rule)), visits), "of rule {rule}");
+        same!(rt; decided, (Some(RuleNo(rule)), visits), rule);
     }
     Ok(())
 }
