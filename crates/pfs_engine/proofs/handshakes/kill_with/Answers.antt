@@ -1,4 +1,4 @@
--- Answers of kill_with: no more states after a kill than before, and the difference is what it killed.
+-- Answers of kill_with: no more states after a kill than before, and the difference is what it killed; its looks (`looks`).
 use Rattle.std.proofs.Common.{◌==◌, arith, ap, length}
 use Rattle.pfs_store_plain.specs.Calls.{other_than}
 use Rattle.pfs_store_plain.specs.Worlds.{World}
@@ -16,3 +16,6 @@ returns-in-None-clause-answer g c =
     let after = ap (λ (v : World). length v.states) c.kill.ensures.world in
     let all = count-rest (λ s. s.number == c.args.number.0) w.states in
     rw c.in-None.is (omega (arith, c.state_count-before.ensures, c.state_count.ensures, after, all))
+
+pub returns-in-None-clause-looks : goal.returns-in-None-clause-looks
+returns-in-None-clause-looks g c = λ on one. rw c.in-None.is (omega (arith, c.kill.ensures.looks on, one))

@@ -1,4 +1,4 @@
--- Answer of Engine::event: memory is refused only where the packet needs it (`err`).
+-- Answers of Engine::event: memory is refused only where the packet needs it, and never at a skip (`err`).
 use Rattle.std.proofs.Common.{IsOk, subst}
 use Rattle.pfs_conf_rules.specs.Configs.{Conf}
 use Rattle.pfs_engine_machine.specs.Kept.{moment_of}
@@ -14,3 +14,6 @@ returns-in-Packet-clause-err g c =
     let a = c.packet.ensures in
     refused_in c.args.self.now.config c.args.self.now.machine at c.packet.new.self.machine c.args.event.now p c.packet.result c.in-Packet.is c.advance.ensures.machine a.err
     (subst (λ (k : Conf). IsFree k p (answered k at.held p (moment_of at.last)).0 → IsOk c.packet.result) c.advance.ensures.config a.free)
+
+pub returns-in-Skip-clause-err : goal.returns-in-Skip-clause-err
+returns-in-Skip-clause-err g c = tt

@@ -1,4 +1,4 @@
--- Answers of Tables::new: one table more, and at the end the count of entries is the configuration's.
+-- Answers of Tables::new: one table more, and at the end the count of entries is the configuration's, and so is the limit.
 use Rattle.std.proofs.Common.{◌≡◌, ◌++◌, [], ◌∷◌, ap, sym, ◌∙◌, arith, map, take}
 use Rattle.std.proofs.lemmas.List.{take_all}
 use Rattle.pfs_conf_rules.specs.declared.tables.TableDef.{TableDef}
@@ -28,3 +28,6 @@ invariant_of-result c =
           ∙ ap entry_count (sym same),
       omega (arith, c.limit.ensures.value, c.limit.ensures.sound.limits.table_entries),
     )
+
+pub returns-clause-limit : goal.returns-clause-limit
+returns-clause-limit c = c.limit.ensures.value
