@@ -123,7 +123,15 @@ impl Records {
         ensures small { IfSome result.leaver (λ s. s.number < 2 ^ 32) }
         ensures looks { meter.new ≡ meter.old + looks_of result.stayed result.leaver }
     {
-        walk_range(&self.slab, &self.places, round, share, now, lifetimes, meter)
+        walk_range(
+            &self.slab,
+            &self.places,
+            round,
+            share,
+            now,
+            lifetimes,
+            meter,
+        )
     }
 
     /// The round after so many slices, while no record comes or goes: each passes by the next numbers of the round, `share` at
