@@ -3,7 +3,7 @@
 ghost use Rattle.std.specs.Prelude.{◌≡◌, ◌≢◌, ◌⊎◌, ◌++◌, Some, Ok, Err, ◌<◌, ◌≤◌, ◌+◌, ℕ, List, IfOk, IfErr, OnOk, OnErr, length, drop, string_bytes};
 ghost use Rattle.std.specs.Io.KnownBytes.{Appends, Keeps};
 ghost use Rattle.pfs_cli_streams.specs.Feeds.{unread, IsFresh, IsSpent, read_failures};
-ghost use Rattle.pfs_cli_streams.specs.Sinks.{held, write_failures};
+ghost use Rattle.pfs_cli_streams.specs.Sinks.{bytes_held, write_failures};
 ghost use Rattle.pfs_conf.specs.Reads.{Reads};
 ghost use Rattle.pfs_conf_show.specs.Texts.{text_of};
 ghost use Rattle.pfs_conf.specs.declared.faults.LoadFault.{LoadFault};
@@ -31,7 +31,7 @@ pub fn check<R: Read, W: Write>(
 ) -> Result<(), ReplayFault>
     requires { IsFresh rules.old }
     ensures answers { (rs : List ℕ) → unread R.remaining rules.old ≡ Some rs →
-        ((t : List ℕ) × Appends (held W.contents out.old) (held W.contents out.new) t × Answers counts_text rs t result) }
+        ((t : List ℕ) × Appends (bytes_held W.contents out.old) (bytes_held W.contents out.new) t × Answers counts_text rs t result) }
     ensures refused { (rs : List ℕ) (f : LoadFault) → unread R.remaining rules.old ≡ Some rs → result ≡ Err (ReplayFault.Rules f) → AreRefused rs f }
     ensures few { (rs : List ℕ) → unread R.remaining rules.old ≡ Some rs → (k : ℕ) × (k ≤ rules_limit + 1) × (unread R.remaining rules.new ≡ Some (drop k rs)) }
     ensures read { result ≡ Err ReplayFault.Read → 0 < read_failures rules.new }
@@ -60,7 +60,7 @@ pub fn print<R: Read, W: Write>(
 ) -> Result<(), ReplayFault>
     requires { IsFresh rules.old }
     ensures answers { (rs : List ℕ) → unread R.remaining rules.old ≡ Some rs →
-        ((t : List ℕ) × Appends (held W.contents out.old) (held W.contents out.new) t × Answers text_of rs t result) }
+        ((t : List ℕ) × Appends (bytes_held W.contents out.old) (bytes_held W.contents out.new) t × Answers text_of rs t result) }
     ensures refused { (rs : List ℕ) (f : LoadFault) → unread R.remaining rules.old ≡ Some rs → result ≡ Err (ReplayFault.Rules f) → AreRefused rs f }
     ensures few { (rs : List ℕ) → unread R.remaining rules.old ≡ Some rs → (k : ℕ) × (k ≤ rules_limit + 1) × (unread R.remaining rules.new ≡ Some (drop k rs)) }
     ensures read { result ≡ Err ReplayFault.Read → 0 < read_failures rules.new }
@@ -110,8 +110,8 @@ fn counts_line(alloc: Global, config: &Config) -> Result<String, AllocError>
 
 /// Writes a text whole and flushes it.
 fn write_text<W: Write>(out: &mut Sink<W>, bytes: &[u8]) -> Result<(), ReplayFault>
-    ensures ok { OnOk result (Appends (held W.contents out.old) (held W.contents out.new) bytes.now) }
-    ensures err { OnErr result ((t : List ℕ) × Appends (held W.contents out.old) (held W.contents out.new) t × ((rest : List ℕ) × (bytes.now ≡ t ++ rest))) }
+    ensures ok { OnOk result (Appends (bytes_held W.contents out.old) (bytes_held W.contents out.new) bytes.now) }
+    ensures err { OnErr result ((t : List ℕ) × Appends (bytes_held W.contents out.old) (bytes_held W.contents out.new) t × ((rest : List ℕ) × (bytes.now ≡ t ++ rest))) }
     ensures kind { IfErr result (λ f. f ≡ ReplayFault.Write) }
     ensures fails { OnErr result (0 < write_failures out.new) }
 {
@@ -123,7 +123,7 @@ fn write_text<W: Write>(out: &mut Sink<W>, bytes: &[u8]) -> Result<(), ReplayFau
 
 /// Flushes what was written.
 fn flushed<W: Write>(out: &mut Sink<W>) -> Result<(), ReplayFault>
-    ensures kept { Keeps (held W.contents out.old) (held W.contents out.new) }
+    ensures kept { Keeps (bytes_held W.contents out.old) (bytes_held W.contents out.new) }
     ensures kind { IfErr result (λ f. f ≡ ReplayFault.Write) }
     ensures fails { OnErr result (0 < write_failures out.new) }
 {

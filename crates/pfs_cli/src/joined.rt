@@ -3,7 +3,7 @@
 ghost use Rattle.std.specs.Prelude.{◌≡◌, ◌⊎◌, Some, Ok, Err, ◌<◌, ◌≤◌, ◌+◌, ◌-◌, ◌^◌, ◌++◌, ℕ, List, true, IfOk, IfErr, OnOk, ◌∷◌, [], length, take, drop};
 ghost use Rattle.std.specs.Io.KnownBytes.{Appends};
 ghost use Rattle.pfs_cli_streams.specs.Feeds.{unread, IsSpent, read_failures};
-ghost use Rattle.pfs_cli_streams.specs.Sinks.{held, write_failures};
+ghost use Rattle.pfs_cli_streams.specs.Sinks.{bytes_held, write_failures};
 ghost use Rattle.pfs_conf.specs.declared.faults.LoadFault.{LoadFault};
 ghost use Rattle.pfs_cli.specs.Rules.{KeepsEnough, AreRefused, rules_limit};
 ghost use Rattle.pfs_cli.specs.Replays.{Replays};
@@ -159,7 +159,7 @@ pub fn replay_joined<R: Read, W: Write>(
     out: &mut Sink<W>,
 ) -> Result<(), ReplayFault>
     ensures reports { (xs : List ℕ) → unread R.remaining input.old ≡ Some xs →
-        ((t : List ℕ) × Appends (held W.contents out.old) (held W.contents out.new) t × Replays (split_joined xs).0 (split_joined xs).1 t result) }
+        ((t : List ℕ) × Appends (bytes_held W.contents out.old) (bytes_held W.contents out.new) t × Replays (split_joined xs).0 (split_joined xs).1 t result) }
     ensures refused { (xs : List ℕ) (f : LoadFault) → unread R.remaining input.old ≡ Some xs → result ≡ Err (ReplayFault.Rules f) → AreRefused (split_joined xs).0 f }
     ensures read { result ≡ Err ReplayFault.Read → 0 < read_failures input.new }
     ensures endless { result ≡ Err ReplayFault.Endless → IsSpent input.new }

@@ -3,7 +3,7 @@
 ghost use Rattle.std.specs.Prelude.{◌≡◌, ◌≢◌, ◌⊎◌, Some, Ok, Err, ◌<◌, ◌≤◌, ◌+◌, ℕ, List, true, IfOk, IfErr, length, drop};
 ghost use Rattle.std.specs.Io.KnownBytes.{Appends, Keeps};
 ghost use Rattle.pfs_cli_streams.specs.Feeds.{unread, has_ended, IsFresh, IsSpent, read_failures};
-ghost use Rattle.pfs_cli_streams.specs.Sinks.{held, write_failures};
+ghost use Rattle.pfs_cli_streams.specs.Sinks.{bytes_held, write_failures};
 ghost use Rattle.pfs_conf_rules.specs.Configs.{Conf};
 ghost use Rattle.pfs_conf.specs.declared.faults.LoadFault.{LoadFault};
 ghost use Rattle.pfs_conf.specs.Reads.{Reads};
@@ -86,7 +86,7 @@ pub(crate) fn finish<R, W: Write>(
     out: &mut Sink<W>,
 ) -> Result<(), ReplayFault>
     requires { outcome ≡ Err (Stop.Write) → 0 < write_failures out.old }
-    ensures kept { Keeps (held W.contents out.old) (held W.contents out.new) }
+    ensures kept { Keeps (bytes_held W.contents out.old) (bytes_held W.contents out.new) }
     ensures told { (conf : Conf) (rs : List ℕ) (ts : List ℕ) (t : List ℕ) → Reads rs conf → Tells conf (trace_of conf ts) t outcome → Replays rs ts t result }
     ensures no_rules { (f : LoadFault) → result ≢ Err (ReplayFault.Rules f) }
     ensures read { result ≡ Err ReplayFault.Read → 0 < read_failures feed.now }
@@ -135,7 +135,7 @@ pub fn replay<R: Read, T: Read, W: Write>(
 
     // The report of the bytes that the two readers hold, as far as the result says.
     ensures reports { (rs : List ℕ) (ts : List ℕ) → unread R.remaining rules.old ≡ Some rs → unread T.remaining trace.old ≡ Some ts →
-        ((t : List ℕ) × Appends (held W.contents out.old) (held W.contents out.new) t × Replays rs ts t result) }
+        ((t : List ℕ) × Appends (bytes_held W.contents out.old) (bytes_held W.contents out.new) t × Replays rs ts t result) }
 
     // A fault of the rules is one that this text may have: its kind, its line, and the token at which reading stops.
     ensures refused { (rs : List ℕ) (f : LoadFault) → unread R.remaining rules.old ≡ Some rs → result ≡ Err (ReplayFault.Rules f) → AreRefused rs f }

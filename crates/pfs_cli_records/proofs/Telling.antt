@@ -23,7 +23,7 @@ use Rattle.pfs_cli_report.specs.Events.{event_at, is_header}
 use Rattle.pfs_cli_report.specs.Lines.{row_text}
 use Rattle.pfs_cli_report.specs.Traces.{Fields, Trace, row_limit, events_from, events_of, trace_of}
 use Rattle.pfs_cli_report.specs.Reading.{records_left}
-use Rattle.pfs_cli_report.specs.Reports.{lines_from, lines_of, end_of, report, report_of, AreFirstLines, BeginsReport}
+use Rattle.pfs_cli_report.specs.Reports.{lines_from, lines_of, end_line_of, report, report_of, AreFirstLines, BeginsReport}
 use Rattle.pfs_cli_records.specs.Turns.{Tells, WritesLine, TakesEvent, TakesRecord}
 use Rattle.pfs_cli_report.proofs.Rest.{records_left-more, records_left-end}
 use Rattle.pfs_cli_report.proofs.Runs.{machine_after-more, lines_of-more, lines_of-none, outcomes-front, lines_from-front}
@@ -162,10 +162,10 @@ told-all rem conf trace before now rows m a b f h config r =
 
 -- the last line of a report whose records are these events
 abbrev end_line : Conf → List Event → List ℕ
-end_line conf es = end_of (length es) (machine_after conf (start conf) es)
+end_line conf es = end_line_of (length es) (machine_after conf (start conf) es)
 
 -- the last line, where these are all events
-last-line : (conf : Conf) (seen : List Event) (rows : ℕ) (m : Machine) → length seen ≡ rows → m ≡ machine_after conf (start conf) seen → end_of rows m ≡ end_line conf seen
+last-line : (conf : Conf) (seen : List Event) (rows : ℕ) (m : Machine) → length seen ≡ rows → m ≡ machine_after conf (start conf) seen → end_line_of rows m ≡ end_line conf seen
 last-line conf seen rows m n h = rw (n, ← h) refl
 
 cut-end : (text t line : List ℕ) (k : ℕ) → t ≡ take k line → text ++ line ≡ (text ++ t) ++ drop k line
@@ -175,7 +175,7 @@ cut-end text t line k e =
 
 pub ends-end : {S : Type 0} (rem : S → Option (List ℕ)) (conf : Conf) (trace : Trace) (before now after : Option (List ℕ)) (rows : ℕ) (m : Machine) (a b : Reader S) (f : Fields) (result : Result Unit Stop) (t : List ℕ)
     → ToldSoFar rem conf trace before now rows m a → a.config ≡ default_config → ReadRecord rem a b false f
-    → Appends now after t → WritesLine (end_of rows m) t result → Ends conf trace before after result
+    → Appends now after t → WritesLine (end_line_of rows m) t result → Ends conf trace before after result
 ends-end rem conf trace before now after rows m a b f (Ok u) t h config r grown how =
     let all = told-all rem conf trace before now rows m a b f h config r in (
       lines_of conf h.seen ++ t,

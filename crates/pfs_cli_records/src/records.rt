@@ -5,12 +5,12 @@ ghost use Rattle.std.specs.Io.KnownBytes.{Appends};
 ghost use Rattle.csv.specs.Reading.{Ready, source_of, reader_trim, reader_config, reader_state, default_config};
 ghost use Rattle.csv.specs.declared.reader.Trim.TheVariants as trim;
 ghost use Rattle.csv.specs.Records.{fields_of};
-ghost use Rattle.pfs_cli_streams.specs.Sinks.{held, write_failures as failures_of};
+ghost use Rattle.pfs_cli_streams.specs.Sinks.{bytes_held, write_failures as failures_of};
 ghost use Rattle.pfs_cli_report.specs.Lines.{row_text, end_text};
 ghost use Rattle.std.specs.Option.{ForSome};
 ghost use Rattle.pfs_engine_machine.specs.Machine.{start, step};
 ghost use Rattle.pfs_engine_machine.specs.Runs.{MayCome};
-ghost use Rattle.pfs_cli_report.specs.Reports.{end_of};
+ghost use Rattle.pfs_cli_report.specs.Reports.{end_line_of};
 ghost use Rattle.pfs_cli_records.specs.Turns.{Tells, WritesLine, TakesEvent, TakesRecord};
 ghost use Rattle.pfs_cli_report.specs.Reading.{records_of, records_left};
 ghost use Rattle.pfs_cli_report.specs.Traces.{events_of, events_from};
@@ -41,7 +41,7 @@ pub enum Stop {
 
 // Writes a line.
 fn send<W: Write>(line: &[u8], out: &mut Sink<W>) -> Result<(), Stop>
-    ensures writes { (t : List ℕ) × Appends (held W.contents out.old) (held W.contents out.new) t × WritesLine line.now t result }
+    ensures writes { (t : List ℕ) × Appends (bytes_held W.contents out.old) (bytes_held W.contents out.new) t × WritesLine line.now t result }
     ensures fails { result ≡ Err (Stop.Write) → 0 < failures_of out.new }
 {
     if write_whole(out, line).is_err() {
@@ -57,7 +57,7 @@ fn write_row<W: Write>(
     line: &mut Vec<u8>,
     out: &mut Sink<W>,
 ) -> Result<(), Stop>
-    ensures writes { (t : List ℕ) × Appends (held W.contents out.old) (held W.contents out.new) t × WritesLine (row_text row outcome.now) t result }
+    ensures writes { (t : List ℕ) × Appends (bytes_held W.contents out.old) (bytes_held W.contents out.new) t × WritesLine (row_text row outcome.now) t result }
     ensures fails { result ≡ Err (Stop.Write) → 0 < failures_of out.new }
 {
     line.clear();
@@ -69,7 +69,7 @@ fn write_row<W: Write>(
 
 // The last line, with what is held.
 fn end_line(rows: u64, engine: &TraceEngine) -> EndLine
-    ensures { end_text result.rows result.states result.nodes result.entries ≡ end_of rows engine.now.machine }
+    ensures { end_text result.rows result.states result.nodes result.entries ≡ end_line_of rows engine.now.machine }
 {
     EndLine {
         rows,
@@ -81,7 +81,7 @@ fn end_line(rows: u64, engine: &TraceEngine) -> EndLine
 
 // Writes the last line.
 fn write_end<W: Write>(end: EndLine, room: &mut Vec<u8>, out: &mut Sink<W>) -> Result<(), Stop>
-    ensures writes { (t : List ℕ) × Appends (held W.contents out.old) (held W.contents out.new) t
+    ensures writes { (t : List ℕ) × Appends (bytes_held W.contents out.old) (bytes_held W.contents out.new) t
         × WritesLine (end_text end.rows end.states end.nodes end.entries) t result }
     ensures fails { result ≡ Err (Stop.Write) → 0 < failures_of out.new }
 {
@@ -106,7 +106,7 @@ fn take_event<W: Write>(
     requires table { MayCome engine.old.config event.now.what }
     ensures config { engine.new.config ≡ engine.old.config }
     ensures taken { engine.new.taken ≤ engine.old.taken + 1 }
-    ensures takes { (t : List ℕ) × Appends (held W.contents out.old) (held W.contents out.new) t
+    ensures takes { (t : List ℕ) × Appends (bytes_held W.contents out.old) (bytes_held W.contents out.new) t
         × TakesEvent engine.old.config row engine.old.machine event.now t result engine.new.machine }
     ensures fails { result ≡ Err (Stop.Write) → 0 < failures_of out.new }
 {
@@ -127,7 +127,7 @@ fn take_record<W: Write>(
     requires room { engine.old.taken < 1000000000 }
     ensures config { engine.new.config ≡ engine.old.config }
     ensures taken { engine.new.taken ≤ engine.old.taken + 1 }
-    ensures takes { (t : List ℕ) × Appends (held W.contents out.old) (held W.contents out.new) t
+    ensures takes { (t : List ℕ) × Appends (bytes_held W.contents out.old) (bytes_held W.contents out.new) t
         × TakesRecord engine.old.config row engine.old.machine (fields_of fields.now) t result engine.new.machine }
     ensures fails { result ≡ Err (Stop.Write) → 0 < failures_of out.new }
 {
@@ -151,7 +151,7 @@ fn tell_rows<S: Read, W: Write>(
     requires first { engine.old.machine ≡ start engine.old.config }
     requires taken { engine.old.taken ≡ 0 }
     ensures tells { (xs : List ℕ) → source_of S.remaining reader.old ≡ Some xs →
-        ((t : List ℕ) × Appends (held W.contents out.old) (held W.contents out.new) t
+        ((t : List ℕ) × Appends (bytes_held W.contents out.old) (bytes_held W.contents out.new) t
         × Tells engine.old.config (events_from engine.old.config 0 None (records_left default_config (reader_state reader.old) xs)) t result) }
     ensures fails { result ≡ Err (Stop.Write) → 0 < failures_of out.new }
 {
@@ -186,7 +186,7 @@ fn tell_trace<S: Read, W: Write>(
     requires first { engine.old.machine ≡ start engine.old.config }
     requires taken { engine.old.taken ≡ 0 }
     ensures tells { (xs : List ℕ) → source_of S.remaining reader.old ≡ Some xs →
-        ((t : List ℕ) × Appends (held W.contents out.old) (held W.contents out.new) t
+        ((t : List ℕ) × Appends (bytes_held W.contents out.old) (bytes_held W.contents out.new) t
         × Tells engine.old.config (events_of engine.old.config (records_left default_config (reader_state reader.old) xs)) t result) }
     ensures fails { result ≡ Err (Stop.Write) → 0 < failures_of out.new }
 {
@@ -212,7 +212,7 @@ pub(crate) fn tell_records<S: Read + Drop, W: Write>(
     requires first { engine.old.machine ≡ start engine.old.config }
     requires taken { engine.old.taken ≡ 0 }
     ensures tells { (xs : List ℕ) → S.remaining source ≡ Some xs →
-        ((t : List ℕ) × Appends (held W.contents out.old) (held W.contents out.new) t
+        ((t : List ℕ) × Appends (bytes_held W.contents out.old) (bytes_held W.contents out.new) t
         × Tells engine.old.config (events_of engine.old.config (records_of xs)) t result) }
     ensures fails { result ≡ Err (Stop.Write) → 0 < failures_of out.new }
 {

@@ -2,7 +2,7 @@
 
 ghost use Rattle.std.specs.Prelude.{◌≡◌, Some, Err, ◌<◌, ℕ, List};
 ghost use Rattle.std.specs.Io.KnownBytes.{Appends};
-ghost use Rattle.pfs_cli_streams.specs.Sinks.{held, write_failures};
+ghost use Rattle.pfs_cli_streams.specs.Sinks.{bytes_held, write_failures};
 ghost use Rattle.pfs_cli_report.specs.Reading.{records_of};
 ghost use Rattle.pfs_cli_report.specs.Traces.{events_of};
 ghost use Rattle.pfs_cli_records.specs.Turns.{Tells};
@@ -33,7 +33,7 @@ pub fn write_report<S: Read + Drop, W: Write>(
     out: &mut Sink<W>,
 ) -> Result<(), Stop>
     ensures tells { (xs : List ℕ) → S.remaining source ≡ Some xs →
-        ((t : List ℕ) × Appends (held W.contents out.old) (held W.contents out.new) t
+        ((t : List ℕ) × Appends (bytes_held W.contents out.old) (bytes_held W.contents out.new) t
         × Tells config (events_of config (records_of xs)) t result) }
     ensures fails { result ≡ Err (Stop.Write) → 0 < write_failures out.new }
 {

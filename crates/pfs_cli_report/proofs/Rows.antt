@@ -4,7 +4,7 @@ use Rattle.pfs_conf_rules.specs.declared.items.RuleNo.{RuleNo}
 use Rattle.pfs_engine_machine.specs.declared.events.Outcome.{Outcome}
 use Rattle.pfs_engine_machine.specs.declared.events.Outcome.TheVariants as outcome
 use Rattle.pfs_cli_report.specs.Lines.{mark_text, outcome_text, row_text}
-use Rattle.pfs_cli_report.specs.Words.{lead_of, note_text, number_text, rule_by, sign_of, word_of}
+use Rattle.pfs_cli_report.specs.Words.{lead_of, note_text, number_text, rule_by, rule_sign, word_of}
 
 said : (o : Outcome) → word_of o ++ (codes " " ++ (mark_text (rule_by o) ++ (note_text o ++ codes "\n"))) ≡ outcome_text o ++ codes "\n"
 said (outcome.State r) = refl
@@ -17,7 +17,7 @@ said (outcome.Kill r conn rate overload killed) = simp append_assoc
 said outcome.Skip = refl
 said (outcome.Expire removed) = refl
 
-mark-parts : (rule : Option RuleNo) → mark_text rule ≡ sign_of rule ++ number_text rule
+mark-parts : (rule : Option RuleNo) → mark_text rule ≡ rule_sign rule ++ number_text rule
 mark-parts (Some r) = refl
 mark-parts None = refl
 
@@ -29,7 +29,7 @@ regroup space word sign number rest = simp append_assoc
 behind : (o : Outcome) → lead_of o ++ (number_text (rule_by o) ++ (note_text o ++ codes "\n")) ≡ codes " " ++ (outcome_text o ++ codes "\n")
 behind o =
     let end : List ℕ = note_text o ++ codes "\n" in
-    regroup (codes " ") (word_of o) (sign_of (rule_by o)) (number_text (rule_by o)) end
+    regroup (codes " ") (word_of o) (rule_sign (rule_by o)) (number_text (rule_by o)) end
     ∙ (ap (λ (t : List ℕ). codes " " ++ (word_of o ++ (codes " " ++ (t ++ end)))) (sym (mark-parts (rule_by o)))
     ∙ ap (λ (t : List ℕ). codes " " ++ t) (said o))
 

@@ -18,12 +18,12 @@ abbrev pub lines_of : Conf → List Event → List ℕ
 lines_of conf es = lines_from 1 (outcomes_of conf (start conf) es)
 
 -- the last line, with what is held
-abbrev pub end_of : ℕ → Machine → List ℕ
-end_of rows m = end_text rows (states_held m) (nodes_held m) (entries_held m)
+abbrev pub end_line_of : ℕ → Machine → List ℕ
+end_line_of rows m = end_text rows (states_held m) (nodes_held m) (entries_held m)
 
 -- the text of a report: a line for each record before the first faulty one, and if there is none, the last line
 abbrev pub report : Conf → Trace → List ℕ
-report conf (es, None) = lines_of conf es ++ end_of (length es) (machine_after conf (start conf) es)
+report conf (es, None) = lines_of conf es ++ end_line_of (length es) (machine_after conf (start conf) es)
 report conf (es, Some f) = lines_of conf es
 
 -- the report of a trace: its text, and what is wrong with the first faulty record

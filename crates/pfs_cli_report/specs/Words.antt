@@ -35,9 +35,9 @@ note_text (outcome.Expire removed) = codes " removed=" ++ decimal removed
 note_text _ = []
 
 -- before a rule's number stands `@`, and `-` where there is no rule
-abbrev pub sign_of : Option RuleNo → List ℕ
-sign_of (Some r) = codes "@"
-sign_of None = codes "-"
+abbrev pub rule_sign : Option RuleNo → List ℕ
+rule_sign (Some r) = codes "@"
+rule_sign None = codes "-"
 
 -- the number of a rule
 abbrev pub number_text : Option RuleNo → List ℕ
@@ -46,4 +46,4 @@ number_text None = []
 
 -- what stands between the row of a line and the number of its rule
 abbrev pub lead_of : Outcome → List ℕ
-lead_of o = codes " " ++ (word_of o ++ (codes " " ++ sign_of (rule_by o)))
+lead_of o = codes " " ++ (word_of o ++ (codes " " ++ rule_sign (rule_by o)))

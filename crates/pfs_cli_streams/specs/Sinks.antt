@@ -15,8 +15,8 @@ abbrev pub write_failures : {W : Type 0} → SinkView W → ℕ
 write_failures s = s.failures
 
 -- what the writer of a sink holds, where it says
-abbrev pub held : {W : Type 0} → (W → Option (List ℕ)) → SinkView W → Option (List ℕ)
-held contents s = contents s.writer
+abbrev pub bytes_held : {W : Type 0} → (W → Option (List ℕ)) → SinkView W → Option (List ℕ)
+bytes_held contents s = contents s.writer
 
 -- one failure more; the count stays at the greatest number of 64 bits
 abbrev pub one_more : ℕ → ℕ

@@ -3,7 +3,7 @@
 ghost use Rattle.std.specs.Prelude.{◌≡◌, ◌⊎◌, ◌<◌, length, IfOk, OnOk, OnErr};
 ghost use Rattle.std.specs.Io.{WritesAtMost};
 ghost use Rattle.std.specs.Io.KnownBytes.{WriteAppends, Keeps};
-ghost use Rattle.pfs_cli_streams.specs.Sinks.{SinkView, writer_of, write_failures, held, one_more};
+ghost use Rattle.pfs_cli_streams.specs.Sinks.{SinkView, writer_of, write_failures, bytes_held, one_more};
 
 use std::io;
 use std::io::Write;
@@ -59,7 +59,7 @@ impl<W: Write> Sink<W> {
     /// on; at an error nothing is written. Takes no memory of its own.
     pub fn write(&mut self, bytes: &[u8]) -> io::Result<usize>
         ensures bound { WritesAtMost result bytes.now }
-        ensures bytes { WriteAppends (held W.contents self.old) (held W.contents self.new) result bytes.now }
+        ensures bytes { WriteAppends (bytes_held W.contents self.old) (bytes_held W.contents self.new) result bytes.now }
         ensures takes { IfOk result (λ n. (0 < n) ⊎ (length bytes.now ≡ 0) → write_failures self.new ≡ write_failures self.old) }
         ensures takes_none { result ≡ Ok 0 → 0 < length bytes.now → write_failures self.new ≡ one_more (write_failures self.old) }
         ensures fails { OnErr result (write_failures self.new ≡ one_more (write_failures self.old)) }
@@ -78,7 +78,7 @@ impl<W: Write> Sink<W> {
     /// One flush of the writer, whose answer is passed on. What was written stays. Takes no
     /// memory of its own.
     pub fn flush(&mut self) -> io::Result<()>
-        ensures bytes { Keeps (held W.contents self.old) (held W.contents self.new) }
+        ensures bytes { Keeps (bytes_held W.contents self.old) (bytes_held W.contents self.new) }
         ensures flushes { OnOk result (write_failures self.new ≡ write_failures self.old) }
         ensures fails { OnErr result (write_failures self.new ≡ one_more (write_failures self.old)) }
     {

@@ -2,7 +2,7 @@
 
 ghost use Rattle.std.specs.Prelude.{◌≡◌, ◌≤◌, Some, OnOk, OnErr, take, length, codes, ℕ};
 ghost use Rattle.std.specs.Io.KnownBytes.{Appends};
-ghost use Rattle.pfs_cli_streams.specs.Sinks.{write_failures, held, one_more};
+ghost use Rattle.pfs_cli_streams.specs.Sinks.{write_failures, bytes_held, one_more};
 
 use crate::sinks::Sink;
 use std::io::Write;
@@ -26,9 +26,9 @@ impl error::Error for WriteFailed {}
 /// takes 0 bytes. Then `out` holds a front of `bytes` behind what it held. Takes no memory of
 /// its own. There is no flush.
 pub fn write_whole<W: Write>(out: &mut Sink<W>, bytes: &[u8]) -> Result<(), WriteFailed>
-    ensures ok { OnOk result (Appends (held W.contents out.old) (held W.contents out.new) bytes.now) }
+    ensures ok { OnOk result (Appends (bytes_held W.contents out.old) (bytes_held W.contents out.new) bytes.now) }
     ensures still { OnOk result (write_failures out.new ≡ write_failures out.old) }
-    ensures err { OnErr result ((k : ℕ) × (k ≤ length bytes.now) × Appends (held W.contents out.old) (held W.contents out.new) (take k bytes.now)) }
+    ensures err { OnErr result ((k : ℕ) × (k ≤ length bytes.now) × Appends (bytes_held W.contents out.old) (bytes_held W.contents out.new) (take k bytes.now)) }
     ensures fails { OnErr result (write_failures out.new ≡ one_more (write_failures out.old)) }
 {
     let mut at = 0;

@@ -3,7 +3,7 @@ use Rattle.std.proofs.Common.{◌≡◌, ℕ, zero, suc, Bool, true, false, cond
 use borrow.Author.Tests.{clash}
 use Rattle.pfs_conf_tokens.specs.Tokens.{Tok, head}
 use Rattle.pfs_conf_tokens.specs.Keys.{is_word_key, ends_line}
-use Rattle.pfs_conf_tokens.specs.Reading.{closes_braces, Refused, stop, Reader, Act, take, stay, refuse, act, on_front, done, chain, once, turns, taken, left_there, until_all, up_to_all, comma_by, comma_at, next_of, list_all, skipping, number_in, number_by, number_at}
+use Rattle.pfs_conf_tokens.specs.Reading.{closes_braces, Refused, stop, Reader, Act, take, stay, refuse, act, on_front, done, chain, once, turns, taken, left_there, until_all, up_to_all, comma_by, comma_at, next_of, list_all, skipping, number_between, number_by, number_at}
 use Rattle.pfs_conf_tokens.specs.Numbers.{number_written}
 use Rattle.pfs_conf_tokens.specs.declared.keys.Key.{Key}
 use Rattle.pfs_conf_tokens.specs.declared.keys.Key.TheVariants as key
@@ -93,7 +93,7 @@ keeps_word braced after k f e h = (word_ends_none braced k e, subst (λ (z : Boo
 
 -- ---- numbers
 
-number_in_acts : (braced : Bool) (low high : ℕ) (o : Option ℕ) → KeepsAct braced braced key.Number (number_in low high o)
+number_in_acts : (braced : Bool) (low high : ℕ) (o : Option ℕ) → KeepsAct braced braced key.Number (number_between low high o)
 number_in_acts braced low high None = tt
 number_in_acts braced low high (Some n) = keeps_if braced braced key.Number (leb low n && leb n high) (take (done n)) (refuse why.Number) (λ e. keeps_word braced braced key.Number (done n) refl (keeps_done n)) (λ e. tt)
 

@@ -8,7 +8,7 @@ use Rattle.pfs_conf_tokens.specs.Reading.{Act, take, refuse, on_front, done, cha
 use Rattle.pfs_addr.specs.Names.{name_of}
 use Rattle.pfs_addr.specs.Prefixes.{Network}
 use Rattle.pfs_addr.specs.Texts.{prefix_of}
-use Rattle.pfs_conf_rules.specs.Entries.{Entry, sign_of}
+use Rattle.pfs_conf_rules.specs.Entries.{TextEntry, sign_of}
 use Rattle.pfs_conf_rules.specs.declared.limits.LimitName.{LimitName}
 use Rattle.pfs_conf_rules.specs.declared.limits.LimitName.TheVariants as limit
 use Rattle.pfs_conf_rules.specs.declared.timeouts.TimeoutName.{TimeoutName}
@@ -123,32 +123,32 @@ keeps_negation : Keeps true true sign_at
 unfolding sign_at
 keeps_negation = keeps_front (λ t. sign_by t.key) (λ t. negation_acts t.key)
 
-held_acts : (k : Key) (entries : List Entry) → is_word_key k ≡ true → KeepsAct true true k (take (done entries))
+held_acts : (k : Key) (entries : List TextEntry) → is_word_key k ≡ true → KeepsAct true true k (take (done entries))
 held_acts k entries e = keeps_word true true k (done entries) e (keeps_done entries)
 
-again_acts : (k : Key) (entries : List Entry) (negated held : Bool) → is_word_key k ≡ true → KeepsAct true true k (again entries negated held)
+again_acts : (k : Key) (entries : List TextEntry) (negated held : Bool) → is_word_key k ≡ true → KeepsAct true true k (again entries negated held)
 again_acts k entries true true e = held_acts k entries e
 again_acts k entries false false e = held_acts k entries e
 again_acts k entries true false e = tt
 again_acts k entries false true e = tt
 
-joined_acts : (k : Key) (entries : List Entry) (negated : Bool) (p : Network) (o : Option Bool) → is_word_key k ≡ true → KeepsAct true true k (entry_joined entries negated p o)
+joined_acts : (k : Key) (entries : List TextEntry) (negated : Bool) (p : Network) (o : Option Bool) → is_word_key k ≡ true → KeepsAct true true k (entry_joined entries negated p o)
 joined_acts k entries negated p None e = held_acts k (entries ++ (p, negated) ∷ []) e
 joined_acts k entries negated p (Some held) e = again_acts k entries negated held e
 
-entered_acts : (k : Key) (entries : List Entry) (negated : Bool) (o : Option Network) → is_word_key k ≡ true → KeepsAct true true k (entered entries negated o)
+entered_acts : (k : Key) (entries : List TextEntry) (negated : Bool) (o : Option Network) → is_word_key k ≡ true → KeepsAct true true k (entered entries negated o)
 entered_acts k entries negated None e = tt
 entered_acts k entries negated (Some p) e = joined_acts k entries negated p (sign_of entries p) e
 
-keeps_entry : (entries : List Entry) (negated : Bool) → Keeps true true (entry_at entries negated)
+keeps_entry : (entries : List TextEntry) (negated : Bool) → Keeps true true (entry_at entries negated)
 unfolding entry_at
 keeps_entry entries negated = keeps_front (λ t. entry_by entries negated t)
     (λ t. keeps_if true true t.key (is_word_key t.key) (entered entries negated (prefix_of t.text)) (refuse why.Host) (λ e. entered_acts t.key entries negated (prefix_of t.text) e) (λ e. tt))
 
-keeps_signed : (entries : List Entry) (negated : Bool) → Keeps true true (skipping (chain (entry_at entries negated) (λ more. skipping (done more))))
+keeps_signed : (entries : List TextEntry) (negated : Bool) → Keeps true true (skipping (chain (entry_at entries negated) (λ more. skipping (done more))))
 keeps_signed entries negated = keeps_skipping (chain (entry_at entries negated) (λ more. skipping (done more))) (keeps_chain (entry_at entries negated) (λ more. skipping (done more)) (keeps_entry entries negated) (λ more. keeps_lines more))
 
-keeps_lined_entry : (entries : List Entry) → Keeps true true (lined_entry_at entries)
+keeps_lined_entry : (entries : List TextEntry) → Keeps true true (lined_entry_at entries)
 unfolding lined_entry_at
 keeps_lined_entry entries =
     keeps_skipping (chain sign_at (λ negated. skipping (chain (entry_at entries negated) (λ more. skipping (done more)))))

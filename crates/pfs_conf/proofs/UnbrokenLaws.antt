@@ -1,7 +1,7 @@
 -- Readers that ask no load rule: what they refuse, they refuse at a token.
 use Rattle.std.proofs.Common.{◌≡◌, ℕ, zero, suc, ◌&&◌, Bool, true, false, cond, leb, List, length, Option, Some, None, Result, Err, inl, inr}
 use Rattle.pfs_conf_tokens.specs.Tokens.{Tok, head}
-use Rattle.pfs_conf_tokens.specs.Reading.{rest, Refused, broken, Reader, Act, take, stay, refuse, act, on_front, done, chain, perhaps, once, turns, taken, left_there, until_all, up_to_all, comma_by, comma_at, next_of, list_all, ended_by, ended, skipping, number_in, number_by, number_at}
+use Rattle.pfs_conf_tokens.specs.Reading.{rest, Refused, broken, Reader, Act, take, stay, refuse, act, on_front, done, chain, perhaps, once, turns, taken, left_there, until_all, up_to_all, comma_by, comma_at, next_of, list_all, ended_by, ended, skipping, number_between, number_by, number_at}
 use Rattle.pfs_conf_tokens.specs.declared.keys.Key.{Key}
 use Rattle.pfs_conf_tokens.specs.declared.keys.Key.TheVariants as key
 use Rattle.pfs_conf_tokens.specs.declared.refusals.LoadRule.{LoadRule}
@@ -86,7 +86,7 @@ ended_acts x _ = tt
 pub unbroken_ended : {A : Type 0} (x : A) → Unbroken (ended x)
 unbroken_ended x = unbroken_front (λ t. ended_by x t.key) (λ t. ended_acts x t.key)
 
-number_in_acts : (low high : ℕ) (o : Option ℕ) → UnbrokenAct (number_in low high o)
+number_in_acts : (low high : ℕ) (o : Option ℕ) → UnbrokenAct (number_between low high o)
 number_in_acts low high None = tt
 number_in_acts low high (Some n) = unbroken_if (leb low n && leb n high) (take (done n)) (refuse why.Number) (unbroken_done n) tt
 

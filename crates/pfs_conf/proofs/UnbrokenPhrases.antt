@@ -12,7 +12,7 @@ use Rattle.pfs_addr.specs.Prefixes.{Network}
 use Rattle.pfs_addr.specs.Protocols.{proto_in}
 use Rattle.pfs_addr.specs.Texts.{prefix_of}
 use Rattle.pfs_addr.specs.declared.packets.Dir.TheVariants as dir
-use Rattle.pfs_conf_rules.specs.Entries.{Entry, sign_of}
+use Rattle.pfs_conf_rules.specs.Entries.{TextEntry, sign_of}
 use Rattle.pfs_conf_rules.specs.Drafts.{Drafted, with_limit, with_timeout}
 use Rattle.pfs_conf_rules.specs.Bounds.{greatest_timeout}
 use Rattle.pfs_conf_rules.specs.declared.actions.Rate.{Rate}
@@ -479,28 +479,28 @@ unbroken_sign : Unbroken tables.sign_at
 unfolding tables.sign_at
 unbroken_sign = unbroken_front (λ t. tables.sign_by t.key) (λ t. sign_acts t.key)
 
-again_acts : (entries : List Entry) (negated held : Bool) → UnbrokenAct (again entries negated held)
+again_acts : (entries : List TextEntry) (negated held : Bool) → UnbrokenAct (again entries negated held)
 again_acts entries true true = unbroken_done entries
 again_acts entries true false = tt
 again_acts entries false true = tt
 again_acts entries false false = unbroken_done entries
 
-joined_acts : (entries : List Entry) (negated : Bool) (p : Network) (o : Option Bool) → UnbrokenAct (entry_joined entries negated p o)
+joined_acts : (entries : List TextEntry) (negated : Bool) (p : Network) (o : Option Bool) → UnbrokenAct (entry_joined entries negated p o)
 joined_acts entries negated p None = unbroken_done _
 joined_acts entries negated p (Some held) = again_acts entries negated held
 
-entered_acts : (entries : List Entry) (negated : Bool) (o : Option Network) → UnbrokenAct (entered entries negated o)
+entered_acts : (entries : List TextEntry) (negated : Bool) (o : Option Network) → UnbrokenAct (entered entries negated o)
 entered_acts entries negated None = tt
 entered_acts entries negated (Some p) = joined_acts entries negated p (sign_of entries p)
 
-unbroken_entry : (entries : List Entry) (negated : Bool) → Unbroken (entry_at entries negated)
+unbroken_entry : (entries : List TextEntry) (negated : Bool) → Unbroken (entry_at entries negated)
 unfolding entry_at
 unbroken_entry entries negated = unbroken_front (λ t. entry_by entries negated t) (λ t. unbroken_if (is_word_key t.key) (entered entries negated (prefix_of t.text)) (refuse why.Host) (entered_acts entries negated (prefix_of t.text)) tt)
 
-unbroken_entries_behind : (entries : List Entry) → Unbroken (skipping (done entries))
+unbroken_entries_behind : (entries : List TextEntry) → Unbroken (skipping (done entries))
 unbroken_entries_behind entries = unbroken_skipping (done entries) (unbroken_done entries)
 
-unbroken_lined_entry : (entries : List Entry) → Unbroken (lined_entry_at entries)
+unbroken_lined_entry : (entries : List TextEntry) → Unbroken (lined_entry_at entries)
 unfolding lined_entry_at
 unbroken_lined_entry entries = unbroken_skipping (chain tables.sign_at (λ negated. skipping (chain (entry_at entries negated) (λ more. skipping (done more)))))
     (unbroken_chain tables.sign_at (λ negated. skipping (chain (entry_at entries negated) (λ more. skipping (done more)))) unbroken_sign

@@ -3,7 +3,7 @@ use Rattle.std.specs.Prelude.{ℕ, ◌+◌, Bool, true, false, if◌then◌else�
 use Rattle.std.specs.Option.{option_map}
 use Rattle.pfs_conf_tokens.specs.declared.refusals.LoadRule.{LoadRule}
 use Rattle.pfs_conf_tokens.specs.declared.refusals.LoadRule.TheVariants as load_rule
-use Rattle.pfs_conf_rules.specs.Drafts.{Drafted, empty_draft, number_of, with_name, with_table, with_item, const_overload, has_broken_pair, has_too_many_tables, has_too_many_entries}
+use Rattle.pfs_conf_rules.specs.Drafts.{Drafted, empty_draft, number_of_table, with_name, with_table, with_item, const_overload, has_broken_pair, has_too_many_tables, has_too_many_entries}
 use Rattle.pfs_conf_rules.specs.declared.actions.Action.{Action}
 use Rattle.pfs_conf_rules.specs.declared.actions.Action.TheVariants as action
 use Rattle.pfs_conf_rules.specs.declared.filters.Filter.{Filter}
@@ -50,7 +50,7 @@ name_host (host.Table n b) d = with_name n d
 abbrev pub number_host : Host (List ℕ) → Drafted → Host TableNo
 number_host host.Any d = host.Any
 number_host (host.Prefix p b) d = host.Prefix p b
-number_host (host.Table n b) d = host.Table (record { 0 = number_of n d }) b
+number_host (host.Table n b) d = host.Table (record { 0 = number_of_table n d }) b
 
 abbrev pub number_side : Side (List ℕ) → Drafted → Side TableNo
 number_side s d = record { host = number_host s.host d; ports = s.ports }
@@ -62,7 +62,7 @@ name_overload (Some v) d = with_name v.table d
 
 abbrev pub number_overload : Option OverloadText → Drafted → Option TableNo
 number_overload None d = None
-number_overload (Some v) d = Some (record { 0 = number_of v.table d })
+number_overload (Some v) d = Some (record { 0 = number_of_table v.table d })
 
 -- what the parameters and the flags ask of a packet; the source's table is named before the destination's
 abbrev pub filter_said : Parameters → FlagTest → Drafted → Filter

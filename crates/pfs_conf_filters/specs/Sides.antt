@@ -1,7 +1,6 @@
 -- What is asked of parameters that have been read. (own)
 use Rattle.std.specs.Prelude.{ℕ, Bool, false, not, ◌&&◌, ◌||◌, List, Option, Some, None, is_some, unwrap_or}
-use Rattle.pfs_addr.specs.Protocols.{has_ports}
-use Rattle.pfs_addr.specs.declared.protocols.Proto.{Proto}
+use Rattle.pfs_conf_rules.specs.Bounds.{asks_ports}
 use Rattle.pfs_conf_rules.specs.declared.filters.Host.TheVariants as host
 use Rattle.pfs_conf_rules.specs.declared.filters.Side.{Side}
 use Rattle.pfs_conf_filters.specs.declared.phrases.Hosts.{Hosts}
@@ -23,11 +22,6 @@ names_port s = is_some s.ports
 
 abbrev pub gives_ports : Hosts → Bool
 gives_ports h = names_port (source_of h) || names_port (destination_of h)
-
--- a protocol that has ports: `proto tcp` or `proto udp`, by name or by number
-abbrev pub asks_ports : Option Proto → Bool
-asks_ports None = false
-asks_ports (Some p) = has_ports p
 
 -- a port without `proto tcp` or `proto udp` in the same statement
 abbrev pub lacks_proto : Parameters → Bool

@@ -6,9 +6,9 @@ use Rattle.std.specs.Option.{option_map}
 use Rattle.std.proofs.lemmas.Bool.{and_parts, lt-leb}
 use Rattle.pfs_conf_tokens.specs.declared.refusals.LoadRule.TheVariants as load_rule
 use Rattle.pfs_addr.specs.declared.protocols.Proto.{Proto}
-use Rattle.pfs_conf_rules.specs.Drafts.{Drafted, number_of, with_name}
-use Rattle.pfs_conf_rules.specs.LoadRules.{AreOptions, IsAction, IsAnchor, IsFilter, IsHost, IsRule, IsSide, IsTableNo, limits_connections, limits_sources, asks_ports}
-use Rattle.pfs_conf_rules.specs.Bounds.{is_global}
+use Rattle.pfs_conf_rules.specs.Drafts.{Drafted, number_of_table, with_name}
+use Rattle.pfs_conf_rules.specs.LoadRules.{AreOptions, IsAction, IsAnchor, IsFilter, IsHost, IsRule, IsSide, IsTableNo, limits_connections, limits_sources}
+use Rattle.pfs_conf_rules.specs.Bounds.{asks_ports, is_global}
 use Rattle.pfs_conf_rules.specs.declared.actions.Action.{Action}
 use Rattle.pfs_conf_rules.specs.declared.actions.Action.TheVariants as action
 use Rattle.pfs_conf_rules.specs.declared.actions.Overload.{Overload}
@@ -27,7 +27,7 @@ use Rattle.pfs_conf_rules.specs.declared.items.Rule.{Rule}
 use Rattle.pfs_conf_rules.specs.declared.limits.Limits.{Limits}
 use Rattle.pfs_conf_rules.specs.declared.tables.TableDef.{TableDef}
 use Rattle.pfs_conf_filters.specs.Reading.{all_hosts, given_hosts, side}
-use Rattle.pfs_conf_filters.specs.Sides.{side_not_given, asks_ports as asks_ports_said, destination_of, lacks_proto, names_port, source_of}
+use Rattle.pfs_conf_filters.specs.Sides.{side_not_given, destination_of, lacks_proto, names_port, source_of}
 use Rattle.pfs_conf_options.specs.Options.{has_broken_rule_pair, has_global_connections, has_global_retention, has_overload_alone, overload_to, resolved, scope_by_track, scope_of_options, states_global}
 use Rattle.pfs_conf.specs.Statements.{action_of, anchor_breaks, anchor_said, filter_said, first_broken, keeps_on_block, name_host, name_hosts, name_rule, number_host, number_overload, number_side, name_overload, rule_action, rule_breaks, rule_said, state_options}
 use Rattle.pfs_conf_show.specs.Filters.{has_no_ports, is_any_host, is_every_side}
@@ -64,7 +64,7 @@ destination_again tables from to = go (is_every_side from && is_every_side to) r
 
 -- the tables of a draft that has defined them all
 record AreAll (tables : List TableDef) (d : Drafted) : Type 0 where
-  number : (t : TableNo) → t.0 < length tables → number_of (table_said tables t) d ≡ t.0
+  number : (t : TableNo) → t.0 < length tables → number_of_table (table_said tables t) d ≡ t.0
   name : (t : TableNo) → t.0 < length tables → with_name (table_said tables t) d ≡ d
 
 are_all : (limits : Limits) (timeouts : List (Option ℕ)) (tables : List TableDef) (items : List Item) → AreNumbered tables
@@ -210,16 +210,11 @@ anchor_name limits timeouts tables items a distinct h =
 
 -- ---- load rules
 
-same_ask : (p : Option Proto) → asks_ports_said p ≡ asks_ports p
-same_ask None = refl
-same_ask (Some p) = refl
-
 proto_kept : (tables : List TableDef) (q : Bool) (f : Filter) → IsFilter (length tables) f → lacks_proto (parameters_said tables q f) ≡ false
 proto_kept tables q f h =
     let hosts = hosts_said tables f.from f.to in
-    ap (λ (s : Side (List ℕ)). (names_port s || names_port (destination_of hosts)) && not (asks_ports_said f.proto)) (source_again tables f.from f.to)
-    ∙ (ap (λ (s : Side (List ℕ)). (is_some f.from.ports || names_port s) && not (asks_ports_said f.proto)) (destination_again tables f.from f.to)
-    ∙ (ap (λ (b : Bool). (is_some f.from.ports || is_some f.to.ports) && not b) (same_ask f.proto) ∙ h.ports))
+    ap (λ (s : Side (List ℕ)). (names_port s || names_port (destination_of hosts)) && not (asks_ports f.proto)) (source_again tables f.from f.to)
+    ∙ (ap (λ (s : Side (List ℕ)). (is_some f.from.ports || names_port s) && not (asks_ports f.proto)) (destination_again tables f.from f.to) ∙ h.ports)
 
 same_global : (s : Option Scope) → states_global (option_map track_said s) ≡ is_global s
 same_global None = refl

@@ -24,7 +24,7 @@ use Rattle.pfs_conf_options.specs.declared.clauses.StateClause.{StateClause}
 use Rattle.pfs_conf_options.specs.declared.clauses.StateClause.TheVariants as clause
 use Rattle.pfs_conf_options.specs.declared.clauses.Track.{Track}
 use Rattle.pfs_conf_options.specs.declared.clauses.Track.TheVariants as track
-use Rattle.pfs_conf_rules.specs.Entries.{Entry}
+use Rattle.pfs_conf_rules.specs.Entries.{TextEntry}
 use Rattle.pfs_conf_settings.specs.declared.tables.Parts.{Parts}
 use Rattle.pfs_conf_show.specs.Filters.{is_every_side}
 use Rattle.pfs_conf_show.specs.Tables.{name_in}
@@ -87,6 +87,6 @@ state_said tables (action.Keep o) = Some (clause.Keep (options_said tables o))
 -- ---- tables
 
 -- the parts of a table's definition
-abbrev pub parts_said : Bool → List Entry → Parts
+abbrev pub parts_said : Bool → List TextEntry → Parts
 parts_said c [] = record { persist = false; is_const = c; counters = false; entries = None }
 parts_said c (e ∷ es) = record { persist = false; is_const = c; counters = false; entries = Some (e ∷ es) }

@@ -15,7 +15,7 @@ use Rattle.pfs_conf_rules.specs.Configs.{table_names}
 use Rattle.pfs_conf_rules.specs.Invariants.{IsTable}
 use Rattle.pfs_conf_rules.specs.Order.{AreNamedOnce, IsPreorder, next_depth, repeats_name}
 use Rattle.pfs_conf_rules.specs.Drafts.{Drafted, is_defined, with_item, with_table}
-use Rattle.pfs_conf_rules.specs.Entries.{Entry}
+use Rattle.pfs_conf_rules.specs.Entries.{TextEntry}
 use Rattle.pfs_conf_rules.specs.LoadRules.{IsItem, IsItemAt}
 use Rattle.pfs_conf_rules.specs.declared.items.Anchor.{Anchor}
 use Rattle.pfs_conf_rules.specs.declared.items.Item.{Item}
@@ -66,7 +66,7 @@ table_parts : (word name c body end more : List ℕ) → (word ++ (name ++ (c ++
 table_parts word name c body end more = simp append_assoc
 
 -- the parts that are read mean the table
-table_again : (name : List ℕ) (c : Bool) (es : List Entry)
+table_again : (name : List ℕ) (c : Bool) (es : List TextEntry)
     → ◌≡◌ {A = TableDef} (record { name = name; is_const = (parts_said c es).is_const; entries = unwrap_or (parts_said c es).entries [] }) (record { name = name; is_const = c; entries = es })
 table_again name c [] = refl
 table_again name c (e ∷ es) = refl

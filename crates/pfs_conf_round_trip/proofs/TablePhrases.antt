@@ -20,7 +20,7 @@ use Rattle.pfs_conf_tokens.proofs.WordKeys.{key_of-Const}
 use Rattle.pfs_addr.specs.Prefixes.{IsNetwork, Network}
 use Rattle.pfs_addr.specs.declared.addresses.Addr.{Addr}
 use Rattle.pfs_addr.specs.declared.addresses.Addr.TheVariants.{V4, V6}
-use Rattle.pfs_conf_rules.specs.Entries.{Entry, same_addr, same_network, sign_of}
+use Rattle.pfs_conf_rules.specs.Entries.{TextEntry, are_same_addr, same_network, sign_of}
 use Rattle.pfs_conf_settings.specs.TableGrammar.{EntryOf, PartOf, PartsOf, SignOf, comes, constant, entries, negated, plain, some, no_parts}
 use Rattle.pfs_conf_show.specs.Pieces.{bracketed, going_on, prefix_text}
 use Rattle.pfs_conf_show.specs.Tables.{const_text, entry_text}
@@ -65,7 +65,7 @@ sign_reads line p false more h b =
     let P : List Tok → Type 0 = λ z. SignOf z false (at line (prefix_text p ++ more)) in
     subst P (sym (prefix_front line p more h b)) plain
 
-give_entry : (before : List Entry) (p : Network) (negation : Bool) → IsNetwork p → sign_of before p ≡ None → (line : ℕ) (more : List ℕ) → Lined line more
+give_entry : (before : List TextEntry) (p : Network) (negation : Bool) → IsNetwork p → sign_of before p ≡ None → (line : ℕ) (more : List ℕ) → Lined line more
     → EntryOf before (at line (entry_text (p, negation) ++ more)) (before ++ (p, negation) ∷ []) (at line more)
 give_entry before p negation h new line more f =
     record {
@@ -89,7 +89,7 @@ bytes_sym (x ∷ xs) (y ∷ ys) =
     let one : (x == y) ≡ (y == x) = grind (arith, nat_tests) in
     ap (λ (z : Bool). z && bytes_eq xs ys) one ∙ ap (λ (z : Bool). (y == x) && z) (bytes_sym xs ys)
 
-addr_sym : (a b : Addr) → same_addr a b ≡ same_addr b a
+addr_sym : (a b : Addr) → are_same_addr a b ≡ are_same_addr b a
 addr_sym (V4 a) (V4 b) = bytes_sym a b
 addr_sym (V4 a) (V6 b) = refl
 addr_sym (V6 a) (V4 b) = refl
@@ -98,36 +98,36 @@ addr_sym (V6 a) (V6 b) = bytes_sym a b
 network_sym : (p q : Network) → same_network p q ≡ same_network q p
 network_sym p q =
     let one : (p.bits == q.bits) ≡ (q.bits == p.bits) = grind (arith, nat_tests) in
-    ap (λ (z : Bool). z && (p.bits == q.bits)) (addr_sym p.addr q.addr) ∙ ap (λ (z : Bool). same_addr q.addr p.addr && z) one
+    ap (λ (z : Bool). z && (p.bits == q.bits)) (addr_sym p.addr q.addr) ∙ ap (λ (z : Bool). are_same_addr q.addr p.addr && z) one
 
-prefixes : List Entry → List Network
-prefixes es = map (λ (e : Entry). e.0) es
+prefixes : List TextEntry → List Network
+prefixes es = map (λ (e : TextEntry). e.0) es
 
 -- what holds of all behind, holds of this one
-of_this : (P : Network → Type 0) (before rest : List Entry) (e : Entry) → AllByRecursion P (map (λ (x : Entry). x.0) (before ++ e ∷ rest)) → P e.0
+of_this : (P : Network → Type 0) (before rest : List TextEntry) (e : TextEntry) → AllByRecursion P (map (λ (x : TextEntry). x.0) (before ++ e ∷ rest)) → P e.0
 of_this P [] rest e h = h.0
 of_this P (x ∷ before) rest e h = of_this P before rest e h.1
 
 -- a prefix that differs from all before has no sign yet
-is_new : (before rest : List Entry) (e : Entry) → IsDistinct same_network (map (λ (x : Entry). x.0) (before ++ e ∷ rest)) → sign_of before e.0 ≡ None
+is_new : (before rest : List TextEntry) (e : TextEntry) → IsDistinct same_network (map (λ (x : TextEntry). x.0) (before ++ e ∷ rest)) → sign_of before e.0 ≡ None
 is_new [] rest e h = refl
 is_new (x ∷ before) rest e h =
-    let names = map (λ (y : Entry). y.0) (before ++ e ∷ rest) in
+    let names = map (λ (y : TextEntry). y.0) (before ++ e ∷ rest) in
     let apart : same_network x.0 e.0 ≡ false = of_this (λ y. same_network x.0 y ≡ false) before rest e (IsDistinct-head same_network x.0 names h) in
     cond-false (same_network e.0 x.0) (Some x.1) (sign_of before e.0) (network_sym e.0 x.0 ∙ apart) ∙ is_new before rest e (IsDistinct-tail same_network x.0 names h)
 
-entries_chain : (before rest : List Entry) → All (λ (e : Entry). IsNetwork e.0) rest → IsDistinct same_network (map (λ (e : Entry). e.0) (before ++ rest))
+entries_chain : (before rest : List TextEntry) → All (λ (e : TextEntry). IsNetwork e.0) rest → IsDistinct same_network (map (λ (e : TextEntry). e.0) (before ++ rest))
     → Chain EntryOf Lined (map entry_text rest) before (before ++ rest)
 entries_chain before [] h d =
-    let P : List Entry → Type 0 = λ z. Chain EntryOf Lined [] before z in
+    let P : List TextEntry → Type 0 = λ z. Chain EntryOf Lined [] before z in
     subst P (sym (append-nil before)) done
 entries_chain before (e ∷ rest) h d =
-    let P : List Entry → Type 0 = λ z. Chain EntryOf Lined (map entry_text (e ∷ rest)) before z in
-    let D : List Entry → Type 0 = λ z. IsDistinct same_network (map (λ (x : Entry). x.0) z) in
+    let P : List TextEntry → Type 0 = λ z. Chain EntryOf Lined (map entry_text (e ∷ rest)) before z in
+    let D : List TextEntry → Type 0 = λ z. IsDistinct same_network (map (λ (x : TextEntry). x.0) z) in
     let joined : (before ++ e ∷ []) ++ rest ≡ before ++ e ∷ rest = append_assoc before (e ∷ []) rest in
     subst P joined
-    (next (give_entry before e.0 e.1 (All-head (λ (x : Entry). IsNetwork x.0) e rest h) (is_new before rest e d))
-    (entries_chain (before ++ e ∷ []) rest (All-tail (λ (x : Entry). IsNetwork x.0) e rest h) (subst D (sym joined) d)))
+    (next (give_entry before e.0 e.1 (All-head (λ (x : TextEntry). IsNetwork x.0) e rest h) (is_new before rest e d))
+    (entries_chain (before ++ e ∷ []) rest (All-tail (λ (x : TextEntry). IsNetwork x.0) e rest h) (subst D (sym joined) d)))
 
 -- ---- the parts of a definition
 
@@ -136,7 +136,7 @@ list_break [] more = refl
 list_break (x ∷ xs) more = refl
 
 -- the entries in braces, if there are any, up to the line end
-entries_parts : (c : Bool) (es : List Entry) (line : ℕ) (more : List ℕ) → All (λ (e : Entry). IsNetwork e.0) es → IsDistinct same_network (map (λ (e : Entry). e.0) es)
+entries_parts : (c : Bool) (es : List TextEntry) (line : ℕ) (more : List ℕ) → All (λ (e : TextEntry). IsNetwork e.0) es → IsDistinct same_network (map (λ (e : TextEntry). e.0) es)
     → UpTo key.LineEnd PartOf (record no_parts { is_const = c }) (at line (bracketed (codes " { ") (codes " }") (map entry_text es) ++ 10 ∷ more)) (parts_said c es) (at line (10 ∷ more))
 entries_parts c [] line more h d = stands (ap (λ (z : List Tok). (head z).key) (line_then true line more))
 entries_parts c (e ∷ es) line more h d =
@@ -146,15 +146,15 @@ entries_parts c (e ∷ es) line more h d =
     let inside = listed_again EntryOf Lined key.CloseBrace (codes " { ") (codes " }") (braces EntryOf) (entry_text e) texts [] (e ∷ es) line left (entries_chain [] (e ∷ es) h d) in
     let L : List Tok → Type 0 = λ z. ListOf key.CloseBrace EntryOf [] z (e ∷ es) (at line left) in
     subst P (sym (bracketed_more (codes " { ") (codes " }") (entry_text e) texts left))
-    (steps (entries (mark_between line 123 _ refl) refl (some (subst L (sym (entry_front line e.0 e.1 _ (All-head (λ (x : Entry). IsNetwork x.0) e es h) (list_break texts left))) inside)))
+    (steps (entries (mark_between line 123 _ refl) refl (some (subst L (sym (entry_front line e.0 e.1 _ (All-head (λ (x : TextEntry). IsNetwork x.0) e es h) (list_break texts left))) inside)))
     (stands (ap (λ (z : List Tok). (head z).key) (line_then true line more))))
 
-parts_break : (es : List Entry) (more : List ℕ) → breaks (bracketed (codes " { ") (codes " }") (map entry_text es) ++ 10 ∷ more) ≡ true
+parts_break : (es : List TextEntry) (more : List ℕ) → breaks (bracketed (codes " { ") (codes " }") (map entry_text es) ++ 10 ∷ more) ≡ true
 parts_break [] more = refl
 parts_break (e ∷ es) more = refl
 
 -- `const` and the entries, behind the name of a table
-pub parts_read : (c : Bool) (es : List Entry) (line : ℕ) (more : List ℕ) → All (λ (e : Entry). IsNetwork e.0) es → IsDistinct same_network (map (λ (e : Entry). e.0) es)
+pub parts_read : (c : Bool) (es : List TextEntry) (line : ℕ) (more : List ℕ) → All (λ (e : TextEntry). IsNetwork e.0) es → IsDistinct same_network (map (λ (e : TextEntry). e.0) es)
     → PartsOf (at line (const_text c ++ (bracketed (codes " { ") (codes " }") (map entry_text es) ++ 10 ∷ more))) (parts_said c es) (at line (10 ∷ more))
 parts_read false es line more h d = entries_parts false es line more h d
 parts_read true es line more h d =

@@ -5,7 +5,7 @@ use Rattle.indexmap.specs.IndexMap.{insert_entry}
 use Rattle.pfs_addr.specs.Prefixes.{Network}
 use Rattle.pfs_addr.specs.declared.addresses.Addr.{Addr}
 use Rattle.pfs_addr.specs.declared.addresses.Addr.TheVariants.{V4, V6}
-use Rattle.pfs_conf_rules.specs.Entries.{Entry, same_network, sign_of}
+use Rattle.pfs_conf_rules.specs.Entries.{TextEntry, same_network, sign_of}
 
 abbrev network : Addr → ℕ → Network
 network a n = record { addr = a; bits = n }
@@ -26,7 +26,7 @@ same-networks eq four four_six six_four six p q = by p.addr q.addr
     by (V6 a) (V6 b) = six a b p.bits q.bits
 
 -- an entry whose prefix is new goes last
-pub put-last : (eq : Network → Network → Bool) (p : Network) (negated : Bool) (es : List Entry) → ((a b : Network) → eq a b ≡ same_network a b)
+pub put-last : (eq : Network → Network → Bool) (p : Network) (negated : Bool) (es : List TextEntry) → ((a b : Network) → eq a b ≡ same_network a b)
     → sign_of es p ≡ None → insert_entry eq es p negated ≡ es ++ (p, negated) ∷ []
 put-last eq p negated [] same h = refl
 put-last eq p negated (e ∷ es) same h = go (same_network p e.0) refl (put-last eq p negated es same)

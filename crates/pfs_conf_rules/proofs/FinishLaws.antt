@@ -5,7 +5,7 @@ use Rattle.std.specs.List.{IsDistinct, list_any, position_or_len}
 use Rattle.std.specs.Str.{bytes_eq}
 use Rattle.std.proofs.lemmas.Bool.{cond-false, cond-true, false≢true, lt-ltb, ltb-false, not-false}
 use Rattle.pfs_conf_rules.specs.Configs.{entries_in, is_adaptive, overloads_const, table_names, timeout_of}
-use Rattle.pfs_conf_rules.specs.Invariants.{IsConfig, IsCounted, IsDraft, IsTable, is_seconds}
+use Rattle.pfs_conf_rules.specs.Invariants.{IsConfig, IsConfigCounted, IsDraft, IsTable, is_seconds}
 use Rattle.pfs_conf_rules.specs.Drafts.{Drafted, broken_pair, const_overload, finished, has_broken_pair, has_too_many_entries, has_too_many_tables}
 use Rattle.pfs_conf_rules.specs.LoadRules.{IsTimeout}
 use Rattle.pfs_conf_rules.specs.Bounds.{greatest_timeout, least_timeout}
@@ -106,10 +106,10 @@ IsConfig-finished d k tables names pair overloads few entries = record {
 }
 
 -- and its entries are counted
-pub IsCounted-finished : (d : Drafted) (count : ℕ) → IsDraft d → All IsTable d.tables → IsDistinct bytes_eq (table_names d.tables)
+pub IsConfigCounted-finished : (d : Drafted) (count : ℕ) → IsDraft d → All IsTable d.tables → IsDistinct bytes_eq (table_names d.tables)
     → has_broken_pair d ≡ false → const_overload d ≡ None → has_too_many_tables d ≡ false → has_too_many_entries d ≡ false
-    → count ≡ min (entries_in d.tables) (2 ^ 64 - 1) → IsCounted count (finished d)
-IsCounted-finished d count k tables names pair overloads few entries is = record {
+    → count ≡ min (entries_in d.tables) (2 ^ 64 - 1) → IsConfigCounted count (finished d)
+IsConfigCounted-finished d count k tables names pair overloads few entries is = record {
   config = IsConfig-finished d k tables names pair overloads few entries;
   count =
       let most = ltb-false _ _ entries in

@@ -43,8 +43,8 @@ abbrev pub with_tables : Named → Drafted → Drafted
 with_tables n d = record d { tables = n.tables; defined = n.defined }
 
 -- the number of the table of a name
-abbrev pub number_of : List ℕ → Drafted → ℕ
-number_of name d = table_number (place_in name d.tables)
+abbrev pub number_of_table : List ℕ → Drafted → ℕ
+number_of_table name d = table_number (place_in name d.tables)
 
 -- the table of a name is used
 abbrev pub with_name : List ℕ → Drafted → Drafted

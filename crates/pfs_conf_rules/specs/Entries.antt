@@ -7,19 +7,19 @@ use Rattle.pfs_addr.specs.declared.addresses.Addr.{Addr}
 use Rattle.pfs_addr.specs.declared.addresses.Addr.TheVariants.{V4, V6}
 
 -- an entry of a table: a prefix, and whether it is negated
-abbrev pub Entry : Type 0
-Entry = Network × Bool
+abbrev pub TextEntry : Type 0
+TextEntry = Network × Bool
 
 -- two addresses are the same: of one family, and all their bytes
-abbrev pub same_addr : Addr → Addr → Bool
-same_addr (V4 a) (V4 b) = bytes_eq a b
-same_addr (V6 a) (V6 b) = bytes_eq a b
-same_addr a b = false
+abbrev pub are_same_addr : Addr → Addr → Bool
+are_same_addr (V4 a) (V4 b) = bytes_eq a b
+are_same_addr (V6 a) (V6 b) = bytes_eq a b
+are_same_addr a b = false
 
 -- two prefixes are the same: their addresses, and how many bits count
 abbrev pub same_network : Network → Network → Bool
-same_network p q = same_addr p.addr q.addr && (p.bits == q.bits)
+same_network p q = are_same_addr p.addr q.addr && (p.bits == q.bits)
 
 -- whether the entry with this prefix is negated, if there is one
-abbrev pub sign_of : List Entry → Network → Option Bool
+abbrev pub sign_of : List TextEntry → Network → Option Bool
 sign_of entries p = lookup (same_network p) entries

@@ -6,7 +6,7 @@ use Rattle.pfs_addr.specs.Names.{is_name}
 use Rattle.pfs_addr.specs.Prefixes.{IsNetwork}
 use Rattle.pfs_conf_rules.specs.Configs.{Conf, entries_in, entry_count_of, is_adaptive, overloads_const, table_names, timeout_of}
 use Rattle.pfs_conf_rules.specs.Drafts.{Drafted}
-use Rattle.pfs_conf_rules.specs.Entries.{Entry, same_network}
+use Rattle.pfs_conf_rules.specs.Entries.{TextEntry, same_network}
 use Rattle.pfs_conf_rules.specs.LoadRules.{IsCount, IsItem, IsTimeout}
 use Rattle.pfs_conf_rules.specs.Order.{AreNamedOnce, IsPreorder}
 use Rattle.pfs_conf_rules.specs.declared.limits.Limits.{Limits}
@@ -30,8 +30,8 @@ is_seconds _ = true
 -- a table: a name, and entries of which no two have the same prefix
 pub record IsTable (t : TableDef) : Type 0 where
   pub name : is_name 31 t.name ≡ true
-  pub networks : All (λ (e : Entry). IsNetwork e.0) t.entries
-  pub distinct : IsDistinct same_network (map (λ (e : Entry). e.0) t.entries)
+  pub networks : All (λ (e : TextEntry). IsNetwork e.0) t.entries
+  pub distinct : IsDistinct same_network (map (λ (e : TextEntry). e.0) t.entries)
 
 -- tables and the list of their names, by which they are found
 pub record IsNaming (keys : List (List ℕ)) (tables : List TableDef) (defined : List Bool) : Type 0 where
@@ -67,6 +67,6 @@ pub record IsConfig (conf : Conf) : Type 0 where
   pub overloads : list_any (overloads_const conf.tables) conf.items ≡ false
 
 -- a configuration, beside which its entries are counted
-pub record IsCounted (entries : ℕ) (conf : Conf) : Type 0 where
+pub record IsConfigCounted (entries : ℕ) (conf : Conf) : Type 0 where
   pub config : IsConfig conf
   pub count : entries ≡ entry_count_of conf

@@ -3,11 +3,10 @@ use Rattle.std.specs.Prelude.{ℕ, ◌≡◌, ◌≢◌, ◌<◌, ◌≤◌, ◌
 use Rattle.std.specs.Str.{bytes_eq}
 use Rattle.pfs_addr.specs.Names.{is_name}
 use Rattle.pfs_addr.specs.Prefixes.{IsNetwork}
-use Rattle.pfs_addr.specs.Protocols.{has_ports}
 use Rattle.pfs_addr.specs.declared.flag_sets.Flags.{Flags}
 use Rattle.pfs_addr.specs.declared.protocols.Proto.{Proto}
 use Rattle.pfs_addr.specs.declared.protocols.Proto.TheVariants as proto
-use Rattle.pfs_conf_rules.specs.Bounds.{IsRate, broken_rule_pair, greatest_timeout, is_global, least_timeout}
+use Rattle.pfs_conf_rules.specs.Bounds.{IsRate, asks_ports, broken_rule_pair, greatest_timeout, is_global, least_timeout}
 use Rattle.pfs_conf_rules.specs.Timeouts.{place_of}
 use Rattle.pfs_conf_rules.specs.declared.timeouts.TimeoutName.TheVariants as timeout
 use Rattle.pfs_conf_rules.specs.declared.actions.Action.{Action}
@@ -75,11 +74,6 @@ has_a_flag f = f.fin || f.syn || f.rst || f.psh || f.ack || f.urg || f.ece || f.
 abbrev pub IsFlagTest : FlagTest → Type 0
 IsFlagTest flag_test.Any = Unit {0}
 IsFlagTest (flag_test.Exactly flags among) = has_a_flag among ≡ true
-
--- whether this protocol is asked for, and has ports
-abbrev pub asks_ports : Option Proto → Bool
-asks_ports None = false
-asks_ports (Some p) = has_ports p
 
 -- a port is asked for without `proto tcp` or `proto udp`
 abbrev pub port_without_proto : Filter → Bool

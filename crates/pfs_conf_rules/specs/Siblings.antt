@@ -12,13 +12,13 @@ name_of_item (Rule r) = None
 name_of_item (Anchor a) = a.name
 
 -- whether a name is given and is this one
-abbrev pub has_name : List ℕ → Option (List ℕ) → Bool
-has_name name None = false
-has_name name (Some given) = bytes_eq given name
+abbrev pub is_this_name : List ℕ → Option (List ℕ) → Bool
+is_this_name name None = false
+is_this_name name (Some given) = bytes_eq given name
 
 -- whether an item is an anchor of this name, directly in a body of this depth
 abbrev pub is_anchor_named : ℕ → List ℕ → Item → Bool
-is_anchor_named depth name i = (i.depth == depth) && has_name name (name_of_item i.what)
+is_anchor_named depth name i = (i.depth == depth) && is_this_name name (name_of_item i.what)
 
 -- whether behind these items, in the body of this depth, an anchor of this name stands already: going back as far as the
 -- items are of this depth or deeper

@@ -3,7 +3,7 @@
 ghost use Rattle.std.specs.Prelude.{◌≡◌, ◌<◌, ◌≤◌, IfOk, IfSome, IsSome, length, position, slice_get};
 ghost use Rattle.std.specs.Option.{option_copied};
 ghost use Rattle.pfs_conf_rules.specs.Configs.{conf_of, entry_count_of, has_name, is_const_table, limit_of, options_at, rate_seconds, retention_in, retention_of, rule_at, rule_timeout_of, scope_of, table_named, timeout_of};
-ghost use Rattle.pfs_conf_rules.specs.Invariants.{IsConfig, IsCounted, IsTable};
+ghost use Rattle.pfs_conf_rules.specs.Invariants.{IsConfig, IsConfigCounted, IsTable};
 ghost use Rattle.pfs_conf_rules.specs.LoadRules.{AreOptions, IsItem, IsRule};
 
 use crate::actions::{Action, Rate, Scope, StateOptions};
@@ -31,13 +31,13 @@ pub struct Config {
 
 impl Model for Config {
     ghost use Rattle.pfs_conf_rules.specs.Configs.{Conf};
-    ghost use Rattle.pfs_conf_rules.specs.Invariants.{IsCounted};
+    ghost use Rattle.pfs_conf_rules.specs.Invariants.{IsConfigCounted};
 
     ghost Value = { Conf };
 
     ghost view = { λ c. record { limits = c.limits; timeouts = c.timeouts; tables = c.tables.items; items = c.items.items } };
 
-    ghost invariant = { λ c. IsCounted c.entries (record { limits = c.limits; timeouts = c.timeouts; tables = c.tables.items; items = c.items.items }) };
+    ghost invariant = { λ c. IsConfigCounted c.entries (record { limits = c.limits; timeouts = c.timeouts; tables = c.tables.items; items = c.items.items }) };
 }
 
 impl Config {
@@ -49,7 +49,7 @@ impl Config {
         entries: u64,
         items: Vec<Item>,
     ) -> Config
-        requires { IsCounted entries (conf_of limits timeouts tables.items items.items) }
+        requires { IsConfigCounted entries (conf_of limits timeouts tables.items items.items) }
         ensures { result ≡ conf_of limits timeouts tables.items items.items }
     {
         Config {

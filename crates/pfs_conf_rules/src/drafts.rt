@@ -5,7 +5,7 @@ ghost use Rattle.std.specs.Option.{option_map};
 ghost use Rattle.pfs_addr.specs.Names.{is_name};
 ghost use Rattle.pfs_conf_rules.specs.Configs.{entries_in, is_const_table, overloads_const};
 ghost use Rattle.pfs_conf_rules.specs.Order.{depth_after, next_depth, repeats_by, repeats_name};
-ghost use Rattle.pfs_conf_rules.specs.Drafts.{broken_pair, const_overload, empty_draft, finished, has_broken_pair, has_too_many_entries, has_too_many_tables, is_defined, number_of, with_item, with_limit, with_name, with_table, with_timeout};
+ghost use Rattle.pfs_conf_rules.specs.Drafts.{broken_pair, const_overload, empty_draft, finished, has_broken_pair, has_too_many_entries, has_too_many_tables, is_defined, number_of_table, with_item, with_limit, with_name, with_table, with_timeout};
 ghost use Rattle.pfs_conf_rules.specs.LoadRules.{IsAnchor, IsCount, IsItem, IsRule, IsTimeout};
 ghost use Rattle.pfs_conf_rules.specs.Siblings.{has_sibling, is_anchor_named};
 ghost use Rattle.pfs_conf_rules.specs.Timeouts.{place_of};
@@ -81,7 +81,7 @@ impl Draft {
     /// takes memory for one more table; until it is defined it has no entries. (own to this profile)
     pub fn number_of(&mut self, name: TableName) -> Result<TableNo, NoMemory>
         requires { is_name 31 name ≡ true }
-        ensures answer { IfOk result (λ t. t.0 ≡ number_of name self.old) }
+        ensures answer { IfOk result (λ t. t.0 ≡ number_of_table name self.old) }
         ensures within { IfOk result (λ t. t.0 < length self.new.tables) }
         ensures more { length self.old.tables ≤ length self.new.tables }
         ensures ok { OnOk result (self.new ≡ with_name name self.old) }

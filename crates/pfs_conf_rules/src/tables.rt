@@ -3,7 +3,7 @@
 ghost use Rattle.std.specs.Prelude.{◌≡◌, ◌<◌, ◌^◌, ◌++◌, [], ◌∷◌, All, IfOk, None, OnOk, OnErr, length, map, slice_get};
 ghost use Rattle.std.specs.List.{IsDistinct};
 ghost use Rattle.pfs_addr.specs.Prefixes.{IsNetwork};
-ghost use Rattle.pfs_conf_rules.specs.Entries.{Entry, same_network, sign_of};
+ghost use Rattle.pfs_conf_rules.specs.Entries.{TextEntry, same_network, sign_of};
 
 use crate::filters::TableName;
 use indexmap::IndexMap;
@@ -56,8 +56,8 @@ impl Entries {
     pub fn len(&self) -> usize
         ensures value { result ≡ length self.now }
         ensures small { result < 2 ^ 63 }
-        ensures networks { All (λ (e : Entry). IsNetwork e.0) self.now }
-        ensures distinct { IsDistinct same_network (map (λ (e : Entry). e.0) self.now) }
+        ensures networks { All (λ (e : TextEntry). IsNetwork e.0) self.now }
+        ensures distinct { IsDistinct same_network (map (λ (e : TextEntry). e.0) self.now) }
     {
         self.map.len()
     }

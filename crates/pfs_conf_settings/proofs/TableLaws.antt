@@ -10,7 +10,7 @@ use Rattle.pfs_conf_tokens.proofs.Laws.{Taking, OnlineAct, Online, inside, acros
 use Rattle.pfs_conf_tokens.proofs.ReaderLaws.{closes_braces_before_end, online_list, next_shrinks, online_skipping, skipping_shrinks, word_in_line}
 use Rattle.pfs_addr.specs.Prefixes.{Network}
 use Rattle.pfs_addr.specs.Texts.{prefix_of}
-use Rattle.pfs_conf_rules.specs.Entries.{Entry, sign_of}
+use Rattle.pfs_conf_rules.specs.Entries.{TextEntry, sign_of}
 use Rattle.pfs_conf_settings.specs.declared.tables.Parts.{Parts}
 use Rattle.pfs_conf_settings.specs.Tables.{sign_by, sign_at, again, entry_joined, entered, entry_by, entry_at, lined_entry_at, entries_by, braced_entries_at, unless, part_by, part_at, parts_at}
 use Rattle.pfs_conf_settings.specs.TableGrammar.{no_parts}
@@ -25,62 +25,62 @@ pub online_negation : Online inside sign_at
 unfolding sign_at
 online_negation = online_front (λ t. sign_by t.key) (λ t. negation_act t.key)
 
-again_taking : (k : Key) (entries : List Entry) (negated held : Bool) → in_line k ≡ true → Taking inside k (again entries negated held)
+again_taking : (k : Key) (entries : List TextEntry) (negated held : Bool) → in_line k ≡ true → Taking inside k (again entries negated held)
 again_taking k entries true true h = (h, online_done entries)
 again_taking k entries false false h = (h, online_done entries)
 again_taking k entries true false h = tt
 again_taking k entries false true h = tt
 
-joined_taking : (k : Key) (entries : List Entry) (negated : Bool) (p : Network) (o : Option Bool) → in_line k ≡ true → Taking inside k (entry_joined entries negated p o)
+joined_taking : (k : Key) (entries : List TextEntry) (negated : Bool) (p : Network) (o : Option Bool) → in_line k ≡ true → Taking inside k (entry_joined entries negated p o)
 joined_taking k entries negated p None h = (h, online_done (entries ++ (p, negated) ∷ []))
 joined_taking k entries negated p (Some held) h = again_taking k entries negated held h
 
-entered_taking : (k : Key) (entries : List Entry) (negated : Bool) (o : Option Network) → in_line k ≡ true → Taking inside k (entered entries negated o)
+entered_taking : (k : Key) (entries : List TextEntry) (negated : Bool) (o : Option Network) → in_line k ≡ true → Taking inside k (entered entries negated o)
 entered_taking k entries negated None h = tt
 entered_taking k entries negated (Some p) h = joined_taking k entries negated p (sign_of entries p) h
 
-entry_taking : (entries : List Entry) (negated : Bool) (t : Tok) → Taking inside t.key (entry_by entries negated t)
+entry_taking : (entries : List TextEntry) (negated : Bool) (t : Tok) → Taking inside t.key (entry_by entries negated t)
 entry_taking entries negated t = go (is_word_key t.key) refl
   where
     go : (b : Bool) → is_word_key t.key ≡ b → Taking inside t.key (if b then entered entries negated (prefix_of t.text) else refuse why.Host)
     go true e = entered_taking t.key entries negated (prefix_of t.text) (word_in_line t.key e)
     go false e = tt
 
-pub online_entry : (entries : List Entry) (negated : Bool) → Online inside (entry_at entries negated)
+pub online_entry : (entries : List TextEntry) (negated : Bool) → Online inside (entry_at entries negated)
 unfolding entry_at
 online_entry entries negated = online_taking (λ t. entry_by entries negated t) (λ t. entry_taking entries negated t)
 
-pub entry_shrinks : (entries : List Entry) (negated : Bool) → Shrinks (entry_at entries negated)
+pub entry_shrinks : (entries : List TextEntry) (negated : Bool) → Shrinks (entry_at entries negated)
 unfolding entry_at
 entry_shrinks entries negated = front_shrinks inside (λ t. entry_by entries negated t) (λ t. entry_taking entries negated t)
 
 -- line ends behind an entry
-online_behind : (entries : List Entry) → Online across (skipping (done entries))
+online_behind : (entries : List TextEntry) → Online across (skipping (done entries))
 online_behind entries = online_skipping (done entries) (online_done entries)
 
-online_signed : (entries : List Entry) (negated : Bool) → Online across (skipping (chain (entry_at entries negated) (λ more. skipping (done more))))
+online_signed : (entries : List TextEntry) (negated : Bool) → Online across (skipping (chain (entry_at entries negated) (λ more. skipping (done more))))
 online_signed entries negated =
     online_skipping (chain (entry_at entries negated) (λ more. skipping (done more)))
     (online_chain (entry_at entries negated) (λ more. skipping (done more)) (online_across (entry_at entries negated) (online_entry entries negated)) online_behind)
 
-pub online_lined_entry : (entries : List Entry) → Online across (lined_entry_at entries)
+pub online_lined_entry : (entries : List TextEntry) → Online across (lined_entry_at entries)
 unfolding lined_entry_at
 online_lined_entry entries =
     online_skipping (chain sign_at (λ negated. skipping (chain (entry_at entries negated) (λ more. skipping (done more)))))
     (online_chain sign_at (λ negated. skipping (chain (entry_at entries negated) (λ more. skipping (done more)))) (online_across sign_at online_negation) (online_signed entries))
 
-signed_shrinks : (entries : List Entry) (negated : Bool) → Shrinks (skipping (chain (entry_at entries negated) (λ more. skipping (done more))))
+signed_shrinks : (entries : List TextEntry) (negated : Bool) → Shrinks (skipping (chain (entry_at entries negated) (λ more. skipping (done more))))
 signed_shrinks entries negated =
     skipping_shrinks (chain (entry_at entries negated) (λ more. skipping (done more)))
     (chain_shrinks across (entry_at entries negated) (λ more. skipping (done more)) (entry_shrinks entries negated) online_behind)
 
-pub lined_entry_shrinks : (entries : List Entry) → Shrinks (lined_entry_at entries)
+pub lined_entry_shrinks : (entries : List TextEntry) → Shrinks (lined_entry_at entries)
 unfolding lined_entry_at
 lined_entry_shrinks entries =
     skipping_shrinks (chain sign_at (λ negated. skipping (chain (entry_at entries negated) (λ more. skipping (done more)))))
     (chain_shrinks_behind across sign_at (λ negated. skipping (chain (entry_at entries negated) (λ more. skipping (done more)))) (online_across sign_at online_negation) (signed_shrinks entries))
 
-pub next_entry_shrinks : (entries : List Entry) → Shrinks (next_of lined_entry_at entries)
+pub next_entry_shrinks : (entries : List TextEntry) → Shrinks (next_of lined_entry_at entries)
 next_entry_shrinks entries = next_shrinks lined_entry_at lined_entry_shrinks entries
 
 -- ---- the entries in braces

@@ -13,7 +13,7 @@ use Rattle.pfs_conf_tokens.proofs.ReaderLaws.{closes_braces_key, line_end_key, w
 use Rattle.pfs_conf_tokens.proofs.LineLaws.{skip_stays}
 use Rattle.pfs_addr.specs.Prefixes.{Network}
 use Rattle.pfs_addr.specs.Texts.{prefix_of}
-use Rattle.pfs_conf_rules.specs.Entries.{Entry, sign_of}
+use Rattle.pfs_conf_rules.specs.Entries.{TextEntry, sign_of}
 use Rattle.pfs_conf_settings.specs.declared.tables.Parts.{Parts}
 use Rattle.pfs_conf_settings.specs.Tables.{sign_by, sign_at, again, entry_joined, entered, entry_by, entry_at, lined_entry_at, entries_by, braced_entries_at, unless, part_by, part_at, parts_at}
 use Rattle.pfs_conf_settings.specs.TableGrammar.{no_parts, SignOf, plain, negated, Enters, comes, stands, EntryOf, EntriesOf, none, some, PartOf, persist, constant, counters, entries, PartsOf}
@@ -34,34 +34,34 @@ sign_is ts x left e = by_key (head ts).key refl e
         subst (λ (b : Bool). SignOf ts b left) q.0 (subst (λ (z : List Tok). SignOf ts false z) q.1 plain)
 
 -- what an entry's word did, taken apart
-record EntryRead (es : List Entry) (negated : Bool) (t : Tok) (ts : List Tok) (more : List Entry) (left : List Tok) : Type 0 where
+record EntryRead (es : List TextEntry) (negated : Bool) (t : Tok) (ts : List Tok) (more : List TextEntry) (left : List Tok) : Type 0 where
   pub is_word : is_word_key t.key ≡ true
   pub p : Network
   pub says : prefix_of t.text ≡ Some p
   pub enters : Enters es negated p more
   pub behind : rest ts ≡ left
 
-again_is : (es : List Entry) (n h : Bool) (ts : List Tok) (more : List Entry) (left : List Tok) → act (again es n h) ts ≡ Ok (more, left) → (n ≡ h) × (es ≡ more) × (rest ts ≡ left)
+again_is : (es : List TextEntry) (n h : Bool) (ts : List Tok) (more : List TextEntry) (left : List Tok) → act (again es n h) ts ≡ Ok (more, left) → (n ≡ h) × (es ≡ more) × (rest ts ≡ left)
 again_is es true true ts more left e = let q = ok_parts es more (rest ts) left e in (refl, q.0, q.1)
 again_is es false false ts more left e = let q = ok_parts es more (rest ts) left e in (refl, q.0, q.1)
 again_is es true false ts more left e = absurd cc
 again_is es false true ts more left e = absurd cc
 
-joined_is : (es : List Entry) (n : Bool) (p : Network) (o : Option Bool) → sign_of es p ≡ o → (ts : List Tok) (more : List Entry) (left : List Tok)
+joined_is : (es : List TextEntry) (n : Bool) (p : Network) (o : Option Bool) → sign_of es p ≡ o → (ts : List Tok) (more : List TextEntry) (left : List Tok)
     → act (entry_joined es n p o) ts ≡ Ok (more, left) → Enters es n p more × (rest ts ≡ left)
 joined_is es n p None f ts more left e =
     let q = ok_parts (es ++ (p, n) ∷ []) more (rest ts) left e in
-    (subst (λ (z : List Entry). Enters es n p z) q.0 (comes f), q.1)
+    (subst (λ (z : List TextEntry). Enters es n p z) q.0 (comes f), q.1)
 joined_is es n p (Some h) f ts more left e =
     let q = again_is es n h ts more left e in
-    (subst (λ (z : List Entry). Enters es n p z) q.1 (stands (f ∙ ap (λ (b : Bool). Some b) (sym q.0))), q.2)
+    (subst (λ (z : List TextEntry). Enters es n p z) q.1 (stands (f ∙ ap (λ (b : Bool). Some b) (sym q.0))), q.2)
 
-entered_is : (es : List Entry) (n : Bool) (o : Option Network) (ts : List Tok) (more : List Entry) (left : List Tok)
+entered_is : (es : List TextEntry) (n : Bool) (o : Option Network) (ts : List Tok) (more : List TextEntry) (left : List Tok)
     → act (entered es n o) ts ≡ Ok (more, left) → (p : Network) × (o ≡ Some p) × Enters es n p more × (rest ts ≡ left)
 entered_is es n None ts more left e = absurd cc
 entered_is es n (Some p) ts more left e = let q = joined_is es n p (sign_of es p) refl ts more left e in (p, refl, q.0, q.1)
 
-entry_is : (es : List Entry) (n : Bool) (ts : List Tok) (more : List Entry) (left : List Tok) → entry_at es n ts ≡ Ok (more, left) → EntryRead es n (head ts) ts more left
+entry_is : (es : List TextEntry) (n : Bool) (ts : List Tok) (more : List TextEntry) (left : List Tok) → entry_at es n ts ≡ Ok (more, left) → EntryRead es n (head ts) ts more left
 unfolding entry_at
 entry_is es n ts more left e = go (is_word_key (head ts).key) refl e
   where
@@ -76,7 +76,7 @@ word_front : (ts : List Tok) → is_word_key (head ts).key ≡ true → ts ≡ h
 word_front [] e = absurd cc
 word_front (t ∷ ts) e = refl
 
-pub lined_entry_is : (es : List Entry) (ts : List Tok) (more : List Entry) (left : List Tok) → lined_entry_at es ts ≡ Ok (more, left) → EntryOf es ts more left
+pub lined_entry_is : (es : List TextEntry) (ts : List Tok) (more : List TextEntry) (left : List Tok) → lined_entry_at es ts ≡ Ok (more, left) → EntryOf es ts more left
 unfolding lined_entry_at
 lined_entry_is es ts more left e =
     let c = chain_ok sign_at (λ n. skipping (chain (entry_at es n) (λ m. skipping (done m)))) (skip_lines ts) more left e in
@@ -90,11 +90,11 @@ lined_entry_is es ts more left e =
       b = d.1;
       sign = sign_is (skip_lines ts) c.0 c.1 c.2;
       prefix = (head (skip_lines c.1), word_front (skip_lines c.1) r.is_word ∙ ap (λ (z : List Tok). head (skip_lines c.1) ∷ z) r.behind, r.is_word, r.says);
-      enters = subst (λ (z : List Entry). Enters es c.0 r.p z) q.0 r.enters;
+      enters = subst (λ (z : List TextEntry). Enters es c.0 r.p z) q.0 r.enters;
       behind = sym q.1;
     }
 
-pub entries_are : (ts : List Tok) (es : List Entry) (left : List Tok) → braced_entries_at ts ≡ Ok (es, left) → EntriesOf ts es left
+pub entries_are : (ts : List Tok) (es : List TextEntry) (left : List Tok) → braced_entries_at ts ≡ Ok (es, left) → EntriesOf ts es left
 unfolding braced_entries_at
 entries_are ts es left e = by_key (head (skip_lines ts)).key refl e
   where
@@ -104,7 +104,7 @@ entries_are ts es left e = by_key (head (skip_lines ts)).key refl e
     by_key : (k : Key) → (head (skip_lines ts)).key ≡ k → act (entries_by k) (skip_lines ts) ≡ Ok (es, left) → EntriesOf ts es left
     by_key key.CloseBrace g h =
         let q = ok_parts [] es (rest (skip_lines ts)) left h in
-        subst (λ (z : List Entry). EntriesOf ts z left) q.0 (none (subst (λ (z : List Tok). Word key.CloseBrace (skip_lines ts) z) q.1 (word_is key.CloseBrace (skip_lines ts) g (λ r. cc))))
+        subst (λ (z : List TextEntry). EntriesOf ts z left) q.0 (none (subst (λ (z : List Tok). Word key.CloseBrace (skip_lines ts) z) q.1 (word_is key.CloseBrace (skip_lines ts) g (λ r. cc))))
     by_key _ g h = listed h
 
 part_once_is : (p q : Parts) (k : Key) (ts left : List Tok) (b : Bool) → (head ts).key ≡ k → (key.End ≡ k → ⊥) → act (unless b (take (done q))) ts ≡ Ok (p, left) → (b ≡ false) × (q ≡ p) × Word k ts left
@@ -113,7 +113,7 @@ part_once_is p q k ts left false g n e =
     let r = ok_parts q p (rest ts) left e in
     (refl, r.0, subst (λ (z : List Tok). Word k ts z) r.1 (word_is k ts g n))
 
-braces_are : (p q : Parts) (ts left : List Tok) (o : Option (List Entry)) → p.entries ≡ o → (head ts).key ≡ key.OpenBrace
+braces_are : (p q : Parts) (ts left : List Tok) (o : Option (List TextEntry)) → p.entries ≡ o → (head ts).key ≡ key.OpenBrace
     → act (once o (take (chain braced_entries_at (λ es. done (record p { entries = Some es }))))) ts ≡ Ok (q, left) → PartOf p ts q left
 braces_are p q ts left (Some x) f g e = absurd cc
 braces_are p q ts left None f g e =
@@ -150,19 +150,19 @@ word_no_sign : (k : Key) → is_word_key k ≡ true → sign_by k ≡ stay (done
 word_no_sign key.Not e = absurd cc
 word_no_sign _ e = refl
 
-again_reads : (es : List Entry) (n : Bool) → again es n n ≡ take (done es)
+again_reads : (es : List TextEntry) (n : Bool) → again es n n ≡ take (done es)
 again_reads es true = refl
 again_reads es false = refl
 
-entered_reads : {es : List Entry} {n : Bool} {p : Network} {more : List Entry} → Enters es n p more → entry_joined es n p (sign_of es p) ≡ take (done more)
+entered_reads : {es : List TextEntry} {n : Bool} {p : Network} {more : List TextEntry} → Enters es n p more → entry_joined es n p (sign_of es p) ≡ take (done more)
 entered_reads {es = es} {n = n} {p = p} (comes f) = ap (entry_joined es n p) f
 entered_reads {es = es} {n = n} {p = p} (stands f) = ap (entry_joined es n p) f ∙ again_reads es n
 
-entry_reads : {es : List Entry} {n : Bool} {p : Network} {ts : List Tok} {more : List Entry} {left : List Tok} → WordOf prefix_of ts p left → Enters es n p more → entry_at es n ts ≡ Ok (more, left)
+entry_reads : {es : List TextEntry} {n : Bool} {p : Network} {ts : List Tok} {more : List TextEntry} {left : List Tok} → WordOf prefix_of ts p left → Enters es n p more → entry_at es n ts ≡ Ok (more, left)
 unfolding entry_at
 entry_reads {es = es} {n = n} {p = p} {ts = ts} {more = more} {left = left} w en =
     ap (λ (z : List Tok). act (entry_by es n (head z)) z) w.1
-    ∙ (ap (λ (b : Act (List Entry)). act b (w.0 ∷ left)) (cond-true (is_word_key w.0.key) _ _ w.2 ∙ (ap (entered es n) w.3 ∙ entered_reads en)))
+    ∙ (ap (λ (b : Act (List TextEntry)). act b (w.0 ∷ left)) (cond-true (is_word_key w.0.key) _ _ w.2 ∙ (ap (entered es n) w.3 ∙ entered_reads en)))
 
 -- behind line ends there are none
 skip_twice : (ts : List Tok) → skip_lines (skip_lines ts) ≡ skip_lines ts
@@ -175,7 +175,7 @@ signed_reads ts plain w =
     ap (λ (d : Act Bool). act d (skip_lines ts)) (ap sign_by front ∙ word_no_sign w.0.key w.2)
 signed_reads ts (negated s) w = let h = word_head s in rw (h.0, h.1) refl
 
-pub lined_entry_reads : {es : List Entry} {ts : List Tok} {more : List Entry} {left : List Tok} → EntryOf es ts more left → lined_entry_at es ts ≡ Ok (more, left)
+pub lined_entry_reads : {es : List TextEntry} {ts : List Tok} {more : List TextEntry} {left : List Tok} → EntryOf es ts more left → lined_entry_at es ts ≡ Ok (more, left)
 unfolding lined_entry_at
 lined_entry_reads {es = es} {ts = ts} {more = more} q =
     rw (signed_reads ts q.sign q.prefix) (rw (entry_reads q.prefix q.enters) (ap (λ (z : List Tok). Ok (more, z)) (sym q.behind)))
@@ -196,7 +196,7 @@ sign_begins : (ts : List Tok) {a b : List Tok} {n : Bool} {p : Network} → Sign
 sign_begins ts plain w = rw (ap (λ (z : List Tok). (head z).key) (sym (skip_twice ts) ∙ w.1)) (word_begins w.0.key w.2)
 sign_begins ts (negated s) w = rw (word_head s).0 (refl, refl, refl)
 
-lined_entry_begins : {es : List Entry} {ts : List Tok} {more : List Entry} {left : List Tok} → EntryOf es ts more left → Begins (head ts).key
+lined_entry_begins : {es : List TextEntry} {ts : List Tok} {more : List TextEntry} {left : List Tok} → EntryOf es ts more left → Begins (head ts).key
 lined_entry_begins {ts = ts} q = go (ends_line (head ts).key) refl
   where
     go : (b : Bool) → ends_line (head ts).key ≡ b → Begins (head ts).key
@@ -215,7 +215,7 @@ entries_stay : (k : Key) → closes_braces k ≡ false → entries_by k ≡ stay
 entries_stay key.CloseBrace e = absurd cc
 entries_stay _ e = refl
 
-pub entries_read : {ts : List Tok} {es : List Entry} {left : List Tok} → EntriesOf ts es left → braced_entries_at ts ≡ Ok (es, left)
+pub entries_read : {ts : List Tok} {es : List TextEntry} {left : List Tok} → EntriesOf ts es left → braced_entries_at ts ≡ Ok (es, left)
 unfolding braced_entries_at
 entries_read (none w) = let h = word_head w in rw (h.0, h.1) refl
 entries_read {ts = ts} (some q) = rw (entries_stay (head (skip_lines ts)).key (lined_entry_begins q.begins).0) (list_reads entries_readable q)

@@ -6,7 +6,7 @@ use Rattle.pfs_conf_tokens.specs.Tokens.{Tok}
 use Rattle.pfs_conf_tokens.specs.Grammar.{Word, WordOf, ListOf, UpTo, skip_lines}
 use Rattle.pfs_addr.specs.Prefixes.{Network}
 use Rattle.pfs_addr.specs.Texts.{prefix_of}
-use Rattle.pfs_conf_rules.specs.Entries.{Entry, sign_of}
+use Rattle.pfs_conf_rules.specs.Entries.{TextEntry, sign_of}
 use Rattle.pfs_conf_settings.specs.declared.tables.Parts.{Parts}
 
 -- a sign: `!`, or none
@@ -15,7 +15,7 @@ pub data SignOf : List Tok → Bool → List Tok → Type 0 where
   negated : {ts left : List Tok} → Word key.Not ts left → SignOf ts true left
 
 -- an entry is put behind the others, or stands there already with the same sign
-pub data Enters (entries : List Entry) (negated : Bool) (p : Network) : List Entry → Type 0 where
+pub data Enters (entries : List TextEntry) (negated : Bool) (p : Network) : List TextEntry → Type 0 where
   comes : sign_of entries p ≡ None → Enters entries negated p (entries ++ (p, negated) ∷ [])
   stands : sign_of entries p ≡ Some negated → Enters entries negated p entries
 
@@ -24,7 +24,7 @@ abbrev pub no_parts : Parts
 no_parts = record { persist = false; is_const = false; counters = false; entries = None }
 
 -- entry := ["!"] PREFIX
-pub record EntryOf (entries : List Entry) (ts : List Tok) (more : List Entry) (left : List Tok) : Type 0 where
+pub record EntryOf (entries : List TextEntry) (ts : List Tok) (more : List TextEntry) (left : List Tok) : Type 0 where
   pub negated : Bool
   pub p : Network
   pub a : List Tok
@@ -35,16 +35,16 @@ pub record EntryOf (entries : List Entry) (ts : List Tok) (more : List Entry) (l
   pub behind : left ≡ skip_lines b
 
 -- [list(entry)] "}"
-pub data EntriesOf : List Tok → List Entry → List Tok → Type 0 where
+pub data EntriesOf : List Tok → List TextEntry → List Tok → Type 0 where
   none : {ts left : List Tok} → Word key.CloseBrace (skip_lines ts) left → EntriesOf ts [] left
-  some : {ts left : List Tok} {entries : List Entry} → ListOf key.CloseBrace EntryOf [] (skip_lines ts) entries left → EntriesOf ts entries left
+  some : {ts left : List Tok} {entries : List TextEntry} → ListOf key.CloseBrace EntryOf [] (skip_lines ts) entries left → EntriesOf ts entries left
 
 -- part := "persist" | "const" | "counters" | "{" [list(entry)] "}", each at most once
 pub data PartOf : Parts → List Tok → Parts → List Tok → Type 0 where
   persist : {p : Parts} {ts left : List Tok} → Word key.Persist ts left → p.persist ≡ false → PartOf p ts (record p { persist = true }) left
   constant : {p : Parts} {ts left : List Tok} → Word key.Const ts left → p.is_const ≡ false → PartOf p ts (record p { is_const = true }) left
   counters : {p : Parts} {ts left : List Tok} → Word key.Counters ts left → p.counters ≡ false → PartOf p ts (record p { counters = true }) left
-  entries : {p : Parts} {ts mid left : List Tok} {es : List Entry} → Word key.OpenBrace ts mid → p.entries ≡ None → EntriesOf mid es left → PartOf p ts (record p { entries = Some es }) left
+  entries : {p : Parts} {ts mid left : List Tok} {es : List TextEntry} → Word key.OpenBrace ts mid → p.entries ≡ None → EntriesOf mid es left → PartOf p ts (record p { entries = Some es }) left
 
 -- part*, up to the line end, which stays
 abbrev pub PartsOf : List Tok → Parts → List Tok → Type 0

@@ -8,7 +8,7 @@ use Rattle.pfs_conf_tokens.specs.Keys.{is_word_key, ends_line}
 use Rattle.pfs_conf_tokens.specs.Reading.{closes_braces, Reader, Act, take, stay, refuse, on_front, done, chain, once, list_all, up_to_all, skipping}
 use Rattle.pfs_addr.specs.Prefixes.{Network}
 use Rattle.pfs_addr.specs.Texts.{prefix_of}
-use Rattle.pfs_conf_rules.specs.Entries.{Entry, sign_of}
+use Rattle.pfs_conf_rules.specs.Entries.{TextEntry, sign_of}
 use Rattle.pfs_conf_settings.specs.declared.tables.Parts.{Parts}
 use Rattle.pfs_conf_settings.specs.TableGrammar.{no_parts}
 
@@ -21,35 +21,35 @@ unfoldable pub sign_at : Reader Bool
 sign_at ts = on_front (λ t. sign_by t.key) ts
 
 -- an entry that stands already is held once with the same sign, and is refused with the other
-abbrev pub again : List Entry → Bool → Bool → Act (List Entry)
+abbrev pub again : List TextEntry → Bool → Bool → Act (List TextEntry)
 again entries true true = take (done entries)
 again entries false false = take (done entries)
 again entries _ _ = refuse why.Again
 
-abbrev pub entry_joined : List Entry → Bool → Network → Option Bool → Act (List Entry)
+abbrev pub entry_joined : List TextEntry → Bool → Network → Option Bool → Act (List TextEntry)
 entry_joined entries negated p None = take (done (entries ++ (p, negated) ∷ []))
 entry_joined entries negated p (Some held) = again entries negated held
 
-abbrev pub entered : List Entry → Bool → Option Network → Act (List Entry)
+abbrev pub entered : List TextEntry → Bool → Option Network → Act (List TextEntry)
 entered entries negated None = refuse why.Host
 entered entries negated (Some p) = entry_joined entries negated p (sign_of entries p)
 
-abbrev pub entry_by : List Entry → Bool → Tok → Act (List Entry)
+abbrev pub entry_by : List TextEntry → Bool → Tok → Act (List TextEntry)
 entry_by entries negated t = if is_word_key t.key then entered entries negated (prefix_of t.text) else refuse why.Host
 
-unfoldable pub entry_at : List Entry → Bool → Reader (List Entry)
+unfoldable pub entry_at : List TextEntry → Bool → Reader (List TextEntry)
 entry_at entries negated ts = on_front (λ t. entry_by entries negated t) ts
 
 -- an entry among line ends
-unfoldable pub lined_entry_at : List Entry → Reader (List Entry)
+unfoldable pub lined_entry_at : List TextEntry → Reader (List TextEntry)
 lined_entry_at entries ts = skipping (chain sign_at (λ negated. skipping (chain (entry_at entries negated) (λ more. skipping (done more))))) ts
 
 -- the entries in braces, behind the opening one
-abbrev pub entries_by : Key → Act (List Entry)
+abbrev pub entries_by : Key → Act (List TextEntry)
 entries_by key.CloseBrace = take (done [])
 entries_by _ = stay (list_all closes_braces lined_entry_at [])
 
-unfoldable pub braced_entries_at : Reader (List Entry)
+unfoldable pub braced_entries_at : Reader (List TextEntry)
 braced_entries_at ts = skipping (on_front (λ t. entries_by t.key)) ts
 
 -- a part of a definition, each at most once

@@ -1,6 +1,6 @@
 -- The line of a table. (pf.conf(5), TABLES; its form is own)
 use Rattle.std.specs.Prelude.{ℕ, Bool, true, false, List, [], ◌++◌, Option, Some, None, codes, map, slice_get}
-use Rattle.pfs_conf_rules.specs.Entries.{Entry}
+use Rattle.pfs_conf_rules.specs.Entries.{TextEntry}
 use Rattle.pfs_conf_rules.specs.declared.filters.TableNo.{TableNo}
 use Rattle.pfs_conf_rules.specs.declared.tables.TableDef.{TableDef}
 use Rattle.pfs_conf_show.specs.Pieces.{bracketed, not_text, prefix_text}
@@ -19,7 +19,7 @@ abbrev pub table_ref : List TableDef → TableNo → List ℕ
 table_ref tables table = angled (name_in (slice_get tables table.0))
 
 -- an entry: a prefix, with `!` where it is negated
-abbrev pub entry_text : Entry → List ℕ
+abbrev pub entry_text : TextEntry → List ℕ
 entry_text e = not_text e.1 ++ prefix_text e.0
 
 abbrev pub const_text : Bool → List ℕ

@@ -6,7 +6,7 @@ use Rattle.std.proofs.Common.{◌≡◌, ℕ, zero, suc, ◌≤◌, Bool, true, 
 use Rattle.std.proofs.lemmas.Bool.{and_parts, leb-true, le-leb}
 use borrow.Author.Tests.{clash}
 use Rattle.pfs_conf_tokens.specs.Tokens.{Tok, head}
-use Rattle.pfs_conf_tokens.specs.Reading.{rest, ends_text, closes_parens, closes_braces, Refused, Reader, take, stay, refuse, act, done, chain, perhaps, turns, taken, left_there, until_all, up_to_all, comma_by, comma_at, next_of, list_all, ended_by, ended, skipping, number_in, number_by, number_at}
+use Rattle.pfs_conf_tokens.specs.Reading.{rest, ends_text, closes_parens, closes_braces, Refused, Reader, take, stay, refuse, act, done, chain, perhaps, turns, taken, left_there, until_all, up_to_all, comma_by, comma_at, next_of, list_all, ended_by, ended, skipping, number_between, number_by, number_at}
 use Rattle.pfs_conf_tokens.specs.declared.keys.Key.{Key}
 use Rattle.pfs_conf_tokens.specs.declared.keys.Key.TheVariants as key
 use Rattle.pfs_conf_tokens.specs.declared.refusals.Why.TheVariants as why
@@ -72,7 +72,7 @@ choose_number low high n false = tt
 number_taking : (low high : ℕ) (text : List ℕ) (k : Key) → Taking inside k (number_by low high text k)
 number_taking low high text key.Number = within (number_written text)
   where
-    within : (o : Option ℕ) → Taking inside key.Number (number_in low high o)
+    within : (o : Option ℕ) → Taking inside key.Number (number_between low high o)
     within None = tt
     within (Some n) = choose_number low high n (leb low n && leb n high)
 number_taking low high text _ = tt
@@ -182,7 +182,7 @@ ended_reads x w = let h = word_head w in rw (h.0, h.1) refl
 
 -- ---- numbers against the grammar
 
-in_bounds : (low high n : ℕ) (o : Option ℕ) (ts left : List Tok) → act (number_in low high o) ts ≡ Ok (n, left) → (o ≡ Some n) × (low ≤ n) × (n ≤ high) × (rest ts ≡ left)
+in_bounds : (low high n : ℕ) (o : Option ℕ) (ts left : List Tok) → act (number_between low high o) ts ≡ Ok (n, left) → (o ≡ Some n) × (low ≤ n) × (n ≤ high) × (rest ts ≡ left)
 in_bounds low high n None ts left e = absurd cc
 in_bounds low high n (Some k) ts left e = choose (leb low k && leb k high) refl e
   where

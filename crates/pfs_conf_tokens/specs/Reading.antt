@@ -140,12 +140,12 @@ judged rule true line x ts = Err (broken rule line)
 judged rule false line x ts = Ok (x, ts)
 
 -- a number within bounds
-abbrev pub number_in : ℕ → ℕ → Option ℕ → Act ℕ
-number_in low high None = refuse why.Number
-number_in low high (Some n) = if nat_le low n && nat_le n high then take (done n) else refuse why.Number
+abbrev pub number_between : ℕ → ℕ → Option ℕ → Act ℕ
+number_between low high None = refuse why.Number
+number_between low high (Some n) = if nat_le low n && nat_le n high then take (done n) else refuse why.Number
 
 abbrev pub number_by : ℕ → ℕ → List ℕ → Key → Act ℕ
-number_by low high text key.Number = number_in low high (number_written text)
+number_by low high text key.Number = number_between low high (number_written text)
 number_by low high text _ = refuse why.Number
 
 unfoldable pub number_at : ℕ → ℕ → Reader ℕ

@@ -8,7 +8,7 @@ use Rattle.std.proofs.lemmas.List.Elements.{All-filter, All-nil, All-weaker}
 use Rattle.pfs_addr.proofs.SameLaws.{same_addr_true}
 use Rattle.pfs_addr.specs.Sameness.{same_addr}
 use Rattle.pfs_addr.specs.declared.addresses.Addr.{Addr}
-use Rattle.pfs_eval.specs.Entries.{Entry, entry_of}
+use Rattle.pfs_eval.specs.Entries.{Entry, entry_of_text}
 use Rattle.pfs_eval.proofs.TextTables.{count-config}
 use Rattle.pfs_conf_rules.specs.Configs.{Conf, options_of}
 use Rattle.pfs_conf_rules.specs.Invariants.{IsConfig}
@@ -44,7 +44,7 @@ kept_start conf sound = record {
   numbers = omega arith;
   noded = All-nil (HasNode conf []);
   phases = All-nil (λ (s : State). IsPhaseOf s.key.proto s.phase);
-  tables = length-map conf.tables (λ (t : TableDef). map entry_of t.entries);
+  tables = length-map conf.tables (λ (t : TableDef). map entry_of_text t.entries);
   moments = empty_world-up_to_now 0;
 }
 

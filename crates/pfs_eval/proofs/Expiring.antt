@@ -6,8 +6,8 @@ use Rattle.std.proofs.lemmas.List.Filters.{length-filter_both}
 use Rattle.std.proofs.lemmas.List.Sums.{sum_by-set}
 use Rattle.pfs_addr.specs.Prefixes.{IsNetwork}
 use Rattle.pfs_eval.specs.Entries.{Entry}
-use Rattle.pfs_eval.specs.Holdings.{AreKept, Held}
-use Rattle.pfs_eval.specs.Lengths.{IsNoted}
+use Rattle.pfs_eval.specs.Holdings.{AreKept, HeldEntries}
+use Rattle.pfs_eval.specs.Lengths.{IsLengthNoted}
 use Rattle.pfs_eval.specs.declared.lengths.Lengths.{Lengths}
 use Rattle.pfs_eval.specs.Tables.{entries_expired, entry_count, is_old, old_count, young}
 use Rattle.pfs_eval.proofs.Rooms.{entries_at-held, entries_of}
@@ -18,7 +18,7 @@ kept-filtered p es lengths k = record {
   networks = All-filter p (λ (x : Entry). IsNetwork x.0) es k.networks;
   long = k.long;
   on = k.on;
-  noted = All-filter p (λ (x : Entry). IsNoted lengths x.0) es k.noted;
+  noted = All-filter p (λ (x : Entry). IsLengthNoted lengths x.0) es k.noted;
 }
 
 -- the old ones and the others are all
@@ -31,23 +31,23 @@ pub left-of : (first now seconds : ℕ) (es rest : List Entry) → rest ≡ youn
 left-of first now seconds es rest e = omega (arith, ap (λ (xs : List Entry). length xs) e, old-and-young first now seconds es)
 
 -- a table is replaced by one with its young entries
-pub entries-expired : (xs : List Held) (i first now seconds : ℕ) (t t' : Held) → i < length xs → t ≡ get_or xs i t
+pub entries-expired : (xs : List HeldEntries) (i first now seconds : ℕ) (t t' : HeldEntries) → i < length xs → t ≡ get_or xs i t
     → t'.entries ≡ young first now seconds t.entries → entries_of (set xs i t') ≡ entries_expired (entries_of xs) i first now seconds
 entries-expired xs i first now seconds t t' h e f =
-    map-set (λ (s : Held). s.entries) xs i t'
+    map-set (λ (s : HeldEntries). s.entries) xs i t'
     ∙ ap (set (entries_of xs) i) (f ∙ ap (young first now seconds) (sym (entries_at-held xs i t h e)))
 
 -- then there are as many less in all
-pub count-expired : (xs : List Held) (i first now seconds : ℕ) (t t' : Held) → i < length xs → t ≡ get_or xs i t
+pub count-expired : (xs : List HeldEntries) (i first now seconds : ℕ) (t t' : HeldEntries) → i < length xs → t ≡ get_or xs i t
     → t'.entries ≡ young first now seconds t.entries
     → entry_count (entries_of (set xs i t')) + old_count first now seconds t.entries ≡ entry_count (entries_of xs)
 count-expired xs i first now seconds t t' h e f =
     let es = entries_of xs in
     let within : i < length es = rw length-map h in
-    let at : get_or es i [] ≡ t.entries = get_or-map (λ (s : Held). s.entries) xs i t [] h
-    ∙ sym (ap (λ (s : Held). s.entries) e) in
+    let at : get_or es i [] ≡ t.entries = get_or-map (λ (s : HeldEntries). s.entries) xs i t [] h
+    ∙ sym (ap (λ (s : HeldEntries). s.entries) e) in
     let sums = sum_by-set (λ (ys : List Entry). length ys) es i t'.entries [] within in
     let old : length (get_or es i []) ≡ length t.entries = ap (λ (ys : List Entry). length ys) at in
     let fewer = left-of first now seconds t.entries t'.entries f in
-    let same : entry_count (entries_of (set xs i t')) ≡ entry_count (set es i t'.entries) = ap entry_count (map-set (λ (s : Held). s.entries) xs i t') in
+    let same : entry_count (entries_of (set xs i t')) ≡ entry_count (set es i t'.entries) = ap entry_count (map-set (λ (s : HeldEntries). s.entries) xs i t') in
     omega (arith, same, sums, old, fewer)

@@ -11,7 +11,7 @@ use Rattle.pfs_eval.specs.declared.skips.Skips.{Skips}
 use Rattle.pfs_eval.specs.Lines.{AreLines, EachLine, IsLine, back, stop_depth_of}
 use Rattle.pfs_eval.specs.Matching.{filter_of}
 use Rattle.pfs_eval.specs.Parameters.{IsSame}
-use Rattle.pfs_eval.specs.Skips.{AreSkipsOf, IsSkip, behind, body_length, more, one, skip_of}
+use Rattle.pfs_eval.specs.Skips.{AreSkipsOf, IsSkip, place_behind, body_length, more, one, skip_of}
 use Rattle.pfs_eval.specs.Verdict.{enclosing, is_quick}
 use Rattle.pfs_eval.proofs.Paths.{back-at, drop-at, some_same}
 
@@ -160,11 +160,11 @@ looked_up xs p x h = let within : p < length xs = grind (arith, nat_tests, h.0) 
 
 -- behind the body of the item of a line
 behind_of : (items : List Item) (p q : ℕ) (i : Item) (line : Line) → IsLine items p i line
-    → q ≡ p + 1 + body_length line.depth (drop (p + 1) items) → behind items p i ≡ q
+    → q ≡ p + 1 + body_length line.depth (drop (p + 1) items) → place_behind items p i ≡ q
 behind_of items p q i line l e = sym (e ∙ ap (λ d. p + 1 + body_length d (drop (p + 1) items)) l.depth)
 
 -- an item skips its own body
-pub skips-own : (items : List Item) (p q : ℕ) (i : Item) (s : Skips) → q ≡ behind items p i
+pub skips-own : (items : List Item) (p q : ℕ) (i : Item) (s : Skips) → q ≡ place_behind items p i
     → ((k : Parameter) → skip_of s k ≡ q) → (k : Parameter) → IsSkip k items p i (skip_of s k)
 skips-own items p q i s e h k = subst (λ r. IsSkip k items p i r) (sym (h k ∙ e)) one
 
@@ -192,7 +192,7 @@ skips-joined items lines p q line next s a there then e d h i at k = by (h k)
         let b = behind_of items p q i line l e in
         let same : IsSame k (filter_of i.what) (filter_of j.item.what) = subst (λ f. IsSame k f (filter_of j.item.what)) l.asked
         (subst (λ f. IsSame k line.asked.filter f) j.is.asked far.0) in
-        let rest : IsSkip k items (behind items p i) j.item (skip_of next.skips k) = subst (λ r. IsSkip k items r j.item (skip_of next.skips k))
+        let rest : IsSkip k items (place_behind items p i) j.item (skip_of next.skips k) = subst (λ r. IsSkip k items r j.item (skip_of next.skips k))
         (sym b) (j.is.skips k) in
         subst (λ r. IsSkip k items p i r) (sym far.1)
         (more (ap (slice_get items) b ∙ j.at) (sym j.is.depth ∙ d ∙ l.depth) same rest)

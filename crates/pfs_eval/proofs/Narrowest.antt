@@ -14,7 +14,7 @@ use Rattle.pfs_addr.specs.Prefixes.{Network, IsNetwork, cleared, covers, network
 use Rattle.pfs_addr.proofs.PrefixLaws.{cleared_family, cleared_width, covers_true, network_covers, network_of_is_network}
 use Rattle.pfs_eval.specs.Entries.{Entry, narrower, narrowest, says_yes, answer_of, is_prefix_of, mark_at, holds_prefix}
 use Rattle.pfs_eval.specs.Holdings.{AreKept}
-use Rattle.pfs_eval.specs.Lengths.{AreLong, AreOn, IsNoted, next}
+use Rattle.pfs_eval.specs.Lengths.{AreLong, AreOn, IsLengthNoted, next}
 use Rattle.pfs_eval.specs.declared.lengths.Lengths.{Lengths}
 use Rattle.pfs_eval.specs.declared.entries.Mark.{Mark}
 
@@ -276,12 +276,12 @@ same_lengths l (V4 x) (V6 y) n f = absurd (cc f)
 same_lengths l (V6 x) (V4 y) n f = absurd (cc f)
 
 -- what covers an address and leaves out so many bits or more leaves out no fewer than are next
-pub next-below : (l : Lengths) (a : Addr) (n : ℕ) (es : List Entry) → All (λ (x : Entry). IsNoted l x.0) es
+pub next-below : (l : Lengths) (a : Addr) (n : ℕ) (es : List Entry) → All (λ (x : Entry). IsLengthNoted l x.0) es
     → AreBelow (width_of a + 1 - n) a es → AreBelow (width_of a + 1 - next l a n) a es
 unfolding AreBelow
 next-below l a n [] h k = tt
 next-below l a n (x ∷ es) h k =
-    let P : Entry → Type 0 = λ y. IsNoted l y.0 in (
+    let P : Entry → Type 0 = λ y. IsLengthNoted l y.0 in (
       λ c. let family = covers_family x.0 a c in
           let w = same_width x.0.addr a family in
           let same = same_lengths l x.0.addr a n family in
@@ -304,7 +304,7 @@ kept-none = record {
     least = (λ a n h. let z = none_next a n h in omega arith);
     most = (λ a n h. let z = none_next a n h in omega arith);
   };
-  noted = All-nil (λ (x : Entry). IsNoted (record { inet = replicate 34 33; inet6 = replicate 130 129 }) x.0);
+  noted = All-nil (λ (x : Entry). IsLengthNoted (record { inet = replicate 34 33; inet6 = replicate 130 129 }) x.0);
 }
 
 -- that a prefix leaves out so many bits is noted, for the family of an address
@@ -333,7 +333,7 @@ new_noted old new hidden n s e is h =
     omega arith
 
 -- what was noted stays so
-still_noted : (old new : Lengths) (b : Addr) (hidden : ℕ) (p : Network) → Notes old new b hidden → AreOn old → IsNoted old p → IsNoted new p
+still_noted : (old new : Lengths) (b : Addr) (hidden : ℕ) (p : Network) → Notes old new b hidden → AreOn old → IsLengthNoted old p → IsLengthNoted new p
 still_noted old new b hidden p notes on h n few =
     let within : n ≤ width_of p.addr + 1 = omega arith in
     let less = (noted_on (next old p.addr n) (next new p.addr n) hidden n (same_family p.addr b) (notes.at p.addr n within) (on.least p.addr n within)).1 in
@@ -345,7 +345,7 @@ pub kept-added : (es : List Entry) (old new : Lengths) (a : Addr) (n hidden : �
     → n ≤ width_of a → hidden ≡ width_of a - n → AreLong new → Notes old new a hidden
     → AreKept (es ++ (network_of a n, mark) ∷ []) new
 kept-added es old new a n hidden mark h k short rest long notes =
-    let P : Entry → Type 0 = λ x. IsNoted new x.0 in
+    let P : Entry → Type 0 = λ x. IsLengthNoted new x.0 in
     let wide = cleared_width n a in
     record {
       networks = all-added es a n mark h.networks k short;

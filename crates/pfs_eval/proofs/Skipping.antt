@@ -8,7 +8,7 @@ use Rattle.pfs_eval.specs.Entries.{Entry}
 use Rattle.pfs_eval.specs.Lines.{back}
 use Rattle.pfs_eval.specs.Matching.{dir_holds, family_holds, filter_of, flags_hold, host_holds, interface_holds, matches_item, ports_hold, proto_holds}
 use Rattle.pfs_eval.specs.Parameters.{IsSame, holds_at}
-use Rattle.pfs_eval.specs.Skips.{IsSkip, behind, more, one}
+use Rattle.pfs_eval.specs.Skips.{IsSkip, place_behind, more, one}
 use Rattle.pfs_eval.specs.Verdict.{Place, is_hit}
 use Rattle.pfs_eval.specs.declared.comparing.Parameter.{Parameter}
 use Rattle.pfs_eval.specs.declared.comparing.Parameter.TheVariants as parameter
@@ -46,11 +46,11 @@ pub record MayGoOn (m : Item → Bool) (items : List Item) (stop p q : ℕ) : Ty
   pub forward : p < q
 
 one_on : (m : Item → Bool) (items : List Item) (stop p : ℕ) (i : Item) → slice_get items p ≡ Some i → stop ≤ i.depth
-    → m i ≡ false → MayGoOn m items stop p (behind items p i)
+    → m i ≡ false → MayGoOn m items stop p (place_behind items p i)
 one_on m items stop p i at d e =
     let x = place_at (back p [] items) p i (drop (p + 1) items) in
     let miss : is_hit m x ≡ false = no_match _ _ e in
-    let step : walked m stop (rest_of m items p) ≡ x ∷ walked m stop (rest_of m items (behind items p i)) = ap (walked m stop)
+    let step : walked m stop (rest_of m items p) ≡ x ∷ walked m stop (rest_of m items (place_behind items p i)) = ap (walked m stop)
     (rest-jump m items p i at e) ∙ walked-miss m stop x _ d miss in
     record {
       found = λ f. ap (found_of m f) step ∙ found-miss m f x _ miss;
@@ -105,5 +105,5 @@ skip-on tables packet k items stop p q i (more {j = j} there e s r) at d h =
     let m = matches_item tables packet in
     let l : stop ≤ j.depth = omega (arith, e) in
     let again = sym (same-holds tables packet k (filter_of i.what) (filter_of j.what) s) ∙ h in
-    both_on m items stop p (behind items p i) q (one_on m items stop p i at d (fails tables packet k i h))
-    (skip-on tables packet k items stop (behind items p i) q j r there l again)
+    both_on m items stop p (place_behind items p i) q (one_on m items stop p i at d (fails tables packet k i h))
+    (skip-on tables packet k items stop (place_behind items p i) q j r there l again)

@@ -12,10 +12,10 @@ use Rattle.pfs_addr.specs.declared.addresses.Addr.{Addr}
 use Rattle.pfs_addr.specs.declared.addresses.Addr.TheVariants.{V4, V6}
 use Rattle.pfs_addr.specs.Prefixes.{Network, IsNetwork, network_of}
 use Rattle.pfs_conf_rules.specs.Configs.{Conf, entry_count_of}
-use Rattle.pfs_conf_rules.specs.Entries.{same_addr, same_network, Entry as TextEntry}
+use Rattle.pfs_conf_rules.specs.Entries.{are_same_addr, same_network, TextEntry}
 use Rattle.pfs_conf_rules.specs.declared.tables.TableDef.{TableDef}
-use Rattle.pfs_eval.specs.Entries.{Entry, entry_of, holds_prefix, is_prefix_of}
-use Rattle.pfs_eval.specs.Holdings.{Held}
+use Rattle.pfs_eval.specs.Entries.{Entry, entry_of_text, holds_prefix, is_prefix_of}
+use Rattle.pfs_eval.specs.Holdings.{HeldEntries}
 use Rattle.pfs_eval.specs.Tables.{config_entries, entry_count}
 use Rattle.pfs_eval.proofs.Narrowest.{own_prefix}
 use Rattle.pfs_eval.proofs.Rooms.{entries_of}
@@ -24,7 +24,7 @@ use Rattle.pfs_eval.proofs.Rooms.{entries_of}
 pub own_network : (p : Network) → IsNetwork p → network_of p.addr p.bits ≡ p
 own_network p h = λ i. record { addr = h.zeros i; bits = p.bits }
 
-addr_itself : (a : Addr) → same_addr a a ≡ true
+addr_itself : (a : Addr) → are_same_addr a a ≡ true
 addr_itself (V4 bytes) = search rules
 addr_itself (V6 bytes) = search rules
 
@@ -53,7 +53,7 @@ network_at es n e h at = subst (λ (x : TextEntry). IsNetwork x.0) (get_or_from_
 -- of entries with different prefixes, none in front has the prefix of the next
 pub not-held : (es : List TextEntry) (n : ℕ) (e : TextEntry) → All (λ (x : TextEntry). IsNetwork x.0) es
     → IsDistinct same_network (map (λ (x : TextEntry). x.0) es) → slice_get es n ≡ Some e
-    → holds_prefix (map entry_of (take n es)) e.0.addr e.0.bits ≡ false
+    → holds_prefix (map entry_of_text (take n es)) e.0.addr e.0.bits ≡ false
 not-held es zero e h d at = refl
 not-held [] (suc n) e h d at = refl
 not-held (x ∷ xs) (suc n) e h d at =
@@ -83,19 +83,19 @@ taken-more f xs n y e =
     ∙ ap (λ x. map f (take n xs) ++ f x ∷ []) here ∙ ap (λ z. map f (take n xs) ++ z ∷ []) k.2
 
 -- a table more
-pub table-more : (xs : List Held) (t : Held) (es : List Entry) → t.entries ≡ es
+pub table-more : (xs : List HeldEntries) (t : HeldEntries) (es : List Entry) → t.entries ≡ es
     → entries_of (xs ++ t ∷ []) ≡ entries_of xs ++ es ∷ []
-table-more xs t es e = map-append (λ (s : Held). s.entries) xs (t ∷ []) ∙ ap (λ ys. entries_of xs ++ ys ∷ []) e
+table-more xs t es e = map-append (λ (s : HeldEntries). s.entries) xs (t ∷ []) ∙ ap (λ ys. entries_of xs ++ ys ∷ []) e
 
 counted : (tables : List TableDef)
-    → entry_count (map (λ (t : TableDef). map entry_of t.entries) tables)
+    → entry_count (map (λ (t : TableDef). map entry_of_text t.entries) tables)
     ≡ sum_by (λ (t : TableDef). length t.entries) tables
 counted [] = refl
 counted (t ∷ ts) =
     let size : TableDef → ℕ = λ (u : TableDef). length u.entries in
-    let longs : List (List Entry) = map (λ (u : TableDef). map entry_of u.entries) ts in
-    sum_by-cons (λ (es : List Entry). length es) (map entry_of t.entries) longs
-    ∙ ap (λ n. n + entry_count longs) (length-map t.entries entry_of) ∙ ap (λ n. length t.entries + n) (counted ts)
+    let longs : List (List Entry) = map (λ (u : TableDef). map entry_of_text u.entries) ts in
+    sum_by-cons (λ (es : List Entry). length es) (map entry_of_text t.entries) longs
+    ∙ ap (λ n. n + entry_count longs) (length-map t.entries entry_of_text) ∙ ap (λ n. length t.entries + n) (counted ts)
     ∙ sym (sum_by-cons size t ts)
 
 -- the tables have as many entries as the configuration says
@@ -105,10 +105,10 @@ count-config conf = counted conf.tables
 -- the entries of the table of a number, as tables hold them
 pub text-entries : (tables : List TableDef) (n : ℕ) (es : List TextEntry)
     → option_map (λ (t : TableDef). t.entries) (slice_get tables n) ≡ Some es
-    → option_map (λ (t : TableDef). map entry_of t.entries) (slice_get tables n) ≡ Some (map entry_of es)
+    → option_map (λ (t : TableDef). map entry_of_text t.entries) (slice_get tables n) ≡ Some (map entry_of_text es)
 text-entries tables n es e = by (slice_get tables n) e
   where
     by : (o : Option TableDef) → option_map (λ (t : TableDef). t.entries) o ≡ Some es
-        → option_map (λ (t : TableDef). map entry_of t.entries) o ≡ Some (map entry_of es)
+        → option_map (λ (t : TableDef). map entry_of_text t.entries) o ≡ Some (map entry_of_text es)
     by None h = cc
     by (Some t) h = cc

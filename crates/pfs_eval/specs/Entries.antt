@@ -5,7 +5,7 @@ use Rattle.std.specs.Map.{lookup}
 use Rattle.pfs_addr.specs.declared.addresses.Addr.{Addr}
 use Rattle.pfs_addr.specs.Addresses.{width_of}
 use Rattle.pfs_addr.specs.Prefixes.{Network, covers}
-use Rattle.pfs_conf_rules.specs.Entries.{Entry as TextEntry}
+use Rattle.pfs_conf_rules.specs.Entries.{TextEntry}
 use Rattle.pfs_eval.specs.declared.entries.Mark.{Mark}
 
 -- an entry of a table: a prefix, and what is kept beside it
@@ -13,8 +13,8 @@ abbrev pub Entry : Type 0
 Entry = Network × Mark
 
 -- the entry that a rules text says: it was added at no moment
-abbrev pub entry_of : TextEntry → Entry
-entry_of e = (e.0, record { negated = e.1; moment = None })
+abbrev pub entry_of_text : TextEntry → Entry
+entry_of_text e = (e.0, record { negated = e.1; moment = None })
 
 -- of an entry and one that stands behind it, the one with more bits
 abbrev pub narrower : Entry → Option Entry → Entry

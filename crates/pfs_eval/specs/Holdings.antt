@@ -2,11 +2,11 @@
 use Rattle.std.specs.Prelude.{ℕ, All, List, map}
 use Rattle.pfs_addr.specs.Prefixes.{IsNetwork}
 use Rattle.pfs_eval.specs.Entries.{Entry}
-use Rattle.pfs_eval.specs.Lengths.{AreOn, AreLong, IsNoted}
+use Rattle.pfs_eval.specs.Lengths.{AreOn, AreLong, IsLengthNoted}
 use Rattle.pfs_eval.specs.declared.lengths.Lengths.{Lengths}
 
 -- what a table holds: its entries in order, and how many more fit without memory
-pub record Held : Type 0 where
+pub record HeldEntries : Type 0 where
   pub entries : List Entry
   pub spare : ℕ
 
@@ -18,10 +18,10 @@ pub record Holdings : Type 0 where
   pub limit : ℕ
 
 -- the same, from the tables one by one
-abbrev pub holdings : List Held → ℕ → Holdings
+abbrev pub holdings : List HeldEntries → ℕ → Holdings
 holdings tables limit = record {
-  entries = map (λ (t : Held). t.entries) tables;
-  room = map (λ (t : Held). t.spare) tables;
+  entries = map (λ (t : HeldEntries). t.entries) tables;
+  room = map (λ (t : HeldEntries). t.spare) tables;
   limit = limit;
 }
 
@@ -30,4 +30,4 @@ pub record AreKept (entries : List Entry) (lengths : Lengths) : Type 0 where
   pub networks : All (λ (x : Entry). IsNetwork x.0) entries
   pub long : AreLong lengths
   pub on : AreOn lengths
-  pub noted : All (λ (x : Entry). IsNoted lengths x.0) entries
+  pub noted : All (λ (x : Entry). IsLengthNoted lengths x.0) entries

@@ -25,5 +25,5 @@ pub record AreOn (l : Lengths) : Type 0 where
   pub most : (a : Addr) (n : ℕ) → n ≤ width_of a + 1 → next l a n ≤ width_of a + 1
 
 -- a prefix is noted: from each number of bits up to those that it leaves out, no more than those are next
-abbrev pub IsNoted : Lengths → Network → Type 0
-IsNoted l p = (n : ℕ) → n + p.bits ≤ width_of p.addr → next l p.addr n + p.bits ≤ width_of p.addr
+abbrev pub IsLengthNoted : Lengths → Network → Type 0
+IsLengthNoted l p = (n : ℕ) → n + p.bits ≤ width_of p.addr → next l p.addr n + p.bits ≤ width_of p.addr

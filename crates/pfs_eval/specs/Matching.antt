@@ -30,8 +30,8 @@ use Rattle.pfs_eval.specs.Tables.{table_answer}
 -- A parameter that is given has to hold of the packet; one that is not given holds of every packet. (pf.conf(5), PARAMETERS)
 
 -- a `!` in front of a test turns its answer
-abbrev pub turned : Bool → Bool → Bool
-turned negated b = if negated then not b else b
+abbrev pub turned_if : Bool → Bool → Bool
+turned_if negated b = if negated then not b else b
 
 -- `in` and `out`
 abbrev pub same_dir : Dir → Dir → Bool
@@ -46,7 +46,7 @@ dir_holds (Some wanted) d = same_dir wanted d
 -- `on em0` and `on ! em0`: the interface of the packet has the name that is written
 abbrev pub interface_holds : Option Interface → List ℕ → Bool
 interface_holds None name = true
-interface_holds (Some i) name = turned i.negated (bytes_eq i.name name)
+interface_holds (Some i) name = turned_if i.negated (bytes_eq i.name name)
 
 -- `inet` and `inet6`: the packet's addresses are IPv4, or IPv6
 abbrev pub family_holds : Option Family → Addr → Addr → Bool
@@ -55,25 +55,25 @@ family_holds (Some Inet) a b = not (is_ipv6 a) && not (is_ipv6 b)
 family_holds (Some Inet6) a b = is_ipv6 a && is_ipv6 b
 
 -- `proto`: the protocol of the packet is the one that is written
-abbrev pub same_proto : Proto → Proto → Bool
-same_proto proto.Tcp proto.Tcp = true
-same_proto proto.Udp proto.Udp = true
-same_proto (proto.Other m) (proto.Other n) = m == n
-same_proto _ _ = false
+abbrev pub is_same_proto : Proto → Proto → Bool
+is_same_proto proto.Tcp proto.Tcp = true
+is_same_proto proto.Udp proto.Udp = true
+is_same_proto (proto.Other m) (proto.Other n) = m == n
+is_same_proto _ _ = false
 
 abbrev pub proto_holds : Option Proto → Proto → Bool
 proto_holds None p = true
-proto_holds (Some wanted) p = same_proto wanted p
+proto_holds (Some wanted) p = is_same_proto wanted p
 
 -- a prefix covers the address, or with a `!` it does not; it holds of addresses of its own family alone (own)
 abbrev pub prefix_holds : Network → Bool → Addr → Bool
-prefix_holds prefix negated a = same_family prefix.addr a && turned negated (covers prefix a)
+prefix_holds prefix negated a = same_family prefix.addr a && turned_if negated (covers prefix a)
 
 -- `from` and `to`: the prefix holds of the address, or the table answers yes for it, or no where a `!` stands before it
 abbrev pub host_holds : List (List Entry) → Host TableNo → Addr → Bool
 host_holds tables host.Any a = true
 host_holds tables (host.Prefix prefix negated) a = prefix_holds prefix negated a
-host_holds tables (host.Table table negated) a = turned negated (table_answer tables table.0 a)
+host_holds tables (host.Table table negated) a = turned_if negated (table_answer tables table.0 a)
 
 -- `port`: the port is one of these
 abbrev pub ports_hold : Option Ports → ℕ → Bool

@@ -13,14 +13,14 @@ abbrev pub body_length : ℕ → List Item → ℕ
 body_length depth items = prefix_len (λ (i : Item). nat_lt depth i.depth) items
 
 -- the place behind the item at p and its body
-abbrev pub behind : List Item → ℕ → Item → ℕ
-behind items p i = p + 1 + body_length i.depth (drop (p + 1) items)
+abbrev pub place_behind : List Item → ℕ → Item → ℕ
+place_behind items p i = p + 1 + body_length i.depth (drop (p + 1) items)
 
 -- q is reached from the item i at p over items of the same body, with their bodies, that ask the same at the parameter k
 pub data IsSkip (k : Parameter) (items : List Item) : ℕ → Item → ℕ → Type 0 where
-  one : {p : ℕ} {i : Item} → IsSkip k items p i (behind items p i)
-  more : {p q : ℕ} {i j : Item} → slice_get items (behind items p i) ≡ Some j → j.depth ≡ i.depth
-      → IsSame k (filter_of i.what) (filter_of j.what) → IsSkip k items (behind items p i) j q → IsSkip k items p i q
+  one : {p : ℕ} {i : Item} → IsSkip k items p i (place_behind items p i)
+  more : {p q : ℕ} {i j : Item} → slice_get items (place_behind items p i) ≡ Some j → j.depth ≡ i.depth
+      → IsSame k (filter_of i.what) (filter_of j.what) → IsSkip k items (place_behind items p i) j q → IsSkip k items p i q
 
 -- the skip at a parameter
 abbrev pub skip_of : Skips → Parameter → ℕ

@@ -6,14 +6,14 @@ use Rattle.pfs_addr.specs.Addresses.{width_of}
 use Rattle.pfs_addr.specs.Prefixes.{network_of}
 use Rattle.pfs_conf_rules.specs.Configs.{Conf}
 use Rattle.pfs_conf_rules.specs.declared.tables.TableDef.{TableDef}
-use Rattle.pfs_eval.specs.Entries.{Entry, answer_of, entry_of, holds_host}
+use Rattle.pfs_eval.specs.Entries.{Entry, answer_of, entry_of_text, holds_host}
 use Rattle.pfs_eval.specs.declared.entries.Mark.{Mark}
 use Rattle.pfs_eval.specs.declared.tables.Added.{Added}
 use Rattle.pfs_eval.specs.declared.tables.Added.TheVariants.{New, Held, Full}
 
 -- the entries of the tables of a configuration
 abbrev pub config_entries : Conf → List (List Entry)
-config_entries conf = map (λ (t : TableDef). map entry_of t.entries) conf.tables
+config_entries conf = map (λ (t : TableDef). map entry_of_text t.entries) conf.tables
 
 -- ---- the answer of a table
 

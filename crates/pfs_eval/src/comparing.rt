@@ -2,7 +2,7 @@
 
 ghost use Rattle.std.specs.Prelude.{◌≡◌, ◌+◌, ◌-◌, ◌<◌, ◌^◌, MatchOption, false, true};
 ghost use Rattle.std.specs.Bool.{OnTrue};
-ghost use Rattle.pfs_eval.specs.Matching.{common_flags, dir_holds, family_holds, filter_holds, filter_of, flags_hold, host_holds, interface_holds, ports_hold, prefix_holds, proto_holds, same_flags, turned};
+ghost use Rattle.pfs_eval.specs.Matching.{common_flags, dir_holds, family_holds, filter_holds, filter_of, flags_hold, host_holds, interface_holds, ports_hold, prefix_holds, proto_holds, same_flags, turned_if};
 ghost use Rattle.pfs_eval.specs.Parameters.{IsSame, holds_at, same_test};
 
 use crate::tables::Tables;
@@ -222,7 +222,7 @@ fn common_flags(flags: Flags, among: Flags) -> Flags
 
 // A test's answer, turned where a `!` stands before it.
 fn turned(negated: bool, holds: bool) -> bool
-    ensures { result ≡ turned negated holds }
+    ensures { result ≡ turned_if negated holds }
 {
     holds != negated
 }

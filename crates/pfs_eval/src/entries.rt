@@ -4,7 +4,7 @@ ghost use Rattle.std.specs.Prelude.{◌≡◌, All, ◌<◌, ◌≤◌, ◌++◌
 ghost use Rattle.pfs_addr.specs.Addresses.{width_of};
 ghost use Rattle.pfs_addr.specs.Prefixes.{IsNetwork, network_of};
 ghost use Rattle.pfs_eval.specs.Holdings.{AreKept};
-ghost use Rattle.pfs_eval.specs.Entries.{Entry, answer_of, entry_of, holds_host, holds_prefix, mark_at};
+ghost use Rattle.pfs_eval.specs.Entries.{Entry, answer_of, entry_of_text, holds_host, holds_prefix, mark_at};
 ghost use Rattle.pfs_eval.specs.Tables.{is_old, old_count, young};
 
 use crate::lengths::Lengths;
@@ -33,9 +33,9 @@ pub struct Table {
 
 impl Model for Table {
     ghost use Rattle.std.specs.HashMap.{spare};
-    ghost use Rattle.pfs_eval.specs.Holdings.{AreKept, Held};
+    ghost use Rattle.pfs_eval.specs.Holdings.{AreKept, HeldEntries};
 
-    ghost Value = { Held };
+    ghost Value = { HeldEntries };
 
     ghost view = { λ e. record { entries = e.map.entries; spare = spare e.map } };
 
@@ -55,7 +55,7 @@ impl Table {
 
     /// The entries that a rules text says for a table, in their order.
     pub fn of(alloc: Global, entries: &Entries) -> Result<Table, AllocError>
-        ensures { IfOk result (λ t. t.entries ≡ map entry_of entries.now) }
+        ensures { IfOk result (λ t. t.entries ≡ map entry_of_text entries.now) }
     {
         let mut table = Table::new(alloc);
         for place in 0..entries.len() {

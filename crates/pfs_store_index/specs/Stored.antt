@@ -9,7 +9,7 @@ use Rattle.pfs_track.specs.Lifetimes.{scaled, value_for}
 use Rattle.pfs_store_plain.specs.Purging.{node_numbers, state_numbers}
 use Rattle.pfs_store_plain.specs.Worlds.{World, lists}
 use Rattle.pfs_store_plain.specs.declared.records.State.{State}
-use Rattle.pfs_store_records.specs.Walks.{end_of, has_ended}
+use Rattle.pfs_store_records.specs.Walks.{end_of, state_has_expired}
 use Rattle.pfs_store_index.specs.Holdings.{Holding}
 use Rattle.pfs_store_index.specs.Rounds.{waiting}
 
@@ -37,7 +37,7 @@ abbrev pub due_at : Conf → List ℕ → ℕ → State → ℕ
 due_at conf counts held s = end_of (seconds_of conf counts held) s
 
 abbrev pub is_due : Conf → List ℕ → ℕ → ℕ → State → Bool
-is_due conf counts held now s = has_ended (seconds_of conf counts held) now s
+is_due conf counts held now s = state_has_expired (seconds_of conf counts held) now s
 
 -- no rule but the first ones has such a pair
 abbrev pub AreUnread : Conf → ℕ → Type 0

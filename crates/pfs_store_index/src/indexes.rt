@@ -15,7 +15,7 @@ ghost use Rattle.pfs_store_plain.specs.Touching.{completes_at, nodes_touched, re
 ghost use Rattle.pfs_store_plain.specs.Worlds.{IsUpToNow, holds_number, lists, state_with};
 ghost use Rattle.pfs_store_records.specs.Records.{IsAbove, IsRising, placed_at};
 ghost use Rattle.pfs_store_records.specs.Sourced.{IsSourced};
-ghost use Rattle.pfs_store_records.specs.Walks.{IsWalk, StayUntil, end_of, has_ended, looks_of};
+ghost use Rattle.pfs_store_records.specs.Walks.{IsWalk, StayUntil, end_of, state_has_expired, looks_of};
 ghost use Rattle.pfs_store_index.specs.Holdings.{IsUncompleted};
 ghost use Rattle.pfs_store_index.specs.Rounds.{waiting, waiting_of};
 ghost use Rattle.pfs_store_index.specs.Stored.{IsNumbered};
@@ -236,7 +236,7 @@ impl<S: BuildHasher> Indexes<S> {
     ) -> Walk
         requires range { round.cursor ≤ round.mark }
         requires room { meter.old + share < 2 ^ 64 }
-        ensures walk { IsWalk (has_ended (T.lifetime lifetimes.now) now) self.now.states round.cursor round.mark share
+        ensures walk { IsWalk (state_has_expired (T.lifetime lifetimes.now) now) self.now.states round.cursor round.mark share
             result.stayed result.last result.leaver }
         ensures until { StayUntil (end_of (T.lifetime lifetimes.now)) self.now.states round.cursor result.last result.until }
         ensures small { IfSome result.leaver (λ s. s.number < 2 ^ 32) }

@@ -15,7 +15,7 @@ use Rattle.pfs_addr.specs.declared.addresses.Addr.{Addr}
 use Rattle.pfs_store_plain.specs.Counts.{same_scope, scope_nodes}
 use Rattle.pfs_store_plain.specs.Purging.{node_numbers}
 use Rattle.pfs_store_plain.specs.declared.records.NodeScope.{NodeScope}
-use Rattle.pfs_store_records.specs.Keeping.{IsKept, IsNoted, IsPlaced, SameCounts, held, number_of_node, one_if, place_of_node, same_place}
+use Rattle.pfs_store_records.specs.Keeping.{AreInPlace, IsNoted, IsPlaced, SameCounts, held, number_of_node, one_if, place_of_node, same_place}
 use Rattle.pfs_store_records.specs.Records.{IsAbove, IsRising}
 use Rattle.pfs_store_records.specs.Tallies.{IsOrderly, IsTallied, count_of, has_node_number, is_tally, nodes_of, put_tally, same_node}
 use Rattle.pfs_store_records.specs.declared.nodes.Tally.{Tally}
@@ -106,7 +106,7 @@ distinct-held T (e ∷ es) o (h, hs) =
     (apart T h.0 e.0 es (ap T h.3 ∙ h.1) h.2 (sorted_head nat_cmp e.0 (keys_of es) o) hs)
     (distinct-held T es (sorted_tail nat_cmp e.0 (keys_of es) o) hs))
 
-pub orderly : (T : NodeScope × Addr → Option Tally) (es : List (ℕ × (NodeScope × Addr))) → IsKept number_of_node place_of_node T es → IsOrderly (held T es)
+pub orderly : (T : NodeScope × Addr → Option Tally) (es : List (ℕ × (NodeScope × Addr))) → AreInPlace number_of_node place_of_node T es → IsOrderly (held T es)
 orderly T es k = record {
   rising = rw (numbers-nodes (held T es)) (rising-held number_of_node place_of_node T es k);
   distinct = distinct-held T es k.ordered k.placed;
@@ -207,7 +207,7 @@ noted-pushed T U t es fs rules rules' global global' n u a e o g c k = record {
     last : insert_entry nat_cmp es t.node.number (place_of_node t) ≡ es ++ (t.node.number, place_of_node t) ∷ []
     last = insert-last t.node.number (place_of_node t) es below
 
-    kept : IsKept number_of_node place_of_node U fs
+    kept : AreInPlace number_of_node place_of_node U fs
     kept = kept-pushed number_of_node place_of_node T U (place_of_node t) t es fs n u k.kept above refl e o
 
     elsewhere : (p : NodeScope × Addr) (v : Tally) → lookup (is_at (nat_cmp v.node.number)) es ≡ Some p → (b : Bool) → is_at (nat_cmp t.node.number) v.node.number ≡ b → lookup (is_at (nat_cmp v.node.number)) fs ≡ Some p
@@ -240,7 +240,7 @@ noted-removed T U n place es fs rules rules' global global' l u e o g c k = reco
   counted = counted;
 }
   where
-    kept : IsKept number_of_node place_of_node U fs
+    kept : AreInPlace number_of_node place_of_node U fs
     kept = kept-removed number_of_node place_of_node T U place n es fs l u k.kept e o
 
     counted : (s : NodeScope) → count_of rules' global' s ≡ scope_nodes s (nodes_of (held U fs))
@@ -276,7 +276,7 @@ noted-written T U t es rules global l u k = record {
   counted = λ s. k.counted s ∙ nodes-in-order s T es k.kept.placed ∙ sym (nodes-in-order s U es kept.placed);
 }
   where
-    kept : IsKept number_of_node place_of_node U es
+    kept : AreInPlace number_of_node place_of_node U es
     kept = kept-written number_of_node place_of_node T U (place_of_node t) t.node.number t es refl refl l u k.kept
 
     is_found : (p : NodeScope × Addr) (v : Tally) → U p ≡ Some v → (b : Bool) → same_place (place_of_node t) p ≡ b → lookup (is_at (nat_cmp v.node.number)) es ≡ Some p
@@ -298,7 +298,7 @@ tallied_true t v h = go (is_tally t.node.scope t.node.source v) refl
         (grind (arith, nat_tests), tally_true t.node.scope t.node.source v s)
     go false s = let h' : false ≡ true = (rw s at h) in absurd (cc h')
 
-pub at_tally : (T : NodeScope × Addr → Option Tally) (t : Tally) (es : List (ℕ × (NodeScope × Addr))) → IsKept number_of_node place_of_node T es → IsTallied t (held T es) → lookup (is_at (nat_cmp t.node.number)) es ≡ Some (place_of_node t)
+pub at_tally : (T : NodeScope × Addr → Option Tally) (t : Tally) (es : List (ℕ × (NodeScope × Addr))) → AreInPlace number_of_node place_of_node T es → IsTallied t (held T es) → lookup (is_at (nat_cmp t.node.number)) es ≡ Some (place_of_node t)
 at_tally T t es k a =
     look-placed number_of_node place_of_node (λ (v : Tally). is_tally t.node.scope t.node.source v && has_node_number t.node.number v) T t.node.number (place_of_node t) es (tallied_true t) k.ordered k.placed a
 
@@ -313,7 +313,7 @@ put-here T t r v h =
     rw y refl
 
 pub view-tally : (T U : NodeScope × Addr → Option Tally) (t : Tally) (es : List (ℕ × (NodeScope × Addr))) → lookup (is_at (nat_cmp t.node.number)) es ≡ Some (place_of_node t) → IsUpdated T U (place_of_node t) (Some t)
-    → IsKept number_of_node place_of_node T es → held U es ≡ map (put_tally t) (held T es)
+    → AreInPlace number_of_node place_of_node T es → held U es ≡ map (put_tally t) (held T es)
 view-tally T U t es l u k =
     let f = found number_of_node place_of_node T t.node.number (place_of_node t) es k.placed l in
     view-written number_of_node place_of_node (put_tally t) T U (place_of_node t) t.node.number t es (put-elsewhere t) (put-here T t f) l u k

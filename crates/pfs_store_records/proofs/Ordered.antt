@@ -11,7 +11,7 @@ use Rattle.std.specs.declared.ops.Bound.TheVariants.{Included, Excluded}
 use Rattle.std.proofs.lemmas.List.Elements.{filter_map-append}
 use Rattle.std.proofs.lemmas.Bool.Decides.{nat_tests}
 use Rattle.std.proofs.lemmas.Map.Keys.{sorted_head, sorted_tail}
-use Rattle.pfs_store_records.specs.Keeping.{held, IsPlaced, IsKept}
+use Rattle.pfs_store_records.specs.Keeping.{held, IsPlaced, AreInPlace}
 use Rattle.pfs_store_records.specs.Records.{between}
 
 -- ---- keys
@@ -192,7 +192,7 @@ module _ {P V : Type 0} (num : V → ℕ) (pl : V → P) where
   length-held T [] h = refl
   length-held T (e ∷ es) (h, hs) = rw h.1 (ap suc (length-held T es hs))
 
-  pub rising-held : (T : P → Option V) (es : List (ℕ × P)) → IsKept num pl T es → IsStrictlySortedBy nat_cmp (map num (held T es))
+  pub rising-held : (T : P → Option V) (es : List (ℕ × P)) → AreInPlace num pl T es → IsStrictlySortedBy nat_cmp (map num (held T es))
   rising-held T es k = rw (numbers-held T es k.placed) k.ordered
 
   -- ---- a change at a place that no entry of these has
@@ -216,7 +216,7 @@ module _ {P V : Type 0} (num : V → ℕ) (pl : V → P) where
   pub held-all : (T U : P → Option V) (es : List (ℕ × P)) → ((q : P) → U q ≡ T q) → held U es ≡ held T es
   held-all T U es h = held-same T U es (same-all T U es h)
 
-  pub kept-all : (T U : P → Option V) (es : List (ℕ × P)) → ((q : P) → U q ≡ T q) → IsKept num pl T es → IsKept num pl U es
+  pub kept-all : (T U : P → Option V) (es : List (ℕ × P)) → ((q : P) → U q ≡ T q) → AreInPlace num pl T es → AreInPlace num pl U es
   kept-all T U es h k = record { placed = placed-same T U es (same-all T U es h) k.placed; ordered = k.ordered }
 
   -- a vacant place is none of theirs
@@ -267,15 +267,15 @@ module _ {P V : Type 0} (num : V → ℕ) (pl : V → P) where
           let y : (num h.0 == n) ≡ false = grind (arith, nat_tests, d, h.2) in
           rw (t, h.1, y) (ap (λ xs. h.0 ∷ xs) more)
 
-  pub same-removed : (T U : P → Option V) (p : P) (n : ℕ) (es : List (ℕ × P)) → IsPlaced num pl T (n, p) → IsUpdated T U p None → IsKept num pl T es → AllByRecursion (IsSame T U) (remove_entry (is_at (nat_cmp n)) es)
+  pub same-removed : (T U : P → Option V) (p : P) (n : ℕ) (es : List (ℕ × P)) → IsPlaced num pl T (n, p) → IsUpdated T U p None → AreInPlace num pl T es → AllByRecursion (IsSame T U) (remove_entry (is_at (nat_cmp n)) es)
   same-removed T U p n es r u k = same-other T U p n None _ r u (others-removed n es k.ordered) (placed-removed _ T es k.placed)
 
-  pub held-removed : (T U : P → Option V) (p : P) (n : ℕ) (es fs : List (ℕ × P)) → lookup (is_at (nat_cmp n)) es ≡ Some p → IsUpdated T U p None → IsKept num pl T es
+  pub held-removed : (T U : P → Option V) (p : P) (n : ℕ) (es fs : List (ℕ × P)) → lookup (is_at (nat_cmp n)) es ≡ Some p → IsUpdated T U p None → AreInPlace num pl T es
       → fs ≡ remove_entry (is_at (nat_cmp n)) es → held U fs ≡ filter (is_other n) (held T es)
   held-removed T U p n es fs l u k e = rw e (held-same T U _ (same-removed T U p n es (found T n p es k.placed l) u k) ∙ filter-removed n T es k.ordered k.placed)
 
-  pub kept-removed : (T U : P → Option V) (p : P) (n : ℕ) (es fs : List (ℕ × P)) → lookup (is_at (nat_cmp n)) es ≡ Some p → IsUpdated T U p None → IsKept num pl T es
-      → fs ≡ remove_entry (is_at (nat_cmp n)) es → IsStrictlySortedBy nat_cmp (keys_of fs) → IsKept num pl U fs
+  pub kept-removed : (T U : P → Option V) (p : P) (n : ℕ) (es fs : List (ℕ × P)) → lookup (is_at (nat_cmp n)) es ≡ Some p → IsUpdated T U p None → AreInPlace num pl T es
+      → fs ≡ remove_entry (is_at (nat_cmp n)) es → IsStrictlySortedBy nat_cmp (keys_of fs) → AreInPlace num pl U fs
   kept-removed T U p n es fs l u k e o = record {
     placed = rw e (placed-same T U _ (same-removed T U p n es (found T n p es k.placed l) u k) (placed-removed _ T es k.placed));
     ordered = o;
@@ -337,10 +337,10 @@ module _ {P V : Type 0} (num : V → ℕ) (pl : V → P) where
 
   pub view-written : (f : V → V) (T U : P → Option V) (p : P) (n : ℕ) (w : V) (es : List (ℕ × P))
       → ((v : V) → (num v == n) ≡ false → f v ≡ v) → ((v : V) → T p ≡ Some v → f v ≡ w)
-      → lookup (is_at (nat_cmp n)) es ≡ Some p → IsUpdated T U p (Some w) → IsKept num pl T es → held U es ≡ map f (held T es)
+      → lookup (is_at (nat_cmp n)) es ≡ Some p → IsUpdated T U p (Some w) → AreInPlace num pl T es → held U es ≡ map f (held T es)
   view-written f T U p n w es s m l u k = held-written f T U p n w es s m l (found T n p es k.placed l) u k.ordered k.placed
 
-  pub kept-written : (T U : P → Option V) (p : P) (n : ℕ) (w : V) (es : List (ℕ × P)) → num w ≡ n → pl w ≡ p → lookup (is_at (nat_cmp n)) es ≡ Some p → IsUpdated T U p (Some w) → IsKept num pl T es → IsKept num pl U es
+  pub kept-written : (T U : P → Option V) (p : P) (n : ℕ) (w : V) (es : List (ℕ × P)) → num w ≡ n → pl w ≡ p → lookup (is_at (nat_cmp n)) es ≡ Some p → IsUpdated T U p (Some w) → AreInPlace num pl T es → AreInPlace num pl U es
   kept-written T U p n w es a b l u k = record { placed = placed-written T U p n w es a b l (found T n p es k.placed l) u k.ordered k.placed; ordered = k.ordered }
 
   -- ---- a value at the end
@@ -352,13 +352,13 @@ module _ {P V : Type 0} (num : V → ℕ) (pl : V → P) where
   placed-push T e [] h p = (p, tt)
   placed-push T e (f ∷ es) (h, hs) p = (h, placed-push T e es hs p)
 
-  pub held-pushed : (T U : P → Option V) (p : P) (v : V) (es fs : List (ℕ × P)) → T p ≡ None → IsUpdated T U p (Some v) → IsKept num pl T es → AllByRecursion (λ k. k < num v) (map num (held T es)) → fs ≡ insert_entry nat_cmp es (num v) p
+  pub held-pushed : (T U : P → Option V) (p : P) (v : V) (es fs : List (ℕ × P)) → T p ≡ None → IsUpdated T U p (Some v) → AreInPlace num pl T es → AllByRecursion (λ k. k < num v) (map num (held T es)) → fs ≡ insert_entry nat_cmp es (num v) p
       → held U fs ≡ held T es ++ v ∷ []
   held-pushed T U p v es fs n u k a e =
       rw (e, insert-last (num v) p es (below-keys (num v) T es k.placed a), filter_map-append, u.changed, held-same T U es (same-vacant T U p (Some v) es n u k.placed)) refl
 
-  pub kept-pushed : (T U : P → Option V) (p : P) (v : V) (es fs : List (ℕ × P)) → T p ≡ None → IsUpdated T U p (Some v) → IsKept num pl T es → AllByRecursion (λ k. k < num v) (map num (held T es)) → pl v ≡ p → fs ≡ insert_entry nat_cmp es (num v) p
-      → IsStrictlySortedBy nat_cmp (keys_of fs) → IsKept num pl U fs
+  pub kept-pushed : (T U : P → Option V) (p : P) (v : V) (es fs : List (ℕ × P)) → T p ≡ None → IsUpdated T U p (Some v) → AreInPlace num pl T es → AllByRecursion (λ k. k < num v) (map num (held T es)) → pl v ≡ p → fs ≡ insert_entry nat_cmp es (num v) p
+      → IsStrictlySortedBy nat_cmp (keys_of fs) → AreInPlace num pl U fs
   kept-pushed T U p v es fs n u k a b e o = record {
     placed = rw (e, insert-last (num v) p es (below-keys (num v) T es k.placed a)) (placed-push U (num v, p) es (placed-same T U es (same-vacant T U p (Some v) es n u k.placed) k.placed) (v, u.changed, refl, b));
     ordered = o;

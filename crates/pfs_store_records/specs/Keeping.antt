@@ -26,7 +26,7 @@ module _ {P V : Type 0} (number : V → ℕ) (place : V → P) where
   IsPlaced at e = (v : V) × (at e.1 ≡ Some v) × (number v ≡ e.0) × (place v ≡ e.1)
 
   -- each entry has its value, and their numbers rise
-  pub record IsKept (at : P → Option V) (es : List (ℕ × P)) : Type 0 where
+  pub record AreInPlace (at : P → Option V) (es : List (ℕ × P)) : Type 0 where
     pub placed : AllByRecursion (IsPlaced at) es
     pub ordered : IsStrictlySortedBy nat_cmp (keys_of es)
 
@@ -35,8 +35,8 @@ module _ {P V : Type 0} (number : V → ℕ) (place : V → P) where
 abbrev pub number_in : Placed → ℕ
 number_in p = p.state.number
 
-abbrev pub place_in : Placed → ℕ
-place_in p = p.place
+abbrev pub place_of_record : Placed → ℕ
+place_of_record p = p.place
 
 abbrev pub record_in : Slab State → ℕ → Option Placed
 record_in slab place = option_map (placed_at place) (get slab place)
@@ -56,7 +56,7 @@ same_place a b = same_scope a.0 b.0 && same_addr a.1 b.1
 
 -- the nodes are kept, each node that is found stands in the order, and the counts are those of the scopes
 pub record IsNoted (at : NodeScope × Addr → Option Tally) (es : List (ℕ × (NodeScope × Addr))) (rules : List ℕ) (global : ℕ) : Type 0 where
-  pub kept : IsKept number_of_node place_of_node at es
+  pub kept : AreInPlace number_of_node place_of_node at es
   pub found : (place : NodeScope × Addr) (t : Tally) → at place ≡ Some t → lookup (is_at (nat_cmp t.node.number)) es ≡ Some place
   pub counted : (scope : NodeScope) → count_of rules global scope ≡ scope_nodes scope (nodes_of (held at es))
 

@@ -15,8 +15,8 @@ use Rattle.pfs_store_records.specs.Records.{between}
 abbrev pub end_of : (RuleNo → TimeoutName → ℕ) → State → ℕ
 end_of lifetime s = s.last + lifetime s.rule (slot s.phase)
 
-abbrev pub has_ended : (RuleNo → TimeoutName → ℕ) → ℕ → State → Bool
-has_ended lifetime now s = is_expired (lifetime s.rule (slot s.phase)) s.last now
+abbrev pub state_has_expired : (RuleNo → TimeoutName → ℕ) → ℕ → State → Bool
+state_has_expired lifetime now s = is_expired (lifetime s.rule (slot s.phase)) s.last now
 
 -- the walk stopped at this state before its share was used up: it is that of the next number, and passes
 pub record IsNext (test : State → Bool) (states : List State) (last most stayed share : ℕ) (s : State) : Type 0 where

@@ -7,9 +7,9 @@ ghost use Rattle.pfs_store_plain.specs.Calls.{other_than};
 ghost use Rattle.pfs_store_plain.specs.Purging.{state_numbers};
 ghost use Rattle.pfs_store_plain.specs.Quiet.{turned};
 ghost use Rattle.pfs_store_plain.specs.Worlds.{holds_number};
-ghost use Rattle.pfs_store_records.specs.Keeping.{IsKept, held, number_in, place_in, record_in};
+ghost use Rattle.pfs_store_records.specs.Keeping.{AreInPlace, held, number_in, place_of_record, record_in};
 ghost use Rattle.pfs_store_records.specs.Sourced.{IsSourced};
-ghost use Rattle.pfs_store_records.specs.Walks.{IsWalk, StayUntil, end_of, has_ended, looks_of};
+ghost use Rattle.pfs_store_records.specs.Walks.{IsWalk, StayUntil, end_of, state_has_expired, looks_of};
 ghost use Rattle.pfs_store_records.specs.Records.{IsAbove, IsRecordAt, IsRising, between, is_placed, leaves_number, placed_at, put, put_state, stands_at, states_of};
 
 use crate::kept::Kept;
@@ -35,13 +35,13 @@ pub struct Records {
 impl Model for Records {
     ghost use Rattle.std.specs.Prelude.{List};
     ghost use Rattle.pfs_store_records.specs.Records.{Placed};
-    ghost use Rattle.pfs_store_records.specs.Keeping.{IsKept, held, number_in, place_in, record_in};
+    ghost use Rattle.pfs_store_records.specs.Keeping.{AreInPlace, held, number_in, place_of_record, record_in};
 
     ghost Value = { List Placed };
 
     ghost view = { λ r. held (record_in r.slab) r.places.entries };
 
-    ghost invariant = { λ r. IsKept number_in place_in (record_in r.slab) r.places.entries };
+    ghost invariant = { λ r. AreInPlace number_in place_of_record (record_in r.slab) r.places.entries };
 }
 
 impl Records {
@@ -117,7 +117,7 @@ impl Records {
     ) -> Walk
         requires range { round.cursor ≤ round.mark }
         requires room { meter.old + share < 2 ^ 64 }
-        ensures walk { IsWalk (has_ended (T.lifetime lifetimes.now) now) (states_of self.now) round.cursor round.mark share
+        ensures walk { IsWalk (state_has_expired (T.lifetime lifetimes.now) now) (states_of self.now) round.cursor round.mark share
             result.stayed result.last result.leaver }
         ensures until { StayUntil (end_of (T.lifetime lifetimes.now)) (states_of self.now) round.cursor result.last result.until }
         ensures small { IfSome result.leaver (λ s. s.number < 2 ^ 32) }
@@ -217,10 +217,10 @@ fn walk_range<T: Lifetimes>(
     lifetimes: &T,
     meter: &mut Meter,
 ) -> Walk
-    requires kept { IsKept number_in place_in (record_in slab.now) places.now.entries }
+    requires kept { AreInPlace number_in place_of_record (record_in slab.now) places.now.entries }
     requires range { round.cursor ≤ round.mark }
     requires room { meter.old + share < 2 ^ 64 }
-    ensures walk { IsWalk (has_ended (T.lifetime lifetimes.now) now) (states_of (held (record_in slab.now) places.now.entries)) round.cursor round.mark share
+    ensures walk { IsWalk (state_has_expired (T.lifetime lifetimes.now) now) (states_of (held (record_in slab.now) places.now.entries)) round.cursor round.mark share
         result.stayed result.last result.leaver }
     ensures until { StayUntil (end_of (T.lifetime lifetimes.now)) (states_of (held (record_in slab.now) places.now.entries)) round.cursor result.last result.until }
     ensures small { IfSome result.leaver (λ s. s.number < 2 ^ 32) }

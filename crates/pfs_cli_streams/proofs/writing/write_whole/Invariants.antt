@@ -1,13 +1,13 @@
 -- Invariant of write_whole: the bytes up to the place are written in order, and no write has failed.
 use Rattle.std.proofs.Common.{◌≡◌, ◌≤◌, ◌-◌, take, length}
 use Rattle.std.specs.Io.KnownBytes.{Appends}
-use Rattle.pfs_cli_streams.specs.Sinks.{held, write_failures}
+use Rattle.pfs_cli_streams.specs.Sinks.{bytes_held, write_failures}
 use Rattle.pfs_cli_streams.proofs.writing.write_whole.Given as goal
 
 abbrev pub invariant-loop-at : goal.invariant-loop-at
 invariant-loop-at g l =
     (l.at ≤ length l.bytes)
-    × Appends (held g.W.Write.contents l.initial.out) (held g.W.Write.contents l.out) (take l.at l.bytes)
+    × Appends (bytes_held g.W.Write.contents l.initial.out) (bytes_held g.W.Write.contents l.out) (take l.at l.bytes)
     × (write_failures l.out ≡ write_failures l.initial.out)
 
 abbrev pub decreases-loop-at : goal.decreases-loop-at

@@ -3,7 +3,7 @@ use Rattle.std.proofs.Common.{sym, ◌∙◌, Err, subst, Result, List}
 use Rattle.pfs_conf_tokens.specs.Tokens.{Tok}
 use Rattle.pfs_conf_tokens.specs.Reading.{closes_braces, next_of, Refused}
 use Rattle.pfs_conf_tokens.proofs.Laws.{until_goes_on, until_stops}
-use Rattle.pfs_conf_rules.specs.Entries.{Entry}
+use Rattle.pfs_conf_rules.specs.Entries.{TextEntry}
 use Rattle.pfs_conf_settings.specs.Extending.{Extends}
 use Rattle.pfs_conf_settings.specs.Tables.{lined_entry_at}
 use Rattle.pfs_conf_settings.proofs.Stopping.{extends_fails}
@@ -21,7 +21,7 @@ loop-cursor-smaller c = (next_entry_shrinks c.loop-cursor.entries).less c.loop-c
 
 pub returns-in-Err : goal.returns-in-Err
 returns-in-Err c =
-    subst (λ (r : Result (List Entry × List Tok) Refused). Extends (Err c.in-Err.error) c.next_entry.new.cursor c.next_entry.new.entries r) c.loop-cursor.invariant
+    subst (λ (r : Result (List TextEntry × List Tok) Refused). Extends (Err c.in-Err.error) c.next_entry.new.cursor c.next_entry.new.entries r) c.loop-cursor.invariant
     (extends_fails closes_braces (next_of lined_entry_at) c.loop-cursor.entries c.loop-cursor.cursor c.next_entry.new.cursor c.next_entry.new.entries c.in-Err.error
     (sym c.is_at_close_brace.ensures ∙ c.loop-cursor-test.true) c.in-Err.ensures)
 

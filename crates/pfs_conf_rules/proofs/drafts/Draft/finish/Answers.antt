@@ -2,7 +2,7 @@
 use Rattle.std.proofs.Common.{◌∙◌, ap, min}
 use Rattle.pfs_conf_rules.specs.Configs.{entries_in}
 use Rattle.pfs_conf_rules.specs.Drafts.{Drafted, const_overload, has_broken_pair, has_too_many_entries, has_too_many_tables}
-use Rattle.pfs_conf_rules.proofs.FinishLaws.{IsCounted-finished}
+use Rattle.pfs_conf_rules.proofs.FinishLaws.{IsConfigCounted-finished}
 use Rattle.pfs_conf_rules.proofs.drafts.Draft.finish.Goals as goal
 
 pub of_parts-requires : goal.of_parts-requires
@@ -16,7 +16,7 @@ of_parts-requires c =
       items = c.self.inside.items.items;
     } in
     rw (c.resolved-timeouts.ensures, tables)
-    (IsCounted-finished draft c.count_entries-entries.result c.self.invariant c.into_tables-tables.ensures.each c.into_tables-tables.ensures.names
+    (IsConfigCounted-finished draft c.count_entries-entries.result c.self.invariant c.into_tables-tables.ensures.each c.into_tables-tables.ensures.names
     (ap has_broken_pair c.self.view_is ∙ c.requires.pair)
     (ap const_overload c.self.view_is ∙ c.requires.overloads)
     (ap has_too_many_tables c.self.view_is ∙ c.requires.tables)

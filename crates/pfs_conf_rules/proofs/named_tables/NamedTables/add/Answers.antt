@@ -1,12 +1,12 @@
 -- Answer of NamedTables::add: with one more table at the end names and tables still agree.
 use Rattle.std.proofs.Common.{◌∙◌, [], ◌∷◌, ◌++◌, ℕ, List, false, ap}
-use Rattle.pfs_conf_rules.specs.Entries.{Entry}
+use Rattle.pfs_conf_rules.specs.Entries.{TextEntry}
 use Rattle.pfs_conf_rules.specs.Namings.{Named, is_named}
 use Rattle.pfs_conf_rules.specs.declared.tables.TableDef.{TableDef}
 use Rattle.pfs_conf_rules.proofs.NamingLaws.{IsNaming-push}
 use Rattle.pfs_conf_rules.proofs.named_tables.NamedTables.add.Goals as goal
 
-named : List ℕ → List Entry → TableDef
+named : List ℕ → List TextEntry → TableDef
 named name entries = record { name = name; is_const = false; entries = entries }
 
 pub invariant_of-self-2 : goal.invariant_of-self-2

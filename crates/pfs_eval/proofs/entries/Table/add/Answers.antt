@@ -2,13 +2,13 @@
 use Rattle.std.proofs.Common.{◌++◌, ◌-◌, [], ◌∷◌, ap, ◌∙◌, rules}
 use Rattle.pfs_addr.specs.Prefixes.{network_of}
 use Rattle.pfs_eval.specs.Entries.{holds_prefix}
-use Rattle.pfs_eval.specs.Holdings.{Held}
+use Rattle.pfs_eval.specs.Holdings.{HeldEntries}
 use Rattle.pfs_eval.proofs.Narrowest.{inserted-last, kept-added}
 use Rattle.pfs_eval.proofs.entries.Table.add.Goals as goal
 
 pub returns-clause-ok : goal.returns-clause-ok
 returns-clause-ok c =
-    let view = ap (λ (s : Held). s.entries) c.self.view_is in
+    let view = ap (λ (s : HeldEntries). s.entries) c.self.view_is in
     c.in_ok-insert.ensures.entries
     ∙ inserted-last _ c.prefix.result c.args.addr c.args.bits c.args.mark _ c.prefix.ensures.value c.prefix.ensures.addr c.self.invariant.networks (record { same = λ q h. search rules; self = search rules })
     (ap (λ es. holds_prefix es c.args.addr c.args.bits) view ∙ c.requires.absent)
@@ -16,7 +16,7 @@ returns-clause-ok c =
 
 pub invariant_of-self-2 : goal.invariant_of-self-2
 invariant_of-self-2 c =
-    let view = ap (λ (s : Held). s.entries) c.self.view_is in
+    let view = ap (λ (s : HeldEntries). s.entries) c.self.view_is in
     let is =
     c.in_ok-insert.ensures.entries
     ∙ inserted-last _ c.prefix.result c.args.addr c.args.bits c.args.mark _ c.prefix.ensures.value c.prefix.ensures.addr c.self.invariant.networks (record { same = λ q h. search rules; self = search rules })

@@ -2,7 +2,7 @@
 use Rattle.std.proofs.Common.{◌∙◌, ap, arith, not, rules, subst, sym, List}
 use Rattle.indexmap.proofs.CallerLemmas.{filter-RetainsPairs}
 use Rattle.pfs_eval.specs.Entries.{Entry}
-use Rattle.pfs_eval.specs.Holdings.{AreKept, Held}
+use Rattle.pfs_eval.specs.Holdings.{AreKept, HeldEntries}
 use Rattle.pfs_eval.specs.Tables.{is_old, old_count, young}
 use Rattle.pfs_eval.proofs.Expiring.{kept-filtered, left-of}
 use Rattle.pfs_eval.proofs.entries.Table.expire.Goals as goal
@@ -18,11 +18,11 @@ returns-clause-answer c =
     let test = λ (e : Entry). not (is_old c.args.first c.args.now c.args.seconds e.1) in
     let kept = filter-RetainsPairs _ test _ (λ k v b w g call. search rules) _ _ c.retain.ensures.filtered in
     let fewer = left-of c.args.first c.args.now c.args.seconds c.self.inside.map.entries c.retain.new.self.entries kept in
-    let view = ap (λ (h : Held). old_count c.args.first c.args.now c.args.seconds h.entries) c.self.view_is in
+    let view = ap (λ (h : HeldEntries). old_count c.args.first c.args.now c.args.seconds h.entries) c.self.view_is in
     omega (arith, fewer, view, c.len-before.ensures.len, c.len.ensures.len)
 
 pub returns-clause-entries : goal.returns-clause-entries
 returns-clause-entries c =
     let test = λ (e : Entry). not (is_old c.args.first c.args.now c.args.seconds e.1) in
     let kept = filter-RetainsPairs _ test _ (λ k v b w g call. search rules) _ _ c.retain.ensures.filtered in
-    kept ∙ ap (λ (h : Held). young c.args.first c.args.now c.args.seconds h.entries) c.self.view_is
+    kept ∙ ap (λ (h : HeldEntries). young c.args.first c.args.now c.args.seconds h.entries) c.self.view_is
