@@ -116,11 +116,6 @@ rules-refused kept text ts fault.Write k told = absurd told
 rules-refused kept text ts fault.Memory k told = inl refl
 rules-refused kept text ts fault.Endless k told = absurd told
 
--- a fault that is handed on as it is
-pub handed-on : (rs ts t : List ℕ) (f : ReplayFault) (r : Result Unit ReplayFault) → IsErrAnd r (λ e. e ≡ f) → Replays rs ts t (Err f) → Replays rs ts t r
-handed-on rs ts t f (Ok u) is told = absurd is
-handed-on rs ts t f (Err e) is told = rw is told
-
 -- and the fault is one that the text may have
 pub rules-told : (kept text : List ℕ) (e : ReplayFault) (f : LoadFault) (r : Result Unit ReplayFault) → KeepsEnough kept text → RefusesRules kept e
     → IsErrAnd r (λ x. x ≡ e) → r ≡ Err (fault.Rules f) → AreRefused text f

@@ -23,7 +23,7 @@ use std::io::{BufReader, Read, Write};
 const KEPT_LIMIT: usize = RULES_LIMIT + 3;
 
 /// Where in a line a reader stands.
-#[derive(Clone, Copy, Debug, PartialEq, Eq)]
+#[derive(Clone, Copy)]
 enum Place {
     /// At its start.
     Start,
@@ -72,7 +72,7 @@ impl Place {
 }
 
 /// Why the rules of a joined text were not read.
-#[derive(Clone, Copy, Debug, PartialEq, Eq)]
+#[derive(Clone, Copy)]
 enum JoinStop {
     /// The reader gave no more.
     Source,
@@ -176,7 +176,10 @@ pub fn replay_joined<R: Read, W: Write>(
             return Err(feed_fault(input));
         }
     };
-    let config = load_config(alloc, text)?;
+    let config = match load_config(alloc, text) {
+        Ok(config) => config,
+        Err(fault) => return Err(fault),
+    };
     let outcome = write_report(alloc, config, reader, out);
     finish(outcome, input, out)
 }

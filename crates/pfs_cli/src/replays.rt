@@ -149,8 +149,14 @@ pub fn replay<R: Read, T: Read, W: Write>(
     ensures endless { result ≡ Err ReplayFault.Endless → IsSpent rules.new ⊎ IsSpent trace.new }
     ensures write { result ≡ Err ReplayFault.Write → 0 < write_failures out.new }
 {
-    let text = read_text(alloc, rules)?;
-    let config = load_config(alloc, text)?;
+    let text = match read_text(alloc, rules) {
+        Ok(text) => text,
+        Err(fault) => return Err(fault),
+    };
+    let config = match load_config(alloc, text) {
+        Ok(config) => config,
+        Err(fault) => return Err(fault),
+    };
     let outcome = write_report(alloc, config, &mut *trace, out);
     finish(outcome, trace, out)
 }

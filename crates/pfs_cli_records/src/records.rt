@@ -44,10 +44,10 @@ fn send<W: Write>(line: &[u8], out: &mut Sink<W>) -> Result<(), Stop>
     ensures writes { (t : List ℕ) × Appends (bytes_held W.contents out.old) (bytes_held W.contents out.new) t × WritesLine line.now t result }
     ensures fails { result ≡ Err (Stop.Write) → 0 < failures_of out.new }
 {
-    if write_whole(out, line).is_err() {
-        return Err(Stop::Write);
+    match write_whole(out, line) {
+        Ok(()) => Ok(()),
+        Err(_) => Err(Stop::Write),
     }
-    Ok(())
 }
 
 // Writes the line of one outcome. `line` is room that is used again.
@@ -61,10 +61,10 @@ fn write_row<W: Write>(
     ensures fails { result ≡ Err (Stop.Write) → 0 < failures_of out.new }
 {
     line.clear();
-    if push_row(line, row, outcome).is_err() {
-        return Err(Stop::Memory);
+    match push_row(line, row, outcome) {
+        Ok(()) => send(line.as_slice(), out),
+        Err(_) => Err(Stop::Memory),
     }
-    send(line.as_slice(), out)
 }
 
 // The last line, with what is held.
@@ -86,10 +86,10 @@ fn write_end<W: Write>(end: EndLine, room: &mut Vec<u8>, out: &mut Sink<W>) -> R
     ensures fails { result ≡ Err (Stop.Write) → 0 < failures_of out.new }
 {
     room.clear();
-    if push_end(room, &end).is_err() {
-        return Err(Stop::Memory);
+    match push_end(room, &end) {
+        Ok(()) => send(room.as_slice(), out),
+        Err(_) => Err(Stop::Memory),
     }
-    send(room.as_slice(), out)
 }
 
 // Lets the engine take one event, and writes its line.
@@ -110,10 +110,10 @@ fn take_event<W: Write>(
         × TakesEvent engine.old.config row engine.old.machine event.now t result engine.new.machine }
     ensures fails { result ≡ Err (Stop.Write) → 0 < failures_of out.new }
 {
-    let Ok(outcome) = take(engine, event) else {
-        return Err(Stop::Memory);
-    };
-    write_row(row, &outcome, line, out)
+    match take(engine, event) {
+        Ok(outcome) => write_row(row, &outcome, line, out),
+        Err(_) => Err(Stop::Memory),
+    }
 }
 
 // The turn of one record.

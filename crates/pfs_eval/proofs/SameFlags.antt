@@ -1,5 +1,5 @@
 -- Two tests of flags that are told to be the same are equal.
-use Rattle.std.proofs.Common.{◌≡◌, Bool, true, false, ◌&&◌, refl, sym, arith}
+use Rattle.std.proofs.Common.{◌≡◌, Bool, true, false, ◌&&◌, refl, sym}
 use Rattle.std.specs.Bool.{OnTrue}
 use Rattle.std.proofs.Math.Bool.{beq}
 use Rattle.pfs_addr.specs.declared.flag_sets.Flags.{Flags}
@@ -9,10 +9,12 @@ use Rattle.pfs_eval.specs.Matching.{same_flags}
 use Rattle.pfs_eval.specs.Parameters.{same_test}
 
 first : (a b : Bool) → (a && b) ≡ true → a ≡ true
-first a b h = grind arith
+first true b h = refl
+first false b h = cc
 
 rest : (a b : Bool) → (a && b) ≡ true → b ≡ true
-rest a b h = grind arith
+rest true b h = h
+rest false b h = cc
 
 same_bit : (a b : Bool) → beq a b ≡ true → a ≡ b
 same_bit true true h = refl

@@ -10,7 +10,7 @@ use pfs_addr::{Addr, Dir, Flags, Meter, Packet, Prefix, Proto};
 use pfs_conf_rules::{Family, Filter, FlagTest, Host, Interface, Ports, TableNo, What};
 
 /// A parameter of an item, in the order in which they are compared. (pf.conf(5), PARAMETERS)
-#[derive(Debug, Clone, Copy, PartialEq, Eq)]
+#[derive(Clone, Copy)]
 pub enum Parameter {
     /// `on`.
     Interface,
@@ -33,7 +33,7 @@ pub enum Parameter {
 }
 
 /// What an item asks of packets.
-#[derive(Debug, Clone, Copy)]
+#[derive(Clone, Copy)]
 pub struct Asked {
     filter: Filter,
 }
@@ -196,11 +196,12 @@ fn same_flags(flags: Flags, set: Flags) -> bool
 fn same_test(one: FlagTest, two: FlagTest) -> bool
     ensures { result ≡ same_test one two }
 {
-    match (one, two) {
-        (FlagTest::Any, FlagTest::Any) => true,
-        (FlagTest::Exactly { set: a, among: b }, FlagTest::Exactly { set: c, among: d }) =>
-            same_flags(a, c) && same_flags(b, d),
-        _ => false,
+    match one {
+        FlagTest::Any => matches!(two, FlagTest::Any),
+        FlagTest::Exactly { set: a, among: b } => match two {
+            FlagTest::Any => false,
+            FlagTest::Exactly { set: c, among: d } => same_flags(a, c) && same_flags(b, d),
+        },
     }
 }
 

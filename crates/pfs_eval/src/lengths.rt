@@ -9,7 +9,7 @@ use pfs_addr::Addr;
 
 /// Which lengths the prefixes of a table have or had, told by how many bits they leave out: 0 of a host. At each number
 /// stands the least such number from it on, or one more than the address has bits.
-#[derive(Debug, Clone, Copy)]
+#[derive(Clone, Copy)]
 pub struct Lengths {
     /// For IPv4, at 0 to 33 bits left out.
     inet: [u8; 34],

@@ -13,7 +13,7 @@ use pfs_conf_rules::{Config, Item, What};
 use std::alloc::{AllocError, Global};
 
 /// What a walk reads of an item: what is compared, and where the walk goes on.
-#[derive(Debug, Clone, Copy)]
+#[derive(Clone, Copy)]
 pub struct Line {
     /// What the item asks of packets.
     pub asked: Asked,

@@ -8,7 +8,7 @@ use crate::comparing::{Asked, Parameter};
 
 /// For each parameter, the place of the next item of the same body that asks another thing there, or the end of the body:
 /// where a walk goes on from an item that fails on it. (pf's skip steps)
-#[derive(Debug, Clone, Copy)]
+#[derive(Clone, Copy)]
 pub struct Skips {
     /// Over items on the same interface.
     pub interface: u32,

@@ -6,7 +6,7 @@ use crate::comparing::Parameter;
 use crate::lines::Line;
 
 /// Where a walk stands.
-#[derive(Debug, Clone, Copy)]
+#[derive(Clone, Copy)]
 pub struct Walk {
     /// The place of the next line.
     pub place: u32,

@@ -1,5 +1,6 @@
--- Answers of kill_with: no more states after a kill than before, and the difference is what it killed; its looks (`looks`).
-use Rattle.std.proofs.Common.{◌==◌, arith, ap, length}
+-- Answers of kill_with: no more states after a kill than before, and the difference is what it killed; its looks (`looks`); what a flush of
+-- the states of a rule kills.
+use Rattle.std.proofs.Common.{◌==◌, arith, ap, length, rules}
 use Rattle.pfs_store_plain.specs.Calls.{other_than}
 use Rattle.pfs_store_plain.specs.Worlds.{World}
 use Rattle.pfs_engine_machine.proofs.Counts.{count-rest, count_le}
@@ -19,3 +20,12 @@ returns-in-None-clause-answer g c =
 
 pub returns-in-None-clause-looks : goal.returns-in-None-clause-looks
 returns-in-None-clause-looks g c = λ on one. rw c.in-None.is (omega (arith, c.kill.ensures.looks on, one))
+
+pub returns-in-Some-Rule-clause-answer : goal.returns-in-Some-Rule-clause-answer
+returns-in-Some-Rule-clause-answer g c = search rules
+
+pub returns-in-Some-Rule-clause-world : goal.returns-in-Some-Rule-clause-world
+returns-in-Some-Rule-clause-world g c = search rules
+
+pub returns-in-Some-Rule-clause-looks : goal.returns-in-Some-Rule-clause-looks
+returns-in-Some-Rule-clause-looks g c = search rules
