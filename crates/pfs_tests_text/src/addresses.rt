@@ -26,7 +26,7 @@ const ADDRESSES: &[(&[u8], Option<Addr>)] = &[
 #[test]
 fn addresses_are_read(rt: HostRuntime) {
     for &(text, wanted) in ADDRESSES {
-        assert_eq!(rt; parse_addr(text), wanted, "{text:?}");
+        same!(rt; parse_addr(text), wanted, text);
     }
 }
 
@@ -34,11 +34,11 @@ fn addresses_are_read(rt: HostRuntime) {
 fn addresses_are_written(rt: HostRuntime) -> Result<(), Fail> {
     let mut text = Vec::new(rt.alloc());
     push_addr(&mut text, Addr::V4([0, 9, 10, 99]))?;
-    assert_eq!(rt; text.as_slice(), b"0.9.10.99".as_slice());
+    same!(rt; text.as_slice(), b"0.9.10.99".as_slice());
     text.push(b' ')?;
     push_addr(&mut text, Addr::V4([100, 109, 200, 255]))?;
-    assert_eq!(rt; text.as_slice(), b"0.9.10.99 100.109.200.255".as_slice());
-    assert_eq!(rt; Addr::V4([1, 2, 3, 4]).width(), 32);
+    same!(rt; text.as_slice(), b"0.9.10.99 100.109.200.255".as_slice());
+    same!(rt; Addr::V4([1, 2, 3, 4]).width(), 32);
     Ok(())
 }
 
@@ -62,14 +62,14 @@ const PREFIXES: &[(&[u8], Option<(Addr, u8)>)] = &[
 fn prefixes_are_read(rt: HostRuntime) {
     for &(text, wanted) in PREFIXES {
         let told = parse_prefix(text).map(|prefix| (prefix.addr(), prefix.bits()));
-        assert_eq!(rt; told, wanted, "{text:?}");
+        same!(rt; told, wanted, text);
     }
 }
 
 #[test]
 fn a_prefix_covers_by_first_bits(rt: HostRuntime) {
     let net = Addr::V4([10, 1, 2, 3]).prefix(23);
-    assert_eq!(rt; (net.addr(), net.bits()), (Addr::V4([10, 1, 2, 0]), 23));
+    same!(rt; (net.addr(), net.bits()), (Addr::V4([10, 1, 2, 0]), 23));
     let all = Addr::V4([10, 1, 2, 3]).prefix(0);
     let host = Prefix::host(Addr::V4([10, 1, 2, 3]));
     for (prefix, addr, wanted) in [
@@ -80,7 +80,7 @@ fn a_prefix_covers_by_first_bits(rt: HostRuntime) {
         (host, [10, 1, 2, 3], true),
         (host, [10, 1, 2, 2], false),
     ] {
-        assert_eq!(rt; prefix.contains(Addr::V4(addr)), wanted, "{addr:?}");
+        same!(rt; prefix.contains(Addr::V4(addr)), wanted, addr);
     }
 }
 
@@ -101,7 +101,7 @@ const NUMBERS: &[(&[u8], Option<u64>)] = &[
 #[test]
 fn numbers_are_read(rt: HostRuntime) {
     for &(text, wanted) in NUMBERS {
-        assert_eq!(rt; parse_number(text), wanted, "{text:?}");
+        same!(rt; parse_number(text), wanted, text);
     }
 }
 
@@ -126,11 +126,7 @@ const PROTOCOLS: &[(&[u8], Option<u8>)] = &[
 #[test]
 fn protocols_are_read(rt: HostRuntime) {
     for &(text, wanted) in PROTOCOLS {
-        assert_eq!(rt;
-            parse_proto(text).map(|proto| proto.number()),
-            wanted,
-            "{text:?}"
-        );
+        same!(rt; parse_proto(text).map(|proto| proto.number()), wanted, text);
     }
 }
 
@@ -147,12 +143,12 @@ const PORTS: &[(u8, bool, bool)] = &[
 // A number, whether its protocol has ports, and whether it is ICMP
 #[test]
 fn protocols_have_numbers(rt: HostRuntime) {
-    assert!(rt; Proto::from_number(6) == Proto::Tcp);
-    assert!(rt; Proto::from_number(17) == Proto::Udp);
+    holds!(rt; Proto::from_number(6) == Proto::Tcp);
+    holds!(rt; Proto::from_number(17) == Proto::Udp);
     for &(number, has_ports, is_icmp) in PORTS {
-        assert_eq!(rt; Proto::from_number(number).number(), number);
-        assert_eq!(rt; Proto::from_number(number).has_ports(), has_ports);
-        assert_eq!(rt; Proto::from_number(number).is_icmp(), is_icmp);
+        same!(rt; Proto::from_number(number).number(), number);
+        same!(rt; Proto::from_number(number).has_ports(), has_ports);
+        same!(rt; Proto::from_number(number).is_icmp(), is_icmp);
     }
 }
 
@@ -185,9 +181,9 @@ const FLAGS: &[(&[u8], Option<Flags>)] = &[
 #[test]
 fn flags_are_read(rt: HostRuntime) {
     for &(text, wanted) in FLAGS {
-        assert_eq!(rt; parse_flags(text), wanted, "{text:?}");
+        same!(rt; parse_flags(text), wanted, text);
     }
-    assert!(rt; Flags::default() == NONE);
+    holds!(rt; Flags::default() == NONE);
 }
 
 const NAMES: &[(&[u8], Option<usize>)] = &[
@@ -200,21 +196,14 @@ const NAMES: &[(&[u8], Option<usize>)] = &[
 #[test]
 fn names_are_read(rt: HostRuntime) {
     for &(text, len) in NAMES {
-        assert_eq!(rt;
-            parse_ifname(text).map(|n| n.as_bytes().len()),
-            len,
-            "{text:?}"
-        );
+        same!(rt; parse_ifname(text).map(|n| n.as_bytes().len()), len, text);
     }
-    assert_eq!(rt;
-        Name::<31>::parse(b"abc-DEF_019.xyzz").map(|n| n.as_bytes().len()),
-        Some(16)
-    );
+    same!(rt; Name::<31>::parse(b"abc-DEF_019.xyzz").map(|n| n.as_bytes().len()), Some(16));
 }
 
 #[test]
 fn names_are_compared_whole(rt: HostRuntime) {
     for (text, is_same) in [(b"em0".as_slice(), true), (b"em1", false), (b"em", false)] {
-        assert_eq!(rt; parse_ifname(b"em0") == parse_ifname(text), is_same);
+        same!(rt; parse_ifname(b"em0") == parse_ifname(text), is_same);
     }
 }

@@ -39,14 +39,11 @@ fn scope(text: &[u8]) -> Option<Option<Scope>> {
 #[test]
 fn clauses_without_options(rt: HostRuntime) {
     let mut cursor = Cursor::new(b"no state (max 1)");
-    assert_eq!(rt; state_clause(&mut cursor), Ok(StateClause::No));
-    assert_eq!(rt; cursor.key(), Key::OpenParen);
+    same!(rt; state_clause(&mut cursor), Ok(StateClause::No));
+    same!(rt; cursor.key(), Key::OpenParen);
     let mut cursor = Cursor::new(b"keep\tstate\nmax");
-    assert_eq!(rt;
-        state_clause(&mut cursor),
-        Ok(StateClause::Keep(Options::new()))
-    );
-    assert_eq!(rt; cursor.key(), Key::LineEnd);
+    same!(rt; state_clause(&mut cursor), Ok(StateClause::Keep(Options::new())));
+    same!(rt; cursor.key(), Key::LineEnd);
 }
 
 const EVERY: &[u8] = b"keep state (max 007, source-track global max-src-nodes 4294967295 , \
@@ -57,23 +54,16 @@ const EVERY: &[u8] = b"keep state (max 007, source-track global max-src-nodes 42
 #[test]
 fn each_maximum(rt: HostRuntime) -> Result<(), Fail> {
     let options = read(EVERY).ok_or("options")?;
-    assert_eq!(rt;
-        (options.max, options.track),
-        (Some(7), Some(Track::Global))
-    );
-    assert_eq!(rt;
-        (
-            options.max_src_nodes,
-            options.max_src_states,
-            options.max_src_conn
-        ),
-        (Some(4294967295), Some(1), Some(2))
-    );
+    same!(rt; options.max, Some(7));
+    same!(rt; options.track, Some(Track::Global));
+    same!(rt; options.max_src_nodes, Some(4294967295));
+    same!(rt; options.max_src_states, Some(1));
+    same!(rt; options.max_src_conn, Some(2));
     let rate = Rate {
         limit: 4294967,
         seconds: 2147483647,
     };
-    assert_eq!(rt; options.max_src_conn_rate, Some(rate));
+    same!(rt; options.max_src_conn_rate, Some(rate));
     Ok(())
 }
 
@@ -84,8 +74,8 @@ fn each_other_option(rt: HostRuntime) -> Result<(), Fail> {
         table: TableName::parse(b"10.max_1-").ok_or("a name")?,
         flush: Some(Scope::Global),
     };
-    assert_eq!(rt; options.overload, Some(overload));
-    assert!(rt; options.sloppy && options.floating && options.no_sync);
+    same!(rt; options.overload, Some(overload));
+    holds!(rt; options.sloppy && options.floating && options.no_sync);
     Ok(())
 }
 
@@ -102,7 +92,7 @@ const TIMEOUTS: &[(TimeoutName, Option<u32>)] = &[
 fn each_timeout(rt: HostRuntime) -> Result<(), Fail> {
     let options = read(EVERY).ok_or("options")?;
     for &(name, value) in TIMEOUTS {
-        assert_eq!(rt; options.timeouts.get(name), value);
+        same!(rt; options.timeouts.get(name), value);
     }
     Ok(())
 }
@@ -110,16 +100,13 @@ fn each_timeout(rt: HostRuntime) -> Result<(), Fail> {
 #[test]
 fn words_that_may_lack(rt: HostRuntime) -> Result<(), Fail> {
     let bare = read(b"keep state (source-track, max 1)").ok_or("bare")?;
-    assert_eq!(rt; bare.track, Some(Track::Bare));
+    same!(rt; bare.track, Some(Track::Bare));
     let rule = read(b"keep state (source-track rule)").ok_or("rule")?;
-    assert_eq!(rt; rule.track, Some(Track::Rule));
+    same!(rt; rule.track, Some(Track::Rule));
     let none = read(b"keep state (overload <a>, max-src-conn 1)").ok_or("none")?;
-    assert_eq!(rt; none.overload.and_then(|overload| overload.flush), None);
+    same!(rt; none.overload.and_then(|overload| overload.flush), None);
     let own = read(b"keep state (overload < a > flush max-src-conn 1)").ok_or("own")?;
-    assert_eq!(rt;
-        own.overload.and_then(|overload| overload.flush),
-        Some(Scope::Rule)
-    );
+    same!(rt; own.overload.and_then(|overload| overload.flush), Some(Scope::Rule));
     Ok(())
 }
 
@@ -224,7 +211,7 @@ const REFUSED: &[(&[u8], Why, Key)] = &[
 #[test]
 fn refused_at_the_token_that_does_not_fit(rt: HostRuntime) {
     for &(text, why, key) in REFUSED {
-        assert_eq!(rt; refusal(text), Some((Refusal::Stop(why), key)));
+        same!(rt; refusal(text), Some((Refusal::Stop(why), key)));
     }
 }
 
@@ -254,7 +241,7 @@ const SCOPES: &[(&[u8], Option<Scope>)] = &[
 #[test]
 fn scopes(rt: HostRuntime) {
     for &(text, wanted) in SCOPES {
-        assert_eq!(rt; scope(text), Some(wanted));
+        same!(rt; scope(text), Some(wanted));
     }
 }
 
@@ -270,20 +257,17 @@ const PAIRS: &[(&[u8], bool)] = &[
 #[test]
 fn load_rules(rt: HostRuntime) -> Result<(), Fail> {
     let alone = read(b"keep state (overload <x> max 1)").ok_or("alone")?;
-    assert!(rt; alone.has_overload_alone());
+    holds!(rt; alone.has_overload_alone());
     let limited = read(b"keep state (overload <x> max-src-conn-rate 1/1)").ok_or("limited")?;
-    assert!(rt; !limited.has_overload_alone());
+    holds!(rt; !limited.has_overload_alone());
     let shared = read(b"keep state (source-track global, max-src-conn 3)").ok_or("shared")?;
-    assert!(rt; shared.has_global_connections());
+    holds!(rt; shared.has_global_connections());
     let kept = read(b"keep state (max-src-states 3, src.track 5)").ok_or("kept")?;
-    assert!(rt; kept.has_global_retention() && !kept.has_global_connections());
+    holds!(rt; kept.has_global_retention() && !kept.has_global_connections());
     let untracked = read(b"keep state (src.track 5)").ok_or("untracked")?;
-    assert!(rt; !untracked.has_global_retention());
+    holds!(rt; !untracked.has_global_retention());
     for &(text, is_broken) in PAIRS {
-        assert_eq!(rt;
-            read(text).map(|options| options.has_broken_pair()),
-            Some(is_broken)
-        );
+        same!(rt; read(text).map(|options| options.has_broken_pair()), Some(is_broken));
     }
     Ok(())
 }
@@ -293,13 +277,13 @@ fn options_of_a_configuration(rt: HostRuntime) -> Result<(), Fail> {
     let text = b"keep state (max-src-conn-rate 3/10, overload <worse> flush global, max 9)";
     let read = read(text).ok_or("options")?;
     let options = read.resolved(Some(TableNo(1)));
-    assert_eq!(rt; options.max, Some(9));
-    assert_eq!(rt; options.scope, Some(Scope::Rule));
+    same!(rt; options.max, Some(9));
+    same!(rt; options.scope, Some(Scope::Rule));
     let overload = Overload {
         table: TableNo(1),
         flush: Some(Scope::Global),
     };
-    assert_eq!(rt; options.overload, Some(overload));
-    assert_eq!(rt; read.resolved(None).overload, None);
+    same!(rt; options.overload, Some(overload));
+    same!(rt; read.resolved(None).overload, None);
     Ok(())
 }

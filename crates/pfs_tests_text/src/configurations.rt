@@ -21,6 +21,15 @@ fn nested(rt: &impl AllocGlobal) -> Result<Config, Fail> {
     Ok(load(rt.alloc(), NESTED)?)
 }
 
+// How many items, tables and entries there are.
+fn counts(config: &Config) -> (u32, u32, u64) {
+    (
+        config.item_count(),
+        config.table_count(),
+        config.entry_count(),
+    )
+}
+
 const ITEMS: &[(
     u32,
     Option<u8>,
@@ -38,15 +47,15 @@ const ITEMS: &[(
 #[test]
 fn items_are_numbered_in_order(rt: HostRuntime) -> Result<(), Fail> {
     let config = nested(&rt)?;
-    assert_eq!(rt; config.item_count(), 4);
+    same!(rt; config.item_count(), 4);
     for &(number, depth, quick, max, scope) in ITEMS {
-        assert_eq!(rt; config.item(number).map(|item| item.depth), depth);
+        same!(rt; config.item(number).map(|item| item.depth), depth);
         let number = RuleNo(number);
-        assert_eq!(rt; config.rule(number).map(|rule| rule.quick), quick);
-        assert_eq!(rt; config.options(number).map(|options| options.max), max);
-        assert_eq!(rt; config.scope(number), scope);
+        same!(rt; config.rule(number).map(|rule| rule.quick), quick);
+        same!(rt; config.options(number).map(|options| options.max), max);
+        same!(rt; config.scope(number), scope);
     }
-    assert_eq!(rt; config.rule_timeout(RuleNo(2), TimeoutName::TcpFirst), None);
+    same!(rt; config.rule_timeout(RuleNo(2), TimeoutName::TcpFirst), None);
     Ok(())
 }
 
@@ -54,24 +63,21 @@ fn items_are_numbered_in_order(rt: HostRuntime) -> Result<(), Fail> {
 fn tables_are_copied_with_their_entries(rt: HostRuntime) -> Result<(), Fail> {
     let config = nested(&rt)?;
     let copy = config.copy()?;
-    assert_eq!(rt;
-        (copy.item_count(), copy.table_count(), copy.entry_count()),
-        (4, 2, 2)
-    );
-    assert!(rt; copy.item(2) == config.item(2));
+    same!(rt; counts(&copy), (4, 2, 2));
+    holds!(rt; copy.item(2) == config.item(2));
     let bad = copy.table(TableNo(0)).ok_or("no table")?;
-    assert_eq!(rt; bad.name.as_bytes(), b"bad".as_slice());
-    assert_eq!(rt; bad.entries.len(), 2);
+    same!(rt; bad.name.as_bytes(), b"bad".as_slice());
+    same!(rt; bad.entries.len(), 2);
     let nine = Prefix::host(Addr::V4([10, 9, 9, 9]));
-    assert_eq!(rt; bad.entries.at(1), Some((nine, true)));
+    same!(rt; bad.entries.at(1), Some((nine, true)));
     for (prefix, negated) in [
         (nine, Some(true)),
         (Addr::V4([10, 0, 0, 0]).prefix(8), Some(false)),
         (Addr::V4([10, 0, 0, 0]).prefix(9), None),
     ] {
-        assert_eq!(rt; bad.entries.get(prefix), negated);
+        same!(rt; bad.entries.get(prefix), negated);
     }
-    assert!(rt; copy.table(TableNo(2)).is_none());
+    holds!(rt; copy.table(TableNo(2)).is_none());
     Ok(())
 }
 
@@ -84,12 +90,12 @@ fn tables_are_found_by_their_names(rt: HostRuntime) -> Result<(), Fail> {
         (b"bad", 1, false),
         (b"t-1", 2, false),
     ] {
-        assert_eq!(rt; config.table_named(name), Some(TableNo(number)));
+        same!(rt; config.table_named(name), Some(TableNo(number)));
         assert!(rt; number < config.table_count());
-        assert_eq!(rt; config.is_const(TableNo(number)), is_const);
+        same!(rt; config.is_const(TableNo(number)), is_const);
     }
     for name in [b"".as_slice(), b"T", b"ba", b"bad2"] {
-        assert_eq!(rt; config.table_named(name), None);
+        same!(rt; config.table_named(name), None);
     }
     Ok(())
 }
@@ -100,7 +106,7 @@ fn a_source_node_is_retained(rt: HostRuntime) -> Result<(), Fail> {
     let config = nested(&rt)?;
     for (number, seconds) in [(RuleNo(2), 10), (RuleNo(3), 7)] {
         assert!(rt; config.scope(number).is_some());
-        assert_eq!(rt; config.retention(number), seconds);
+        same!(rt; config.retention(number), seconds);
     }
     Ok(())
 }
@@ -108,7 +114,7 @@ fn a_source_node_is_retained(rt: HostRuntime) -> Result<(), Fail> {
 #[test]
 fn timeouts_have_places(rt: HostRuntime) {
     for place in 0..16 {
-        assert!(rt; TimeoutName::at(place).place() == place);
+        holds!(rt; TimeoutName::at(place).place() == place);
     }
 }
 
@@ -129,7 +135,7 @@ fn limits_are_set_or_have_their_defaults(rt: HostRuntime) -> Result<(), Fail> {
             config.limit(LimitName::Tables),
             config.limit(LimitName::TableEntries),
         ];
-        assert_eq!(rt; limits, wanted);
+        same!(rt; limits, wanted);
     }
     Ok(())
 }
@@ -152,7 +158,7 @@ fn timeouts_are_set_or_have_their_defaults(rt: HostRuntime) -> Result<(), Fail> 
         (pair, TimeoutName::AdaptiveEnd, 4_294_967_295),
     ] {
         let config = load(rt.alloc(), text)?;
-        assert_eq!(rt; config.timeout(name), seconds, "{name:?}");
+        same!(rt; config.timeout(name), seconds, name);
     }
     Ok(())
 }
@@ -182,7 +188,7 @@ fn the_canonical_text_shows_all(rt: HostRuntime) -> Result<(), Fail> {
         ),
     ] {
         let shown = show(rt.alloc(), &load(rt.alloc(), text)?)?;
-        assert!(rt; shown.as_slice().ends_with(wanted));
+        holds!(rt; shown.as_slice().ends_with(wanted));
     }
     Ok(())
 }
@@ -221,23 +227,16 @@ anchor \"ssh\" in on em0 proto tcp from any to any port ssh {
 #[test]
 fn a_web_server_has_its_items_and_tables(rt: HostRuntime) -> Result<(), Fail> {
     let config = load(rt.alloc(), WEB_SERVER)?;
-    assert_eq!(rt;
-        (
-            config.item_count(),
-            config.table_count(),
-            config.entry_count()
-        ),
-        (11, 4, 5)
-    );
+    same!(rt; counts(&config), (11, 4, 5));
     let block = config.rule(RuleNo(2)).ok_or("a rule")?;
-    assert!(rt; block.action == Action::Block && block.quick);
+    holds!(rt; block.action == Action::Block && block.quick);
     let martians = Host::Table {
         table: TableNo(0),
         negated: false,
     };
-    assert!(rt; block.filter.from.host == martians);
+    holds!(rt; block.filter.from.host == martians);
     let https = config.rule(RuleNo(7)).ok_or("a rule")?;
-    assert!(rt; https.filter.flags == FlagTest::Any);
+    holds!(rt; https.filter.flags == FlagTest::Any);
     Ok(())
 }
 
@@ -246,13 +245,13 @@ fn a_web_server_has_its_items_and_tables(rt: HostRuntime) -> Result<(), Fail> {
 fn a_web_server_has_its_settings(rt: HostRuntime) -> Result<(), Fail> {
     let config = load(rt.alloc(), WEB_SERVER)?;
     for (name, value) in [(LimitName::States, 20_000), (LimitName::Tables, 1_000)] {
-        assert_eq!(rt; config.limit(name), value);
+        same!(rt; config.limit(name), value);
     }
     for (name, value) in [
         (TimeoutName::TcpEstablished, 7_200),
         (TimeoutName::AdaptiveEnd, 24_000),
     ] {
-        assert_eq!(rt; config.timeout(name), value);
+        same!(rt; config.timeout(name), value);
     }
     Ok(())
 }
@@ -265,16 +264,13 @@ fn a_web_server_has_its_options(rt: HostRuntime) -> Result<(), Fail> {
         (6, 1, Some(Scope::Rule), None),
         (10, 1, Some(Scope::Rule), Some(300)),
     ] {
-        assert_eq!(rt; config.item(number).map(|item| item.depth), Some(depth));
-        assert_eq!(rt; config.scope(RuleNo(number)), scope);
+        same!(rt; config.item(number).map(|item| item.depth), Some(depth));
+        same!(rt; config.scope(RuleNo(number)), scope);
         let seconds_told = config.rule_timeout(RuleNo(number), TimeoutName::SrcTrack);
-        assert_eq!(rt; seconds_told, seconds);
+        same!(rt; seconds_told, seconds);
     }
     let kept = config.options(RuleNo(6)).ok_or("options")?;
     let overload = kept.overload.ok_or("overload")?;
-    assert_eq!(rt;
-        (overload.table, overload.flush, kept.max),
-        (TableNo(3), Some(Scope::Rule), Some(15_000))
-    );
+    same!(rt; (overload.table, overload.flush, kept.max), (TableNo(3), Some(Scope::Rule), Some(15_000)));
     Ok(())
 }

@@ -9,7 +9,7 @@ use std::test::Fail;
 fn refused(rt: &(impl Abort + AllocGlobal), text: &[u8], line: u64, kind: Kind) {
     match load(rt.alloc(), text) {
         Ok(_) => assert!(rt; false, "accepted, and not refused as {kind}"),
-        Err(fault) => assert_eq!(rt; (fault.line, fault.kind), (line, kind)),
+        Err(fault) => same!(*rt; (fault.line, fault.kind), (line, kind)),
     }
 }
 
@@ -102,13 +102,13 @@ fn too_many(rt: HostRuntime) -> Result<(), Fail> {
         0,
         Kind::TooLong,
     );
-    assert!(rt; load(alloc, &repeated(alloc, b" ", 1_048_576, b"")?).is_ok());
-    assert!(rt; load(alloc, &repeated(alloc, b"pass\n", 10_000, b"")?).is_ok());
+    holds!(rt; load(alloc, &repeated(alloc, b" ", 1_048_576, b"")?).is_ok());
+    holds!(rt; load(alloc, &repeated(alloc, b"pass\n", 10_000, b"")?).is_ok());
     let deep = repeated(alloc, b"anchor {\n", 16, b"pass\n")?;
-    assert!(rt; load(alloc, &repeated(alloc, b"}\n", 16, b"")?).is_err());
+    holds!(rt; load(alloc, &repeated(alloc, b"}\n", 16, b"")?).is_err());
     let mut closed = deep;
     closed.extend_from_slice(&repeated(alloc, b"}\n", 16, b"")?)?;
-    assert!(rt; load(alloc, &closed).is_ok());
+    holds!(rt; load(alloc, &closed).is_ok());
     Ok(())
 }
 
@@ -290,8 +290,8 @@ fn any_bytes(rt: HostRuntime) -> Result<(), Fail> {
             text.push((seed / 4_294_967_296 % 256) as u8)?;
         }
         match load(rt.alloc(), &text) {
-            Ok(config) => assert!(rt; config.item_count() <= 10_000),
-            Err(fault) => assert!(rt; fault.line <= 201),
+            Ok(config) => holds!(rt; config.item_count() <= 10_000),
+            Err(fault) => holds!(rt; fault.line <= 201),
         }
     }
     Ok(())

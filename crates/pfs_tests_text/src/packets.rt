@@ -31,14 +31,11 @@ fn a_packet_has_what_it_is_made_of(rt: HostRuntime) {
         ..Flags::default()
     };
     let packet = tcp(&rt, Dir::In, CLIENT, SERVER, syn);
-    assert!(rt; packet.ifname() == interface(&rt));
-    assert_eq!(rt;
-        (packet.dir(), packet.proto(), packet.flags()),
-        (Dir::In, Proto::Tcp, syn)
-    );
-    assert_eq!(rt; (packet.source(), packet.destination()), (CLIENT, SERVER));
-    assert_eq!(rt; (packet.src(), packet.sport()), (CLIENT.addr, 1000));
-    assert_eq!(rt; (packet.dst(), packet.dport()), (SERVER.addr, 80));
+    holds!(rt; packet.ifname() == interface(&rt));
+    same!(rt; (packet.dir(), packet.proto(), packet.flags()), (Dir::In, Proto::Tcp, syn));
+    same!(rt; (packet.source(), packet.destination()), (CLIENT, SERVER));
+    same!(rt; (packet.src(), packet.sport()), (CLIENT.addr, 1000));
+    same!(rt; (packet.dst(), packet.dport()), (SERVER.addr, 80));
 }
 
 #[test]
@@ -54,22 +51,22 @@ fn a_packet_and_its_answer_have_one_key(rt: HostRuntime) {
         (tcp(&rt, Dir::Out, SERVER, CLIENT, none), true),
         (tcp(&rt, Dir::In, SERVER, CLIENT, none), false),
     ] {
-        assert_eq!(rt; FlowKey::of(&packet) == key, is_same);
+        same!(rt; FlowKey::of(&packet) == key, is_same);
     }
 }
 
 #[test]
 fn a_meter_counts(rt: HostRuntime) {
     let mut meter = Meter::new();
-    assert_eq!(rt; meter.count(), 0);
+    same!(rt; meter.count(), 0);
     meter.tick();
     meter.tick();
-    assert_eq!(rt; meter.count(), 2);
+    same!(rt; meter.count(), 2);
 }
 
 #[test]
 fn want_of_memory_has_a_text(rt: HostRuntime) -> Result<(), Fail> {
     let text = format!(in rt.alloc(); "{}", NoMemory)?;
-    assert_eq!(rt; text.as_str(), "no memory");
+    same!(rt; text.as_str(), "no memory");
     Ok(())
 }

@@ -2,7 +2,7 @@
 
 ghost use Rattle.std.specs.Prelude.{◌<◌, ◌^◌, length};
 
-use pfs_addr::{Dir, Proto, parse_flags, parse_ifname, parse_prefix};
+use pfs_addr::{Dir, Flags, Proto, parse_flags, parse_ifname, parse_prefix};
 use pfs_conf_filters::{
     Head, Hosts, Marks, Parameters, Statement, Verb, read_flags, read_parameters, read_verb,
 };
@@ -48,11 +48,8 @@ fn read(text: &[u8]) -> (Result<Parameters, Refusal>, Key)
 fn stops(rt: &impl Abort, text: &[u8], why: Why, at: &[u8]) {
     assert!(rt; text.len() < 1000);
     let mut cursor = Cursor::new(text);
-    assert_eq!(rt;
-        read_parameters(&mut cursor, Statement::Rule),
-        Err(Refusal::Stop(why))
-    );
-    assert_eq!(rt; cursor.text(), at);
+    same!(*rt; read_parameters(&mut cursor, Statement::Rule), Err(Refusal::Stop(why)));
+    same!(*rt; cursor.text(), at);
 }
 
 fn side(host: Host<TableName>, ports: Option<Ports>) -> Option<Side<TableName>> {
@@ -98,7 +95,7 @@ fn every_part(rt: HostRuntime) -> Result<(), Fail> {
             ),
         },
     };
-    assert_eq!(rt; read(text), (Ok(wanted), Key::Flags));
+    same!(rt; read(text), (Ok(wanted), Key::Flags));
     Ok(())
 }
 
@@ -108,7 +105,7 @@ fn unusual_spellings(rt: HostRuntime) -> Result<(), Fail> {
         head: NO_HEAD,
         hosts: NO_HOSTS,
     };
-    assert_eq!(rt; read(b""), (Ok(nothing), Key::End));
+    same!(rt; read(b""), (Ok(nothing), Key::End));
 
     let quick = parse_ifname(b"quick").ok_or("a name")?;
     let head = Head {
@@ -128,10 +125,8 @@ fn unusual_spellings(rt: HostRuntime) -> Result<(), Fail> {
         all: true,
         ..NO_HOSTS
     };
-    assert_eq!(rt;
-        read(b"out quick log on quick proto icmp6 all keep"),
-        (Ok(Parameters { head, hosts }), Key::Keep)
-    );
+    let wanted = (Ok(Parameters { head, hosts }), Key::Keep);
+    same!(rt; read(b"out quick log on quick proto icmp6 all keep"), wanted);
 
     let head = Head {
         proto: Some(Proto::Udp),
@@ -148,10 +143,8 @@ fn unusual_spellings(rt: HostRuntime) -> Result<(), Fail> {
         ),
         ..NO_HOSTS
     };
-    assert_eq!(rt;
-        read(b"proto 017 from port 80:http to any port 0:0065535"),
-        (Ok(Parameters { head, hosts }), Key::LineEnd)
-    );
+    let wanted = (Ok(Parameters { head, hosts }), Key::LineEnd);
+    same!(rt; read(b"proto 017 from port 80:http to any port 0:0065535"), wanted);
     Ok(())
 }
 
@@ -172,10 +165,8 @@ fn either_family(rt: HostRuntime) -> Result<(), Fail> {
         ),
         ..NO_HOSTS
     };
-    assert_eq!(rt;
-        read(b"inet6 from !fe80:0::1/10 inet"),
-        (Ok(Parameters { head, hosts }), Key::Inet)
-    );
+    let wanted = (Ok(Parameters { head, hosts }), Key::Inet);
+    same!(rt; read(b"inet6 from !fe80:0::1/10 inet"), wanted);
     Ok(())
 }
 
@@ -190,8 +181,8 @@ fn an_anchor_has_no_log(rt: HostRuntime) {
         head: Head { marks, ..NO_HEAD },
         hosts: NO_HOSTS,
     };
-    assert_eq!(rt; read_parameters(&mut cursor, Statement::Anchor), Ok(wanted));
-    assert_eq!(rt; cursor.key(), Key::Log);
+    same!(rt; read_parameters(&mut cursor, Statement::Anchor), Ok(wanted));
+    same!(rt; cursor.key(), Key::Log);
 }
 
 const STOPS: &[(&[u8], Why, &[u8])] = &[
@@ -234,6 +225,10 @@ fn flags(text: &[u8]) -> Result<FlagTest, Refusal>
     read_flags(&mut Cursor::new(text))
 }
 
+fn exactly(set: Flags, among: Flags) -> Result<FlagTest, Refusal> {
+    Ok(FlagTest::Exactly { set, among })
+}
+
 const NO_FLAGS: &[&[u8]] = &[
     b"flags",
     b"flags S/",
@@ -248,31 +243,13 @@ fn flag_tests(rt: HostRuntime) -> Result<(), Fail> {
     let none = parse_flags(b"").ok_or("flags")?;
     let syn = parse_flags(b"S").ok_or("flags")?;
     let both = parse_flags(b"SA").ok_or("flags")?;
-    assert_eq!(rt; flags(b"flags any"), Ok(FlagTest::Any));
-    assert_eq!(rt;
-        flags(b"flags S/AS"),
-        Ok(FlagTest::Exactly {
-            set: syn,
-            among: both
-        })
-    );
-    assert_eq!(rt;
-        flags(b"flags AS/S"),
-        Ok(FlagTest::Exactly {
-            set: both,
-            among: syn
-        })
-    );
-    assert_eq!(rt;
-        flags(b"flags /SA"),
-        Ok(FlagTest::Exactly {
-            set: none,
-            among: both
-        })
-    );
+    same!(rt; flags(b"flags any"), Ok(FlagTest::Any));
+    same!(rt; flags(b"flags S/AS"), exactly(syn, both));
+    same!(rt; flags(b"flags AS/S"), exactly(both, syn));
+    same!(rt; flags(b"flags /SA"), exactly(none, both));
     for &text in NO_FLAGS {
         if text.len() < 100 {
-            assert_eq!(rt; flags(text), Err(Refusal::Stop(Why::Plain)));
+            same!(rt; flags(text), Err(Refusal::Stop(Why::Plain)));
         }
     }
     Ok(())
@@ -281,18 +258,15 @@ fn flag_tests(rt: HostRuntime) -> Result<(), Fail> {
 #[test]
 fn verbs(rt: HostRuntime) {
     let mut cursor = Cursor::new(b"pass block block return-icmp6 drop");
-    assert_eq!(rt; read_verb(&mut cursor), Ok(Verb::Pass));
-    assert_eq!(rt;
-        read_verb(&mut cursor),
-        Ok(Verb::Block { has_policy: false })
-    );
+    same!(rt; read_verb(&mut cursor), Ok(Verb::Pass));
+    same!(rt; read_verb(&mut cursor), Ok(Verb::Block { has_policy: false }));
     let blocks = Verb::Block { has_policy: true };
-    assert_eq!(rt; read_verb(&mut cursor), Ok(blocks));
-    assert!(rt; blocks.has(cursor.key()));
-    assert!(rt; !Verb::Pass.has(cursor.key()));
-    assert!(rt; !blocks.has(Key::Quick));
-    assert_eq!(rt; read_verb(&mut cursor), Err(Refusal::Stop(Why::Statement)));
-    assert_eq!(rt; cursor.key(), Key::Drop);
+    same!(rt; read_verb(&mut cursor), Ok(blocks));
+    holds!(rt; blocks.has(cursor.key()));
+    holds!(rt; !Verb::Pass.has(cursor.key()));
+    holds!(rt; !blocks.has(Key::Quick));
+    same!(rt; read_verb(&mut cursor), Err(Refusal::Stop(Why::Statement)));
+    same!(rt; cursor.key(), Key::Drop);
 }
 
 // Whether a port lacks its protocol in this text, if it is read.
@@ -308,11 +282,11 @@ fn lacks_proto(text: &[u8]) -> Option<bool>
 
 #[test]
 fn ports_want_a_protocol(rt: HostRuntime) {
-    assert_eq!(rt; lacks_proto(b"to any port 80"), Some(true));
-    assert_eq!(rt; lacks_proto(b"proto icmp from port 80"), Some(true));
-    assert_eq!(rt; lacks_proto(b"proto tcp to any port 80"), Some(false));
-    assert_eq!(rt; lacks_proto(b"proto 17 from port 80"), Some(false));
-    assert_eq!(rt; lacks_proto(b"from any to any"), Some(false));
+    same!(rt; lacks_proto(b"to any port 80"), Some(true));
+    same!(rt; lacks_proto(b"proto icmp from port 80"), Some(true));
+    same!(rt; lacks_proto(b"proto tcp to any port 80"), Some(false));
+    same!(rt; lacks_proto(b"proto 17 from port 80"), Some(false));
+    same!(rt; lacks_proto(b"from any to any"), Some(false));
 }
 
 #[test]
@@ -329,7 +303,7 @@ fn repeated_parts(rt: HostRuntime) {
     };
     let parameters = Parameters { head, hosts };
     for key in [Key::In, Key::Out, Key::Proto, Key::From, Key::Port] {
-        assert!(rt; parameters.have(key));
+        holds!(rt; parameters.have(key));
     }
     for key in [
         Key::Log,
@@ -340,8 +314,8 @@ fn repeated_parts(rt: HostRuntime) {
         Key::To,
         Key::Flags,
     ] {
-        assert!(rt; !parameters.have(key));
+        holds!(rt; !parameters.have(key));
     }
-    assert_eq!(rt; hosts.source().ports, Some(ssh));
-    assert_eq!(rt; hosts.destination(), ANY);
+    same!(rt; hosts.source().ports, Some(ssh));
+    same!(rt; hosts.destination(), ANY);
 }

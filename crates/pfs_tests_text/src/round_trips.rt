@@ -76,10 +76,10 @@ const TEXTS: [&[u8]; 38] = [
 // Limits and timeouts of two configurations are the same.
 fn same_settings(rt: &impl Abort, one: &Config, other: &Config) {
     for name in LIMITS {
-        assert_eq!(rt; one.limit(name), other.limit(name));
+        same!(*rt; one.limit(name), other.limit(name));
     }
     for name in TIMEOUTS {
-        assert_eq!(rt; one.timeout(name), other.timeout(name));
+        same!(*rt; one.timeout(name), other.timeout(name));
     }
 }
 
@@ -89,28 +89,25 @@ fn same_table(rt: &impl Abort, one: &Config, other: &Config, number: u32) {
         assert!(rt; false, "no table {number}");
         return;
     };
-    assert!(rt; a.name == b.name, "the name of table {number}");
-    assert_eq!(rt; a.is_const, b.is_const);
-    assert_eq!(rt; a.entries.len(), b.entries.len());
+    holds!(*rt; a.name == b.name, number);
+    same!(*rt; a.is_const, b.is_const);
+    same!(*rt; a.entries.len(), b.entries.len());
     for place in 0..a.entries.len() {
-        assert!(rt;
-            a.entries.at(place) == b.entries.at(place),
-            "entry {place} of table {number}"
-        );
+        holds!(*rt; a.entries.at(place) == b.entries.at(place), (place, number));
     }
 }
 
 // All that is read of two configurations is the same.
 fn same(rt: &impl Abort, one: &Config, other: &Config) {
     same_settings(rt, one, other);
-    assert_eq!(rt; one.entry_count(), other.entry_count());
-    assert_eq!(rt; one.table_count(), other.table_count());
+    same!(*rt; one.entry_count(), other.entry_count());
+    same!(*rt; one.table_count(), other.table_count());
     for number in 0..one.table_count() {
         same_table(rt, one, other, number);
     }
-    assert_eq!(rt; one.item_count(), other.item_count());
+    same!(*rt; one.item_count(), other.item_count());
     for number in 0..one.item_count() {
-        assert!(rt; one.item(number) == other.item(number), "item {number}");
+        holds!(*rt; one.item(number) == other.item(number), number);
     }
 }
 
@@ -122,7 +119,7 @@ fn texts_are_read_again_as_they_are_shown(rt: HostRuntime) -> Result<(), Fail> {
         let shown = show(alloc, &first)?;
         let second = load(alloc, &shown)?;
         let again = show(alloc, &second)?;
-        assert_eq!(rt; shown.as_slice(), again.as_slice());
+        same!(rt; shown.as_slice(), again.as_slice());
         same(&rt, &first, &second);
     }
     Ok(())
@@ -136,9 +133,6 @@ fn a_copy_shows_the_same_text(rt: HostRuntime) -> Result<(), Fail> {
     let config = load(alloc, text)?;
     let copy = config.copy()?;
     same(&rt, &config, &copy);
-    assert_eq!(rt;
-        show(alloc, &config)?.as_slice(),
-        show(alloc, &copy)?.as_slice()
-    );
+    same!(rt; show(alloc, &config)?.as_slice(), show(alloc, &copy)?.as_slice());
     Ok(())
 }

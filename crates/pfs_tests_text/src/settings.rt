@@ -12,8 +12,8 @@ fn refused(rt: &impl Abort, alloc: Global, text: &str, why: Why, line: u64) {
     assert!(rt; text.len() < 1000);
     let mut cursor = Cursor::new(text.as_bytes());
     let answer = read_settings(&mut cursor, &mut draft);
-    assert!(rt; answer == Err(Refusal::Stop(why)), "{text}: {answer:?}");
-    assert!(rt; cursor.line() == line, "{text}");
+    holds!(*rt; answer == Err(Refusal::Stop(why)), (text, answer));
+    holds!(*rt; cursor.line() == line, text);
 }
 
 const SETTINGS: &[(&str, Why, u64)] = &[
@@ -40,7 +40,7 @@ fn parts(rt: &impl Abort, alloc: Global, text: &str) -> Option<Parts> {
     assert!(rt; text.len() < 1000);
     let mut cursor = Cursor::new(text.as_bytes());
     let read = read_parts(alloc, &mut cursor).ok()?;
-    assert!(rt; cursor.key() == Key::LineEnd, "{text}");
+    holds!(*rt; cursor.key() == Key::LineEnd, text);
     Some(read)
 }
 
@@ -49,8 +49,8 @@ fn parts_refused(rt: &impl Abort, alloc: Global, text: &str, why: Why, line: u64
     let mut cursor = Cursor::new(text.as_bytes());
     match read_parts(alloc, &mut cursor) {
         Err(ReadError::Refused(Refusal::Stop(told))) => {
-            assert!(rt; told == why, "{text}");
-            assert!(rt; cursor.line() == line, "{text}");
+            holds!(*rt; told == why, text);
+            holds!(*rt; cursor.line() == line, text);
         }
         _ => panic!(rt; "{text}"),
     }
@@ -80,8 +80,8 @@ fn count(parts: &Parts) -> Option<usize> {
 fn tables_have_parts(rt: HostRuntime) -> Result<(), Fail> {
     for &(text, persist, is_const, counters, entries) in READ {
         let read = parts(&rt, rt.alloc(), text).ok_or("parts")?;
-        assert!(rt; read.persist == persist && read.is_const == is_const);
-        assert!(rt; read.counters == counters && count(&read) == entries);
+        holds!(rt; read.persist == persist && read.is_const == is_const);
+        holds!(rt; read.counters == counters && count(&read) == entries);
     }
     Ok(())
 }

@@ -25,31 +25,31 @@ fn tokens_and_lines_of_a_text(rt: HostRuntime) {
         (Key::End, 3),
     ];
     for (key, line) in wanted {
-        assert_eq!(rt; cursor.key(), key);
-        assert_eq!(rt; cursor.line(), line);
+        same!(rt; cursor.key(), key);
+        same!(rt; cursor.line(), line);
         cursor.advance();
     }
-    assert!(rt; cursor.is_at_end());
-    assert_eq!(rt; cursor.line(), 0);
+    holds!(rt; cursor.is_at_end());
+    same!(rt; cursor.line(), 0);
 }
 
 #[test]
 fn ends_of_texts(rt: HostRuntime) {
     // A line without tokens is not ended by the end of the text, and a continued line is one.
     let mut empty = Cursor::new(b" \t\r");
-    assert!(rt; empty.is_at_end());
-    assert!(rt; !empty.is_at_line_end());
+    holds!(rt; empty.is_at_end());
+    holds!(rt; !empty.is_at_line_end());
     empty.advance();
-    assert_eq!(rt; empty.text().len(), 0);
+    same!(rt; empty.text().len(), 0);
     let mut joined = Cursor::new(b"all\\\n");
     joined.advance();
-    assert!(rt; joined.is_at_line_end());
-    assert_eq!(rt; joined.line(), 2);
+    holds!(rt; joined.is_at_line_end());
+    same!(rt; joined.line(), 2);
     joined.advance();
-    assert!(rt; joined.is_at_end());
+    holds!(rt; joined.is_at_end());
     let mut comment = Cursor::new(b"# all");
-    assert!(rt; comment.is_at_end());
-    assert_eq!(rt; comment.take(Key::All), false);
+    holds!(rt; comment.is_at_end());
+    same!(rt; comment.take(Key::All), false);
 }
 
 const BAD: &[&[u8]] = &[
@@ -64,12 +64,12 @@ const BAD: &[&[u8]] = &[
 #[test]
 fn what_nothing_accepts(rt: HostRuntime) {
     for &text in BAD {
-        assert_eq!(rt; Cursor::new(text).key(), Key::Bad);
+        same!(rt; Cursor::new(text).key(), Key::Bad);
     }
     let mut quoted = Cursor::new(b"\"we#b {\"}");
-    assert_eq!(rt; quoted.text(), b"we#b {".as_slice());
+    same!(rt; quoted.text(), b"we#b {".as_slice());
     quoted.advance();
-    assert!(rt; quoted.is_at_close_brace());
+    holds!(rt; quoted.is_at_close_brace());
 }
 
 #[test]
@@ -89,11 +89,11 @@ fn marks_part_words(rt: HostRuntime) {
         Key::LineEnd,
     ];
     for key in wanted {
-        assert_eq!(rt; cursor.is_at_close_paren(), key == Key::CloseParen);
-        assert_eq!(rt; cursor.expect(key), Ok(()));
+        same!(rt; cursor.is_at_close_paren(), key == Key::CloseParen);
+        same!(rt; cursor.expect(key), Ok(()));
     }
-    assert_eq!(rt; cursor.expect(Key::LineEnd), Err(Refusal::Stop(Why::Plain)));
-    assert!(rt; cursor.is_at_end());
+    same!(rt; cursor.expect(Key::LineEnd), Err(Refusal::Stop(Why::Plain)));
+    holds!(rt; cursor.is_at_end());
 }
 
 const WORDS: &[(&[u8], Key)] = &[
@@ -109,44 +109,44 @@ const WORDS: &[(&[u8], Key)] = &[
 #[test]
 fn words_have_keys(rt: HostRuntime) {
     for &(word, key) in WORDS {
-        assert_eq!(rt; key_of(word), key);
+        same!(rt; key_of(word), key);
     }
 }
 
 #[test]
 fn keys_are_of_kinds(rt: HostRuntime) {
     for (key, is_word) in [(Key::Number, true), (Key::Pass, true), (Key::Quoted, false)] {
-        assert_eq!(rt; key.is_word(), is_word);
+        same!(rt; key.is_word(), is_word);
     }
     for (key, is_unsupported) in [(Key::Rdomain, true), (Key::Inet6, false)] {
-        assert_eq!(rt; key.is_unsupported(), is_unsupported);
+        same!(rt; key.is_unsupported(), is_unsupported);
     }
     for (word, place) in [(b"src.track".as_slice(), Some(12)), (b"tcp.tsdiff", None)] {
-        assert_eq!(rt; key_of(word).timeout_place(), place);
+        same!(rt; key_of(word).timeout_place(), place);
     }
 }
 
 #[test]
 fn numbers_of_words(rt: HostRuntime) {
-    assert_eq!(rt; digits(b"0000000006"), Some(6));
-    assert_eq!(rt; digits(b"9999999999"), Some(9999999999));
-    assert_eq!(rt; digits(b"00000000006"), None);
-    assert_eq!(rt; digits(b""), None);
-    assert_eq!(rt; digits(b"6a"), None);
+    same!(rt; digits(b"0000000006"), Some(6));
+    same!(rt; digits(b"9999999999"), Some(9999999999));
+    same!(rt; digits(b"00000000006"), None);
+    same!(rt; digits(b""), None);
+    same!(rt; digits(b"6a"), None);
     let mut cursor = Cursor::new(b"0 7");
-    assert_eq!(rt; number(&mut cursor, 1, 9), Err(Refusal::Stop(Why::Number)));
-    assert_eq!(rt; number(&mut cursor, 0, 9), Ok(0));
-    assert_eq!(rt; number(&mut cursor, 0, 6), Err(Refusal::Stop(Why::Number)));
-    assert_eq!(rt; number(&mut cursor, 0, 7), Ok(7));
-    assert_eq!(rt; number(&mut cursor, 0, 7), Err(Refusal::Stop(Why::Number)));
+    same!(rt; number(&mut cursor, 1, 9), Err(Refusal::Stop(Why::Number)));
+    same!(rt; number(&mut cursor, 0, 9), Ok(0));
+    same!(rt; number(&mut cursor, 0, 6), Err(Refusal::Stop(Why::Number)));
+    same!(rt; number(&mut cursor, 0, 7), Ok(7));
+    same!(rt; number(&mut cursor, 0, 7), Err(Refusal::Stop(Why::Number)));
 }
 
 #[test]
 fn parts_of_words(rt: HostRuntime) -> Result<(), Fail> {
     let (front, behind) = split_at_byte(b"80:http:", b':').ok_or("a colon")?;
-    assert_eq!(rt; front, b"80".as_slice());
-    assert_eq!(rt; behind, b"http:".as_slice());
-    assert!(rt; split_at_byte(b"80", b':').is_none());
+    same!(rt; front, b"80".as_slice());
+    same!(rt; behind, b"http:".as_slice());
+    holds!(rt; split_at_byte(b"80", b':').is_none());
     Ok(())
 }
 
@@ -154,18 +154,18 @@ fn parts_of_words(rt: HostRuntime) -> Result<(), Fail> {
 fn line_ends_are_skipped(rt: HostRuntime) {
     let mut cursor = Cursor::new(b"\n # a\n\n 1\n");
     skip_lines(&mut cursor);
-    assert_eq!(rt; cursor.key(), Key::Number);
+    same!(rt; cursor.key(), Key::Number);
     skip_lines(&mut cursor);
-    assert_eq!(rt; cursor.key(), Key::Number);
-    assert!(rt; cursor.take(Key::Number));
+    same!(rt; cursor.key(), Key::Number);
+    holds!(rt; cursor.take(Key::Number));
     skip_lines(&mut cursor);
-    assert!(rt; cursor.is_at_end());
+    holds!(rt; cursor.is_at_end());
 }
 
 #[test]
 fn errors_are_told_apart(rt: HostRuntime) {
     let memory = ReadError::from(AllocError);
     let refused = ReadError::from(Refusal::Stop(Why::Host));
-    assert!(rt; matches!(memory, ReadError::Memory));
-    assert!(rt; matches!(refused, ReadError::Refused(Refusal::Stop(Why::Host))));
+    holds!(rt; matches!(memory, ReadError::Memory));
+    holds!(rt; matches!(refused, ReadError::Refused(Refusal::Stop(Why::Host))));
 }

@@ -93,12 +93,12 @@ const TEXTS: &[(&[u8], [u16; 8], &[u8])] = &[
 #[test]
 fn addresses_are_read_and_shown(rt: HostRuntime) -> Result<(), Fail> {
     for &(text, wanted, shown) in TEXTS {
-        assert!(rt; parse_addr(text) == Some(groups(wanted)), "{text:?}");
-        assert!(rt; parse_addr(shown) == Some(groups(wanted)), "{text:?}");
+        holds!(rt; parse_addr(text) == Some(groups(wanted)), text);
+        holds!(rt; parse_addr(shown) == Some(groups(wanted)), text);
         let mut out = Vec::new(rt.alloc());
         out.push(b'<')?;
         push_addr(&mut out, groups(wanted))?;
-        assert_eq!(rt; &out.as_slice()[1..], shown, "{text:?}");
+        same!(rt; &out.as_slice()[1..], shown, text);
     }
     Ok(())
 }
@@ -139,11 +139,11 @@ const NONE: &[&[u8]] = &[
 #[test]
 fn other_texts_are_no_addresses(rt: HostRuntime) {
     for &text in NONE {
-        assert!(rt; parse_addr(text).is_none(), "{text:?}");
-        assert!(rt; parse_prefix(text).is_none(), "{text:?}");
+        holds!(rt; parse_addr(text).is_none(), text);
+        holds!(rt; parse_prefix(text).is_none(), text);
     }
-    assert!(rt; parse_addr(&[b':'; 300]).is_none());
-    assert!(rt; parse_addr(&[b'0'; 300]).is_none());
+    holds!(rt; parse_addr(&[b':'; 300]).is_none());
+    holds!(rt; parse_addr(&[b'0'; 300]).is_none());
 }
 
 const PREFIXES: &[(&[u8], Option<([u16; 8], u8)>)] = &[
@@ -196,7 +196,7 @@ fn prefixes_are_read(rt: HostRuntime) {
     for &(text, wanted) in PREFIXES {
         let told = parse_prefix(text).map(|prefix| (prefix.addr(), prefix.bits()));
         let wanted = wanted.map(|(address, bits)| (groups(address), bits));
-        assert!(rt; told == wanted, "{text:?}");
+        holds!(rt; told == wanted, text);
     }
 }
 
@@ -222,7 +222,7 @@ fn covers(prefix: &[u8], addr: &[u8]) -> Option<bool> {
 #[test]
 fn a_prefix_covers_by_first_bits(rt: HostRuntime) {
     for &(prefix, addr, wanted) in COVERS {
-        assert_eq!(rt; covers(prefix, addr), Some(wanted), "{prefix:?} {addr:?}");
+        same!(rt; covers(prefix, addr), Some(wanted), (prefix, addr));
     }
 }
 
@@ -230,10 +230,10 @@ fn a_prefix_covers_by_first_bits(rt: HostRuntime) {
 fn families_stay_apart(rt: HostRuntime) {
     let four = Addr::V4([0, 0, 0, 0]);
     let six = groups([0, 0, 0, 0, 0, 0, 0, 0]);
-    assert!(rt; !Prefix::host(six).contains(four) && !Prefix::host(four).contains(six));
-    assert_eq!(rt; (four.width(), six.width()), (32, 128));
-    assert!(rt; !four.is_ipv6() && six.is_ipv6());
-    assert!(rt; four.same_family(four) && six.same_family(six));
-    assert!(rt; !four.same_family(six) && !six.same_family(four));
-    assert!(rt; four < six && four != six);
+    holds!(rt; !Prefix::host(six).contains(four) && !Prefix::host(four).contains(six));
+    same!(rt; (four.width(), six.width()), (32, 128));
+    holds!(rt; !four.is_ipv6() && six.is_ipv6());
+    holds!(rt; four.same_family(four) && six.same_family(six));
+    holds!(rt; !four.same_family(six) && !six.same_family(four));
+    holds!(rt; four < six && four != six);
 }
