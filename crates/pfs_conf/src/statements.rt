@@ -1,10 +1,12 @@
 //! Statements, one behind another to the end of the text.
 
-ghost use Rattle.std.specs.Prelude.{◌≡◌, ◌≤◌, OnOk};
+ghost use Rattle.std.specs.Prelude.{◌≡◌, ◌≤◌, None, OnOk};
+ghost use Rattle.pfs_conf_rules.specs.Drafts.{finished};
 ghost use Rattle.pfs_conf_tokens.specs.Giving.{GivesOrMemory};
 ghost use Rattle.pfs_conf_tokens.specs.Reading.{ended};
 ghost use Rattle.pfs_conf.specs.Reading.{anchor_closed, statement_at, statements_at, text_at};
 ghost use Rattle.pfs_conf.specs.Giving.{Comes, IsAtDepth};
+ghost use Rattle.pfs_conf.specs.Statements.{text_breaks};
 ghost use Rattle.pfs_conf.specs.Within.{AreLexed};
 
 use crate::anchors::anchor;
@@ -29,8 +31,16 @@ pub fn read_text(alloc: Global, cursor: &mut Cursor) -> Result<Config, ReadError
     if let Some((rule, line)) = text_breaks(&progress) {
         return Err(ReadError::Refused(Refusal::Broken(rule, line)));
     }
+    Ok(finish(progress))
+}
+
+/// What a text says that ends here.
+fn finish(progress: Progress) -> Config
+    requires { text_breaks progress ≡ None }
+    ensures { result ≡ finished progress.draft }
+{
     let Progress { draft, .. } = progress;
-    Ok(draft.finish())
+    draft.finish()
 }
 
 fn statements(alloc: Global, cursor: &mut Cursor) -> Result<Progress, ReadError>

@@ -1,6 +1,6 @@
 // `flags`, and the sets of flags that it asks for.
 
-ghost use Rattle.std.specs.Prelude.{◌≡◌};
+ghost use Rattle.std.specs.Prelude.{◌≡◌, ◌==◌, length};
 ghost use Rattle.pfs_conf_tokens.specs.Giving.{Gives};
 ghost use Rattle.pfs_conf_filters.specs.Values.{flag_test_of, exactly};
 ghost use Rattle.pfs_conf_filters.specs.Reading.{flags_at};
@@ -36,10 +36,16 @@ fn parse_flag_test(text: &[u8]) -> Option<FlagTest>
     ensures { result ≡ flag_test_of text.now }
 {
     let (set, among) = split_at_byte(text, b'/')?;
-    if among.is_empty() {
+    if has_no_letter(among) {
         return None;
     }
     exactly(parse_flags(set), parse_flags(among))
+}
+
+fn has_no_letter(among: &[u8]) -> bool
+    ensures { result ≡ (length among.now == 0) }
+{
+    among.is_empty()
 }
 
 fn exactly(set: Option<Flags>, among: Option<Flags>) -> Option<FlagTest>

@@ -1,8 +1,8 @@
 // Readers of a state clause and its options: each reads a value at the cursor, which then stands behind it, or at the
 // token that goes on no statement.
 
-ghost use Rattle.std.specs.Prelude.{◌≡◌, ◌<◌, ◌≤◌, IfOk, IfSome, MatchBool, Ok, Err};
-ghost use Rattle.pfs_conf_tokens.specs.Reading.{closes_parens, act, once, take, until_all, next_of, list_all, number_at};
+ghost use Rattle.std.specs.Prelude.{◌≡◌, ◌<◌, ◌≤◌, IfOk, IfSome, MatchBool, Ok, Err, Some};
+ghost use Rattle.pfs_conf_tokens.specs.Reading.{closes_parens, act, chain, done, once, take, until_all, next_of, list_all, number_at};
 ghost use Rattle.pfs_conf_tokens.specs.Giving.{Gives};
 ghost use Rattle.pfs_conf_options.specs.Options.{rule_place, options_given};
 ghost use Rattle.pfs_conf_options.specs.Bounds.{AreRead};
@@ -83,35 +83,59 @@ fn option(cursor: &mut Cursor, options: Options) -> Result<Options, Refusal>
     ensures { Gives result cursor.new (option_at options cursor.old) }
 {
     match cursor.key() {
-        Key::Max => {
-            let max = maximum_once(cursor, options.max)?;
-            Ok(Options {
-                max: Some(max),
-                ..options
-            })
-        }
-        Key::SourceTrack => {
-            let track = track_once(cursor, options.track)?;
-            Ok(Options {
-                track: Some(track),
-                ..options
-            })
-        }
-        Key::MaxSrcNodes => {
-            let nodes = maximum_once(cursor, options.max_src_nodes)?;
-            Ok(Options {
-                max_src_nodes: Some(nodes),
-                ..options
-            })
-        }
-        Key::MaxSrcStates => {
-            let states = maximum_once(cursor, options.max_src_states)?;
-            Ok(Options {
-                max_src_states: Some(states),
-                ..options
-            })
-        }
+        Key::Max => max(cursor, options),
+        Key::SourceTrack => source_track(cursor, options),
+        Key::MaxSrcNodes => max_src_nodes(cursor, options),
+        Key::MaxSrcStates => max_src_states(cursor, options),
         _ => connection_option(cursor, options),
+    }
+}
+
+fn max(cursor: &mut Cursor, options: Options) -> Result<Options, Refusal>
+    ensures { Gives result cursor.new (act (once options.max (take (chain (number_at 1 4294967295) (λ n. done (record options { max = Some n }))))) cursor.old) }
+{
+    match maximum_once(cursor, options.max) {
+        Ok(max) => Ok(Options {
+            max: Some(max),
+            ..options
+        }),
+        Err(refusal) => Err(refusal),
+    }
+}
+
+fn source_track(cursor: &mut Cursor, options: Options) -> Result<Options, Refusal>
+    ensures { Gives result cursor.new (act (once options.track (take (chain track_at (λ s. done (record options { track = Some s }))))) cursor.old) }
+{
+    match track_once(cursor, options.track) {
+        Ok(track) => Ok(Options {
+            track: Some(track),
+            ..options
+        }),
+        Err(refusal) => Err(refusal),
+    }
+}
+
+fn max_src_nodes(cursor: &mut Cursor, options: Options) -> Result<Options, Refusal>
+    ensures { Gives result cursor.new (act (once options.max_src_nodes (take (chain (number_at 1 4294967295) (λ n. done (record options { max_src_nodes = Some n }))))) cursor.old) }
+{
+    match maximum_once(cursor, options.max_src_nodes) {
+        Ok(nodes) => Ok(Options {
+            max_src_nodes: Some(nodes),
+            ..options
+        }),
+        Err(refusal) => Err(refusal),
+    }
+}
+
+fn max_src_states(cursor: &mut Cursor, options: Options) -> Result<Options, Refusal>
+    ensures { Gives result cursor.new (act (once options.max_src_states (take (chain (number_at 1 4294967295) (λ n. done (record options { max_src_states = Some n }))))) cursor.old) }
+{
+    match maximum_once(cursor, options.max_src_states) {
+        Ok(states) => Ok(Options {
+            max_src_states: Some(states),
+            ..options
+        }),
+        Err(refusal) => Err(refusal),
     }
 }
 
@@ -121,28 +145,46 @@ fn connection_option(cursor: &mut Cursor, options: Options) -> Result<Options, R
     ensures { Gives result cursor.new (connection_at options cursor.old) }
 {
     match cursor.key() {
-        Key::MaxSrcConn => {
-            let connections = maximum_once(cursor, options.max_src_conn)?;
-            Ok(Options {
-                max_src_conn: Some(connections),
-                ..options
-            })
-        }
-        Key::MaxSrcConnRate => {
-            let rate = rate_once(cursor, options.max_src_conn_rate)?;
-            Ok(Options {
-                max_src_conn_rate: Some(rate),
-                ..options
-            })
-        }
-        Key::Overload => {
-            let overload = overload_once(cursor, options.overload)?;
-            Ok(Options {
-                overload: Some(overload),
-                ..options
-            })
-        }
+        Key::MaxSrcConn => match maximum_once(cursor, options.max_src_conn) {
+            Ok(connections) => Ok(with_connections(options, connections)),
+            Err(refusal) => Err(refusal),
+        },
+        Key::MaxSrcConnRate => match rate_once(cursor, options.max_src_conn_rate) {
+            Ok(rate) => Ok(with_rate(options, rate)),
+            Err(refusal) => Err(refusal),
+        },
+        Key::Overload => match overload_once(cursor, options.overload) {
+            Ok(overload) => Ok(with_overload(options, overload)),
+            Err(refusal) => Err(refusal),
+        },
         _ => mark(cursor, options),
+    }
+}
+
+fn with_connections(options: Options, connections: u32) -> Options
+    ensures { result ≡ record options { max_src_conn = Some connections } }
+{
+    Options {
+        max_src_conn: Some(connections),
+        ..options
+    }
+}
+
+fn with_rate(options: Options, rate: Rate) -> Options
+    ensures { result ≡ record options { max_src_conn_rate = Some rate } }
+{
+    Options {
+        max_src_conn_rate: Some(rate),
+        ..options
+    }
+}
+
+fn with_overload(options: Options, overload: OverloadText) -> Options
+    ensures { result ≡ record options { overload = Some overload } }
+{
+    Options {
+        overload: Some(overload),
+        ..options
     }
 }
 
@@ -230,33 +272,49 @@ fn only_once(is_given: bool) -> Result<(), Refusal>
 fn maximum_once(cursor: &mut Cursor, given: Option<u32>) -> Result<u32, Refusal>
     ensures { Gives result cursor.new (act (once given (take (number_at 1 4294967295))) cursor.old) }
 {
-    only_once(given.is_some())?;
-    cursor.advance();
-    maximum(cursor)
+    match given {
+        Some(_) => Err(Refusal::Stop(Why::Again)),
+        None => {
+            cursor.advance();
+            maximum(cursor)
+        }
+    }
 }
 
 fn track_once(cursor: &mut Cursor, given: Option<Track>) -> Result<Track, Refusal>
     ensures { Gives result cursor.new (act (once given (take track_at)) cursor.old) }
 {
-    only_once(given.is_some())?;
-    cursor.advance();
-    track(cursor)
+    match given {
+        Some(_) => Err(Refusal::Stop(Why::Again)),
+        None => {
+            cursor.advance();
+            track(cursor)
+        }
+    }
 }
 
 fn rate_once(cursor: &mut Cursor, given: Option<Rate>) -> Result<Rate, Refusal>
     ensures { Gives result cursor.new (act (once given (take rate_at)) cursor.old) }
 {
-    only_once(given.is_some())?;
-    cursor.advance();
-    rate(cursor)
+    match given {
+        Some(_) => Err(Refusal::Stop(Why::Again)),
+        None => {
+            cursor.advance();
+            rate(cursor)
+        }
+    }
 }
 
 fn overload_once(cursor: &mut Cursor, given: Option<OverloadText>) -> Result<OverloadText, Refusal>
     ensures { Gives result cursor.new (act (once given (take overload_text_at)) cursor.old) }
 {
-    only_once(given.is_some())?;
-    cursor.advance();
-    overload(cursor)
+    match given {
+        Some(_) => Err(Refusal::Stop(Why::Again)),
+        None => {
+            cursor.advance();
+            overload(cursor)
+        }
+    }
 }
 
 fn maximum(cursor: &mut Cursor) -> Result<u32, Refusal>

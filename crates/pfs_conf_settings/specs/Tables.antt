@@ -20,6 +20,12 @@ sign_by _ = stay (done false)
 unfoldable pub sign_at : Reader Bool
 sign_at ts = on_front (λ t. sign_by t.key) ts
 
+-- whether two entries are both negated, or neither
+abbrev pub is_same_sign : Bool → Bool → Bool
+is_same_sign true true = true
+is_same_sign false false = true
+is_same_sign _ _ = false
+
 -- an entry that stands already is held once with the same sign, and is refused with the other
 abbrev pub again : List TextEntry → Bool → Bool → Act (List TextEntry)
 again entries true true = take (done entries)

@@ -1,10 +1,10 @@
 // The parts of a table's definition.
 
-ghost use Rattle.std.specs.Prelude.{◌≡◌, [], Some, true};
+ghost use Rattle.std.specs.Prelude.{◌≡◌, [], Some};
 ghost use Rattle.pfs_conf_tokens.specs.Keys.{ends_line};
 ghost use Rattle.pfs_conf_tokens.specs.Reading.{chain, closes_braces, done, list_all, next_of, until_all, up_to_all};
 ghost use Rattle.pfs_conf_tokens.specs.Giving.{GivesOrMemory};
-ghost use Rattle.pfs_conf_settings.specs.Tables.{entry_at, lined_entry_at, braced_entries_at, part_at, parts_at};
+ghost use Rattle.pfs_conf_settings.specs.Tables.{entry_at, lined_entry_at, braced_entries_at, is_same_sign, part_at, parts_at};
 ghost use Rattle.pfs_conf_settings.specs.Extending.{Extends};
 
 use pfs_addr::parse_prefix;
@@ -34,48 +34,52 @@ pub struct Parts {
 pub fn read_parts(alloc: Global, cursor: &mut Cursor) -> Result<Parts, ReadError>
     ensures { GivesOrMemory result cursor.new (parts_at cursor.old) }
 {
-    let none = Parts {
+    let mut parts = Parts {
         persist: false,
         is_const: false,
         counters: false,
         entries: None,
     };
-    more_parts(alloc, cursor, none)
+    match more_parts(alloc, cursor, &mut parts) {
+        Ok(()) => Ok(parts),
+        Err(error) => Err(error),
+    }
 }
 
-fn more_parts(alloc: Global, cursor: &mut Cursor, first: Parts) -> Result<Parts, ReadError>
-    ensures { GivesOrMemory result cursor.new (up_to_all ends_line part_at first cursor.old) }
+fn more_parts(alloc: Global, cursor: &mut Cursor, parts: &mut Parts) -> Result<(), ReadError>
+    ensures { Extends result cursor.new parts.new (up_to_all ends_line part_at parts.old cursor.old) }
 {
-    let mut parts = first;
     'parts: while !cursor.is_at_line_end() {
-        parts = match part(alloc, cursor, parts) {
-            Ok(more) => more,
-            Err(error) => return Err(error),
-        };
+        if let Err(error) = part(alloc, cursor, parts) {
+            return Err(error);
+        }
     }
-    Ok(parts)
+    Ok(())
 }
 
 #[tactic(auto, unfolding(crate::specs::Tables::part_at))]
-fn part(alloc: Global, cursor: &mut Cursor, parts: Parts) -> Result<Parts, ReadError>
-    ensures { GivesOrMemory result cursor.new (part_at parts cursor.old) }
+fn part(alloc: Global, cursor: &mut Cursor, parts: &mut Parts) -> Result<(), ReadError>
+    ensures { Extends result cursor.new parts.new (part_at parts.old cursor.old) }
 {
     match cursor.key() {
         Key::Persist if !parts.persist => {
             cursor.advance();
-            Ok(persistent(parts))
+            parts.persist = true;
+            Ok(())
         }
         Key::Const if !parts.is_const => {
             cursor.advance();
-            Ok(constant(parts))
+            parts.is_const = true;
+            Ok(())
         }
         Key::Counters if !parts.counters => {
             cursor.advance();
-            Ok(counted(parts))
+            parts.counters = true;
+            Ok(())
         }
         Key::OpenBrace if parts.entries.is_none() => {
             cursor.advance();
-            with_entries(alloc, cursor, parts)
+            list(alloc, cursor, parts)
         }
         Key::Persist | Key::Const | Key::Counters | Key::OpenBrace => Err(ReadError::Refused(
             Refusal::Stop(Why::Again),
@@ -84,41 +88,16 @@ fn part(alloc: Global, cursor: &mut Cursor, parts: Parts) -> Result<Parts, ReadE
     }
 }
 
-fn persistent(parts: Parts) -> Parts
-    ensures { result ≡ record parts { persist = true } }
+fn list(alloc: Global, cursor: &mut Cursor, parts: &mut Parts) -> Result<(), ReadError>
+    ensures { Extends result cursor.new parts.new (chain braced_entries_at (λ e. done (record parts.old { entries = Some e })) cursor.old) }
 {
-    Parts {
-        persist: true,
-        ..parts
+    match entries(alloc, cursor) {
+        Ok(entries) => {
+            parts.entries = Some(entries);
+            Ok(())
+        }
+        Err(error) => Err(error),
     }
-}
-
-fn constant(parts: Parts) -> Parts
-    ensures { result ≡ record parts { is_const = true } }
-{
-    Parts {
-        is_const: true,
-        ..parts
-    }
-}
-
-fn counted(parts: Parts) -> Parts
-    ensures { result ≡ record parts { counters = true } }
-{
-    Parts {
-        counters: true,
-        ..parts
-    }
-}
-
-fn with_entries(alloc: Global, cursor: &mut Cursor, parts: Parts) -> Result<Parts, ReadError>
-    ensures { GivesOrMemory result cursor.new (chain braced_entries_at (λ e. done (record parts { entries = Some e })) cursor.old) }
-{
-    let entries = entries(alloc, cursor)?;
-    Ok(Parts {
-        entries: Some(entries),
-        ..parts
-    })
 }
 
 /// The entries in braces, behind the opening one.
@@ -190,9 +169,15 @@ fn entry(cursor: &mut Cursor, entries: &mut Entries, negated: bool) -> Result<()
                 return Err(ReadError::Memory);
             }
         }
-        Some(held) if held == negated => {}
+        Some(held) if is_same_sign(held, negated) => {}
         Some(_) => return Err(ReadError::Refused(Refusal::Stop(Why::Again))),
     }
     cursor.advance();
     Ok(())
+}
+
+fn is_same_sign(held: bool, negated: bool) -> bool
+    ensures { result ≡ is_same_sign held negated }
+{
+    held == negated
 }

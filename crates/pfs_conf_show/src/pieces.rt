@@ -1,6 +1,7 @@
 // Numbers, prefixes and the marks of lists.
 
-ghost use Rattle.std.specs.Prelude.{◌≡◌, ◌++◌, OnOk, codes, decimal};
+ghost use Rattle.std.specs.Prelude.{◌≡◌, ◌==◌, ◌++◌, OnOk, codes, decimal};
+ghost use Rattle.pfs_addr.specs.Addresses.{width_of};
 ghost use Rattle.pfs_conf_show.specs.Pieces.{bits_text, closed_by, not_text, prefix_text, separator, worded};
 
 use itoa::Buffer;
@@ -41,11 +42,18 @@ pub fn push_prefix(out: &mut Vec<u8>, prefix: Prefix) -> Result<(), NoMemory>
 fn push_bits(out: &mut Vec<u8>, prefix: Prefix) -> Result<(), NoMemory>
     ensures { OnOk result (out.new.items ≡ out.old.items ++ bits_text prefix) }
 {
-    if prefix.bits() != prefix.addr().width() {
+    if !is_whole(prefix) {
         out.extend_from_slice(b"/")?;
         push_number(out, u64::from(prefix.bits()))?;
     }
     Ok(())
+}
+
+// Whether all bits of the address count.
+fn is_whole(prefix: Prefix) -> bool
+    ensures { result ≡ (prefix.bits == width_of prefix.addr) }
+{
+    prefix.bits() == prefix.addr().width()
 }
 
 // What stands before an item of a list that has begun or not.

@@ -6,7 +6,7 @@ use Rattle.pfs_conf_settings.specs.Tables.{part_at}
 use Rattle.pfs_conf_settings.proofs.tables.more_parts.Given as goal
 
 abbrev pub invariant-parts : goal.invariant-parts
-invariant-parts l = up_to_all ends_line part_at l.parts l.cursor ≡ up_to_all ends_line part_at l.fn.first l.fn.cursor
+invariant-parts l = up_to_all ends_line part_at l.parts l.cursor ≡ up_to_all ends_line part_at l.fn.parts l.fn.cursor
 
 abbrev pub decreases-parts : goal.decreases-parts
 decreases-parts l = length l.cursor

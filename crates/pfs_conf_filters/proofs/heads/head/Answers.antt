@@ -1,0 +1,12 @@
+-- Answers of head: the parts stand in their order, and the protocol behind the one family.
+use Rattle.std.proofs.Common.{rules}
+use Rattle.pfs_conf_filters.specs.Reading.{head_at}
+use Rattle.pfs_conf_filters.proofs.heads.head.Goals as goal
+
+pub returns-in_err-proto : goal.returns-in_err-proto
+unfolding head_at
+returns-in_err-proto c = search rules
+
+pub returns : goal.returns
+unfolding head_at
+returns c = search rules
