@@ -1,7 +1,9 @@
 // A store over plain lists.
 
-ghost use Rattle.std.specs.Prelude.{◌≡◌, ◌+◌, ◌<◌, ◌≤◌, [], ◌∷◌, ◌++◌, false, IfOk, IsOk, IsSome, None, OnOk, length, vec_capacity};
-ghost use Rattle.pfs_store_plain.specs.Admission.{nodes_with};
+ghost use Rattle.std.specs.Prelude.{◌≡◌, ◌+◌, ◌<◌, ◌≤◌, [], ◌∷◌, ◌++◌, false, IfOk, IsOk, IsSome, None, OnErr, OnOk, length, vec_capacity};
+ghost use Rattle.pfs_conf_rules.specs.Configs.{options_at};
+ghost use Rattle.pfs_store_plain.specs.Admission.{admitted, nodes_with};
+ghost use Rattle.pfs_store_plain.specs.Calls.{packet_limit};
 ghost use Rattle.pfs_store_plain.specs.Plain.{AreScores};
 ghost use Rattle.pfs_store_plain.specs.Worlds.{empty_world};
 
@@ -49,16 +51,51 @@ impl PlainStore {
     pub fn new(alloc: Global, config: &Config) -> Result<PlainStore, NoMemory>
         ensures { IfOk result (λ s. s ≡ record { config = config.now; world = empty_world }) }
     {
-        let rules = config.item_count() as usize;
+        let rule_counts = vec![in alloc; 0; config.item_count() as usize]?;
         Ok(PlainStore {
             config: config.copy()?,
             states: Vec::new(alloc),
             nodes: Vec::new(alloc),
             pending_states: Vec::new(alloc),
             pending_nodes: Vec::new(alloc),
-            rule_counts: vec![in alloc; 0; rules]?,
+            rule_counts,
             made: 0,
         })
+    }
+
+    /// The first limit that a packet meets at a rule.
+    fn limit_for(&self, packet: &Packet, rule: RuleNo) -> Option<Limit>
+        requires { IsSome (options_at self.now.config rule.0) }
+        ensures { result ≡ packet_limit self.now.config self.now.world packet.now rule.0 }
+    {
+        limit_met(&self.config, &self.states, &self.nodes, rule, packet.src())
+    }
+
+    /// The state of a packet that meets no limit, and its source's node.
+    fn place(&mut self, packet: &Packet, rule: RuleNo, now: u64) -> Result<StateNo, AllocError>
+        requires room { self.old.world.made < 1000000000 }
+        ensures answer { IfOk result (λ number. number.0 ≡ self.old.world.made + 1) }
+        ensures ok { OnOk result (self.new.world ≡ admitted self.old.config self.old.world packet.now rule.0 now) }
+        ensures err { OnErr result (self.new.world ≡ self.old.world) }
+        ensures config { self.new.config ≡ self.old.config }
+    {
+        make_room(&mut self.states, &mut self.pending_states)?;
+        let scope = node_scope(&self.config, rule);
+        make_node_room(&mut self.nodes, &mut self.pending_nodes, scope)?;
+        let number = self.made + 1;
+        let source = packet.src();
+        add_node(&mut self.nodes, number, source, scope);
+        self.states.push_reserved(State {
+            number,
+            key: FlowKey::of(packet),
+            dir: packet.dir(),
+            source,
+            rule,
+            phase: StatePhase::first(packet.proto()),
+            last: now,
+        });
+        self.made = number;
+        Ok(StateNo(number))
     }
 }
 
@@ -105,30 +142,13 @@ impl Store for PlainStore {
         rule: RuleNo,
         now: u64,
     ) -> Result<Result<StateNo, Limit>, NoMemory> {
-        let source = packet.src();
-        if let Some(limit) = limit_met(&self.config, &self.states, &self.nodes, rule, source) {
+        if let Some(limit) = self.limit_for(packet, rule) {
             return Ok(Err(limit));
         }
-        if make_room(&mut self.states, &mut self.pending_states).is_err() {
-            return Err(NoMemory);
+        match self.place(packet, rule, now) {
+            Ok(number) => Ok(Ok(number)),
+            Err(_) => Err(NoMemory),
         }
-        let scope = node_scope(&self.config, rule);
-        if make_node_room(&mut self.nodes, &mut self.pending_nodes, scope).is_err() {
-            return Err(NoMemory);
-        }
-        let number = self.made + 1;
-        add_node(&mut self.nodes, number, source, scope);
-        self.states.push_reserved(State {
-            number,
-            key: FlowKey::of(packet),
-            dir: packet.dir(),
-            source,
-            rule,
-            phase: StatePhase::first(packet.proto()),
-            last: now,
-        });
-        self.made = number;
-        Ok(Ok(StateNo(number)))
     }
 
     fn touch(

@@ -1,8 +1,9 @@
 // The slices of the purge, in lists of states and nodes.
 
-ghost use Rattle.std.specs.Prelude.{◌≡◌, ◌+◌, ◌-◌, ◌<◌, ◌≤◌, ◌==◌, ◌&&◌, ℕ, [], List, ◌^◌, not, drop, filter, length, map, min, replicate, slice_index, take, vec_capacity};
-ghost use Rattle.pfs_conf_rules.specs.Configs.{rule_retention, timeout_of};
+ghost use Rattle.std.specs.Prelude.{◌≡◌, ◌+◌, ◌-◌, ◌<◌, ◌≤◌, ◌==◌, ◌&&◌, ℕ, [], List, ◌^◌, not, drop, filter, length, map, min, None, replicate, slice_index, slice_index_or, take, unwrap_or, vec_capacity};
+ghost use Rattle.pfs_conf_rules.specs.Configs.{rate_seconds, rule_retention, timeout_of};
 ghost use Rattle.pfs_conf_rules.specs.declared.timeouts.TimeoutName.TheVariants as timeout;
+ghost use Rattle.pfs_conf_rules.specs.Timeouts.{place_of};
 ghost use Rattle.pfs_track.specs.Lifetimes.{is_expired, scaled_lifetime};
 ghost use Rattle.pfs_store_plain.specs.Counts.{rule_states};
 ghost use Rattle.pfs_store_plain.specs.Plain.{AreCounts, AreScores};
@@ -253,12 +254,25 @@ fn node_retention(config: &Config, scope: NodeScope) -> u64
 fn rule_retention(options: &StateOptions, global: u64) -> u64
     ensures { result ≡ rule_retention global options.now }
 {
-    let seconds = match options.timeouts.get(TimeoutName::SrcTrack) {
+    source_seconds(options, global).max(rate_seconds(options))
+}
+
+/// The rule's `src.track`, or else the global one.
+fn source_seconds(options: &StateOptions, global: u64) -> u64
+    ensures { result ≡ unwrap_or (slice_index_or options.now.timeouts (place_of timeout.SrcTrack) None) global }
+{
+    match options.timeouts.get(TimeoutName::SrcTrack) {
         Some(seconds) => u64::from(seconds),
         None => global,
-    };
+    }
+}
+
+/// The seconds of the rate, if there is one.
+fn rate_seconds(options: &StateOptions) -> u64
+    ensures { result ≡ rate_seconds options.now.max_src_conn_rate }
+{
     match options.max_src_conn_rate {
-        Some(rate) => seconds.max(u64::from(rate.seconds)),
-        None => seconds,
+        Some(rate) => u64::from(rate.seconds),
+        None => 0,
     }
 }

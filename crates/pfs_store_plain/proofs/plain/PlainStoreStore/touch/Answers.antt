@@ -1,8 +1,23 @@
 -- Answer of PlainStore's touch: what touch says of its lists it says of the whole world (`world`).
-use Rattle.std.proofs.Common.{arith}
-use Rattle.std.proofs.lemmas.Grind.{common_steps}
+use Rattle.std.proofs.Common.{◌≡◌, ◌∙◌, ℕ, List, [], ◌++◌, length, take, drop, ap, arith}
+use Rattle.std.proofs.Math.Seq.{take-append_seam}
+use Rattle.pfs_addr.specs.Keys.{key_of}
+use Rattle.pfs_store_plain.specs.Calls.{world_touched}
+use Rattle.pfs_store_plain.specs.Plain.{Plain}
+use Rattle.pfs_store_plain.specs.Worlds.{lists, state_with}
 use Rattle.pfs_store_plain.proofs.plain.PlainStoreStore.touch.Goals as goal
+
+whole : {A : Type 0} (n : ℕ) (xs ys : List A) → n ≡ length xs → take n (xs ++ drop (length xs) ys) ≡ xs
+whole n xs ys e = ap (λ m. take m (xs ++ drop (length xs) ys)) e ∙ take-append_seam xs _
 
 pub returns-clause-world : goal.returns-clause-world
 returns-clause-world c =
-    grind (arith, common_steps, c.touch.ensures.world c.self.inside.pending_states.items c.self.inside.pending_nodes.items c.self.inside.made)
+    let s = c.self.inside in
+    let states : s.states.len ≡ length c.touch.new.states = omega (arith, c.touch.auto.states, c.as_mut_slice.ensures.len, s.states.ok.0) in
+    let nodes : s.nodes.len ≡ length c.touch.new.nodes = omega (arith, c.touch.auto.nodes, c.as_mut_slice-2.ensures.len, s.nodes.ok.0) in
+    let key = key_of c.args.packet.now in
+    (λ j. lists (whole s.states.len c.touch.new.states s.states.items states j) (whole s.nodes.len c.touch.new.nodes s.nodes.items nodes j) s.pending_states.items s.pending_nodes.items s.made)
+    ∙ c.touch.ensures.world s.pending_states.items s.pending_nodes.items s.made
+    ∙ (λ j. world_touched s.config (lists (c.as_mut_slice.ensures.value j) (c.as_mut_slice-2.ensures.value j) s.pending_states.items s.pending_nodes.items s.made)
+    c.args.packet.now c.args.now (state_with key (lists (c.as_mut_slice.ensures.value j) [] [] [] 0)))
+    ∙ ap (λ (p : Plain). world_touched p.config p.world c.args.packet.now c.args.now (state_with key p.world)) c.self.view_is
