@@ -5,12 +5,13 @@ ghost use Rattle.std.specs.Option.{ForSome};
 ghost use Rattle.pfs_engine_machine.specs.Runs.{AreAllowed, IsInOrder, MayCome, MayExpire};
 
 use crate::packets::{A1, A2, Sent, packet};
-use crate::telling::{Stop, begin, begin_free, end, plain, refused};
-use crate::texts::{CONNECTIONS, FULL, NODES, OVERLOAD};
-use pfs_addr::{Addr, Packet};
+use pfs_addr::{Addr, NoMemory, Packet};
 use pfs_conf::{Config, RuleNo, TableNo, load};
 use pfs_engine::{Added, Engine, Event, Limit, Outcome, What};
 use pfs_store::{IndexStore, PlainStore, Store};
+use pfs_tests_telling::{
+    CONNECTIONS, FULL, NODES, OVERLOAD, Stop, answered, begin, begin_free, end, plain, refused,
+};
 use std::hash::{BuildHasherDefault, FoldHasher};
 
 type Indexed = IndexStore<BuildHasherDefault<FoldHasher>>;
@@ -134,8 +135,8 @@ pub fn tell_plain(rt: &HostRuntime) -> Result<(), Stop> {
         if !new_plain(rt, case)? {
             new_plain(rt, case)?;
         }
-        walk(rt, plain_engine(rt, case)?, case)?;
-        run_all(rt, plain_engine(rt, case)?, case)?;
+        walk(rt, &mut plain_engine(rt, case)?, case)?;
+        run_all(rt, &mut plain_engine(rt, case)?, case)?;
     }
     Ok(())
 }
@@ -146,8 +147,8 @@ pub fn tell_indexed(rt: &HostRuntime) -> Result<(), Stop> {
         if !new_indexed(rt, case)? {
             new_indexed(rt, case)?;
         }
-        walk(rt, indexed_engine(rt, case)?, case)?;
-        run_all(rt, indexed_engine(rt, case)?, case)?;
+        walk(rt, &mut indexed_engine(rt, case)?, case)?;
+        run_all(rt, &mut indexed_engine(rt, case)?, case)?;
     }
     Ok(())
 }
@@ -168,23 +169,25 @@ fn new_plain(rt: &HostRuntime, case: &Case) -> Result<bool, Stop> {
     let config = load(rt.alloc(), case.rules)?;
     let store = PlainStore::new(rt.alloc(), &config)?;
     begin(rt, "Engine::new")?;
-    let answer = Engine::new(rt.alloc(), config, store);
+    let is_right = is_new(Engine::new(rt.alloc(), config, store));
     end(rt)?;
-    match answer {
-        Ok(engine) => plain(rt, engine.last() == None && engine.states() == 0),
-        Err(_) => refused(rt, true),
-    }
+    answered(rt, is_right)
 }
 
 fn new_indexed(rt: &HostRuntime, case: &Case) -> Result<bool, Stop> {
     let config = load(rt.alloc(), case.rules)?;
     let store = IndexStore::new(rt.alloc(), &config)?;
     begin(rt, "Engine::new")?;
-    let answer = Engine::new(rt.alloc(), config, store);
+    let is_right = is_new(Engine::new(rt.alloc(), config, store));
     end(rt)?;
-    match answer {
-        Ok(engine) => plain(rt, engine.last() == None && engine.states() == 0),
-        Err(_) => refused(rt, true),
+    answered(rt, is_right)
+}
+
+// Whether a new engine is one before the first event, where there is one.
+fn is_new<S: Store + Drop>(made: Result<Engine<S>, NoMemory>) -> Option<bool> {
+    match made {
+        Ok(engine) => Some(engine.last() == None && engine.states() == 0),
+        Err(_) => None,
     }
 }
 
@@ -199,18 +202,34 @@ fn held<S: Store>(engine: &Engine<S>) -> (u64, u64, u64, u64) {
 }
 
 // The packets one by one.
-fn walk<S: Store + Drop>(rt: &HostRuntime, engine: Engine<S>, case: &Case) -> Result<(), Stop> {
-    let mut engine = engine;
+fn walk<S: Store>(rt: &HostRuntime, engine: &mut Engine<S>, case: &Case) -> Result<(), Stop> {
     for row in case.rows {
-        advance(rt, &mut engine, row.0)?;
-        if !take(rt, &mut engine, case, row)? {
-            take(rt, &mut engine, case, row)?;
-        }
+        take_row(rt, engine, case, row)?;
     }
     begin_free(rt, "what is held")?;
-    let held = held(&engine);
+    let is_right = is_end(engine, case);
     end(rt)?;
-    plain(rt, (held.0, held.1, held.2) == case.end)?;
+    plain(rt, is_right)?;
+    Ok(())
+}
+
+// What is held is what the case has in the end.
+fn is_end<S: Store>(engine: &Engine<S>, case: &Case) -> bool {
+    let (states, nodes, entries, _) = held(engine);
+    (states, nodes, entries) == case.end
+}
+
+// A packet at its moment, and once more where memory was refused.
+fn take_row<S: Store>(
+    rt: &HostRuntime,
+    engine: &mut Engine<S>,
+    case: &Case,
+    row: &Row,
+) -> Result<(), Stop> {
+    advance(rt, engine, row.0)?;
+    if !take(rt, engine, case, row)? {
+        take(rt, engine, case, row)?;
+    }
     Ok(())
 }
 
@@ -268,16 +287,15 @@ fn event_of(row: &Row) -> Result<Event, Stop> {
 }
 
 // All packets by one call; where it is refused, those that are left by another.
-fn run_all<S: Store + Drop>(rt: &HostRuntime, engine: Engine<S>, case: &Case) -> Result<(), Stop> {
-    let mut engine = engine;
+fn run_all<S: Store>(rt: &HostRuntime, engine: &mut Engine<S>, case: &Case) -> Result<(), Stop> {
     let mut events = Vec::with_capacity(rt.alloc(), 16)?;
     for row in case.rows {
         events.push(event_of(row)?)?;
     }
     let mut outcomes = Vec::new(rt.alloc());
-    if !run_once(rt, &mut engine, &events, &mut outcomes, case)? {
+    if !run_once(rt, engine, &events, &mut outcomes, case)? {
         let done = outcomes.len().min(events.len());
-        run_once(rt, &mut engine, &events[done..], &mut outcomes, case)?;
+        run_once(rt, engine, &events[done..], &mut outcomes, case)?;
     }
     Ok(())
 }
@@ -298,14 +316,11 @@ fn run_once<S: Store>(
     begin(rt, "run")?;
     let answer = engine.run(events, outcomes);
     end(rt)?;
-    let held = held(engine);
-    let is_front = is_front(outcomes, case) && held.3 == outcomes.len() as u64;
+    let is_front = is_front(outcomes, case) && engine.taken() == outcomes.len() as u64;
+    let is_whole = outcomes.len() == case.rows.len();
     match answer {
-        Ok(()) => plain(
-            rt,
-            is_front && outcomes.len() == case.rows.len() && (held.0, held.1, held.2) == case.end,
-        ),
-        Err(_) => refused(rt, is_front && outcomes.len() < case.rows.len()),
+        Ok(()) => plain(rt, is_front && is_whole && is_end(engine, case)),
+        Err(_) => refused(rt, is_front && !is_whole),
     }
 }
 

@@ -1,26 +1,20 @@
-// Each call that may answer want of memory, so that a growth that is refused shows which call it was, and what stands after it. Standard
-// output has a line before each call and one behind it, and then whether the answer is the plain one, or refused, with all that has
+// Each call below the program that may answer want of memory, so that a growth that is refused shows which call it was, and what stands
+// after it. Standard output has a line before each call and one behind it, and then whether the answer is the plain one, or refused, with all that has
 // to stand still there. Words choose what is called; without words it is everything.
 #![tactic(auto)]
 
 mod engines;
 mod packets;
-mod programs;
 mod stores;
 mod tables;
-mod telling;
 mod texts;
 
-use crate::telling::Stop;
+use pfs_tests_telling::{Stop, code_of, is_chosen};
 use std::env;
 use std::process::ExitCode;
 
 fn main(rt: HostRuntime) -> ExitCode {
-    match tell_all(&rt) {
-        Ok(()) => ExitCode::from(0),
-        Err(Stop::Memory) => ExitCode::from(4),
-        Err(_) => ExitCode::from(1),
-    }
+    code_of(tell_all(&rt))
 }
 
 // What the words name, or everything, and then that it is whole.
@@ -32,13 +26,8 @@ fn tell_all(rt: &HostRuntime) -> Result<(), Stop> {
     };
     tell_texts(rt, chosen)?;
     tell_machine(rt, chosen)?;
-    tell_programs(rt, chosen)?;
     println!(rt; "whole")?;
     Ok(())
-}
-
-fn is_chosen(chosen: &str, name: &str) -> bool {
-    chosen.is_empty() || chosen == name
 }
 
 fn tell_texts(rt: &HostRuntime, chosen: &str) -> Result<(), Stop> {
@@ -66,16 +55,6 @@ fn tell_machine(rt: &HostRuntime, chosen: &str) -> Result<(), Stop> {
     }
     if is_chosen(chosen, "index-engine") {
         engines::tell_indexed(rt)?;
-    }
-    Ok(())
-}
-
-fn tell_programs(rt: &HostRuntime, chosen: &str) -> Result<(), Stop> {
-    if is_chosen(chosen, "replays") {
-        programs::tell_replays(rt)?;
-    }
-    if is_chosen(chosen, "jobs") {
-        programs::tell_jobs(rt)?;
     }
     Ok(())
 }

@@ -3,11 +3,12 @@
 ghost use Rattle.std.specs.Prelude.{◌≡◌};
 
 use crate::packets::{A1, A2, Sent, packet};
-use crate::telling::{Stop, begin, begin_free, end, plain, refused, wrong};
-use crate::texts::{EVERYTHING, NODES};
-use pfs_addr::{Addr, FlowKey, Meter, Packet};
+use pfs_addr::{Addr, FlowKey, Meter, NoMemory, Packet};
 use pfs_conf::{Config, RuleNo, load};
 use pfs_store::{IndexStore, Limit, PlainStore, StateNo, Store};
+use pfs_tests_telling::{
+    EVERYTHING, NODES, Stop, answered, begin, begin_free, end, plain, refused, wrong,
+};
 
 // The first rule tracks sources, the second does not; both share the states.
 const LIMITED: &[u8] = b"set limit states 14\n\
@@ -99,21 +100,23 @@ pub fn tell_indexed(rt: &HostRuntime) -> Result<(), Stop> {
 
 fn new_plain(rt: &HostRuntime, config: &Config) -> Result<bool, Stop> {
     begin(rt, "PlainStore::new")?;
-    let answer = PlainStore::new(rt.alloc(), config);
+    let is_right = is_empty(PlainStore::new(rt.alloc(), config));
     end(rt)?;
-    match answer {
-        Ok(store) => plain(rt, counts(&store) == (0, 0, 0)),
-        Err(_) => refused(rt, true),
-    }
+    answered(rt, is_right)
 }
 
 fn new_indexed(rt: &HostRuntime, config: &Config) -> Result<bool, Stop> {
     begin(rt, "IndexStore::new")?;
-    let answer = IndexStore::new(rt.alloc(), config);
+    let is_right = is_empty(IndexStore::new(rt.alloc(), config));
     end(rt)?;
-    match answer {
-        Ok(store) => plain(rt, counts(&store) == (0, 0, 0)),
-        Err(_) => refused(rt, true),
+    answered(rt, is_right)
+}
+
+// Whether a new store holds nothing, where there is one.
+fn is_empty<S: Store + Drop>(made: Result<S, NoMemory>) -> Option<bool> {
+    match made {
+        Ok(store) => Some(counts(&store) == (0, 0, 0)),
+        Err(_) => None,
     }
 }
 

@@ -3,11 +3,12 @@
 ghost use Rattle.std.specs.Prelude.{◌≡◌, ◌<◌, length};
 
 use crate::packets::{A1, Sent, packet};
-use crate::telling::{Stop, begin, begin_free, end, plain, refused};
-use crate::texts::{EVERYTHING, FULL, NODES, OVERLOAD};
-use pfs_addr::{Addr, Meter, Packet};
+use pfs_addr::{Addr, Meter, NoMemory, Packet};
 use pfs_conf::{Config, RuleNo, TableNo, load};
 use pfs_eval::{Added, Book, Tables};
+use pfs_tests_telling::{
+    EVERYTHING, FULL, NODES, OVERLOAD, Stop, answered, begin, begin_free, end, plain, refused,
+};
 
 // Rules, how many entries they have, and the rule that decides on a packet of UDP.
 type Row = (&'static [u8], u64, Option<u32>);
@@ -52,11 +53,16 @@ fn tell_book(rt: &HostRuntime, config: &Config, row: &Row, udp: &Packet) -> Resu
 
 fn new_tables(rt: &HostRuntime, config: &Config, entries: u64) -> Result<bool, Stop> {
     begin(rt, "Tables::new")?;
-    let answer = Tables::new(rt.alloc(), config);
+    let is_right = are_tables(Tables::new(rt.alloc(), config), entries);
     end(rt)?;
-    match answer {
-        Ok(tables) => plain(rt, tables.entries() == entries),
-        Err(_) => refused(rt, true),
+    answered(rt, is_right)
+}
+
+// Whether new tables have so many entries, where there are any.
+fn are_tables(made: Result<Tables, NoMemory>, entries: u64) -> Option<bool> {
+    match made {
+        Ok(tables) => Some(tables.entries() == entries),
+        Err(_) => None,
     }
 }
 

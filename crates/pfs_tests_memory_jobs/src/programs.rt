@@ -1,0 +1,242 @@
+// The calls of the program: replays, what is told of rules, and the words of the command line.
+
+use clap::error::ErrorKind;
+use pfs_cli::{
+    Feed, Job, ReplayFault, Sink, check, job, perform, print, replay, replay_joined, status,
+};
+use pfs_tests_telling::{
+    EVERYTHING, FULL, NODES, OVERLOAD, SHOWN, Stop, begin, begin_free, end, plain, refused, wrong,
+};
+
+// Rules, a trace, and its report.
+type Row = (&'static [u8], &'static [u8], &'static [u8]);
+
+const TRACES: &[Row] = &[
+    (
+        NODES,
+        b"time,dir,if,proto,src,sport,dst,dport,flags\n\
+        0,in,em0,udp,198.51.100.1,1,192.0.2.1,53,\n10,in,em0,udp,198.51.100.2,1,192.0.2.1,53,\n\
+        30,in,em0,udp,198.51.100.2,1,192.0.2.1,53,\n",
+        b"1 new @0\n2 drop:max-src-nodes @0\n3 new @0\nend rows=3 states=1 nodes=1 entries=0\n",
+    ),
+    (
+        OVERLOAD,
+        b"time,dir,if,proto,src,sport,dst,dport,flags\n\
+        0,in,em0,udp,198.51.100.1,53000,192.0.2.1,53,\n\
+        0,in,em0,tcp,198.51.100.1,1000,192.0.2.1,80,S\n0,out,em0,tcp,192.0.2.1,80,198.51.100.1,1000,SA\n\
+        0,in,em0,tcp,198.51.100.1,1000,192.0.2.1,80,A\n\
+        0,in,em0,tcp,198.51.100.1,1001,192.0.2.1,80,S\n0,out,em0,tcp,192.0.2.1,80,198.51.100.1,1001,SA\n\
+        0,in,em0,tcp,198.51.100.1,1001,192.0.2.1,80,A\n0,in,em0,tcp,198.51.100.1,1002,192.0.2.1,80,S\n",
+        b"1 new @1\n2 new @2\n3 state @2\n4 state @2\n5 new @2\n6 state @2\n\
+        7 kill:max-src-conn @2 overload=added killed=2\n8 block @0\nend rows=8 states=1 nodes=1 entries=1\n",
+    ),
+    (
+        FULL,
+        b"time,dir,if,proto,src,sport,dst,dport,flags\n\
+        0,in,em0,tcp,198.51.100.1,1000,192.0.2.1,80,S\n0,out,em0,tcp,192.0.2.1,80,198.51.100.1,1000,SA\n\
+        0,in,em0,tcp,198.51.100.1,1000,192.0.2.1,80,A\n\
+        0,in,em0,tcp,198.51.100.1,1001,192.0.2.1,80,S\n0,out,em0,tcp,192.0.2.1,80,198.51.100.1,1001,SA\n\
+        0,in,em0,tcp,198.51.100.1,1001,192.0.2.1,80,A\n",
+        b"1 new @0\n2 state @0\n3 state @0\n4 new @0\n5 state @0\n\
+        6 kill:max-src-conn @0 overload=full killed=1\nend rows=6 states=1 nodes=1 entries=1\n",
+    ),
+];
+
+const COUNTS: &[u8] = b"ok items=3 tables=2 entries=2\n";
+
+// Words of a command line, and what they ask for; nothing where they are refused.
+type Words = (&'static [&'static str], Option<Job<'static>>);
+
+const WORDS: &[Words] = &[
+    (&["pfsrc"], Some(Job::Joined)),
+    (&["pfsrc", "check", "r"], Some(Job::Check("r"))),
+    (&["pfsrc", "show", "r"], Some(Job::Show("r"))),
+    (&["pfsrc", "replay", "r", "t"], Some(Job::Replay("r", "t"))),
+    (&["pfsrc", "replay", "r"], None),
+    (&["pfsrc", "run"], None),
+];
+
+/// Replays of rules and traces, apart and in one text.
+pub fn tell_replays(rt: &HostRuntime) -> Result<(), Stop> {
+    for row in TRACES {
+        if !replay_one(rt, row)? {
+            replay_one(rt, row)?;
+        }
+        if !perform_replay(rt, row)? {
+            perform_replay(rt, row)?;
+        }
+        tell_joined(rt, row)?;
+    }
+    Ok(())
+}
+
+fn tell_joined(rt: &HostRuntime, row: &Row) -> Result<(), Stop> {
+    let mut text = Vec::from_slice(rt.alloc(), row.0)?;
+    text.extend_from_slice(b"%%\n")?;
+    text.extend_from_slice(row.1)?;
+    if !joined_one(rt, &text, row.2)? {
+        joined_one(rt, &text, row.2)?;
+    }
+    if !perform_joined(rt, &text, row.2)? {
+        perform_joined(rt, &text, row.2)?;
+    }
+    Ok(())
+}
+
+// Room for all that is written, so that no write needs more.
+fn sink(rt: &HostRuntime) -> Result<Sink<Vec<u8>>, Stop> {
+    Ok(Sink::new(Vec::with_capacity(rt.alloc(), 4096)?))
+}
+
+fn replay_one(rt: &HostRuntime, row: &Row) -> Result<bool, Stop> {
+    let mut out = sink(rt)?;
+    let mut rules = Feed::new(row.0, 99);
+    let mut trace = Feed::new(row.1, 99);
+    begin(rt, "replay")?;
+    let answer = replay(rt.alloc(), &mut rules, &mut trace, &mut out);
+    end(rt)?;
+    tell_report(rt, answer, &out.into_inner(), row.2)
+}
+
+fn perform_replay(rt: &HostRuntime, row: &Row) -> Result<bool, Stop> {
+    let mut out = sink(rt)?;
+    let mut rules = Feed::new(row.0, 99);
+    let mut trace = Feed::new(row.1, 99);
+    begin(rt, "perform replay")?;
+    let answer = perform(
+        rt.alloc(),
+        &Job::Replay("r", "t"),
+        &mut rules,
+        &mut trace,
+        &mut out,
+    );
+    end(rt)?;
+    tell_report(rt, answer, &out.into_inner(), row.2)
+}
+
+fn joined_one(rt: &HostRuntime, text: &[u8], report: &[u8]) -> Result<bool, Stop> {
+    let mut out = sink(rt)?;
+    let mut input = Feed::new(text, 99);
+    begin(rt, "replay_joined")?;
+    let answer = replay_joined(rt.alloc(), &mut input, &mut out);
+    end(rt)?;
+    tell_report(rt, answer, &out.into_inner(), report)
+}
+
+fn perform_joined(rt: &HostRuntime, text: &[u8], report: &[u8]) -> Result<bool, Stop> {
+    let mut out = sink(rt)?;
+    let mut input = Feed::new(text, 99);
+    let mut trace = Feed::new(b"".as_slice(), 0);
+    begin(rt, "perform joined")?;
+    let answer = perform(rt.alloc(), &Job::Joined, &mut input, &mut trace, &mut out);
+    end(rt)?;
+    tell_report(rt, answer, &out.into_inner(), report)
+}
+
+// The report; or at want of memory whole lines of it, without the last.
+fn tell_report(
+    rt: &HostRuntime,
+    answer: Result<(), ReplayFault>,
+    written: &[u8],
+    report: &[u8],
+) -> Result<bool, Stop> {
+    match answer {
+        Ok(()) => plain(rt, written == report),
+        Err(ReplayFault::Memory) => refused(rt, are_first_lines(written, report)),
+        Err(_) => wrong(rt),
+    }
+}
+
+fn are_first_lines(written: &[u8], report: &[u8]) -> bool {
+    written.len() < report.len()
+        && report.starts_with(written)
+        && (written.is_empty() || written.ends_with(b"\n"))
+}
+
+/// What is told of rules, and the words of the command line.
+pub fn tell_jobs(rt: &HostRuntime) -> Result<(), Stop> {
+    if !check_one(rt)? {
+        check_one(rt)?;
+    }
+    if !print_one(rt)? {
+        print_one(rt)?;
+    }
+    for (task, text) in &[(Job::Check("r"), COUNTS), (Job::Show("r"), SHOWN)] {
+        if !perform_one(rt, task, text)? {
+            perform_one(rt, task, text)?;
+        }
+    }
+    for row in WORDS {
+        if !job_one(rt, row)? {
+            job_one(rt, row)?;
+        }
+    }
+    status_one(rt)
+}
+
+fn check_one(rt: &HostRuntime) -> Result<bool, Stop> {
+    let mut out = sink(rt)?;
+    let mut rules = Feed::new(EVERYTHING, 99);
+    begin(rt, "check")?;
+    let answer = check(rt.alloc(), &mut rules, &mut out);
+    end(rt)?;
+    tell_text(rt, answer, &out.into_inner(), COUNTS)
+}
+
+fn print_one(rt: &HostRuntime) -> Result<bool, Stop> {
+    let mut out = sink(rt)?;
+    let mut rules = Feed::new(EVERYTHING, 99);
+    begin(rt, "print")?;
+    let answer = print(rt.alloc(), &mut rules, &mut out);
+    end(rt)?;
+    tell_text(rt, answer, &out.into_inner(), SHOWN)
+}
+
+fn perform_one(rt: &HostRuntime, task: &Job, text: &[u8]) -> Result<bool, Stop> {
+    let mut out = sink(rt)?;
+    let mut rules = Feed::new(EVERYTHING, 99);
+    let mut trace = Feed::new(b"".as_slice(), 0);
+    begin(rt, "perform check or show")?;
+    let answer = perform(rt.alloc(), task, &mut rules, &mut trace, &mut out);
+    end(rt)?;
+    tell_text(rt, answer, &out.into_inner(), text)
+}
+
+// The text; or at want of memory a front of it.
+fn tell_text(
+    rt: &HostRuntime,
+    answer: Result<(), ReplayFault>,
+    written: &[u8],
+    text: &[u8],
+) -> Result<bool, Stop> {
+    match answer {
+        Ok(()) => plain(rt, written == text),
+        Err(ReplayFault::Memory) => refused(rt, text.starts_with(written)),
+        Err(_) => wrong(rt),
+    }
+}
+
+fn job_one(rt: &HostRuntime, row: &Words) -> Result<bool, Stop> {
+    let (words, wanted) = *row;
+    begin(rt, "job")?;
+    let answer = job(rt.alloc(), words);
+    end(rt)?;
+    match answer {
+        Ok(task) => plain(rt, wanted == Some(task)),
+        Err(error) => match error.kind() {
+            ErrorKind::OutOfMemory => refused(rt, true),
+            ErrorKind::InvalidSubcommand | ErrorKind::MissingRequiredArgument => {
+                plain(rt, wanted.is_none())
+            }
+            _ => wrong(rt),
+        },
+    }
+}
+
+fn status_one(rt: &HostRuntime) -> Result<(), Stop> {
+    begin_free(rt, "status")?;
+    let code = status(&ReplayFault::Memory);
+    end(rt)?;
+    plain(rt, code == 4)?;
+    Ok(())
+}
