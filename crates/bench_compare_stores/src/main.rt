@@ -67,9 +67,27 @@ fn words(rt: &HostRuntime) -> io::Result<Vec<String>> {
 // The trace of one file under the rules of another.
 fn replay(rt: &HostRuntime, rules: &str, trace: &str) -> Result<(), Stop> {
     let text = read_file(rt, rules)?;
+    let mut plain = plain_engine(rt.alloc(), &text)?;
+    replay_beside(rt, &text, trace, &mut plain)
+}
+
+fn replay_beside<S: Store>(
+    rt: &HostRuntime,
+    text: &[u8],
+    trace: &str,
+    plain: &mut Engine<S>,
+) -> Result<(), Stop> {
+    let mut indexed = indexed_engine(rt.alloc(), text)?;
+    replay_both(rt, trace, plain, &mut indexed)
+}
+
+fn replay_both<S: Store, T: Store>(
+    rt: &HostRuntime,
+    trace: &str,
+    plain: &mut Engine<S>,
+    indexed: &mut Engine<T>,
+) -> Result<(), Stop> {
     let trace = open(rt, trace)?;
-    let plain = plain_engine(rt.alloc(), &text)?;
-    let indexed = indexed_engine(rt.alloc(), &text)?;
     let Ok(mut out) = BufWriter::new(rt.alloc(), io::writer(rt)) else {
         return Err(Stop::Memory);
     };
@@ -112,20 +130,18 @@ fn read_rules(alloc: Global, text: &[u8]) -> Result<Config, Stop> {
 }
 
 // Both engines go through the trace.
-fn compare<R: Read + Drop, S: Store + Drop, T: Store + Drop, W: Write>(
+fn compare<R: Read + Drop, S: Store, T: Store, W: Write>(
     alloc: Global,
     trace: R,
-    plain: Engine<S>,
-    indexed: Engine<T>,
+    plain: &mut Engine<S>,
+    indexed: &mut Engine<T>,
     out: &mut W,
 ) -> Result<(), Stop> {
     let mut reader = ReaderBuilder::new()
         .has_headers(false)
         .flexible(true)
         .from_reader(alloc, trace);
-    let mut plain = plain;
-    let mut indexed = indexed;
-    go_through(alloc, &mut reader, &mut plain, &mut indexed, out)
+    go_through(alloc, &mut reader, plain, indexed, out)
 }
 
 // The header, and then record after record.

@@ -132,25 +132,55 @@ const CASES: &[Case] = &[
 /// Engines over plain stores.
 pub fn tell_plain(rt: &HostRuntime) -> Result<(), Stop> {
     for case in CASES {
-        if !new_plain(rt, case)? {
-            new_plain(rt, case)?;
-        }
-        walk(rt, &mut plain_engine(rt, case)?, case)?;
-        run_all(rt, &mut plain_engine(rt, case)?, case)?;
+        make_plain(rt, case)?;
+        walk_plain(rt, case)?;
+        run_plain(rt, case)?;
     }
     Ok(())
+}
+
+fn make_plain(rt: &HostRuntime, case: &Case) -> Result<(), Stop> {
+    if !new_plain(rt, case)? {
+        new_plain(rt, case)?;
+    }
+    Ok(())
+}
+
+fn walk_plain(rt: &HostRuntime, case: &Case) -> Result<(), Stop> {
+    let mut engine = plain_engine(rt, case)?;
+    walk(rt, &mut engine, case)
+}
+
+fn run_plain(rt: &HostRuntime, case: &Case) -> Result<(), Stop> {
+    let mut engine = plain_engine(rt, case)?;
+    run_all(rt, &mut engine, case)
 }
 
 /// Engines over indexed stores.
 pub fn tell_indexed(rt: &HostRuntime) -> Result<(), Stop> {
     for case in CASES {
-        if !new_indexed(rt, case)? {
-            new_indexed(rt, case)?;
-        }
-        walk(rt, &mut indexed_engine(rt, case)?, case)?;
-        run_all(rt, &mut indexed_engine(rt, case)?, case)?;
+        make_indexed(rt, case)?;
+        walk_indexed(rt, case)?;
+        run_indexed(rt, case)?;
     }
     Ok(())
+}
+
+fn make_indexed(rt: &HostRuntime, case: &Case) -> Result<(), Stop> {
+    if !new_indexed(rt, case)? {
+        new_indexed(rt, case)?;
+    }
+    Ok(())
+}
+
+fn walk_indexed(rt: &HostRuntime, case: &Case) -> Result<(), Stop> {
+    let mut engine = indexed_engine(rt, case)?;
+    walk(rt, &mut engine, case)
+}
+
+fn run_indexed(rt: &HostRuntime, case: &Case) -> Result<(), Stop> {
+    let mut engine = indexed_engine(rt, case)?;
+    run_all(rt, &mut engine, case)
 }
 
 fn plain_engine(rt: &HostRuntime, case: &Case) -> Result<Engine<PlainStore>, Stop> {

@@ -69,14 +69,27 @@ const UNTRACKED_ROWS: &[Row] = &[
 /// Plain stores.
 pub fn tell_plain(rt: &HostRuntime) -> Result<(), Stop> {
     for text in &[EVERYTHING, NODES, LIMITED] {
-        let config = load(rt.alloc(), text)?;
-        if !new_plain(rt, &config)? {
-            new_plain(rt, &config)?;
-        }
+        make_plain(rt, text)?;
     }
+    fill_plain(rt)?;
+    fill_plain_again(rt)
+}
+
+fn make_plain(rt: &HostRuntime, text: &[u8]) -> Result<(), Stop> {
+    let config = load(rt.alloc(), text)?;
+    if !new_plain(rt, &config)? {
+        new_plain(rt, &config)?;
+    }
+    Ok(())
+}
+
+fn fill_plain(rt: &HostRuntime) -> Result<(), Stop> {
     let config = load(rt.alloc(), LIMITED)?;
     let mut store = PlainStore::new(rt.alloc(), &config)?;
-    fill(rt, &mut store, &config)?;
+    fill(rt, &mut store, &config)
+}
+
+fn fill_plain_again(rt: &HostRuntime) -> Result<(), Stop> {
     let config = load(rt.alloc(), UNTRACKED)?;
     let mut store = PlainStore::new(rt.alloc(), &config)?;
     fill_again(rt, &mut store, &config)
@@ -85,14 +98,27 @@ pub fn tell_plain(rt: &HostRuntime) -> Result<(), Stop> {
 /// Indexed stores.
 pub fn tell_indexed(rt: &HostRuntime) -> Result<(), Stop> {
     for text in &[EVERYTHING, NODES, LIMITED] {
-        let config = load(rt.alloc(), text)?;
-        if !new_indexed(rt, &config)? {
-            new_indexed(rt, &config)?;
-        }
+        make_indexed(rt, text)?;
     }
+    fill_indexed(rt)?;
+    fill_indexed_again(rt)
+}
+
+fn make_indexed(rt: &HostRuntime, text: &[u8]) -> Result<(), Stop> {
+    let config = load(rt.alloc(), text)?;
+    if !new_indexed(rt, &config)? {
+        new_indexed(rt, &config)?;
+    }
+    Ok(())
+}
+
+fn fill_indexed(rt: &HostRuntime) -> Result<(), Stop> {
     let config = load(rt.alloc(), LIMITED)?;
     let mut store = IndexStore::new(rt.alloc(), &config)?;
-    fill(rt, &mut store, &config)?;
+    fill(rt, &mut store, &config)
+}
+
+fn fill_indexed_again(rt: &HostRuntime) -> Result<(), Stop> {
     let config = load(rt.alloc(), UNTRACKED)?;
     let mut store = IndexStore::new(rt.alloc(), &config)?;
     fill_again(rt, &mut store, &config)
