@@ -324,17 +324,37 @@ fn all_changes(rows: &[Row]) -> u64 {
     all
 }
 
-// In each kind of store
+// In each kind of store, of which one is held at a time
 fn tell(rt: &(impl Abort + AllocGlobal), rules: &[u8], rows: &[Row]) -> Result<(), Fail> {
-    let alloc = rt.alloc();
-    let config = configured(alloc, UNSCALED, rules)?;
-    let mut plain = PlainStore::new(alloc, &config)?;
-    follow(rt, &mut plain, &config, rows)?;
-    let mut tallied = Tallied::new(PlainStore::new(alloc, &config)?);
-    follow(rt, &mut tallied, &config, rows)?;
-    same!(rt; tallied.calls, all_changes(rows));
-    let mut indexed = IndexStore::new(alloc, &config)?;
-    follow(rt, &mut indexed, &config, rows)
+    let config = configured(rt.alloc(), UNSCALED, rules)?;
+    tell_plain(rt, &config, rows)?;
+    tell_tallied(rt, &config, rows)?;
+    tell_indexed(rt, &config, rows)
+}
+
+fn tell_plain(rt: &(impl Abort + AllocGlobal), config: &Config, rows: &[Row]) -> Result<(), Fail> {
+    let mut store = PlainStore::new(rt.alloc(), config)?;
+    follow(rt, &mut store, config, rows)
+}
+
+fn tell_tallied(
+    rt: &(impl Abort + AllocGlobal),
+    config: &Config,
+    rows: &[Row],
+) -> Result<(), Fail> {
+    let mut store = Tallied::new(PlainStore::new(rt.alloc(), config)?);
+    follow(rt, &mut store, config, rows)?;
+    same!(rt; store.calls, all_changes(rows));
+    Ok(())
+}
+
+fn tell_indexed(
+    rt: &(impl Abort + AllocGlobal),
+    config: &Config,
+    rows: &[Row],
+) -> Result<(), Fail> {
+    let mut store = IndexStore::new(rt.alloc(), config)?;
+    follow(rt, &mut store, config, rows)
 }
 
 const NUMBERED: &[Row] = &[
