@@ -12,8 +12,8 @@ ghost use Rattle.pfs_cli.specs.Places.{IsPastSplit, ends_split, place_after, pla
 
 use crate::faults::ReplayFault;
 use crate::replays::{feed_fault, finish};
+use crate::reports::write_report;
 use crate::rules::{RULES_LIMIT, load_config};
-use pfs_cli_records::write_report;
 use pfs_cli_streams::{Feed, Sink};
 use std::alloc::Global;
 use std::io::{BufReader, Read, Write};

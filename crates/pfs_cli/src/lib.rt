@@ -7,6 +7,7 @@ mod faults;
 mod joined;
 mod performing;
 mod replays;
+mod reports;
 mod rules;
 
 pub use checks::{check, print};

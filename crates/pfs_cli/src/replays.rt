@@ -14,8 +14,9 @@ ghost use Rattle.pfs_cli_report.specs.Traces.{trace_of};
 ghost use Rattle.pfs_cli.specs.Replays.{Replays};
 
 use crate::faults::{ReplayFault, of_trace};
+use crate::reports::write_report;
 use crate::rules::{RULES_LIMIT, load_config};
-use pfs_cli_records::{Stop, write_report};
+use pfs_cli_records::Stop;
 use pfs_cli_streams::{Feed, Sink};
 use std::alloc::Global;
 use std::io::{Read, Write};

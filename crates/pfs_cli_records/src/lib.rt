@@ -6,4 +6,4 @@ mod records;
 mod reports;
 
 pub use records::Stop;
-pub use reports::write_report;
+pub use reports::write_report_over;

@@ -1,33 +1,17 @@
-//! The machine of a replay: an engine over indexes, that takes the events of a trace.
+//! The machine takes the event of a record.
 
 ghost use Rattle.std.specs.Prelude.{◌≡◌, ◌<◌, ◌≤◌, ◌+◌, ◌^◌, IfOk};
 ghost use Rattle.std.specs.Option.{ForSome};
-ghost use Rattle.pfs_engine_machine.specs.Machine.{start, step};
+ghost use Rattle.pfs_engine_machine.specs.Machine.{step};
 ghost use Rattle.pfs_engine_machine.specs.Runs.{MayCome};
 
 use pfs_addr::NoMemory;
-use pfs_conf_rules::Config;
 use pfs_engine::{Engine, Event, Outcome, What};
-use pfs_store::IndexStore;
-use std::alloc::Global;
-use std::hash::{BuildHasherDefault, FoldHasher};
-
-/// The engine of a replay; here alone is it said what kind of store it runs over.
-pub(crate) type TraceEngine = Engine<IndexStore<BuildHasherDefault<FoldHasher>>>;
-
-/// The machine of a configuration, before the first event.
-pub(crate) fn first_machine(alloc: Global, config: Config) -> Result<TraceEngine, NoMemory>
-    ensures config { IfOk result (λ e. e.config ≡ config) }
-    ensures first { IfOk result (λ e. e.machine ≡ start config) }
-    ensures taken { IfOk result (λ e. e.taken ≡ 0) }
-{
-    let store = IndexStore::new(alloc, &config)?;
-    Engine::new(alloc, config, store)
-}
+use pfs_store_plain::Store;
 
 /// Takes one event, at its moment: the purges due are done, and then what comes. After `NoMemory` the purges are done, and
 /// nothing else has changed.
-pub(crate) fn take(engine: &mut TraceEngine, event: &Event) -> Result<Outcome, NoMemory>
+pub(crate) fn take<H: Store>(engine: &mut Engine<H>, event: &Event) -> Result<Outcome, NoMemory>
     requires order { ForSome engine.old.machine.last (λ m. m ≤ event.now.time) }
     requires moment { event.now.time < 2 ^ 32 }
     requires room { engine.old.taken < 1000000000 }

@@ -15,11 +15,12 @@ ghost use Rattle.pfs_cli_records.specs.Turns.{Tells, WritesLine, TakesEvent, Tak
 ghost use Rattle.pfs_cli_report.specs.Reading.{records_of, records_left};
 ghost use Rattle.pfs_cli_report.specs.Traces.{events_of, events_from};
 
-use crate::machine::{TraceEngine, take};
+use crate::machine::take;
 use csv::{ByteRecord, Reader, ReaderBuilder};
 use pfs_cli_report::{EndLine, TraceFault, has_columns, push_end, push_row, read_event};
 use pfs_cli_streams::{Sink, write_whole};
-use pfs_engine::{Event, Outcome};
+use pfs_engine::{Engine, Event, Outcome};
+use pfs_store_plain::Store;
 use std::alloc::Global;
 use std::io::{Read, Write};
 
@@ -68,7 +69,7 @@ fn write_row<W: Write>(
 }
 
 // The last line, with what is held.
-fn end_line(rows: u64, engine: &TraceEngine) -> EndLine
+fn end_line<H: Store>(rows: u64, engine: &Engine<H>) -> EndLine
     ensures { end_text result.rows result.states result.nodes result.entries ≡ end_line_of rows engine.now.machine }
 {
     EndLine {
@@ -93,10 +94,10 @@ fn write_end<W: Write>(end: EndLine, room: &mut Vec<u8>, out: &mut Sink<W>) -> R
 }
 
 // Lets the engine take one event, and writes its line.
-fn take_event<W: Write>(
+fn take_event<H: Store, W: Write>(
     row: u64,
     event: &Event,
-    engine: &mut TraceEngine,
+    engine: &mut Engine<H>,
     line: &mut Vec<u8>,
     out: &mut Sink<W>,
 ) -> Result<(), Stop>
@@ -117,10 +118,10 @@ fn take_event<W: Write>(
 }
 
 // The turn of one record.
-fn take_record<W: Write>(
+fn take_record<H: Store, W: Write>(
     row: u64,
     fields: &ByteRecord,
-    engine: &mut TraceEngine,
+    engine: &mut Engine<H>,
     line: &mut Vec<u8>,
     out: &mut Sink<W>,
 ) -> Result<(), Stop>
@@ -138,10 +139,10 @@ fn take_record<W: Write>(
 }
 
 // Reads the records after the header, and writes the line of each before it reads the next.
-fn tell_rows<S: Read, W: Write>(
+fn tell_rows<H: Store, S: Read, W: Write>(
     reader: &mut Reader<S>,
     fields: &mut ByteRecord,
-    engine: &mut TraceEngine,
+    engine: &mut Engine<H>,
     line: &mut Vec<u8>,
     out: &mut Sink<W>,
 ) -> Result<(), Stop>
@@ -173,10 +174,10 @@ fn tell_rows<S: Read, W: Write>(
 }
 
 // Reads the header, and then the records.
-fn tell_trace<S: Read, W: Write>(
+fn tell_trace<H: Store, S: Read, W: Write>(
     reader: &mut Reader<S>,
     fields: &mut ByteRecord,
-    engine: &mut TraceEngine,
+    engine: &mut Engine<H>,
     line: &mut Vec<u8>,
     out: &mut Sink<W>,
 ) -> Result<(), Stop>
@@ -203,10 +204,10 @@ fn tell_trace<S: Read, W: Write>(
 
 /// Reads the trace of `source`, and writes the line of each record before it reads the next, and
 /// the last line. Nothing is flushed.
-pub(crate) fn tell_records<S: Read + Drop, W: Write>(
+pub(crate) fn tell_records<H: Store, S: Read + Drop, W: Write>(
     alloc: Global,
     source: S,
-    engine: &mut TraceEngine,
+    engine: &mut Engine<H>,
     out: &mut Sink<W>,
 ) -> Result<(), Stop>
     requires first { engine.old.machine ≡ start engine.old.config }

@@ -38,10 +38,10 @@ fn whole_lines(text: &[u8], len: usize) -> usize {
 
 // What a run of the report's records wrote before a read failed: as many lines as it had whole records.
 fn cut(rt: &impl Abort, told: &Result<(), ReplayFault>, written: &[u8], rows: usize) {
-    assert_eq!(rt; *told, Err(ReplayFault::Read));
+    same!(rt; *told, Err(ReplayFault::Read));
     let len = lines_len(REPORT, rows);
     assert!(rt; len <= REPORT.len());
-    assert_eq!(rt; written, &REPORT[..len], "{rows}");
+    same!(rt; written, &REPORT[..len], rows);
 }
 
 #[test]
@@ -57,7 +57,7 @@ fn a_read_fails_at_each_turn(rt: HostRuntime) -> Result<(), Fail> {
             Vec::new(rt.alloc()),
             999,
         );
-        assert_eq!(rt; failed, 1);
+        same!(rt; failed, 1);
         cut(
             &rt,
             &told,
@@ -94,8 +94,8 @@ fn a_write_fails_at_each_turn(rt: HostRuntime) -> Result<(), Fail> {
     for room in 0..=REPORT.len() {
         let writer = narrow_writer(rt.alloc(), 1, room);
         let (told, _, failed, writer) = replayed(rt.alloc(), RULES, trace.as_slice(), writer, 99);
-        assert_eq!(rt; (told, failed), (Err(ReplayFault::Write), 1), "{room}");
-        assert_eq!(rt; writer.taken.as_slice(), &REPORT[..room]);
+        same!(rt; (told, failed), (Err(ReplayFault::Write), 1), room);
+        same!(rt; writer.taken.as_slice(), &REPORT[..room]);
     }
     Ok(())
 }
@@ -107,8 +107,8 @@ fn a_write_takes_nothing_at_each_turn(rt: HostRuntime) -> Result<(), Fail> {
         let mut writer = narrow_writer(rt.alloc(), 1, room);
         writer.stalls = true;
         let (told, _, failed, writer) = replayed(rt.alloc(), RULES, trace.as_slice(), writer, 99);
-        assert_eq!(rt; (told, failed), (Err(ReplayFault::Write), 1), "{room}");
-        assert_eq!(rt; writer.taken.as_slice(), &REPORT[..room]);
+        same!(rt; (told, failed), (Err(ReplayFault::Write), 1), room);
+        same!(rt; writer.taken.as_slice(), &REPORT[..room]);
     }
     Ok(())
 }
@@ -133,11 +133,8 @@ const JOBS: &[Job] = &[Job::Check("r"), Job::Show("r"), Job::Replay("r", "t")];
 fn a_read_of_rules_fails_at_each_turn(rt: HostRuntime) {
     for job in JOBS {
         for good in 0..=RULES.len() {
-            assert_eq!(rt;
-                told_of(&rt, job, good, 9999),
-                (Err(ReplayFault::Read), 0),
-                "{good}"
-            );
+            let told = told_of(&rt, job, good, 9999);
+            same!(rt; told, (Err(ReplayFault::Read), 0), good);
         }
     }
 }
@@ -146,12 +143,9 @@ fn a_read_of_rules_fails_at_each_turn(rt: HostRuntime) {
 fn a_write_of_a_job_fails_at_each_turn(rt: HostRuntime) {
     for job in JOBS {
         let (told, whole) = told_of(&rt, job, 999, 9999);
-        assert_eq!(rt; told, Ok(()));
+        same!(rt; told, Ok(()));
         for room in 0..=whole {
-            assert_eq!(rt;
-                told_of(&rt, job, 999, room),
-                (Err(ReplayFault::Write), room)
-            );
+            same!(rt; told_of(&rt, job, 999, room), (Err(ReplayFault::Write), room));
         }
     }
 }
@@ -170,8 +164,8 @@ fn rules_without_an_end(rt: HostRuntime) {
             Vec::new(rt.alloc()),
             bound,
         );
-        assert_eq!(rt; told, Err(fault));
-        assert_eq!(rt; written.len(), 0);
+        same!(rt; told, Err(fault));
+        same!(rt; written.len(), 0);
     }
 }
 
@@ -185,14 +179,14 @@ fn traces_without_an_end(rt: HostRuntime) {
         Vec::new(rt.alloc()),
         100,
     );
-    assert_eq!(rt; told, Err(ReplayFault::Endless));
-    assert_eq!(rt; written.len(), 0);
+    same!(rt; told, Err(ReplayFault::Endless));
+    same!(rt; written.len(), 0);
     let (told, _, _, written) = replayed_joined(
         rt.alloc(),
         Endless(b'x'),
         Vec::new(rt.alloc()),
         2_000_000,
     );
-    assert_eq!(rt; told, Err(ReplayFault::Endless));
-    assert_eq!(rt; written.len(), 0);
+    same!(rt; told, Err(ReplayFault::Endless));
+    same!(rt; written.len(), 0);
 }

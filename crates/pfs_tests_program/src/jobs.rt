@@ -23,7 +23,7 @@ fn done(
     let mut out = Sink::new(Vec::new(rt.alloc()));
     let outcome = perform(rt.alloc(), job, &mut rules, &mut trace, &mut out);
     let written = out.into_inner();
-    assert_eq!(rt; written.as_slice(), wanted);
+    same!(rt; written.as_slice(), wanted);
     Ok(outcome)
 }
 
@@ -31,9 +31,9 @@ fn done(
 fn counts_are_told(rt: HostRuntime) -> Result<(), Fail> {
     let mut rules = Feed::new(EVERYTHING, 9);
     let mut out = Sink::new(Vec::new(rt.alloc()));
-    assert_eq!(rt; check(rt.alloc(), &mut rules, &mut out), Ok(()));
+    same!(rt; check(rt.alloc(), &mut rules, &mut out), Ok(()));
     let written = out.into_inner();
-    assert_eq!(rt; written.as_slice(), COUNTS);
+    same!(rt; written.as_slice(), COUNTS);
     Ok(())
 }
 
@@ -42,9 +42,9 @@ fn the_canonical_text_is_printed_and_prints_itself(rt: HostRuntime) -> Result<()
     for text in &[EVERYTHING, SHOWN] {
         let mut rules = Feed::new(*text, 9);
         let mut out = Sink::new(Vec::new(rt.alloc()));
-        assert_eq!(rt; print(rt.alloc(), &mut rules, &mut out), Ok(()));
+        same!(rt; print(rt.alloc(), &mut rules, &mut out), Ok(()));
         let written = out.into_inner();
-        assert_eq!(rt; written.as_slice(), SHOWN);
+        same!(rt; written.as_slice(), SHOWN);
     }
     Ok(())
 }
@@ -52,20 +52,20 @@ fn the_canonical_text_is_printed_and_prints_itself(rt: HostRuntime) -> Result<()
 #[test]
 fn each_job_is_done(rt: HostRuntime) -> Result<(), Fail> {
     let outcome = done(&rt, &Job::Check("r"), EVERYTHING, COUNTS)?;
-    assert_eq!(rt; outcome, Ok(()));
+    same!(rt; outcome, Ok(()));
     let outcome = done(&rt, &Job::Show("r"), EVERYTHING, SHOWN)?;
-    assert_eq!(rt; outcome, Ok(()));
+    same!(rt; outcome, Ok(()));
     let replay = Job::Replay("r", "r");
     let report = b"1 new @0\nend rows=1 states=1 nodes=0 entries=0\n";
     let outcome = done(&rt, &replay, b"pass in proto udp all\n", report)?;
-    assert_eq!(rt; outcome, Ok(()));
+    same!(rt; outcome, Ok(()));
     let report = b"1 pass -\nend rows=1 states=0 nodes=0 entries=2\n";
     let outcome = done(&rt, &replay, EVERYTHING, report)?;
-    assert_eq!(rt; outcome, Ok(()));
+    same!(rt; outcome, Ok(()));
     let header = b"%%\ntime,dir,if,proto,src,sport,dst,dport,flags\n";
     let report = b"end rows=0 states=0 nodes=0 entries=0\n";
     let outcome = done(&rt, &Job::Joined, header, report)?;
-    assert_eq!(rt; outcome, Ok(()));
+    same!(rt; outcome, Ok(()));
     Ok(())
 }
 
@@ -77,11 +77,11 @@ fn refused_rules_leave_nothing_written(rt: HostRuntime) -> Result<(), Fail> {
     });
     let rules = b"block all\npass foo\n";
     let outcome = done(&rt, &Job::Check("r"), rules, b"")?;
-    assert_eq!(rt; outcome, Err(fault));
+    same!(rt; outcome, Err(fault));
     let outcome = done(&rt, &Job::Show("r"), rules, b"")?;
-    assert_eq!(rt; outcome, Err(fault));
+    same!(rt; outcome, Err(fault));
     let replay = Job::Replay("r", "r");
     let outcome = done(&rt, &replay, rules, b"")?;
-    assert_eq!(rt; outcome, Err(fault));
+    same!(rt; outcome, Err(fault));
     Ok(())
 }

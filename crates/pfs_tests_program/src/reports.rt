@@ -112,9 +112,9 @@ fn rows_a_byte_at_a_time(rt: HostRuntime) -> Result<(), Fail> {
             narrow_writer(alloc, 1, 9999),
             9999,
         );
-        assert_eq!(rt; told, row.outcome);
-        assert_eq!(rt; writer.taken.as_slice(), row.report);
-        assert_eq!(rt; writer.flushes, if row.outcome == Ok(()) { 1 } else { 0 });
+        same!(rt; told, row.outcome);
+        same!(rt; writer.taken.as_slice(), row.report);
+        same!(rt; writer.flushes, if row.outcome == Ok(()) { 1 } else { 0 });
     }
     Ok(())
 }
@@ -230,8 +230,8 @@ fn texts_and_statuses(rt: HostRuntime) -> Result<(), Fail> {
         (ReplayFault::Endless, "reader does not end", 4),
     ] {
         let told = fault.to_string(rt.alloc())?;
-        assert_eq!(rt; told.as_str(), text);
-        assert_eq!(rt; status(&fault), code);
+        same!(rt; told.as_str(), text);
+        same!(rt; status(&fault), code);
     }
     Ok(())
 }

@@ -46,8 +46,8 @@ pub fn tell(
     report: &[u8],
 ) {
     let (told, _, _, written) = replayed(rt.alloc(), rules, trace, Vec::new(rt.alloc()), 99);
-    assert_eq!(rt; told, outcome);
-    assert_eq!(rt; written.as_slice(), report);
+    same!(rt; told, outcome);
+    same!(rt; written.as_slice(), report);
 }
 
 /// Rules and a trace in one text have this outcome and this report.
@@ -58,6 +58,6 @@ pub fn tell_joined(
     report: &[u8],
 ) {
     let (told, _, _, written) = replayed_joined(rt.alloc(), text, Vec::new(rt.alloc()), 99);
-    assert_eq!(rt; told, outcome);
-    assert_eq!(rt; written.as_slice(), report);
+    same!(rt; told, outcome);
+    same!(rt; written.as_slice(), report);
 }

@@ -20,17 +20,17 @@ fn a_feed_gives_its_bytes_and_ends(rt: HostRuntime) -> Result<(), Fail> {
         3,
     );
     let mut buf = [0; 4];
-    assert_eq!(rt; feed.read(&mut [])?, 0);
-    assert_eq!(rt; feed.read(&mut buf)?, 1);
-    assert_eq!(rt; buf[0], b'a');
-    assert_eq!(rt; feed.read(&mut buf)?, 1);
-    assert_eq!(rt; buf[0], b'b');
-    assert!(rt; !feed.spent());
+    same!(rt; feed.read(&mut [])?, 0);
+    same!(rt; feed.read(&mut buf)?, 1);
+    same!(rt; buf[0], b'a');
+    same!(rt; feed.read(&mut buf)?, 1);
+    same!(rt; buf[0], b'b');
+    holds!(rt; !feed.spent());
     // The third read finds the end. A fourth of the reader would fail.
-    assert_eq!(rt; feed.read(&mut buf)?, 0);
-    assert_eq!(rt; feed.read(&mut buf)?, 0);
-    assert!(rt; !feed.spent());
-    assert_eq!(rt; feed.failures(), 0);
+    same!(rt; feed.read(&mut buf)?, 0);
+    same!(rt; feed.read(&mut buf)?, 0);
+    holds!(rt; !feed.spent());
+    same!(rt; feed.failures(), 0);
     Ok(())
 }
 
@@ -44,14 +44,14 @@ fn a_feed_stops_at_its_bound(rt: HostRuntime) -> Result<(), Fail> {
         2,
     );
     let mut buf = [0; 4];
-    assert_eq!(rt; feed.read(&mut buf)?, 1);
-    assert!(rt; !feed.spent());
-    assert_eq!(rt; feed.read(&mut buf)?, 1);
-    assert!(rt; feed.spent());
-    assert_eq!(rt; feed.read(&mut [])?, 0);
-    assert!(rt; feed.read(&mut buf).is_err());
-    assert!(rt; feed.spent());
-    assert_eq!(rt; feed.failures(), 0);
+    same!(rt; feed.read(&mut buf)?, 1);
+    holds!(rt; !feed.spent());
+    same!(rt; feed.read(&mut buf)?, 1);
+    holds!(rt; feed.spent());
+    same!(rt; feed.read(&mut [])?, 0);
+    holds!(rt; feed.read(&mut buf).is_err());
+    holds!(rt; feed.spent());
+    same!(rt; feed.failures(), 0);
     Ok(())
 }
 
@@ -65,15 +65,15 @@ fn a_feed_fails_once_with_its_reader(rt: HostRuntime) -> Result<(), Fail> {
         9,
     );
     let mut buf = [0; 4];
-    assert_eq!(rt; feed.read(&mut buf)?, 1);
+    same!(rt; feed.read(&mut buf)?, 1);
     for _ in 0..3 {
         match feed.read(&mut buf) {
-            Ok(_) => assert!(rt; false),
-            Err(e) => assert!(rt; e.kind() == ErrorKind::Other),
+            Ok(_) => holds!(rt; false),
+            Err(e) => holds!(rt; e.kind() == ErrorKind::Other),
         }
-        assert_eq!(rt; feed.failures(), 1);
+        same!(rt; feed.failures(), 1);
     }
-    assert!(rt; !feed.spent());
+    holds!(rt; !feed.spent());
     Ok(())
 }
 
@@ -83,39 +83,39 @@ fn a_text_is_written_a_byte_at_a_time(rt: HostRuntime) -> Result<(), Fail> {
     write_whole(&mut out, b"abc")?;
     write_whole(&mut out, b"")?;
     out.flush()?;
-    assert_eq!(rt; out.failures(), 0);
+    same!(rt; out.failures(), 0);
     let writer = out.into_inner();
-    assert_eq!(rt; writer.taken.as_slice(), b"abc".as_slice());
-    assert_eq!(rt; writer.room, 6);
-    assert_eq!(rt; writer.flushes, 1);
+    same!(rt; writer.taken.as_slice(), b"abc".as_slice());
+    same!(rt; writer.room, 6);
+    same!(rt; writer.flushes, 1);
     Ok(())
 }
 
 #[test]
 fn a_text_is_cut_where_a_write_fails(rt: HostRuntime) -> Result<(), Fail> {
     let mut out = sink_of(rt.alloc(), 1, 2);
-    assert!(rt; write_whole(&mut out, b"abc").is_err());
-    assert_eq!(rt; out.failures(), 1);
-    assert!(rt; out.flush().is_err());
-    assert_eq!(rt; out.failures(), 2);
-    assert!(rt; out.write(b"").is_err());
-    assert_eq!(rt; out.failures(), 3);
+    holds!(rt; write_whole(&mut out, b"abc").is_err());
+    same!(rt; out.failures(), 1);
+    holds!(rt; out.flush().is_err());
+    same!(rt; out.failures(), 2);
+    holds!(rt; out.write(b"").is_err());
+    same!(rt; out.failures(), 3);
     let writer = out.into_inner();
-    assert_eq!(rt; writer.taken.as_slice(), b"ab".as_slice());
+    same!(rt; writer.taken.as_slice(), b"ab".as_slice());
     Ok(())
 }
 
 #[test]
 fn a_write_that_takes_nothing_is_a_failure(rt: HostRuntime) -> Result<(), Fail> {
     let mut out = sink_of(rt.alloc(), 0, 9);
-    assert_eq!(rt; out.write(b"")?, 0);
-    assert_eq!(rt; out.failures(), 0);
+    same!(rt; out.write(b"")?, 0);
+    same!(rt; out.failures(), 0);
     match write_whole(&mut out, b"abc") {
-        Ok(()) => assert!(rt; false),
-        Err(e) => assert_eq!(rt; e.to_string(rt.alloc())?.as_str(), "write failed"),
+        Ok(()) => holds!(rt; false),
+        Err(e) => same!(rt; e.to_string(rt.alloc())?.as_str(), "write failed"),
     }
-    assert_eq!(rt; out.failures(), 1);
+    same!(rt; out.failures(), 1);
     let writer = out.into_inner();
-    assert_eq!(rt; writer.taken.as_slice(), b"".as_slice());
+    same!(rt; writer.taken.as_slice(), b"".as_slice());
     Ok(())
 }

@@ -12,19 +12,19 @@ fn words_ask_for_jobs(rt: HostRuntime) -> Result<(), Fail> {
     }
     let words = ["pfsrc", "check", "pf.conf"];
     match job(rt.alloc(), words.as_slice())? {
-        Job::Check(rules) => assert_eq!(rt; rules, "pf.conf"),
+        Job::Check(rules) => same!(rt; rules, "pf.conf"),
         other => panic!(rt; "{other:?}"),
     }
     let words = ["pfsrc", "show", "-"];
     match job(rt.alloc(), words.as_slice())? {
-        Job::Show(rules) => assert_eq!(rt; rules, "-"),
+        Job::Show(rules) => same!(rt; rules, "-"),
         other => panic!(rt; "{other:?}"),
     }
     let words = ["pfsrc", "replay", "r", "t"];
     match job(rt.alloc(), words.as_slice())? {
         Job::Replay(rules, trace) => {
-            assert_eq!(rt; rules, "r");
-            assert_eq!(rt; trace, "t");
+            same!(rt; rules, "r");
+            same!(rt; trace, "t");
         }
         other => panic!(rt; "{other:?}"),
     }
@@ -34,13 +34,13 @@ fn words_ask_for_jobs(rt: HostRuntime) -> Result<(), Fail> {
 #[test]
 fn other_words_are_refused(rt: HostRuntime) -> Result<(), Fail> {
     let wrong = ["pfsrc", "check"];
-    assert!(rt; job(rt.alloc(), wrong.as_slice()).is_err());
+    holds!(rt; job(rt.alloc(), wrong.as_slice()).is_err());
     let wrong = ["pfsrc", "check", "a", "b"];
-    assert!(rt; job(rt.alloc(), wrong.as_slice()).is_err());
+    holds!(rt; job(rt.alloc(), wrong.as_slice()).is_err());
     let wrong = ["pfsrc", "replay", "a"];
-    assert!(rt; job(rt.alloc(), wrong.as_slice()).is_err());
+    holds!(rt; job(rt.alloc(), wrong.as_slice()).is_err());
     let wrong = ["pfsrc", "reply", "a", "b"];
-    assert!(rt; job(rt.alloc(), wrong.as_slice()).is_err());
+    holds!(rt; job(rt.alloc(), wrong.as_slice()).is_err());
     Ok(())
 }
 
@@ -48,17 +48,17 @@ fn other_words_are_refused(rt: HostRuntime) -> Result<(), Fail> {
 fn help_is_no_mistake(rt: HostRuntime) -> Result<(), Fail> {
     let words = ["pfsrc", "--help"];
     match job(rt.alloc(), words.as_slice()) {
-        Err(help) => assert_eq!(rt; help.exit_code(), 0),
+        Err(help) => same!(rt; help.exit_code(), 0),
         Ok(other) => panic!(rt; "{other:?}"),
     }
     let words = ["pfsrc", "replay", "--help"];
     match job(rt.alloc(), words.as_slice()) {
-        Err(help) => assert_eq!(rt; help.exit_code(), 0),
+        Err(help) => same!(rt; help.exit_code(), 0),
         Ok(other) => panic!(rt; "{other:?}"),
     }
     let words = ["pfsrc", "reply"];
     match job(rt.alloc(), words.as_slice()) {
-        Err(mistake) => assert_eq!(rt; mistake.exit_code(), 2),
+        Err(mistake) => same!(rt; mistake.exit_code(), 2),
         Ok(other) => panic!(rt; "{other:?}"),
     }
     Ok(())

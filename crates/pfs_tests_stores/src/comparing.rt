@@ -39,6 +39,17 @@ enum Answer {
     Purged(Slice, Slice),
 }
 
+/// What a call answered, how many states and source nodes are held after it, and how many states were made.
+#[derive(Debug, Clone, Copy, PartialEq, Eq)]
+struct Told {
+    answer: Answer,
+    states: u64,
+    nodes: u64,
+    made: u64,
+}
+
+const CALLS: u64 = 20_000;
+
 // `max 5, max-src-nodes 3, max-src-states 2, max-src-conn-rate 3/10`, for each rule alone or all together
 fn limited(scope: Scope) -> StateOptions
     ensures { AreOptions 0 result }
@@ -246,40 +257,52 @@ fn next(draw: u64) -> u64 {
         .wrapping_add(1442695040888963407)
 }
 
-// So many calls of both, which were made for this configuration and hold nothing that came after moment 0
-fn compare<S: Store, T: Store>(
-    rt: &impl Abort,
-    plain: &mut S,
-    indexed: &mut T,
+// What calls answer, of a store that was made for this configuration and holds nothing that came after moment 0
+fn answers<S: Store>(
+    rt: &(impl Abort + AllocGlobal),
+    store: &mut S,
     config: &Config,
     calls: u64,
-) -> Result<(), Fail>
-    requires plain_for { S.config plain.old ≡ config.now }
-    requires indexed_for { T.config indexed.old ≡ config.now }
-    requires plain_order { IsUpToNow 0 (S.world plain.old) }
-    requires indexed_order { IsUpToNow 0 (T.world indexed.old) }
+) -> Result<Vec<Told>, Fail>
+    requires made_for { S.config store.old ≡ config.now }
+    requires order { IsUpToNow 0 (S.world store.old) }
 {
+    let mut told = Vec::new(rt.alloc());
     let mut seed = 1u64;
     for step in 0..calls {
         seed = next(seed);
-        let draw = seed / 65536;
-        let now = step / 5;
-        let listed = call(rt, plain, config, draw, now)?;
-        let found = call(rt, indexed, config, draw, now)?;
-        assert_eq!(rt; found, listed, "at step {step}");
-        assert_eq!(rt; indexed.state_count(), plain.state_count());
-        assert_eq!(rt; indexed.node_count(), plain.node_count());
-        assert_eq!(rt; indexed.made(), plain.made());
+        let answer = call(rt, store, config, seed / 65536, step / 5)?;
+        told.push(Told {
+            answer,
+            states: store.state_count(),
+            nodes: store.node_count(),
+            made: store.made(),
+        })?;
     }
-    Ok(())
+    Ok(told)
+}
+
+// What the calls answer over plain lists
+fn listed(rt: &(impl Abort + AllocGlobal), config: &Config) -> Result<Vec<Told>, Fail> {
+    let mut store = PlainStore::new(rt.alloc(), config)?;
+    answers(rt, &mut store, config, CALLS)
+}
+
+// What they answer over indexes
+fn indexed(rt: &(impl Abort + AllocGlobal), config: &Config) -> Result<Vec<Told>, Fail> {
+    let mut store = IndexStore::new(rt.alloc(), config)?;
+    answers(rt, &mut store, config, CALLS)
 }
 
 #[test]
 fn both_stores_answer_alike(rt: HostRuntime) -> Result<(), Fail> {
     let config = configured(&rt)?;
-    let mut plain = PlainStore::new(rt.alloc(), &config)?;
-    let mut indexed = IndexStore::new(rt.alloc(), &config)?;
-    compare(&rt, &mut plain, &mut indexed, &config, 20_000)?;
-    assert!(rt; plain.made() > 100);
+    let listed = listed(&rt, &config)?;
+    let indexed = indexed(&rt, &config)?;
+    for (step, (told, wanted)) in indexed.iter().zip(&listed).enumerate() {
+        assert_eq!(rt; told, wanted, "at step {step}");
+    }
+    assert_eq!(rt; indexed.len(), listed.len());
+    assert!(rt; listed.last().is_some_and(|told| told.made > 100));
     Ok(())
 }

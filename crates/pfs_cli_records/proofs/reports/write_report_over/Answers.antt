@@ -1,9 +1,9 @@
--- Answers of write_report: what the engine of this configuration tells, and that nothing is written where it could not be made (`tells`).
+-- Answers of write_report_over: what the engine of this configuration tells, and that nothing is written where it could not be made (`tells`).
 use Rattle.std.proofs.Common.{[]}
 use Rattle.pfs_cli_report.specs.Reading.{records_of}
 use Rattle.pfs_cli_report.specs.Traces.{events_of}
 use Rattle.pfs_cli_records.proofs.Telling.{Appends-nothing, ends-under, no-lines}
-use Rattle.pfs_cli_records.proofs.reports.write_report.Goals as goal
+use Rattle.pfs_cli_records.proofs.reports.write_report_over.Goals as goal
 
 pub returns-in-Ok-clause-tells : goal.returns-in-Ok-clause-tells
 returns-in-Ok-clause-tells g c xs e =
