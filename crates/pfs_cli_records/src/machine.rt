@@ -7,7 +7,7 @@ ghost use Rattle.pfs_engine_machine.specs.Runs.{MayCome};
 
 use pfs_addr::NoMemory;
 use pfs_engine::{Engine, Event, Outcome, What};
-use pfs_store_plain::Store;
+use pfs_store_contract::Store;
 
 /// Takes one event, at its moment: the purges due are done, and then what comes. After `NoMemory` the purges are done, and
 /// nothing else has changed.

@@ -20,7 +20,7 @@ use csv::{ByteRecord, Reader, ReaderBuilder};
 use pfs_cli_report::{EndLine, TraceFault, has_columns, push_end, push_row, read_event};
 use pfs_cli_streams::{Sink, write_whole};
 use pfs_engine::{Engine, Event, Outcome};
-use pfs_store_plain::Store;
+use pfs_store_contract::Store;
 use std::alloc::Global;
 use std::io::{Read, Write};
 

@@ -5,14 +5,14 @@ ghost use Rattle.std.specs.Io.KnownBytes.{Appends};
 ghost use Rattle.pfs_cli_streams.specs.Sinks.{bytes_held, write_failures};
 ghost use Rattle.pfs_cli_report.specs.Reading.{records_of};
 ghost use Rattle.pfs_cli_report.specs.Traces.{events_of};
-ghost use Rattle.pfs_store_plain.specs.Worlds.{empty_world};
+ghost use Rattle.pfs_store_contract.specs.Worlds.{empty_world};
 ghost use Rattle.pfs_cli_records.specs.Turns.{Tells};
 
 use crate::records::{Stop, tell_records};
 use pfs_cli_streams::Sink;
 use pfs_conf_rules::Config;
 use pfs_engine::Engine;
-use pfs_store_plain::Store;
+use pfs_store_contract::Store;
 use std::alloc::Global;
 use std::io::{Read, Write};
 

@@ -3,13 +3,13 @@ use Rattle.std.proofs.Common.{◌≡◌, ◌∙◌, ◌&&◌, ◌||◌, ℕ, Boo
 use Rattle.pfs_addr.specs.Keys.{key_of}
 use Rattle.pfs_addr.specs.Packets.{Header}
 use Rattle.pfs_conf_rules.specs.Configs.{Conf, options_of}
-use Rattle.pfs_store_plain.specs.Admission.{admitted}
-use Rattle.pfs_store_plain.specs.Calls.{packet_limit}
-use Rattle.pfs_store_plain.specs.Handshakes.{stays_at_kill, flush_of, hits_connections, hits_rate}
-use Rattle.pfs_store_plain.specs.Leaving.{without}
-use Rattle.pfs_store_plain.specs.Touching.{completes_at, touched}
-use Rattle.pfs_store_plain.specs.Worlds.{World, state_with}
-use Rattle.pfs_store_plain.specs.declared.records.State.{State}
+use Rattle.pfs_store_contract.specs.Admission.{admitted}
+use Rattle.pfs_store_contract.specs.Calls.{packet_limit}
+use Rattle.pfs_store_contract.specs.Handshakes.{stays_at_kill, flush_of, hits_connections, hits_rate}
+use Rattle.pfs_store_contract.specs.Leaving.{without}
+use Rattle.pfs_store_contract.specs.Touching.{completes_at, touched}
+use Rattle.pfs_store_contract.specs.Worlds.{World, state_with}
+use Rattle.pfs_store_contract.specs.declared.records.State.{State}
 use Rattle.pfs_engine_machine.proofs.Answering as answering
 use Rattle.pfs_engine_machine.specs.Machine.{Held, answered, killed, by_state, by_handshake, held_of}
 use Rattle.pfs_engine_machine.specs.declared.events.Outcome.{Outcome}

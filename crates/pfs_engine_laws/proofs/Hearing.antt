@@ -15,14 +15,14 @@ use Rattle.pfs_conf_rules.specs.declared.actions.Rate.{Rate}
 use Rattle.pfs_conf_rules.specs.declared.actions.Scope.{Scope}
 use Rattle.pfs_conf_rules.specs.declared.actions.Scope.TheVariants as scope
 use Rattle.pfs_conf_rules.specs.declared.items.RuleNo.{RuleNo}
-use Rattle.pfs_store_plain.specs.Counts.{has_node, is_node, is_of_node, node_scope_by, node_scope_of, node_states, same_scope}
-use Rattle.pfs_store_plain.specs.Purging.{node_retention}
-use Rattle.pfs_store_plain.specs.Touching.{node_score, nodes_scored, renewed, rescored, stepped}
-use Rattle.pfs_store_plain.specs.Worlds.{World, state_with}
-use Rattle.pfs_store_plain.specs.declared.records.Node.{Node}
-use Rattle.pfs_store_plain.specs.declared.records.NodeScope.{NodeScope}
-use Rattle.pfs_store_plain.specs.declared.records.NodeScope.TheVariants as node_scope
-use Rattle.pfs_store_plain.specs.declared.records.State.{State}
+use Rattle.pfs_store_contract.specs.Counts.{has_node, is_node, is_of_node, node_scope_by, node_scope_of, node_states, same_scope}
+use Rattle.pfs_store_contract.specs.Purging.{node_retention}
+use Rattle.pfs_store_contract.specs.Touching.{node_score, nodes_scored, renewed, rescored, stepped}
+use Rattle.pfs_store_contract.specs.Worlds.{World, state_with}
+use Rattle.pfs_store_contract.specs.declared.records.Node.{Node}
+use Rattle.pfs_store_contract.specs.declared.records.NodeScope.{NodeScope}
+use Rattle.pfs_store_contract.specs.declared.records.NodeScope.TheVariants as node_scope
+use Rattle.pfs_store_contract.specs.declared.records.State.{State}
 use Rattle.pfs_track.specs.Scores.{score_after}
 use Rattle.pfs_track.specs.declared.scores.Score.{Score}
 use Rattle.pfs_engine_machine.proofs.Counts.{any-map, count-map}

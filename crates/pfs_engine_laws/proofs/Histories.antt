@@ -13,16 +13,16 @@ use Rattle.pfs_addr.specs.declared.addresses.Addr.{Addr}
 use Rattle.pfs_conf_rules.specs.Configs.{Conf, options_of, rate_seconds}
 use Rattle.pfs_conf_rules.specs.Invariants.{IsConfig}
 use Rattle.pfs_conf_rules.specs.declared.actions.Rate.{Rate}
-use Rattle.pfs_store_plain.specs.Admission.{admitted, new_node, new_state, nodes_with}
-use Rattle.pfs_store_plain.specs.Counts.{has_node, is_node, is_of_node, node_scope_of, node_states, same_scope}
-use Rattle.pfs_store_plain.specs.Handshakes.{hits_connections, hits_rate, over_rate}
-use Rattle.pfs_store_plain.specs.Leaving.{without}
-use Rattle.pfs_store_plain.specs.Purging.{node_round, node_share, purge, state_round, state_share, state_slice, stays}
-use Rattle.pfs_store_plain.specs.Touching.{completes_at, node_score, nodes_scored, nodes_touched, score_in, touched}
-use Rattle.pfs_store_plain.specs.Worlds.{World, state_with}
-use Rattle.pfs_store_plain.specs.declared.records.Node.{Node}
-use Rattle.pfs_store_plain.specs.declared.records.NodeScope.{NodeScope}
-use Rattle.pfs_store_plain.specs.declared.records.State.{State}
+use Rattle.pfs_store_contract.specs.Admission.{admitted, new_node, new_state, nodes_with}
+use Rattle.pfs_store_contract.specs.Counts.{has_node, is_node, is_of_node, node_scope_of, node_states, same_scope}
+use Rattle.pfs_store_contract.specs.Handshakes.{hits_connections, hits_rate, over_rate}
+use Rattle.pfs_store_contract.specs.Leaving.{without}
+use Rattle.pfs_store_contract.specs.Purging.{node_round, node_share, purge, state_round, state_share, state_slice, stays}
+use Rattle.pfs_store_contract.specs.Touching.{completes_at, node_score, nodes_scored, nodes_touched, score_in, touched}
+use Rattle.pfs_store_contract.specs.Worlds.{World, state_with}
+use Rattle.pfs_store_contract.specs.declared.records.Node.{Node}
+use Rattle.pfs_store_contract.specs.declared.records.NodeScope.{NodeScope}
+use Rattle.pfs_store_contract.specs.declared.records.State.{State}
 use Rattle.pfs_track.specs.Scores.{score_after, zero_score}
 use Rattle.pfs_track.specs.declared.scores.Score.{Score}
 use Rattle.pfs_engine_machine.proofs.Counts.{any-push, count-filter_le, count-push}

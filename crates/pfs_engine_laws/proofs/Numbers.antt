@@ -7,13 +7,13 @@ use Rattle.pfs_addr.specs.Packets.{Header}
 use Rattle.pfs_addr.specs.declared.addresses.Addr.{Addr}
 use Rattle.pfs_conf_rules.specs.Configs.{Conf, options_of}
 use Rattle.pfs_conf_rules.specs.declared.actions.Rate.{Rate}
-use Rattle.pfs_store_plain.specs.Counts.{is_node, node_scope_of, node_states}
-use Rattle.pfs_store_plain.specs.Leaving.{idled}
-use Rattle.pfs_store_plain.specs.Purging.{is_among, node_numbers, state_numbers}
-use Rattle.pfs_store_plain.specs.Touching.{nodes_scored, nodes_touched, renewed, rescored, stepped}
-use Rattle.pfs_store_plain.specs.declared.records.Node.{Node}
-use Rattle.pfs_store_plain.specs.declared.records.NodeScope.{NodeScope}
-use Rattle.pfs_store_plain.specs.declared.records.State.{State}
+use Rattle.pfs_store_contract.specs.Counts.{is_node, node_scope_of, node_states}
+use Rattle.pfs_store_contract.specs.Leaving.{idled}
+use Rattle.pfs_store_contract.specs.Purging.{is_among, node_numbers, state_numbers}
+use Rattle.pfs_store_contract.specs.Touching.{nodes_scored, nodes_touched, renewed, rescored, stepped}
+use Rattle.pfs_store_contract.specs.declared.records.Node.{Node}
+use Rattle.pfs_store_contract.specs.declared.records.NodeScope.{NodeScope}
+use Rattle.pfs_store_contract.specs.declared.records.State.{State}
 use Rattle.pfs_track.specs.Scores.{score_after}
 
 -- ---- of whatever has numbers

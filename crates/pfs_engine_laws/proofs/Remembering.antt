@@ -10,12 +10,12 @@ use Rattle.pfs_conf_rules.specs.Configs.{Conf}
 use Rattle.pfs_engine_machine.proofs.Counts.{any-map}
 use Rattle.pfs_engine_machine.proofs.Scopes.{same_scope_true}
 use Rattle.pfs_engine_machine.specs.Kept.{own_scope}
-use Rattle.pfs_store_plain.specs.Counts.{has_node, is_node, node_states, same_scope}
-use Rattle.pfs_store_plain.specs.Leaving.{idled}
-use Rattle.pfs_store_plain.specs.Purging.{is_among, is_over, node_retention, node_stays}
-use Rattle.pfs_store_plain.specs.declared.records.Node.{Node}
-use Rattle.pfs_store_plain.specs.declared.records.NodeScope.{NodeScope}
-use Rattle.pfs_store_plain.specs.declared.records.State.{State}
+use Rattle.pfs_store_contract.specs.Counts.{has_node, is_node, node_states, same_scope}
+use Rattle.pfs_store_contract.specs.Leaving.{idled}
+use Rattle.pfs_store_contract.specs.Purging.{is_among, is_over, node_retention, node_stays}
+use Rattle.pfs_store_contract.specs.declared.records.Node.{Node}
+use Rattle.pfs_store_contract.specs.declared.records.NodeScope.{NodeScope}
+use Rattle.pfs_store_contract.specs.declared.records.State.{State}
 use Rattle.pfs_track.specs.Scores.{decayed, score_after, zero_score}
 use Rattle.pfs_track.specs.declared.scores.Score.{Score}
 use Rattle.pfs_engine_laws.proofs.Lists.{both, each-filter, each-map, each-of}

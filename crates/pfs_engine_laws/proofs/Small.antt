@@ -8,20 +8,20 @@ use Rattle.pfs_addr.specs.declared.addresses.Addr.{Addr}
 use Rattle.pfs_conf_rules.specs.Configs.{Conf, limit_of, options_of}
 use Rattle.pfs_conf_rules.specs.declared.actions.Rate.{Rate}
 use Rattle.pfs_conf_rules.specs.declared.limits.LimitName.TheVariants as limit_name
-use Rattle.pfs_store_plain.proofs.LimitLaws.{met_in_turn}
-use Rattle.pfs_store_plain.specs.Admission.{admitted, new_node, new_state, nodes_with}
-use Rattle.pfs_store_plain.specs.Calls.{packet_limit}
-use Rattle.pfs_store_plain.specs.SourceLimits.{first_of, held_node_limit, new_node_limit, source_limit}
-use Rattle.pfs_store_plain.specs.Counts.{has_node, node_scope_of, reached, rule_states, scope_nodes}
-use Rattle.pfs_store_plain.specs.Leaving.{idled, left, without}
-use Rattle.pfs_store_plain.specs.Purging.{is_among, node_numbers, node_round, node_share, node_slice, node_stays, round, state_numbers, state_round, state_share, state_slice, stays}
-use Rattle.pfs_store_plain.specs.Touching.{completes_at, nodes_scored, nodes_touched, renewed, rescored, touched}
-use Rattle.pfs_store_plain.specs.Worlds.{World, empty_world, holds_number}
-use Rattle.pfs_store_plain.specs.declared.records.Limit.{Limit}
-use Rattle.pfs_store_plain.specs.declared.records.Limit.TheVariants as limit
-use Rattle.pfs_store_plain.specs.declared.records.Node.{Node}
-use Rattle.pfs_store_plain.specs.declared.records.NodeScope.{NodeScope}
-use Rattle.pfs_store_plain.specs.declared.records.State.{State}
+use Rattle.pfs_store_contract.proofs.LimitLaws.{met_in_turn}
+use Rattle.pfs_store_contract.specs.Admission.{admitted, new_node, new_state, nodes_with}
+use Rattle.pfs_store_contract.specs.Calls.{packet_limit}
+use Rattle.pfs_store_contract.specs.SourceLimits.{first_of, held_node_limit, new_node_limit, source_limit}
+use Rattle.pfs_store_contract.specs.Counts.{has_node, node_scope_of, reached, rule_states, scope_nodes}
+use Rattle.pfs_store_contract.specs.Leaving.{idled, left, without}
+use Rattle.pfs_store_contract.specs.Purging.{is_among, node_numbers, node_round, node_share, node_slice, node_stays, round, state_numbers, state_round, state_share, state_slice, stays}
+use Rattle.pfs_store_contract.specs.Touching.{completes_at, nodes_scored, nodes_touched, renewed, rescored, touched}
+use Rattle.pfs_store_contract.specs.Worlds.{World, empty_world, holds_number}
+use Rattle.pfs_store_contract.specs.declared.records.Limit.{Limit}
+use Rattle.pfs_store_contract.specs.declared.records.Limit.TheVariants as limit
+use Rattle.pfs_store_contract.specs.declared.records.Node.{Node}
+use Rattle.pfs_store_contract.specs.declared.records.NodeScope.{NodeScope}
+use Rattle.pfs_store_contract.specs.declared.records.State.{State}
 use Rattle.pfs_engine_machine.specs.Machine.{Held}
 use Rattle.pfs_engine_laws.proofs.Changes.{answered_keeps}
 use Rattle.pfs_engine_laws.proofs.Numbers.{among-same, made-more, numbers-idled, numbers-renewed, numbers-touched, was}

@@ -9,11 +9,11 @@ use Rattle.pfs_addr.specs.Packets.{Header}
 use Rattle.pfs_addr.specs.Sameness.{same_key}
 use Rattle.pfs_conf_rules.specs.Configs.{Conf}
 use Rattle.pfs_conf_rules.specs.Invariants.{IsConfig}
-use Rattle.pfs_store_plain.specs.Admission.{new_state}
-use Rattle.pfs_store_plain.specs.Purging.{has_expired, is_among, state_numbers, state_round, state_share, stays}
-use Rattle.pfs_store_plain.specs.Touching.{renewed, stepped, touched}
-use Rattle.pfs_store_plain.specs.Worlds.{World, holds_number, state_with}
-use Rattle.pfs_store_plain.specs.declared.records.State.{State}
+use Rattle.pfs_store_contract.specs.Admission.{new_state}
+use Rattle.pfs_store_contract.specs.Purging.{has_expired, is_among, state_numbers, state_round, state_share, stays}
+use Rattle.pfs_store_contract.specs.Touching.{renewed, stepped, touched}
+use Rattle.pfs_store_contract.specs.Worlds.{World, holds_number, state_with}
+use Rattle.pfs_store_contract.specs.declared.records.State.{State}
 use Rattle.pfs_engine_machine.proofs.Numbers.{Rise-filter, Rise-map}
 use Rattle.pfs_engine_machine.proofs.Renewals.{renewed-same}
 use Rattle.pfs_engine_machine.specs.Kept.{Rise}

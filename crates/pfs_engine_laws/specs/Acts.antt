@@ -2,7 +2,7 @@
 use Rattle.std.specs.Prelude.{◌≡◌, ℕ, suc, Option, Some, None, List, [], ◌∷◌, ◌++◌, map}
 use Rattle.pfs_addr.specs.Packets.{Header}
 use Rattle.pfs_conf_rules.specs.Configs.{Conf}
-use Rattle.pfs_store_plain.specs.Purging.{purge}
+use Rattle.pfs_store_contract.specs.Purging.{purge}
 use Rattle.pfs_engine_machine.specs.Kept.{IsWithinLimits}
 use Rattle.pfs_engine_machine.specs.Machine.{Held, answered, due, expired, first_by, held_of, start}
 use Rattle.pfs_engine_machine.specs.declared.events.Event.{Event}

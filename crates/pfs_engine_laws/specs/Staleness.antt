@@ -6,10 +6,10 @@ use Rattle.pfs_addr.specs.Sameness.{same_key}
 use Rattle.pfs_addr.specs.declared.packets.FlowKey.{FlowKey}
 use Rattle.pfs_conf_rules.specs.Configs.{Conf, timeout_of}
 use Rattle.pfs_conf_rules.specs.declared.timeouts.TimeoutName.TheVariants as timeout
-use Rattle.pfs_store_plain.specs.Purging.{has_expired, is_over, state_slice}
-use Rattle.pfs_store_plain.specs.Worlds.{World, holds_number}
-use Rattle.pfs_store_plain.specs.declared.records.Node.{Node}
-use Rattle.pfs_store_plain.specs.declared.records.State.{State}
+use Rattle.pfs_store_contract.specs.Purging.{has_expired, is_over, state_slice}
+use Rattle.pfs_store_contract.specs.Worlds.{World, holds_number}
+use Rattle.pfs_store_contract.specs.declared.records.Node.{Node}
+use Rattle.pfs_store_contract.specs.declared.records.State.{State}
 use Rattle.pfs_engine_machine.specs.declared.events.Event.{Event}
 use Rattle.pfs_engine_laws.specs.Acts.{RunAct, Arrive, Expire, Purge, acts_of, after, purges}
 

@@ -5,4 +5,4 @@ mod events;
 
 pub use events::{Event, Outcome, What};
 pub use pfs_eval::Added;
-pub use pfs_store_plain::Limit;
+pub use pfs_store_contract::Limit;

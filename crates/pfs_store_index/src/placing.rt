@@ -3,7 +3,7 @@
 ghost use Rattle.std.specs.Prelude.{◌≡◌, ◌<◌, ◌^◌, ◌++◌, ◌∷◌, [], IfOk, OnErr, OnOk, false, Some};
 ghost use Rattle.std.specs.BTreeSet.{contains};
 ghost use Rattle.std.specs.List.{AllByRecursion};
-ghost use Rattle.pfs_store_plain.specs.Purging.{node_numbers, state_numbers};
+ghost use Rattle.pfs_store_contract.specs.Purging.{node_numbers, state_numbers};
 ghost use Rattle.pfs_store_records.specs.Records.{IsAbove, placed_at, states_of};
 ghost use Rattle.pfs_store_records.specs.Sourced.{IsSourced};
 ghost use Rattle.pfs_store_records.specs.Tallies.{nodes_of};
@@ -11,7 +11,7 @@ ghost use Rattle.pfs_store_index.specs.Ties.{HasPair, IsFew, SamePairs, joined, 
 
 use crate::tallying::join;
 use pfs_addr::{Addr, NoMemory};
-use pfs_store_plain::{NodeScope, State};
+use pfs_store_contract::{NodeScope, State};
 use pfs_store_records::{Nodes, Records};
 use std::collections::BTreeSet;
 use std::hash::BuildHasher;

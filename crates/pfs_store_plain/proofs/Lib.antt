@@ -1,6 +1,1 @@
 mod IdleLaws
-pub mod LimitLaws
-pub mod MomentLaws
-pub mod SliceLaws
-pub mod Turns
-mod Worked

@@ -1,4 +1,4 @@
-//! States and source nodes: what is held, how it is counted, admitted, renewed, killed and purged, kept in plain lists.
+//! The store over plain lists: how states and source nodes are counted, admitted, renewed, killed and purged in them.
 #![tactic(auto)]
 
 mod counts;
@@ -6,10 +6,6 @@ mod leaving;
 mod limits;
 mod plain;
 mod purging;
-mod records;
-mod store;
 mod touching;
 
 pub use plain::PlainStore;
-pub use records::{Limit, Node, NodeScope, Slice, State, StateNo, Touched, Watched};
-pub use store::Store;

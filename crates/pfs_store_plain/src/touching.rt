@@ -4,16 +4,16 @@ ghost use Rattle.std.specs.Prelude.{◌≡◌, ◌≤◌, ℕ, [], IfSome, IsSom
 ghost use Rattle.pfs_addr.specs.Keys.{key_of};
 ghost use Rattle.pfs_conf_rules.specs.Configs.{options_of};
 ghost use Rattle.pfs_conf_rules.specs.Bounds.{IsRate};
-ghost use Rattle.pfs_store_plain.specs.Counts.{node_scope_of};
-ghost use Rattle.pfs_store_plain.specs.Plain.{AreScores};
-ghost use Rattle.pfs_store_plain.specs.Touching.{completes_at, connections_in, goes_forward, node_score, nodes_scored, nodes_touched, renewed, rescored, score_in};
-ghost use Rattle.pfs_store_plain.specs.Calls.{touch_of, world_touched};
-ghost use Rattle.pfs_store_plain.specs.Worlds.{IsUpToNow, lists, state_with};
+ghost use Rattle.pfs_store_contract.specs.Counts.{node_scope_of};
+ghost use Rattle.pfs_store_plain.specs.Rooms.{AreScores};
+ghost use Rattle.pfs_store_contract.specs.Touching.{completes_at, connections_in, goes_forward, node_score, nodes_scored, nodes_touched, renewed, rescored, score_in};
+ghost use Rattle.pfs_store_contract.specs.Calls.{touch_of, world_touched};
+ghost use Rattle.pfs_store_contract.specs.Worlds.{IsUpToNow, lists, state_with};
 
 use crate::counts::{Connections, OfNode, count, node_scope};
-use crate::records::{Node, NodeScope, State, Touched};
 use pfs_addr::{Addr, FlowKey, Packet};
 use pfs_conf_rules::{Config, Rate, RuleNo};
+use pfs_store_contract::{Node, NodeScope, State, Touched};
 use pfs_track::Score;
 
 /// Takes a packet of the state that has its key.

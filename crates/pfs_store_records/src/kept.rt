@@ -6,7 +6,7 @@ ghost use Rattle.pfs_track.specs.StatePhases.{slot};
 
 use pfs_addr::{Addr, Dir, FlowKey};
 use pfs_conf_rules::{RuleNo, TimeoutName};
-use pfs_store_plain::State;
+use pfs_store_contract::State;
 use pfs_track::StatePhase;
 use std::marker::Model;
 
@@ -24,7 +24,7 @@ pub(crate) struct Kept {
 }
 
 impl Model for Kept {
-    ghost use Rattle.pfs_store_plain.specs.declared.records.State.{State};
+    ghost use Rattle.pfs_store_contract.specs.declared.records.State.{State};
     ghost use Rattle.pfs_store_records.specs.Sourced.{source_at};
 
     ghost Value = { State };

@@ -1,9 +1,9 @@
 -- Invariant of rescore: the nodes so far are rescored, the others as before, with no handshake after now.
 use Rattle.std.proofs.Common.{◌≡◌, ◌≤◌, ◌++◌, take, drop, map, length}
 use Rattle.std.specs.List.{AllWithin}
-use Rattle.pfs_store_plain.specs.Plain.{AreScores}
-use Rattle.pfs_store_plain.specs.Touching.{rescored}
-use Rattle.pfs_store_plain.specs.declared.records.Node.{Node}
+use Rattle.pfs_store_plain.specs.Rooms.{AreScores}
+use Rattle.pfs_store_contract.specs.Touching.{rescored}
+use Rattle.pfs_store_contract.specs.declared.records.Node.{Node}
 use Rattle.pfs_store_plain.proofs.touching.rescore.Given as goal
 
 -- the nodes so far are done; of the others the last handshake came before now; no score is past the greatest

@@ -1,13 +1,13 @@
 -- Answers of IndexStore's admit: a new number is above all others, and the world then is as defined (`ok`).
 use Rattle.std.proofs.Common.{◌≡◌, ◌∙◌, ◌+◌, ◌<◌, ◌++◌, ◌∷◌, [], None, Option, ap, refl, sym, arith}
-use Rattle.pfs_store_plain.specs.Admission.{limit_met, new_state, nodes_with}
-use Rattle.pfs_store_plain.specs.Calls.{packet_limit, world_at}
-use Rattle.pfs_store_plain.specs.Counts.{node_scope_of}
-use Rattle.pfs_store_plain.specs.Plain.{Plain}
-use Rattle.pfs_store_plain.specs.Purging.{node_numbers, state_numbers}
-use Rattle.pfs_store_plain.specs.Worlds.{World, lists}
-use Rattle.pfs_store_plain.specs.declared.records.Limit.{Limit}
-use Rattle.pfs_store_plain.specs.declared.records.State.{State}
+use Rattle.pfs_store_contract.specs.Admission.{limit_met, new_state, nodes_with}
+use Rattle.pfs_store_contract.specs.Calls.{packet_limit, world_at}
+use Rattle.pfs_store_contract.specs.Counts.{node_scope_of}
+use Rattle.pfs_store_contract.specs.Plain.{Plain}
+use Rattle.pfs_store_contract.specs.Purging.{node_numbers, state_numbers}
+use Rattle.pfs_store_contract.specs.Worlds.{World, lists}
+use Rattle.pfs_store_contract.specs.declared.records.Limit.{Limit}
+use Rattle.pfs_store_contract.specs.declared.records.State.{State}
 use Rattle.pfs_track.specs.StatePhases.{first_phase}
 use Rattle.pfs_store_records.specs.Sourced.{source_at}
 use Rattle.pfs_store_index.specs.Rounds.{waiting}

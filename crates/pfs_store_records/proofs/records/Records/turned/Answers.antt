@@ -2,7 +2,7 @@
 use Rattle.std.proofs.Common.{◌≡◌, ◌≤◌, ◌∙◌, List, ap, subst, sym}
 use Rattle.std.specs.List.{AllByRecursion}
 use Rattle.std.specs.Map.{keys_of}
-use Rattle.pfs_store_plain.specs.Purging.{state_numbers}
+use Rattle.pfs_store_contract.specs.Purging.{state_numbers}
 use Rattle.pfs_store_records.specs.Records.{Placed, states_of}
 use Rattle.pfs_store_records.proofs.Turning.{turned-same}
 use Rattle.pfs_store_records.proofs.Walking.{numbers-keys}

@@ -15,11 +15,11 @@ use Rattle.pfs_conf_rules.specs.declared.actions.Scope.TheVariants as scope
 use Rattle.pfs_conf_rules.specs.declared.actions.StateOptions.{StateOptions}
 use Rattle.pfs_conf_rules.specs.declared.items.Item.{Item}
 use Rattle.pfs_conf_rules.specs.declared.items.What.TheVariants as what
-use Rattle.pfs_store_plain.specs.Calls.{packet_limit, answer_at, world_at, world_killed, node_slice_of, state_slice_of, touch_of, world_touched}
-use Rattle.pfs_store_plain.specs.Purging.{purge, state_share, state_slice}
-use Rattle.pfs_store_plain.specs.Worlds.{World, empty_world, state_with}
-use Rattle.pfs_store_plain.specs.declared.records.Limit.TheVariants as limit
-use Rattle.pfs_store_plain.specs.declared.records.Touched.{Touched}
+use Rattle.pfs_store_contract.specs.Calls.{packet_limit, answer_at, world_at, world_killed, node_slice_of, state_slice_of, touch_of, world_touched}
+use Rattle.pfs_store_contract.specs.Purging.{purge, state_share, state_slice}
+use Rattle.pfs_store_contract.specs.Worlds.{World, empty_world, state_with}
+use Rattle.pfs_store_contract.specs.declared.records.Limit.TheVariants as limit
+use Rattle.pfs_store_contract.specs.declared.records.Touched.{Touched}
 
 -- ---- configurations and packets
 

@@ -4,12 +4,12 @@ use Rattle.pfs_addr.specs.declared.addresses.Addr.{Addr}
 use Rattle.pfs_conf_rules.specs.Configs.{Conf, limit_of, options_of}
 use Rattle.pfs_conf_rules.specs.declared.actions.StateOptions.{StateOptions}
 use Rattle.pfs_conf_rules.specs.declared.limits.LimitName.TheVariants as limit_name
-use Rattle.pfs_store_plain.specs.Admission.{first_met, limit_met, tracks}
-use Rattle.pfs_store_plain.specs.Counts.{has_node, node_scope_of, node_states, reached, rule_states, scope_nodes}
-use Rattle.pfs_store_plain.specs.SourceLimits.{first_of, limit_in_turn, source_limit}
-use Rattle.pfs_store_plain.specs.Worlds.{World}
-use Rattle.pfs_store_plain.specs.declared.records.Limit.TheVariants as limit
-use Rattle.pfs_store_plain.specs.declared.records.NodeScope.{NodeScope}
+use Rattle.pfs_store_contract.specs.Admission.{first_met, limit_met, tracks}
+use Rattle.pfs_store_contract.specs.Counts.{has_node, node_scope_of, node_states, reached, rule_states, scope_nodes}
+use Rattle.pfs_store_contract.specs.SourceLimits.{first_of, limit_in_turn, source_limit}
+use Rattle.pfs_store_contract.specs.Worlds.{World}
+use Rattle.pfs_store_contract.specs.declared.records.Limit.TheVariants as limit
+use Rattle.pfs_store_contract.specs.declared.records.NodeScope.{NodeScope}
 
 -- by what each test says: of the rule's states, whether the source has a node, of its scope, of all nodes, of its states,
 -- and of all states

@@ -4,10 +4,10 @@ use Rattle.std.specs.Prelude.{ℕ, ◌==◌, ◌&&◌, nat_lt, Bool, if◌then�
 use Rattle.pfs_addr.specs.declared.addresses.Addr.{Addr}
 use Rattle.pfs_conf_rules.specs.Configs.{Conf}
 use Rattle.pfs_conf_rules.specs.declared.items.RuleNo.{RuleNo}
-use Rattle.pfs_store_plain.specs.Worlds.{World, holds_number}
-use Rattle.pfs_store_plain.specs.Counts.{node_states, is_of_rule, is_of_source}
-use Rattle.pfs_store_plain.specs.declared.records.Node.{Node}
-use Rattle.pfs_store_plain.specs.declared.records.State.{State}
+use Rattle.pfs_store_contract.specs.Worlds.{World, holds_number}
+use Rattle.pfs_store_contract.specs.Counts.{node_states, is_of_rule, is_of_source}
+use Rattle.pfs_store_contract.specs.declared.records.Node.{Node}
+use Rattle.pfs_store_contract.specs.declared.records.State.{State}
 
 -- a node that had states before and has none after has been idle since now
 abbrev pub idled : Conf → List State → List State → ℕ → Node → Node

@@ -14,15 +14,15 @@ use Rattle.pfs_conf_rules.specs.declared.timeouts.TimeoutName.TheVariants.{Adapt
 use Rattle.pfs_track.specs.Lifetimes.{is_expired, scaled, scaled_lifetime, value_for}
 use Rattle.pfs_track.specs.StatePhases.{slot}
 use Rattle.pfs_track.specs.declared.state_phases.StatePhase.{StatePhase}
-use Rattle.pfs_store_plain.specs.Counts.{rule_states}
-use Rattle.pfs_store_plain.specs.Leaving.{idled}
-use Rattle.pfs_store_plain.specs.Plain.{AreCounts}
-use Rattle.pfs_store_plain.specs.Purging.{is_among, node_round, node_share, node_slice, node_stays, state_round, state_share, state_slice, stays}
-use Rattle.pfs_store_plain.specs.Calls.{node_slice_of, state_slice_of}
-use Rattle.pfs_store_plain.specs.Worlds.{World, lists}
-use Rattle.pfs_store_plain.specs.declared.records.Node.{Node}
-use Rattle.pfs_store_plain.specs.declared.records.Slice.{Slice}
-use Rattle.pfs_store_plain.specs.declared.records.State.{State}
+use Rattle.pfs_store_contract.specs.Counts.{rule_states}
+use Rattle.pfs_store_contract.specs.Leaving.{idled}
+use Rattle.pfs_store_contract.specs.Plain.{AreCounts}
+use Rattle.pfs_store_contract.specs.Purging.{is_among, node_round, node_share, node_slice, node_stays, state_round, state_share, state_slice, stays}
+use Rattle.pfs_store_contract.specs.Calls.{node_slice_of, state_slice_of}
+use Rattle.pfs_store_contract.specs.Worlds.{World, lists}
+use Rattle.pfs_store_contract.specs.declared.records.Node.{Node}
+use Rattle.pfs_store_contract.specs.declared.records.Slice.{Slice}
+use Rattle.pfs_store_contract.specs.declared.records.State.{State}
 
 -- the options of an item, if it is a rule that keeps state
 abbrev options_by : Option Item → Option StateOptions

@@ -5,11 +5,11 @@ use Rattle.pfs_addr.specs.declared.addresses.Addr.{Addr}
 use Rattle.pfs_conf_rules.specs.Configs.{Conf, limit_of, options_of}
 use Rattle.pfs_conf_rules.specs.declared.actions.StateOptions.{StateOptions}
 use Rattle.pfs_conf_rules.specs.declared.limits.LimitName.TheVariants as limit_name
-use Rattle.pfs_store_plain.specs.Worlds.{World}
-use Rattle.pfs_store_plain.specs.Counts.{node_scope_of, rule_states, node_states, scope_nodes, has_node, reached}
-use Rattle.pfs_store_plain.specs.declared.records.Limit.{Limit}
-use Rattle.pfs_store_plain.specs.declared.records.Limit.TheVariants as limit
-use Rattle.pfs_store_plain.specs.declared.records.NodeScope.{NodeScope}
+use Rattle.pfs_store_contract.specs.Worlds.{World}
+use Rattle.pfs_store_contract.specs.Counts.{node_scope_of, rule_states, node_states, scope_nodes, has_node, reached}
+use Rattle.pfs_store_contract.specs.declared.records.Limit.{Limit}
+use Rattle.pfs_store_contract.specs.declared.records.Limit.TheVariants as limit
+use Rattle.pfs_store_contract.specs.declared.records.NodeScope.{NodeScope}
 
 -- the first that there is
 abbrev pub first_of : Option Limit → Option Limit → Option Limit

@@ -4,8 +4,8 @@ use Rattle.std.specs.Prelude.{ℕ, ◌≤◌, ◌==◌, Bool, Option, List, [], 
 use Rattle.std.specs.List.{find, list_any}
 use Rattle.pfs_addr.specs.Sameness.{same_key}
 use Rattle.pfs_addr.specs.declared.packets.FlowKey.{FlowKey}
-use Rattle.pfs_store_plain.specs.declared.records.State.{State}
-use Rattle.pfs_store_plain.specs.declared.records.Node.{Node}
+use Rattle.pfs_store_contract.specs.declared.records.State.{State}
+use Rattle.pfs_store_contract.specs.declared.records.Node.{Node}
 
 -- pending are the numbers that the round of the purge has not examined yet
 pub record World : Type 0 where

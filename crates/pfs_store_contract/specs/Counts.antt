@@ -8,11 +8,11 @@ use Rattle.pfs_conf_rules.specs.Configs.{Conf, scope_of}
 use Rattle.pfs_conf_rules.specs.declared.actions.Scope.{Scope}
 use Rattle.pfs_conf_rules.specs.declared.actions.Scope.TheVariants as scope
 use Rattle.pfs_track.specs.StatePhases.{is_done}
-use Rattle.pfs_store_plain.specs.declared.records.State.{State}
-use Rattle.pfs_store_plain.specs.declared.records.Node.{Node}
-use Rattle.pfs_store_plain.specs.contracts.records.NodeScopePartialEq.TheImpl as scope_eq
-use Rattle.pfs_store_plain.specs.declared.records.NodeScope.{NodeScope}
-use Rattle.pfs_store_plain.specs.declared.records.NodeScope.TheVariants as node_scope
+use Rattle.pfs_store_contract.specs.declared.records.State.{State}
+use Rattle.pfs_store_contract.specs.declared.records.Node.{Node}
+use Rattle.pfs_store_contract.specs.contracts.records.NodeScopePartialEq.TheImpl as scope_eq
+use Rattle.pfs_store_contract.specs.declared.records.NodeScope.{NodeScope}
+use Rattle.pfs_store_contract.specs.declared.records.NodeScope.TheVariants as node_scope
 
 -- ---- scopes
 

@@ -7,17 +7,17 @@ use Rattle.pfs_conf_rules.specs.Configs.{Conf, options_of}
 use Rattle.pfs_conf_rules.specs.declared.actions.Rate.{Rate}
 use Rattle.pfs_conf_rules.specs.declared.items.RuleNo.{RuleNo}
 use Rattle.pfs_track.specs.Scores.{score_after}
-use Rattle.pfs_store_plain.specs.Admission.{new_node, nodes_with}
-use Rattle.pfs_store_plain.specs.Calls.{world_at, world_flushed, world_killed, world_touched}
-use Rattle.pfs_store_plain.specs.Counts.{has_node, is_node, node_scope_of, node_states}
-use Rattle.pfs_store_plain.specs.Leaving.{idled, left}
-use Rattle.pfs_store_plain.specs.Purging.{node_slice, state_slice}
-use Rattle.pfs_store_plain.specs.Touching.{completes_at, nodes_scored, nodes_touched, rescored}
-use Rattle.pfs_store_plain.specs.Worlds.{IsUpToNow, World, empty_world}
-use Rattle.pfs_store_plain.specs.declared.records.Limit.{Limit}
-use Rattle.pfs_store_plain.specs.declared.records.Node.{Node}
-use Rattle.pfs_store_plain.specs.declared.records.NodeScope.{NodeScope}
-use Rattle.pfs_store_plain.specs.declared.records.State.{State}
+use Rattle.pfs_store_contract.specs.Admission.{new_node, nodes_with}
+use Rattle.pfs_store_contract.specs.Calls.{world_at, world_flushed, world_killed, world_touched}
+use Rattle.pfs_store_contract.specs.Counts.{has_node, is_node, node_scope_of, node_states}
+use Rattle.pfs_store_contract.specs.Leaving.{idled, left}
+use Rattle.pfs_store_contract.specs.Purging.{node_slice, state_slice}
+use Rattle.pfs_store_contract.specs.Touching.{completes_at, nodes_scored, nodes_touched, rescored}
+use Rattle.pfs_store_contract.specs.Worlds.{IsUpToNow, World, empty_world}
+use Rattle.pfs_store_contract.specs.declared.records.Limit.{Limit}
+use Rattle.pfs_store_contract.specs.declared.records.Node.{Node}
+use Rattle.pfs_store_contract.specs.declared.records.NodeScope.{NodeScope}
+use Rattle.pfs_store_contract.specs.declared.records.State.{State}
 
 -- the last handshake that a node's score counts came by a moment
 abbrev pub IsScoredBy : ℕ → Node → Type 0

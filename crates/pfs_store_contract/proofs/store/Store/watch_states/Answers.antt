@@ -2,10 +2,10 @@
 use Rattle.std.proofs.Common.{List, [], ◌∷◌, arith}
 use borrow.Author.Tests.{clash}
 use Rattle.pfs_conf_rules.specs.Configs.{Conf}
-use Rattle.pfs_store_plain.specs.Quiet.{StatesStay}
-use Rattle.pfs_store_plain.specs.Worlds.{World}
-use Rattle.pfs_store_plain.specs.declared.records.State.{State}
-use Rattle.pfs_store_plain.proofs.store.Store.watch_states.Goals as goal
+use Rattle.pfs_store_contract.specs.Quiet.{StatesStay}
+use Rattle.pfs_store_contract.specs.Worlds.{World}
+use Rattle.pfs_store_contract.specs.declared.records.State.{State}
+use Rattle.pfs_store_contract.proofs.store.Store.watch_states.Goals as goal
 
 all_stay : (conf : Conf) (w : World) (states : List State) → StatesStay conf w 0 states
 all_stay conf w [] = tt

@@ -3,10 +3,10 @@
 ghost use Rattle.std.specs.Prelude.{◌≡◌, ◌+◌, ◌<◌, ◌≤◌, ◌^◌, [], Bool, false, true, None, Some, IfOk, IsOk, IsSome, OnErr, length, option_map};
 ghost use Rattle.pfs_addr.specs.Keys.{key_of};
 ghost use Rattle.pfs_conf_rules.specs.Configs.{Conf, options_at};
-ghost use Rattle.pfs_store_plain.specs.Calls.{packet_limit, answer_at, world_at, source_states, world_flushed, flushed_count, world_killed, node_slice_of, state_slice_of, touch_of, world_touched, state_number, state_rule};
-ghost use Rattle.pfs_store_plain.specs.Purging.{node_slice, state_slice};
-ghost use Rattle.pfs_store_plain.specs.Quiet.{NodesStay, StatesStay, moved};
-ghost use Rattle.pfs_store_plain.specs.Worlds.{IsUpToNow, World, holds_number, state_with};
+ghost use Rattle.pfs_store_contract.specs.Calls.{packet_limit, answer_at, world_at, source_states, world_flushed, flushed_count, world_killed, node_slice_of, state_slice_of, touch_of, world_touched, state_number, state_rule};
+ghost use Rattle.pfs_store_contract.specs.Purging.{node_slice, state_slice};
+ghost use Rattle.pfs_store_contract.specs.Quiet.{NodesStay, StatesStay, moved};
+ghost use Rattle.pfs_store_contract.specs.Worlds.{IsUpToNow, World, holds_number, state_with};
 
 use crate::records::{Limit, Slice, StateNo, Touched, Watched};
 use pfs_addr::{Addr, FlowKey, Meter, NoMemory, Packet};

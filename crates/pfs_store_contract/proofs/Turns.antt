@@ -1,8 +1,8 @@
 -- Rounds that go on while nothing leaves: slices add up, and a whole round of them is none.
 use Rattle.std.proofs.Common.{◌≡◌, ◌≤◌, ◌<◌, ◌+◌, ◌-◌, ◌*◌, ◌/◌, ◌%◌, ℕ, zero, suc, List, [], ◌∷◌, length, drop, refl, ap, sym, ◌∙◌, arith, length-drop, div-add-mod', suc-mul, zero-mul}
 use Rattle.std.proofs.Math.Seq.{drop-nil}
-use Rattle.pfs_store_plain.specs.Purging.{round}
-use Rattle.pfs_store_plain.specs.Quiet.{turned}
+use Rattle.pfs_store_contract.specs.Purging.{round}
+use Rattle.pfs_store_contract.specs.Quiet.{turned}
 
 pub drop-all : (n : ℕ) (xs : List ℕ) → length xs ≤ n → drop n xs ≡ []
 drop-all n [] h = drop-nil n

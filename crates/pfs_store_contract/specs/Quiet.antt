@@ -3,11 +3,11 @@ use Rattle.std.specs.Prelude.{ℕ, zero, suc, ◌≡◌, ◌≤◌, ◌+◌, tru
 use Rattle.std.specs.List.{AllByRecursion}
 use Rattle.pfs_conf_rules.specs.Configs.{Conf}
 use Rattle.pfs_track.specs.Lifetimes.{scaled_lifetime}
-use Rattle.pfs_store_plain.specs.Counts.{node_states, rule_states}
-use Rattle.pfs_store_plain.specs.Purging.{is_among, node_numbers, node_retention, node_round, node_share, round, state_numbers, state_round, state_share}
-use Rattle.pfs_store_plain.specs.Worlds.{World}
-use Rattle.pfs_store_plain.specs.declared.records.Node.{Node}
-use Rattle.pfs_store_plain.specs.declared.records.State.{State}
+use Rattle.pfs_store_contract.specs.Counts.{node_states, rule_states}
+use Rattle.pfs_store_contract.specs.Purging.{is_among, node_numbers, node_retention, node_round, node_share, round, state_numbers, state_round, state_share}
+use Rattle.pfs_store_contract.specs.Worlds.{World}
+use Rattle.pfs_store_contract.specs.declared.records.Node.{Node}
+use Rattle.pfs_store_contract.specs.declared.records.State.{State}
 
 -- ---- the rounds go on
 

@@ -8,11 +8,11 @@ use Rattle.pfs_conf_rules.specs.declared.actions.Rate.{Rate}
 use Rattle.pfs_conf_rules.specs.declared.actions.Scope.{Scope}
 use Rattle.pfs_conf_rules.specs.declared.actions.Scope.TheVariants as scope
 use Rattle.pfs_conf_rules.specs.declared.items.RuleNo.{RuleNo}
-use Rattle.pfs_store_plain.specs.Counts.{exceeded, node_scope_of}
-use Rattle.pfs_store_plain.specs.Leaving.{is_flushed}
-use Rattle.pfs_store_plain.specs.Touching.{connections_in, score_in}
-use Rattle.pfs_store_plain.specs.Worlds.{World}
-use Rattle.pfs_store_plain.specs.declared.records.State.{State}
+use Rattle.pfs_store_contract.specs.Counts.{exceeded, node_scope_of}
+use Rattle.pfs_store_contract.specs.Leaving.{is_flushed}
+use Rattle.pfs_store_contract.specs.Touching.{connections_in, score_in}
+use Rattle.pfs_store_contract.specs.Worlds.{World}
+use Rattle.pfs_store_contract.specs.declared.records.State.{State}
 
 -- the connections of a state's source exceed `max-src-conn` of its rule
 abbrev pub hits_connections : Conf → World → State → Bool

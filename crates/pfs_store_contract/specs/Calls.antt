@@ -4,17 +4,17 @@ use Rattle.pfs_addr.specs.Packets.{Header}
 use Rattle.pfs_addr.specs.declared.addresses.Addr.{Addr}
 use Rattle.pfs_conf_rules.specs.Configs.{Conf}
 use Rattle.pfs_conf_rules.specs.declared.items.RuleNo.{RuleNo}
-use Rattle.pfs_store_plain.specs.Admission.{admitted, limit_met}
-use Rattle.pfs_store_plain.specs.Counts.{is_of_source, node_scope_of}
-use Rattle.pfs_store_plain.specs.Leaving.{is_flushed, without}
-use Rattle.pfs_store_plain.specs.Purging.{node_round, node_share, node_slice, state_round, state_share, state_slice}
-use Rattle.pfs_store_plain.specs.Touching.{completes_at, connections_in, score_in, touched}
-use Rattle.pfs_store_plain.specs.Worlds.{World}
-use Rattle.pfs_store_plain.specs.declared.records.Limit.{Limit}
-use Rattle.pfs_store_plain.specs.declared.records.Slice.{Slice}
-use Rattle.pfs_store_plain.specs.declared.records.State.{State}
-use Rattle.pfs_store_plain.specs.declared.records.StateNo.{StateNo}
-use Rattle.pfs_store_plain.specs.declared.records.Touched.{Touched}
+use Rattle.pfs_store_contract.specs.Admission.{admitted, limit_met}
+use Rattle.pfs_store_contract.specs.Counts.{is_of_source, node_scope_of}
+use Rattle.pfs_store_contract.specs.Leaving.{is_flushed, without}
+use Rattle.pfs_store_contract.specs.Purging.{node_round, node_share, node_slice, state_round, state_share, state_slice}
+use Rattle.pfs_store_contract.specs.Touching.{completes_at, connections_in, score_in, touched}
+use Rattle.pfs_store_contract.specs.Worlds.{World}
+use Rattle.pfs_store_contract.specs.declared.records.Limit.{Limit}
+use Rattle.pfs_store_contract.specs.declared.records.Slice.{Slice}
+use Rattle.pfs_store_contract.specs.declared.records.State.{State}
+use Rattle.pfs_store_contract.specs.declared.records.StateNo.{StateNo}
+use Rattle.pfs_store_contract.specs.declared.records.Touched.{Touched}
 
 -- ---- what is asked of a state
 
