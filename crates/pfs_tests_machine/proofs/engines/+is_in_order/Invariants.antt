@@ -1,5 +1,5 @@
 -- What falls at each call of is_in_order by itself: the events that are left.
-use Rattle.std.proofs.Common.{ℕ, length}
+use Rattle.std.proofs.Common.{length}
 use Rattle.pfs_tests_machine.proofs.engines.+is_in_order.Given as goal
 
 -- the events that are left

@@ -1,5 +1,5 @@
 -- Answer of indexed: an empty store over indexes has no handshake after moment 0.
-use Rattle.std.proofs.Common.{ap, subst, sym}
+use Rattle.std.proofs.Common.{subst, sym}
 use Rattle.pfs_store_contract.proofs.MomentLaws.{empty_world-up_to_now}
 use Rattle.pfs_store_contract.specs.Plain.{Plain}
 use Rattle.pfs_store_contract.specs.Worlds.{IsUpToNow}
