@@ -5,7 +5,7 @@ ghost use Rattle.pfs_addr.specs.FlagSets.{flags_of, is_flag_letter};
 ghost use Rattle.pfs_addr.specs.LetterSteps.{with_letter};
 
 /// A set of TCP flags, each by its letter. (pf.conf(5), PARAMETERS, "flags"; RFC 9293, section 3.1)
-#[derive(Debug, Clone, Copy, PartialEq, Eq, PartialOrd, Ord, Hash, Default)]
+#[derive(Debug, Clone, Copy, PartialEq, Eq, Default)]
 pub struct Flags {
     /// `F`: the sender has no more to send.
     pub fin: bool,

@@ -12,7 +12,7 @@ use crate::protocols::Proto;
 use std::marker::Model;
 
 /// The way of a packet through an interface. (pf.conf(5), PARAMETERS, "in" and "out")
-#[derive(Debug, Clone, Copy, PartialEq, Eq, PartialOrd, Ord, Hash)]
+#[derive(Debug, Clone, Copy, PartialEq, Eq)]
 pub enum Dir {
     /// It comes in.
     In,
@@ -21,7 +21,7 @@ pub enum Dir {
 }
 
 /// An address with a port, 0 where the protocol has no ports.
-#[derive(Debug, Clone, Copy, PartialEq, Eq, PartialOrd, Ord, Hash)]
+#[derive(Debug, Clone, Copy, PartialEq, Eq, Hash)]
 pub struct Endpoint {
     /// The address.
     pub addr: Addr,
@@ -33,7 +33,7 @@ pub struct Endpoint {
 ///
 /// Clauses see it as a `Header`: direction, interface name, protocol, the source and the destination with their ports,
 /// and flags. Its ports are 0 for protocols other than TCP and UDP.
-#[derive(Debug, Clone, Copy, PartialEq, Eq, Hash)]
+#[derive(Debug, Clone, Copy, PartialEq, Eq)]
 pub struct Packet {
     dir: Dir,
     ifname: IfName,
@@ -59,7 +59,7 @@ impl Model for Packet {
 /// What a packet and its answers have in common, by which a state is found: the protocol, and two ends. For an `in`
 /// packet the first end is the source and the second the destination; for an `out` packet it is the other way round.
 /// (own to this profile; pf(4) calls it a state key)
-#[derive(Debug, Clone, Copy, PartialEq, Eq, PartialOrd, Ord, Hash)]
+#[derive(Debug, Clone, Copy, PartialEq, Eq, Hash)]
 pub struct FlowKey {
     /// The protocol.
     pub proto: Proto,

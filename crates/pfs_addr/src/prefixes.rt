@@ -16,7 +16,7 @@ use std::marker::Model;
 /// bits of the address past that number are zero, so two prefixes of the same addresses are equal.
 ///
 /// Clauses see it as a `Network`: the address, and the number of bits. (pf.conf(5), TABLES; RFC 4632, section 3.1)
-#[derive(Debug, Clone, Copy, PartialEq, Eq, PartialOrd, Ord, Hash)]
+#[derive(Debug, Clone, Copy, PartialEq, Eq, Hash)]
 pub struct Prefix {
     addr: Addr,
     bits: u8,

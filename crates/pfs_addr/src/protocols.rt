@@ -7,7 +7,7 @@ use crate::numbers::parse_number;
 use std::marker::Model;
 
 /// The number of a protocol that is neither TCP (6) nor UDP (17). Clauses see the number.
-#[derive(Debug, Clone, Copy, PartialEq, Eq, PartialOrd, Ord, Hash)]
+#[derive(Debug, Clone, Copy, PartialEq, Eq, Hash)]
 pub struct OtherProto {
     number: u8,
 }
@@ -25,7 +25,7 @@ impl Model for OtherProto {
 }
 
 /// A protocol over IP. Only TCP and UDP have ports. (RFC 791, section 3.1, "Protocol")
-#[derive(Debug, Clone, Copy, PartialEq, Eq, PartialOrd, Ord, Hash)]
+#[derive(Debug, Clone, Copy, PartialEq, Eq, Hash)]
 pub enum Proto {
     /// Protocol 6.
     Tcp,

@@ -8,13 +8,19 @@ use Rattle.pfs_cli_jobs.specs.declared.tasks.Job.TheVariants as job
 abbrev pub file_rule : Text → Rule
 file_rule id = record (new_rule id) { required = true }
 
+-- the subcommands
+abbrev pub check_app : App
+check_app = with_rule (new_app (codes "check")) (file_rule (codes "RULES"))
+
+abbrev pub show_app : App
+show_app = with_rule (new_app (codes "show")) (file_rule (codes "RULES"))
+
+abbrev pub replay_app : App
+replay_app = with_rule (with_rule (new_app (codes "replay")) (file_rule (codes "RULES"))) (file_rule (codes "TRACE"))
+
 -- the command line of the program
 abbrev pub pfsrc_app : App
-pfsrc_app =
-    let check = with_rule (new_app (codes "check")) (file_rule (codes "RULES")) in
-    let show = with_rule (new_app (codes "show")) (file_rule (codes "RULES")) in
-    let replay = with_rule (with_rule (new_app (codes "replay")) (file_rule (codes "RULES"))) (file_rule (codes "TRACE")) in
-    with_subcommand (with_subcommand (with_subcommand (new_app (codes "pfsrc")) check.top) show.top) replay.top
+pfsrc_app = with_subcommand (with_subcommand (with_subcommand (new_app (codes "pfsrc")) check_app.top) show_app.top) replay_app.top
 
 -- a subcommand with its entries
 abbrev pub Found : Type 0

@@ -1,9 +1,9 @@
 // How the words of the command line are read, with `clap`.
 
 ghost use Rattle.std.specs.Prelude.{◌≡◌, IfOk, map, false, codes, Some};
-ghost use Rattle.clap.specs.Words.{app_of, subcommand_of, rule_of, new_app, with_rule, first_of, found_of, kind_of, rows_of};
+ghost use Rattle.clap.specs.Words.{app_of, subcommand_of, rule_of, new_app, with_subcommand, first_of, found_of, kind_of, rows_of};
 ghost use Rattle.clap.specs.declared.builder.command.Command.TheViews.{out-Command};
-ghost use Rattle.pfs_cli_jobs.specs.Jobs.{JobIs, pfsrc_app, file_rule};
+ghost use Rattle.pfs_cli_jobs.specs.Jobs.{JobIs, check_app, show_app, replay_app, pfsrc_app, file_rule};
 
 use crate::tasks::Job;
 use clap::error::ErrorKind;
@@ -29,12 +29,23 @@ pub fn job<'a>(alloc: Global, words: &'a [&'a str]) -> Result<Job<'a>, Error>
 fn pfsrc<'a>(alloc: Global) -> Result<Command<'a>, AllocError>
     ensures { IfOk result (λ c. app_of c ≡ pfsrc_app) }
 {
-    let check = check(alloc)?;
-    let show = show(alloc)?;
     let replay = replay(alloc)?;
-    let first = program(alloc).subcommand(check)?;
-    let second = first.subcommand(show)?;
-    second.subcommand(replay)
+    with_show(alloc)?.subcommand(replay)
+}
+
+// (each holds at most one command over a `?`: each that is held there is dear to prove)
+fn with_show<'a>(alloc: Global) -> Result<Command<'a>, AllocError>
+    ensures { IfOk result (λ c. app_of c ≡ with_subcommand (with_subcommand (new_app (codes "pfsrc")) check_app.top) show_app.top) }
+{
+    let show = show(alloc)?;
+    with_check(alloc)?.subcommand(show)
+}
+
+fn with_check<'a>(alloc: Global) -> Result<Command<'a>, AllocError>
+    ensures { IfOk result (λ c. app_of c ≡ with_subcommand (new_app (codes "pfsrc")) check_app.top) }
+{
+    let check = check(alloc)?;
+    program(alloc).subcommand(check)
 }
 
 fn program<'a>(alloc: Global) -> Command<'a>
@@ -51,7 +62,7 @@ fn program<'a>(alloc: Global) -> Command<'a>
 }
 
 fn check<'a>(alloc: Global) -> Result<Command<'a>, AllocError>
-    ensures app { IfOk result (λ c. app_of c ≡ with_rule (new_app (codes "check")) (file_rule (codes "RULES"))) }
+    ensures app { IfOk result (λ c. app_of c ≡ check_app) }
     ensures local { IfOk result (λ c. (out-Command c).has_globals ≡ false) }
 {
     Command::new(alloc, "check")
@@ -63,7 +74,7 @@ fn check<'a>(alloc: Global) -> Result<Command<'a>, AllocError>
 }
 
 fn show<'a>(alloc: Global) -> Result<Command<'a>, AllocError>
-    ensures app { IfOk result (λ c. app_of c ≡ with_rule (new_app (codes "show")) (file_rule (codes "RULES"))) }
+    ensures app { IfOk result (λ c. app_of c ≡ show_app) }
     ensures local { IfOk result (λ c. (out-Command c).has_globals ≡ false) }
 {
     Command::new(alloc, "show")
@@ -73,7 +84,7 @@ fn show<'a>(alloc: Global) -> Result<Command<'a>, AllocError>
 }
 
 fn replay<'a>(alloc: Global) -> Result<Command<'a>, AllocError>
-    ensures app { IfOk result (λ c. app_of c ≡ with_rule (with_rule (new_app (codes "replay")) (file_rule (codes "RULES"))) (file_rule (codes "TRACE"))) }
+    ensures app { IfOk result (λ c. app_of c ≡ replay_app) }
     ensures local { IfOk result (λ c. (out-Command c).has_globals ≡ false) }
 {
     let command = Command::new(alloc, "replay")

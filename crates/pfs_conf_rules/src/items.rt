@@ -5,7 +5,7 @@ use crate::filters::Filter;
 use pfs_addr::Name;
 
 /// The number of a rule: its place among the items, anchors counted too, from 0.
-#[derive(Debug, Clone, Copy, PartialEq, Eq, PartialOrd, Ord, Hash)]
+#[derive(Debug, Clone, Copy, PartialEq, Eq, Hash)]
 pub struct RuleNo(pub u32);
 
 /// The name of an anchor: 1 to 63 bytes. (pf.conf(5), ANCHORS)

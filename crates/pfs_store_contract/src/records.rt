@@ -5,7 +5,7 @@ use pfs_conf_rules::RuleNo;
 use pfs_track::{Score, StatePhase};
 
 /// The number of a state: they count from 1 in the order of making, and none is used again.
-#[derive(Debug, Clone, Copy, PartialEq, Eq, PartialOrd, Ord, Hash)]
+#[derive(Debug, Clone, Copy, PartialEq, Eq)]
 pub struct StateNo(pub u64);
 
 /// A state that is held. (pf.conf(5), STATEFUL FILTERING)
@@ -28,7 +28,7 @@ pub struct State {
 }
 
 /// For which rules a source node counts.
-#[derive(Debug, Clone, Copy, PartialEq, Eq, PartialOrd, Ord, Hash)]
+#[derive(Debug, Clone, Copy, PartialEq, Eq, Hash)]
 pub enum NodeScope {
     /// One rule: `source-track rule`.
     Rule(RuleNo),
@@ -53,7 +53,7 @@ pub struct Node {
 }
 
 /// The limit that refuses a state. (pf.conf(5), OPTIONS, "set limit", and STATEFUL TRACKING OPTIONS)
-#[derive(Debug, Clone, Copy, PartialEq, Eq, Hash)]
+#[derive(Debug, Clone, Copy, PartialEq, Eq)]
 pub enum Limit {
     /// `max`: the rule holds as many states.
     Max,

@@ -35,7 +35,7 @@ use std::marker::Model;
 use std::ops::Bound;
 
 /// What the index by key has of a state: its number, its rule, and the place of its record. It takes 16 bytes.
-#[derive(Debug, Clone, Copy, PartialEq, Eq)]
+#[derive(Clone, Copy)]
 pub(crate) struct Entry {
     pub(crate) number: u32,
     pub(crate) rule: RuleNo,
@@ -43,7 +43,7 @@ pub(crate) struct Entry {
 }
 
 /// A state before its packet, and what is told of the packet.
-#[derive(Debug, Clone, Copy, PartialEq, Eq)]
+#[derive(Clone, Copy)]
 pub(crate) struct Renewed {
     pub(crate) before: State,
     pub(crate) touched: Touched,

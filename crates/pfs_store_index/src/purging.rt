@@ -24,7 +24,7 @@ use pfs_store_records::{Round, Tally, Walk};
 use std::hash::BuildHasher;
 
 /// What a walk did: up to where it went, how many it examined, how many of them left, and up to when the others stay.
-#[derive(Debug, Clone, Copy, PartialEq, Eq)]
+#[derive(Clone, Copy)]
 pub(crate) struct Steps {
     pub(crate) cursor: u64,
     pub(crate) examined: u64,
@@ -34,7 +34,7 @@ pub(crate) struct Steps {
 
 /// What a walk did up to a state that left: up to where it went, how many it examined, how many more it may examine, and up to
 /// when those stay that did not leave.
-#[derive(Debug, Clone, Copy, PartialEq, Eq)]
+#[derive(Clone, Copy)]
 struct Stretch {
     cursor: u64,
     examined: u64,

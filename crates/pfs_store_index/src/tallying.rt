@@ -20,7 +20,7 @@ use pfs_track::Score;
 use std::hash::BuildHasher;
 
 /// What is told of a node after a packet of one of its states; 0 where there is none.
-#[derive(Debug, Clone, Copy, PartialEq, Eq)]
+#[derive(Clone, Copy)]
 pub(crate) struct Met {
     pub(crate) connections: u64,
     pub(crate) score: Score,

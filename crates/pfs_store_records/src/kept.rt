@@ -13,7 +13,7 @@ use std::marker::Model;
 /// A state whose source is the end of its key from which packets of its direction come. Clauses see the state.
 ///
 /// The fields lie in memory as they stand here: what a walk reads comes first, and none of the 64 bytes is unused.
-#[derive(Debug, Clone, Copy)]
+#[derive(Clone, Copy)]
 pub(crate) struct Kept {
     last: u64,
     number: u32,

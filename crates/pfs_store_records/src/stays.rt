@@ -11,7 +11,7 @@ use pfs_conf_rules::{RuleNo, TimeoutName};
 use pfs_track::is_expired;
 
 /// For how many seconds states of a rule may stay in a phase of a timeout.
-#[derive(Debug, Clone, Copy)]
+#[derive(Clone, Copy)]
 pub(crate) struct Stay {
     pub(crate) rule: RuleNo,
     pub(crate) timeout: TimeoutName,

@@ -4,7 +4,7 @@ ghost use Rattle.std.specs.Prelude.{◌≡◌};
 ghost use Rattle.pfs_track.specs.Datagrams.{once_sent, once_answered, stage_of, first_datagram, udp_step};
 
 /// What was seen of a peer's traffic. (pf.conf(5), OPTIONS, "udp.single" and "udp.multiple")
-#[derive(Debug, Clone, Copy, PartialEq, Eq, PartialOrd, Ord, Hash)]
+#[derive(Debug, Clone, Copy, PartialEq, Eq)]
 pub(crate) enum Traffic {
     /// `NONE`: it has sent nothing.
     Silent,
@@ -15,7 +15,7 @@ pub(crate) enum Traffic {
 }
 
 /// Which of a protocol's timeouts holds. (pf.conf(5), OPTIONS, "udp.first", "udp.single" and "udp.multiple")
-#[derive(Debug, Clone, Copy, PartialEq, Eq, PartialOrd, Ord, Hash)]
+#[derive(Debug, Clone, Copy, PartialEq, Eq)]
 pub(crate) enum Stage {
     /// `first`: after the first packet.
     First,
@@ -26,7 +26,7 @@ pub(crate) enum Stage {
 }
 
 /// How far traffic without a handshake has come: what was seen of its two peers, and which timeout holds.
-#[derive(Debug, Clone, Copy, PartialEq, Eq, Hash)]
+#[derive(Debug, Clone, Copy, PartialEq, Eq)]
 pub struct DatagramPhase {
     maker: Traffic,
     other: Traffic,

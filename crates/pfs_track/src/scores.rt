@@ -5,7 +5,7 @@ ghost use Rattle.pfs_track.specs.Scores.{decayed, score_after};
 
 /// The score of a source node: 1000 for each handshake, which decays as time goes by, and the moment of the last one.
 /// (pf.conf(5), STATEFUL TRACKING OPTIONS, "max-src-conn-rate"; how it decays is own to this profile)
-#[derive(Debug, Clone, Copy, PartialEq, Eq, Hash, Default)]
+#[derive(Debug, Clone, Copy, PartialEq, Eq, Default)]
 pub struct Score {
     /// Thousandths of handshakes.
     pub value: u64,

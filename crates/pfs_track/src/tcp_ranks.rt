@@ -8,7 +8,7 @@ use pfs_conf_rules::TimeoutName;
 
 /// How far a peer of a TCP connection has come: the states of RFC 9293, section 3.3.2, from the least rank to the
 /// greatest. (the order is own to this profile)
-#[derive(Debug, Clone, Copy, PartialEq, Eq, PartialOrd, Ord, Hash)]
+#[derive(Debug, Clone, Copy, PartialEq, Eq, PartialOrd, Ord)]
 pub(crate) enum TcpRank {
     /// `CLOSED`: no packet of this peer was seen.
     Closed,
@@ -35,7 +35,7 @@ pub(crate) enum TcpRank {
 }
 
 /// The ranks of the two ends of a packet after it, and whether the handshake completes at it.
-#[derive(Debug, Clone, Copy, PartialEq, Eq)]
+#[derive(Clone, Copy)]
 pub(crate) struct Ends {
     /// The rank of the peer that has sent the packet.
     pub sender: TcpRank,
@@ -46,7 +46,7 @@ pub(crate) struct Ends {
 }
 
 /// The ranks of the maker of a state and of the other peer after a packet, and whether the handshake completes at it.
-#[derive(Debug, Clone, Copy, PartialEq, Eq)]
+#[derive(Clone, Copy)]
 pub(crate) struct Peers {
     /// The rank of the peer that sent the packet that made the state.
     pub maker: TcpRank,
