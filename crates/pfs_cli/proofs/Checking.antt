@@ -11,7 +11,8 @@ use Rattle.pfs_conf.specs.declared.kinds.Kind.{Kind}
 use Rattle.pfs_conf.specs.declared.kinds.Kind.TheVariants as kind
 use Rattle.pfs_cli.specs.declared.faults.ReplayFault.{ReplayFault}
 use Rattle.pfs_cli.specs.declared.faults.ReplayFault.TheVariants as fault
-use Rattle.pfs_cli.specs.Rules.{KeepsEnough, AreRefused}
+use Rattle.pfs_cli_streams.specs.Kept.{KeepsEnough}
+use Rattle.pfs_cli.specs.Rules.{AreRefused}
 use Rattle.pfs_cli.specs.Refusing.{IsFeedFault, RefusesText, fault_by, fault_of}
 use Rattle.pfs_cli.specs.Checks.{Answers}
 use Rattle.pfs_cli.proofs.Replaying.{kept-refused}

@@ -18,7 +18,8 @@ use Rattle.pfs_conf.specs.Reads.{Reads}
 use Rattle.pfs_conf.specs.Faults.{IsFault, memory, long, breaks, stops}
 use Rattle.pfs_cli_records.specs.declared.records.Stop.TheVariants as stop
 use Rattle.pfs_cli.specs.Faults.{replay_fault}
-use Rattle.pfs_cli.specs.Rules.{AreRefused, KeepsEnough, rules_limit}
+use Rattle.pfs_cli_streams.specs.Kept.{KeepsEnough, rules_limit}
+use Rattle.pfs_cli.specs.Rules.{AreRefused}
 use Rattle.pfs_cli_report.specs.Reports.{AreFirstLines, BeginsReport}
 use Rattle.pfs_cli_records.specs.Turns.{Tells}
 use Rattle.pfs_cli.specs.Refusing.{RefusesRules, IsFeedFault}

@@ -1,19 +1,11 @@
 -- What is read of a rules text, and how it is refused. (own)
-use Rattle.std.specs.Prelude.{◌≡◌, ◌≢◌, ◌<◌, ◌≤◌, ℕ, List, length}
+use Rattle.std.specs.Prelude.{◌≢◌, ℕ, List}
 use Rattle.pfs_conf_rules.specs.Configs.{Conf}
 use Rattle.pfs_conf.specs.declared.faults.LoadFault.{LoadFault}
 use Rattle.pfs_conf.specs.Kinds.{no_memory}
 use Rattle.pfs_conf.specs.Reads.{Reads}
 use Rattle.pfs_conf.specs.Faults.{IsFault}
 
--- the most bytes of a rules text
-abbrev pub rules_limit : ℕ
-rules_limit = 1048576
-
 -- a text without a configuration, and a fault that it may be told with; want of memory is told by a fault of its own
 abbrev pub AreRefused : List ℕ → LoadFault → Type 0
 AreRefused text f = (f ≢ no_memory) × ((conf : Conf) → Reads text conf → ⊥) × IsFault text f
-
--- what is kept of the bytes before the end of a rules text: all, or enough to show that it is too long
-abbrev pub KeepsEnough : List ℕ → List ℕ → Type 0
-KeepsEnough kept text = (length text ≤ rules_limit → kept ≡ text) × (rules_limit < length text → rules_limit < length kept)

@@ -7,7 +7,8 @@ ghost use Rattle.pfs_cli_streams.specs.Sinks.{bytes_held, write_failures};
 ghost use Rattle.pfs_conf.specs.Reads.{Reads};
 ghost use Rattle.pfs_conf_show.specs.Texts.{text_of};
 ghost use Rattle.pfs_conf.specs.declared.faults.LoadFault.{LoadFault};
-ghost use Rattle.pfs_cli.specs.Rules.{AreRefused, rules_limit};
+ghost use Rattle.pfs_cli_streams.specs.Kept.{rules_limit};
+ghost use Rattle.pfs_cli.specs.Rules.{AreRefused};
 ghost use Rattle.pfs_cli.specs.Refusing.{RefusesText};
 ghost use Rattle.pfs_cli.specs.Checks.{Answers, counts_text};
 

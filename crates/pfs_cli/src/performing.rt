@@ -5,7 +5,8 @@ ghost use Rattle.std.specs.Io.KnownBytes.{Appends};
 ghost use Rattle.pfs_cli_streams.specs.Feeds.{unread, has_ended, IsFresh, IsSpent, read_failures};
 ghost use Rattle.pfs_cli_streams.specs.Sinks.{bytes_held, write_failures};
 ghost use Rattle.pfs_conf.specs.declared.faults.LoadFault.{LoadFault};
-ghost use Rattle.pfs_cli.specs.Rules.{AreRefused, rules_limit};
+ghost use Rattle.pfs_cli_streams.specs.Kept.{rules_limit};
+ghost use Rattle.pfs_cli.specs.Rules.{AreRefused};
 ghost use Rattle.pfs_cli.specs.Performing.{OfReplay, OfRulesFile, Performs, ReadsRulesAlone, rules_within};
 
 use crate::checks::{check, print};

@@ -8,16 +8,17 @@ ghost use Rattle.pfs_conf_rules.specs.Configs.{Conf};
 ghost use Rattle.pfs_conf.specs.declared.faults.LoadFault.{LoadFault};
 ghost use Rattle.pfs_conf.specs.Reads.{Reads};
 ghost use Rattle.pfs_cli_records.specs.Turns.{Tells};
-ghost use Rattle.pfs_cli.specs.Rules.{KeepsEnough, AreRefused, rules_limit};
+ghost use Rattle.pfs_cli_streams.specs.Kept.{KeepsEnough, rules_limit};
+ghost use Rattle.pfs_cli.specs.Rules.{AreRefused};
 ghost use Rattle.pfs_cli.specs.Refusing.{IsFeedFault};
 ghost use Rattle.pfs_cli_report.specs.Traces.{trace_of};
 ghost use Rattle.pfs_cli.specs.Replays.{Replays};
 
 use crate::faults::{ReplayFault, of_trace};
 use crate::reports::write_report;
-use crate::rules::{RULES_LIMIT, load_config};
+use crate::rules::load_config;
 use pfs_cli_records::Stop;
-use pfs_cli_streams::{Feed, Sink};
+use pfs_cli_streams::{Feed, RULES_LIMIT, Sink};
 use std::alloc::Global;
 use std::io::{Read, Write};
 

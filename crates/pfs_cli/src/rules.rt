@@ -8,9 +8,6 @@ use crate::faults::ReplayFault;
 use pfs_conf::{Config, Kind, LoadFault, load};
 use std::alloc::Global;
 
-/// The most bytes of a rules text.
-pub(crate) const RULES_LIMIT: usize = 1_048_576;
-
 /// The configuration of a rules text.
 pub(crate) fn load_config(alloc: Global, text: Vec<u8>) -> Result<Config, ReplayFault>
     ensures ok { IfOk result (λ c. Reads text.items c) }

@@ -4,8 +4,8 @@ use Rattle.std.specs.Prelude.{◌==◌, ◌&&◌, ◌||◌, not, cond, codes, if
 use Rattle.std.specs.Str.{bytes_eq}
 use Rattle.std.specs.List.{after_first, before_first, concat, onto_first, position_or_len}
 use Rattle.std.specs.Io.BufRead.{take_through, drop_through}
-use Rattle.pfs_cli.specs.Joined.{is_split, lines_in, split_joined}
-use Rattle.pfs_cli.specs.Places.{Parts, ahead, split_from}
+use Rattle.pfs_cli_streams.specs.Joined.{is_split, lines_in, split_joined}
+use Rattle.pfs_cli_streams.specs.Places.{Parts, ahead, split_from}
 
 -- what stands before the first split line of these lines, and what after it
 abbrev split_lines : List (List ℕ) → Parts
