@@ -16,7 +16,7 @@ use Rattle.pfs_conf_tokens.proofs.ReaderLaws.{line_end_key, ends_text_key, word_
 use Rattle.pfs_conf_tokens.proofs.WordKeys.{key_of-Anchor}
 use Rattle.pfs_addr.specs.Names.{is_name, name_of}
 use Rattle.pfs_conf_rules.specs.Configs.{Conf}
-use Rattle.pfs_conf_rules.specs.Drafts.{Drafted, finished, is_defined}
+use Rattle.pfs_conf_settings.specs.Drafts.{Drafted, finished, is_defined}
 use Rattle.pfs_conf_rules.specs.LoadRules.{IsFlagTest}
 use Rattle.pfs_conf_rules.specs.Siblings.{has_sibling}
 use Rattle.pfs_conf_rules.specs.Order.{repeats_by}

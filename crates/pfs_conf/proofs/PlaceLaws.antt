@@ -11,7 +11,7 @@ use Rattle.pfs_conf_tokens.specs.declared.refusals.Why.{Why}
 use Rattle.pfs_conf_tokens.specs.declared.refusals.Why.TheVariants as why
 use Rattle.pfs_conf_tokens.proofs.Laws.{bind_err, ok_parts, line, passes_then, online_until_all}
 use Rattle.pfs_conf_tokens.proofs.ReaderLaws.{line_end_before_end}
-use Rattle.pfs_conf_rules.specs.Drafts.{finished}
+use Rattle.pfs_conf_settings.specs.Drafts.{finished}
 use Rattle.pfs_conf_filters.specs.Reading.{verb_at, parameters_at}
 use Rattle.pfs_conf_filters.specs.declared.phrases.Parameters.{Parameters}
 use Rattle.pfs_conf_filters.specs.declared.phrases.Statement.TheVariants as statement

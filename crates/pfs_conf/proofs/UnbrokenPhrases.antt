@@ -13,7 +13,7 @@ use Rattle.pfs_addr.specs.Protocols.{proto_in}
 use Rattle.pfs_addr.specs.Texts.{prefix_of}
 use Rattle.pfs_addr.specs.declared.packets.Dir.TheVariants as dir
 use Rattle.pfs_conf_rules.specs.Entries.{TextEntry, sign_of}
-use Rattle.pfs_conf_rules.specs.Drafts.{Drafted, with_limit, with_timeout}
+use Rattle.pfs_conf_settings.specs.Drafts.{Drafted, with_limit, with_timeout}
 use Rattle.pfs_conf_rules.specs.Bounds.{greatest_timeout}
 use Rattle.pfs_conf_rules.specs.declared.actions.Rate.{Rate}
 use Rattle.pfs_conf_rules.specs.declared.actions.Scope.TheVariants as scope

@@ -11,7 +11,7 @@ use Rattle.pfs_conf_tokens.specs.declared.refusals.Why.{Why}
 use Rattle.pfs_conf_tokens.specs.declared.refusals.Why.TheVariants as why
 use Rattle.pfs_addr.specs.Names.{name_of}
 use Rattle.pfs_conf_rules.specs.Configs.{Conf}
-use Rattle.pfs_conf_rules.specs.Drafts.{Drafted, finished, is_defined}
+use Rattle.pfs_conf_settings.specs.Drafts.{Drafted, finished, is_defined}
 use Rattle.pfs_conf_rules.specs.Siblings.{has_sibling}
 use Rattle.pfs_conf_rules.specs.declared.filters.FlagTest.{FlagTest}
 use Rattle.pfs_conf_filters.specs.Reading.{verb_at, parameters_at, flags_at, begins_flags}

@@ -3,7 +3,7 @@ use Rattle.std.specs.Prelude.{ℕ, ◌+◌, Bool, true, false, if◌then◌else�
 use Rattle.std.specs.Option.{option_map}
 use Rattle.pfs_conf_tokens.specs.declared.refusals.LoadRule.{LoadRule}
 use Rattle.pfs_conf_tokens.specs.declared.refusals.LoadRule.TheVariants as load_rule
-use Rattle.pfs_conf_rules.specs.Drafts.{Drafted, empty_draft, number_of_table, with_name, with_table, with_item, const_overload, has_broken_pair, has_too_many_tables, has_too_many_entries}
+use Rattle.pfs_conf_settings.specs.Drafts.{Drafted, empty_draft, number_of_table, with_name, with_table, with_item, const_overload, has_broken_pair, has_too_many_tables, has_too_many_entries}
 use Rattle.pfs_conf_rules.specs.declared.actions.Action.{Action}
 use Rattle.pfs_conf_rules.specs.declared.actions.Action.TheVariants as action
 use Rattle.pfs_conf_rules.specs.declared.filters.Filter.{Filter}

@@ -9,7 +9,7 @@ use crate::phrases::{AnchorText, RuleText};
 use crate::progress::Progress;
 use pfs_conf_filters::Verb;
 use pfs_conf_options::StateClause;
-use pfs_conf_rules::Draft;
+use pfs_conf_settings::Draft;
 use pfs_conf_tokens::LoadRule;
 
 /// The first load rule that a rule breaks. (own to this profile)

@@ -9,8 +9,8 @@ ghost use Rattle.pfs_conf.specs.Giving.{Comes, IsAtDepth};
 
 use crate::progress::Progress;
 use pfs_addr::{Name, NoMemory};
-use pfs_conf_rules::{Draft, Entries, TableDef, TableName};
-use pfs_conf_settings::{Parts, read_parts, read_settings};
+use pfs_conf_rules::{Entries, TableDef, TableName};
+use pfs_conf_settings::{Draft, Parts, read_parts, read_settings};
 use pfs_conf_tokens::{Cursor, Key, ReadError, Refusal, Why};
 use std::alloc::Global;
 

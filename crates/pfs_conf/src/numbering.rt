@@ -9,9 +9,8 @@ use crate::phrases::{AnchorText, RuleText};
 use pfs_addr::{Flags, NoMemory};
 use pfs_conf_filters::{Head, Verb};
 use pfs_conf_options::{Options, OverloadText, StateClause};
-use pfs_conf_rules::{
-    Action, Anchor, Draft, Filter, FlagTest, Host, Rule, Side, TableName, TableNo,
-};
+use pfs_conf_rules::{Action, Anchor, Filter, FlagTest, Host, Rule, Side, TableName, TableNo};
+use pfs_conf_settings::Draft;
 
 /// What a rule says. Its tables are used, that of the source first and that of `overload` last.
 pub fn number_rule(draft: &mut Draft, text: &RuleText) -> Result<Rule, NoMemory>

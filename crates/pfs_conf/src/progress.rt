@@ -4,7 +4,7 @@ ghost use Rattle.std.specs.Prelude.{◌≡◌, ◌++◌, ◌∷◌, [], OnOk, sl
 ghost use Rattle.pfs_conf.specs.Statements.{nothing};
 
 use pfs_addr::NoMemory;
-use pfs_conf_rules::Draft;
+use pfs_conf_settings::Draft;
 use std::alloc::Global;
 use std::marker::Model;
 

@@ -1,7 +1,7 @@
 //! Statements, one behind another to the end of the text.
 
 ghost use Rattle.std.specs.Prelude.{◌≡◌, ◌≤◌, None, OnOk};
-ghost use Rattle.pfs_conf_rules.specs.Drafts.{finished};
+ghost use Rattle.pfs_conf_settings.specs.Drafts.{finished};
 ghost use Rattle.pfs_conf_tokens.specs.Giving.{GivesOrMemory};
 ghost use Rattle.pfs_conf_tokens.specs.Reading.{ended};
 ghost use Rattle.pfs_conf.specs.Reading.{anchor_closed, statement_at, statements_at, text_at};

@@ -6,8 +6,8 @@ use Rattle.std.specs.Str.{bytes_eq}
 use Rattle.std.proofs.lemmas.Bool.{cond-true, cond-false, and_from, eq-eqb}
 use Rattle.std.proofs.lemmas.Map.Keys.{IsDistinct-head, IsDistinct-tail}
 use Rattle.pfs_conf_rules.specs.Configs.{table_names}
-use Rattle.pfs_conf_rules.specs.Drafts.{Drafted, is_defined, with_name, with_table, with_tables}
-use Rattle.pfs_conf_rules.specs.Namings.{Named, defined_at, defining, is_named, naming, place_in, table_number, undefined_table}
+use Rattle.pfs_conf_settings.specs.Drafts.{Drafted, is_defined, with_name, with_table, with_tables}
+use Rattle.pfs_conf_settings.specs.Namings.{Named, defined_at, defining, is_named, naming, place_in, table_number, undefined_table}
 use Rattle.pfs_conf_rules.specs.declared.filters.TableNo.{TableNo}
 use Rattle.pfs_conf_rules.specs.declared.items.Item.{Item}
 use Rattle.pfs_conf_rules.specs.declared.limits.Limits.{Limits}

@@ -6,7 +6,7 @@ use Rattle.std.specs.Option.{option_map}
 use Rattle.std.proofs.lemmas.Bool.{and_parts, lt-leb}
 use Rattle.pfs_conf_tokens.specs.declared.refusals.LoadRule.TheVariants as load_rule
 use Rattle.pfs_addr.specs.declared.protocols.Proto.{Proto}
-use Rattle.pfs_conf_rules.specs.Drafts.{Drafted, number_of_table, with_name}
+use Rattle.pfs_conf_settings.specs.Drafts.{Drafted, number_of_table, with_name}
 use Rattle.pfs_conf_rules.specs.LoadRules.{AreOptions, IsAction, IsAnchor, IsFilter, IsHost, IsRule, IsSide, IsTableNo, limits_connections, limits_sources}
 use Rattle.pfs_conf_rules.specs.Bounds.{asks_ports, is_global}
 use Rattle.pfs_conf_rules.specs.declared.actions.Action.{Action}

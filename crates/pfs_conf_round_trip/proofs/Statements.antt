@@ -14,7 +14,7 @@ use Rattle.pfs_conf_tokens.proofs.WordKeys.{key_of-Table}
 use Rattle.pfs_conf_rules.specs.Configs.{table_names}
 use Rattle.pfs_conf_rules.specs.Invariants.{IsTable}
 use Rattle.pfs_conf_rules.specs.Order.{AreNamedOnce, IsPreorder, next_depth, repeats_name}
-use Rattle.pfs_conf_rules.specs.Drafts.{Drafted, is_defined, with_item, with_table}
+use Rattle.pfs_conf_settings.specs.Drafts.{Drafted, is_defined, with_item, with_table}
 use Rattle.pfs_conf_rules.specs.Entries.{TextEntry}
 use Rattle.pfs_conf_rules.specs.LoadRules.{IsItem, IsItemAt}
 use Rattle.pfs_conf_rules.specs.declared.items.Anchor.{Anchor}

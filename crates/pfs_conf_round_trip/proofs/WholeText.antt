@@ -11,7 +11,7 @@ use Rattle.pfs_conf_tokens.specs.Lexis.{tokens, tokens_of}
 use Rattle.pfs_conf_tokens.specs.Tokens.{Tok}
 use Rattle.pfs_conf_rules.specs.Configs.{Conf, conf_of, entries_in, is_adaptive, overloads_const, timeout_of}
 use Rattle.pfs_conf_rules.specs.Invariants.{IsConfig}
-use Rattle.pfs_conf_rules.specs.Drafts.{Drafted, const_overload, empty_draft, finished, has_broken_pair, has_too_many_entries, has_too_many_tables}
+use Rattle.pfs_conf_settings.specs.Drafts.{Drafted, const_overload, empty_draft, finished, has_broken_pair, has_too_many_entries, has_too_many_tables}
 use Rattle.pfs_conf_rules.specs.Timeouts.{resolved_timeouts, timeout_names}
 use Rattle.pfs_conf_rules.specs.declared.items.Item.{Item}
 use Rattle.pfs_conf_rules.specs.declared.timeouts.TimeoutName.{TimeoutName}

@@ -1,8 +1,9 @@
 -- Entries of tables as a text says them: a prefix and whether it is negated; when prefixes are the same.
-use Rattle.std.specs.Prelude.{Bool, false, ◌&&◌, ◌==◌, Option, List}
+use Rattle.std.specs.Prelude.{All, Bool, false, ◌&&◌, ◌==◌, Option, List, map}
+use Rattle.std.specs.List.{IsDistinct}
 use Rattle.std.specs.Str.{bytes_eq}
 use Rattle.std.specs.Map.{lookup}
-use Rattle.pfs_addr.specs.Prefixes.{Network}
+use Rattle.pfs_addr.specs.Prefixes.{IsNetwork, Network}
 use Rattle.pfs_addr.specs.declared.addresses.Addr.{Addr}
 use Rattle.pfs_addr.specs.declared.addresses.Addr.TheVariants.{V4, V6}
 
@@ -23,3 +24,8 @@ same_network p q = are_same_addr p.addr q.addr && (p.bits == q.bits)
 -- whether the entry with this prefix is negated, if there is one
 abbrev pub sign_of : List TextEntry → Network → Option Bool
 sign_of entries p = lookup (same_network p) entries
+
+-- entries of a table: prefixes, no two the same
+pub record AreEntries (entries : List TextEntry) : Type 0 where
+  pub networks : All (λ (e : TextEntry). IsNetwork e.0) entries
+  pub distinct : IsDistinct same_network (map (λ (e : TextEntry). e.0) entries)

@@ -1,13 +1,12 @@
--- What every configuration keeps, and what the statements of a text that have been read keep: the load rules.
-use Rattle.std.specs.Prelude.{ℕ, ◌≡◌, ◌<◌, ◌≤◌, ◌^◌, Bool, true, false, IfSome, None, List, [], length, map, All, slice_index_or}
+-- What every configuration keeps: the load rules.
+use Rattle.std.specs.Prelude.{ℕ, ◌≡◌, ◌<◌, ◌≤◌, ◌^◌, Bool, true, false, [], length, map, All}
 use Rattle.std.specs.List.{IsDistinct, list_any}
 use Rattle.std.specs.Str.{bytes_eq}
 use Rattle.pfs_addr.specs.Names.{is_name}
 use Rattle.pfs_addr.specs.Prefixes.{IsNetwork}
 use Rattle.pfs_conf_rules.specs.Configs.{Conf, entries_in, entry_count_of, is_adaptive, overloads_const, table_names, timeout_of}
-use Rattle.pfs_conf_rules.specs.Drafts.{Drafted}
 use Rattle.pfs_conf_rules.specs.Entries.{TextEntry, same_network}
-use Rattle.pfs_conf_rules.specs.LoadRules.{IsCount, IsItem, IsTimeout}
+use Rattle.pfs_conf_rules.specs.LoadRules.{IsCount, IsItem}
 use Rattle.pfs_conf_rules.specs.Order.{AreNamedOnce, IsPreorder}
 use Rattle.pfs_conf_rules.specs.declared.limits.Limits.{Limits}
 use Rattle.pfs_conf_rules.specs.declared.tables.TableDef.{TableDef}
@@ -32,21 +31,6 @@ pub record IsTable (t : TableDef) : Type 0 where
   pub name : is_name 31 t.name ≡ true
   pub networks : All (λ (e : TextEntry). IsNetwork e.0) t.entries
   pub distinct : IsDistinct same_network (map (λ (e : TextEntry). e.0) t.entries)
-
--- tables and the list of their names, by which they are found
-pub record IsNaming (keys : List (List ℕ)) (tables : List TableDef) (defined : List Bool) : Type 0 where
-  pub names : keys ≡ table_names tables
-  pub sizes : length defined ≡ length tables
-  pub each : All IsTable tables
-
--- what holds of a draft behind each statement
-pub record IsDraft (d : Drafted) : Type 0 where
-  pub limits : AreLimits d.limits
-  pub timeouts : (place : ℕ) → IfSome (slice_index_or d.timeouts place None) (IsTimeout place)
-  pub items : All (IsItem (length d.tables)) d.items
-  pub few_items : length d.items ≤ 10000
-  pub preorder : IsPreorder 0 d.items
-  pub anchors : AreNamedOnce [] d.items
 
 -- what every configuration keeps (the load rules)
 pub record IsConfig (conf : Conf) : Type 0 where

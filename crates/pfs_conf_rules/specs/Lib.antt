@@ -1,12 +1,10 @@
 pub mod Bounds
 pub mod Configs
 pub mod Depths
-pub mod Drafts
 pub mod Entries
 pub mod Invariants
 pub mod Limits
 pub mod LoadRules
-pub mod Namings
 pub mod Order
 pub mod Siblings
 pub mod Timeouts

@@ -1,9 +1,9 @@
 // What a rules text says, and how it is read.
 
-ghost use Rattle.std.specs.Prelude.{◌≡◌, ◌<◌, ◌≤◌, IfOk, IfSome, IsSome, length, position, slice_get};
+ghost use Rattle.std.specs.Prelude.{◌≡◌, ◌<◌, ◌≤◌, ◌-◌, ◌^◌, IfOk, IfSome, IsSome, length, min, position, slice_get};
 ghost use Rattle.std.specs.Option.{option_copied};
-ghost use Rattle.pfs_conf_rules.specs.Configs.{conf_of, entry_count_of, has_name, is_const_table, limit_of, options_at, rate_seconds, retention_in, retention_of, rule_at, rule_timeout_of, scope_of, table_named, timeout_of};
-ghost use Rattle.pfs_conf_rules.specs.Invariants.{IsConfig, IsConfigCounted, IsTable};
+ghost use Rattle.pfs_conf_rules.specs.Configs.{conf_of, entries_in, entry_count_of, has_name, is_const_table, limit_of, options_at, rate_seconds, retention_in, retention_of, rule_at, rule_timeout_of, scope_of, table_named, timeout_of};
+ghost use Rattle.pfs_conf_rules.specs.Invariants.{IsConfig, IsTable};
 ghost use Rattle.pfs_conf_rules.specs.LoadRules.{AreOptions, IsItem, IsRule};
 
 use crate::actions::{Action, Rate, Scope, StateOptions};
@@ -41,17 +41,17 @@ impl Model for Config {
 }
 
 impl Config {
-    // The configuration of these parts, beside which the entries of its tables are counted.
-    pub(crate) fn of_parts(
+    /// The configuration of these parts, which keep the load rules. It counts the entries, and takes no memory.
+    pub fn of_parts(
         limits: Limits,
         timeouts: Timeouts,
         tables: Vec<TableDef>,
-        entries: u64,
         items: Vec<Item>,
     ) -> Config
-        requires { IsConfigCounted entries (conf_of limits timeouts tables.items items.items) }
+        requires { IsConfig (conf_of limits timeouts tables.items items.items) }
         ensures { result ≡ conf_of limits timeouts tables.items items.items }
     {
+        let entries = count_entries(&tables);
         Config {
             limits,
             timeouts,
@@ -197,8 +197,19 @@ impl Config {
         let alloc = *self.tables.allocator();
         let items = Vec::from_slice(alloc, &self.items)?;
         let tables = copy_tables(alloc, &self.tables)?;
-        Ok(Config::of_parts(self.limits, self.timeouts, tables, self.entries, items))
+        Ok(Config::of_parts(self.limits, self.timeouts, tables, items))
     }
+}
+
+/// How many entries these tables have together; 2^64 - 1 for as many or more.
+pub fn count_entries(tables: &[TableDef]) -> u64
+    ensures { result ≡ min (entries_in tables.now) (2 ^ 64 - 1) }
+{
+    let mut count: u64 = 0;
+    for table in tables {
+        count = count.saturating_add(table.entries.len() as u64);
+    }
+    count
 }
 
 // The place of the table of this name.

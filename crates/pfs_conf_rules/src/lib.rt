@@ -3,17 +3,14 @@
 
 mod actions;
 mod configs;
-mod drafts;
 mod filters;
 mod items;
 mod limits;
-mod named_tables;
 mod tables;
 mod timeouts;
 
 pub use actions::{Action, Overload, Rate, Scope, StateOptions};
-pub use configs::Config;
-pub use drafts::Draft;
+pub use configs::{Config, count_entries};
 pub use filters::{Family, Filter, FlagTest, Host, Interface, Ports, Side, TableName, TableNo};
 pub use items::{Anchor, AnchorName, Item, Rule, RuleNo, What};
 pub use limits::{LimitName, Limits};

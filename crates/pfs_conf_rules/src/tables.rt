@@ -1,12 +1,11 @@
 // The tables of a configuration: their names and entries.
 
-ghost use Rattle.std.specs.Prelude.{◌≡◌, ◌<◌, ◌^◌, ◌++◌, [], ◌∷◌, All, IfOk, None, OnOk, OnErr, length, map, slice_get};
+ghost use Rattle.std.specs.Prelude.{◌≡◌, ◌<◌, ◌^◌, [], All, IfOk, length, map, slice_get};
 ghost use Rattle.std.specs.List.{IsDistinct};
 ghost use Rattle.pfs_addr.specs.Prefixes.{IsNetwork};
-ghost use Rattle.pfs_conf_rules.specs.Entries.{TextEntry, same_network, sign_of};
+ghost use Rattle.pfs_conf_rules.specs.Entries.{AreEntries, TextEntry, same_network};
 
 use crate::filters::TableName;
-use indexmap::IndexMap;
 use pfs_addr::{NoMemory, Prefix};
 use std::alloc::Global;
 use std::marker::Model;
@@ -17,18 +16,19 @@ use std::marker::Model;
 /// Clauses see a list of pairs. (pf.conf(5), TABLES)
 #[derive(Debug, Drop)]
 pub struct Entries {
-    map: IndexMap<Prefix, bool>,
+    list: Vec<(Prefix, bool)>,
 }
 
 impl Model for Entries {
-    ghost use Rattle.std.specs.Prelude.{Bool, List, All};
-    ghost use Rattle.pfs_addr.specs.Prefixes.{Network, IsNetwork};
+    ghost use Rattle.std.specs.Prelude.{Bool, List};
+    ghost use Rattle.pfs_addr.specs.Prefixes.{Network};
+    ghost use Rattle.pfs_conf_rules.specs.Entries.{AreEntries};
 
     ghost Value = { List (Network × Bool) };
 
-    ghost view = { λ e. e.map.entries };
+    ghost view = { λ e. e.list.items };
 
-    ghost invariant = { λ e. All (λ (x : Network × Bool). IsNetwork x.0) e.map.entries };
+    ghost invariant = { λ e. AreEntries e.list.items };
 }
 
 /// A table of a configuration. (pf.conf(5), TABLES)
@@ -47,9 +47,15 @@ impl Entries {
     pub fn new(alloc: Global) -> Entries
         ensures { result ≡ [] }
     {
-        Entries {
-            map: IndexMap::new(alloc),
-        }
+        Entries::of(Vec::new(alloc))
+    }
+
+    /// The entries of this list. It takes no memory.
+    pub fn of(list: Vec<(Prefix, bool)>) -> Entries
+        requires { AreEntries list.items }
+        ensures { result ≡ list.items }
+    {
+        Entries { list }
     }
 
     /// How many there are. It tells that their prefixes are prefixes, no two the same.
@@ -59,43 +65,22 @@ impl Entries {
         ensures networks { All (λ (e : TextEntry). IsNetwork e.0) self.now }
         ensures distinct { IsDistinct same_network (map (λ (e : TextEntry). e.0) self.now) }
     {
-        self.map.len()
-    }
-
-    /// Whether the entry with this prefix is negated, if there is one.
-    pub fn get(&self, prefix: Prefix) -> Option<bool>
-        ensures { result ≡ sign_of self.now prefix }
-    {
-        self.map.get(&prefix).copied()
+        self.list.len()
     }
 
     /// The entry at this place, from 0: its prefix, and whether it is negated.
     pub fn at(&self, place: usize) -> Option<(Prefix, bool)>
         ensures { result ≡ slice_get self.now place }
     {
-        let (prefix, negated) = self.map.get_index(place)?;
-        Some((*prefix, *negated))
-    }
-
-    /// Puts an entry behind the others, whose prefix none of them has. `NoMemory` is answered where the memory for it is
-    /// refused, and then they are as before.
-    pub fn add(&mut self, prefix: Prefix, negated: bool) -> Result<(), NoMemory>
-        requires { sign_of self.old prefix ≡ None }
-        ensures ok { OnOk result (self.new ≡ self.old ++ (prefix, negated) ∷ []) }
-        ensures err { OnErr result (self.new ≡ self.old) }
-    {
-        // That its bits past its length are zero is known of every prefix, and told here.
-        let _bits = prefix.bits();
-        self.map.insert(prefix, negated)?;
-        Ok(())
+        self.list.get(place).copied()
     }
 
     /// The same entries in memory of their own. `NoMemory` is answered where that memory is refused.
     pub fn copy(&self) -> Result<Entries, NoMemory>
         ensures { IfOk result (λ e. e ≡ self.now) }
     {
-        let map = self.map.clone()?;
-        Ok(Entries { map })
+        let list = Vec::from_slice(*self.list.allocator(), &self.list)?;
+        Ok(Entries::of(list))
     }
 }
 

@@ -1,3 +1,9 @@
+pub mod DraftLaws
+mod EntryLaws
+mod FinishLaws
+pub mod MoreTables
+pub mod NamingLaws
+pub mod OrderLaws
 pub mod SettingLaws
 pub mod SettingPhrases
 mod Stopping

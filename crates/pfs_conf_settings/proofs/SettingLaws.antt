@@ -9,7 +9,7 @@ use Rattle.pfs_conf_tokens.proofs.ReaderLaws.{closes_braces_before_end, online_l
 use Rattle.pfs_conf_rules.specs.declared.limits.LimitName.{LimitName}
 use Rattle.pfs_conf_rules.specs.declared.limits.LimitName.TheVariants as limit
 use Rattle.pfs_conf_rules.specs.declared.timeouts.TimeoutName.{TimeoutName}
-use Rattle.pfs_conf_rules.specs.Drafts.{Drafted, with_limit, with_timeout}
+use Rattle.pfs_conf_settings.specs.Drafts.{Drafted, with_limit, with_timeout}
 use Rattle.pfs_conf_settings.specs.Settings.{timeout_named, bounded_at, limited, limit_by, set_limit_at, least_value, greatest_value, unkept, timed, time_by, time_at, lined_limit_at, lined_time_at, limits_by, limits_at, times_by, times_at, settings_by, settings_at}
 
 -- ---- a pair of a name and a number

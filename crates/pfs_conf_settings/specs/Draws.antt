@@ -5,7 +5,7 @@ use Rattle.pfs_conf_tokens.specs.Tokens.{Tok}
 use Rattle.pfs_conf_tokens.specs.Reading.{Refused}
 use Rattle.pfs_conf_tokens.specs.Giving.{refused}
 use Rattle.pfs_conf_tokens.specs.declared.refusals.Refusal.{Refusal}
-use Rattle.pfs_conf_rules.specs.Drafts.{Drafted}
+use Rattle.pfs_conf_settings.specs.Drafts.{Drafted}
 
 -- the same draft with the cursor behind what was read, or the same refusal
 abbrev pub Draws : Result Unit Refusal → List Tok → Drafted → Result (Drafted × List Tok) Refused → Type 0

@@ -1,5 +1,8 @@
+pub mod Drafts
 pub mod Draws
 pub mod Extending
+pub mod Invariants
+pub mod Namings
 pub mod SettingGrammar
 pub mod Settings
 pub mod TableGrammar

@@ -7,7 +7,7 @@ use Rattle.pfs_conf_tokens.specs.Keys.{timeout_place}
 use Rattle.pfs_conf_tokens.specs.Grammar.{Word, Number, ListOf, skip_lines}
 use Rattle.pfs_conf_rules.specs.declared.limits.LimitName.TheVariants as limit_name
 use Rattle.pfs_conf_rules.specs.declared.timeouts.TimeoutName.{TimeoutName}
-use Rattle.pfs_conf_rules.specs.Drafts.{Drafted, with_limit, with_timeout}
+use Rattle.pfs_conf_settings.specs.Drafts.{Drafted, with_limit, with_timeout}
 use Rattle.pfs_conf_rules.specs.Bounds.{least_timeout, greatest_timeout}
 use Rattle.pfs_conf_rules.specs.Timeouts.{place_of}
 

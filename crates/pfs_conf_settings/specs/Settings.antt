@@ -8,7 +8,7 @@ use Rattle.pfs_conf_rules.specs.declared.limits.LimitName.{LimitName}
 use Rattle.pfs_conf_rules.specs.declared.limits.LimitName.TheVariants as limit
 use Rattle.pfs_conf_rules.specs.declared.timeouts.TimeoutName.{TimeoutName}
 use Rattle.pfs_conf_rules.specs.declared.timeouts.TimeoutName.TheVariants as timeout
-use Rattle.pfs_conf_rules.specs.Drafts.{Drafted, with_limit, with_timeout}
+use Rattle.pfs_conf_settings.specs.Drafts.{Drafted, with_limit, with_timeout}
 use Rattle.pfs_conf_rules.specs.Bounds.{least_timeout, greatest_timeout}
 use Rattle.pfs_conf_rules.specs.Timeouts.{place_of}
 

@@ -7,6 +7,7 @@ ghost use Rattle.pfs_conf_tokens.specs.Giving.{GivesOrMemory};
 ghost use Rattle.pfs_conf_settings.specs.Tables.{entry_at, lined_entry_at, braced_entries_at, is_same_sign, part_at, parts_at};
 ghost use Rattle.pfs_conf_settings.specs.Extending.{Extends};
 
+use crate::entries::EntryDraft;
 use pfs_addr::parse_prefix;
 use pfs_conf_rules::Entries;
 use pfs_conf_tokens::{Cursor, Key, ReadError, Refusal, Why, skip_lines};
@@ -100,13 +101,23 @@ fn list(alloc: Global, cursor: &mut Cursor, parts: &mut Parts) -> Result<(), Rea
     }
 }
 
-/// The entries in braces, behind the opening one.
-#[tactic(auto, unfolding(crate::specs::Tables::braced_entries_at))]
 fn entries(alloc: Global, cursor: &mut Cursor) -> Result<Entries, ReadError>
     ensures { GivesOrMemory result cursor.new (braced_entries_at cursor.old) }
 {
+    let entries = braced_entries(alloc, cursor)?;
+    match entries.finish(alloc) {
+        Ok(entries) => Ok(entries),
+        Err(_) => Err(ReadError::Memory),
+    }
+}
+
+/// The entries in braces, behind the opening one.
+#[tactic(auto, unfolding(crate::specs::Tables::braced_entries_at))]
+fn braced_entries(alloc: Global, cursor: &mut Cursor) -> Result<EntryDraft, ReadError>
+    ensures { GivesOrMemory result cursor.new (braced_entries_at cursor.old) }
+{
     skip_lines(cursor);
-    let mut entries = Entries::new(alloc);
+    let mut entries = EntryDraft::new(alloc);
     match cursor.key() {
         Key::CloseBrace => cursor.advance(),
         _ => some_entries(cursor, &mut entries)?,
@@ -114,14 +125,14 @@ fn entries(alloc: Global, cursor: &mut Cursor) -> Result<Entries, ReadError>
     Ok(entries)
 }
 
-fn some_entries(cursor: &mut Cursor, entries: &mut Entries) -> Result<(), ReadError>
+fn some_entries(cursor: &mut Cursor, entries: &mut EntryDraft) -> Result<(), ReadError>
     ensures { Extends result cursor.new entries.new (list_all closes_braces lined_entry_at entries.old cursor.old) }
 {
     lined_entry(cursor, entries)?;
     more_entries(cursor, entries)
 }
 
-fn more_entries(cursor: &mut Cursor, entries: &mut Entries) -> Result<(), ReadError>
+fn more_entries(cursor: &mut Cursor, entries: &mut EntryDraft) -> Result<(), ReadError>
     ensures { Extends result cursor.new entries.new (until_all closes_braces (next_of lined_entry_at) entries.old cursor.old) }
 {
     while !cursor.is_at_close_brace() {
@@ -133,7 +144,7 @@ fn more_entries(cursor: &mut Cursor, entries: &mut Entries) -> Result<(), ReadEr
     Ok(())
 }
 
-fn next_entry(cursor: &mut Cursor, entries: &mut Entries) -> Result<(), ReadError>
+fn next_entry(cursor: &mut Cursor, entries: &mut EntryDraft) -> Result<(), ReadError>
     ensures { Extends result cursor.new entries.new (next_of lined_entry_at entries.old cursor.old) }
 {
     cursor.take(Key::Comma);
@@ -142,7 +153,7 @@ fn next_entry(cursor: &mut Cursor, entries: &mut Entries) -> Result<(), ReadErro
 
 /// An entry among line ends.
 #[tactic(auto, unfolding(crate::specs::Tables::lined_entry_at, crate::specs::Tables::sign_at))]
-fn lined_entry(cursor: &mut Cursor, entries: &mut Entries) -> Result<(), ReadError>
+fn lined_entry(cursor: &mut Cursor, entries: &mut EntryDraft) -> Result<(), ReadError>
     ensures { Extends result cursor.new entries.new (lined_entry_at entries.old cursor.old) }
 {
     skip_lines(cursor);
@@ -154,7 +165,7 @@ fn lined_entry(cursor: &mut Cursor, entries: &mut Entries) -> Result<(), ReadErr
 }
 
 #[tactic(auto, unfolding(crate::specs::Tables::entry_at))]
-fn entry(cursor: &mut Cursor, entries: &mut Entries, negated: bool) -> Result<(), ReadError>
+fn entry(cursor: &mut Cursor, entries: &mut EntryDraft, negated: bool) -> Result<(), ReadError>
     ensures { Extends result cursor.new entries.new (entry_at entries.old negated cursor.old) }
 {
     if !cursor.key().is_word() {

@@ -7,9 +7,10 @@ ghost use Rattle.pfs_store_contract.specs.Worlds.{IsUpToNow};
 
 use pfs_addr::{Addr, Dir, Endpoint, Flags, FlowKey, Meter, Packet, Proto, parse_ifname};
 use pfs_conf_rules::{
-    Action, Config, Draft, Filter, FlagTest, Host, LimitName, Rate, Rule, RuleNo, RuleTimeouts,
-    Scope, Side, StateOptions, TableNo, TimeoutName,
+    Action, Config, Filter, FlagTest, Host, LimitName, Rate, Rule, RuleNo, RuleTimeouts, Scope,
+    Side, StateOptions, TableNo, TimeoutName,
 };
+use pfs_conf_settings::Draft;
 use pfs_store::{IndexStore, Limit, PlainStore, Slice, StateNo, Store, Touched};
 use std::alloc::AllocGlobal;
 use std::process::Abort;

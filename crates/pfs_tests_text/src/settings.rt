@@ -1,7 +1,6 @@
 //! Where what stands behind `set` and behind a table's name is refused, and the parts of a table.
 
-use pfs_conf_rules::Draft;
-use pfs_conf_settings::{Parts, read_parts, read_settings};
+use pfs_conf_settings::{Draft, Parts, read_parts, read_settings};
 use pfs_conf_tokens::{Cursor, Key, ReadError, Refusal, Why};
 use std::alloc::Global;
 use std::process::Abort;

@@ -1,6 +1,0 @@
--- Answer of Draft::define: a draft stays one where a table is defined.
-use Rattle.pfs_conf_rules.proofs.DraftLaws.{IsDraft-with_tables}
-use Rattle.pfs_conf_rules.proofs.drafts.Draft.define.Goals as goal
-
-pub invariant_of-self : goal.invariant_of-self
-invariant_of-self c = IsDraft-with_tables _ c.define.new.self c.self.invariant c.define.ensures.more

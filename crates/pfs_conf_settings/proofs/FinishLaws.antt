@@ -1,0 +1,107 @@
+-- A draft that keeps the load rules of the whole text is a configuration.
+use Rattle.std.proofs.Common.{◌≡◌, ◌∙◌, ◌≤◌, ◌<◌, ◌+◌, ◌-◌, ◌*◌, ◌/◌, ◌^◌, ◌||◌, ◌&&◌, ◌==◌, ℕ, Bool, true, false, not, nat_lt, All, List, [], ◌∷◌, length, refl, ap, sym, arith, Option, Some, None, IfSome, unwrap_or}
+use Rattle.std.specs.Prelude.{position, slice_index_or}
+use Rattle.std.specs.List.{IsDistinct, list_any, position_or_len}
+use Rattle.std.specs.Str.{bytes_eq}
+use Rattle.std.proofs.lemmas.Bool.{cond-false, cond-true, false≢true, lt-ltb, ltb-false, not-false}
+use Rattle.pfs_conf_rules.specs.Configs.{is_adaptive, overloads_const, table_names, timeout_of}
+use Rattle.pfs_conf_rules.specs.Invariants.{IsConfig, IsTable, is_seconds}
+use Rattle.pfs_conf_settings.specs.Invariants.{IsDraft}
+use Rattle.pfs_conf_settings.specs.Drafts.{Drafted, broken_pair, const_overload, finished, has_broken_pair, has_too_many_entries, has_too_many_tables}
+use Rattle.pfs_conf_rules.specs.LoadRules.{IsTimeout}
+use Rattle.pfs_conf_rules.specs.Bounds.{greatest_timeout, least_timeout}
+use Rattle.pfs_conf_rules.specs.Timeouts.{place_of}
+use Rattle.pfs_conf_rules.specs.declared.items.Item.{Item}
+use Rattle.pfs_conf_rules.specs.declared.timeouts.TimeoutName.{TimeoutName}
+use Rattle.pfs_conf_rules.specs.declared.timeouts.TimeoutName.TheVariants as timeout
+
+-- no item is found where none passes
+none-passes : (p : Item → Bool) (items : List Item) → position p items ≡ None → list_any p items ≡ false
+none-passes p items h = go (list_any p items) refl
+  where
+    within : (items : List Item) → list_any p items ≡ true → position_or_len p items < length items
+    within [] h = absurd (false≢true h)
+    within (i ∷ items) h = here (p i) refl (within items)
+      where
+        here : (b : Bool) → p i ≡ b → (list_any p items ≡ true → position_or_len p items < length items) → position_or_len p (i ∷ items) < length (i ∷ items)
+        here true e rest = let at = cond-false (not (p i)) (1 + position_or_len p items) 0 (ap not e) in omega arith
+        here false e rest =
+            let at = cond-true (not (p i)) (1 + position_or_len p items) 0 (ap not e) in
+            let less = rest (sym (ap (λ b. b || list_any p items) e) ∙ h) in
+            omega arith
+
+    go : (b : Bool) → list_any p items ≡ b → list_any p items ≡ false
+    go false e = e
+    go true e = absurd (let some = sym (cond-true (nat_lt (position_or_len p items) (length items)) _ _ (lt-ltb _ _ (within items e))) ∙ h in cc)
+
+-- a timeout that is set, or a default, is within what can be given
+resolved-most : (place default : ℕ) (given : Option ℕ) → IfSome given (IsTimeout place) → default ≤ greatest_timeout place → unwrap_or given default ≤ greatest_timeout place
+resolved-most place default None h le = le
+resolved-most place default (Some n) h le = h.1
+
+resolved-least : (place default : ℕ) (given : Option ℕ) → IfSome given (IsTimeout place) → least_timeout place ≤ default → least_timeout place ≤ unwrap_or given default
+resolved-least place default None h le = le
+resolved-least place default (Some n) h le = h.0
+
+seconds : (d : Drafted) → IsDraft d → (name : TimeoutName) → is_seconds name ≡ true → timeout_of (finished d) name ≤ 2147483647
+seconds d k timeout.TcpFirst s = resolved-most 0 120 _ (k.timeouts 0) (omega arith)
+seconds d k timeout.TcpOpening s = resolved-most 1 30 _ (k.timeouts 1) (omega arith)
+seconds d k timeout.TcpEstablished s = resolved-most 2 86400 _ (k.timeouts 2) (omega arith)
+seconds d k timeout.TcpClosing s = resolved-most 3 900 _ (k.timeouts 3) (omega arith)
+seconds d k timeout.TcpFinwait s = resolved-most 4 45 _ (k.timeouts 4) (omega arith)
+seconds d k timeout.TcpClosed s = resolved-most 5 90 _ (k.timeouts 5) (omega arith)
+seconds d k timeout.UdpFirst s = resolved-most 6 60 _ (k.timeouts 6) (omega arith)
+seconds d k timeout.UdpSingle s = resolved-most 7 30 _ (k.timeouts 7) (omega arith)
+seconds d k timeout.UdpMultiple s = resolved-most 8 60 _ (k.timeouts 8) (omega arith)
+seconds d k timeout.OtherFirst s = resolved-most 9 60 _ (k.timeouts 9) (omega arith)
+seconds d k timeout.OtherSingle s = resolved-most 10 30 _ (k.timeouts 10) (omega arith)
+seconds d k timeout.OtherMultiple s = resolved-most 11 60 _ (k.timeouts 11) (omega arith)
+seconds d k timeout.SrcTrack s = resolved-most 12 0 _ (k.timeouts 12) (omega arith)
+seconds d k timeout.Interval s = resolved-most 13 10 _ (k.timeouts 13) (omega arith)
+seconds d k timeout.AdaptiveStart s = absurd (false≢true s)
+seconds d k timeout.AdaptiveEnd s = absurd (false≢true s)
+
+or-true : (b : Bool) → (b || true) ≡ true
+or-true true = refl
+or-true false = refl
+
+-- the default pair is one
+default-adaptive : (states : ℕ) → 1 ≤ states → is_adaptive (6 * states / 10) (12 * states / 10) ≡ true
+default-adaptive states h =
+    let less = lt-ltb (6 * states / 10) (12 * states / 10) (omega arith) in
+    ap (λ b. ((6 * states / 10 == 0) && (12 * states / 10 == 0)) || b) less ∙ or-true _
+
+-- a pair that is not broken
+adaptive : (states : ℕ) (start end : Option ℕ) → 1 ≤ states → broken_pair start end ≡ false
+    → is_adaptive (unwrap_or start (6 * states / 10)) (unwrap_or end (12 * states / 10)) ≡ true
+adaptive states None None h whole = default-adaptive states h
+adaptive states (Some s) (Some e) h whole = not-false _ whole
+adaptive states None (Some e) h whole = absurd (false≢true (sym whole))
+adaptive states (Some s) None h whole = absurd (false≢true (sym whole))
+
+adaptive-end : (states : ℕ) (end : Option ℕ) → states ≤ 4294967295 → IfSome end (IsTimeout 15) → unwrap_or end (12 * states / 10) < 2 ^ 33
+adaptive-end states None h k = omega arith
+adaptive-end states (Some n) h k = omega arith
+
+-- a draft that keeps the rules of the whole text is a configuration
+pub IsConfig-finished : (d : Drafted) → IsDraft d → All IsTable d.tables → IsDistinct bytes_eq (table_names d.tables)
+    → has_broken_pair d ≡ false → const_overload d ≡ None → has_too_many_tables d ≡ false → has_too_many_entries d ≡ false → IsConfig (finished d)
+IsConfig-finished d k tables names pair overloads few entries = record {
+  limits = k.limits;
+  size = refl;
+  seconds = seconds d k;
+  interval = resolved-least 13 10 _ (k.timeouts 13) (omega arith);
+  adaptive =
+      adaptive d.limits.states (slice_index_or d.timeouts (place_of timeout.AdaptiveStart) None)
+      (slice_index_or d.timeouts (place_of timeout.AdaptiveEnd) None) k.limits.states.0 pair;
+  adaptive_end = adaptive-end d.limits.states _ k.limits.states.1 (k.timeouts 15);
+  tables = tables;
+  names = names;
+  few_tables = ltb-false _ _ few;
+  few_entries = ltb-false _ _ entries;
+  items = k.items;
+  few_items = k.few_items;
+  preorder = k.preorder;
+  anchors = k.anchors;
+  overloads = none-passes (overloads_const d.tables) d.items overloads;
+}

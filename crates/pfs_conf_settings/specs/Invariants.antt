@@ -1,0 +1,23 @@
+-- What the statements of a text that have been read keep: the load rules of each.
+use Rattle.std.specs.Prelude.{ℕ, ◌≡◌, ◌≤◌, Bool, IfSome, None, List, [], length, All, slice_index_or}
+use Rattle.pfs_conf_rules.specs.Configs.{table_names}
+use Rattle.pfs_conf_rules.specs.Invariants.{AreLimits, IsTable}
+use Rattle.pfs_conf_rules.specs.LoadRules.{IsItem, IsTimeout}
+use Rattle.pfs_conf_rules.specs.Order.{AreNamedOnce, IsPreorder}
+use Rattle.pfs_conf_rules.specs.declared.tables.TableDef.{TableDef}
+use Rattle.pfs_conf_settings.specs.Drafts.{Drafted}
+
+-- tables and the list of their names, by which they are found
+pub record IsNaming (keys : List (List ℕ)) (tables : List TableDef) (defined : List Bool) : Type 0 where
+  pub names : keys ≡ table_names tables
+  pub sizes : length defined ≡ length tables
+  pub each : All IsTable tables
+
+-- what holds of a draft behind each statement
+pub record IsDraft (d : Drafted) : Type 0 where
+  pub limits : AreLimits d.limits
+  pub timeouts : (place : ℕ) → IfSome (slice_index_or d.timeouts place None) (IsTimeout place)
+  pub items : All (IsItem (length d.tables)) d.items
+  pub few_items : length d.items ≤ 10000
+  pub preorder : IsPreorder 0 d.items
+  pub anchors : AreNamedOnce [] d.items

@@ -1,0 +1,281 @@
+// What the statements of a rules text say that have been read so far.
+
+ghost use Rattle.std.specs.Prelude.{◌≡◌, ◌<◌, ◌≤◌, ◌+◌, ◌++◌, [], ◌∷◌, IfOk, IfSome, None, OnErr, OnOk, false, true, length, position};
+ghost use Rattle.std.specs.Option.{option_map};
+ghost use Rattle.pfs_addr.specs.Names.{is_name};
+ghost use Rattle.pfs_conf_rules.specs.Configs.{is_const_table, overloads_const};
+ghost use Rattle.pfs_conf_rules.specs.Order.{depth_after, next_depth, repeats_by, repeats_name};
+ghost use Rattle.pfs_conf_settings.specs.Drafts.{broken_pair, const_overload, empty_draft, finished, has_broken_pair, has_too_many_entries, has_too_many_tables, is_defined, number_of_table, with_item, with_limit, with_name, with_table, with_timeout};
+ghost use Rattle.pfs_conf_rules.specs.LoadRules.{IsAnchor, IsCount, IsItem, IsRule, IsTimeout};
+ghost use Rattle.pfs_conf_rules.specs.Siblings.{has_sibling, is_anchor_named};
+ghost use Rattle.pfs_conf_rules.specs.Timeouts.{place_of};
+
+use crate::named_tables::NamedTables;
+use pfs_addr::NoMemory;
+use pfs_conf_rules::{
+    Action, Anchor, AnchorName, Config, Item, LimitName, Limits, Rule, RuleNo, RuleTimeouts,
+    TableDef, TableName, TableNo, TimeoutName, Timeouts, What, count_entries,
+};
+use std::alloc::Global;
+use std::marker::Model;
+
+/// What the statements say that have been read so far. Each statement is put into it when its load rules have been asked;
+/// the rules of the whole text are asked at last, and then it is finished.
+///
+/// Clauses see a `Drafted`. `NoMemory` is answered where memory for what a statement says is refused, and then the draft
+/// is as before.
+#[derive(Debug, Drop)]
+pub struct Draft {
+    limits: Limits,
+    timeouts: RuleTimeouts,
+    tables: NamedTables,
+    items: Vec<Item>,
+}
+
+impl Model for Draft {
+    ghost use Rattle.pfs_conf_settings.specs.Drafts.{Drafted};
+    ghost use Rattle.pfs_conf_settings.specs.Invariants.{IsDraft};
+
+    ghost Value = { Drafted };
+
+    ghost view = { λ d. record { limits = d.limits; timeouts = d.timeouts; tables = d.tables.tables; defined = d.tables.defined; items = d.items.items } };
+
+    ghost invariant = { λ d. IsDraft (record { limits = d.limits; timeouts = d.timeouts; tables = d.tables.tables; defined = d.tables.defined; items = d.items.items }) };
+}
+
+impl Draft {
+    /// The draft of a text of which nothing has been read: the default limits, no timeout set, no tables and items. It
+    /// takes no memory.
+    pub fn new(alloc: Global) -> Draft
+        ensures { result ≡ empty_draft }
+    {
+        Draft {
+            limits: Limits::DEFAULT,
+            timeouts: RuleTimeouts::new(),
+            tables: NamedTables::new(alloc),
+            items: Vec::new(alloc),
+        }
+    }
+
+    /// Sets a limit, 1 to 4294967295. A later value replaces an earlier one. (pf.conf(5), OPTIONS, "set limit")
+    pub fn set_limit(&mut self, name: LimitName, value: u32)
+        requires { IsCount value }
+        ensures { self.new ≡ with_limit name value self.old }
+    {
+        self.limits = self.limits.with(name, value);
+    }
+
+    /// Sets a timeout: 0 to 2147483647 seconds, `interval` from 1, the adaptive two 0 to 4294967295 states. A later value
+    /// replaces an earlier one. (pf.conf(5), OPTIONS, "set timeout")
+    pub fn set_timeout(&mut self, name: TimeoutName, value: u32)
+        requires { IsTimeout (place_of name) value }
+        ensures { self.new ≡ with_timeout name value self.old }
+    {
+        self.timeouts.set(name.place(), value);
+    }
+
+    /// The number of the table of this name: tables are numbered from 0 by the first place that names them. A new name
+    /// takes memory for one more table; until it is defined it has no entries. (own to this profile)
+    pub fn number_of(&mut self, name: TableName) -> Result<TableNo, NoMemory>
+        requires { is_name 31 name ≡ true }
+        ensures answer { IfOk result (λ t. t.0 ≡ number_of_table name self.old) }
+        ensures within { IfOk result (λ t. t.0 < length self.new.tables) }
+        ensures more { length self.old.tables ≤ length self.new.tables }
+        ensures ok { OnOk result (self.new ≡ with_name name self.old) }
+        ensures err { OnErr result (self.new ≡ self.old) }
+    {
+        self.tables.number_of(name)
+    }
+
+    /// Whether the table of this name is defined.
+    pub fn is_defined(&self, name: &TableName) -> bool
+        ensures { result ≡ is_defined name.now self.now }
+    {
+        self.tables.is_defined(name)
+    }
+
+    /// Defines a table, which takes memory where its name is new. A text defines each table once; a definition would replace
+    /// an earlier one. (pf.conf(5), TABLES)
+    pub fn define(&mut self, table: TableDef) -> Result<(), NoMemory>
+        requires { is_name 31 table.name ≡ true }
+        ensures more { length self.old.tables ≤ length self.new.tables }
+        ensures ok { OnOk result (self.new ≡ with_table table self.old) }
+        ensures err { OnErr result (self.new ≡ self.old) }
+    {
+        self.tables.define(table)
+    }
+
+    /// How many rules and anchors have been read.
+    pub fn item_count(&self) -> u32
+        ensures { result ≡ length self.now.items }
+    {
+        self.items.len() as u32
+    }
+
+    /// Whether an anchor of this name stands already in the body, of this depth, in which the next item stands.
+    pub fn has_sibling(&self, depth: u8, name: &AnchorName) -> bool
+        ensures { result ≡ has_sibling depth name.now self.now.items }
+    {
+        has_sibling(&self.items, depth, name)
+    }
+
+    /// Puts a rule behind the other items, inside so many anchors, which takes memory. There may be 10,000 items.
+    /// (pf.conf(5), PACKET FILTERING)
+    pub fn push_rule(&mut self, depth: u8, rule: Rule) -> Result<(), NoMemory>
+        requires few { length self.old.items < 10000 }
+        requires order { depth ≤ depth_after 0 self.old.items }
+        requires shallow { depth ≤ 16 }
+        requires rule { IsRule (length self.old.tables) rule }
+        ensures ok { OnOk result (self.new ≡ with_item (record { depth = depth; what = What.Rule rule }) self.old) }
+        ensures depth { OnOk result (depth_after 0 self.new.items ≡ depth) }
+        ensures err { OnErr result (self.new ≡ self.old) }
+    {
+        self.push(Item {
+            depth,
+            what: What::Rule(rule),
+        })
+    }
+
+    /// Puts the head of an anchor behind the other items, inside so many other anchors, which takes memory. There may be
+    /// 10,000 items. (pf.conf(5), ANCHORS)
+    pub fn push_anchor(&mut self, depth: u8, anchor: Anchor) -> Result<(), NoMemory>
+        requires few { length self.old.items < 10000 }
+        requires order { depth ≤ depth_after 0 self.old.items }
+        requires shallow { depth ≤ 15 }
+        requires anchor { IsAnchor (length self.old.tables) anchor }
+        requires name { repeats_by depth anchor.name self.old.items ≡ false }
+        ensures ok { OnOk result (self.new ≡ with_item (record { depth = depth; what = What.Anchor anchor }) self.old) }
+        ensures depth { OnOk result (depth_after 0 self.new.items ≡ depth + 1) }
+        ensures err { OnErr result (self.new ≡ self.old) }
+    {
+        self.push(Item {
+            depth,
+            what: What::Anchor(anchor),
+        })
+    }
+
+    fn push(&mut self, item: Item) -> Result<(), NoMemory>
+        requires few { length self.old.items < 10000 }
+        requires order { item.depth ≤ depth_after 0 self.old.items }
+        requires item { IsItem (length self.old.tables) item }
+        requires name { repeats_name item self.old.items ≡ false }
+        ensures ok { OnOk result (self.new ≡ with_item item self.old) }
+        ensures depth { OnOk result (depth_after 0 self.new.items ≡ next_depth item) }
+        ensures err { OnErr result (self.new ≡ self.old) }
+    {
+        push_item(&mut self.items, item)
+    }
+
+    /// The first rule whose `overload` names a `const` table, if there is one.
+    pub fn const_overload(&self) -> Option<RuleNo>
+        ensures { option_map (λ n. n.0) result ≡ const_overload self.now }
+    {
+        let place = const_overload(self.tables.tables(), &self.items)?;
+        Some(RuleNo(place as u32))
+    }
+
+    /// Whether one global adaptive value is set without the other, or both such that they are not both 0 and the start is
+    /// not below the end. (pf.conf(5), OPTIONS, "set timeout")
+    pub fn has_broken_pair(&self) -> bool
+        ensures { result ≡ has_broken_pair self.now }
+    {
+        let start = self.timeouts.get(TimeoutName::AdaptiveStart);
+        let end = self.timeouts.get(TimeoutName::AdaptiveEnd);
+        is_broken_pair(start, end)
+    }
+
+    /// Whether the text names more tables than the limit says.
+    pub fn has_too_many_tables(&self) -> bool
+        ensures { result ≡ has_too_many_tables self.now }
+    {
+        self.tables.tables().len() > self.limits.tables as usize
+    }
+
+    /// Whether the tables have more entries together than the limit says.
+    pub fn has_too_many_entries(&self) -> bool
+        ensures { result ≡ has_too_many_entries self.now }
+    {
+        count_entries(self.tables.tables()) > u64::from(self.limits.table_entries)
+    }
+
+    /// What a text says that ends here: what it does not set has its default. It takes no memory.
+    pub fn finish(self) -> Config
+        requires pair { has_broken_pair self ≡ false }
+        requires overloads { const_overload self ≡ None }
+        requires tables { has_too_many_tables self ≡ false }
+        requires entries { has_too_many_entries self ≡ false }
+        ensures { result ≡ finished self }
+    {
+        let Draft {
+            limits,
+            timeouts,
+            tables,
+            items,
+        } = self;
+        let tables = tables.into_tables();
+        let timeouts = Timeouts::resolved(&timeouts, limits.states);
+        Config::of_parts(limits, timeouts, tables, items)
+    }
+}
+
+fn has_sibling(items: &[Item], depth: u8, name: &AnchorName) -> bool
+    ensures { result ≡ has_sibling depth name.now items.now }
+{
+    items
+        .iter()
+        .rev()
+        .take_while(|item| item.depth >= depth)
+        .any(|item| is_anchor_named(item, depth, name))
+}
+
+fn is_anchor_named(item: &Item, depth: u8, name: &AnchorName) -> bool
+    ensures { result ≡ is_anchor_named depth name.now item.now }
+{
+    match &item.what {
+        What::Rule(_) => false,
+        What::Anchor(anchor) => item.depth == depth && anchor.name == Some(*name),
+    }
+}
+
+fn push_item(items: &mut Vec<Item>, item: Item) -> Result<(), NoMemory>
+    ensures ok { OnOk result (items.new.items ≡ items.old.items ++ item ∷ []) }
+    ensures err { OnErr result (items.new.items ≡ items.old.items) }
+{
+    items.extend_from_slice(&[item])?;
+    Ok(())
+}
+
+fn const_overload(tables: &[TableDef], items: &[Item]) -> Option<usize>
+    ensures value { result ≡ position (overloads_const tables.now) items.now }
+    ensures within { IfSome result (λ n. n < length items.now) }
+{
+    items.iter().position(|item| overloads_const(tables, item))
+}
+
+fn overloads_const(tables: &[TableDef], item: &Item) -> bool
+    ensures { result ≡ overloads_const tables.now item.now }
+{
+    let What::Rule(rule) = &item.what else {
+        return false;
+    };
+    let Action::Keep(options) = &rule.action else {
+        return false;
+    };
+    let Some(overload) = options.overload else {
+        return false;
+    };
+    match tables.get(overload.table.0 as usize) {
+        Some(table) => table.is_const,
+        None => false,
+    }
+}
+
+fn is_broken_pair(start: Option<u32>, end: Option<u32>) -> bool
+    ensures { result ≡ broken_pair start end }
+{
+    match (start, end) {
+        (None, None) => false,
+        (Some(start), Some(end)) => (start != 0 || end != 0) && start >= end,
+        _ => true,
+    }
+}
