@@ -1,15 +1,10 @@
 pub mod Addresses
 pub mod FlagSets
-pub mod Groups
 pub mod Keys
-pub mod LetterSteps
 pub mod Names
 pub mod Numbers
-pub mod Octets
 pub mod Packets
 pub mod Padding
-pub mod PrefixParts
 pub mod Prefixes
 pub mod Protocols
 pub mod Sameness
-pub mod Texts

@@ -1,9 +1,8 @@
-// Protocols by name and number.
+// Protocols by number.
 
-ghost use Rattle.std.specs.Prelude.{◌≡◌, ◌<◌};
-ghost use Rattle.pfs_addr.specs.Protocols.{proto_of, number_of_proto, has_ports, is_icmp, proto_in, proto_numbered};
+ghost use Rattle.std.specs.Prelude.{◌≡◌};
+ghost use Rattle.pfs_addr.specs.Protocols.{proto_of, number_of_proto, has_ports, is_icmp};
 
-use crate::numbers::parse_number;
 use std::marker::Model;
 
 /// The number of a protocol that is neither TCP (6) nor UDP (17). Clauses see the number.
@@ -72,40 +71,5 @@ impl Proto {
         ensures { result ≡ is_icmp self }
     {
         matches!(self.number(), 1 | 58)
-    }
-}
-
-/// The protocol that this text is, if it is one: `tcp` (6), `udp` (17), `icmp` (1), `icmp6` (58), `esp` (50), `ah` (51),
-/// `gre` (47), or a number of 0 to 255 as `parse_number` reads it, so `6` and `006` are TCP. It takes no memory.
-/// (pf.conf(5), PARAMETERS, "proto"; protocols(5))
-#[tactic(auto, unfolding(crate::specs::Protocols::proto_in))]
-pub fn parse_proto(text: &[u8]) -> Option<Proto>
-    ensures { result ≡ proto_in text.now }
-{
-    if text == b"tcp".as_slice() {
-        Some(Proto::Tcp)
-    } else if text == b"udp".as_slice() {
-        Some(Proto::Udp)
-    } else if text == b"icmp".as_slice() {
-        Some(Proto::from_number(1))
-    } else if text == b"icmp6".as_slice() {
-        Some(Proto::from_number(58))
-    } else if text == b"esp".as_slice() {
-        Some(Proto::from_number(50))
-    } else if text == b"ah".as_slice() {
-        Some(Proto::from_number(51))
-    } else if text == b"gre".as_slice() {
-        Some(Proto::from_number(47))
-    } else {
-        numbered(parse_number(text))
-    }
-}
-
-fn numbered(number: Option<u64>) -> Option<Proto>
-    ensures { result ≡ proto_numbered number }
-{
-    match number {
-        Some(n) if n < 256 => Some(Proto::from_number(n as u8)),
-        _ => None,
     }
 }

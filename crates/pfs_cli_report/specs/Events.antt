@@ -9,7 +9,7 @@ use Rattle.pfs_addr.specs.Addresses.{same_family}
 use Rattle.pfs_addr.specs.Numbers.{number_of}
 use Rattle.pfs_addr.specs.Names.{name_of}
 use Rattle.pfs_addr.specs.FlagSets.{flags_of}
-use Rattle.pfs_addr.specs.Texts.{addr_of}
+use Rattle.pfs_addr_text.specs.Texts.{addr_of}
 use Rattle.pfs_addr.specs.Packets.{Header}
 use Rattle.pfs_addr.specs.Protocols.{proto_in, has_ports, is_icmp}
 use Rattle.pfs_addr.specs.declared.flag_sets.Flags.{Flags}

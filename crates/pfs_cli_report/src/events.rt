@@ -3,17 +3,15 @@
 ghost use Rattle.std.specs.Prelude.{◌≡◌, ◌≤◌};
 ghost use Rattle.csv.specs.Records.{fields_of};
 ghost use Rattle.pfs_addr.specs.Protocols.{is_icmp};
-ghost use Rattle.pfs_addr.specs.Texts.{addr_of};
+ghost use Rattle.pfs_addr_text.specs.Texts.{addr_of};
 ghost use Rattle.pfs_conf_rules.specs.Configs.{table_named};
 ghost use Rattle.pfs_cli_report.specs.Events.{changing, column_of, number_to, dir_of, expiry_at, port_for, flags_for, nothing_in, is_header, falls, event_at};
 ghost use Rattle.pfs_cli_report.specs.Reading.{arrival_at, beside, leaving_at};
 
 use crate::faults::TraceFault;
 use csv::ByteRecord;
-use pfs_addr::{
-    Addr, Dir, Endpoint, Flags, Packet, Proto, parse_addr, parse_flags, parse_ifname, parse_number,
-    parse_proto,
-};
+use pfs_addr::{Addr, Dir, Endpoint, Flags, Packet, Proto, parse_ifname};
+use pfs_addr_text::{parse_addr, parse_flags, parse_number, parse_proto};
 use pfs_conf_rules::{Config, TableName, TableNo};
 use pfs_engine_machine::{Event, What};
 

@@ -16,12 +16,12 @@ use Rattle.pfs_addr.specs.Numbers.{number_of}
 use Rattle.pfs_conf_tokens.specs.Numbers as text_numbers
 use Rattle.pfs_addr.specs.Protocols.{proto_of, proto_numbered, proto_in}
 use Rattle.pfs_addr.specs.Prefixes.{Network, IsNetwork}
-use Rattle.pfs_addr.specs.Texts.{prefix_of}
+use Rattle.pfs_addr_text.specs.Texts.{prefix_of}
 use Rattle.pfs_addr.specs.FlagSets.{flags_of, is_flag_letter, names_letter}
 use Rattle.pfs_addr.specs.declared.protocols.Proto.{Proto}
 use Rattle.pfs_addr.specs.declared.protocols.Proto.TheVariants as proto
 use Rattle.pfs_addr.specs.declared.flag_sets.Flags.{Flags}
-use Rattle.pfs_addr.proofs.PieceLaws.{prefix_of_parts}
+use Rattle.pfs_addr_text.proofs.PieceLaws.{prefix_of_parts}
 use Rattle.pfs_addr.proofs.PrefixLaws.{network_of_is_network}
 use Rattle.pfs_conf_rules.specs.LoadRules.{IsInterface, IsProto, ArePorts, IsHost, IsSide, IsFlagTest, has_a_flag}
 use Rattle.pfs_conf_rules.specs.declared.filters.FlagTest.{FlagTest}

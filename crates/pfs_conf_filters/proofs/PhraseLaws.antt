@@ -14,7 +14,7 @@ use Rattle.pfs_conf_tokens.specs.declared.refusals.Why.TheVariants as why
 use Rattle.pfs_conf_tokens.proofs.Laws.{ok_parts, chain_ok, not_refused}
 use Rattle.pfs_conf_tokens.proofs.ReaderLaws.{closes_parens_key, word_is, perhaps_is, list_is}
 use Rattle.pfs_addr.specs.Protocols.{proto_in}
-use Rattle.pfs_addr.specs.Texts.{prefix_of}
+use Rattle.pfs_addr_text.specs.Texts.{prefix_of}
 use Rattle.pfs_addr.specs.declared.packets.Dir.{Dir}
 use Rattle.pfs_addr.specs.declared.packets.Dir.TheVariants as dir
 use Rattle.pfs_addr.specs.declared.protocols.Proto.{Proto}

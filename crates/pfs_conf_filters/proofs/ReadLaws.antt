@@ -13,7 +13,7 @@ use Rattle.pfs_conf_tokens.specs.declared.refusals.Why.TheVariants as why
 use Rattle.pfs_conf_tokens.proofs.ReaderLaws.{word_head, perhaps_reads, perhaps_reads_before, no_comma, ReadsList, list_reads}
 use Rattle.pfs_addr.specs.Protocols.{proto_in}
 use Rattle.pfs_addr.specs.Prefixes.{Network}
-use Rattle.pfs_addr.specs.Texts.{prefix_of}
+use Rattle.pfs_addr_text.specs.Texts.{prefix_of}
 use Rattle.pfs_addr.specs.declared.packets.Dir.{Dir}
 use Rattle.pfs_addr.specs.declared.protocols.Proto.{Proto}
 use Rattle.pfs_conf_rules.specs.declared.filters.Family.{Family}

@@ -24,7 +24,7 @@ use Rattle.pfs_conf_filters.specs.declared.phrases.Marks.{Marks}
 use Rattle.pfs_conf_filters.specs.declared.phrases.Head.{Head}
 use Rattle.pfs_conf_filters.specs.declared.phrases.Hosts.{Hosts}
 use Rattle.pfs_conf_filters.specs.declared.phrases.Parameters.{Parameters}
-use Rattle.pfs_addr.specs.Texts.{prefix_of}
+use Rattle.pfs_addr_text.specs.Texts.{prefix_of}
 use Rattle.pfs_addr.specs.Protocols.{proto_in}
 use Rattle.pfs_conf_filters.specs.Values.{in_word, in_plain_word, interface_name, table_name, ports_of, flag_test}
 

@@ -8,7 +8,7 @@ use crate::heads::head;
 use crate::phrases::{Hosts, Parameters, Statement};
 use crate::services::ports_part;
 use crate::words::{table_name, take_value};
-use pfs_addr::parse_prefix;
+use pfs_addr_text::parse_prefix;
 use pfs_conf_rules::{Host, Side, TableName};
 use pfs_conf_tokens::{Cursor, Key, Refusal, Why};
 

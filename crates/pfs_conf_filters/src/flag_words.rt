@@ -6,7 +6,8 @@ ghost use Rattle.pfs_conf_filters.specs.Values.{flag_test_of, exactly};
 ghost use Rattle.pfs_conf_filters.specs.Reading.{flags_at};
 
 use crate::words::take_value;
-use pfs_addr::{Flags, parse_flags};
+use pfs_addr::Flags;
+use pfs_addr_text::parse_flags;
 use pfs_conf_rules::FlagTest;
 use pfs_conf_tokens::{Cursor, Key, Refusal, Why, split_at_byte};
 

@@ -19,7 +19,7 @@ use Rattle.pfs_addr.specs.FlagSets.{flags_of}
 use Rattle.pfs_addr.specs.Names.{is_name, name_of}
 use Rattle.pfs_addr.specs.Prefixes.{IsNetwork, Network}
 use Rattle.pfs_addr.specs.Protocols.{proto_in}
-use Rattle.pfs_addr.specs.Texts.{prefix_of}
+use Rattle.pfs_addr_text.specs.Texts.{prefix_of}
 use Rattle.pfs_addr.specs.declared.flag_sets.Flags.{Flags}
 use Rattle.pfs_addr.specs.declared.packets.Dir.{Dir}
 use Rattle.pfs_addr.specs.declared.packets.Dir.TheVariants as dir

@@ -14,7 +14,7 @@ use Rattle.pfs_addr.specs.Numbers.{is_digit}
 use Rattle.pfs_addr.specs.Protocols.{proto_in, proto_numbered, proto_of}
 use Rattle.pfs_addr.specs.declared.protocols.Proto.{Proto}
 use Rattle.pfs_addr.specs.declared.protocols.Proto.TheVariants as proto
-use Rattle.pfs_addr.proofs.NumberLaws.{decimal_digits, number_of-decimal as addr_number_of-decimal}
+use Rattle.pfs_addr_text.proofs.NumberLaws.{decimal_digits, number_of-decimal as addr_number_of-decimal}
 use Rattle.pfs_conf_rules.specs.LoadRules.{ArePorts}
 use Rattle.pfs_conf_rules.specs.declared.filters.Ports.{Ports}
 use Rattle.pfs_conf_filters.specs.Values.{one_port, port_by, port_of, port_numbered, port_range, ports_around, ports_of}

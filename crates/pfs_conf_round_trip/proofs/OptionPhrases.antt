@@ -11,7 +11,7 @@ use Rattle.pfs_conf_tokens.specs.Words.{key_of_text}
 use Rattle.pfs_conf_tokens.proofs.ShownLaws.{breaks, decimal_text, is_word_text, key_of-decimal, number_of-decimal, split_around-append, word_then}
 use Rattle.pfs_conf_tokens.proofs.WordKeys.{key_of-Flush, key_of-Global, key_of-Keep, key_of-Max, key_of-MaxSrcConn, key_of-MaxSrcConnRate, key_of-MaxSrcNodes, key_of-MaxSrcStates, key_of-No, key_of-Overload, key_of-Rule, key_of-SourceTrack, key_of-State, key_of-TcpFirst, key_of-TcpOpening, key_of-TcpEstablished, key_of-TcpClosing, key_of-TcpFinwait, key_of-TcpClosed, key_of-UdpFirst, key_of-UdpSingle, key_of-UdpMultiple, key_of-OtherFirst, key_of-OtherSingle, key_of-OtherMultiple, key_of-SrcTrack, key_of-AdaptiveStart, key_of-AdaptiveEnd}
 use Rattle.pfs_addr.specs.Names.{is_name}
-use Rattle.pfs_addr.proofs.PieceLaws.{decimal_lacks}
+use Rattle.pfs_addr_text.proofs.PieceLaws.{decimal_lacks}
 use Rattle.pfs_conf_rules.specs.Invariants.{IsTable}
 use Rattle.pfs_conf_rules.specs.LoadRules.{AreOptions, IsCount, IsTableNo, IsTimeout}
 use Rattle.pfs_conf_rules.specs.Bounds.{IsRate, greatest_timeout}

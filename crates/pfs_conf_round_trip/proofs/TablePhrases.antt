@@ -10,7 +10,7 @@ use Rattle.std.proofs.lemmas.Map.Keys.{IsDistinct-head, IsDistinct-tail}
 use Rattle.pfs_conf_tokens.specs.declared.keys.Key.{Key}
 use Rattle.pfs_conf_tokens.specs.declared.keys.Key.TheVariants as key
 use Rattle.pfs_conf_filters.specs.Values.{is_plain_word}
-use Rattle.pfs_addr.specs.Texts.{prefix_of}
+use Rattle.pfs_addr_text.specs.Texts.{prefix_of}
 use Rattle.pfs_conf_tokens.specs.Grammar.{WordOf, ListOf, UpTo, stands, steps, skip_lines}
 use Rattle.pfs_conf_tokens.specs.Keys.{ends_line}
 use Rattle.pfs_conf_tokens.specs.Tokens.{Tok, head, token}

@@ -8,7 +8,7 @@ ghost use Rattle.pfs_conf_settings.specs.Tables.{entry_at, lined_entry_at, brace
 ghost use Rattle.pfs_conf_settings.specs.Extending.{Extends};
 
 use crate::entries::EntryDraft;
-use pfs_addr::parse_prefix;
+use pfs_addr_text::parse_prefix;
 use pfs_conf_rules::Entries;
 use pfs_conf_tokens::{Cursor, Key, ReadError, Refusal, Why, skip_lines};
 use std::alloc::Global;

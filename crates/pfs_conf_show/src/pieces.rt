@@ -5,7 +5,8 @@ ghost use Rattle.pfs_addr.specs.Addresses.{width_of};
 ghost use Rattle.pfs_conf_show.specs.Pieces.{bits_text, closed_by, not_text, prefix_text, separator, worded};
 
 use itoa::Buffer;
-use pfs_addr::{NoMemory, Prefix, push_addr};
+use pfs_addr::{NoMemory, Prefix};
+use pfs_addr_text::push_addr;
 
 pub fn push_number(out: &mut Vec<u8>, n: u64) -> Result<(), NoMemory>
     ensures { OnOk result (out.new.items ≡ out.old.items ++ decimal n) }

@@ -24,10 +24,10 @@ use Rattle.pfs_store_contract.specs.Plain.{AreCounts}
 use Rattle.pfs_store_contract.specs.declared.records.NodeScope.{NodeScope}
 use Rattle.pfs_store_contract.specs.declared.records.NodeScope.TheVariants as node_scope
 use Rattle.pfs_store_contract.specs.declared.records.State.{State}
-use Rattle.pfs_store_records.specs.Records.{IsAbove, Placed}
-use Rattle.pfs_store_records.specs.Sourced.{source_at}
-use Rattle.pfs_store_records.specs.Tallies.{is_tally, nodes_of}
-use Rattle.pfs_store_records.specs.declared.nodes.Tally.{Tally}
+use Rattle.pfs_store_index.specs.Records.{IsAbove, Placed}
+use Rattle.pfs_store_index.specs.Sourced.{source_at}
+use Rattle.pfs_store_index.specs.Tallies.{is_tally, nodes_of}
+use Rattle.pfs_store_index.specs.declared.nodes.Tally.{Tally}
 use Rattle.pfs_store_index.specs.declared.indexes.Entry.{Entry}
 use Rattle.pfs_store_index.specs.Ties.{HasRule, HasTally, IsCounted, IsFew, IsScope, IsScored, IsScoped, at_node, entry_of, has_key, is_at, is_pair, joined, joined_of, key_in, new_tally}
 use Rattle.pfs_store_index.proofs.OneNode.{IsFaithful, and_both, and_false, and_left, and_right, of_node, same_scope_self, scope_of-IsScope, scoped-at, tally-at}

@@ -16,14 +16,14 @@ use Rattle.pfs_store_contract.specs.Plain.{AreCounts}
 use Rattle.pfs_store_contract.specs.declared.records.Node.{Node}
 use Rattle.pfs_store_contract.specs.declared.records.NodeScope.{NodeScope}
 use Rattle.pfs_store_contract.specs.declared.records.State.{State}
-use Rattle.pfs_store_records.specs.Records.{Placed}
-use Rattle.pfs_store_records.specs.Tallies.{nodes_of}
-use Rattle.pfs_store_records.specs.declared.nodes.Tally.{Tally}
+use Rattle.pfs_store_index.specs.Records.{Placed}
+use Rattle.pfs_store_index.specs.Tallies.{nodes_of}
+use Rattle.pfs_store_index.specs.declared.nodes.Tally.{Tally}
 use Rattle.pfs_store_index.specs.declared.indexes.Entry.{Entry}
 use Rattle.pfs_store_index.specs.Ties.{HasRule, HasTally, IsCounted, IsScored, IsScoped, entry_of, has_key, is_at, is_pair, key_in, left_at, left_of}
 use Rattle.pfs_store_index.proofs.OneNode.{IsFaithful, and_false, and_right, of_node, tally-at}
 use Rattle.pfs_store_index.proofs.Removals.{any-kept, any-removed, count-removed, find-removed}
-use Rattle.pfs_store_index.proofs.Walks.{IsRisingBy, has_number}
+use Rattle.pfs_store_index.proofs.RisingWalks.{IsRisingBy, has_number}
 
 -- the number of a state, and of a record
 abbrev pub state_number : State → ℕ

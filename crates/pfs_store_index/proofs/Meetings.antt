@@ -15,13 +15,13 @@ use Rattle.pfs_store_contract.specs.Touching.{completes_at, goes_forward, nodes_
 use Rattle.pfs_store_contract.specs.declared.records.Node.{Node}
 use Rattle.pfs_store_contract.specs.declared.records.NodeScope.{NodeScope}
 use Rattle.pfs_store_contract.specs.declared.records.State.{State}
-use Rattle.pfs_store_records.specs.Records.{Placed, placed_at, put, states_of}
-use Rattle.pfs_store_records.specs.Tallies.{is_tally, nodes_of}
-use Rattle.pfs_store_records.specs.declared.nodes.Tally.{Tally}
+use Rattle.pfs_store_index.specs.Records.{Placed, placed_at, put, states_of}
+use Rattle.pfs_store_index.specs.Tallies.{is_tally, nodes_of}
+use Rattle.pfs_store_index.specs.declared.nodes.Tally.{Tally}
 use Rattle.pfs_store_index.specs.Ties.{HasTally, IsCounted, IsScored, IsScoped, at_node, entry_of, has_key, is_at, key_in, met_by}
 use Rattle.pfs_store_index.proofs.Leavings.{record_number, state_number}
 use Rattle.pfs_store_index.proofs.OneNode.{IsFaithful, of_node, tally-at}
-use Rattle.pfs_store_index.proofs.Walks.{Apart, IsRisingBy, has_number, head-apart, head-is, rest-rising, same_number}
+use Rattle.pfs_store_index.proofs.RisingWalks.{Apart, IsRisingBy, has_number, head-apart, head-is, rest-rising, same_number}
 
 -- ---- what a packet leaves as it was
 

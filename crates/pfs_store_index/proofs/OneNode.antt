@@ -18,11 +18,11 @@ use Rattle.pfs_store_contract.specs.declared.records.Node.{Node}
 use Rattle.pfs_store_contract.specs.declared.records.NodeScope.{NodeScope}
 use Rattle.pfs_store_contract.specs.declared.records.NodeScope.TheVariants as node_scope
 use Rattle.pfs_store_contract.specs.declared.records.State.{State}
-use Rattle.pfs_store_records.specs.Tallies.{IsTallied, has_node_number, is_tally, nodes_of, put_tally, same_node}
-use Rattle.pfs_store_records.specs.declared.nodes.Tally.{Tally}
+use Rattle.pfs_store_index.specs.Tallies.{IsTallied, has_node_number, is_tally, nodes_of, put_tally, same_node}
+use Rattle.pfs_store_index.specs.declared.nodes.Tally.{Tally}
 use Rattle.pfs_store_index.specs.Ties.{IsScope, IsScoped, at_node, is_at}
 use Rattle.pfs_store_index.proofs.Searches.{any-also, any-map, found-all}
-use Rattle.pfs_store_index.proofs.Walks.{Above, IsRisingBy, head-above, rest-rising}
+use Rattle.pfs_store_index.proofs.RisingWalks.{Above, IsRisingBy, head-above, rest-rising}
 
 -- ---- the tests decide
 

@@ -6,7 +6,7 @@ use Rattle.std.proofs.lemmas.Map.Keys.{IsDistinct-head, IsDistinct-tail, IsDisti
 use Rattle.pfs_addr.proofs.SameLaws.{same_key_true, same_key_self}
 use Rattle.pfs_addr.specs.Sameness.{same_key}
 use Rattle.pfs_addr.specs.declared.packets.FlowKey.{FlowKey}
-use Rattle.pfs_store_index.proofs.Walks.{Apart, IsRisingBy, has_number, head-apart, head-is, rest-rising, same_number}
+use Rattle.pfs_store_index.proofs.RisingWalks.{Apart, IsRisingBy, has_number, head-apart, head-is, rest-rising, same_number}
 
 module _ {X : Type 0} (number : X → ℕ) where
   -- all but that of a number

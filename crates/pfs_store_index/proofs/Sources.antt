@@ -17,12 +17,12 @@ use Rattle.std.specs.declared.ops.Bound.TheVariants.{Excluded, Included}
 use Rattle.pfs_addr.specs.declared.addresses.Addr.{Addr}
 use Rattle.pfs_store_contract.specs.Counts.{is_of_source}
 use Rattle.pfs_store_contract.specs.declared.records.State.{State}
-use Rattle.pfs_store_records.specs.Records.{between}
+use Rattle.pfs_store_index.specs.Records.{between}
 use Rattle.pfs_store_index.specs.Rounds.{waiting_of}
 use Rattle.pfs_store_index.specs.Ties.{addr_cmp, is_pair, pair_cmp}
 use Rattle.pfs_store_index.proofs.Leavings.{state_number}
 use Rattle.pfs_store_index.proofs.OneNode.{and_both, and_left, and_right}
-use Rattle.pfs_store_index.proofs.Walks.{Above, IsRisingBy, head-above, rest-rising}
+use Rattle.pfs_store_index.proofs.RisingWalks.{Above, IsRisingBy, head-above, rest-rising}
 
 -- ---- the order of pairs
 

@@ -12,14 +12,14 @@ use Rattle.pfs_conf_rules.specs.declared.items.Rule.{Rule}
 use Rattle.pfs_store_contract.specs.Calls.{other_than, state_number, state_rule}
 use Rattle.pfs_store_contract.specs.Purging.{node_numbers, state_numbers}
 use Rattle.pfs_store_contract.specs.declared.records.State.{State}
-use Rattle.pfs_store_records.specs.Records.{IsAbove, IsRising, Placed, leaves_number, states_of}
-use Rattle.pfs_store_records.specs.Tallies.{nodes_of}
-use Rattle.pfs_store_records.specs.declared.nodes.Tally.{Tally}
+use Rattle.pfs_store_index.specs.Records.{IsAbove, IsRising, Placed, leaves_number, states_of}
+use Rattle.pfs_store_index.specs.Tallies.{nodes_of}
+use Rattle.pfs_store_index.specs.declared.nodes.Tally.{Tally}
 use Rattle.pfs_store_index.specs.declared.indexes.Entry.{Entry}
 use Rattle.pfs_store_index.specs.Ties.{entry_of, has_key}
 use Rattle.pfs_store_index.proofs.Leavings.{record_number}
 use Rattle.pfs_store_index.proofs.Searches.{find-part}
-use Rattle.pfs_store_index.proofs.Walks.{IsRisingBy}
+use Rattle.pfs_store_index.proofs.RisingWalks.{IsRisingBy}
 
 pub numbers-records : (rs : List Placed) → map record_number rs ≡ state_numbers (states_of rs)
 numbers-records [] = refl

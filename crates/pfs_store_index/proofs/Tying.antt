@@ -19,8 +19,8 @@ use Rattle.pfs_store_contract.specs.Purging.{state_numbers}
 use Rattle.pfs_store_contract.specs.Touching.{completes_at, renewed}
 use Rattle.pfs_store_contract.specs.declared.records.NodeScope.{NodeScope}
 use Rattle.pfs_store_contract.specs.declared.records.State.{State}
-use Rattle.pfs_store_records.specs.Records.{IsRising, Placed, leaves_number, placed_at, states_of}
-use Rattle.pfs_store_records.specs.declared.nodes.Tally.{Tally}
+use Rattle.pfs_store_index.specs.Records.{IsRising, Placed, leaves_number, placed_at, states_of}
+use Rattle.pfs_store_index.specs.declared.nodes.Tally.{Tally}
 use Rattle.pfs_store_index.specs.declared.indexes.Entry.{Entry}
 use Rattle.pfs_store_index.specs.Ties.{HasPair, HasRule, HasTally, IsCounted, IsTied, SamePairs, at_node, entry_of, has_key, is_pair, joined, key_in, left_at, left_of, met_by, pair_cmp}
 use Rattle.pfs_store_index.proofs.Comings.{counted-came, distinct-came, key-came, noded-came, pair-came, rule-came, ruled-came, scoped-came, scored-came}
@@ -31,7 +31,7 @@ use Rattle.pfs_store_index.proofs.Removals.{all-filter, all-found, distinct-filt
 use Rattle.pfs_store_index.proofs.Searches.{map-push}
 use Rattle.pfs_store_index.proofs.Sources.{pair_test}
 use Rattle.pfs_store_index.proofs.Stands.{record-found, rising-records, states-left}
-use Rattle.pfs_store_index.proofs.Walks.{has_number}
+use Rattle.pfs_store_index.proofs.RisingWalks.{has_number}
 
 module _ {S : Type 0} (conf : Conf) (rs : List Placed) (keys : HashMap FlowKey Entry S) (counts : List ℕ) (ts : List Tally) (pairs : BTreeSet (Addr × ℕ)) where
   -- the rule of a state that is held has a count

@@ -25,9 +25,9 @@ use Rattle.pfs_store_contract.specs.declared.records.Node.{Node}
 use Rattle.pfs_store_contract.specs.declared.records.NodeScope.{NodeScope}
 use Rattle.pfs_store_contract.specs.declared.records.NodeScope.TheVariants as node_scope
 use Rattle.pfs_store_contract.specs.declared.records.State.{State}
-use Rattle.pfs_store_records.specs.Records.{Placed, states_of}
-use Rattle.pfs_store_records.specs.Tallies.{is_tally}
-use Rattle.pfs_store_records.specs.declared.nodes.Tally.{Tally}
+use Rattle.pfs_store_index.specs.Records.{Placed, states_of}
+use Rattle.pfs_store_index.specs.Tallies.{is_tally}
+use Rattle.pfs_store_index.specs.declared.nodes.Tally.{Tally}
 use Rattle.pfs_store_index.specs.declared.indexes.Entry.{Entry}
 
 -- ---- the index by key

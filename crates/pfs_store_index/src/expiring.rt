@@ -3,8 +3,8 @@
 ghost use Rattle.std.specs.Prelude.{◌≡◌, ◌+◌, ◌-◌, ◌<◌, ◌≤◌, ◌^◌, if◌then◌else◌, length, slice_index};
 ghost use Rattle.pfs_store_index.specs.Stored.{AreUnread, has_pair, seconds_of};
 
+use crate::walks::Lifetimes;
 use pfs_conf_rules::{Config, RuleNo, TimeoutName};
-use pfs_store_records::Lifetimes;
 use pfs_track::{StatePhase, lifetime};
 
 /// The lifetimes of states, where the rules had these counts of states and so many were held.

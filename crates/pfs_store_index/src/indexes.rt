@@ -13,21 +13,24 @@ ghost use Rattle.pfs_store_contract.specs.Purging.{node_numbers, state_numbers};
 ghost use Rattle.pfs_store_contract.specs.Quiet.{turned};
 ghost use Rattle.pfs_store_contract.specs.Touching.{completes_at, nodes_touched, renewed};
 ghost use Rattle.pfs_store_contract.specs.Worlds.{IsUpToNow, holds_number, lists, state_with};
-ghost use Rattle.pfs_store_records.specs.Records.{IsAbove, IsRising, placed_at};
-ghost use Rattle.pfs_store_records.specs.Sourced.{IsSourced};
-ghost use Rattle.pfs_store_records.specs.Walks.{IsWalk, StayUntil, end_of, state_has_expired, looks_of};
+ghost use Rattle.pfs_store_index.specs.Records.{IsAbove, IsRising, placed_at};
+ghost use Rattle.pfs_store_index.specs.Sourced.{IsSourced};
+ghost use Rattle.pfs_store_index.specs.Walks.{IsWalk, StayUntil, end_of, state_has_expired, looks_of};
 ghost use Rattle.pfs_store_index.specs.Holdings.{IsUncompleted};
 ghost use Rattle.pfs_store_index.specs.Rounds.{waiting, waiting_of};
 ghost use Rattle.pfs_store_index.specs.Stored.{IsNumbered};
 ghost use Rattle.pfs_store_index.specs.Ties.{HasRule, entry_of};
 
+use crate::nodes::{Nodes, Tally};
 use crate::placing::place;
+use crate::records::Records;
+use crate::rounds::Round;
 use crate::stepping::stepped;
 use crate::tallying::{leave, meet};
+use crate::walks::{Lifetimes, Walk};
 use pfs_addr::{Addr, FlowKey, Meter, NoMemory, Packet};
 use pfs_conf_rules::{Config, RuleNo, Scope};
 use pfs_store_contract::{Node, NodeScope, State, StateNo, Touched};
-use pfs_store_records::{Lifetimes, Nodes, Records, Round, Tally, Walk};
 use std::alloc::{AllocError, Global};
 use std::collections::{BTreeSet, HashMap};
 use std::hash::BuildHasher;
@@ -62,8 +65,8 @@ pub(crate) struct Indexes<S: BuildHasher> {
 }
 
 impl<S: BuildHasher> Model for Indexes<S> {
-    ghost use Rattle.pfs_store_records.specs.Records.{states_of};
-    ghost use Rattle.pfs_store_records.specs.Tallies.{nodes_of};
+    ghost use Rattle.pfs_store_index.specs.Records.{states_of};
+    ghost use Rattle.pfs_store_index.specs.Tallies.{nodes_of};
     ghost use Rattle.pfs_store_index.specs.Holdings.{Holding};
     ghost use Rattle.pfs_store_index.specs.Ties.{IsTied};
 

@@ -4,13 +4,20 @@
 mod expiring;
 mod flushing;
 mod indexes;
+mod kept;
 mod laws;
 mod limits;
+mod nodes;
 mod placing;
 mod purging;
+mod records;
+mod rounds;
+mod scope_counts;
+mod stays;
 mod stepping;
 mod store;
 mod tallying;
+mod walks;
 
 pub use laws::looks_are_counted;
 pub use store::IndexStore;

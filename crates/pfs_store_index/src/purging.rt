@@ -9,18 +9,20 @@ ghost use Rattle.pfs_store_contract.specs.Leaving.{idled};
 ghost use Rattle.pfs_store_contract.specs.Plain.{AreCounts};
 ghost use Rattle.pfs_store_contract.specs.Purging.{is_among, is_over, node_numbers, node_retention, node_stays, round, share, state_numbers, stays};
 ghost use Rattle.pfs_store_contract.specs.Quiet.{StateStays};
-ghost use Rattle.pfs_store_records.specs.Records.{IsRising};
-ghost use Rattle.pfs_store_records.specs.Walks.{IsWalk, StayUntil, looks_of};
+ghost use Rattle.pfs_store_index.specs.Records.{IsRising};
+ghost use Rattle.pfs_store_index.specs.Walks.{IsWalk, StayUntil, looks_of};
 ghost use Rattle.pfs_store_index.specs.Staying.{NodeHolds, NodesHold, StatesHold};
 ghost use Rattle.pfs_store_index.specs.Stored.{AreUnread, IsNumbered, due_at, is_due};
 ghost use Rattle.pfs_store_index.specs.Rounds.{node_survives, states_survive, waiting};
 
 use crate::expiring::Scaled;
 use crate::indexes::Indexes;
+use crate::nodes::Tally;
+use crate::rounds::Round;
+use crate::walks::Walk;
 use pfs_addr::Meter;
 use pfs_conf_rules::{Config, StateOptions, TimeoutName};
 use pfs_store_contract::NodeScope;
-use pfs_store_records::{Round, Tally, Walk};
 use std::hash::BuildHasher;
 
 /// What a walk did: up to where it went, how many it examined, how many of them left, and up to when the others stay.

@@ -11,10 +11,10 @@ use crate::purging::{
     is_node_round_over, is_state_round_over, node_round, share_of, state_round, walk_nodes,
     walk_states,
 };
+use crate::rounds::Round;
 use pfs_addr::{Addr, FlowKey, Meter, NoMemory, Packet};
 use pfs_conf_rules::{Config, LimitName, RuleNo};
 use pfs_store_contract::{Limit, Slice, State, StateNo, Store, Touched, Watched};
-use pfs_store_records::Round;
 use pfs_track::StatePhase;
 use std::alloc::Global;
 use std::hash::{BuildHasher, BuildHasherDefault, FoldHasher};

@@ -2,7 +2,8 @@
 
 use crate::packets::{A1, S6};
 use crate::texts::configured;
-use pfs_addr::{Addr, parse_addr};
+use pfs_addr::Addr;
+use pfs_addr_text::parse_addr;
 use pfs_conf::TableNo;
 use pfs_eval::{Added, Tables};
 use std::test::Fail;

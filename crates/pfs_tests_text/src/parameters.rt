@@ -2,7 +2,8 @@
 
 ghost use Rattle.std.specs.Prelude.{◌<◌, ◌^◌, length};
 
-use pfs_addr::{Dir, Flags, Proto, parse_flags, parse_ifname, parse_prefix};
+use pfs_addr::{Dir, Flags, Proto, parse_ifname};
+use pfs_addr_text::{parse_flags, parse_prefix};
 use pfs_conf_filters::{
     Head, Hosts, Marks, Parameters, Statement, Verb, read_flags, read_parameters, read_verb,
 };

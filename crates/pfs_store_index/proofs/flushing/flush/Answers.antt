@@ -7,7 +7,7 @@ use Rattle.pfs_store_index.specs.Rounds.{state_survives, waiting_of}
 use Rattle.pfs_store_index.proofs.Idling.{idled-same, step-nodes}
 use Rattle.pfs_store_index.proofs.Leavings.{state_number}
 use Rattle.pfs_store_index.proofs.Storing.{flushed-stays, source-count}
-use Rattle.pfs_store_index.proofs.Walks.{all-examined, at_next, stays-none, stays_by, step-stays, waiting-fewer, waiting-in, waiting-next}
+use Rattle.pfs_store_index.proofs.RisingWalks.{all-examined, at_next, stays-none, stays_by, step-stays, waiting-fewer, waiting-in, waiting-next}
 use Rattle.pfs_store_index.proofs.flushing.flush.Goals as goal
 
 pub loop-number-init : goal.loop-number-init

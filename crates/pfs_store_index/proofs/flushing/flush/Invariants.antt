@@ -3,7 +3,7 @@ use Rattle.std.proofs.Common.{◌≡◌, ◌+◌, ◌-◌, ◌≤◌, length, fi
 use Rattle.pfs_store_contract.specs.Leaving.{idled, is_flushed}
 use Rattle.pfs_store_index.specs.Rounds.{waiting_of}
 use Rattle.pfs_store_index.proofs.Leavings.{state_number}
-use Rattle.pfs_store_index.proofs.Walks.{stays_by}
+use Rattle.pfs_store_index.proofs.RisingWalks.{stays_by}
 use Rattle.pfs_store_index.proofs.flushing.flush.Given as goal
 
 -- of the states of the source, the first are examined and the others wait

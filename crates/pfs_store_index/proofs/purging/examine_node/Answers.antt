@@ -4,7 +4,7 @@ use Rattle.std.proofs.lemmas.Bool.Decides.{nat_tests}
 use Rattle.pfs_store_contract.specs.Purging.{is_over, node_retention}
 use Rattle.pfs_store_index.proofs.Idling.{node_number}
 use Rattle.pfs_store_index.proofs.OneNode.{and_left}
-use Rattle.pfs_store_index.proofs.Walks.{survive-kept, survive-removed}
+use Rattle.pfs_store_index.proofs.RisingWalks.{survive-kept, survive-removed}
 use Rattle.std.proofs.Common.{ℕ, ◌≤◌, List, subst}
 use Rattle.pfs_conf_rules.specs.Configs.{Conf}
 use Rattle.pfs_store_contract.specs.Counts.{node_states}

@@ -1,7 +1,7 @@
 -- Answers of walk_nodes: one node more, and at the end that the share was examined and which nodes stay.
 use Rattle.std.proofs.Common.{◌≡◌, ◌∙◌, List, Some, None, slice_get, option_map, sym, ap, subst, ◌+◌, refl, filter, take, arith, length-take}
 use Rattle.pfs_store_contract.specs.Purging.{is_over, node_numbers, node_stays}
-use Rattle.pfs_store_records.specs.declared.nodes.Tally.{Tally}
+use Rattle.pfs_store_index.specs.declared.nodes.Tally.{Tally}
 use Rattle.pfs_conf_rules.specs.Configs.{Conf}
 use Rattle.pfs_store_contract.specs.Quiet.{NodeStays}
 use Rattle.pfs_store_contract.specs.declared.records.State.{State}
@@ -9,7 +9,7 @@ use Rattle.pfs_store_index.specs.Rounds.{node_survives, waiting}
 use Rattle.pfs_store_index.specs.Staying.{NodeHolds, NodesHold}
 use Rattle.pfs_store_index.proofs.Untils.{hold-none, node-more}
 use Rattle.pfs_store_index.proofs.Idling.{node_number}
-use Rattle.pfs_store_index.proofs.Walks.{all-examined, all-in, all-next, at_next, examined-dropped, examined-taken, stays-none, step-stays}
+use Rattle.pfs_store_index.proofs.RisingWalks.{all-examined, all-in, all-next, at_next, examined-dropped, examined-taken, stays-none, step-stays}
 use Rattle.pfs_store_index.proofs.purging.walk_nodes.Goals as goal
 use Rattle.pfs_store_index.proofs.purging.walk_nodes.Goals.{else-loop-examined-test, then-loop-examined-test+in_default}
 

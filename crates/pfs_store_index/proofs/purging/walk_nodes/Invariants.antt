@@ -4,7 +4,7 @@ use Rattle.pfs_store_contract.specs.Purging.{is_over, node_numbers}
 use Rattle.pfs_store_index.specs.Rounds.{waiting}
 use Rattle.pfs_store_index.specs.Staying.{NodesHold}
 use Rattle.pfs_store_index.proofs.Idling.{node_number}
-use Rattle.pfs_store_index.proofs.Walks.{stays_by}
+use Rattle.pfs_store_index.proofs.RisingWalks.{stays_by}
 use Rattle.pfs_store_index.proofs.purging.walk_nodes.Given as goal
 
 -- of the numbers that waited, the first are examined and the others wait

@@ -12,7 +12,7 @@ use Rattle.pfs_store_index.proofs.Leavings.{state_number}
 use Rattle.pfs_store_index.proofs.Storing.{due-hold, due-stays}
 use Rattle.pfs_store_index.proofs.Untils.{hold-more, hold-none}
 use Rattle.pfs_store_index.proofs.Stretches.{all-more, rest-more, stretch-more}
-use Rattle.pfs_store_index.proofs.Walks.{examined-dropped, examined-taken, stays-none, stays_by}
+use Rattle.pfs_store_index.proofs.RisingWalks.{examined-dropped, examined-taken, stays-none, stays_by}
 use Rattle.pfs_store_index.proofs.purging.walk_states.Goals as goal
 
 abbrev IsStaying : Conf → List ℕ → ℕ → ℕ → State → Type 0

@@ -6,7 +6,7 @@ use Rattle.pfs_store_index.specs.Rounds.{waiting}
 use Rattle.pfs_store_index.specs.Stored.{due_at, is_due}
 use Rattle.pfs_store_index.specs.Staying.{StatesHold}
 use Rattle.pfs_store_index.proofs.Leavings.{state_number}
-use Rattle.pfs_store_index.proofs.Walks.{stays_by}
+use Rattle.pfs_store_index.proofs.RisingWalks.{stays_by}
 use Rattle.pfs_store_index.proofs.purging.walk_states.Given as goal
 
 -- of the numbers that waited, the first are examined and the others wait

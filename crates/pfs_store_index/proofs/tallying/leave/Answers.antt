@@ -5,7 +5,7 @@ use Rattle.pfs_store_index.specs.Ties.{at_node, left_of}
 use Rattle.pfs_store_index.proofs.Leavings.{left-faithful}
 use Rattle.pfs_store_index.proofs.OneNode.{no-scope, none-at, put-at, tallied-at}
 use Rattle.pfs_store_index.proofs.Stands.{rising-tallies}
-use Rattle.pfs_store_records.specs.declared.nodes.Tally.{Tally}
+use Rattle.pfs_store_index.specs.declared.nodes.Tally.{Tally}
 use Rattle.pfs_store_index.proofs.tallying.leave.Goals as goal
 
 pub returns-in-None : goal.returns-in-None

@@ -1,8 +1,8 @@
 -- Answers of meet_at: the node is there, and it alone changes by the packet (`nodes`, `tally`).
 use Rattle.std.proofs.Common.{◌∙◌, Some, ap, sym}
 use Rattle.std.specs.List.{find}
-use Rattle.pfs_store_records.specs.Tallies.{is_tally}
-use Rattle.pfs_store_records.specs.declared.nodes.Tally.{Tally}
+use Rattle.pfs_store_index.specs.Tallies.{is_tally}
+use Rattle.pfs_store_index.specs.declared.nodes.Tally.{Tally}
 use Rattle.pfs_store_index.specs.Ties.{IsFew, IsScored, met_by}
 use Rattle.pfs_store_index.proofs.Meetings.{met-faithful}
 use Rattle.pfs_store_index.proofs.OneNode.{find-at, put-at, scored-found, tallied-at}

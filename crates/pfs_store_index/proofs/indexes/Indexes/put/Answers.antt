@@ -8,8 +8,8 @@ use Rattle.pfs_store_contract.specs.Counts.{is_of_rule, node_scope_of}
 use Rattle.pfs_store_contract.specs.Purging.{node_numbers, state_numbers}
 use Rattle.pfs_store_contract.specs.declared.records.NodeScope.{NodeScope}
 use Rattle.pfs_store_contract.specs.declared.records.State.{State}
-use Rattle.pfs_store_records.specs.Records.{IsAbove, states_of}
-use Rattle.pfs_store_records.specs.Tallies.{nodes_of}
+use Rattle.pfs_store_index.specs.Records.{IsAbove, states_of}
+use Rattle.pfs_store_index.specs.Tallies.{nodes_of}
 use Rattle.pfs_store_index.specs.Holdings.{Holding}
 use Rattle.pfs_store_index.specs.Ties.{IsCounted, IsFew}
 use Rattle.pfs_store_index.proofs.Comings.{few-counted, nodes-came, pair-fresh}

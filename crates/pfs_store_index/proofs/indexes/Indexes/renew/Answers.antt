@@ -9,9 +9,9 @@ use Rattle.pfs_store_contract.specs.Counts.{node_scope_of}
 use Rattle.pfs_store_contract.specs.Touching.{completes_at, connections_in, nodes_touched, renewed, score_in}
 use Rattle.pfs_store_contract.specs.Worlds.{IsUpToNow, lists}
 use Rattle.pfs_store_contract.specs.declared.records.State.{State}
-use Rattle.pfs_store_records.specs.Records.{states_of}
-use Rattle.pfs_store_records.specs.Sourced.{IsSourced}
-use Rattle.pfs_store_records.specs.Tallies.{is_tally, nodes_of}
+use Rattle.pfs_store_index.specs.Records.{states_of}
+use Rattle.pfs_store_index.specs.Sourced.{IsSourced}
+use Rattle.pfs_store_index.specs.Tallies.{is_tally, nodes_of}
 use Rattle.pfs_store_index.specs.Holdings.{Holding}
 use Rattle.pfs_store_index.specs.Ties.{HasTally, IsCounted, IsFew, at_node, met_by}
 use Rattle.pfs_store_index.proofs.Comings.{few-counted}

@@ -6,7 +6,7 @@ use Rattle.pfs_store_contract.specs.Plain.{Plain}
 use Rattle.pfs_store_contract.specs.Purging.{state_numbers, state_round, state_share, state_slice}
 use Rattle.pfs_store_index.proofs.Leavings.{state_number}
 use Rattle.pfs_store_index.proofs.Storing.{few-numbered, stored-without, world-slice}
-use Rattle.pfs_store_index.proofs.Walks.{all-fewer}
+use Rattle.pfs_store_index.proofs.RisingWalks.{all-fewer}
 use Rattle.pfs_store_index.proofs.store.IndexStoreStore.watch_states.Goals as goal
 
 -- the first are no more than all

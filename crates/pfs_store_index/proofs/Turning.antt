@@ -1,0 +1,95 @@
+-- Rounds over the numbers of an ordered map: a slice passes by the next ones, and whole rounds change nothing.
+use Rattle.std.proofs.Common.{◌≡◌, ◌≤◌, ◌<◌, ◌+◌, ◌-◌, ◌/◌, ◌%◌, ◌==◌, ℕ, suc, true, false, List, [], ◌∷◌, ◌++◌, length, drop, filter, refl, ap, subst, sym, ◌∙◌, arith, length-drop, div-add-mod', mod-lt}
+use Rattle.std.specs.List.{AllByRecursion}
+use Rattle.std.specs.Map.{keys_of}
+use Rattle.std.specs.Ordering.{nat_cmp}
+use Rattle.std.specs.BTreeMap.Range.{entries_between}
+use Rattle.std.specs.declared.ops.Bound.TheVariants.{Included, Excluded}
+use Rattle.std.proofs.lemmas.Bool.Decides.{nat_tests}
+use Rattle.pfs_store_contract.specs.Quiet.{turned}
+use Rattle.pfs_store_contract.proofs.Turns.{drop-all, rounds-over, whole-round}
+use Rattle.pfs_store_index.specs.Records.{IsRising, between}
+use Rattle.pfs_store_index.proofs.Walking.{Walking, drop-front, length-keys, map-both, span, span-entries, span-keys, split-span}
+
+not_zero : (n : ℕ) → false ≡ (suc n == 0)
+not_zero n = grind (arith, nat_tests)
+
+module _ {P : Type 0} where
+  -- the numbers of a range
+  abbrev pub among : ℕ → ℕ → List (ℕ × P) → List ℕ
+  among a m es = filter (between a m) (keys_of es)
+
+  among-entries : (a m : ℕ) (es : List (ℕ × P)) → keys_of (entries_between nat_cmp (Excluded a) (Included m) es) ≡ among a m es
+  among-entries a m es = ap keys_of (span-entries a m es) ∙ span-keys a m es
+
+  pub over-none : (a m : ℕ) (es : List (ℕ × P)) → [] ≡ entries_between nat_cmp (Excluded a) (Included m) es → true ≡ (length (among a m es) == 0)
+  over-none a m es e = ap (λ (ks : List ℕ). length ks == 0) (ap keys_of e ∙ among-entries a m es)
+
+  pub over-some : (a m k : ℕ) (p : P) (rest es : List (ℕ × P)) → (k, p) ∷ rest ≡ entries_between nat_cmp (Excluded a) (Included m) es → false ≡ (length (among a m es) == 0)
+  over-some a m k p rest es e = not_zero (length (keys_of rest)) ∙ ap (λ (ks : List ℕ). length ks == 0) (ap keys_of e ∙ among-entries a m es)
+
+  -- ---- those that a walk has passed by
+
+  abbrev pub Passing : List (ℕ × P) → List (ℕ × P) → ℕ → ℕ → ℕ → ℕ → Type 0
+  Passing es left above last most passed = Walking (λ (e : ℕ × P). Unit {0}) es left above last most passed
+
+  pub passed-drop : (es left : List (ℕ × P)) (above last most passed : ℕ) → IsRising (keys_of es) → Passing es left above last most passed
+      → among last most es ≡ drop passed (among above most es)
+  passed-drop es left above last most passed o w =
+      let split : among above most es ≡ among above last es ++ among last most es =
+      sym (span-keys above most es) ∙ ap keys_of (split-span above last most es o w.from w.to) ∙ map-both (span above last es) (span last most es)
+      ∙ (λ i. span-keys above last es i ++ span-keys last most es i) in
+      let count : passed ≡ length (among above last es) = w.count ∙ sym (length-keys (span above last es)) ∙ ap length (span-keys above last es) in
+      sym (drop-front (among above last es) (among last most es)) ∙ (λ i. drop (sym count i) (sym split i))
+
+  -- none is left before the share is used up
+  pub passed-all : (es : List (ℕ × P)) (above last most passed share : ℕ) → IsRising (keys_of es) → Passing es [] above last most passed → passed ≤ share
+      → among last most es ≡ drop share (among above most es)
+  passed-all es above last most passed share o w h =
+      let none : among last most es ≡ [] = sym (ap keys_of w.rest ∙ span-keys last most es) in
+      let e = passed-drop es [] above last most passed o w in
+      none ∙ sym (drop-all share (among above most es) (omega (arith, h, ap length none, ap length e, length-drop passed (among above most es))))
+
+  -- ---- a whole round
+
+  pub round-ends : (es : List (ℕ × P)) (numbers less share : ℕ) → 1 ≤ share → numbers ≡ length (keys_of es) → less ≡ numbers - 1
+      → turned share (keys_of es) (1 + less / share) [] ≡ []
+  round-ends es numbers less share s hn hl =
+      let q = less / share in
+      let parts = div-add-mod' less share in
+      let most = mod-lt less s in
+      let is : 1 + q ≡ suc q = omega arith in
+      ap (λ k. turned share (keys_of es) k []) is
+      ∙ whole-round share q (keys_of es) (omega (arith, parts, hn, hl)) (omega (arith, parts, most, hn, hl))
+
+-- ---- one slice, or all whole rounds
+
+over-empty : (pending : List ℕ) → (length pending == 0) ≡ true → pending ≡ []
+over-empty [] h = refl
+over-empty (p ∷ ps) h = let f = not_zero (length ps) in absurd (cc (f, h))
+
+pub whole-passed : (share whole left : ℕ) (numbers pending : List ℕ) → (length pending == 0) ≡ true → turned share numbers whole [] ≡ []
+    → turned share numbers (left % whole) pending ≡ turned share numbers left pending
+whole-passed share whole left numbers pending h e =
+    let none = over-empty pending h in
+    ap (turned share numbers (left % whole)) none ∙ rounds-over share whole left numbers e ∙ ap (turned share numbers left) (sym none)
+
+in_range : (made n : ℕ) → 1 ≤ n → n ≤ made → between 0 made n ≡ true
+in_range made n l m = grind (arith, nat_tests)
+
+all-numbers : (made : ℕ) (numbers : List ℕ) → AllByRecursion (λ n. (1 ≤ n) × (n ≤ made)) numbers → filter (between 0 made) numbers ≡ numbers
+all-numbers made [] h = refl
+all-numbers made (n ∷ ns) (h, hs) = rw (in_range made n h.0 h.1) (ap (λ ks. n ∷ ks) (all-numbers made ns hs))
+
+-- a new round begins with its first slice
+pub round-begun : (share left made : ℕ) (numbers pending next : List ℕ) → AllByRecursion (λ n. (1 ≤ n) × (n ≤ made)) numbers → 0 < left → (length pending == 0) ≡ true
+    → next ≡ drop share (filter (between 0 made) numbers) → turned share numbers (left - 1) next ≡ turned share numbers left pending
+round-begun share left made numbers pending next n l h e =
+    let more : left ≡ suc (left - 1) = omega (arith, l) in
+    ap (turned share numbers (left - 1)) (e ∙ ap (drop share) (all-numbers made numbers n))
+    ∙ (λ i. turned share numbers (sym more i) (sym (over-empty pending h) i))
+
+-- a round over numbers goes on as over others that are the same
+pub turned-same : (share slices cursor mark most least : ℕ) (ns ks : List ℕ) → ns ≡ ks → filter (between cursor mark) ks ≡ turned share ks slices (filter (between least most) ks)
+    → filter (between cursor mark) ns ≡ turned share ns slices (filter (between least most) ns)
+turned-same share slices cursor mark most least ns ks e h = subst (λ xs. filter (between cursor mark) xs ≡ turned share xs slices (filter (between least most) xs)) (sym e) h

@@ -1,0 +1,6 @@
+-- Answer of Nodes::new: no nodes are `orderly`.
+use Rattle.pfs_store_index.proofs.NodeLaws.{orderly-nil}
+use Rattle.pfs_store_index.proofs.nodes.Nodes.new.Goals as goal
+
+pub returns-clause-orderly : goal.returns-clause-orderly
+returns-clause-orderly g c = rw c.new.ensures.empty orderly-nil

@@ -1,0 +1,172 @@
+//! The source nodes with the counts of their states, found by scope and source, and by number.
+
+ghost use Rattle.std.specs.Prelude.{◌≡◌, ◌<◌, ◌≤◌, ◌++◌, ◌∷◌, [], IfSome, None, OnErr, OnOk, Some, filter, length, map, option_map, slice_get, true};
+ghost use Rattle.std.specs.List.{AllByRecursion, find, list_any};
+ghost use Rattle.pfs_store_contract.specs.Counts.{scope_nodes};
+ghost use Rattle.pfs_store_contract.specs.Purging.{node_numbers};
+ghost use Rattle.pfs_store_contract.specs.Quiet.{turned};
+ghost use Rattle.pfs_store_index.specs.Records.{IsAbove, between};
+ghost use Rattle.pfs_store_index.specs.Tallies.{IsOrderly, IsTallied, has_node_number, is_tally, nodes_of, other_node, put_tally};
+
+use crate::rounds::{Round, turned};
+use crate::scope_counts::ScopeCounts;
+use indexmap::IndexMap;
+use pfs_addr::{Addr, NoMemory};
+use pfs_store_contract::{Node, NodeScope};
+use std::alloc::Global;
+use std::collections::BTreeMap;
+use std::hash::BuildHasher;
+use std::marker::Model;
+use std::ops::Bound;
+
+/// A source node, and what is counted of it.
+#[derive(Debug, Clone, Copy, PartialEq, Eq)]
+pub struct Tally {
+    /// The node.
+    pub node: Node,
+    /// How many states it has.
+    pub states: u64,
+    /// How many of them are connections: their handshake has completed.
+    pub connections: u64,
+}
+
+/// The source nodes by rising number, each with its counts. They are found by a hash of scope and source, of the hasher
+/// that is given.
+#[derive(Drop)]
+pub struct Nodes<S: BuildHasher> {
+    table: IndexMap<(NodeScope, Addr), Tally, S>,
+    order: BTreeMap<u64, (NodeScope, Addr)>,
+    counts: ScopeCounts,
+}
+
+impl<S: BuildHasher> Model for Nodes<S> {
+    ghost use Rattle.std.specs.Prelude.{List};
+    ghost use Rattle.indexmap.specs.IndexMap.{get};
+    ghost use Rattle.pfs_store_index.specs.declared.nodes.Tally.{Tally};
+    ghost use Rattle.pfs_store_index.specs.Keeping.{held, IsNoted, same_place};
+
+    ghost Value = { List Tally };
+
+    ghost view = { λ n. held (get same_place n.table) n.order.entries };
+
+    ghost invariant = { λ n. IsNoted (get same_place n.table) n.order.entries n.counts.rules.items n.counts.global };
+}
+
+impl<S: BuildHasher> Nodes<S> {
+    /// No nodes. They will be found by hashes of this hasher. It takes no memory.
+    pub fn new(alloc: Global, hasher: S) -> Nodes<S>
+        ensures nodes { result ≡ [] }
+        ensures orderly { IsOrderly result }
+    {
+        Nodes {
+            table: IndexMap::with_hasher(alloc, hasher),
+            order: BTreeMap::new(alloc),
+            counts: ScopeCounts::new(alloc),
+        }
+    }
+
+    /// How many nodes there are. It takes no memory.
+    pub fn len(&self) -> u64
+        ensures value { result ≡ length self.now }
+        ensures orderly { IsOrderly self.now }
+    {
+        self.order.len() as u64
+    }
+
+    /// How many nodes of a scope there are. It takes no memory.
+    pub fn count(&self, scope: NodeScope) -> u64
+        ensures { result ≡ scope_nodes scope (nodes_of self.now) }
+    {
+        self.counts.get(scope)
+    }
+
+    /// The tally of the node of a scope and source, where there is one. It takes no memory.
+    pub fn get(&self, scope: NodeScope, source: Addr) -> Option<Tally>
+        ensures { result ≡ find (is_tally scope source) self.now }
+    {
+        self.table.get(&(scope, source)).copied()
+    }
+
+    /// The tally of the node of the least number above `above`, and up to `most`. It takes no memory.
+    pub fn next_between(&self, above: u64, most: u64) -> Option<Tally>
+        requires { above ≤ most }
+        ensures number { option_map (λ t. t.node.number) result
+            ≡ slice_get (filter (between above most) (node_numbers (nodes_of self.now))) 0 }
+        ensures tally { IfSome result (λ t. find (has_node_number t.node.number) self.now ≡ Some t) }
+    {
+        match self
+            .order
+            .range((Bound::Excluded(above), Bound::Included(most)))
+            .next()
+        {
+            Some((_, place)) => self.table.get(place).copied(),
+            None => None,
+        }
+    }
+
+    /// The round after so many slices, while no node comes or goes: each passes by the next numbers of the round, `share` at
+    /// most, or by the first of a new one, up to `made`. It takes no memory.
+    pub fn turned(&self, round: Round, share: u64, made: u64, slices: u64) -> Round
+        requires numbered { AllByRecursion (λ n. (1 ≤ n) × (n ≤ made)) (node_numbers (nodes_of self.now)) }
+        requires order { round.cursor ≤ round.mark }
+        requires mark { round.mark ≤ made }
+        requires share { 1 ≤ share }
+        ensures order { result.cursor ≤ result.mark }
+        ensures mark { result.mark ≤ made }
+        ensures waiting { filter (between result.cursor result.mark) (node_numbers (nodes_of self.now))
+            ≡ turned share (node_numbers (nodes_of self.now)) slices (filter (between round.cursor round.mark) (node_numbers (nodes_of self.now))) }
+    {
+        turned(&self.order, round, share, made, slices)
+    }
+
+    /// Adds a node, whose number is above all others and whose scope and source no other has, with its counts. `NoMemory`
+    /// is answered where memory for it is refused, and then nothing changes.
+    pub fn push(&mut self, tally: Tally) -> Result<(), NoMemory>
+        requires absent { find (is_tally tally.node.scope tally.node.source) self.old ≡ None }
+        requires above { IsAbove tally.node.number (node_numbers (nodes_of self.old)) }
+        ensures ok { OnOk result (self.new ≡ self.old ++ tally ∷ []) }
+        ensures err { OnErr result (self.new ≡ self.old) }
+        ensures orderly { IsOrderly self.new }
+    {
+        // That no count is near the greatest number is known of the order, and told here.
+        let _count = self.order.len();
+        let place = (tally.node.scope, tally.node.source);
+        self.counts.make_room(tally.node.scope)?;
+        self.table.reserve(1)?;
+        self.order.insert(tally.node.number, place)?;
+        match self.table.insert(place, tally) {
+            Ok(_) => {
+                self.counts.add(tally.node.scope);
+                Ok(())
+            }
+            Err(_) => unreachable!(),
+        }
+    }
+
+    /// Writes a tally in the place of the one that its node has. It takes no memory.
+    pub fn write(&mut self, tally: Tally)
+        requires { IsTallied tally self.old }
+        ensures nodes { self.new ≡ map (put_tally tally) self.old }
+        ensures orderly { IsOrderly self.new }
+    {
+        match self.table.get_mut(&(tally.node.scope, tally.node.source)) {
+            Some(found) => *found = tally,
+            None => unreachable!(),
+        }
+    }
+
+    /// Removes the node of this number, of which there is one. It takes no memory.
+    pub fn remove(&mut self, number: u64)
+        requires { list_any (has_node_number number) self.old ≡ true }
+        ensures nodes { self.new ≡ filter (other_node number) self.old }
+        ensures orderly { IsOrderly self.new }
+    {
+        match self.order.remove(&number) {
+            Some(place) => {
+                self.table.swap_remove(&place);
+                self.counts.take(place.0);
+            }
+            None => unreachable!(),
+        }
+    }
+}

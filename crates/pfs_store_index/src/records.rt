@@ -1,0 +1,266 @@
+//! The records of states: the one module that reads a record, and ticks the meter for it.
+
+ghost use Rattle.std.specs.Prelude.{◌≡◌, ◌+◌, ◌-◌, ◌<◌, ◌≤◌, ◌^◌, ◌==◌, ◌++◌, ◌∷◌, [], IfOk, IfSome, OnErr, OnOk, Some, filter, length, map, slice_get, true};
+ghost use Rattle.std.specs.List.{AllByRecursion, find, list_any};
+ghost use Rattle.slab.specs.Slab.{ContainsKey, get};
+ghost use Rattle.pfs_store_contract.specs.Calls.{other_than};
+ghost use Rattle.pfs_store_contract.specs.Purging.{state_numbers};
+ghost use Rattle.pfs_store_contract.specs.Quiet.{turned};
+ghost use Rattle.pfs_store_contract.specs.Worlds.{holds_number};
+ghost use Rattle.pfs_store_index.specs.Keeping.{AreInPlace, held, number_in, place_of_record, record_in};
+ghost use Rattle.pfs_store_index.specs.Sourced.{IsSourced};
+ghost use Rattle.pfs_store_index.specs.Walks.{IsWalk, StayUntil, end_of, state_has_expired, looks_of};
+ghost use Rattle.pfs_store_index.specs.Records.{IsAbove, IsRecordAt, IsRising, between, is_placed, leaves_number, placed_at, put, put_state, stands_at, states_of};
+
+use crate::kept::Kept;
+use crate::rounds::{Round, turned};
+use crate::stays::{Stay, stay_of, stays_until};
+use crate::walks::{Lifetimes, Walk};
+use pfs_addr::{Meter, NoMemory};
+use pfs_store_contract::State;
+use slab::Slab;
+use std::alloc::Global;
+use std::collections::BTreeMap;
+use std::marker::Model;
+use std::ops::Bound;
+
+/// The records of the states that are held, by rising number. Callers see each with the place at which it stands, which it
+/// keeps until it is removed. To read a record is a look, and ticks the meter.
+#[derive(Drop)]
+pub struct Records {
+    slab: Slab<Kept>,
+    places: BTreeMap<u64, usize>,
+}
+
+impl Model for Records {
+    ghost use Rattle.std.specs.Prelude.{List};
+    ghost use Rattle.pfs_store_index.specs.Records.{Placed};
+    ghost use Rattle.pfs_store_index.specs.Keeping.{AreInPlace, held, number_in, place_of_record, record_in};
+
+    ghost Value = { List Placed };
+
+    ghost view = { λ r. held (record_in r.slab) r.places.entries };
+
+    ghost invariant = { λ r. AreInPlace number_in place_of_record (record_in r.slab) r.places.entries };
+}
+
+impl Records {
+    /// No records. It takes no memory.
+    pub fn new(alloc: Global) -> Records
+        ensures { result ≡ [] }
+    {
+        Records {
+            slab: Slab::new(alloc),
+            places: BTreeMap::new(alloc),
+        }
+    }
+
+    /// How many records there are. It takes no memory.
+    pub fn len(&self) -> u64
+        ensures value { result ≡ length self.now }
+        ensures rising { IsRising (state_numbers (states_of self.now)) }
+    {
+        self.places.len() as u64
+    }
+
+    /// The least number above `above`, and up to `most`, that a record has. It is no look, and takes no memory.
+    pub fn next_between(&self, above: u64, most: u64) -> Option<u64>
+        requires { above ≤ most }
+        ensures { result ≡ slice_get (filter (between above most) (state_numbers (states_of self.now))) 0 }
+    {
+        match self
+            .places
+            .range((Bound::Excluded(above), Bound::Included(most)))
+            .next()
+        {
+            Some((number, _)) => Some(*number),
+            None => None,
+        }
+    }
+
+    /// The state of this number, of which there is a record: one look, and one search by number. It takes no memory.
+    pub fn read(&self, number: u64, meter: &mut Meter) -> State
+        requires held { holds_number (states_of self.now) number ≡ true }
+        requires room { meter.old < 2 ^ 64 - 1 }
+        ensures value { Some result ≡ find (λ s. s.number == number) (states_of self.now) }
+        ensures small { result.number < 2 ^ 32 }
+        ensures looks { meter.new ≡ meter.old + 1 }
+    {
+        match self.places.get(&number) {
+            Some(place) => look(&self.slab, *place, meter).state(),
+            None => unreachable!(),
+        }
+    }
+
+    /// The state of the record that stands at this place: one look, and no search. It takes no memory.
+    pub fn read_at(&self, place: usize, meter: &mut Meter) -> State
+        requires held { list_any (stands_at place) self.now ≡ true }
+        requires room { meter.old < 2 ^ 64 - 1 }
+        ensures value { IsRecordAt place result self.now }
+        ensures sourced { IsSourced result }
+        ensures small { result.number < 2 ^ 32 }
+        ensures looks { meter.new ≡ meter.old + 1 }
+    {
+        look(&self.slab, place, meter).state()
+    }
+
+    /// Walks over the records that are still to be examined in a round, from the least number on: over at most `share` of
+    /// them, and up to the first whose state has expired at the second `now`. Each is one look, and all are found by one
+    /// search. It takes no memory.
+    pub fn walk<T: Lifetimes>(
+        &self,
+        round: Round,
+        share: u64,
+        now: u64,
+        lifetimes: &T,
+        meter: &mut Meter,
+    ) -> Walk
+        requires range { round.cursor ≤ round.mark }
+        requires room { meter.old + share < 2 ^ 64 }
+        ensures walk { IsWalk (state_has_expired (T.lifetime lifetimes.now) now) (states_of self.now) round.cursor round.mark share
+            result.stayed result.last result.leaver }
+        ensures until { StayUntil (end_of (T.lifetime lifetimes.now)) (states_of self.now) round.cursor result.last result.until }
+        ensures small { IfSome result.leaver (λ s. s.number < 2 ^ 32) }
+        ensures looks { meter.new ≡ meter.old + looks_of result.stayed result.leaver }
+    {
+        walk_range(
+            &self.slab,
+            &self.places,
+            round,
+            share,
+            now,
+            lifetimes,
+            meter,
+        )
+    }
+
+    /// The round after so many slices, while no record comes or goes: each passes by the next numbers of the round, `share` at
+    /// most, or by the first of a new one, up to `made`. It is no look, and takes no memory.
+    pub fn turned(&self, round: Round, share: u64, made: u64, slices: u64) -> Round
+        requires numbered { AllByRecursion (λ n. (1 ≤ n) × (n ≤ made)) (state_numbers (states_of self.now)) }
+        requires order { round.cursor ≤ round.mark }
+        requires mark { round.mark ≤ made }
+        requires share { 1 ≤ share }
+        ensures order { result.cursor ≤ result.mark }
+        ensures mark { result.mark ≤ made }
+        ensures waiting { filter (between result.cursor result.mark) (state_numbers (states_of self.now))
+            ≡ turned share (state_numbers (states_of self.now)) slices (filter (between round.cursor round.mark) (state_numbers (states_of self.now))) }
+    {
+        turned(&self.places, round, share, made, slices)
+    }
+
+    /// Writes a state into the record of its number, which stands at this place. It is no look, and takes no memory.
+    pub fn write_at(&mut self, place: usize, state: State)
+        requires placed { list_any (is_placed state.number place) self.old ≡ true }
+        requires sourced { IsSourced state }
+        requires small { state.number < 2 ^ 32 }
+        ensures records { self.new ≡ map (put state) self.old }
+        ensures states { states_of self.new ≡ map (put_state state) (states_of self.old) }
+        ensures rising { IsRising (state_numbers (states_of self.new)) }
+    {
+        self.slab[place] = Kept::of(&state);
+    }
+
+    /// Adds the record of a state whose number is above all others, and answers its place. `NoMemory` is answered where
+    /// memory for it is refused, and then nothing changes.
+    pub fn push(&mut self, state: &State) -> Result<usize, NoMemory>
+        requires above { IsAbove state.now.number (state_numbers (states_of self.old)) }
+        requires sourced { IsSourced state.now }
+        requires small { state.now.number < 2 ^ 32 }
+        ensures records { IfOk result (λ place. self.new ≡ self.old ++ placed_at place state.now ∷ []) }
+        ensures states { OnOk result (states_of self.new ≡ states_of self.old ++ state.now ∷ []) }
+        ensures err { OnErr result (self.new ≡ self.old) }
+        ensures rising { IsRising (state_numbers (states_of self.new)) }
+    {
+        self.slab.reserve(1)?;
+        let place = self.slab.vacant_key();
+        self.places.insert(state.number, place)?;
+        // The proof needs the types of a key named here.
+        let key = &state.key;
+        let _proto = &key.proto;
+        Ok(self.slab.insert_reserved(Kept::of(state)))
+    }
+
+    /// Removes the record of this number, of which there is one. It is no look, and takes no memory.
+    pub fn remove(&mut self, number: u64)
+        requires { holds_number (states_of self.old) number ≡ true }
+        ensures records { self.new ≡ filter (leaves_number number) self.old }
+        ensures states { states_of self.new ≡ filter (other_than number) (states_of self.old) }
+        ensures rising { IsRising (state_numbers (states_of self.new)) }
+    {
+        match self.places.remove(&number) {
+            Some(place) => {
+                self.slab.remove(place);
+            }
+            None => unreachable!(),
+        }
+    }
+}
+
+/// Reads the record at a place: the one look.
+fn look<'a>(slab: &'a Slab<Kept>, place: usize, meter: &mut Meter) -> &'a Kept
+    requires held { ContainsKey slab.now place }
+    requires room { meter.old < 2 ^ 64 - 1 }
+    ensures value { get slab.now place ≡ Some result.now }
+    ensures looks { meter.new ≡ meter.old + 1 }
+{
+    meter.tick();
+    &slab[place]
+}
+
+fn walk_range<T: Lifetimes>(
+    slab: &Slab<Kept>,
+    places: &BTreeMap<u64, usize>,
+    round: Round,
+    share: u64,
+    now: u64,
+    lifetimes: &T,
+    meter: &mut Meter,
+) -> Walk
+    requires kept { AreInPlace number_in place_of_record (record_in slab.now) places.now.entries }
+    requires range { round.cursor ≤ round.mark }
+    requires room { meter.old + share < 2 ^ 64 }
+    ensures walk { IsWalk (state_has_expired (T.lifetime lifetimes.now) now) (states_of (held (record_in slab.now) places.now.entries)) round.cursor round.mark share
+        result.stayed result.last result.leaver }
+    ensures until { StayUntil (end_of (T.lifetime lifetimes.now)) (states_of (held (record_in slab.now) places.now.entries)) round.cursor result.last result.until }
+    ensures small { IfSome result.leaver (λ s. s.number < 2 ^ 32) }
+    ensures looks { meter.new ≡ meter.old + looks_of result.stayed result.leaver }
+{
+    let mut rest = places.range((Bound::Excluded(round.cursor), Bound::Included(round.mark)));
+    let mut stayed = 0;
+    let mut last = round.cursor;
+    let mut until = u64::MAX;
+    let mut known: Option<Stay> = None;
+    while stayed < share {
+        let Some((number, place)) = rest.next() else {
+            return Walk {
+                stayed,
+                last,
+                until,
+                leaver: None,
+            };
+        };
+        let kept = look(slab, *place, meter);
+        let stay = stay_of(lifetimes, kept, known);
+        known = Some(stay);
+        match stays_until(kept, stay.seconds, now) {
+            Some(moment) => until = until.min(moment),
+            None => {
+                return Walk {
+                    stayed,
+                    last,
+                    until,
+                    leaver: Some(kept.state()),
+                };
+            }
+        }
+        stayed += 1;
+        last = *number;
+    }
+    Walk {
+        stayed,
+        last,
+        until,
+        leaver: None,
+    }
+}

@@ -1,0 +1,154 @@
+//! Rounds of the purge: the numbers of a range in turn, so many in each slice.
+
+ghost use Rattle.std.specs.Prelude.{◌≡◌, ◌+◌, ◌-◌, ◌<◌, ◌≤◌, ◌==◌, [], drop, filter, length};
+ghost use Rattle.std.specs.List.{AllByRecursion};
+ghost use Rattle.std.specs.Map.{keys_of};
+ghost use Rattle.pfs_store_contract.specs.Purging.{round};
+ghost use Rattle.pfs_store_contract.specs.Quiet.{turned};
+ghost use Rattle.pfs_store_index.specs.Records.{IsRising, between};
+
+use std::collections::BTreeMap;
+use std::ops::Bound;
+
+/// What has a number above the cursor, and up to the mark, is still to be examined.
+#[derive(Debug, Clone, Copy, PartialEq, Eq)]
+pub struct Round {
+    /// The number of the last that was examined, or one below all.
+    pub cursor: u64,
+    /// The greatest number that the round may have.
+    pub mark: u64,
+}
+
+/// A round that went on, and how many slices are still to be done.
+#[derive(Clone, Copy)]
+struct Turn {
+    round: Round,
+    left: u64,
+}
+
+/// The round after so many slices in which nothing leaves. It takes no memory.
+pub(crate) fn turned<V>(
+    places: &BTreeMap<u64, V>,
+    round: Round,
+    share: u64,
+    made: u64,
+    slices: u64,
+) -> Round
+    requires rising { IsRising (keys_of places.now.entries) }
+    requires numbered { AllByRecursion (λ n. (1 ≤ n) × (n ≤ made)) (keys_of places.now.entries) }
+    requires order { round.cursor ≤ round.mark }
+    requires mark { round.mark ≤ made }
+    requires share { 1 ≤ share }
+    ensures order { result.cursor ≤ result.mark }
+    ensures mark { result.mark ≤ made }
+    ensures waiting { filter (between result.cursor result.mark) (keys_of places.now.entries)
+        ≡ turned share (keys_of places.now.entries) slices (filter (between round.cursor round.mark) (keys_of places.now.entries)) }
+{
+    let mut round = round;
+    let mut left = slices;
+    while left > 0 {
+        let turn = go_on(places, round, share, made, left);
+        round = turn.round;
+        left = turn.left;
+    }
+    round
+}
+
+// One slice; or all whole rounds, where one is over.
+fn go_on<V>(places: &BTreeMap<u64, V>, round: Round, share: u64, made: u64, left: u64) -> Turn
+    requires rising { IsRising (keys_of places.now.entries) }
+    requires numbered { AllByRecursion (λ n. (1 ≤ n) × (n ≤ made)) (keys_of places.now.entries) }
+    requires order { round.cursor ≤ round.mark }
+    requires mark { round.mark ≤ made }
+    requires share { 1 ≤ share }
+    requires some { 0 < left }
+    ensures order { result.round.cursor ≤ result.round.mark }
+    ensures mark { result.round.mark ≤ made }
+    ensures less { result.left < left }
+    ensures waiting { turned share (keys_of places.now.entries) result.left (filter (between result.round.cursor result.round.mark) (keys_of places.now.entries))
+        ≡ turned share (keys_of places.now.entries) left (filter (between round.cursor round.mark) (keys_of places.now.entries)) }
+{
+    if is_over(places, round) {
+        let whole = whole_round(places, share);
+        if whole <= left {
+            Turn {
+                round,
+                left: left % whole,
+            }
+        } else {
+            let begun = Round {
+                cursor: 0,
+                mark: made,
+            };
+            Turn {
+                round: sliced(places, begun, share),
+                left: left - 1,
+            }
+        }
+    } else {
+        Turn {
+            round: sliced(places, round, share),
+            left: left - 1,
+        }
+    }
+}
+
+// How many slices a whole round has; one where there is no number.
+fn whole_round<V>(places: &BTreeMap<u64, V>, share: u64) -> u64
+    requires share { 1 ≤ share }
+    ensures some { 1 ≤ result }
+    ensures whole { turned share (keys_of places.now.entries) result [] ≡ [] }
+{
+    let numbers = places.len() as u64;
+    1 + numbers.saturating_sub(1) / share
+}
+
+fn is_over<V>(places: &BTreeMap<u64, V>, round: Round) -> bool
+    requires order { round.cursor ≤ round.mark }
+    ensures { result ≡ (length (filter (between round.cursor round.mark) (keys_of places.now.entries)) == 0) }
+{
+    match places
+        .range((Bound::Excluded(round.cursor), Bound::Included(round.mark)))
+        .next()
+    {
+        Some(_) => false,
+        None => true,
+    }
+}
+
+// The round after a slice: the next numbers, so many at most, are passed by.
+fn sliced<V>(places: &BTreeMap<u64, V>, round: Round, share: u64) -> Round
+    requires rising { IsRising (keys_of places.now.entries) }
+    requires order { round.cursor ≤ round.mark }
+    ensures order { result.cursor ≤ result.mark }
+    ensures mark { result.mark ≡ round.mark }
+    ensures waiting { filter (between result.cursor result.mark) (keys_of places.now.entries)
+        ≡ drop share (filter (between round.cursor round.mark) (keys_of places.now.entries)) }
+{
+    Round {
+        cursor: passed(places, round.cursor, round.mark, share),
+        mark: round.mark,
+    }
+}
+
+// The last of the next numbers above one and up to another, so many at most.
+fn passed<V>(places: &BTreeMap<u64, V>, above: u64, most: u64, share: u64) -> u64
+    requires rising { IsRising (keys_of places.now.entries) }
+    requires range { above ≤ most }
+    ensures from { above ≤ result }
+    ensures to { result ≤ most }
+    ensures rest { filter (between result most) (keys_of places.now.entries)
+        ≡ drop share (filter (between above most) (keys_of places.now.entries)) }
+{
+    let mut rest = places.range((Bound::Excluded(above), Bound::Included(most)));
+    let mut passed = 0;
+    let mut last = above;
+    while passed < share {
+        let Some((number, _)) = rest.next() else {
+            return last;
+        };
+        last = *number;
+        passed += 1;
+    }
+    last
+}

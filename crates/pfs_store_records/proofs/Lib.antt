@@ -1,5 +1,0 @@
-pub mod Ordered
-pub mod RecordLaws
-pub mod NodeLaws
-pub mod Walking
-pub mod Turning
