@@ -1,3 +1,4 @@
 pub mod Checking
 pub mod Replaying
 pub mod Ruling
+pub mod Telling

@@ -1,12 +1,10 @@
 -- From the records of a trace to a replay, and what is kept of a rules text.
-use Rattle.std.proofs.Common.{◌≡◌, ◌≢◌, ◌≤◌, ◌<◌, ◌+◌, ◌++◌, ◌∙◌, ℕ, List, [], length, drop, Option, Some, None, Bool, true, false, refl, sym, ap, subst, arith, inl, inr}
-use Rattle.std.proofs.Math.Seq.{drop-append_seam, drop-append-add}
+use Rattle.std.proofs.Common.{◌≡◌, ◌≢◌, ◌≤◌, ◌<◌, ◌∙◌, ℕ, List, [], length, None, Bool, true, false, refl, sym, ap, subst, arith, inl, inr}
 use Rattle.std.specs.Prelude.{IsErrAnd, Result, Ok, Err, nat_lt}
 use Rattle.std.proofs.lemmas.Bool.Decides.{nat_tests}
 use Rattle.std.proofs.lemmas.List.{append-nil}
 use Rattle.pfs_cli_report.specs.Traces.{trace_of}
-use Rattle.pfs_cli_records.proofs.Telling.{first-lines-begin, whole-report}
-use Rattle.std.specs.Io.KnownBytes.{Consumes}
+use Rattle.pfs_cli.proofs.Telling.{first-lines-begin, whole-report}
 use Rattle.pfs_cli_report.specs.declared.faults.TraceFault.{TraceFault}
 use Rattle.pfs_cli_report.specs.declared.faults.TraceFault.TheVariants as trace
 use Rattle.pfs_cli.specs.declared.faults.ReplayFault.{ReplayFault}
@@ -16,12 +14,12 @@ use Rattle.pfs_conf_rules.specs.Configs.{Conf}
 use Rattle.pfs_conf.specs.Kinds.{no_memory}
 use Rattle.pfs_conf.specs.Reads.{Reads}
 use Rattle.pfs_conf.specs.Faults.{IsFault, memory, long, breaks, stops}
-use Rattle.pfs_cli_records.specs.declared.records.Stop.TheVariants as stop
+use Rattle.pfs_cli.specs.declared.records.Stop.TheVariants as stop
 use Rattle.pfs_cli.specs.Faults.{replay_fault}
 use Rattle.pfs_cli_streams.specs.Kept.{KeepsEnough, rules_limit}
 use Rattle.pfs_cli.specs.Rules.{AreRefused}
 use Rattle.pfs_cli_report.specs.Reports.{AreFirstLines, BeginsReport}
-use Rattle.pfs_cli_records.specs.Turns.{Tells}
+use Rattle.pfs_cli.specs.Turns.{Tells}
 use Rattle.pfs_cli.specs.Refusing.{RefusesRules, IsFeedFault}
 use Rattle.pfs_cli.specs.Replays.{Replays}
 
@@ -58,15 +56,6 @@ rules-cut rs ts f kind = elim kind [
   | inl e ↦ rw e (inl refl)
   | inr m ↦ elim m [ inl e ↦ rw e (inl refl) | inr e ↦ rw e (inl refl) ]
 ]
-
--- what a read took is off the front of what was left
-pub left-after : (old new : Option (List ℕ)) (rs text bs ys : List ℕ) → old ≡ Some ys → rs ≡ text ++ ys → Consumes old new bs → new ≡ Some (drop (length text + length bs) rs)
-left-after None new rs text bs ys e all took = cc
-left-after (Some xs) None rs text bs ys e all took = absurd took
-left-after (Some xs) (Some zs) rs text bs ys e all took =
-    let same : xs ≡ ys = cc in
-    let rest : drop (length text + length bs) (text ++ (bs ++ zs)) ≡ zs = drop-append-add text (bs ++ zs) (length bs) ∙ drop-append_seam bs zs in
-    rw (all, ← same, took, rest) refl
 
 -- a text that is no longer than it may be is kept whole
 pub kept-short : (kept text : List ℕ) → KeepsEnough kept text → length kept ≤ rules_limit → kept ≡ text

@@ -4,3 +4,4 @@ pub mod Performing
 pub mod Refusing
 pub mod Replays
 pub mod Rules
+pub mod Turns

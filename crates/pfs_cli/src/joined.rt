@@ -13,7 +13,7 @@ use crate::faults::ReplayFault;
 use crate::replays::{feed_fault, finish};
 use crate::reports::write_report;
 use crate::rules::load_config;
-use pfs_cli_streams::{Feed, JoinStop, Sink, read_joined};
+use pfs_cli_streams::{Feed, RulesStop, Sink, read_joined};
 use std::alloc::Global;
 use std::io::{BufReader, Read, Write};
 
@@ -43,8 +43,8 @@ pub fn replay_joined<R: Read, W: Write>(
     };
     let text = match read_joined(alloc, &mut reader) {
         Ok(text) => text,
-        Err(JoinStop::Memory) => return Err(ReplayFault::Memory),
-        Err(JoinStop::Source) => {
+        Err(RulesStop::Memory) => return Err(ReplayFault::Memory),
+        Err(RulesStop::Source) => {
             drop(reader);
             return Err(feed_fault(input));
         }

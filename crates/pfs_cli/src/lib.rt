@@ -5,7 +5,9 @@
 mod checks;
 mod faults;
 mod joined;
+mod machine;
 mod performing;
+mod records;
 mod replays;
 mod reports;
 mod rules;
@@ -17,4 +19,6 @@ pub use performing::perform;
 pub use pfs_cli_jobs::{Job, job};
 pub use pfs_cli_streams::{Feed, Sink};
 pub use pfs_conf::{Kind, LoadFault};
+pub use records::Stop;
 pub use replays::replay;
+pub use reports::write_report_over;

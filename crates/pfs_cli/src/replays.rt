@@ -7,7 +7,7 @@ ghost use Rattle.pfs_cli_streams.specs.Sinks.{bytes_held, write_failures};
 ghost use Rattle.pfs_conf_rules.specs.Configs.{Conf};
 ghost use Rattle.pfs_conf.specs.declared.faults.LoadFault.{LoadFault};
 ghost use Rattle.pfs_conf.specs.Reads.{Reads};
-ghost use Rattle.pfs_cli_records.specs.Turns.{Tells};
+ghost use Rattle.pfs_cli.specs.Turns.{Tells};
 ghost use Rattle.pfs_cli_streams.specs.Kept.{KeepsEnough, rules_limit};
 ghost use Rattle.pfs_cli.specs.Rules.{AreRefused};
 ghost use Rattle.pfs_cli.specs.Refusing.{IsFeedFault};
@@ -15,10 +15,10 @@ ghost use Rattle.pfs_cli_report.specs.Traces.{trace_of};
 ghost use Rattle.pfs_cli.specs.Replays.{Replays};
 
 use crate::faults::{ReplayFault, of_trace};
+use crate::records::Stop;
 use crate::reports::write_report;
 use crate::rules::load_config;
-use pfs_cli_records::Stop;
-use pfs_cli_streams::{Feed, RULES_LIMIT, Sink};
+use pfs_cli_streams::{Feed, RulesStop, Sink, read_rules};
 use std::alloc::Global;
 use std::io::{Read, Write};
 
@@ -64,21 +64,11 @@ pub(crate) fn read_text<R: Read>(alloc: Global, rules: &mut Feed<R>) -> Result<V
     ensures read { result ≡ Err ReplayFault.Read → 0 < read_failures rules.new }
     ensures endless { result ≡ Err ReplayFault.Endless → IsSpent rules.new }
 {
-    let mut text = Vec::new(alloc);
-    let mut chunk = [0; 4096];
-    'chunks: while text.len() <= RULES_LIMIT {
-        let room = chunk.len().min(RULES_LIMIT + 1 - text.len());
-        match rules.read(&mut chunk[..room]) {
-            Ok(0) => return Ok(text),
-            Ok(n) => {
-                if text.extend_from_slice(&chunk[..n]).is_err() {
-                    return Err(ReplayFault::Memory);
-                }
-            }
-            Err(_) => return Err(feed_fault(rules)),
-        }
+    match read_rules(alloc, rules) {
+        Ok(text) => Ok(text),
+        Err(RulesStop::Memory) => Err(ReplayFault::Memory),
+        Err(RulesStop::Source) => Err(feed_fault(rules)),
     }
-    Ok(text)
 }
 
 // Flushes a report that is written whole, or tells why it is not.

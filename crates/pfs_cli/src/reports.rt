@@ -1,22 +1,58 @@
-//! The report of a trace under a configuration, over the kind of store that a replay has.
+//! The report of a trace under a configuration: over any store, and over the kind of store that a replay has.
 
 ghost use Rattle.std.specs.Prelude.{◌≡◌, Some, Err, ◌<◌, ℕ, List};
 ghost use Rattle.std.specs.Io.KnownBytes.{Appends};
 ghost use Rattle.pfs_cli_streams.specs.Sinks.{bytes_held, write_failures};
 ghost use Rattle.pfs_cli_report.specs.Reading.{records_of};
 ghost use Rattle.pfs_cli_report.specs.Traces.{events_of};
-ghost use Rattle.pfs_cli_records.specs.Turns.{Tells};
+ghost use Rattle.pfs_track.specs.Worlds.{empty_world};
+ghost use Rattle.pfs_cli.specs.Turns.{Tells};
 
-use pfs_cli_records::{Stop, write_report_over};
+use crate::records::{Stop, tell_records};
 use pfs_cli_streams::Sink;
 use pfs_conf_rules::Config;
+use pfs_engine::Engine;
 use pfs_store_index::IndexStore;
+use pfs_track::Store;
 use std::alloc::Global;
 use std::hash::{BuildHasherDefault, FoldHasher};
 use std::io::{Read, Write};
 
 /// The store of a replay; here alone is it said what kind it is.
 type TraceStore = IndexStore<BuildHasherDefault<FoldHasher>>;
+
+/// Reads the trace of `source`, and writes its report under a configuration: the line of each record
+/// before the next is read, and the last line, with what is held. Nothing is flushed. What is held is kept in an empty store
+/// that was made for the configuration, and is given up at the end.
+///
+/// What is written at a stop:
+///
+/// - `Fault`: the lines of the records before the first faulty one, whose fault it is; of a faulty header
+///   none.
+/// - `Source`, `Memory`: the lines of the first records.
+/// - `Write`: a front of the report. It is told only where `out` has counted a failure.
+///
+/// Memory is taken for the states, the source nodes and the table entries that are held, and for one
+/// record and one line, however long the trace is.
+pub fn write_report_over<H: Store + Drop, S: Read + Drop, W: Write>(
+    alloc: Global,
+    config: Config,
+    store: H,
+    source: S,
+    out: &mut Sink<W>,
+) -> Result<(), Stop>
+    requires empty { H.world store ≡ empty_world }
+    requires made_for { H.config store ≡ config }
+    ensures tells { (xs : List ℕ) → S.remaining source ≡ Some xs →
+        ((t : List ℕ) × Appends (bytes_held W.contents out.old) (bytes_held W.contents out.new) t
+        × Tells config (events_of config (records_of xs)) t result) }
+    ensures fails { result ≡ Err (Stop.Write) → 0 < write_failures out.new }
+{
+    match Engine::new(alloc, config, store) {
+        Ok(mut engine) => tell_records(alloc, source, &mut engine, out),
+        Err(_) => Err(Stop::Memory),
+    }
+}
 
 // Writes the report of the trace that `source` gives, over a new store.
 pub(crate) fn write_report<S: Read + Drop, W: Write>(

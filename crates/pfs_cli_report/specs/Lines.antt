@@ -2,8 +2,8 @@
 use Rattle.std.specs.Prelude.{◌++◌, ℕ, Bool, true, false, List, codes, Option, Some, None}
 use Rattle.std.specs.Fmt.{decimal}
 use Rattle.pfs_conf_rules.specs.declared.items.RuleNo.{RuleNo}
-use Rattle.pfs_store_contract.specs.declared.records.Limit.{Limit}
-use Rattle.pfs_store_contract.specs.declared.records.Limit.TheVariants as limit
+use Rattle.pfs_track.specs.declared.records.Limit.{Limit}
+use Rattle.pfs_track.specs.declared.records.Limit.TheVariants as limit
 use Rattle.pfs_engine_machine.specs.Sources.{Addition, by_addition}
 use Rattle.pfs_engine_machine.specs.declared.events.Outcome.{Outcome}
 use Rattle.pfs_engine_machine.specs.declared.events.Outcome.TheVariants as outcome

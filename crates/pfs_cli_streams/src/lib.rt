@@ -1,12 +1,14 @@
-//! Readers under a bound of reads, writers that count their failures, and the split of one text in two.
+//! Readers under a bound of reads, writers that count their failures, and the bytes of a rules text, alone or before a trace.
 #![tactic(auto)]
 
 mod feeds;
+mod rules;
 mod sinks;
 mod splitting;
 mod writing;
 
 pub use feeds::Feed;
+pub use rules::{RULES_LIMIT, RulesStop, read_rules};
 pub use sinks::Sink;
-pub use splitting::{JoinStop, RULES_LIMIT, read_joined};
+pub use splitting::read_joined;
 pub use writing::{WriteFailed, write_whole};

@@ -5,11 +5,9 @@ ghost use Rattle.pfs_cli_streams.specs.Kept.{KeepsEnough, rules_limit};
 ghost use Rattle.pfs_cli_streams.specs.Joined.{split_joined};
 ghost use Rattle.pfs_cli_streams.specs.Places.{IsPastSplit, ends_split, place_after, place_over, split_at, split_mark};
 
+use crate::rules::{RULES_LIMIT, RulesStop};
 use std::alloc::Global;
 use std::io::Read;
-
-/// The most bytes of a rules text.
-pub const RULES_LIMIT: usize = 1_048_576;
 
 /// The most bytes that are kept of the rules: enough to show that they are too long when the
 /// split line's two bytes are taken off.
@@ -64,15 +62,6 @@ impl Place {
     }
 }
 
-/// Why the rules of a joined text were not read.
-#[derive(Debug, Clone, Copy)]
-pub enum JoinStop {
-    /// The reader gave no more.
-    Source,
-    /// Memory was refused.
-    Memory,
-}
-
 // The bytes without those of a split line that ends here.
 fn without_mark(kept: Vec<u8>, place: Place) -> Vec<u8>
     requires { length (split_mark place) ≤ length kept.items }
@@ -86,7 +75,7 @@ fn without_mark(kept: Vec<u8>, place: Place) -> Vec<u8>
 }
 
 // Reads on behind the rules that are kept, to the split line or the end, by chunks that are given up.
-fn read_on<B: Read>(input: &mut B, place: Place) -> Result<(), JoinStop>
+fn read_on<B: Read>(input: &mut B, place: Place) -> Result<(), RulesStop>
     ensures past { OnOk result ((xs : List ℕ) → B.remaining input.old ≡ Some xs → length xs < 2 ^ 64 - 1 →
         IsPastSplit (split_at place xs) (B.remaining input.new)) }
 {
@@ -96,7 +85,7 @@ fn read_on<B: Read>(input: &mut B, place: Place) -> Result<(), JoinStop>
         let n = match input.read(&mut chunk) {
             Ok(0) => return Ok(()),
             Ok(n) => n,
-            Err(_) => return Err(JoinStop::Source),
+            Err(_) => return Err(RulesStop::Source),
         };
         match place.over(&chunk[..n]) {
             Some(after) => place = after,
@@ -110,9 +99,9 @@ fn read_on<B: Read>(input: &mut B, place: Place) -> Result<(), JoinStop>
 ///
 /// The rules are the bytes before the first line that is exactly `%%`, and the trace is what follows that line; without
 /// such a line the rules are all, and the trace is empty. Of rules that are too long a front is kept, and the rest is read
-/// on, so that memory is bounded. `JoinStop::Source` is answered where a read fails, `JoinStop::Memory` where memory is
+/// on, so that memory is bounded. `RulesStop::Source` is answered where a read fails, `RulesStop::Memory` where memory is
 /// refused; then `input` stands anywhere.
-pub fn read_joined<B: Read>(alloc: Global, input: &mut B) -> Result<Vec<u8>, JoinStop>
+pub fn read_joined<B: Read>(alloc: Global, input: &mut B) -> Result<Vec<u8>, RulesStop>
     ensures rules { IfOk result (λ v. (xs : List ℕ) → B.remaining input.old ≡ Some xs → KeepsEnough v.items (split_joined xs).0) }
     ensures trace { IfOk result (λ v. (xs : List ℕ) → B.remaining input.old ≡ Some xs → length v.items ≤ rules_limit → B.remaining input.new ≡ Some (split_joined xs).1) }
     ensures past { OnOk result ((xs : List ℕ) → B.remaining input.old ≡ Some xs → length xs < 2 ^ 64 - 1 →
@@ -125,13 +114,13 @@ pub fn read_joined<B: Read>(alloc: Global, input: &mut B) -> Result<Vec<u8>, Joi
         match input.read(&mut byte) {
             Ok(0) => return Ok(without_mark(kept, place)),
             Ok(_) => {}
-            Err(_) => return Err(JoinStop::Source),
+            Err(_) => return Err(RulesStop::Source),
         }
         if place.splits(byte[0]) {
             return Ok(without_mark(kept, place));
         }
         if kept.push(byte[0]).is_err() {
-            return Err(JoinStop::Memory);
+            return Err(RulesStop::Memory);
         }
         place = place.after(byte[0]);
     }

@@ -8,13 +8,13 @@ use Rattle.pfs_addr.specs.declared.addresses.Addr.{Addr}
 use Rattle.pfs_eval.specs.Holdings.{Holdings}
 use Rattle.pfs_conf_rules.specs.Configs.{Conf, options_of}
 use Rattle.pfs_conf_rules.specs.declared.items.RuleNo.{RuleNo}
-use Rattle.pfs_store_contract.specs.Counts.{is_of_source}
-use Rattle.pfs_store_contract.specs.Calls.{source_states, touch_of, world_touched, state_number, state_rule}
-use Rattle.pfs_store_contract.specs.Touching.{completes_at, renewed, touched}
-use Rattle.pfs_store_contract.specs.Worlds.{World, holds_number, state_with}
-use Rattle.pfs_store_contract.specs.declared.records.State.{State}
-use Rattle.pfs_store_contract.specs.declared.records.StateNo.{StateNo}
-use Rattle.pfs_store_contract.specs.declared.records.Touched.{Touched}
+use Rattle.pfs_track.specs.Counts.{is_of_source}
+use Rattle.pfs_track.specs.Calls.{source_states, touch_of, world_touched, state_number, state_rule}
+use Rattle.pfs_track.specs.Touching.{completes_at, renewed, touched}
+use Rattle.pfs_track.specs.Worlds.{World, holds_number, state_with}
+use Rattle.pfs_track.specs.declared.records.State.{State}
+use Rattle.pfs_track.specs.declared.records.StateNo.{StateNo}
+use Rattle.pfs_track.specs.declared.records.Touched.{Touched}
 use Rattle.pfs_engine_machine.specs.Kept.{IsKept}
 use Rattle.pfs_engine_machine.specs.Looks.{states_beside}
 use Rattle.pfs_engine_machine.specs.Machine.{Held}

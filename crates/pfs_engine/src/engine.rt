@@ -4,12 +4,12 @@ ghost use Rattle.std.specs.Prelude.{◌≡◌, ◌+◌, ◌*◌, ◌<◌, ◌≤
 ghost use Rattle.std.specs.Option.{ForSome};
 ghost use Rattle.pfs_addr.specs.Keys.{key_of};
 ghost use Rattle.pfs_addr.specs.Packets.{Header};
-ghost use Rattle.pfs_store_contract.specs.Purging.{node_share, state_share};
-ghost use Rattle.pfs_store_contract.specs.Worlds.{empty_world, state_with};
+ghost use Rattle.pfs_track.specs.Purging.{node_share, state_share};
+ghost use Rattle.pfs_track.specs.Worlds.{empty_world, state_with};
 ghost use Rattle.pfs_conf_rules.specs.Configs.{scope_of};
 ghost use Rattle.pfs_conf_rules.specs.declared.actions.Scope.TheVariants as Scope;
 ghost use Rattle.pfs_conf_rules.specs.declared.items.RuleNo.{RuleNo};
-ghost use Rattle.pfs_store_contract.specs.declared.records.Limit.{Limit};
+ghost use Rattle.pfs_track.specs.declared.records.Limit.{Limit};
 ghost use Rattle.pfs_engine_machine.specs.Kept.{IsWithinLimits, IsWithinShared, moment_of};
 ghost use Rattle.pfs_engine_machine.specs.Looks.{AreLooks, states_beside};
 ghost use Rattle.pfs_engine_machine.specs.Refusals.{IsFree, IsDropped};
@@ -25,7 +25,7 @@ use pfs_addr::{Meter, NoMemory, Packet};
 use pfs_conf_rules::{Config, LimitName, TableNo};
 use pfs_engine_machine::{Event, Outcome, What};
 use pfs_eval::{Book, Tables};
-use pfs_store_contract::Store;
+use pfs_track::Store;
 use std::alloc::Global;
 use std::marker::Model;
 

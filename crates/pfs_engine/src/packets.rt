@@ -4,8 +4,8 @@ ghost use Rattle.std.specs.Prelude.{List, ◌≡◌, ◌≤◌, ◌<◌, ◌+◌
 ghost use Rattle.pfs_addr.specs.Keys.{key_of};
 ghost use Rattle.pfs_eval.specs.Entries.{Entry};
 ghost use Rattle.pfs_conf_rules.specs.Configs.{limit_of, options_at};
-ghost use Rattle.pfs_store_contract.specs.Calls.{packet_limit};
-ghost use Rattle.pfs_store_contract.specs.Worlds.{state_with};
+ghost use Rattle.pfs_track.specs.Calls.{packet_limit};
+ghost use Rattle.pfs_track.specs.Worlds.{state_with};
 ghost use Rattle.pfs_engine_machine.specs.Kept.{IsKept};
 ghost use Rattle.pfs_engine_machine.specs.Looks.{AreLooks, states_beside};
 ghost use Rattle.pfs_engine_machine.specs.Machine.{answered, by_action, by_limit, by_rule, decided, held_of};
@@ -17,7 +17,7 @@ use pfs_addr::{FlowKey, Meter, NoMemory, Packet};
 use pfs_conf_rules::{Action, Config, LimitName, RuleNo};
 use pfs_engine_machine::Outcome;
 use pfs_eval::{Book, Tables};
-use pfs_store_contract::Store;
+use pfs_track::Store;
 
 /// The meters of one packet.
 #[derive(Drop)]

@@ -12,13 +12,13 @@ use Rattle.pfs_conf_rules.specs.declared.actions.Scope.TheVariants as scope
 use Rattle.pfs_conf_rules.specs.declared.actions.StateOptions.{StateOptions}
 use Rattle.pfs_conf_rules.specs.declared.items.Rule.{Rule}
 use Rattle.pfs_conf_rules.specs.declared.items.RuleNo.{RuleNo}
-use Rattle.pfs_store_contract.specs.Admission.{admitted}
-use Rattle.pfs_store_contract.specs.Calls.{packet_limit}
-use Rattle.pfs_store_contract.specs.Handshakes.{hits_connections, hits_rate}
-use Rattle.pfs_store_contract.specs.Touching.{completes_at, touched}
-use Rattle.pfs_store_contract.specs.Worlds.{state_with}
-use Rattle.pfs_store_contract.specs.declared.records.Limit.{Limit}
-use Rattle.pfs_store_contract.specs.declared.records.State.{State}
+use Rattle.pfs_track.specs.Admission.{admitted}
+use Rattle.pfs_track.specs.Calls.{packet_limit}
+use Rattle.pfs_track.specs.Handshakes.{hits_connections, hits_rate}
+use Rattle.pfs_track.specs.Touching.{completes_at, touched}
+use Rattle.pfs_track.specs.Worlds.{state_with}
+use Rattle.pfs_track.specs.declared.records.Limit.{Limit}
+use Rattle.pfs_track.specs.declared.records.State.{State}
 use Rattle.pfs_engine_machine.specs.Kept.{IsKept, IsWithinShared}
 use Rattle.pfs_engine_machine.specs.Machine.{Held, answered, by_action, killed, by_limit, by_rule, by_state, by_handshake, decided, held_of}
 use Rattle.pfs_engine_machine.specs.Refusals.{IsDropped}

@@ -13,14 +13,14 @@ use Rattle.pfs_eval.proofs.TextTables.{count-config}
 use Rattle.pfs_conf_rules.specs.Configs.{Conf, options_of}
 use Rattle.pfs_conf_rules.specs.Invariants.{IsConfig}
 use Rattle.pfs_conf_rules.specs.declared.tables.TableDef.{TableDef}
-use Rattle.pfs_store_contract.proofs.MomentLaws.{empty_world-up_to_now, later-up_to_now, left-up_to_now, node_slice-up_to_now}
-use Rattle.pfs_store_contract.specs.Counts.{is_connection, is_node, is_of_node, is_of_rule, node_states, same_scope}
-use Rattle.pfs_store_contract.specs.Leaving.{idled, left}
-use Rattle.pfs_store_contract.specs.Purging.{is_among, node_retention, node_round, node_share, node_slice, node_stays, purge, state_round, state_share, state_slice, stays}
-use Rattle.pfs_store_contract.specs.Worlds.{World}
-use Rattle.pfs_store_contract.specs.declared.records.Node.{Node}
-use Rattle.pfs_store_contract.specs.declared.records.NodeScope.{NodeScope}
-use Rattle.pfs_store_contract.specs.declared.records.State.{State}
+use Rattle.pfs_track.proofs.MomentLaws.{empty_world-up_to_now, later-up_to_now, left-up_to_now, node_slice-up_to_now}
+use Rattle.pfs_track.specs.Counts.{is_connection, is_node, is_of_node, is_of_rule, node_states, same_scope}
+use Rattle.pfs_track.specs.Leaving.{idled, left}
+use Rattle.pfs_track.specs.Purging.{is_among, node_retention, node_round, node_share, node_slice, node_stays, purge, state_round, state_share, state_slice, stays}
+use Rattle.pfs_track.specs.Worlds.{World}
+use Rattle.pfs_track.specs.declared.records.Node.{Node}
+use Rattle.pfs_track.specs.declared.records.NodeScope.{NodeScope}
+use Rattle.pfs_track.specs.declared.records.State.{State}
 use Rattle.pfs_engine_machine.proofs.Additions.{entries_expired-fewer, entries_expired-size}
 use Rattle.pfs_engine_machine.proofs.Numbers.{Rise-filter}
 use Rattle.pfs_engine_machine.proofs.Counts.{any-filter, any-map, count-at, count-filter_le, count-map, count_le}

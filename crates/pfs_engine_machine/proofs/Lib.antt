@@ -4,16 +4,29 @@ pub mod Answering
 mod Changes
 mod Connections
 pub mod Counts
+mod Hearing
+mod HeldNumbers
+mod Histories
 mod KeptAdmission
 pub mod KeptHandshakes
 pub mod KeptPackets
 pub mod KeptTime
+mod Lists
 pub mod Numbers
 pub mod OptionLaws
+mod PacketChanges
 pub mod Purging
 pub mod Quiet
+mod Remembering
 pub mod Renewals
+mod Rounds
+mod RunActs
 pub mod Running
 pub mod Scopes
 pub mod Shares
+mod Small
+mod Staling
+mod Untouched
+mod Within
 mod Worked
+mod WorkedActs

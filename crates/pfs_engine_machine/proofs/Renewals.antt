@@ -5,8 +5,8 @@ use Rattle.pfs_addr.specs.Packets.{Header}
 use Rattle.pfs_addr.specs.declared.flag_sets.Flags.{Flags}
 use Rattle.pfs_addr.specs.declared.protocols.Proto.{Proto}
 use Rattle.pfs_addr.specs.declared.protocols.Proto.TheVariants as proto
-use Rattle.pfs_store_contract.specs.Touching.{goes_forward, renewed, stepped}
-use Rattle.pfs_store_contract.specs.declared.records.State.{State}
+use Rattle.pfs_track.specs.Touching.{goes_forward, renewed, stepped}
+use Rattle.pfs_track.specs.declared.records.State.{State}
 use Rattle.pfs_track.specs.StatePhases.{completes, is_done, phase_after}
 use Rattle.pfs_track.specs.declared.state_phases.StatePhase.{StatePhase}
 use Rattle.pfs_track.specs.declared.state_phases.StatePhase.TheVariants as phase

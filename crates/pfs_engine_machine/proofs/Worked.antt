@@ -25,8 +25,8 @@ use Rattle.pfs_conf_rules.specs.declared.items.Item.{Item}
 use Rattle.pfs_conf_rules.specs.declared.items.RuleNo.{RuleNo}
 use Rattle.pfs_conf_rules.specs.declared.items.What.TheVariants as item
 use Rattle.pfs_conf_rules.specs.declared.tables.TableDef.{TableDef}
-use Rattle.pfs_store_contract.specs.declared.records.Limit.{Limit}
-use Rattle.pfs_store_contract.specs.declared.records.Limit.TheVariants as limit
+use Rattle.pfs_track.specs.declared.records.Limit.{Limit}
+use Rattle.pfs_track.specs.declared.records.Limit.TheVariants as limit
 use Rattle.pfs_engine_machine.specs.Machine.{Machine, entries_held, nodes_held, start, states_held, step, machine_after, outcomes_of}
 use Rattle.pfs_engine_machine.specs.Rates.{history_score}
 use Rattle.pfs_engine_machine.specs.declared.events.Event.{Event}

@@ -1,10 +1,13 @@
+pub mod Acts
 pub mod Kept
 pub mod Looks
 pub mod Machine
 pub mod Quiet
+pub mod RateMemory
 pub mod Rates
 pub mod Refusals
 pub mod Runs
 pub mod Shares
 pub mod Sources
+pub mod Staleness
 pub mod Visits

@@ -15,14 +15,14 @@ use Rattle.pfs_conf_rules.specs.declared.actions.Action.TheVariants as action
 use Rattle.pfs_conf_rules.specs.declared.actions.Overload.{Overload}
 use Rattle.pfs_conf_rules.specs.declared.items.RuleNo.{RuleNo}
 use Rattle.pfs_conf_rules.specs.declared.limits.LimitName.TheVariants as limit_name
-use Rattle.pfs_store_contract.specs.Admission.{admitted, limit_met}
-use Rattle.pfs_store_contract.specs.Handshakes.{flush_of, goes_with, hits_connections, hits_rate, stays_at_kill}
-use Rattle.pfs_store_contract.specs.Leaving.{without}
-use Rattle.pfs_store_contract.specs.Purging.{purge}
-use Rattle.pfs_store_contract.specs.Touching.{completes_at, touched}
-use Rattle.pfs_store_contract.specs.Worlds.{World, empty_world, state_with}
-use Rattle.pfs_store_contract.specs.declared.records.Limit.{Limit}
-use Rattle.pfs_store_contract.specs.declared.records.State.{State}
+use Rattle.pfs_track.specs.Admission.{admitted, limit_met}
+use Rattle.pfs_track.specs.Handshakes.{flush_of, goes_with, hits_connections, hits_rate, stays_at_kill}
+use Rattle.pfs_track.specs.Leaving.{without}
+use Rattle.pfs_track.specs.Purging.{purge}
+use Rattle.pfs_track.specs.Touching.{completes_at, touched}
+use Rattle.pfs_track.specs.Worlds.{World, empty_world, state_with}
+use Rattle.pfs_track.specs.declared.records.Limit.{Limit}
+use Rattle.pfs_track.specs.declared.records.State.{State}
 use Rattle.pfs_engine_machine.specs.declared.events.Event.{Event}
 use Rattle.pfs_engine_machine.specs.declared.events.Outcome.{Outcome}
 use Rattle.pfs_engine_machine.specs.declared.events.Outcome.TheVariants as outcome

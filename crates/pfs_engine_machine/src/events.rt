@@ -3,7 +3,7 @@
 use pfs_addr::Packet;
 use pfs_conf_rules::{RuleNo, TableNo};
 use pfs_eval::Added;
-use pfs_store_contract::Limit;
+use pfs_track::Limit;
 
 /// What comes at a moment.
 #[derive(Clone, Copy, Debug, PartialEq, Eq)]

@@ -1,8 +1,13 @@
-//! The machine over plain lists: what comes, what one event does, and a run of events, as definitions with their lemmas.
+//! The machine over plain lists: what comes, what one event does, and a run of events, as definitions with their lemmas; and
+//! the laws of every run, which compute nothing.
 #![tactic(auto)]
 
 mod events;
+mod rates;
+mod staying;
 
 pub use events::{Event, Outcome, What};
 pub use pfs_eval::Added;
-pub use pfs_store_contract::Limit;
+pub use pfs_track::Limit;
+pub use rates::rate_memory;
+pub use staying::{staleness, within_limits};

@@ -17,13 +17,13 @@ use Rattle.pfs_conf_rules.specs.Configs.{Conf, scope_of}
 use Rattle.pfs_conf_rules.specs.declared.actions.Scope.{Scope}
 use Rattle.pfs_conf_rules.specs.declared.actions.Scope.TheVariants as scope
 use Rattle.pfs_track.specs.StatePhases.{is_done}
-use Rattle.pfs_store_contract.specs.Admission.{new_node, nodes_with}
-use Rattle.pfs_store_contract.specs.Counts.{has_node, in_scope, is_connection, is_node, is_of_node, is_of_rule, is_of_source, node_connections, node_scope_by, node_scope_of, node_states, rule_states}
+use Rattle.pfs_track.specs.Admission.{new_node, nodes_with}
+use Rattle.pfs_track.specs.Counts.{has_node, in_scope, is_connection, is_node, is_of_node, is_of_rule, is_of_source, node_connections, node_scope_by, node_scope_of, node_states, rule_states}
 use Rattle.pfs_conf_rules.specs.Bounds.{is_global}
-use Rattle.pfs_store_contract.specs.Plain.{AreCounts}
-use Rattle.pfs_store_contract.specs.declared.records.NodeScope.{NodeScope}
-use Rattle.pfs_store_contract.specs.declared.records.NodeScope.TheVariants as node_scope
-use Rattle.pfs_store_contract.specs.declared.records.State.{State}
+use Rattle.pfs_track.specs.Plain.{AreCounts}
+use Rattle.pfs_track.specs.declared.records.NodeScope.{NodeScope}
+use Rattle.pfs_track.specs.declared.records.NodeScope.TheVariants as node_scope
+use Rattle.pfs_track.specs.declared.records.State.{State}
 use Rattle.pfs_store_index.specs.Records.{IsAbove, Placed}
 use Rattle.pfs_store_index.specs.Sourced.{source_at}
 use Rattle.pfs_store_index.specs.Tallies.{is_tally, nodes_of}

@@ -10,11 +10,11 @@ use Rattle.pfs_conf_rules.specs.declared.actions.Rate.{Rate}
 use Rattle.pfs_track.specs.Scores.{score_after}
 use Rattle.pfs_track.specs.StatePhases.{is_done, phase_after}
 use Rattle.pfs_track.specs.declared.scores.Score.{Score}
-use Rattle.pfs_store_contract.specs.Counts.{is_connection, is_of_node, node_connections, node_scope_of, node_states}
-use Rattle.pfs_store_contract.specs.Touching.{completes_at, goes_forward, nodes_scored, nodes_touched, renewed, stepped}
-use Rattle.pfs_store_contract.specs.declared.records.Node.{Node}
-use Rattle.pfs_store_contract.specs.declared.records.NodeScope.{NodeScope}
-use Rattle.pfs_store_contract.specs.declared.records.State.{State}
+use Rattle.pfs_track.specs.Counts.{is_connection, is_of_node, node_connections, node_scope_of, node_states}
+use Rattle.pfs_track.specs.Touching.{completes_at, goes_forward, nodes_scored, nodes_touched, renewed, stepped}
+use Rattle.pfs_track.specs.declared.records.Node.{Node}
+use Rattle.pfs_track.specs.declared.records.NodeScope.{NodeScope}
+use Rattle.pfs_track.specs.declared.records.State.{State}
 use Rattle.pfs_store_index.specs.Records.{Placed, placed_at, put, states_of}
 use Rattle.pfs_store_index.specs.Tallies.{is_tally, nodes_of}
 use Rattle.pfs_store_index.specs.declared.nodes.Tally.{Tally}

@@ -13,11 +13,11 @@ use Rattle.pfs_conf_rules.specs.Configs.{Conf, scope_of}
 use Rattle.pfs_conf_rules.specs.declared.actions.Scope.{Scope}
 use Rattle.pfs_conf_rules.specs.declared.actions.Scope.TheVariants as scope
 use Rattle.pfs_conf_rules.specs.declared.items.RuleNo.{RuleNo}
-use Rattle.pfs_store_contract.specs.Counts.{is_of_node, node_scope_by, node_scope_of, same_scope}
-use Rattle.pfs_store_contract.specs.declared.records.Node.{Node}
-use Rattle.pfs_store_contract.specs.declared.records.NodeScope.{NodeScope}
-use Rattle.pfs_store_contract.specs.declared.records.NodeScope.TheVariants as node_scope
-use Rattle.pfs_store_contract.specs.declared.records.State.{State}
+use Rattle.pfs_track.specs.Counts.{is_of_node, node_scope_by, node_scope_of, same_scope}
+use Rattle.pfs_track.specs.declared.records.Node.{Node}
+use Rattle.pfs_track.specs.declared.records.NodeScope.{NodeScope}
+use Rattle.pfs_track.specs.declared.records.NodeScope.TheVariants as node_scope
+use Rattle.pfs_track.specs.declared.records.State.{State}
 use Rattle.pfs_store_index.specs.Tallies.{IsTallied, has_node_number, is_tally, nodes_of, put_tally, same_node}
 use Rattle.pfs_store_index.specs.declared.nodes.Tally.{Tally}
 use Rattle.pfs_store_index.specs.Ties.{IsScope, IsScoped, at_node, is_at}

@@ -14,12 +14,12 @@ use Rattle.pfs_track.specs.PhaseLaws.{tcp_completes-once}
 use Rattle.pfs_track.specs.declared.scores.Score.{Score}
 use Rattle.pfs_track.specs.declared.state_phases.StatePhase.{StatePhase}
 use Rattle.pfs_track.specs.declared.state_phases.StatePhase.TheVariants.{Tcp, Udp, Other}
-use Rattle.pfs_store_contract.specs.Counts.{is_node, node_connections}
-use Rattle.pfs_store_contract.specs.Purging.{state_numbers}
-use Rattle.pfs_store_contract.specs.Touching.{connections_in, goes_forward, renewed, score_in, stepped}
-use Rattle.pfs_store_contract.specs.declared.records.Node.{Node}
-use Rattle.pfs_store_contract.specs.declared.records.NodeScope.{NodeScope}
-use Rattle.pfs_store_contract.specs.declared.records.State.{State}
+use Rattle.pfs_track.specs.Counts.{is_node, node_connections}
+use Rattle.pfs_track.specs.Purging.{state_numbers}
+use Rattle.pfs_track.specs.Touching.{connections_in, goes_forward, renewed, score_in, stepped}
+use Rattle.pfs_track.specs.declared.records.Node.{Node}
+use Rattle.pfs_track.specs.declared.records.NodeScope.{NodeScope}
+use Rattle.pfs_track.specs.declared.records.State.{State}
 use Rattle.pfs_store_index.specs.Records.{IsRecordAt, IsRising, Placed, is_placed, put, stands_at, states_of}
 use Rattle.pfs_store_index.specs.Tallies.{is_tally, nodes_of}
 use Rattle.pfs_store_index.specs.declared.nodes.Tally.{Tally}

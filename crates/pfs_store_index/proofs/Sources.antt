@@ -15,8 +15,8 @@ use Rattle.std.specs.BTreeSet as tree
 use Rattle.std.specs.BTreeSet.{BTreeSet}
 use Rattle.std.specs.declared.ops.Bound.TheVariants.{Excluded, Included}
 use Rattle.pfs_addr.specs.declared.addresses.Addr.{Addr}
-use Rattle.pfs_store_contract.specs.Counts.{is_of_source}
-use Rattle.pfs_store_contract.specs.declared.records.State.{State}
+use Rattle.pfs_track.specs.Counts.{is_of_source}
+use Rattle.pfs_track.specs.declared.records.State.{State}
 use Rattle.pfs_store_index.specs.Records.{between}
 use Rattle.pfs_store_index.specs.Rounds.{waiting_of}
 use Rattle.pfs_store_index.specs.Ties.{addr_cmp, is_pair, pair_cmp}

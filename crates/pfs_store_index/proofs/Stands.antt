@@ -9,9 +9,9 @@ use Rattle.std.proofs.lemmas.Option.{slice_get_past}
 use Rattle.pfs_conf_rules.specs.Configs.{Conf, options_at, options_in, rule_in as rule_in_item}
 use Rattle.pfs_conf_rules.specs.declared.items.Item.{Item}
 use Rattle.pfs_conf_rules.specs.declared.items.Rule.{Rule}
-use Rattle.pfs_store_contract.specs.Calls.{other_than, state_number, state_rule}
-use Rattle.pfs_store_contract.specs.Purging.{node_numbers, state_numbers}
-use Rattle.pfs_store_contract.specs.declared.records.State.{State}
+use Rattle.pfs_track.specs.Calls.{other_than, state_number, state_rule}
+use Rattle.pfs_track.specs.Purging.{node_numbers, state_numbers}
+use Rattle.pfs_track.specs.declared.records.State.{State}
 use Rattle.pfs_store_index.specs.Records.{IsAbove, IsRising, Placed, leaves_number, states_of}
 use Rattle.pfs_store_index.specs.Tallies.{nodes_of}
 use Rattle.pfs_store_index.specs.declared.nodes.Tally.{Tally}

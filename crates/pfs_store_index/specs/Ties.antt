@@ -18,13 +18,13 @@ use Rattle.pfs_conf_rules.specs.declared.actions.Scope.TheVariants as scope
 use Rattle.pfs_track.specs.Scores.{score_after, zero_score}
 use Rattle.pfs_track.specs.StatePhases.{is_done}
 use Rattle.pfs_track.specs.declared.scores.Score.{Score}
-use Rattle.pfs_store_contract.specs.Admission.{new_node}
-use Rattle.pfs_store_contract.specs.Counts.{is_of_source, node_connections, node_scope_of, node_states}
-use Rattle.pfs_store_contract.specs.Plain.{AreCounts}
-use Rattle.pfs_store_contract.specs.declared.records.Node.{Node}
-use Rattle.pfs_store_contract.specs.declared.records.NodeScope.{NodeScope}
-use Rattle.pfs_store_contract.specs.declared.records.NodeScope.TheVariants as node_scope
-use Rattle.pfs_store_contract.specs.declared.records.State.{State}
+use Rattle.pfs_track.specs.Admission.{new_node}
+use Rattle.pfs_track.specs.Counts.{is_of_source, node_connections, node_scope_of, node_states}
+use Rattle.pfs_track.specs.Plain.{AreCounts}
+use Rattle.pfs_track.specs.declared.records.Node.{Node}
+use Rattle.pfs_track.specs.declared.records.NodeScope.{NodeScope}
+use Rattle.pfs_track.specs.declared.records.NodeScope.TheVariants as node_scope
+use Rattle.pfs_track.specs.declared.records.State.{State}
 use Rattle.pfs_store_index.specs.Records.{Placed, states_of}
 use Rattle.pfs_store_index.specs.Tallies.{is_tally}
 use Rattle.pfs_store_index.specs.declared.nodes.Tally.{Tally}

@@ -6,8 +6,7 @@ ghost use Rattle.pfs_conf_rules.specs.declared.timeouts.TimeoutName.{TimeoutName
 ghost use Rattle.pfs_track.specs.StatePhases.{slot};
 
 use pfs_conf_rules::RuleNo;
-use pfs_store_contract::State;
-use pfs_track::StatePhase;
+use pfs_track::{State, StatePhase};
 
 /// How long states may stay without a packet, by the rule that made them and the timeout of their phase.
 pub trait Lifetimes {

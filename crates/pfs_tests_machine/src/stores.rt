@@ -1,7 +1,7 @@
 //! Stores by themselves: the numbers of states, what is told of handshakes, what leaves, and the slices of a round.
 
 ghost use Rattle.std.specs.Prelude.{◌≡◌, ◌≤◌};
-ghost use Rattle.pfs_store_contract.specs.Worlds.{IsUpToNow};
+ghost use Rattle.pfs_track.specs.Worlds.{IsUpToNow};
 
 use crate::engines::{UNSCALED, configured};
 use crate::packets::{A1, A2, ACK, SYN, SYN_ACK, Sent, packet};
@@ -9,9 +9,8 @@ use crate::tallied::Tallied;
 use pfs_addr::{Addr, FlowKey, Meter, Packet};
 use pfs_conf::{Config, RuleNo};
 use pfs_store::IndexStore;
-use pfs_store_contract::{Limit, Slice, StateNo, Store, Touched, Watched};
 use pfs_store_plain::PlainStore;
-use pfs_track::Score;
+use pfs_track::{Limit, Score, Slice, StateNo, Store, Touched, Watched};
 use std::process::Abort;
 use std::test::Fail;
 

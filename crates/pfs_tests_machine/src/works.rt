@@ -5,7 +5,7 @@ use crate::packets::{A1, A2, ACK, SYN, SYN_ACK, Sent, packet};
 use pfs_addr::Addr;
 use pfs_conf::RuleNo;
 use pfs_engine::{Added, Engine, Limit, Outcome, Work};
-use pfs_store_contract::Store;
+use pfs_track::Store;
 use std::process::Abort;
 use std::test::Fail;
 

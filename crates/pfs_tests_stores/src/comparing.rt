@@ -3,7 +3,7 @@
 
 ghost use Rattle.std.specs.Prelude.{◌≡◌, ◌≤◌, ◌<◌};
 ghost use Rattle.pfs_conf_rules.specs.LoadRules.{AreOptions, IsCount, IsRule};
-ghost use Rattle.pfs_store_contract.specs.Worlds.{IsUpToNow};
+ghost use Rattle.pfs_track.specs.Worlds.{IsUpToNow};
 
 use pfs_addr::{Addr, Dir, Endpoint, Flags, FlowKey, Meter, Packet, Proto, parse_ifname};
 use pfs_conf_rules::{

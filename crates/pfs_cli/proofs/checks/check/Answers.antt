@@ -3,7 +3,7 @@ use Rattle.std.proofs.Common.{◌≡◌, [], ◌∙◌}
 use Rattle.pfs_cli.specs.Checks.{counts_text}
 use Rattle.pfs_cli.specs.declared.faults.ReplayFault.TheVariants as fault
 use Rattle.pfs_cli.proofs.Checking.{nothing-written, text-written, told-refused}
-use Rattle.pfs_cli_records.proofs.Telling.{Appends-nothing}
+use Rattle.pfs_cli.proofs.Telling.{Appends-nothing}
 use Rattle.pfs_cli.proofs.checks.check.Goals as goal
 
 pub returns-in-Err-clause-answers : goal.returns-in-Err-clause-answers

@@ -4,7 +4,7 @@ use Rattle.std.specs.Io.Buffered.{reader_remaining, reader_buffer, reader_inner,
 use Rattle.std.specs.declared.io.buffered.BufReader.{BufReader}
 use Rattle.pfs_cli_streams.specs.Feeds.{FeedView, unread}
 use Rattle.pfs_cli_streams.specs.Joined.{split_joined}
-use Rattle.pfs_cli_records.proofs.Telling.{Appends-nothing, Appends-kept}
+use Rattle.pfs_cli.proofs.Telling.{Appends-nothing, Appends-kept}
 use Rattle.pfs_cli.proofs.Replaying.{kept-reads, rules-refused, rules-told}
 use Rattle.pfs_cli.proofs.joined.replay_joined.Goals as goal
 

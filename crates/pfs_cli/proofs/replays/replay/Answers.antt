@@ -1,7 +1,7 @@
 -- Answers of replay: the report, also of refused rules (`reports`), their fault (`refused`), and a feed that gives no more (`read`, `endless`).
 use Rattle.std.proofs.Common.{Err, [], inr, refl}
 use Rattle.pfs_cli.proofs.Replaying.{kept-reads, rules-refused, rules-told}
-use Rattle.pfs_cli_records.proofs.Telling.{Appends-nothing, Appends-kept}
+use Rattle.pfs_cli.proofs.Telling.{Appends-nothing, Appends-kept}
 use Rattle.pfs_cli.proofs.replays.replay.Goals as goal
 
 pub returns-clause-reports : goal.returns-clause-reports

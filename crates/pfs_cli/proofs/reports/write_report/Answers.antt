@@ -2,7 +2,7 @@
 use Rattle.std.proofs.Common.{[]}
 use Rattle.pfs_cli_report.specs.Reading.{records_of}
 use Rattle.pfs_cli_report.specs.Traces.{events_of}
-use Rattle.pfs_cli_records.proofs.Telling.{Appends-nothing, no-lines}
+use Rattle.pfs_cli.proofs.Telling.{Appends-nothing, no-lines}
 use Rattle.pfs_cli.proofs.reports.write_report.Goals as goal
 
 pub returns-in-Err-clause-tells : goal.returns-in-Err-clause-tells

@@ -2,8 +2,8 @@
 use Rattle.std.proofs.Common.{◌≡◌, ℕ, arith, refl, subst}
 use Rattle.std.specs.Prelude.{option_map}
 use Rattle.pfs_addr.specs.Keys.{key_of}
-use Rattle.pfs_store_contract.specs.Worlds.{state_with}
-use Rattle.pfs_store_contract.specs.Calls.{state_rule}
+use Rattle.pfs_track.specs.Worlds.{state_with}
+use Rattle.pfs_track.specs.Calls.{state_rule}
 use Rattle.pfs_engine_machine.specs.Looks.{AreLooks}
 use Rattle.pfs_engine_machine.specs.Machine.{held_of}
 use Rattle.pfs_engine.proofs.Belonging.{beside_after, held_after, room_after}

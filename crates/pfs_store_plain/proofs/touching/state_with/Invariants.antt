@@ -2,7 +2,7 @@
 use Rattle.std.proofs.Common.{◌≡◌, drop}
 use Rattle.std.specs.List.{find}
 use Rattle.pfs_addr.specs.Sameness.{same_key}
-use Rattle.pfs_store_contract.specs.declared.records.State.{State}
+use Rattle.pfs_track.specs.declared.records.State.{State}
 use Rattle.pfs_store_plain.proofs.touching.state_with.Given as goal
 
 -- the first is among the rest

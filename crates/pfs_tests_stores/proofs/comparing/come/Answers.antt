@@ -1,5 +1,5 @@
 -- Answers of come: a packet of a held state, or of none, leaves no handshake to come (`order`).
-use Rattle.pfs_store_contract.proofs.MomentLaws.{world_at-up_to_now, world_touched-up_to_now}
+use Rattle.pfs_track.proofs.MomentLaws.{world_at-up_to_now, world_touched-up_to_now}
 use Rattle.pfs_tests_stores.proofs.comparing.come.Goals as goal
 
 pub returns-in-Some-clause-order : goal.returns-in-Some-clause-order

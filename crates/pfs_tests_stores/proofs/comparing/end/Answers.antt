@@ -1,5 +1,5 @@
 -- Answer of end: a kill leaves no handshake to come (`order`).
-use Rattle.pfs_store_contract.proofs.MomentLaws.{killed-up_to_now}
+use Rattle.pfs_track.proofs.MomentLaws.{killed-up_to_now}
 use Rattle.pfs_tests_stores.proofs.comparing.end.Goals as goal
 
 pub returns-then-holds-clause-order : goal.returns-then-holds-clause-order

@@ -1,7 +1,7 @@
 -- Answer of purge: the two slices of a second leave no handshake to come (`order`).
 use Rattle.std.proofs.Common.{subst, sym}
-use Rattle.pfs_store_contract.proofs.MomentLaws.{node_slice-up_to_now, state_slice-up_to_now}
-use Rattle.pfs_store_contract.specs.Worlds.{IsUpToNow}
+use Rattle.pfs_track.proofs.MomentLaws.{node_slice-up_to_now, state_slice-up_to_now}
+use Rattle.pfs_track.specs.Worlds.{IsUpToNow}
 use Rattle.pfs_tests_stores.proofs.comparing.purge.Goals as goal
 
 pub returns-clause-order : goal.returns-clause-order

@@ -1,5 +1,5 @@
 -- Answer of wash: a flush leaves no handshake to come (`order`).
-use Rattle.pfs_store_contract.proofs.MomentLaws.{flushed-up_to_now}
+use Rattle.pfs_track.proofs.MomentLaws.{flushed-up_to_now}
 use Rattle.pfs_tests_stores.proofs.comparing.wash.Goals as goal
 
 pub returns-clause-order : goal.returns-clause-order

@@ -2,8 +2,8 @@
 use Rattle.std.proofs.Common.{◌∙◌, ap, option_map}
 use Rattle.std.specs.List.{find}
 use Rattle.pfs_addr.specs.Sameness.{same_key}
-use Rattle.pfs_store_contract.specs.Calls.{state_number}
-use Rattle.pfs_store_contract.specs.declared.records.State.{State}
+use Rattle.pfs_track.specs.Calls.{state_number}
+use Rattle.pfs_track.specs.declared.records.State.{State}
 use Rattle.pfs_store_index.specs.Holdings.{Holding}
 use Rattle.pfs_store_index.specs.declared.indexes.Entry.{Entry}
 use Rattle.pfs_store_index.proofs.Stands.{number-at}

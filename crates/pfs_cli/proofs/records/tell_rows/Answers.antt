@@ -1,0 +1,66 @@
+-- Answers of tell_rows: one record more, and at each end the lines of the records so far (`tells`).
+use Rattle.std.proofs.Common.{refl, arith, subst, ◌<◌, ◌+◌, ◌∙◌, ℕ, List, inl, Err}
+use Rattle.csv.specs.Records.{fields_of}
+use Rattle.pfs_cli.specs.Turns.{WritesLine}
+use Rattle.pfs_cli.proofs.Telling.{so_far-start, so_far-more, ends-source, ends-end, ends-limit, ends-record, TakesRecord-rules}
+use Rattle.pfs_cli.proofs.records.tell_rows.Goals as goal
+
+pub loop-rows-init : goal.loop-rows-init
+loop-rows-init g c = record {
+  plain = c.requires.plain;
+  ready = c.requires.ready;
+  config = c.requires.config;
+  rules = refl;
+  within = omega arith;
+  taken = omega (arith, c.requires.taken);
+  so_far = λ xs e. rw c.requires.first (so_far-start g.S.Read.remaining c.args.engine.now.config _ c.args.reader.now xs e);
+}
+
+pub loop-rows-preserved : goal.loop-rows-preserved
+loop-rows-preserved g c =
+    let inv = c.loop-rows.invariant in
+    let r = rw c.in-Ok-true.field-0-test at (c.in-Ok-true.ensures.reads inv.plain inv.ready) in
+    let (t, grown, took) = c.in-Ok.ensures.takes in
+    let (e, judged, takes) = rw inv.rules at took in
+    let few : c.loop-rows.rows < 1000000000 = omega arith in
+    record {
+      plain = r.3 ∙ inv.plain;
+      ready = inl (c.in-Ok-true.ensures.ready inv.plain);
+      config = r.2 ∙ inv.config;
+      rules = c.in-Ok.ensures.config ∙ inv.rules;
+      within = omega arith;
+      taken = omega (arith, inv.taken, c.in-Ok.ensures.taken);
+      so_far = λ xs s. so_far-more g.S.Read.remaining c.args.engine.now.config _ _ _ _ c.loop-rows.rows c.loop-rows.engine.machine _ c.loop-rows.reader c.read_byte_record.new.self
+          (fields_of c.read_byte_record.new.row) e t (inv.so_far xs s) inv.config few r judged grown takes;
+    }
+
+pub returns-in-Err-clause-tells : goal.returns-in-Err-clause-tells
+returns-in-Err-clause-tells g c xs s =
+    ends-source g.S.Read.remaining c.args.engine.now.config _ _ _ c.loop-rows.rows c.loop-rows.engine.machine c.loop-rows.reader (c.loop-rows.invariant.so_far xs s)
+
+pub returns-in-Ok-false-clause-tells : goal.returns-in-Ok-false-clause-tells
+returns-in-Ok-false-clause-tells g c xs s =
+    let inv = c.loop-rows.invariant in
+    let r = rw c.in-Ok-false.field-0-test at (c.in-Ok-false.ensures.reads inv.plain inv.ready) in
+    let (t, grown, wrote) = c.write_end.ensures.writes in
+    let how = subst (λ (line : List ℕ). WritesLine line t c.write_end.result) c.end_line.ensures wrote in
+    ends-end g.S.Read.remaining c.args.engine.now.config _ _ _ _ c.loop-rows.rows c.loop-rows.engine.machine c.loop-rows.reader c.read_byte_record.new.self
+    (fields_of c.read_byte_record.new.row) c.write_end.result t (inv.so_far xs s) inv.config r grown how
+
+pub returns-then-rows-eq-ROW_LIMIT-clause-tells : goal.returns-then-rows-eq-ROW_LIMIT-clause-tells
+returns-then-rows-eq-ROW_LIMIT-clause-tells g c xs s =
+    let inv = c.loop-rows.invariant in
+    let r = rw c.in-Ok-true.field-0-test at (c.in-Ok-true.ensures.reads inv.plain inv.ready) in
+    ends-limit g.S.Read.remaining c.args.engine.now.config _ _ _ c.loop-rows.rows c.loop-rows.engine.machine c.loop-rows.reader c.read_byte_record.new.self
+    (fields_of c.read_byte_record.new.row) (inv.so_far xs s) inv.config r (omega arith)
+
+pub returns-in-Err-take_record-clause-tells : goal.returns-in-Err-take_record-clause-tells
+returns-in-Err-take_record-clause-tells g c xs s =
+    let inv = c.loop-rows.invariant in
+    let r = rw c.in-Ok-true.field-0-test at (c.in-Ok-true.ensures.reads inv.plain inv.ready) in
+    let (t, grown, took) = c.in-Err-take_record.ensures.takes in
+    let takes = TakesRecord-rules c.args.engine.now.config _ (c.loop-rows.rows + 1) c.loop-rows.engine.machine (fields_of c.read_byte_record.new.row) t
+    (Err c.in-Err-take_record.stop) c.take_record.new.engine.machine inv.rules took in
+    let few : c.loop-rows.rows < 1000000000 = omega arith in
+    ends-record g.S.Read.remaining c.args.engine.now.config _ _ _ _ c.loop-rows.rows c.loop-rows.engine.machine c.take_record.new.engine.machine c.loop-rows.reader c.read_byte_record.new.self
+    (fields_of c.read_byte_record.new.row) c.in-Err-take_record.stop t (inv.so_far xs s) inv.config r few grown takes

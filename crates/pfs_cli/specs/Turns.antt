@@ -1,0 +1,37 @@
+-- What one turn of a run writes, and what is written when it ends. (own)
+use Rattle.std.specs.Prelude.{◌≡◌, ℕ, List, [], take, Some, None, Result, Ok, Err}
+use Rattle.pfs_conf_rules.specs.Configs.{Conf}
+use Rattle.pfs_engine_machine.specs.declared.events.Event.{Event}
+use Rattle.pfs_engine_machine.specs.Machine.{Machine, step}
+use Rattle.pfs_cli.specs.declared.records.Stop.{Stop}
+use Rattle.pfs_cli.specs.declared.records.Stop.TheVariants as stop
+use Rattle.pfs_cli_report.specs.Events.{event_at}
+use Rattle.pfs_cli_report.specs.Lines.{row_text}
+use Rattle.pfs_cli_report.specs.Reports.{AreFirstLines, BeginsReport, report}
+use Rattle.pfs_cli_report.specs.Traces.{Trace}
+
+-- the text of one line, by how its writing ends
+abbrev pub WritesLine : List ℕ → List ℕ → Result Unit Stop → Type 0
+WritesLine line text (Ok u) = text ≡ line
+WritesLine line text (Err (stop.Fault f)) = ⊥
+WritesLine line text (Err stop.Source) = ⊥
+WritesLine line text (Err stop.Memory) = text ≡ []
+WritesLine line text (Err stop.Write) = (k : ℕ) × (text ≡ take k line)
+
+-- the turn of a record whose event this is: the machine after it, and the text
+abbrev pub TakesEvent : Conf → ℕ → Machine → Event → List ℕ → Result Unit Stop → Machine → Type 0
+TakesEvent conf row m e text result after =
+    WritesLine (row_text row (step conf m e).0) text result × (result ≡ Ok tt → after ≡ (step conf m e).1)
+
+-- the turn of a record, by what it is
+abbrev pub TakesRecord : Conf → ℕ → Machine → List (List ℕ) → List ℕ → Result Unit Stop → Machine → Type 0
+TakesRecord conf row m fields text (Err (stop.Fault f)) after = (event_at conf row m.last fields ≡ Err f) × (text ≡ [])
+TakesRecord conf row m fields text result after = (e : Event) × (event_at conf row m.last fields ≡ Ok e) × TakesEvent conf row m e text result after
+
+-- what is written of the report, by how the run ends
+abbrev pub Tells : Conf → Trace → List ℕ → Result Unit Stop → Type 0
+Tells conf trace text (Ok u) = (trace.1 ≡ None) × (text ≡ report conf trace)
+Tells conf trace text (Err (stop.Fault f)) = (trace.1 ≡ Some f) × (text ≡ report conf trace)
+Tells conf trace text (Err stop.Source) = AreFirstLines conf trace text
+Tells conf trace text (Err stop.Memory) = AreFirstLines conf trace text
+Tells conf trace text (Err stop.Write) = BeginsReport conf trace text

@@ -1,0 +1,230 @@
+//! The records of a trace, and a line for each, written before the next record is read.
+
+ghost use Rattle.std.specs.Prelude.{◌≡◌, Some, None, Ok, Err, ◌<◌, ◌≤◌, ◌+◌, ◌^◌, ℕ, List, true, false};
+ghost use Rattle.std.specs.Io.KnownBytes.{Appends};
+ghost use Rattle.csv.specs.Reading.{Ready, source_of, reader_trim, reader_config, reader_state, default_config};
+ghost use Rattle.csv.specs.declared.reader.Trim.TheVariants as trim;
+ghost use Rattle.csv.specs.Records.{fields_of};
+ghost use Rattle.pfs_cli_streams.specs.Sinks.{bytes_held, write_failures as failures_of};
+ghost use Rattle.pfs_cli_report.specs.Lines.{row_text, end_text};
+ghost use Rattle.std.specs.Option.{ForSome};
+ghost use Rattle.pfs_engine_machine.specs.Machine.{start, step};
+ghost use Rattle.pfs_engine_machine.specs.Runs.{MayCome};
+ghost use Rattle.pfs_cli_report.specs.Reports.{end_line_of};
+ghost use Rattle.pfs_cli.specs.Turns.{Tells, WritesLine, TakesEvent, TakesRecord};
+ghost use Rattle.pfs_cli_report.specs.Reading.{records_of, records_left};
+ghost use Rattle.pfs_cli_report.specs.Traces.{events_of, events_from};
+
+use crate::machine::take;
+use csv::{ByteRecord, Reader, ReaderBuilder};
+use pfs_cli_report::{EndLine, TraceFault, has_columns, push_end, push_row, read_event};
+use pfs_cli_streams::{Sink, write_whole};
+use pfs_engine::{Engine, Event, Outcome};
+use pfs_track::Store;
+use std::alloc::Global;
+use std::io::{Read, Write};
+
+/// The most records that a trace may have after its header.
+const ROW_LIMIT: u64 = 1_000_000_000;
+
+/// Why the records stop before their end.
+#[derive(Clone, Copy, Debug, PartialEq, Eq)]
+pub enum Stop {
+    /// A record is faulty.
+    Fault(TraceFault),
+    /// The source gave no record: a read failed, or memory was refused.
+    Source,
+    /// Memory was refused.
+    Memory,
+    /// The sink failed.
+    Write,
+}
+
+// Writes a line.
+fn send<W: Write>(line: &[u8], out: &mut Sink<W>) -> Result<(), Stop>
+    ensures writes { (t : List ℕ) × Appends (bytes_held W.contents out.old) (bytes_held W.contents out.new) t × WritesLine line.now t result }
+    ensures fails { result ≡ Err (Stop.Write) → 0 < failures_of out.new }
+{
+    match write_whole(out, line) {
+        Ok(()) => Ok(()),
+        Err(_) => Err(Stop::Write),
+    }
+}
+
+// Writes the line of one outcome. `line` is room that is used again.
+fn write_row<W: Write>(
+    row: u64,
+    outcome: &Outcome,
+    line: &mut Vec<u8>,
+    out: &mut Sink<W>,
+) -> Result<(), Stop>
+    ensures writes { (t : List ℕ) × Appends (bytes_held W.contents out.old) (bytes_held W.contents out.new) t × WritesLine (row_text row outcome.now) t result }
+    ensures fails { result ≡ Err (Stop.Write) → 0 < failures_of out.new }
+{
+    line.clear();
+    match push_row(line, row, outcome) {
+        Ok(()) => send(line.as_slice(), out),
+        Err(_) => Err(Stop::Memory),
+    }
+}
+
+// The last line, with what is held.
+fn end_line<H: Store>(rows: u64, engine: &Engine<H>) -> EndLine
+    ensures { end_text result.rows result.states result.nodes result.entries ≡ end_line_of rows engine.now.machine }
+{
+    EndLine {
+        rows,
+        states: engine.states(),
+        nodes: engine.nodes(),
+        entries: engine.entries(),
+    }
+}
+
+// Writes the last line.
+fn write_end<W: Write>(end: EndLine, room: &mut Vec<u8>, out: &mut Sink<W>) -> Result<(), Stop>
+    ensures writes { (t : List ℕ) × Appends (bytes_held W.contents out.old) (bytes_held W.contents out.new) t
+        × WritesLine (end_text end.rows end.states end.nodes end.entries) t result }
+    ensures fails { result ≡ Err (Stop.Write) → 0 < failures_of out.new }
+{
+    room.clear();
+    match push_end(room, &end) {
+        Ok(()) => send(room.as_slice(), out),
+        Err(_) => Err(Stop::Memory),
+    }
+}
+
+// Lets the engine take one event, and writes its line.
+fn take_event<H: Store, W: Write>(
+    row: u64,
+    event: &Event,
+    engine: &mut Engine<H>,
+    line: &mut Vec<u8>,
+    out: &mut Sink<W>,
+) -> Result<(), Stop>
+    requires order { ForSome engine.old.machine.last (λ m. m ≤ event.now.time) }
+    requires moment { event.now.time < 2 ^ 32 }
+    requires room { engine.old.taken < 1000000000 }
+    requires table { MayCome engine.old.config event.now.what }
+    ensures config { engine.new.config ≡ engine.old.config }
+    ensures taken { engine.new.taken ≤ engine.old.taken + 1 }
+    ensures takes { (t : List ℕ) × Appends (bytes_held W.contents out.old) (bytes_held W.contents out.new) t
+        × TakesEvent engine.old.config row engine.old.machine event.now t result engine.new.machine }
+    ensures fails { result ≡ Err (Stop.Write) → 0 < failures_of out.new }
+{
+    match take(engine, event) {
+        Ok(outcome) => write_row(row, &outcome, line, out),
+        Err(_) => Err(Stop::Memory),
+    }
+}
+
+// The turn of one record.
+fn take_record<H: Store, W: Write>(
+    row: u64,
+    fields: &ByteRecord,
+    engine: &mut Engine<H>,
+    line: &mut Vec<u8>,
+    out: &mut Sink<W>,
+) -> Result<(), Stop>
+    requires room { engine.old.taken < 1000000000 }
+    ensures config { engine.new.config ≡ engine.old.config }
+    ensures taken { engine.new.taken ≤ engine.old.taken + 1 }
+    ensures takes { (t : List ℕ) × Appends (bytes_held W.contents out.old) (bytes_held W.contents out.new) t
+        × TakesRecord engine.old.config row engine.old.machine (fields_of fields.now) t result engine.new.machine }
+    ensures fails { result ≡ Err (Stop.Write) → 0 < failures_of out.new }
+{
+    match &read_event(row, engine.last(), engine.config(), fields) {
+        Ok(event) => take_event(row, event, engine, line, out),
+        Err(fault) => Err(Stop::Fault(*fault)),
+    }
+}
+
+// Reads the records after the header, and writes the line of each before it reads the next.
+fn tell_rows<H: Store, S: Read, W: Write>(
+    reader: &mut Reader<S>,
+    fields: &mut ByteRecord,
+    engine: &mut Engine<H>,
+    line: &mut Vec<u8>,
+    out: &mut Sink<W>,
+) -> Result<(), Stop>
+    requires plain { reader_trim reader.old ≡ trim.None }
+    requires ready { Ready reader.old }
+    requires config { reader_config reader.old ≡ default_config }
+    requires first { engine.old.machine ≡ start engine.old.config }
+    requires taken { engine.old.taken ≡ 0 }
+    ensures tells { (xs : List ℕ) → source_of S.remaining reader.old ≡ Some xs →
+        ((t : List ℕ) × Appends (bytes_held W.contents out.old) (bytes_held W.contents out.new) t
+        × Tells engine.old.config (events_from engine.old.config 0 None (records_left default_config (reader_state reader.old) xs)) t result) }
+    ensures fails { result ≡ Err (Stop.Write) → 0 < failures_of out.new }
+{
+    for rows in 0..=ROW_LIMIT {
+        match reader.read_byte_record(fields) {
+            Ok(true) => {}
+            Ok(false) => return write_end(end_line(rows, engine), line, out),
+            Err(_) => return Err(Stop::Source),
+        }
+        if rows == ROW_LIMIT {
+            return Err(Stop::Fault(TraceFault::TooManyRows));
+        }
+        match take_record(rows + 1, fields, engine, line, out) {
+            Ok(()) => {}
+            Err(stop) => return Err(stop),
+        }
+    }
+    unreachable!()
+}
+
+// Reads the header, and then the records.
+fn tell_trace<H: Store, S: Read, W: Write>(
+    reader: &mut Reader<S>,
+    fields: &mut ByteRecord,
+    engine: &mut Engine<H>,
+    line: &mut Vec<u8>,
+    out: &mut Sink<W>,
+) -> Result<(), Stop>
+    requires plain { reader_trim reader.old ≡ trim.None }
+    requires ready { Ready reader.old }
+    requires config { reader_config reader.old ≡ default_config }
+    requires first { engine.old.machine ≡ start engine.old.config }
+    requires taken { engine.old.taken ≡ 0 }
+    ensures tells { (xs : List ℕ) → source_of S.remaining reader.old ≡ Some xs →
+        ((t : List ℕ) × Appends (bytes_held W.contents out.old) (bytes_held W.contents out.new) t
+        × Tells engine.old.config (events_of engine.old.config (records_left default_config (reader_state reader.old) xs)) t result) }
+    ensures fails { result ≡ Err (Stop.Write) → 0 < failures_of out.new }
+{
+    match reader.read_byte_record(fields) {
+        Ok(true) => {}
+        Ok(false) => return Err(Stop::Fault(TraceFault::Columns(0))),
+        Err(_) => return Err(Stop::Source),
+    }
+    if !has_columns(fields) {
+        return Err(Stop::Fault(TraceFault::Columns(0)));
+    }
+    tell_rows(reader, fields, engine, line, out)
+}
+
+/// Reads the trace of `source`, and writes the line of each record before it reads the next, and
+/// the last line. Nothing is flushed.
+pub(crate) fn tell_records<H: Store, S: Read + Drop, W: Write>(
+    alloc: Global,
+    source: S,
+    engine: &mut Engine<H>,
+    out: &mut Sink<W>,
+) -> Result<(), Stop>
+    requires first { engine.old.machine ≡ start engine.old.config }
+    requires taken { engine.old.taken ≡ 0 }
+    ensures tells { (xs : List ℕ) → S.remaining source ≡ Some xs →
+        ((t : List ℕ) × Appends (bytes_held W.contents out.old) (bytes_held W.contents out.new) t
+        × Tells engine.old.config (events_of engine.old.config (records_of xs)) t result) }
+    ensures fails { result ≡ Err (Stop.Write) → 0 < failures_of out.new }
+{
+    let mut reader = ReaderBuilder::new()
+        .flexible(true)
+        .from_reader(alloc, source);
+    // With a header row at hand, which is empty, the reader keeps no copy of the first record.
+    if reader.set_byte_headers(ByteRecord::new(alloc)).is_err() {
+        return Err(Stop::Memory);
+    }
+    let mut fields = ByteRecord::new(alloc);
+    let mut line = Vec::new(alloc);
+    tell_trace(&mut reader, &mut fields, engine, &mut line, out)
+}

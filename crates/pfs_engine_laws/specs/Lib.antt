@@ -1,3 +1,0 @@
-pub mod Acts
-pub mod RateMemory
-pub mod Staleness

@@ -1,0 +1,62 @@
+-- What a packet may do to what is held: nothing, make a state, renew one, and kill some.
+use Rattle.std.proofs.Common.{◌≡◌, ◌∙◌, ◌&&◌, ◌||◌, ℕ, Bool, true, false, if◌then◌else◌, Option, Some, None, refl, subst, sym}
+use Rattle.pfs_addr.specs.Keys.{key_of}
+use Rattle.pfs_addr.specs.Packets.{Header}
+use Rattle.pfs_conf_rules.specs.Configs.{Conf, options_of}
+use Rattle.pfs_track.specs.Admission.{admitted}
+use Rattle.pfs_track.specs.Calls.{packet_limit}
+use Rattle.pfs_track.specs.Handshakes.{stays_at_kill, flush_of, hits_connections, hits_rate}
+use Rattle.pfs_track.specs.Leaving.{without}
+use Rattle.pfs_track.specs.Touching.{completes_at, touched}
+use Rattle.pfs_track.specs.Worlds.{World, state_with}
+use Rattle.pfs_track.specs.declared.records.State.{State}
+use Rattle.pfs_engine_machine.proofs.Answering as answering
+use Rattle.pfs_engine_machine.specs.Machine.{Held, answered, killed, by_state, by_handshake, held_of}
+use Rattle.pfs_engine_machine.specs.declared.events.Outcome.{Outcome}
+use Rattle.pfs_engine_machine.specs.declared.events.Outcome.TheVariants as outcome
+
+-- a fact of what a packet leaves, from what it may do
+pub record Changes (conf : Conf) (w : World) (p : Header) (now : ℕ) (Q : World → Type 0) : Type 0 where
+  pub passes : state_with (key_of p) w ≡ None → Q w
+  pub admits : (rule : ℕ) → state_with (key_of p) w ≡ None → packet_limit conf w p rule ≡ None → Q (admitted conf w p rule now)
+  pub touches : (s : State) → state_with (key_of p) w ≡ Some s → Q (touched conf w s p now)
+  pub kills : (v : World) (stays : State → Bool) → Q v → Q (without conf v stays now)
+
+handshake_has : (conf : Conf) (h : Held) (s : State) (now : ℕ) (completes : Bool) (Q : World → Type 0)
+    → ((v : World) (stays : State → Bool) → Q v → Q (without conf v stays now)) → Q h.world → Q (by_handshake conf h s now completes).1.world
+handshake_has conf h s now completes Q kills k = by (completes && (hits_connections conf h.world s || hits_rate conf h.world s))
+  where
+    by : (hit : Bool) → Q (if hit then killed conf h s.number s.rule s.source now (hits_connections conf h.world s) (hits_rate conf h.world s) else (outcome.State s.rule, h)).1.world
+    by true = kills h.world (stays_at_kill (flush_of (options_of conf s.rule.0).overload) s.number s.rule s.source) k
+    by false = k
+
+pub answered_has : (conf : Conf) (h : Held) (p : Header) (now : ℕ) (Q : World → Type 0) → Changes conf h.world p now Q → Q (answered conf h p now).1.world
+answered_has conf h p now Q c = go (state_with (key_of p) h.world) refl
+  where
+    go : (found : Option State) → state_with (key_of p) h.world ≡ found → Q (answered conf h p now).1.world
+    go None fresh = answering.answered_has conf h p now (λ (a : Outcome × Held). Q a.1.world) (record {
+      held = λ s found. absurd (let same = sym fresh ∙ found in cc);
+      passes = c.passes fresh;
+      passed = λ rule. c.passes fresh;
+      blocked = λ rule. c.passes fresh;
+      refused = λ rule limit is. c.passes fresh;
+      made = λ rule none. c.admits rule fresh none;
+    })
+    go (Some s) found =
+        subst (λ (o : Option State). Q (by_state conf h p now o).1.world) (sym found)
+        (handshake_has conf (held_of (touched conf h.world s p now) h.tables) s now (completes_at p s) Q c.kills (c.touches s found))
+
+-- ---- a fact that each change keeps
+
+pub record IsKeptByPackets (conf : Conf) (P : World → Type 0) : Type 0 where
+  pub touches : (w : World) (s : State) (p : Header) (now : ℕ) → P w → P (touched conf w s p now)
+  pub kills : (w : World) (stays : State → Bool) (now : ℕ) → P w → P (without conf w stays now)
+  pub admits : (w : World) (p : Header) (rule now : ℕ) → packet_limit conf w p rule ≡ None → P w → P (admitted conf w p rule now)
+
+pub answered_keeps : (conf : Conf) (P : World → Type 0) → IsKeptByPackets conf P → (h : Held) (p : Header) (now : ℕ) → P h.world → P (answered conf h p now).1.world
+answered_keeps conf P k h p now i = answered_has conf h p now P (record {
+  passes = λ fresh. i;
+  admits = λ rule fresh none. k.admits h.world p rule now none i;
+  touches = λ s found. k.touches h.world s p now i;
+  kills = λ v stays j. k.kills v stays now j;
+})

@@ -1,0 +1,211 @@
+-- The score of a source's node and that of the source's history have the same future, whichever states and nodes leave.
+use Rattle.std.proofs.Common.{◌≡◌, ℕ, ◌+◌, ◌-◌, ◌*◌, ◌/◌, ◌<◌, ◌≤◌, Bool, true, false, nat_le, nat_lt, ◌&&◌, ◌||◌, not, cond, ◌==◌, min, List, [], ◌∷◌, filter, map, refl, ap, ◌∙◌, sym, arith}
+use Rattle.std.specs.List.{AllByRecursion}
+use Rattle.std.proofs.lemmas.Bool.{false≢true}
+use Rattle.std.proofs.lemmas.Bool.Decides.{nat_tests}
+use Rattle.pfs_addr.proofs.SameLaws.{same_addr_true}
+use Rattle.pfs_addr.specs.Sameness.{same_addr}
+use Rattle.pfs_addr.specs.declared.addresses.Addr.{Addr}
+use Rattle.pfs_conf_rules.specs.Configs.{Conf}
+use Rattle.pfs_engine_machine.proofs.Counts.{any-map}
+use Rattle.pfs_engine_machine.proofs.Scopes.{same_scope_true}
+use Rattle.pfs_engine_machine.specs.Kept.{own_scope}
+use Rattle.pfs_track.specs.Counts.{has_node, is_node, node_states, same_scope}
+use Rattle.pfs_track.specs.Leaving.{idled}
+use Rattle.pfs_track.specs.Purging.{is_among, is_over, node_retention, node_stays}
+use Rattle.pfs_track.specs.declared.records.Node.{Node}
+use Rattle.pfs_track.specs.declared.records.NodeScope.{NodeScope}
+use Rattle.pfs_track.specs.declared.records.State.{State}
+use Rattle.pfs_track.specs.Scores.{decayed, score_after, zero_score}
+use Rattle.pfs_track.specs.declared.scores.Score.{Score}
+use Rattle.pfs_engine_machine.proofs.Lists.{both, each-filter, each-map, each-of}
+
+-- ---- scores with the same future
+
+-- from a moment on, a handshake makes the same of two scores
+abbrev pub Agrees : ℕ → ℕ → Score → Score → Type 0
+Agrees seconds now x y = (t : ℕ) → now ≤ t → score_after seconds x t ≡ score_after seconds y t
+
+decayed_zero : (seconds d : ℕ) → decayed seconds 0 d ≡ 0
+decayed_zero seconds d = go (nat_le seconds d)
+  where
+    less : (x : ℕ) → 0 - x ≡ 0
+    less x = omega arith
+
+    go : (b : Bool) → cond b 0 (0 - 0 * d / seconds) ≡ 0
+    go true = refl
+    go false = less (0 * d / seconds)
+
+decayed_late : (seconds value d : ℕ) → seconds ≤ d → decayed seconds value d ≡ 0
+decayed_late seconds value d h = let e : nat_le seconds d ≡ true = grind (arith, nat_tests) in rw e refl
+
+-- a score whose time is over is no other than none
+over-agrees : (seconds now : ℕ) (x : Score) → x.last + seconds ≤ now → Agrees seconds now x zero_score
+over-agrees seconds now x h t later =
+    ap (λ (v : ℕ). score_of (v + 1000)) (decayed_late seconds x.value (t - x.last) (omega (arith, h, later)) ∙ sym (decayed_zero seconds (t - 0)))
+  where
+    score_of : ℕ → Score
+    score_of v = record { value = min v 4294968000; last = t }
+
+-- ---- what is known of the nodes of a rule and a source, where the whole history has a score
+
+pub record Knows (seconds now : ℕ) (history : Score) (count : ℕ) (n : Node) : Type 0 where
+  pub agrees : Agrees seconds now n.score history
+  pub last : n.score.last ≤ now
+  pub idle : count ≡ 0 → n.score.last ≤ n.idle
+
+-- a node of this rule and source is one of which that is known
+abbrev pub IsKnown : ℕ → Addr → ℕ → ℕ → Score → ℕ → Node → Type 0
+IsKnown rule source seconds now history count n = is_node (own_scope rule) source n ≡ true → Knows seconds now history count n
+
+pub record Remembers (rule : ℕ) (source : Addr) (seconds now : ℕ) (history : Score) (count : ℕ) (held : List Node) : Type 0 where
+  pub nodes : AllByRecursion (IsKnown rule source seconds now history count) held
+  pub absent : has_node (own_scope rule) source held ≡ false → Agrees seconds now zero_score history
+  pub noded : 0 < count → has_node (own_scope rule) source held ≡ true
+
+-- time passes
+knows-later : (seconds now later : ℕ) (history : Score) (count : ℕ) (n : Node) → now ≤ later → Knows seconds now history count n → Knows seconds later history count n
+knows-later seconds now later history count n h k = record {
+  agrees = λ t g. k.agrees t (omega (arith, h, g));
+  last = omega (arith, h, k.last);
+  idle = k.idle;
+}
+
+pub remembers-later : (rule : ℕ) (source : Addr) (seconds now later : ℕ) (history : Score) (count : ℕ) (nodes : List Node) → now ≤ later
+    → Remembers rule source seconds now history count nodes → Remembers rule source seconds later history count nodes
+remembers-later rule source seconds now later history count nodes h r = record {
+  nodes = each-of (IsKnown rule source seconds now history count) (IsKnown rule source seconds later history count)
+      (λ n f e. knows-later seconds now later history count n h (f e)) nodes r.nodes;
+  absent = λ e t g. r.absent e t (omega (arith, h, g));
+  noded = r.noded;
+}
+
+-- ---- states leave
+
+scope-of-node : (scope : NodeScope) (source : Addr) (n : Node) → is_node scope source n ≡ true → n.scope ≡ scope
+scope-of-node scope source n e = same_scope_true n.scope scope (both (same_scope n.scope scope) (same_addr n.source source) e).0
+
+source-of-node : (scope : NodeScope) (source : Addr) (n : Node) → is_node scope source n ≡ true → n.source ≡ source
+source-of-node scope source n e = same_addr_true n.source source (both (same_scope n.scope scope) (same_addr n.source source) e).1
+
+count-of-node : (conf : Conf) (scope : NodeScope) (source : Addr) (n : Node) (states : List State) → is_node scope source n ≡ true
+    → node_states conf n.scope n.source states ≡ node_states conf scope source states
+count-of-node conf scope source n states e =
+    ap (λ (x : NodeScope). node_states conf x n.source states) (scope-of-node scope source n e) ∙ ap (λ (a : Addr). node_states conf scope a states) (source-of-node scope source n e)
+
+node-idled : (conf : Conf) (before after : List State) (now : ℕ) (scope : NodeScope) (source : Addr) (n : Node)
+    → is_node scope source (idled conf before after now n) ≡ is_node scope source n
+node-idled conf before after now scope source n =
+    go (nat_lt 0 (node_states conf n.scope n.source before) && (node_states conf n.scope n.source after == 0))
+  where
+    go : (b : Bool) → is_node scope source (cond b (record n { idle = now }) n) ≡ is_node scope source n
+    go true = refl
+    go false = refl
+
+knows-idled : (conf : Conf) (before after : List State) (rule : ℕ) (source : Addr) (seconds now : ℕ) (history : Score) (n : Node)
+    → is_node (own_scope rule) source n ≡ true → Knows seconds now history (node_states conf (own_scope rule) source before) n
+    → Knows seconds now history (node_states conf (own_scope rule) source after) (idled conf before after now n)
+knows-idled conf before after rule source seconds now history n e k =
+    go (nat_lt 0 (node_states conf n.scope n.source before) && (node_states conf n.scope n.source after == 0)) refl
+  where
+    none : (x y : ℕ) → (nat_lt 0 x && (y == 0)) ≡ false → y ≡ 0 → x ≡ 0
+    none x y f g = grind (arith, nat_tests)
+
+    go : (b : Bool) → (nat_lt 0 (node_states conf n.scope n.source before) && (node_states conf n.scope n.source after == 0)) ≡ b
+        → Knows seconds now history (node_states conf (own_scope rule) source after) (cond b (record n { idle = now }) n)
+    go true f = record { agrees = k.agrees; last = k.last; idle = λ z. k.last }
+    go false f = record {
+      agrees = k.agrees;
+      last = k.last;
+      idle = λ z. k.idle (sym (count-of-node conf (own_scope rule) source n before e)
+          ∙ none (node_states conf n.scope n.source before) (node_states conf n.scope n.source after) f (count-of-node conf (own_scope rule) source n after e ∙ z));
+    }
+
+-- only fewer states are of a node
+pub remembers-left : (conf : Conf) (before after : List State) (rule : ℕ) (source : Addr) (seconds now : ℕ) (history : Score) (nodes : List Node)
+    → node_states conf (own_scope rule) source after ≤ node_states conf (own_scope rule) source before
+    → Remembers rule source seconds now history (node_states conf (own_scope rule) source before) nodes
+    → Remembers rule source seconds now history (node_states conf (own_scope rule) source after) (map (idled conf before after now) nodes)
+remembers-left conf before after rule source seconds now history nodes fewer r =
+    let same = any-map (is_node (own_scope rule) source) (idled conf before after now) (node-idled conf before after now (own_scope rule) source) nodes in
+    record {
+      nodes = each-map (IsKnown rule source seconds now history (node_states conf (own_scope rule) source before))
+          (IsKnown rule source seconds now history (node_states conf (own_scope rule) source after)) (idled conf before after now)
+          (λ n f e. let g : is_node (own_scope rule) source n ≡ true = sym (node-idled conf before after now (own_scope rule) source n) ∙ e in
+          knows-idled conf before after rule source seconds now history n g (f g)) nodes r.nodes;
+      absent = λ e. r.absent (sym same ∙ e);
+      noded = λ some. same ∙ r.noded (omega (arith, some, fewer));
+    }
+
+-- ---- nodes leave
+
+-- neither a state of the source is held, nor does its history count any more
+abbrev IsLost : Conf → ℕ → Addr → ℕ → ℕ → Score → List State → Type 0
+IsLost conf rule source seconds now history states =
+    (node_states conf (own_scope rule) source states ≡ 0) × Agrees seconds now zero_score history
+
+over-at : (conf : Conf) (rule : ℕ) (source : Addr) (seconds now : ℕ) (history : Score) (states : List State) (n : Node)
+    → seconds ≤ node_retention conf (own_scope rule) → is_node (own_scope rule) source n ≡ true
+    → Knows seconds now history (node_states conf (own_scope rule) source states) n → is_over conf states now n ≡ true
+    → IsLost conf rule source seconds now history states
+over-at conf rule source seconds now history states n long e k over =
+    let parts = both (node_states conf n.scope n.source states == 0) (nat_le (n.idle + node_retention conf n.scope) now) over in
+    let none : node_states conf n.scope n.source states ≡ 0 = zero_is (node_states conf n.scope n.source states) parts.0 in
+    let count : node_states conf (own_scope rule) source states ≡ 0 = sym (count-of-node conf (own_scope rule) source n states e) ∙ none in
+    let idle : n.idle + node_retention conf n.scope ≤ now = within (n.idle + node_retention conf n.scope) now parts.1 in
+    let kept = ap (node_retention conf) (scope-of-node (own_scope rule) source n e) in
+    let last = k.idle count in
+    (count, λ t later. sym (over-agrees seconds now n.score (omega (arith, idle, kept, last, long)) t later) ∙ k.agrees t later)
+  where
+    zero_is : (x : ℕ) → (x == 0) ≡ true → x ≡ 0
+    zero_is x f = grind (arith, nat_tests)
+
+    within : (x y : ℕ) → nat_le x y ≡ true → x ≤ y
+    within x y f = grind (arith, nat_tests)
+
+-- where the last of the nodes leaves
+lost : (conf : Conf) (rule : ℕ) (source : Addr) (seconds now : ℕ) (history : Score) (states : List State) (examined : List ℕ)
+    → seconds ≤ node_retention conf (own_scope rule) → (ns : List Node)
+    → AllByRecursion (IsKnown rule source seconds now history (node_states conf (own_scope rule) source states)) ns
+    → has_node (own_scope rule) source ns ≡ true → has_node (own_scope rule) source (filter (node_stays conf states now examined) ns) ≡ false
+    → IsLost conf rule source seconds now history states
+lost conf rule source seconds now history states examined long [] all has gone = absurd (false≢true has)
+lost conf rule source seconds now history states examined long (n ∷ ns) all has gone =
+    go (is_node (own_scope rule) source n) refl (node_stays conf states now examined n) refl has gone (lost conf rule source seconds now history states examined long ns all.1)
+  where
+    leaves : (a b : Bool) → not (a && b) ≡ false → b ≡ true
+    leaves true true f = refl
+    leaves true false f = absurd (false≢true (sym f))
+    leaves false b f = absurd (false≢true (sym f))
+
+    stay : List Node
+    stay = filter (node_stays conf states now examined) ns
+
+    go : (a : Bool) → is_node (own_scope rule) source n ≡ a → (b : Bool) → node_stays conf states now examined n ≡ b
+        → (a || has_node (own_scope rule) source ns) ≡ true → has_node (own_scope rule) source (cond b (n ∷ stay) stay) ≡ false
+        → (has_node (own_scope rule) source ns ≡ true → has_node (own_scope rule) source stay ≡ false → IsLost conf rule source seconds now history states)
+        → IsLost conf rule source seconds now history states
+    go true e true f h g i = absurd (false≢true (sym g ∙ rw e refl))
+    go true e false f h g i =
+        over-at conf rule source seconds now history states n long e (all.0 e) (leaves (is_among examined n.number) (is_over conf states now n) f)
+    go false e true f h g i = i h (rw e at g)
+    go false e false f h g i = i h g
+
+pub remembers-purged : (conf : Conf) (rule : ℕ) (source : Addr) (seconds now : ℕ) (history : Score) (states : List State) (examined : List ℕ) (nodes : List Node)
+    → seconds ≤ node_retention conf (own_scope rule) → Remembers rule source seconds now history (node_states conf (own_scope rule) source states) nodes
+    → Remembers rule source seconds now history (node_states conf (own_scope rule) source states) (filter (node_stays conf states now examined) nodes)
+remembers-purged conf rule source seconds now history states examined nodes long r = record {
+  nodes = each-filter (IsKnown rule source seconds now history (node_states conf (own_scope rule) source states)) (node_stays conf states now examined) nodes r.nodes;
+  absent = λ e. without (has_node (own_scope rule) source nodes) refl e;
+  noded = λ some. with (has_node (own_scope rule) source (filter (node_stays conf states now examined) nodes)) refl some;
+}
+  where
+    without : (b : Bool) → has_node (own_scope rule) source nodes ≡ b → has_node (own_scope rule) source (filter (node_stays conf states now examined) nodes) ≡ false
+        → Agrees seconds now zero_score history
+    without false h e = r.absent h
+    without true h e = (lost conf rule source seconds now history states examined long nodes r.nodes h e).1
+
+    with : (b : Bool) → has_node (own_scope rule) source (filter (node_stays conf states now examined) nodes) ≡ b
+        → 0 < node_states conf (own_scope rule) source states → b ≡ true
+    with true e some = refl
+    with false e some = absurd (omega (arith, some, (lost conf rule source seconds now history states examined long nodes r.nodes (r.noded some) e).0))

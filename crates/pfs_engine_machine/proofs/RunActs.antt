@@ -1,0 +1,33 @@
+-- A run of events is the run of its acts.
+use Rattle.std.proofs.Common.{◌≡◌, ℕ, List, [], ◌∷◌, ◌++◌, map, refl, sym, ◌∙◌, Some}
+use Rattle.pfs_conf_rules.specs.Configs.{Conf}
+use Rattle.pfs_track.specs.Purging.{purge}
+use Rattle.pfs_engine_machine.specs.Machine.{Held, Machine, handled, advanced, due, first_by, held_of, purged, step, machine_after}
+use Rattle.pfs_engine_machine.specs.declared.events.Event.{Event}
+use Rattle.pfs_engine_machine.specs.declared.events.What.{What}
+use Rattle.pfs_engine_machine.specs.declared.events.What.TheVariants as what
+use Rattle.pfs_engine_machine.specs.Acts.{RunAct, Purge, acts_from, arrivals, act_done, acts_done}
+
+pub done_all-append : (conf : Conf) (h : Held) (xs ys : List RunAct) → acts_done conf h (xs ++ ys) ≡ acts_done conf (acts_done conf h xs) ys
+done_all-append conf h [] ys = refl
+done_all-append conf h (x ∷ xs) ys = done_all-append conf (act_done conf h x) xs ys
+
+purges-done : (conf : Conf) (h : Held) (ss : List ℕ) (rest : List RunAct)
+    → acts_done conf h (map (λ s. Purge s) ss ++ rest) ≡ acts_done conf (held_of (purged conf h.world ss) h.tables) rest
+purges-done conf h [] rest = refl
+purges-done conf h (s ∷ ss) rest = purges-done conf (held_of (purge conf h.world s) h.tables) ss rest
+
+arrivals-done : (conf : Conf) (h : Held) (first now : ℕ) (what : What) (rest : List RunAct)
+    → acts_done conf h (arrivals first now what ++ rest) ≡ acts_done conf (handled conf h first now what).1 rest
+arrivals-done conf h first now what.Skip rest = refl
+arrivals-done conf h first now (what.Packet p) rest = refl
+arrivals-done conf h first now (what.Expire table seconds) rest = refl
+
+pub acts-done : (conf : Conf) (m : Machine) (es : List Event) → (machine_after conf m es).held ≡ acts_done conf m.held (acts_from m.first m.last es)
+unfolding machine_after step
+acts-done conf m [] = refl
+acts-done conf m (e ∷ es) =
+    let first = first_by m.first e.time in
+    let rest = acts_from (Some first) (Some e.time) es in
+    acts-done conf (step conf m e).1 es
+    ∙ sym (purges-done conf m.held (due m.last e.time) (arrivals first e.time e.what ++ rest) ∙ arrivals-done conf (advanced conf m e.time).held first e.time e.what rest)

@@ -1,0 +1,182 @@
+-- What is held is few, and its numbers are those that were made: for every list of acts, in whatever order their moments come.
+use Rattle.std.proofs.Common.{◌≡◌, ℕ, ◌+◌, ◌≤◌, Bool, true, false, nat_le, cond, List, [], ◌∷◌, ◌++◌, length, filter, take, drop, Option, Some, None, refl, sym, ◌∙◌, arith, length-drop, length-append}
+use Rattle.std.proofs.lemmas.Bool.{false≢true}
+use Rattle.std.proofs.lemmas.Bool.Decides.{nat_tests}
+use Rattle.std.proofs.lemmas.List.{length-map}
+use Rattle.pfs_addr.specs.Packets.{Header}
+use Rattle.pfs_addr.specs.declared.addresses.Addr.{Addr}
+use Rattle.pfs_conf_rules.specs.Configs.{Conf, limit_of, options_of}
+use Rattle.pfs_conf_rules.specs.declared.actions.Rate.{Rate}
+use Rattle.pfs_conf_rules.specs.declared.limits.LimitName.TheVariants as limit_name
+use Rattle.pfs_track.proofs.LimitLaws.{met_in_turn}
+use Rattle.pfs_track.specs.Admission.{admitted, new_node, new_state, nodes_with}
+use Rattle.pfs_track.specs.Calls.{packet_limit}
+use Rattle.pfs_track.specs.SourceLimits.{first_of, held_node_limit, new_node_limit, source_limit}
+use Rattle.pfs_track.specs.Counts.{has_node, node_scope_of, reached, rule_states, scope_nodes}
+use Rattle.pfs_track.specs.Leaving.{idled, left, without}
+use Rattle.pfs_track.specs.Purging.{is_among, node_numbers, node_round, node_share, node_slice, node_stays, round, state_numbers, state_round, state_share, state_slice, stays}
+use Rattle.pfs_track.specs.Touching.{completes_at, nodes_scored, nodes_touched, renewed, rescored, touched}
+use Rattle.pfs_track.specs.Worlds.{World, empty_world, holds_number}
+use Rattle.pfs_track.specs.declared.records.Limit.{Limit}
+use Rattle.pfs_track.specs.declared.records.Limit.TheVariants as limit
+use Rattle.pfs_track.specs.declared.records.Node.{Node}
+use Rattle.pfs_track.specs.declared.records.NodeScope.{NodeScope}
+use Rattle.pfs_track.specs.declared.records.State.{State}
+use Rattle.pfs_engine_machine.specs.Machine.{Held}
+use Rattle.pfs_engine_machine.proofs.PacketChanges.{answered_keeps}
+use Rattle.pfs_engine_machine.proofs.HeldNumbers.{among-same, made-more, numbers-idled, numbers-renewed, numbers-touched, was}
+use Rattle.pfs_engine_machine.proofs.Rounds.{length-filter-le}
+use Rattle.pfs_engine_machine.specs.Acts.{RunAct, Arrive, Expire, Purge, act_done, acts_done}
+
+abbrev pub state_limit : Conf → ℕ
+state_limit conf = limit_of conf limit_name.States
+
+abbrev pub node_limit : Conf → ℕ
+node_limit conf = limit_of conf limit_name.SrcNodes
+
+pub record IsSmall (conf : Conf) (w : World) : Type 0 where
+  pub states : length w.states ≤ state_limit conf
+  pub nodes : length w.nodes ≤ node_limit conf
+  pub pending_states : length w.pending_states ≤ state_limit conf
+  pub pending_nodes : length w.pending_nodes ≤ node_limit conf
+  pub state_made : (n : ℕ) → is_among (state_numbers w.states) n ≡ true → n ≤ w.made
+  pub node_made : (n : ℕ) → is_among (node_numbers w.nodes) n ≡ true → n ≤ w.made
+
+-- ---- one more
+
+none_of : (a b : Option Limit) → first_of a b ≡ None → (a ≡ None) × (b ≡ None)
+none_of None b e = (refl, e)
+none_of (Some l) b e = cc
+
+room : (most count : ℕ) (l : Limit) → cond (nat_le most count) (Some l) None ≡ None → count + 1 ≤ most
+room most count l e = go (nat_le most count) refl e
+  where
+    go : (b : Bool) → nat_le most count ≡ b → cond b (Some l) None ≡ None → count + 1 ≤ most
+    go true f k = cc
+    go false f k = grind (arith, nat_tests)
+
+later_room : (first : Bool) (most count : ℕ) (k l : Limit) → cond first (Some k) (cond (nat_le most count) (Some l) None) ≡ None → count + 1 ≤ most
+later_room true most count k l e = cc
+later_room false most count k l e = room most count l e
+
+nodes-admitted : (conf : Conf) (w : World) (rule : ℕ) (source : Addr) (o : Option NodeScope) → source_limit conf w (options_of conf rule) source o ≡ None
+    → length w.nodes ≤ node_limit conf → length (nodes_with w.nodes (w.made + 1) source o) ≤ node_limit conf
+nodes-admitted conf w rule source None e h = h
+nodes-admitted conf w rule source (Some scope) e h = go (has_node scope source w.nodes) e
+  where
+    new : Node
+    new = new_node (w.made + 1) scope source
+
+    go : (b : Bool) → cond b (held_node_limit conf w (options_of conf rule) scope source) (new_node_limit conf w (options_of conf rule) scope) ≡ None
+        → length (cond b w.nodes (w.nodes ++ new ∷ [])) ≤ node_limit conf
+    go true k = h
+    go false k =
+        omega (arith, length-append w.nodes (new ∷ []), later_room (reached (options_of conf rule).max_src_nodes (scope_nodes scope w.nodes)) (node_limit conf) (length w.nodes) limit.MaxSrcNodes limit.SrcNodes k)
+
+made-admitted : (nodes : List Node) (made : ℕ) (source : Addr) (o : Option NodeScope) → ((n : ℕ) → is_among (node_numbers nodes) n ≡ true → n ≤ made)
+    → (n : ℕ) → is_among (node_numbers (nodes_with nodes (made + 1) source o)) n ≡ true → n ≤ made + 1
+made-admitted nodes made source None h n k = omega (arith, h n k)
+made-admitted nodes made source (Some scope) h n k = go (has_node scope source nodes) k
+  where
+    new : Node
+    new = new_node (made + 1) scope source
+
+    go : (b : Bool) → is_among (node_numbers (cond b nodes (nodes ++ new ∷ []))) n ≡ true → n ≤ made + 1
+    go true e = omega (arith, h n e)
+    go false e = made-more (λ (d : Node). d.number) made nodes new refl h n e
+
+small-admitted : (conf : Conf) (w : World) (p : Header) (rule now : ℕ) → packet_limit conf w p rule ≡ None → IsSmall conf w → IsSmall conf (admitted conf w p rule now)
+small-admitted conf w p rule now e k =
+    let new : State = new_state (w.made + 1) p rule now in
+    let a = none_of (cond (reached (options_of conf rule).max (rule_states rule w.states)) (Some limit.Max) None) _ (sym (met_in_turn conf w rule p.source.addr) ∙ e) in
+    let b = none_of (source_limit conf w (options_of conf rule) p.source.addr (node_scope_of conf rule)) (cond (nat_le (state_limit conf) (length w.states)) (Some limit.States) None) a.1 in
+    record {
+      states = omega (arith, length-append w.states (new ∷ []), room (state_limit conf) (length w.states) limit.States b.1);
+      nodes = nodes-admitted conf w rule p.source.addr (node_scope_of conf rule) b.0 k.nodes;
+      pending_states = k.pending_states;
+      pending_nodes = k.pending_nodes;
+      state_made = made-more (λ (s : State). s.number) w.made w.states new refl k.state_made;
+      node_made = made-admitted w.nodes w.made p.source.addr (node_scope_of conf rule) k.node_made;
+    }
+
+-- ---- as many
+
+length-scored : (ns : List Node) (source : Addr) (now : ℕ) (scope : Option NodeScope) (rate : Option Rate) → length (nodes_scored ns source now scope rate) ≡ length ns
+length-scored ns source now None rate = refl
+length-scored ns source now (Some scope) None = refl
+length-scored ns source now (Some scope) (Some rate) = length-map ns (rescored scope source rate.seconds now)
+
+length-touched : (conf : Conf) (ns : List Node) (s : State) (now : ℕ) (completes : Bool) → length (nodes_touched conf ns s now completes) ≡ length ns
+length-touched conf ns s now true = length-scored ns s.source now (node_scope_of conf s.rule.0) (options_of conf s.rule.0).max_src_conn_rate
+length-touched conf ns s now false = refl
+
+small-touched : (conf : Conf) (w : World) (s : State) (p : Header) (now : ℕ) → IsSmall conf w → IsSmall conf (touched conf w s p now)
+small-touched conf w s p now k = record {
+  states = omega (arith, length-map w.states (renewed s.number p now), k.states);
+  nodes = omega (arith, length-touched conf w.nodes s now (completes_at p s), k.nodes);
+  pending_states = k.pending_states;
+  pending_nodes = k.pending_nodes;
+  state_made = λ n h. k.state_made n (among-same n _ _ (numbers-renewed s.number p now w.states) h);
+  node_made = λ n h. k.node_made n (among-same n _ _ (numbers-touched conf w.nodes s now (completes_at p s)) h);
+}
+
+-- ---- fewer
+
+small-left : (conf : Conf) (w : World) (p : State → Bool) (pending : List ℕ) (now : ℕ) → length pending ≤ state_limit conf → IsSmall conf w
+    → IsSmall conf (left conf w (filter p w.states) pending now)
+small-left conf w p pending now few k = record {
+  states = omega (arith, length-filter-le p w.states, k.states);
+  nodes = omega (arith, length-map w.nodes (idled conf w.states (filter p w.states) now), k.nodes);
+  pending_states = few;
+  pending_nodes = k.pending_nodes;
+  state_made = λ n h. k.state_made n (was (λ (s : State). s.number) p n w.states h);
+  node_made = λ n h. k.node_made n (among-same n _ _ (numbers-idled conf w.states (filter p w.states) now w.nodes) h);
+}
+
+small-without : (conf : Conf) (w : World) (stay : State → Bool) (now : ℕ) → IsSmall conf w → IsSmall conf (without conf w stay now)
+small-without conf w stay now k =
+    let still = holds_number (filter stay w.states) in
+    small-left conf w stay (filter still w.pending_states) now (omega (arith, length-filter-le still w.pending_states, k.pending_states)) k
+
+drop-few : (k most : ℕ) (held pending : List ℕ) → length held ≤ most → length pending ≤ most → length (drop k (round held pending)) ≤ most
+drop-few k most held [] h l = omega (arith, length-drop k held, h)
+drop-few k most held (m ∷ ms) h l = omega (arith, length-drop k (m ∷ ms), l)
+
+pub small-states : (conf : Conf) (w : World) (s : ℕ) → IsSmall conf w → IsSmall conf (state_slice conf w s)
+small-states conf w s k =
+    small-left conf w (stays conf w.states s (take (state_share conf) (state_round w))) (drop (state_share conf) (state_round w)) s
+    (drop-few (state_share conf) (state_limit conf) (state_numbers w.states) w.pending_states (omega (arith, length-map w.states (λ (s : State). s.number), k.states)) k.pending_states) k
+
+small-nodes : (conf : Conf) (w : World) (s : ℕ) → IsSmall conf w → IsSmall conf (node_slice conf w s)
+small-nodes conf w s k =
+    let stay = node_stays conf w.states s (take (node_share conf) (node_round w)) in
+    record {
+      states = k.states;
+      nodes = omega (arith, length-filter-le stay w.nodes, k.nodes);
+      pending_states = k.pending_states;
+      pending_nodes = drop-few (node_share conf) (node_limit conf) (node_numbers w.nodes) w.pending_nodes (omega (arith, length-map w.nodes (λ (n : Node). n.number), k.nodes)) k.pending_nodes;
+      state_made = k.state_made;
+      node_made = λ n h. k.node_made n (was (λ (n : Node). n.number) stay n w.nodes h);
+    }
+
+-- ---- together
+
+pub small-done : (conf : Conf) (m : Held) (a : RunAct) → IsSmall conf m.world → IsSmall conf (act_done conf m a).world
+small-done conf m (Purge s) k = small-nodes conf (state_slice conf m.world s) s (small-states conf m.world s k)
+small-done conf m (Arrive now p) k =
+    answered_keeps conf (IsSmall conf) (record { touches = small-touched conf; kills = small-without conf; admits = small-admitted conf }) m p now k
+small-done conf m (Expire first now table seconds) k = k
+
+pub small-done_all : (conf : Conf) (m : Held) (acts : List RunAct) → IsSmall conf m.world → IsSmall conf (acts_done conf m acts).world
+small-done_all conf m [] k = k
+small-done_all conf m (a ∷ acts) k = small-done_all conf (act_done conf m a) acts (small-done conf m a k)
+
+pub small-empty : (conf : Conf) → IsSmall conf empty_world
+small-empty conf = record {
+  states = omega arith;
+  nodes = omega arith;
+  pending_states = omega arith;
+  pending_nodes = omega arith;
+  state_made = λ n h. absurd (false≢true h);
+  node_made = λ n h. absurd (false≢true h);
+}

@@ -1,0 +1,57 @@
+-- A run as the single things that happen in it, one after another. (own)
+use Rattle.std.specs.Prelude.{◌≡◌, ℕ, suc, Option, Some, None, List, [], ◌∷◌, ◌++◌, map}
+use Rattle.pfs_addr.specs.Packets.{Header}
+use Rattle.pfs_conf_rules.specs.Configs.{Conf}
+use Rattle.pfs_track.specs.Purging.{purge}
+use Rattle.pfs_engine_machine.specs.Kept.{IsWithinLimits}
+use Rattle.pfs_engine_machine.specs.Machine.{Held, answered, due, expired, first_by, held_of, start}
+use Rattle.pfs_engine_machine.specs.declared.events.Event.{Event}
+use Rattle.pfs_engine_machine.specs.declared.events.What.{What}
+use Rattle.pfs_engine_machine.specs.declared.events.What.TheVariants as what
+
+-- the purge of a second, a packet that arrives at a moment, or old entries that leave a table, in a run that began at the first
+-- of these moments, at the second, by its number and these seconds
+pub data RunAct : Type 0 where
+  Purge : ℕ → RunAct
+  Arrive : ℕ → Header → RunAct
+  Expire : ℕ → ℕ → ℕ → ℕ → RunAct
+
+abbrev pub arrivals : ℕ → ℕ → What → List RunAct
+arrivals first now what.Skip = []
+arrivals first now (what.Packet p) = Arrive now p ∷ []
+arrivals first now (what.Expire table seconds) = Expire first now table.0 seconds ∷ []
+
+-- what these events make a run do, from its first moment and its last one on: before each event the purges due
+abbrev pub acts_from : Option ℕ → Option ℕ → List Event → List RunAct
+acts_from first last [] = []
+acts_from first last (e ∷ es) =
+    map (λ s. Purge s) (due last e.time) ++ (arrivals (first_by first e.time) e.time e.what ++ acts_from (Some (first_by first e.time)) (Some e.time) es)
+
+-- from its last moment on, where it has none before
+abbrev pub acts_of : Option ℕ → List Event → List RunAct
+acts_of last es = acts_from None last es
+
+-- what is held after one of them, after all of them, and after the first of a run
+abbrev pub act_done : Conf → Held → RunAct → Held
+act_done conf h (Purge s) = held_of (purge conf h.world s) h.tables
+act_done conf h (Arrive now p) = (answered conf h p now).1
+act_done conf h (Expire first now table seconds) = (expired h first now table seconds).1
+
+abbrev pub acts_done : Conf → Held → List RunAct → Held
+acts_done conf h [] = h
+acts_done conf h (a ∷ acts) = acts_done conf (act_done conf h a) acts
+
+abbrev pub after : Conf → List RunAct → Held
+after conf acts = acts_done conf (start conf).held acts
+
+-- how many purges are among them
+abbrev pub purges : List RunAct → ℕ
+purges [] = 0
+purges (Purge s ∷ acts) = suc (purges acts)
+purges (Arrive now p ∷ acts) = purges acts
+purges (Expire first now table seconds ∷ acts) = purges acts
+
+-- after each purge, each packet and each expiry of a run, what is held is within the limits
+abbrev pub StaysWithinLimits : Conf → List Event → Type 0
+StaysWithinLimits conf events =
+    (earlier later : List RunAct) → acts_of None events ≡ earlier ++ later → IsWithinLimits conf (after conf earlier)

@@ -1,0 +1,49 @@
+-- A rate counts every handshake of its source, however often the source's node was purged. (own; pf.conf(5), STATEFUL TRACKING
+-- OPTIONS, "max-src-conn-rate")
+use Rattle.std.specs.Prelude.{◌≡◌, ℕ, ◌*◌, nat_lt, length, option_map, slice_get, Bool, false, Some, List, [], ◌∷◌, ◌++◌}
+use Rattle.pfs_conf_rules.specs.Configs.{Conf, options_of}
+use Rattle.pfs_conf_rules.specs.declared.actions.Rate.{Rate}
+use Rattle.pfs_track.specs.Counts.{node_scope_of}
+use Rattle.pfs_track.specs.Touching.{score_in, touched}
+use Rattle.pfs_track.specs.Worlds.{World}
+use Rattle.pfs_track.specs.declared.records.State.{State}
+use Rattle.pfs_track.specs.Scores.{zero_score}
+use Rattle.pfs_track.specs.declared.scores.Score.{Score}
+use Rattle.pfs_engine_machine.specs.Machine.{advanced, start, machine_after, outcomes_of}
+use Rattle.pfs_engine_machine.specs.Rates.{handshake_at, history_score}
+use Rattle.pfs_engine_machine.specs.declared.events.Event.{Event}
+use Rattle.pfs_engine_machine.specs.declared.events.Outcome.{Outcome}
+use Rattle.pfs_engine_machine.specs.declared.events.Outcome.TheVariants as outcome
+use Rattle.pfs_engine_machine.specs.declared.events.What.{What}
+use Rattle.pfs_engine_machine.specs.declared.events.What.TheVariants as what
+
+-- in the run of these events one comes after others and completes the handshake of this state, whose rule has this rate
+pub record IsHandshake (conf : Conf) (events before : List Event) (e : Event) (s : State) (rate : Rate) : Type 0 where
+  pub run : (later : List Event) × (events ≡ (before ++ e ∷ []) ++ later)
+  pub completes : handshake_at conf (machine_after conf (start conf) before) e ≡ Some s
+  pub rated : (options_of conf s.rule.0).max_src_conn_rate ≡ Some rate
+
+-- the score that is compared with the limit where a packet completes the handshake of a state: that of its node, with this handshake
+abbrev pub score_compared : Conf → World → ℕ → What → State → Score
+score_compared conf w now what.Skip s = zero_score
+score_compared conf w now (what.Packet p) s = score_in s.source (touched conf w s p now).nodes (node_scope_of conf s.rule.0)
+score_compared conf w now (what.Expire table seconds) s = zero_score
+
+-- at each handshake of a rule with a rate, that score is the one of the whole history of its source's handshakes
+abbrev pub ScoreIsRemembered : Conf → List Event → Type 0
+ScoreIsRemembered conf events =
+    (before : List Event) (e : Event) (s : State) (rate : Rate) → IsHandshake conf events before e s rate →
+    score_compared conf (advanced conf (machine_after conf (start conf) before) e.time).held.world e.time e.what s
+    ≡ history_score conf s.rule.0 s.source (before ++ e ∷ [])
+
+-- a state is killed and `max-src-conn-rate` is told
+abbrev pub rate_hit : Outcome → Bool
+rate_hit (outcome.Kill rule conn rate overload killed) = rate
+rate_hit _ = false
+
+-- and its outcome in the run is a hit of the rate exactly where that score exceeds 1000 for each handshake of the rate
+abbrev pub RateIsRemembered : Conf → List Event → Type 0
+RateIsRemembered conf events =
+    (before : List Event) (e : Event) (s : State) (rate : Rate) → IsHandshake conf events before e s rate →
+    option_map rate_hit (slice_get (outcomes_of conf (start conf) events) (length before))
+    ≡ Some (nat_lt (1000 * rate.limit) (history_score conf s.rule.0 s.source (before ++ e ∷ [])).value)
