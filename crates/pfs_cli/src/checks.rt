@@ -38,6 +38,7 @@ pub fn check<R: Read, W: Write>(
     ensures read { result ≡ Err ReplayFault.Read → 0 < read_failures rules.new }
     ensures endless { result ≡ Err ReplayFault.Endless → IsSpent rules.new }
     ensures write { result ≡ Err ReplayFault.Write → 0 < write_failures out.new }
+    ensures memory { result ≡ Err ReplayFault.Memory → read_failures rules.new ≡ 0 }
 {
     let config = match read_config(alloc, rules) {
         Ok(config) => config,
@@ -67,6 +68,7 @@ pub fn print<R: Read, W: Write>(
     ensures read { result ≡ Err ReplayFault.Read → 0 < read_failures rules.new }
     ensures endless { result ≡ Err ReplayFault.Endless → IsSpent rules.new }
     ensures write { result ≡ Err ReplayFault.Write → 0 < write_failures out.new }
+    ensures memory { result ≡ Err ReplayFault.Memory → read_failures rules.new ≡ 0 }
 {
     let config = match read_config(alloc, rules) {
         Ok(config) => config,
@@ -87,6 +89,8 @@ fn read_config<R: Read>(alloc: Global, rules: &mut Feed<R>) -> Result<Config, Re
     ensures few { (rs : List ℕ) → unread R.remaining rules.old ≡ Some rs → (k : ℕ) × (k ≤ rules_limit + 1) × (unread R.remaining rules.new ≡ Some (drop k rs)) }
     ensures read { result ≡ Err ReplayFault.Read → 0 < read_failures rules.new }
     ensures endless { result ≡ Err ReplayFault.Endless → IsSpent rules.new }
+    ensures memory { result ≡ Err ReplayFault.Memory → read_failures rules.new ≡ 0 }
+    ensures sound { IfOk result (λ c. read_failures rules.new ≡ 0) }
     ensures no_write { IfErr result (λ f. f ≢ ReplayFault.Write) }
 {
     let text = match read_text(alloc, rules) {

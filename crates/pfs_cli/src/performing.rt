@@ -40,6 +40,7 @@ pub fn perform<R: Read, T: Read, W: Write>(
     ensures read { result ≡ Err ReplayFault.Read → (0 < read_failures rules.new) ⊎ (0 < read_failures trace.new) }
     ensures endless { result ≡ Err ReplayFault.Endless → IsSpent rules.new ⊎ IsSpent trace.new }
     ensures write { result ≡ Err ReplayFault.Write → 0 < write_failures out.new }
+    ensures memory { OfRulesFile job.now (result ≡ Err ReplayFault.Memory → read_failures rules.new ≡ 0) }
 {
     match job {
         Job::Joined => replay_joined(alloc, rules, out),

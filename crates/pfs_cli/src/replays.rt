@@ -27,6 +27,7 @@ pub(crate) fn feed_fault<R>(feed: &Feed<R>) -> ReplayFault
     ensures kinds { IsFeedFault result }
     ensures read { result ≡ ReplayFault.Read → 0 < read_failures feed.now }
     ensures endless { result ≡ ReplayFault.Endless → IsSpent feed.now }
+    ensures memory { result ≡ ReplayFault.Memory → read_failures feed.now ≡ 0 }
 {
     if feed.failures() > 0 {
         ReplayFault::Read
@@ -63,6 +64,7 @@ pub(crate) fn read_text<R: Read>(alloc: Global, rules: &mut Feed<R>) -> Result<V
     ensures kinds { IfErr result (λ f. IsFeedFault f) }
     ensures read { result ≡ Err ReplayFault.Read → 0 < read_failures rules.new }
     ensures endless { result ≡ Err ReplayFault.Endless → IsSpent rules.new }
+    ensures memory { result ≡ Err ReplayFault.Memory → read_failures rules.new ≡ 0 }
 {
     match read_rules(alloc, rules) {
         Ok(text) => Ok(text),
@@ -140,6 +142,7 @@ pub fn replay<R: Read, T: Read, W: Write>(
     ensures read { result ≡ Err ReplayFault.Read → (0 < read_failures rules.new) ⊎ (0 < read_failures trace.new) }
     ensures endless { result ≡ Err ReplayFault.Endless → IsSpent rules.new ⊎ IsSpent trace.new }
     ensures write { result ≡ Err ReplayFault.Write → 0 < write_failures out.new }
+    ensures memory { result ≡ Err ReplayFault.Memory → read_failures rules.new ≡ 0 }
 {
     let text = match read_text(alloc, rules) {
         Ok(text) => text,

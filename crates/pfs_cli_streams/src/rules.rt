@@ -1,7 +1,7 @@
 //! The bytes of a rules text that has a reader of its own.
 
-ghost use Rattle.std.specs.Prelude.{◌≡◌, Some, ◌≤◌, ◌+◌, ℕ, List, true, IfOk, length, drop};
-ghost use Rattle.pfs_cli_streams.specs.Feeds.{unread, has_ended, read_failures};
+ghost use Rattle.std.specs.Prelude.{◌≡◌, ◌⊎◌, Some, Err, ◌<◌, ◌≤◌, ◌+◌, ℕ, List, true, IfOk, length, drop};
+ghost use Rattle.pfs_cli_streams.specs.Feeds.{unread, has_ended, read_failures, IsSpent};
 ghost use Rattle.pfs_cli_streams.specs.Kept.{KeepsEnough, rules_limit};
 
 use crate::feeds::Feed;
@@ -28,6 +28,10 @@ pub fn read_rules<R: Read>(alloc: Global, rules: &mut Feed<R>) -> Result<Vec<u8>
     ensures ended { IfOk result (λ v. length v.items ≤ rules_limit → has_ended rules.new ≡ true) }
     ensures sound { IfOk result (λ v. read_failures rules.new ≡ 0) }
     ensures few { (rs : List ℕ) → unread R.remaining rules.old ≡ Some rs → (k : ℕ) × (k ≤ rules_limit + 1) × (unread R.remaining rules.new ≡ Some (drop k rs)) }
+
+    // No stop is told that was another.
+    ensures source { result ≡ Err RulesStop.Source → (0 < read_failures rules.new) ⊎ IsSpent rules.new }
+    ensures memory { result ≡ Err RulesStop.Memory → read_failures rules.new ≡ 0 }
 {
     let mut text = Vec::new(alloc);
     let mut chunk = [0; 4096];
