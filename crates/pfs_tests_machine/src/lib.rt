@@ -16,7 +16,11 @@ macro_rules! same {
 #[cfg(test)]
 mod admission;
 #[cfg(test)]
+mod calls;
+#[cfg(test)]
 mod checks;
+#[cfg(test)]
+mod comparing;
 #[cfg(test)]
 mod connections;
 #[cfg(test)]

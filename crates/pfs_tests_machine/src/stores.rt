@@ -3,14 +3,17 @@
 ghost use Rattle.std.specs.Prelude.{◌≡◌, ◌≤◌};
 ghost use Rattle.pfs_track.specs.Worlds.{IsUpToNow};
 
+use crate::calls::{
+    admit, flush, kill, pass_over, purge_nodes, purge_states, touch, watch_nodes, watch_states,
+};
 use crate::engines::{UNSCALED, configured};
 use crate::packets::{A1, A2, ACK, SYN, SYN_ACK, Sent, packet};
 use crate::tallied::Tallied;
-use pfs_addr::{Addr, FlowKey, Meter, Packet};
+use pfs_addr::{Addr, FlowKey};
 use pfs_conf::{Config, RuleNo};
 use pfs_store::IndexStore;
 use pfs_store_plain::PlainStore;
-use pfs_track::{Limit, Score, Slice, StateNo, Store, Touched, Watched};
+use pfs_track::{Limit, Score, StateNo, Store, Touched};
 use std::process::Abort;
 use std::test::Fail;
 
@@ -45,75 +48,6 @@ enum Step {
 
 /// When it is done, and what.
 type Row = (u64, Step);
-
-fn admit<S: Store>(
-    rt: &impl Abort,
-    store: &mut S,
-    config: &Config,
-    packet: &Packet,
-    rule: RuleNo,
-    now: u64,
-) -> Result<Result<StateNo, Limit>, Fail>
-    requires made_for { S.config store.old ≡ config.now }
-    requires order { IsUpToNow now (S.world store.old) }
-    ensures made_for { S.config store.new ≡ config.now }
-    ensures order { IsUpToNow now (S.world store.new) }
-{
-    if store.find(&FlowKey::of(packet)).is_some() {
-        return Err("its key is held".into());
-    }
-    assert!(rt; config.options(rule).is_some());
-    assert!(rt; store.made() < 1_000_000_000);
-    Ok(store.admit(packet, rule, now)?)
-}
-
-fn touch<S: Store>(store: &mut S, packet: &Packet, now: u64) -> Result<Touched, Fail>
-    requires order { IsUpToNow now (S.world store.old) }
-    ensures order { IsUpToNow now (S.world store.new) }
-    ensures made_for { S.config store.new ≡ S.config store.old }
-{
-    let number = store
-        .find(&FlowKey::of(packet))
-        .ok_or("its key is not held")?;
-    let mut meter = Meter::new();
-    Ok(store.touch(number, packet, now, &mut meter))
-}
-
-fn kill<S: Store>(rt: &impl Abort, store: &mut S, number: StateNo, now: u64)
-    requires order { IsUpToNow now (S.world store.old) }
-    ensures order { IsUpToNow now (S.world store.new) }
-    ensures made_for { S.config store.new ≡ S.config store.old }
-{
-    assert!(rt; store.holds(number));
-    let mut meter = Meter::new();
-    store.kill(number, now, &mut meter);
-}
-
-fn flush<S: Store>(store: &mut S, source: Addr, rule: Option<RuleNo>, now: u64) -> u64
-    requires order { IsUpToNow now (S.world store.old) }
-    ensures order { IsUpToNow now (S.world store.new) }
-    ensures made_for { S.config store.new ≡ S.config store.old }
-{
-    let mut meter = Meter::new();
-    store.flush(source, rule, now, &mut meter)
-}
-
-fn purge_states<S: Store>(store: &mut S, now: u64) -> Slice
-    requires order { IsUpToNow now (S.world store.old) }
-    ensures order { IsUpToNow now (S.world store.new) }
-    ensures made_for { S.config store.new ≡ S.config store.old }
-{
-    let mut meter = Meter::new();
-    store.purge_states(now, &mut meter)
-}
-
-fn purge_nodes<S: Store>(store: &mut S, now: u64) -> Slice
-    requires order { IsUpToNow now (S.world store.old) }
-    ensures order { IsUpToNow now (S.world store.new) }
-    ensures made_for { S.config store.new ≡ S.config store.old }
-{
-    store.purge_nodes(now)
-}
 
 // A handshake of the first source from this port: what its third packet did
 fn shake<S: Store>(
@@ -211,31 +145,6 @@ fn leave<S: Store>(rt: &impl Abort, store: &mut S, now: u64, step: &Step)
         }
         _ => {}
     }
-}
-
-fn watch_states<S: Store>(store: &mut S, now: u64) -> Watched
-    requires order { IsUpToNow now (S.world store.old) }
-    ensures order { IsUpToNow now (S.world store.new) }
-    ensures made_for { S.config store.new ≡ S.config store.old }
-{
-    let mut meter = Meter::new();
-    store.watch_states(now, &mut meter)
-}
-
-fn watch_nodes<S: Store>(store: &mut S, now: u64) -> Watched
-    requires order { IsUpToNow now (S.world store.old) }
-    ensures order { IsUpToNow now (S.world store.new) }
-    ensures made_for { S.config store.new ≡ S.config store.old }
-{
-    store.watch_nodes(now)
-}
-
-fn pass_over<S: Store>(store: &mut S, now: u64, seconds: u64) -> u64
-    requires order { IsUpToNow now (S.world store.old) }
-    ensures order { IsUpToNow now (S.world store.new) }
-    ensures made_for { S.config store.new ≡ S.config store.old }
-{
-    store.pass_over(seconds)
 }
 
 fn watch<S: Store>(rt: &impl Abort, store: &mut S, now: u64, step: &Step)

@@ -1,0 +1,31 @@
+//! The rules of a configuration, asked about packets.
+
+use pfs_addr::{Meter, Packet};
+use pfs_conf::{Config, RuleNo};
+use pfs_eval::{Book, Tables};
+use std::alloc::Global;
+use std::test::Fail;
+
+/// Rules, ready to be asked.
+#[derive(Drop)]
+pub struct Rules {
+    tables: Tables,
+    book: Book,
+}
+
+impl Rules {
+    /// The rules of a configuration, with its tables.
+    pub fn of(alloc: Global, config: &Config) -> Result<Rules, Fail> {
+        Ok(Rules {
+            tables: Tables::new(alloc, config)?,
+            book: Book::new(alloc, config)?,
+        })
+    }
+
+    /// The rule that decides on a packet, and the number of visits.
+    pub fn ask(&self, packet: &Packet) -> (Option<RuleNo>, u64) {
+        let mut visits = Meter::new();
+        let decided = self.book.decide(&self.tables, packet, &mut visits);
+        (decided, visits.count())
+    }
+}

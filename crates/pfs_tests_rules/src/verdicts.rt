@@ -1,0 +1,161 @@
+//! Which rule decides on a packet, by each parameter of a rule.
+
+use crate::asking::Rules;
+use crate::packets::{A1, S6, packet};
+use crate::texts::configured;
+use pfs_addr::{Addr, Dir, Packet, Proto};
+use pfs_conf::RuleNo;
+use std::alloc::Global;
+use std::test::Fail;
+
+// Two tables, for the rules behind them.
+const TABLES: &[u8] =
+    b"table <t> { 10.0.0.0/8, !10.1.0.0/16, 10.1.2.3 }\ntable <bad> { 203.0.113.9 }\n";
+
+// The rule of a text, behind the two tables, that decides on a packet, and the number of visits.
+fn decided(alloc: Global, rules: &[u8], packet: &Packet) -> Result<(Option<RuleNo>, u64), Fail> {
+    let rules = Rules::of(alloc, &configured(alloc, TABLES, rules)?)?;
+    Ok(rules.ask(packet))
+}
+
+const PARAMETERS: &[(&[u8], bool, bool)] = &[
+    (b"pass", true, true),
+    (b"pass in", true, true),
+    (b"pass out", false, false),
+    (b"pass inet", true, true),
+    (b"pass proto udp", false, true),
+    (b"pass proto tcp", true, false),
+    (b"pass proto esp", false, false),
+    (b"pass on em0", true, true),
+    (b"pass on !em0", false, false),
+    (b"pass on em1", false, false),
+    (b"pass on !em1", true, true),
+    (b"pass from 10.1.9.9/16", true, true),
+    (b"pass from !10.1.9.9/16", false, false),
+    (b"pass to 10.1.9.9/16", false, false),
+    (b"pass to !10.1.9.9/16", true, true),
+    (b"pass from <t>", false, false),
+    (b"pass from !<t>", true, true),
+    (b"pass proto tcp to any port 80", true, false),
+    (b"pass proto tcp to any port 22:80", true, false),
+    (b"pass proto tcp to any port 81:90", false, false),
+    (b"pass proto tcp to any port 22:79", false, false),
+    (b"pass proto udp from any port 1000", false, true),
+];
+
+#[test]
+fn each_parameter_is_asked(rt: HostRuntime) -> Result<(), Fail> {
+    let source = Addr::V4([10, 1, 0, 1]);
+    let tcp = packet(Dir::In, Proto::Tcp, source, 80)?;
+    let udp = packet(Dir::In, Proto::Udp, source, 80)?;
+    for &(rule, of_tcp, of_udp) in PARAMETERS {
+        for (packet, is_decided) in [(&tcp, of_tcp), (&udp, of_udp)] {
+            let decided = decided(rt.alloc(), rule, packet)?;
+            let wanted = if is_decided { Some(RuleNo(0)) } else { None };
+            same!(rt; decided, (wanted, 1), rule);
+        }
+    }
+    Ok(())
+}
+
+// A rule, and whether it holds of a packet from 198.51.100.1 to 192.0.2.1, and of one from 2001:db8::1 to 2001:db8::53
+const FAMILIES: &[(&[u8], bool, bool)] = &[
+    (b"pass", true, true),
+    (b"pass inet", true, false),
+    (b"pass inet6", false, true),
+    (b"pass from any to any", true, true),
+    (b"pass from 198.51.100.0/24", true, false),
+    (b"pass from !198.51.100.0/24", false, false),
+    (b"pass from !198.51.101.0/24", true, false),
+    (b"pass from 2001:db8::/32", false, true),
+    (b"pass from !2001:db8::/32", false, false),
+    (b"pass from !2001:db9::/32", false, true),
+    (b"pass to 192.0.2.1", true, false),
+    (b"pass to 2001:DB8:0:0:0:0:0:53", false, true),
+    (b"pass to !2001:db8::54", false, true),
+    (b"pass from 0.0.0.0/0", true, false),
+    (b"pass from ::/0", false, true),
+    (b"pass from !::/0", false, false),
+    (b"pass inet from 2001:db8::/32", false, false),
+    (b"pass inet6 from !198.51.100.0/24", false, false),
+    (b"pass from <six>", false, true),
+    (b"pass from !<six>", true, false),
+    (b"pass from !<four>", false, true),
+    (b"pass inet6 from !<four>", false, true),
+];
+
+const TABLES_OF_BOTH: &[u8] = b"table <six> { 2001:db8::/32 }\ntable <four> { 0.0.0.0/0 }\n";
+
+#[test]
+fn families_are_asked_apart(rt: HostRuntime) -> Result<(), Fail> {
+    let four = packet(Dir::In, Proto::Tcp, A1, 80)?;
+    let six = packet(Dir::In, Proto::Tcp, S6, 80)?;
+    for &(rule, of_four, of_six) in FAMILIES {
+        let rules = Rules::of(rt.alloc(), &configured(rt.alloc(), TABLES_OF_BOTH, rule)?)?;
+        for (packet, is_decided) in [(&four, of_four), (&six, of_six)] {
+            let (decided, _) = rules.ask(packet);
+            same!(rt; decided.is_some(), is_decided, rule);
+        }
+    }
+    Ok(())
+}
+
+const FLAGS: &[(&[u8], bool)] = &[
+    (b"block flags S/SA", true),
+    (b"block flags A/SA", false),
+    (b"block flags SA/SA", false),
+    (b"block flags /A", true),
+    (b"block flags /SA", false),
+    (b"block flags S/A", false),
+    (b"block flags any", true),
+];
+
+#[test]
+fn flags_are_asked_of_tcp_alone(rt: HostRuntime) -> Result<(), Fail> {
+    let tcp = packet(Dir::In, Proto::Tcp, A1, 80)?;
+    let udp = packet(Dir::In, Proto::Udp, A1, 80)?;
+    for &(rule, holds) in FLAGS {
+        let (decided_tcp, _) = decided(rt.alloc(), rule, &tcp)?;
+        same!(rt; decided_tcp.is_some(), holds, rule);
+        let (decided_udp, _) = decided(rt.alloc(), rule, &udp)?;
+        same!(rt; decided_udp.is_some(), true, rule);
+    }
+    Ok(())
+}
+
+const ANCHORED: &[u8] = b"block all
+anchor \"a\" in {
+pass quick proto udp to any port 53
+anchor out {
+pass
+}
+pass proto tcp
+}
+anchor \"b\" quick proto tcp {
+pass proto tcp to any port 22
+}
+pass in proto udp
+";
+
+// The packet, the rule that decides on it, and the number of visits
+const QUICK: &[(Dir, bool, u16, u32, u64)] = &[
+    (Dir::In, false, 53, 2, 3),
+    (Dir::In, true, 22, 7, 7),
+    (Dir::In, true, 80, 5, 8),
+    (Dir::In, false, 99, 8, 7),
+    (Dir::Out, false, 53, 0, 4),
+];
+
+#[test]
+fn quick_ends_the_whole_evaluation(rt: HostRuntime) -> Result<(), Fail> {
+    for &(dir, is_tcp, port, rule, visits) in QUICK {
+        let packet = if is_tcp {
+            packet(dir, Proto::Tcp, A1, port)?
+        } else {
+            packet(dir, Proto::Udp, A1, port)?
+        };
+        let decided = decided(rt.alloc(), ANCHORED, &packet)?;
+        same!(rt; decided, (Some(RuleNo(rule)), visits), rule);
+    }
+    Ok(())
+}

@@ -1,5 +1,0 @@
-//! Tests that compare the two kinds of store.
-#![tactic(auto)]
-
-#[cfg(test)]
-mod comparing;
