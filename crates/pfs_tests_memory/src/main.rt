@@ -1,10 +1,11 @@
-// Each call below the program that may answer want of memory, so that a growth that is refused shows which call it was, and what stands
-// after it. Standard output has a line before each call and one behind it, and then whether the answer is the plain one, or refused, with all that has
-// to stand still there. Words choose what is called; without words it is everything.
+// Each call that may answer want of memory, so that a growth that is refused shows which call it was, and what stands after it. Standard
+// output has a line before each call and one behind it, and then whether the answer is the plain one, or refused, with all that has to stand
+// still there. Words choose what is called; without words it is everything.
 #![tactic(auto)]
 
 mod engines;
 mod packets;
+mod programs;
 mod stores;
 mod tables;
 mod texts;
@@ -26,6 +27,7 @@ fn tell_all(rt: &HostRuntime) -> Result<(), Stop> {
     };
     tell_texts(rt, chosen)?;
     tell_machine(rt, chosen)?;
+    tell_program(rt, chosen)?;
     println!(rt; "whole")?;
     Ok(())
 }
@@ -55,6 +57,16 @@ fn tell_machine(rt: &HostRuntime, chosen: &str) -> Result<(), Stop> {
     }
     if is_chosen(chosen, "index-engine") {
         engines::tell_indexed(rt)?;
+    }
+    Ok(())
+}
+
+fn tell_program(rt: &HostRuntime, chosen: &str) -> Result<(), Stop> {
+    if is_chosen(chosen, "replays") {
+        programs::tell_replays(rt)?;
+    }
+    if is_chosen(chosen, "jobs") {
+        programs::tell_jobs(rt)?;
     }
     Ok(())
 }

@@ -1,11 +1,15 @@
 //! The tables of a configuration: which entry answers, and which hosts are added.
 
+ghost use Rattle.std.specs.Prelude.{◌≡◌, IfOk, length};
+
 use crate::packets::{A1, S6};
 use crate::texts::configured;
 use pfs_addr::Addr;
 use pfs_addr_text::parse_addr;
 use pfs_conf::TableNo;
 use pfs_eval::{Added, Tables};
+use std::alloc::AllocGlobal;
+use std::process::Abort;
 use std::test::Fail;
 
 const TABLES: &[u8] =
@@ -44,45 +48,47 @@ fn a_table_answers_by_its_narrowest_entry(rt: HostRuntime) -> Result<(), Fail> {
     Ok(())
 }
 
-#[test]
-fn a_host_is_added_while_there_is_room(rt: HostRuntime) -> Result<(), Fail> {
+// The tables of a text with one, of one entry
+fn one_table(rt: &(impl Abort + AllocGlobal), first: &[u8]) -> Result<Tables, Fail>
+    ensures { IfOk result (λ tables. length tables.entries ≡ 1) }
+{
+    let config = configured(rt.alloc(), first, b"table <bad> { 203.0.113.9 }")?;
+    assert!(rt; config.table_count() == 1);
+    let tables = Tables::new(rt.alloc(), &config)?;
+    same!(rt; tables.entries(), 1);
+    Ok(tables)
+}
+
+// What a host is answered that is new, and once more, and how many entries there are then
+type Room = (Added, Added, u64);
+
+fn come_to(rt: &impl Abort, tables: &mut Tables, room: Room) -> Result<(), Fail>
+    requires { length tables.old.entries ≡ 1 }
+{
+    let (answer, again, entries) = room;
     let held = Addr::V4([203, 0, 113, 9]);
-    for (first, is_full, answer, again, entries) in [
-        (
-            b"set limit table-entries 1\n".as_slice(),
-            true,
-            Added::Full,
-            Added::Full,
-            1,
-        ),
-        (
-            b"set limit table-entries 2\n",
-            false,
-            Added::New,
-            Added::Held,
-            2,
-        ),
-    ] {
-        let config = configured(rt.alloc(), first, b"table <bad> { 203.0.113.9 }")?;
-        assert!(rt; config.table_count() == 1);
-        let mut tables = Tables::new(rt.alloc(), &config)?;
-        same!(rt; tables.entries(), 1);
-        tables.make_room(TableNo(0))?;
-        assert!(rt; is_full || tables.has_room(TableNo(0)));
-        same!(rt; tables.add_host(TableNo(0), A1, 5)?, answer);
-        same!(rt; tables.add_host(TableNo(0), A1, 5)?, again);
-        same!(rt; tables.add_host(TableNo(0), held, 5)?, Added::Held);
-        same!(rt; tables.entries(), entries);
-        same!(rt; tables.matches(TableNo(0), A1), !is_full);
-    }
+    let is_new = answer == Added::New;
+    tables.make_room(TableNo(0))?;
+    assert!(rt; !is_new || tables.has_room(TableNo(0)));
+    same!(rt; tables.add_host(TableNo(0), A1, 5)?, answer);
+    same!(rt; tables.add_host(TableNo(0), A1, 5)?, again);
+    same!(rt; tables.add_host(TableNo(0), held, 5)?, Added::Held);
+    same!(rt; tables.entries(), entries);
+    same!(rt; tables.matches(TableNo(0), A1), is_new);
     Ok(())
 }
 
 #[test]
-fn a_host_of_ipv6_is_an_entry_of_128_bits(rt: HostRuntime) -> Result<(), Fail> {
-    let config = configured(rt.alloc(), b"", b"table <bad> { 203.0.113.9 }")?;
-    assert!(rt; config.table_count() == 1);
-    let mut tables = Tables::new(rt.alloc(), &config)?;
+fn a_host_is_added_while_there_is_room(rt: HostRuntime) -> Result<(), Fail> {
+    let mut full = one_table(&rt, b"set limit table-entries 1\n")?;
+    come_to(&rt, &mut full, (Added::Full, Added::Full, 1))?;
+    let mut roomy = one_table(&rt, b"set limit table-entries 2\n")?;
+    come_to(&rt, &mut roomy, (Added::New, Added::Held, 2))
+}
+
+fn wide_hosts_come(rt: &impl Abort, tables: &mut Tables) -> Result<(), Fail>
+    requires { length tables.old.entries ≡ 1 }
+{
     let beside = parse_addr(b"2001:db8::2").ok_or("no address")?;
     same!(rt; tables.add_host(TableNo(0), S6, 5)?, Added::New);
     same!(rt; tables.add_host(TableNo(0), S6, 6)?, Added::Held);
@@ -92,4 +98,10 @@ fn a_host_of_ipv6_is_an_entry_of_128_bits(rt: HostRuntime) -> Result<(), Fail> {
     assert!(rt; !tables.matches(TableNo(0), S6) && tables.matches(TableNo(0), A1));
     same!(rt; tables.entries(), 1);
     Ok(())
+}
+
+#[test]
+fn a_host_of_ipv6_is_an_entry_of_128_bits(rt: HostRuntime) -> Result<(), Fail> {
+    let mut tables = one_table(&rt, b"")?;
+    wide_hosts_come(&rt, &mut tables)
 }
