@@ -29,7 +29,7 @@ pub fn read_rules<R: Read>(alloc: Global, rules: &mut Feed<R>) -> Result<Vec<u8>
     ensures sound { IfOk result (λ v. read_failures rules.new ≡ 0) }
     ensures few { (rs : List ℕ) → unread R.remaining rules.old ≡ Some rs → (k : ℕ) × (k ≤ rules_limit + 1) × (unread R.remaining rules.new ≡ Some (drop k rs)) }
 
-    // No stop is told that was another.
+    // A failed read is told only where one failed or the bound is spent, and want of memory only where none failed.
     ensures source { result ≡ Err RulesStop.Source → (0 < read_failures rules.new) ⊎ IsSpent rules.new }
     ensures memory { result ≡ Err RulesStop.Memory → read_failures rules.new ≡ 0 }
 {
