@@ -7,7 +7,7 @@ ghost use Rattle.std.specs.Option.{ForSome};
 ghost use Rattle.pfs_engine_machine.specs.Runs.{MayExpire};
 
 use csv::{ByteRecord, Reader, ReaderBuilder};
-use pfs_cli_report::{EndLine, TraceFault, has_columns, push_end, push_row, read_event};
+use pfs_cli_formats::{EndLine, TraceFault, has_columns, push_end, push_row, read_event};
 use pfs_conf::{Config, LoadFault, TableNo, load};
 use pfs_engine::{Engine, Event, Outcome, What};
 use pfs_store::{IndexStore, PlainStore, Store};

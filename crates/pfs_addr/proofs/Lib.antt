@@ -1,5 +1,10 @@
-pub mod LastBytes
-mod Laying
-pub mod PrefixLaws
-pub mod SameLaws
-mod WideLaws
+pub mod AddrLaws
+mod ByteLaws
+pub mod GroupLaws
+mod HexLaws
+pub mod LetterLaws
+pub mod NumberLaws
+pub mod OctetLaws
+pub mod PieceLaws
+mod QuadLaws
+pub mod TextLaws

@@ -1,10 +1,5 @@
-pub mod Addresses
-pub mod FlagSets
-pub mod Keys
-pub mod Names
-pub mod Numbers
-pub mod Packets
-pub mod Padding
-pub mod Prefixes
-pub mod Protocols
-pub mod Sameness
+pub mod Groups
+pub mod LetterSteps
+pub mod Octets
+pub mod PrefixParts
+pub mod Texts

@@ -1,21 +1,19 @@
-// Addresses, prefixes, protocols, ports, flags, names, packets and the keys of states: the small values that every
-// other crate compares, and the meter that counts work. None of these calls takes memory.
+//! Addresses, prefixes, protocols, ports, flags, names, packets and the keys of states, with the texts of those that have one: how each is
+//! read, and how an address is written. The values are those of `pfs_addr_values`, handed on. Of all calls `push_addr` alone takes memory.
 #![tactic(auto)]
 
 mod addresses;
 mod flag_sets;
-mod memory;
-mod meters;
-mod names;
-mod packets;
+mod numbers;
 mod prefixes;
 mod protocols;
 
-pub use addresses::Addr;
-pub use flag_sets::Flags;
-pub use memory::NoMemory;
-pub use meters::Meter;
-pub use names::{IfName, Name, parse_ifname};
-pub use packets::{Dir, Endpoint, FlowKey, Packet};
-pub use prefixes::Prefix;
-pub use protocols::{OtherProto, Proto};
+pub use addresses::{parse_addr, push_addr};
+pub use flag_sets::parse_flags;
+pub use numbers::parse_number;
+pub use pfs_addr_values::{
+    Addr, Dir, Endpoint, Flags, FlowKey, IfName, Meter, Name, NoMemory, OtherProto, Packet, Prefix,
+    Proto, parse_ifname,
+};
+pub use prefixes::parse_prefix;
+pub use protocols::parse_proto;

@@ -1,75 +1,42 @@
-// Protocols by number.
+// Protocols in texts.
 
-ghost use Rattle.std.specs.Prelude.{◌≡◌};
-ghost use Rattle.pfs_addr.specs.Protocols.{proto_of, number_of_proto, has_ports, is_icmp};
+ghost use Rattle.std.specs.Prelude.{◌≡◌, ◌<◌};
+ghost use Rattle.pfs_addr_values.specs.Protocols.{proto_in, proto_numbered};
 
-use std::marker::Model;
+use crate::numbers::parse_number;
+use pfs_addr_values::Proto;
 
-/// The number of a protocol that is neither TCP (6) nor UDP (17). Clauses see the number.
-#[derive(Debug, Clone, Copy, PartialEq, Eq, Hash)]
-pub struct OtherProto {
-    number: u8,
+/// The protocol that this text is, if it is one: `tcp` (6), `udp` (17), `icmp` (1), `icmp6` (58), `esp` (50), `ah` (51),
+/// `gre` (47), or a number of 0 to 255 as `parse_number` reads it, so `6` and `006` are TCP. It takes no memory.
+/// (pf.conf(5), PARAMETERS, "proto"; protocols(5))
+#[tactic(auto, unfolding(pfs_addr_values::specs::Protocols::proto_in))]
+pub fn parse_proto(text: &[u8]) -> Option<Proto>
+    ensures { result ≡ proto_in text.now }
+{
+    if text == b"tcp".as_slice() {
+        Some(Proto::Tcp)
+    } else if text == b"udp".as_slice() {
+        Some(Proto::Udp)
+    } else if text == b"icmp".as_slice() {
+        Some(Proto::from_number(1))
+    } else if text == b"icmp6".as_slice() {
+        Some(Proto::from_number(58))
+    } else if text == b"esp".as_slice() {
+        Some(Proto::from_number(50))
+    } else if text == b"ah".as_slice() {
+        Some(Proto::from_number(51))
+    } else if text == b"gre".as_slice() {
+        Some(Proto::from_number(47))
+    } else {
+        numbered(parse_number(text))
+    }
 }
 
-impl Model for OtherProto {
-    ghost use Rattle.std.specs.Prelude.{ℕ, ◌≢◌};
-
-    ghost Value = { ℕ };
-
-    ghost view = { λ p. p.number };
-
-    ghost invariant = { λ p. (p.number ≢ 6) × (p.number ≢ 17) };
-
-    ghost inverse = { λ n. record { number = n } };
-}
-
-/// A protocol over IP. Only TCP and UDP have ports. (RFC 791, section 3.1, "Protocol")
-#[derive(Debug, Clone, Copy, PartialEq, Eq, Hash)]
-pub enum Proto {
-    /// Protocol 6.
-    Tcp,
-    /// Protocol 17.
-    Udp,
-    /// Every other protocol, by its number.
-    Other(OtherProto),
-}
-
-impl Proto {
-    /// The protocol of this number: 6 is `Tcp`, 17 is `Udp`, and any other is `Other`.
-    pub fn from_number(number: u8) -> Proto
-        ensures { result ≡ proto_of number }
-    {
-        match number {
-            6 => Proto::Tcp,
-            17 => Proto::Udp,
-            _ => Proto::Other(OtherProto { number }),
-        }
-    }
-
-    /// The number of the protocol.
-    pub fn number(self) -> u8
-        ensures { result ≡ number_of_proto self }
-    {
-        match self {
-            Proto::Tcp => 6,
-            Proto::Udp => 17,
-            Proto::Other(other) => other.number,
-        }
-    }
-
-    /// Whether packets of the protocol have ports: TCP and UDP do.
-    pub fn has_ports(self) -> bool
-        ensures { result ≡ has_ports self }
-    {
-        match self {
-            Proto::Tcp | Proto::Udp => true,
-            Proto::Other(_) => false,
-        }
-    }
-    /// Whether the protocol is ICMP (1) or ICMPv6 (58).
-    pub fn is_icmp(self) -> bool
-        ensures { result ≡ is_icmp self }
-    {
-        matches!(self.number(), 1 | 58)
+fn numbered(number: Option<u64>) -> Option<Proto>
+    ensures { result ≡ proto_numbered number }
+{
+    match number {
+        Some(n) if n < 256 => Some(Proto::from_number(n as u8)),
+        _ => None,
     }
 }

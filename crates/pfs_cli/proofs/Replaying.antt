@@ -3,14 +3,14 @@ use Rattle.std.proofs.Common.{◌≡◌, ◌≢◌, ◌≤◌, ◌<◌, ◌∙�
 use Rattle.std.specs.Prelude.{IsErrAnd, Result, Ok, Err, nat_lt}
 use Rattle.std.proofs.lemmas.Bool.Decides.{nat_tests}
 use Rattle.std.proofs.lemmas.List.{append-nil}
-use Rattle.pfs_cli_report.specs.Traces.{trace_of}
+use Rattle.pfs_cli_formats.specs.Traces.{trace_of}
 use Rattle.pfs_cli.proofs.Telling.{first-lines-begin, whole-report}
-use Rattle.pfs_cli_report.specs.declared.faults.TraceFault.{TraceFault}
-use Rattle.pfs_cli_report.specs.declared.faults.TraceFault.TheVariants as trace
+use Rattle.pfs_cli_formats.specs.declared.faults.TraceFault.{TraceFault}
+use Rattle.pfs_cli_formats.specs.declared.faults.TraceFault.TheVariants as trace
 use Rattle.pfs_cli.specs.declared.faults.ReplayFault.{ReplayFault}
 use Rattle.pfs_cli.specs.declared.faults.ReplayFault.TheVariants as fault
 use Rattle.pfs_conf.specs.declared.faults.LoadFault.{LoadFault}
-use Rattle.pfs_conf_rules.specs.Configs.{Conf}
+use Rattle.pfs_conf_values.specs.Configs.{Conf}
 use Rattle.pfs_conf.specs.Kinds.{no_memory}
 use Rattle.pfs_conf.specs.Reads.{Reads}
 use Rattle.pfs_conf.specs.Faults.{IsFault, memory, long, breaks, stops}
@@ -18,7 +18,7 @@ use Rattle.pfs_cli.specs.declared.records.Stop.TheVariants as stop
 use Rattle.pfs_cli.specs.Faults.{replay_fault}
 use Rattle.pfs_cli_streams.specs.Kept.{KeepsEnough, rules_limit}
 use Rattle.pfs_cli.specs.Rules.{AreRefused}
-use Rattle.pfs_cli_report.specs.Reports.{AreFirstLines, BeginsReport}
+use Rattle.pfs_cli_formats.specs.Reports.{AreFirstLines, BeginsReport}
 use Rattle.pfs_cli.specs.Turns.{Tells}
 use Rattle.pfs_cli.specs.Refusing.{RefusesRules, IsFeedFault}
 use Rattle.pfs_cli.specs.Replays.{Replays}

@@ -1,7 +1,7 @@
 -- What is told of a rules text alone: its counts, or its canonical text. (own)
 use Rattle.std.specs.Prelude.{◌≡◌, ◌++◌, ℕ, List, [], codes, length, Result, Ok, Err}
 use Rattle.std.specs.Fmt.{decimal}
-use Rattle.pfs_conf_rules.specs.Configs.{Conf, entry_count_of}
+use Rattle.pfs_conf_values.specs.Configs.{Conf, entry_count_of}
 use Rattle.pfs_conf.specs.Reads.{Reads}
 use Rattle.pfs_cli.specs.declared.faults.ReplayFault.{ReplayFault}
 use Rattle.pfs_cli.specs.declared.faults.ReplayFault.TheVariants as fault

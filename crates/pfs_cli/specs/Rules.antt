@@ -1,6 +1,6 @@
 -- What is read of a rules text, and how it is refused. (own)
 use Rattle.std.specs.Prelude.{◌≢◌, ℕ, List}
-use Rattle.pfs_conf_rules.specs.Configs.{Conf}
+use Rattle.pfs_conf_values.specs.Configs.{Conf}
 use Rattle.pfs_conf.specs.declared.faults.LoadFault.{LoadFault}
 use Rattle.pfs_conf.specs.Kinds.{no_memory}
 use Rattle.pfs_conf.specs.Reads.{Reads}

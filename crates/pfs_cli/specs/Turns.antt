@@ -1,14 +1,14 @@
 -- What one turn of a run writes, and what is written when it ends. (own)
 use Rattle.std.specs.Prelude.{◌≡◌, ℕ, List, [], take, Some, None, Result, Ok, Err}
-use Rattle.pfs_conf_rules.specs.Configs.{Conf}
+use Rattle.pfs_conf_values.specs.Configs.{Conf}
 use Rattle.pfs_engine_machine.specs.declared.events.Event.{Event}
 use Rattle.pfs_engine_machine.specs.Machine.{Machine, step}
 use Rattle.pfs_cli.specs.declared.records.Stop.{Stop}
 use Rattle.pfs_cli.specs.declared.records.Stop.TheVariants as stop
-use Rattle.pfs_cli_report.specs.Events.{event_at}
-use Rattle.pfs_cli_report.specs.Lines.{row_text}
-use Rattle.pfs_cli_report.specs.Reports.{AreFirstLines, BeginsReport, report}
-use Rattle.pfs_cli_report.specs.Traces.{Trace}
+use Rattle.pfs_cli_formats.specs.Events.{event_at}
+use Rattle.pfs_cli_formats.specs.Lines.{row_text}
+use Rattle.pfs_cli_formats.specs.Reports.{AreFirstLines, BeginsReport, report}
+use Rattle.pfs_cli_formats.specs.Traces.{Trace}
 
 -- the text of one line, by how its writing ends
 abbrev pub WritesLine : List ℕ → List ℕ → Result Unit Stop → Type 0

@@ -3,7 +3,7 @@
 ghost use Rattle.std.specs.Prelude.{◌≡◌, Some};
 ghost use Rattle.pfs_cli.specs.Faults.{fault_text, fault_status, replay_fault};
 
-use pfs_cli_report::TraceFault;
+use pfs_cli_formats::TraceFault;
 use pfs_conf::LoadFault;
 use std::{error, fmt};
 

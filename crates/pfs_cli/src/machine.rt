@@ -5,9 +5,9 @@ ghost use Rattle.std.specs.Option.{ForSome};
 ghost use Rattle.pfs_engine_machine.specs.Machine.{step};
 ghost use Rattle.pfs_engine_machine.specs.Runs.{MayCome};
 
-use pfs_addr::NoMemory;
+use pfs_addr_values::NoMemory;
 use pfs_engine::{Engine, Event, Outcome, What};
-use pfs_track::Store;
+use pfs_store_contract::Store;
 
 /// Takes one event, at its moment: the purges due are done, and then what comes. After `NoMemory` the purges are done, and
 /// nothing else has changed.

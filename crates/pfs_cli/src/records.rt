@@ -6,21 +6,21 @@ ghost use Rattle.csv.specs.Reading.{Ready, source_of, reader_trim, reader_config
 ghost use Rattle.csv.specs.declared.reader.Trim.TheVariants as trim;
 ghost use Rattle.csv.specs.Records.{fields_of};
 ghost use Rattle.pfs_cli_streams.specs.Sinks.{bytes_held, write_failures as failures_of};
-ghost use Rattle.pfs_cli_report.specs.Lines.{row_text, end_text};
+ghost use Rattle.pfs_cli_formats.specs.Lines.{row_text, end_text};
 ghost use Rattle.std.specs.Option.{ForSome};
 ghost use Rattle.pfs_engine_machine.specs.Machine.{start, step};
 ghost use Rattle.pfs_engine_machine.specs.Runs.{MayCome};
-ghost use Rattle.pfs_cli_report.specs.Reports.{end_line_of};
+ghost use Rattle.pfs_cli_formats.specs.Reports.{end_line_of};
 ghost use Rattle.pfs_cli.specs.Turns.{Tells, WritesLine, TakesEvent, TakesRecord};
-ghost use Rattle.pfs_cli_report.specs.Reading.{records_of, records_left};
-ghost use Rattle.pfs_cli_report.specs.Traces.{events_of, events_from};
+ghost use Rattle.pfs_cli_formats.specs.Reading.{records_of, records_left};
+ghost use Rattle.pfs_cli_formats.specs.Traces.{events_of, events_from};
 
 use crate::machine::take;
 use csv::{ByteRecord, Reader, ReaderBuilder};
-use pfs_cli_report::{EndLine, TraceFault, has_columns, push_end, push_row, read_event};
+use pfs_cli_formats::{EndLine, TraceFault, has_columns, push_end, push_row, read_event};
 use pfs_cli_streams::{Sink, write_whole};
 use pfs_engine::{Engine, Event, Outcome};
-use pfs_track::Store;
+use pfs_store_contract::Store;
 use std::alloc::Global;
 use std::io::{Read, Write};
 

@@ -4,14 +4,14 @@ ghost use Rattle.std.specs.Prelude.{◌≡◌, ◌≢◌, ◌⊎◌, Some, Ok, E
 ghost use Rattle.std.specs.Io.KnownBytes.{Appends, Keeps};
 ghost use Rattle.pfs_cli_streams.specs.Feeds.{unread, has_ended, IsFresh, IsSpent, read_failures};
 ghost use Rattle.pfs_cli_streams.specs.Sinks.{bytes_held, write_failures};
-ghost use Rattle.pfs_conf_rules.specs.Configs.{Conf};
+ghost use Rattle.pfs_conf_values.specs.Configs.{Conf};
 ghost use Rattle.pfs_conf.specs.declared.faults.LoadFault.{LoadFault};
 ghost use Rattle.pfs_conf.specs.Reads.{Reads};
 ghost use Rattle.pfs_cli.specs.Turns.{Tells};
 ghost use Rattle.pfs_cli_streams.specs.Kept.{KeepsEnough, rules_limit};
 ghost use Rattle.pfs_cli.specs.Rules.{AreRefused};
 ghost use Rattle.pfs_cli.specs.Refusing.{IsFeedFault};
-ghost use Rattle.pfs_cli_report.specs.Traces.{trace_of};
+ghost use Rattle.pfs_cli_formats.specs.Traces.{trace_of};
 ghost use Rattle.pfs_cli.specs.Replays.{Replays};
 
 use crate::faults::{ReplayFault, of_trace};

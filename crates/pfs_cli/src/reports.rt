@@ -3,17 +3,17 @@
 ghost use Rattle.std.specs.Prelude.{◌≡◌, Some, Err, ◌<◌, ℕ, List};
 ghost use Rattle.std.specs.Io.KnownBytes.{Appends};
 ghost use Rattle.pfs_cli_streams.specs.Sinks.{bytes_held, write_failures};
-ghost use Rattle.pfs_cli_report.specs.Reading.{records_of};
-ghost use Rattle.pfs_cli_report.specs.Traces.{events_of};
-ghost use Rattle.pfs_track.specs.Worlds.{empty_world};
+ghost use Rattle.pfs_cli_formats.specs.Reading.{records_of};
+ghost use Rattle.pfs_cli_formats.specs.Traces.{events_of};
+ghost use Rattle.pfs_store_contract.specs.Worlds.{empty_world};
 ghost use Rattle.pfs_cli.specs.Turns.{Tells};
 
 use crate::records::{Stop, tell_records};
 use pfs_cli_streams::Sink;
-use pfs_conf_rules::Config;
+use pfs_conf_values::Config;
 use pfs_engine::Engine;
+use pfs_store_contract::Store;
 use pfs_store_index::IndexStore;
-use pfs_track::Store;
 use std::alloc::Global;
 use std::hash::{BuildHasherDefault, FoldHasher};
 use std::io::{Read, Write};

@@ -5,13 +5,13 @@ use Rattle.pfs_conf_tokens.specs.declared.keys.Key.{Key}
 use Rattle.pfs_conf_tokens.specs.declared.keys.Key.TheVariants as key
 use Rattle.pfs_conf_tokens.specs.declared.refusals.Why.TheVariants as why
 use Rattle.pfs_conf_tokens.specs.Reading.{Act, take, refuse, on_front, done, chain, skipping, number_at}
-use Rattle.pfs_addr.specs.Names.{name_of}
-use Rattle.pfs_addr.specs.Prefixes.{Network}
-use Rattle.pfs_addr_text.specs.Texts.{prefix_of}
-use Rattle.pfs_conf_rules.specs.Entries.{TextEntry, sign_of}
-use Rattle.pfs_conf_rules.specs.declared.limits.LimitName.{LimitName}
-use Rattle.pfs_conf_rules.specs.declared.limits.LimitName.TheVariants as limit
-use Rattle.pfs_conf_rules.specs.declared.timeouts.TimeoutName.{TimeoutName}
+use Rattle.pfs_addr_values.specs.Names.{name_of}
+use Rattle.pfs_addr_values.specs.Prefixes.{Network}
+use Rattle.pfs_addr.specs.Texts.{prefix_of}
+use Rattle.pfs_conf_values.specs.Entries.{TextEntry, sign_of}
+use Rattle.pfs_conf_values.specs.declared.limits.LimitName.{LimitName}
+use Rattle.pfs_conf_values.specs.declared.limits.LimitName.TheVariants as limit
+use Rattle.pfs_conf_values.specs.declared.timeouts.TimeoutName.{TimeoutName}
 use Rattle.pfs_conf_settings.specs.Drafts.{Drafted, with_limit, with_timeout, is_defined}
 use Rattle.pfs_conf_settings.specs.Settings.{timeout_named, bounded_at, limited, limit_by, set_limit_at, least_value, greatest_value, unkept, timed, time_by, time_at, lined_limit_at, lined_time_at, limits_by, limits_at, times_by, times_at, settings_by, settings_at}
 use Rattle.pfs_conf_settings.specs.Tables.{sign_by, sign_at, again, entry_joined, entered, entry_by, entry_at, lined_entry_at, entries_by, braced_entries_at, unless, part_by, part_at, parts_at}

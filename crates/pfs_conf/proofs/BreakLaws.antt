@@ -10,10 +10,10 @@ use Rattle.pfs_conf_tokens.specs.Keys.{ends_line, is_word_key}
 use Rattle.pfs_conf_tokens.specs.Grammar.{Word}
 use Rattle.pfs_conf_tokens.proofs.Laws.{bind_err}
 use Rattle.pfs_conf_tokens.proofs.ReaderLaws.{word_is}
-use Rattle.pfs_addr.specs.Names.{name_of}
+use Rattle.pfs_addr_values.specs.Names.{name_of}
 use Rattle.pfs_conf_settings.specs.Drafts.{Drafted, finished, is_defined}
-use Rattle.pfs_conf_rules.specs.Siblings.{has_sibling}
-use Rattle.pfs_conf_rules.specs.declared.filters.FlagTest.{FlagTest}
+use Rattle.pfs_conf_values.specs.Siblings.{has_sibling}
+use Rattle.pfs_conf_values.specs.declared.filters.FlagTest.{FlagTest}
 use Rattle.pfs_conf_filters.specs.Reading.{verb_at, parameters_at, flags_at, begins_flags}
 use Rattle.pfs_conf_filters.specs.declared.phrases.Parameters.{Parameters}
 use Rattle.pfs_conf_filters.specs.declared.phrases.Statement.TheVariants as statement

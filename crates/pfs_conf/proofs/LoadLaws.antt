@@ -13,7 +13,7 @@ use Rattle.pfs_conf_tokens.specs.declared.refusals.ReadError.TheVariants as erro
 use Rattle.pfs_conf_tokens.proofs.Laws.{across, ok_parts, up_to_fails, up_to_goes_on, stops_at, no_text}
 use Rattle.pfs_conf_tokens.proofs.ReaderLaws.{word_head}
 use Rattle.pfs_conf_tokens.proofs.ShownLaws.{tokens_have_end}
-use Rattle.pfs_conf_rules.specs.Configs.{Conf}
+use Rattle.pfs_conf_values.specs.Configs.{Conf}
 use Rattle.pfs_conf.specs.declared.faults.LoadFault.{LoadFault}
 use Rattle.pfs_conf.specs.declared.progress.Progress.{Progress}
 use Rattle.pfs_conf.specs.declared.kinds.Kind.{Kind}

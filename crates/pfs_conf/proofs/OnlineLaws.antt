@@ -10,10 +10,10 @@ use Rattle.pfs_conf_tokens.specs.Keys.{in_line, before_end, ends_line, is_word_k
 use Rattle.pfs_conf_tokens.specs.Reading.{ends_text, Refused, stop, broken, Reader, Act, take, stay, refuse, on_front, done, chain, perhaps, until_all, ended}
 use Rattle.pfs_conf_tokens.proofs.Laws.{Reach, inside, line, across, passes_more, Online, online_across, online_done, online_chain, OnlineAct, Taking, online_front, online_taking, once_taking, Shrinks, front_shrinks, chain_shrinks, online_perhaps, online_until_all, online_up_to_all, online_ended}
 use Rattle.pfs_conf_tokens.proofs.ReaderLaws.{line_end_before_end, word_in_line}
-use Rattle.pfs_addr.specs.Names.{name_of}
+use Rattle.pfs_addr_values.specs.Names.{name_of}
 use Rattle.pfs_conf_settings.specs.Drafts.{Drafted, finished, is_defined}
-use Rattle.pfs_conf_rules.specs.Siblings.{has_sibling}
-use Rattle.pfs_conf_rules.specs.declared.filters.FlagTest.{FlagTest}
+use Rattle.pfs_conf_values.specs.Siblings.{has_sibling}
+use Rattle.pfs_conf_values.specs.declared.filters.FlagTest.{FlagTest}
 use Rattle.pfs_conf_filters.specs.Reading.{verb_at, parameters_at, flags_at, begins_flags}
 use Rattle.pfs_conf_filters.specs.declared.phrases.Parameters.{Parameters}
 use Rattle.pfs_conf_filters.specs.declared.phrases.Statement.TheVariants as statement

@@ -14,13 +14,13 @@ use Rattle.pfs_conf_tokens.specs.Giving.{Gives}
 use Rattle.pfs_conf_tokens.proofs.Laws.{chain_ok, ok_parts, not_refused}
 use Rattle.pfs_conf_tokens.proofs.ReaderLaws.{line_end_key, ends_text_key, word_is, ended_is, perhaps_is, until_is, up_to_is}
 use Rattle.pfs_conf_tokens.proofs.WordKeys.{key_of-Anchor}
-use Rattle.pfs_addr.specs.Names.{is_name, name_of}
-use Rattle.pfs_conf_rules.specs.Configs.{Conf}
+use Rattle.pfs_addr_values.specs.Names.{is_name, name_of}
+use Rattle.pfs_conf_values.specs.Configs.{Conf}
 use Rattle.pfs_conf_settings.specs.Drafts.{Drafted, finished, is_defined}
-use Rattle.pfs_conf_rules.specs.LoadRules.{IsFlagTest}
-use Rattle.pfs_conf_rules.specs.Siblings.{has_sibling}
-use Rattle.pfs_conf_rules.specs.Order.{repeats_by}
-use Rattle.pfs_conf_rules.specs.declared.filters.FlagTest.{FlagTest}
+use Rattle.pfs_conf_values.specs.LoadRules.{IsFlagTest}
+use Rattle.pfs_conf_values.specs.Siblings.{has_sibling}
+use Rattle.pfs_conf_values.specs.Order.{repeats_by}
+use Rattle.pfs_conf_values.specs.declared.filters.FlagTest.{FlagTest}
 use Rattle.pfs_conf_filters.specs.Grammar.{PolicyOf, none, drop, return, return_rst, return_icmp, return_icmp6, VerbOf, pass, block, FlagsOf}
 use Rattle.pfs_conf_filters.specs.Reading.{verb_at, parameters_at, flags_at, begins_flags}
 use Rattle.pfs_conf_filters.specs.declared.phrases.Parameters.{Parameters}

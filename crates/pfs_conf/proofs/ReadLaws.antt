@@ -9,13 +9,13 @@ use Rattle.pfs_conf_tokens.specs.Keys.{ends_line}
 use Rattle.pfs_conf_tokens.specs.Reading.{ends_text, Refused, broken}
 use Rattle.pfs_conf_tokens.specs.Grammar.{Word, Perhaps, absent, present, Until, ends, goes, UpTo}
 use Rattle.pfs_conf_tokens.proofs.ReaderLaws.{word_head, ended_reads, perhaps_reads, Reads, until_reads, up_to_reads}
-use Rattle.pfs_conf_rules.specs.Configs.{Conf}
+use Rattle.pfs_conf_values.specs.Configs.{Conf}
 use Rattle.pfs_conf_settings.specs.Drafts.{Drafted, finished}
-use Rattle.pfs_conf_rules.specs.declared.filters.FlagTest.{FlagTest}
+use Rattle.pfs_conf_values.specs.declared.filters.FlagTest.{FlagTest}
 use Rattle.pfs_conf_filters.specs.Grammar.{Behind, VerbOf, pass, block, DirOf, inward, outward, FamilyOf, inet, inet6, slow, quick, MarksOf, of_anchor, HostsOf, every, sides, ParametersOf, FlagsOf}
 use Rattle.pfs_conf_filters.specs.Reading.{flags_at, begins_flags}
-use Rattle.pfs_addr.specs.declared.packets.Dir.{Dir}
-use Rattle.pfs_conf_rules.specs.declared.filters.Family.{Family}
+use Rattle.pfs_addr_values.specs.declared.packets.Dir.{Dir}
+use Rattle.pfs_conf_values.specs.declared.filters.Family.{Family}
 use Rattle.pfs_conf_filters.specs.declared.phrases.Hosts.{Hosts}
 use Rattle.pfs_conf_filters.specs.declared.phrases.Parameters.{Parameters}
 use Rattle.pfs_conf_filters.specs.declared.phrases.Statement.TheVariants as statement

@@ -11,31 +11,31 @@ use Rattle.pfs_conf_tokens.specs.Words.{key_of_text}
 use Rattle.pfs_conf_tokens.specs.Numbers.{split_around}
 use Rattle.pfs_conf_tokens.specs.Grammar.{Word, Perhaps, absent, present, Until, ends, goes, NextOf, plain, comma}
 use Rattle.pfs_conf_tokens.proofs.WordKeys.{key_of-Any, key_of-Rdomain}
-use Rattle.pfs_addr.specs.Names.{is_name, name_of}
-use Rattle.pfs_addr.specs.Numbers.{number_of}
+use Rattle.pfs_addr_values.specs.Names.{is_name, name_of}
+use Rattle.pfs_addr_values.specs.Numbers.{number_of}
 use Rattle.pfs_conf_tokens.specs.Numbers as text_numbers
-use Rattle.pfs_addr.specs.Protocols.{proto_of, proto_numbered, proto_in}
-use Rattle.pfs_addr.specs.Prefixes.{Network, IsNetwork}
-use Rattle.pfs_addr_text.specs.Texts.{prefix_of}
-use Rattle.pfs_addr.specs.FlagSets.{flags_of, is_flag_letter, names_letter}
-use Rattle.pfs_addr.specs.declared.protocols.Proto.{Proto}
-use Rattle.pfs_addr.specs.declared.protocols.Proto.TheVariants as proto
-use Rattle.pfs_addr.specs.declared.flag_sets.Flags.{Flags}
-use Rattle.pfs_addr_text.proofs.PieceLaws.{prefix_of_parts}
-use Rattle.pfs_addr.proofs.PrefixLaws.{network_of_is_network}
-use Rattle.pfs_conf_rules.specs.LoadRules.{IsInterface, IsProto, ArePorts, IsHost, IsSide, IsFlagTest, has_a_flag}
-use Rattle.pfs_conf_rules.specs.declared.filters.FlagTest.{FlagTest}
-use Rattle.pfs_conf_rules.specs.declared.filters.Host.{Host}
-use Rattle.pfs_conf_rules.specs.declared.filters.Interface.{Interface}
-use Rattle.pfs_conf_rules.specs.declared.filters.Ports.{Ports}
-use Rattle.pfs_conf_rules.specs.declared.filters.Side.{Side}
+use Rattle.pfs_addr_values.specs.Protocols.{proto_of, proto_numbered, proto_in}
+use Rattle.pfs_addr_values.specs.Prefixes.{Network, IsNetwork}
+use Rattle.pfs_addr.specs.Texts.{prefix_of}
+use Rattle.pfs_addr_values.specs.FlagSets.{flags_of, is_flag_letter, names_letter}
+use Rattle.pfs_addr_values.specs.declared.protocols.Proto.{Proto}
+use Rattle.pfs_addr_values.specs.declared.protocols.Proto.TheVariants as proto
+use Rattle.pfs_addr_values.specs.declared.flag_sets.Flags.{Flags}
+use Rattle.pfs_addr.proofs.PieceLaws.{prefix_of_parts}
+use Rattle.pfs_addr_values.proofs.PrefixLaws.{network_of_is_network}
+use Rattle.pfs_conf_values.specs.LoadRules.{IsInterface, IsProto, ArePorts, IsHost, IsSide, IsFlagTest, has_a_flag}
+use Rattle.pfs_conf_values.specs.declared.filters.FlagTest.{FlagTest}
+use Rattle.pfs_conf_values.specs.declared.filters.Host.{Host}
+use Rattle.pfs_conf_values.specs.declared.filters.Interface.{Interface}
+use Rattle.pfs_conf_values.specs.declared.filters.Ports.{Ports}
+use Rattle.pfs_conf_values.specs.declared.filters.Side.{Side}
 use Rattle.pfs_conf_filters.specs.declared.phrases.Hosts.{Hosts}
 use Rattle.pfs_conf_filters.specs.declared.phrases.Parameters.{Parameters}
 use Rattle.pfs_conf_filters.specs.declared.phrases.Statement.{Statement}
 use Rattle.pfs_conf_filters.specs.Values.{in_word, is_plain_word, in_plain_word, may_name_interface, interface_name, port_numbered, port_by, port_of, one_port, port_range, ports_around, ports_of, exactly, flags_around, flag_test_of, flag_test_by, flag_test}
 use Rattle.pfs_conf_filters.specs.Grammar.{Says, Behind, NegationOf, affirmed, negated, OnOf, on, HostOf, any, prefix, table, PortsOf, plainly, equals, SideOf, hosted, ported, HostsOf, every, sides, ParametersOf, FlagsOf, DirOf, inward, outward, LogItemOf, all, matches, user, to, bare, listed, LogOf, silent, logs, QuickOf, slow, quick, MarksOf, log_first, quick_first, of_anchor}
 use Rattle.pfs_conf_filters.specs.Sides.{side_not_given, source_of, destination_of}
-use Rattle.pfs_addr.specs.declared.packets.Dir.{Dir}
+use Rattle.pfs_addr_values.specs.declared.packets.Dir.{Dir}
 use Rattle.pfs_conf_filters.specs.declared.phrases.Marks.{Marks}
 use Rattle.pfs_conf.specs.Within.{IsLexed, AreLexed, more, IsTableName, AreParameters}
 

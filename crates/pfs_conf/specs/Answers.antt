@@ -1,6 +1,6 @@
 -- What a text that is too long, and one that breaks a load rule, are answered with. (own)
 use Rattle.std.specs.Prelude.{◌≡◌, ◌⊎◌, Result, Ok, Err}
-use Rattle.pfs_conf_rules.specs.Configs.{Conf}
+use Rattle.pfs_conf_values.specs.Configs.{Conf}
 use Rattle.pfs_conf.specs.declared.faults.LoadFault.{LoadFault}
 use Rattle.pfs_conf.specs.Kinds.{too_long, no_memory}
 

@@ -14,7 +14,7 @@ use Rattle.pfs_conf.specs.declared.faults.LoadFault.{LoadFault}
 use Rattle.pfs_conf.specs.Kinds.{fault, too_long, no_memory, kind_of_rule, IsKindAt}
 use Rattle.pfs_conf.specs.Places.{IsBegun}
 use Rattle.pfs_conf.specs.Reads.{most_bytes, Reads}
-use Rattle.pfs_conf_rules.specs.Configs.{Conf}
+use Rattle.pfs_conf_values.specs.Configs.{Conf}
 
 -- statements one behind another, as far as these tokens are left
 pub data Statements : Progress → List Tok → Progress → List Tok → Type 0 where

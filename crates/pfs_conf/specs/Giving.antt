@@ -5,7 +5,7 @@ use Rattle.pfs_conf_tokens.specs.Reading.{Refused}
 use Rattle.pfs_conf_tokens.specs.Giving.{refused}
 use Rattle.pfs_conf_tokens.specs.declared.refusals.ReadError.{ReadError}
 use Rattle.pfs_conf_tokens.specs.declared.refusals.ReadError.TheVariants as error
-use Rattle.pfs_conf_rules.specs.Order.{depth_after}
+use Rattle.pfs_conf_values.specs.Order.{depth_after}
 use Rattle.pfs_conf.specs.declared.progress.Progress.{Progress}
 
 -- the same progress with the cursor behind what was read, or the same refusal, unless memory was refused

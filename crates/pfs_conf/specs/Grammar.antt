@@ -6,11 +6,11 @@ use Rattle.pfs_conf_tokens.specs.Keys.{is_word_key}
 use Rattle.pfs_conf_tokens.specs.Grammar.{Word, Perhaps, Until, UpTo}
 use Rattle.pfs_conf_tokens.specs.declared.keys.Key.{Key}
 use Rattle.pfs_conf_tokens.specs.declared.keys.Key.TheVariants as key
-use Rattle.pfs_addr.specs.Names.{name_of}
-use Rattle.pfs_conf_rules.specs.Configs.{Conf}
+use Rattle.pfs_addr_values.specs.Names.{name_of}
+use Rattle.pfs_conf_values.specs.Configs.{Conf}
 use Rattle.pfs_conf_settings.specs.Drafts.{Drafted, finished, is_defined}
-use Rattle.pfs_conf_rules.specs.Siblings.{has_sibling}
-use Rattle.pfs_conf_rules.specs.declared.filters.FlagTest.{FlagTest}
+use Rattle.pfs_conf_values.specs.Siblings.{has_sibling}
+use Rattle.pfs_conf_values.specs.declared.filters.FlagTest.{FlagTest}
 use Rattle.pfs_conf_filters.specs.declared.phrases.Statement.TheVariants as statement
 use Rattle.pfs_conf_filters.specs.Grammar.{VerbOf, ParametersOf, FlagsOf}
 use Rattle.pfs_conf_options.specs.Grammar.{StateOf, TableOf}

@@ -5,7 +5,7 @@ use Rattle.pfs_conf_tokens.specs.Lexis.{tokens_of}
 use Rattle.pfs_conf_tokens.specs.Reading.{stop, broken}
 use Rattle.pfs_conf_tokens.specs.declared.refusals.LoadRule.{LoadRule}
 use Rattle.pfs_conf_tokens.specs.declared.refusals.Why.{Why}
-use Rattle.pfs_conf_rules.specs.Configs.{Conf}
+use Rattle.pfs_conf_values.specs.Configs.{Conf}
 use Rattle.pfs_conf.specs.declared.faults.LoadFault.{LoadFault}
 use Rattle.pfs_conf.specs.Kinds.{fault, too_long, no_memory, kind_of_rule}
 use Rattle.pfs_conf.specs.Stopping.{kind_of}

@@ -9,11 +9,11 @@ use Rattle.pfs_conf_tokens.specs.declared.keys.Key.TheVariants as key
 use Rattle.pfs_conf_tokens.specs.declared.refusals.LoadRule.{LoadRule}
 use Rattle.pfs_conf_tokens.specs.declared.refusals.Why.{Why}
 use Rattle.pfs_conf_tokens.specs.declared.refusals.Why.TheVariants as why
-use Rattle.pfs_addr.specs.Names.{name_of}
-use Rattle.pfs_conf_rules.specs.Configs.{Conf}
+use Rattle.pfs_addr_values.specs.Names.{name_of}
+use Rattle.pfs_conf_values.specs.Configs.{Conf}
 use Rattle.pfs_conf_settings.specs.Drafts.{Drafted, finished, is_defined}
-use Rattle.pfs_conf_rules.specs.Siblings.{has_sibling}
-use Rattle.pfs_conf_rules.specs.declared.filters.FlagTest.{FlagTest}
+use Rattle.pfs_conf_values.specs.Siblings.{has_sibling}
+use Rattle.pfs_conf_values.specs.declared.filters.FlagTest.{FlagTest}
 use Rattle.pfs_conf_filters.specs.Reading.{verb_at, parameters_at, flags_at, begins_flags}
 use Rattle.pfs_conf_filters.specs.Repeats.{repeats, repeats_policy}
 use Rattle.pfs_conf_filters.specs.declared.phrases.Parameters.{Parameters}

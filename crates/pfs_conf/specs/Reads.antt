@@ -1,7 +1,7 @@
 -- What it is that a rules text reads as a configuration. (own)
 use Rattle.std.specs.Prelude.{◌≤◌, ℕ, List, length}
 use Rattle.pfs_conf_tokens.specs.Lexis.{tokens_of}
-use Rattle.pfs_conf_rules.specs.Configs.{Conf}
+use Rattle.pfs_conf_values.specs.Configs.{Conf}
 use Rattle.pfs_conf.specs.Grammar.{TextOf}
 
 -- a rules text has at most 1,048,576 bytes

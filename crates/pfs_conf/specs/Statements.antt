@@ -4,18 +4,18 @@ use Rattle.std.specs.Option.{option_map}
 use Rattle.pfs_conf_tokens.specs.declared.refusals.LoadRule.{LoadRule}
 use Rattle.pfs_conf_tokens.specs.declared.refusals.LoadRule.TheVariants as load_rule
 use Rattle.pfs_conf_settings.specs.Drafts.{Drafted, empty_draft, number_of_table, with_name, with_table, with_item, const_overload, has_broken_pair, has_too_many_tables, has_too_many_entries}
-use Rattle.pfs_conf_rules.specs.declared.actions.Action.{Action}
-use Rattle.pfs_conf_rules.specs.declared.actions.Action.TheVariants as action
-use Rattle.pfs_conf_rules.specs.declared.filters.Filter.{Filter}
-use Rattle.pfs_conf_rules.specs.declared.filters.FlagTest.{FlagTest}
-use Rattle.pfs_conf_rules.specs.declared.filters.FlagTest.TheVariants as flag_test
-use Rattle.pfs_conf_rules.specs.declared.filters.Host.{Host}
-use Rattle.pfs_conf_rules.specs.declared.filters.Host.TheVariants as host
-use Rattle.pfs_conf_rules.specs.declared.filters.Side.{Side}
-use Rattle.pfs_conf_rules.specs.declared.filters.TableNo.{TableNo}
-use Rattle.pfs_conf_rules.specs.declared.items.Anchor.{Anchor}
-use Rattle.pfs_conf_rules.specs.declared.items.Rule.{Rule}
-use Rattle.pfs_conf_rules.specs.declared.items.What.TheVariants as what
+use Rattle.pfs_conf_values.specs.declared.actions.Action.{Action}
+use Rattle.pfs_conf_values.specs.declared.actions.Action.TheVariants as action
+use Rattle.pfs_conf_values.specs.declared.filters.Filter.{Filter}
+use Rattle.pfs_conf_values.specs.declared.filters.FlagTest.{FlagTest}
+use Rattle.pfs_conf_values.specs.declared.filters.FlagTest.TheVariants as flag_test
+use Rattle.pfs_conf_values.specs.declared.filters.Host.{Host}
+use Rattle.pfs_conf_values.specs.declared.filters.Host.TheVariants as host
+use Rattle.pfs_conf_values.specs.declared.filters.Side.{Side}
+use Rattle.pfs_conf_values.specs.declared.filters.TableNo.{TableNo}
+use Rattle.pfs_conf_values.specs.declared.items.Anchor.{Anchor}
+use Rattle.pfs_conf_values.specs.declared.items.Rule.{Rule}
+use Rattle.pfs_conf_values.specs.declared.items.What.TheVariants as what
 use Rattle.pfs_conf_filters.specs.declared.phrases.Verb.{Verb}
 use Rattle.pfs_conf_filters.specs.declared.phrases.Verb.TheVariants as verb
 use Rattle.pfs_conf_filters.specs.declared.phrases.Hosts.{Hosts}

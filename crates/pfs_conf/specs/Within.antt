@@ -3,8 +3,8 @@ use Rattle.std.specs.Prelude.{◌≡◌, ℕ, true, IfSome, List, [], ◌∷◌}
 use Rattle.pfs_conf_tokens.specs.Tokens.{Tok}
 use Rattle.pfs_conf_tokens.specs.Keys.{is_word_key}
 use Rattle.pfs_conf_tokens.specs.Words.{key_of_text}
-use Rattle.pfs_addr.specs.Names.{is_name}
-use Rattle.pfs_conf_rules.specs.LoadRules.{IsInterface, IsProto, IsSide, IsFlagTest}
+use Rattle.pfs_addr_values.specs.Names.{is_name}
+use Rattle.pfs_conf_values.specs.LoadRules.{IsInterface, IsProto, IsSide, IsFlagTest}
 use Rattle.pfs_conf_filters.specs.declared.phrases.Parameters.{Parameters}
 use Rattle.pfs_conf_filters.specs.Sides.{source_of, destination_of}
 use Rattle.pfs_conf_options.specs.Bounds.{AreRead}

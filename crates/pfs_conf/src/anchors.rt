@@ -4,7 +4,7 @@ ghost use Rattle.std.specs.Prelude.{◌≡◌, IfOk, OnOk, None, false};
 ghost use Rattle.pfs_conf_tokens.specs.Reading.{perhaps};
 ghost use Rattle.pfs_conf_tokens.specs.Giving.{Gives};
 ghost use Rattle.pfs_conf_filters.specs.Reading.{begins_flags, flags_at};
-ghost use Rattle.pfs_conf_rules.specs.Order.{repeats_by};
+ghost use Rattle.pfs_conf_values.specs.Order.{repeats_by};
 ghost use Rattle.pfs_conf.specs.Grammar.{names_anchor};
 ghost use Rattle.pfs_conf.specs.Statements.{anchor_breaks, with_anchor};
 ghost use Rattle.pfs_conf.specs.Reading.{anchor_at, anchor_name_at, anchor_parts_at, anchor_text_at, brace_at, repeats_head};
@@ -15,10 +15,10 @@ use crate::breaking::anchor_breaks;
 use crate::numbering::number_anchor;
 use crate::phrases::AnchorText;
 use crate::progress::Progress;
-use pfs_addr::{Name, NoMemory};
+use pfs_addr_values::{Name, NoMemory};
 use pfs_conf_filters::{Parameters, Statement, read_flags, read_parameters};
-use pfs_conf_rules::{AnchorName, FlagTest};
 use pfs_conf_tokens::{Cursor, Key, ReadError, Refusal, Why};
+use pfs_conf_values::{AnchorName, FlagTest};
 
 /// Reads an anchor that begins on this line, behind its word: its head, and the line end behind the brace. Its load rules are
 /// asked when the brace has been read. (pf.conf(5), ANCHORS)

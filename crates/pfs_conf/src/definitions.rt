@@ -2,16 +2,16 @@
 
 ghost use Rattle.std.specs.Prelude.{◌≡◌, IfOk, OnOk, true};
 ghost use Rattle.pfs_conf_tokens.specs.Giving.{Gives};
-ghost use Rattle.pfs_addr.specs.Names.{is_name};
+ghost use Rattle.pfs_addr_values.specs.Names.{is_name};
 ghost use Rattle.pfs_conf.specs.Statements.{with_definition};
 ghost use Rattle.pfs_conf.specs.Reading.{set_at, definition_at, new_name_at};
 ghost use Rattle.pfs_conf.specs.Giving.{Comes, IsAtDepth};
 
 use crate::progress::Progress;
-use pfs_addr::{Name, NoMemory};
-use pfs_conf_rules::{Entries, TableDef, TableName};
+use pfs_addr_values::{Name, NoMemory};
 use pfs_conf_settings::{Draft, Parts, read_parts, read_settings};
 use pfs_conf_tokens::{Cursor, Key, ReadError, Refusal, Why};
+use pfs_conf_values::{Entries, TableDef, TableName};
 use std::alloc::Global;
 
 /// Reads what stands behind `set`, with the line end. (pf.conf(5), OPTIONS)

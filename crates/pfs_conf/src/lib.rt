@@ -17,9 +17,9 @@ mod stopping;
 pub use faults::LoadFault;
 pub use kinds::Kind;
 pub use loading::load;
-pub use pfs_conf_rules::{
+pub use pfs_conf_show::show;
+pub use pfs_conf_values::{
     Action, Anchor, AnchorName, Config, Entries, Family, Filter, FlagTest, Host, Interface, Item,
     LimitName, Overload, Ports, Rate, Rule, RuleNo, RuleTimeouts, Scope, Side, StateOptions,
     TableDef, TableName, TableNo, TimeoutName, What,
 };
-pub use pfs_conf_show::show;

@@ -3,7 +3,7 @@
 ghost use Rattle.std.specs.Prelude.{◌≡◌, ◌<◌, ◌≤◌, ℕ, length, IfOk, IfErr, MatchResult};
 ghost use Rattle.pfs_conf_tokens.specs.Lexis.{tokens_of};
 ghost use Rattle.pfs_conf_tokens.specs.declared.refusals.LoadRule.{LoadRule};
-ghost use Rattle.pfs_conf_rules.specs.Configs.{Conf};
+ghost use Rattle.pfs_conf_values.specs.Configs.{Conf};
 ghost use Rattle.pfs_conf.specs.Kinds.{fault, kind_of_rule, no_memory};
 ghost use Rattle.pfs_conf.specs.Faults.{Breaks, IsFault};
 ghost use Rattle.pfs_conf.specs.Loads.{IsLoad};
@@ -14,8 +14,8 @@ use crate::faults::LoadFault;
 use crate::kinds::Kind;
 use crate::statements::read_text;
 use crate::stopping::fault_of;
-use pfs_conf_rules::Config;
 use pfs_conf_tokens::Cursor;
+use pfs_conf_values::Config;
 use std::alloc::Global;
 
 /// The configuration that a rules text says. (pf.conf(5); the subset, its limits and the load rules are own to this profile)

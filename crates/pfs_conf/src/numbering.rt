@@ -1,16 +1,16 @@
 //! What rules and anchors say, with the tables by their numbers.
 
 ghost use Rattle.std.specs.Prelude.{◌≡◌, IfOk, OnOk, IfSome};
-ghost use Rattle.pfs_conf_rules.specs.LoadRules.{IsHost, IsSide};
+ghost use Rattle.pfs_conf_values.specs.LoadRules.{IsHost, IsSide};
 ghost use Rattle.pfs_conf.specs.Statements.{action_of, anchor_said, default_flags, name_host, name_overload, name_rule, name_hosts, number_host, number_overload, number_side, passing, rule_said, state_options};
 ghost use Rattle.pfs_conf.specs.Within.{IsAnchorText, IsRuleText, IsTableName};
 
 use crate::phrases::{AnchorText, RuleText};
-use pfs_addr::{Flags, NoMemory};
+use pfs_addr_values::{Flags, NoMemory};
 use pfs_conf_filters::{Head, Verb};
 use pfs_conf_options::{Options, OverloadText, StateClause};
-use pfs_conf_rules::{Action, Anchor, Filter, FlagTest, Host, Rule, Side, TableName, TableNo};
 use pfs_conf_settings::Draft;
+use pfs_conf_values::{Action, Anchor, Filter, FlagTest, Host, Rule, Side, TableName, TableNo};
 
 /// What a rule says. Its tables are used, that of the source first and that of `overload` last.
 pub fn number_rule(draft: &mut Draft, text: &RuleText) -> Result<Rule, NoMemory>

@@ -2,7 +2,7 @@
 
 use pfs_conf_filters::{Parameters, Verb};
 use pfs_conf_options::StateClause;
-use pfs_conf_rules::{AnchorName, FlagTest};
+use pfs_conf_values::{AnchorName, FlagTest};
 
 /// What stands behind the parameters of a rule, in any order. (pf.conf(5), GRAMMAR)
 #[derive(Debug, Clone, Copy, PartialEq, Eq)]

@@ -3,7 +3,7 @@
 ghost use Rattle.std.specs.Prelude.{◌≡◌, ◌++◌, ◌∷◌, [], OnOk, slice_index_or};
 ghost use Rattle.pfs_conf.specs.Statements.{nothing};
 
-use pfs_addr::NoMemory;
+use pfs_addr_values::NoMemory;
 use pfs_conf_settings::Draft;
 use std::alloc::Global;
 use std::marker::Model;

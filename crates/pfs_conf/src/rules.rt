@@ -13,7 +13,7 @@ use crate::breaking::rule_breaks;
 use crate::numbering::number_rule;
 use crate::phrases::{Clauses, RuleText};
 use crate::progress::Progress;
-use pfs_addr::NoMemory;
+use pfs_addr_values::NoMemory;
 use pfs_conf_filters::{Parameters, Statement, Verb, read_flags, read_parameters, read_verb};
 use pfs_conf_options::state_clause;
 use pfs_conf_tokens::{Cursor, Key, ReadError, Refusal, Why};

@@ -14,8 +14,8 @@ use crate::breaking::text_breaks;
 use crate::definitions::{set, table};
 use crate::progress::Progress;
 use crate::rules::rule;
-use pfs_conf_rules::Config;
 use pfs_conf_tokens::{Cursor, Key, ReadError, Refusal, Why};
+use pfs_conf_values::Config;
 use std::alloc::Global;
 
 /// Reads a text up to its end, which stays, and gives what it says.

@@ -12,15 +12,15 @@ use Rattle.pfs_conf_tokens.specs.declared.refusals.Why.{Why}
 use Rattle.pfs_conf_tokens.specs.declared.refusals.Why.TheVariants as why
 use Rattle.pfs_conf_tokens.proofs.Laws.{Online, OnlineAct, Taking, Shrinks, inside, online_done, online_chain, online_front, online_taking, online_perhaps, front_shrinks, chain_shrinks, chain_shrinks_behind}
 use Rattle.pfs_conf_tokens.proofs.ReaderLaws.{word_in_line, closes_parens_in_line, online_list, next_shrinks}
-use Rattle.pfs_addr.specs.declared.packets.Dir.TheVariants as dir
-use Rattle.pfs_conf_rules.specs.declared.filters.Family.TheVariants as family
-use Rattle.pfs_conf_rules.specs.declared.filters.FlagTest.{FlagTest}
-use Rattle.pfs_conf_rules.specs.declared.filters.Host.TheVariants as host
+use Rattle.pfs_addr_values.specs.declared.packets.Dir.TheVariants as dir
+use Rattle.pfs_conf_values.specs.declared.filters.Family.TheVariants as family
+use Rattle.pfs_conf_values.specs.declared.filters.FlagTest.{FlagTest}
+use Rattle.pfs_conf_values.specs.declared.filters.Host.TheVariants as host
 use Rattle.pfs_conf_filters.specs.declared.phrases.Verb.TheVariants as verb
 use Rattle.pfs_conf_filters.specs.declared.phrases.Statement.{Statement}
 use Rattle.pfs_conf_filters.specs.declared.phrases.Statement.TheVariants as statement
-use Rattle.pfs_addr_text.specs.Texts.{prefix_of}
-use Rattle.pfs_addr.specs.Protocols.{proto_in}
+use Rattle.pfs_addr.specs.Texts.{prefix_of}
+use Rattle.pfs_addr_values.specs.Protocols.{proto_in}
 use Rattle.pfs_conf_filters.specs.Values.{in_word, is_plain_word, in_plain_word, may_name_interface, interface_name, table_name, ports_of, flag_test_by, flag_test}
 use Rattle.pfs_conf_filters.specs.Reading.{valued, value_at, behind, clause, part, begins_dir, begins_on, begins_family, begins_proto, begins_from, begins_to, begins_port, begins_flags, interface_at, host_table_at, policy_by, policy_at, verb_by, verb_at, dir_by, dir_at, log_item_by, log_item_at, log_list_by, log_list_at, log_by, log_at, quick_by, quick_at, marked, marks_by, marks_at, negation_by, negation_at, interface, on_at, on_part_at, family_by, family_part_at, proto_at, proto_part_at, head_at, close_by, close_at, place_by, place_at, host_by, host_at, equals_by, equals_at, ports_at, ports_part_at, side_host_by, side_host_at, side, side_at, from_part_at, to_part_at, all_hosts, given_hosts, hosts_by, hosts_at, parameters_at, flags_at}
 

@@ -13,19 +13,19 @@ use Rattle.pfs_conf_tokens.specs.declared.refusals.Why.{Why}
 use Rattle.pfs_conf_tokens.specs.declared.refusals.Why.TheVariants as why
 use Rattle.pfs_conf_tokens.proofs.Laws.{ok_parts, chain_ok, not_refused}
 use Rattle.pfs_conf_tokens.proofs.ReaderLaws.{closes_parens_key, word_is, perhaps_is, list_is}
-use Rattle.pfs_addr.specs.Protocols.{proto_in}
-use Rattle.pfs_addr_text.specs.Texts.{prefix_of}
-use Rattle.pfs_addr.specs.declared.packets.Dir.{Dir}
-use Rattle.pfs_addr.specs.declared.packets.Dir.TheVariants as dir
-use Rattle.pfs_addr.specs.declared.protocols.Proto.{Proto}
-use Rattle.pfs_conf_rules.specs.declared.filters.Family.{Family}
-use Rattle.pfs_conf_rules.specs.declared.filters.Family.TheVariants as family
-use Rattle.pfs_conf_rules.specs.declared.filters.Interface.{Interface}
-use Rattle.pfs_conf_rules.specs.declared.filters.Host.{Host}
-use Rattle.pfs_conf_rules.specs.declared.filters.Host.TheVariants as host
-use Rattle.pfs_conf_rules.specs.declared.filters.Ports.{Ports}
-use Rattle.pfs_conf_rules.specs.declared.filters.Side.{Side}
-use Rattle.pfs_conf_rules.specs.declared.filters.FlagTest.{FlagTest}
+use Rattle.pfs_addr_values.specs.Protocols.{proto_in}
+use Rattle.pfs_addr.specs.Texts.{prefix_of}
+use Rattle.pfs_addr_values.specs.declared.packets.Dir.{Dir}
+use Rattle.pfs_addr_values.specs.declared.packets.Dir.TheVariants as dir
+use Rattle.pfs_addr_values.specs.declared.protocols.Proto.{Proto}
+use Rattle.pfs_conf_values.specs.declared.filters.Family.{Family}
+use Rattle.pfs_conf_values.specs.declared.filters.Family.TheVariants as family
+use Rattle.pfs_conf_values.specs.declared.filters.Interface.{Interface}
+use Rattle.pfs_conf_values.specs.declared.filters.Host.{Host}
+use Rattle.pfs_conf_values.specs.declared.filters.Host.TheVariants as host
+use Rattle.pfs_conf_values.specs.declared.filters.Ports.{Ports}
+use Rattle.pfs_conf_values.specs.declared.filters.Side.{Side}
+use Rattle.pfs_conf_values.specs.declared.filters.FlagTest.{FlagTest}
 use Rattle.pfs_conf_filters.specs.declared.phrases.Verb.{Verb}
 use Rattle.pfs_conf_filters.specs.declared.phrases.Verb.TheVariants as verb
 use Rattle.pfs_conf_filters.specs.declared.phrases.Statement.{Statement}

@@ -1,8 +1,8 @@
 -- What is asked of parameters that have been read. (own)
 use Rattle.std.specs.Prelude.{ℕ, Bool, false, not, ◌&&◌, ◌||◌, List, Option, Some, None, is_some, unwrap_or}
-use Rattle.pfs_conf_rules.specs.Bounds.{asks_ports}
-use Rattle.pfs_conf_rules.specs.declared.filters.Host.TheVariants as host
-use Rattle.pfs_conf_rules.specs.declared.filters.Side.{Side}
+use Rattle.pfs_conf_values.specs.Bounds.{asks_ports}
+use Rattle.pfs_conf_values.specs.declared.filters.Host.TheVariants as host
+use Rattle.pfs_conf_values.specs.declared.filters.Side.{Side}
 use Rattle.pfs_conf_filters.specs.declared.phrases.Hosts.{Hosts}
 use Rattle.pfs_conf_filters.specs.declared.phrases.Parameters.{Parameters}
 

@@ -6,12 +6,12 @@ use Rattle.pfs_conf_tokens.specs.Words.{key_of_text}
 use Rattle.pfs_conf_tokens.specs.Numbers.{number_written, split_around}
 use Rattle.pfs_conf_tokens.specs.declared.keys.Key.{Key}
 use Rattle.pfs_conf_tokens.specs.declared.keys.Key.TheVariants as key
-use Rattle.pfs_addr.specs.Names.{name_of}
-use Rattle.pfs_addr.specs.FlagSets.{flags_of}
-use Rattle.pfs_addr.specs.declared.flag_sets.Flags.{Flags}
-use Rattle.pfs_conf_rules.specs.declared.filters.Ports.{Ports}
-use Rattle.pfs_conf_rules.specs.declared.filters.FlagTest.{FlagTest}
-use Rattle.pfs_conf_rules.specs.declared.filters.FlagTest.TheVariants as test
+use Rattle.pfs_addr_values.specs.Names.{name_of}
+use Rattle.pfs_addr_values.specs.FlagSets.{flags_of}
+use Rattle.pfs_addr_values.specs.declared.flag_sets.Flags.{Flags}
+use Rattle.pfs_conf_values.specs.declared.filters.Ports.{Ports}
+use Rattle.pfs_conf_values.specs.declared.filters.FlagTest.{FlagTest}
+use Rattle.pfs_conf_values.specs.declared.filters.FlagTest.TheVariants as test
 
 -- what a token says to those who ask for a word: a quoted string, a mark and an end say nothing
 abbrev pub in_word : {A : Type 0} → (List ℕ → Option A) → Tok → Option A

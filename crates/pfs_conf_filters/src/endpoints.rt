@@ -8,9 +8,9 @@ use crate::heads::head;
 use crate::phrases::{Hosts, Parameters, Statement};
 use crate::services::ports_part;
 use crate::words::{table_name, take_value};
-use pfs_addr_text::parse_prefix;
-use pfs_conf_rules::{Host, Side, TableName};
+use pfs_addr::parse_prefix;
 use pfs_conf_tokens::{Cursor, Key, Refusal, Why};
+use pfs_conf_values::{Host, Side, TableName};
 
 /// Reads the parameters of a rule, behind its action, or of an anchor, behind its name, up to its hosts:
 /// `[in | out] [log] [quick] [on [!] IF] [inet] [proto PROTO] (all | [from HOST] [to HOST])`. All of them may lack. An

@@ -8,9 +8,9 @@ ghost use Rattle.pfs_conf_filters.specs.Reading.{verb_at, policy_at, dir_at, log
 use crate::phrases::{Head, Marks, Statement, Verb};
 use crate::services::proto_part;
 use crate::words::interface_name;
-use pfs_addr::Dir;
-use pfs_conf_rules::{Family, Interface};
+use pfs_addr_values::Dir;
 use pfs_conf_tokens::{Cursor, Key, Refusal, Why};
+use pfs_conf_values::{Family, Interface};
 
 /// Reads what a rule begins with: `pass`, or `block` with at most one of `drop`, `return`, `return-rst`, `return-icmp`
 /// and `return-icmp6`, which has no effect. (pf.conf(5), PACKET FILTERING)

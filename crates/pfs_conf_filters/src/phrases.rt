@@ -1,7 +1,7 @@
 // What is read of a statement, as it is written: tables by their names, and each part with whether it is given.
 
-use pfs_addr::{Dir, Proto};
-use pfs_conf_rules::{Family, Interface, Side, TableName};
+use pfs_addr_values::{Dir, Proto};
+use pfs_conf_values::{Family, Interface, Side, TableName};
 
 /// What a rule begins with. (pf.conf(5), PACKET FILTERING)
 #[derive(Debug, Clone, Copy, PartialEq, Eq)]

@@ -5,8 +5,8 @@ ghost use Rattle.pfs_conf_filters.specs.Sides.{source_of, destination_of, gives_
 ghost use Rattle.pfs_conf_filters.specs.Repeats.{repeats, repeats_policy};
 
 use crate::phrases::{Hosts, Parameters, Verb};
-use pfs_conf_rules::{Host, Side, TableName};
 use pfs_conf_tokens::Key;
+use pfs_conf_values::{Host, Side, TableName};
 
 const ANY: Side<TableName> = Side {
     host: Host::Any,

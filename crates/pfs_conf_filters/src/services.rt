@@ -8,10 +8,10 @@ ghost use Rattle.pfs_conf_filters.specs.Values.{port_of, port_by, port_numbered,
 ghost use Rattle.pfs_conf_filters.specs.Reading.{proto_at, proto_part_at, ports_at, ports_part_at};
 
 use crate::words::take_value;
-use pfs_addr::Proto;
-use pfs_addr_text::parse_proto;
-use pfs_conf_rules::Ports;
+use pfs_addr::parse_proto;
+use pfs_addr_values::Proto;
 use pfs_conf_tokens::{Cursor, Key, Refusal, Why, digits, key_of, split_at_byte};
+use pfs_conf_values::Ports;
 
 /// `proto PROTO`, if it stands there.
 #[tactic(auto, unfolding(crate::specs::Reading::proto_part_at))]

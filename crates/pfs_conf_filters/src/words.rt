@@ -7,9 +7,9 @@ ghost use Rattle.pfs_conf_tokens.specs.Giving.{Gives};
 ghost use Rattle.pfs_conf_filters.specs.Values.{may_name_interface};
 ghost use Rattle.pfs_conf_filters.specs.Reading.{valued, interface_at, host_table_at};
 
-use pfs_addr::{IfName, Name, parse_ifname};
-use pfs_conf_rules::TableName;
+use pfs_addr_values::{IfName, Name, parse_ifname};
 use pfs_conf_tokens::{Cursor, Key, Refusal, Why};
+use pfs_conf_values::TableName;
 
 /// Goes over the token in front if it says a value, and gives that; else the cursor stays, and `why` says what was
 /// wanted.

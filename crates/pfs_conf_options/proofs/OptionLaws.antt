@@ -9,15 +9,15 @@ use Rattle.pfs_conf_tokens.specs.Keys.{timeout_place, is_word_key}
 use Rattle.pfs_conf_tokens.specs.Reading.{closes_parens, Refused, Act, refuse, done, number_at, next_of}
 use Rattle.pfs_conf_tokens.proofs.Laws.{Taking, OnlineAct, Online, inside, online_done, online_chain, online_front, online_taking, once_taking, front_shrinks, Shrinks}
 use Rattle.pfs_conf_tokens.proofs.ReaderLaws.{closes_parens_in_line, online_number, online_list, next_shrinks, timeout_in_line, word_in_line}
-use Rattle.pfs_addr.specs.Names.{name_of}
-use Rattle.pfs_conf_rules.specs.declared.actions.Scope.TheVariants as scope
-use Rattle.pfs_conf_rules.specs.declared.actions.Rate.{Rate}
+use Rattle.pfs_addr_values.specs.Names.{name_of}
+use Rattle.pfs_conf_values.specs.declared.actions.Scope.TheVariants as scope
+use Rattle.pfs_conf_values.specs.declared.actions.Rate.{Rate}
 use Rattle.pfs_conf_options.specs.declared.clauses.Track.TheVariants as track
 use Rattle.pfs_conf_options.specs.declared.clauses.Options.{Options}
 use Rattle.pfs_conf_options.specs.declared.clauses.StateClause.{StateClause}
 use Rattle.pfs_conf_options.specs.declared.clauses.StateClause.TheVariants as clause
 use Rattle.pfs_conf_options.specs.Options.{none_given, rule_place}
-use Rattle.pfs_conf_rules.specs.Bounds.{greatest_timeout}
+use Rattle.pfs_conf_values.specs.Bounds.{greatest_timeout}
 use Rattle.pfs_conf_options.specs.Reading.{track_by, track_at, rate_of, rate_found, rate_by, rate_at, name_found, table_name_by, table_name_at, name_closed_by, name_closed, table_by, table_at, flushed_by, flush_by, flush_at, overload_text_at, mark_once, timeout_by, mark_by, connection_by, option_by, option_at, state_options_at, kept_by, kept_at, kept_clause, behind_state, state_word, state_by, state_at}
 
 -- ---- what stands behind an option's word

@@ -10,12 +10,12 @@ use Rattle.pfs_conf_tokens.specs.Tokens.{Tok}
 use Rattle.pfs_conf_tokens.specs.declared.keys.Key.{Key}
 use Rattle.pfs_conf_tokens.specs.declared.keys.Key.TheVariants as key
 use Rattle.pfs_conf_tokens.specs.Grammar.{Number, Until, ends, goes, NextOf, plain, comma}
-use Rattle.pfs_addr.specs.Names.{is_name, name_of}
-use Rattle.pfs_conf_rules.specs.Timeouts.{no_timeouts}
-use Rattle.pfs_conf_rules.specs.LoadRules.{IsCount, IsTimeout, IsTableNo, limits_connections, AreOptions}
-use Rattle.pfs_conf_rules.specs.Bounds.{greatest_timeout, is_global}
-use Rattle.pfs_conf_rules.specs.declared.actions.Scope.TheVariants as scope
-use Rattle.pfs_conf_rules.specs.declared.filters.TableNo.{TableNo}
+use Rattle.pfs_addr_values.specs.Names.{is_name, name_of}
+use Rattle.pfs_conf_values.specs.Timeouts.{no_timeouts}
+use Rattle.pfs_conf_values.specs.LoadRules.{IsCount, IsTimeout, IsTableNo, limits_connections, AreOptions}
+use Rattle.pfs_conf_values.specs.Bounds.{greatest_timeout, is_global}
+use Rattle.pfs_conf_values.specs.declared.actions.Scope.TheVariants as scope
+use Rattle.pfs_conf_values.specs.declared.filters.TableNo.{TableNo}
 use Rattle.pfs_conf_options.specs.declared.clauses.Track.{Track}
 use Rattle.pfs_conf_options.specs.declared.clauses.Track.TheVariants as track
 use Rattle.pfs_conf_options.specs.declared.clauses.OverloadText.{OverloadText}

@@ -1,9 +1,9 @@
 -- What every state clause that is read keeps: each option is within its bounds. (own)
 use Rattle.std.specs.Prelude.{◌≡◌, ℕ, true, None, IfSome, length, slice_index_or}
-use Rattle.pfs_conf_rules.specs.LoadRules.{IsCount, IsTimeout}
-use Rattle.pfs_conf_rules.specs.Bounds.{IsRate}
-use Rattle.pfs_addr.specs.Names.{is_name}
-use Rattle.pfs_conf_rules.specs.declared.timeouts.TimeoutName.TheVariants as timeout
+use Rattle.pfs_conf_values.specs.LoadRules.{IsCount, IsTimeout}
+use Rattle.pfs_conf_values.specs.Bounds.{IsRate}
+use Rattle.pfs_addr_values.specs.Names.{is_name}
+use Rattle.pfs_conf_values.specs.declared.timeouts.TimeoutName.TheVariants as timeout
 use Rattle.pfs_conf_options.specs.declared.clauses.Options.{Options}
 use Rattle.pfs_conf_options.specs.Options.{given_for}
 

@@ -3,15 +3,15 @@ use Rattle.std.specs.Prelude.{ℕ, Bool, true, false, ◌&&◌, ◌||◌, not, i
 use Rattle.pfs_conf_tokens.specs.declared.keys.Key.{Key}
 use Rattle.pfs_conf_tokens.specs.declared.keys.Key.TheVariants as key
 use Rattle.pfs_conf_tokens.specs.Keys.{timeout_place}
-use Rattle.pfs_conf_rules.specs.Timeouts.{place_of, no_timeouts}
-use Rattle.pfs_conf_rules.specs.Bounds.{broken_rule_pair, is_global}
-use Rattle.pfs_conf_rules.specs.declared.timeouts.TimeoutName.{TimeoutName}
-use Rattle.pfs_conf_rules.specs.declared.timeouts.TimeoutName.TheVariants as timeout
-use Rattle.pfs_conf_rules.specs.declared.actions.Scope.{Scope}
-use Rattle.pfs_conf_rules.specs.declared.actions.Scope.TheVariants as scope
-use Rattle.pfs_conf_rules.specs.declared.actions.Overload.{Overload}
-use Rattle.pfs_conf_rules.specs.declared.actions.StateOptions.{StateOptions}
-use Rattle.pfs_conf_rules.specs.declared.filters.TableNo.{TableNo}
+use Rattle.pfs_conf_values.specs.Timeouts.{place_of, no_timeouts}
+use Rattle.pfs_conf_values.specs.Bounds.{broken_rule_pair, is_global}
+use Rattle.pfs_conf_values.specs.declared.timeouts.TimeoutName.{TimeoutName}
+use Rattle.pfs_conf_values.specs.declared.timeouts.TimeoutName.TheVariants as timeout
+use Rattle.pfs_conf_values.specs.declared.actions.Scope.{Scope}
+use Rattle.pfs_conf_values.specs.declared.actions.Scope.TheVariants as scope
+use Rattle.pfs_conf_values.specs.declared.actions.Overload.{Overload}
+use Rattle.pfs_conf_values.specs.declared.actions.StateOptions.{StateOptions}
+use Rattle.pfs_conf_values.specs.declared.filters.TableNo.{TableNo}
 use Rattle.pfs_conf_options.specs.declared.clauses.Track.{Track}
 use Rattle.pfs_conf_options.specs.declared.clauses.Track.TheVariants as track
 use Rattle.pfs_conf_options.specs.declared.clauses.OverloadText.{OverloadText}

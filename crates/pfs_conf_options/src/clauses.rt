@@ -1,6 +1,6 @@
 // What a state clause says, as it is written: tables by their names, and no scope but the one that is stated.
 
-use pfs_conf_rules::{Rate, RuleTimeouts, Scope, TableName};
+use pfs_conf_values::{Rate, RuleTimeouts, Scope, TableName};
 
 /// What stands behind `source-track`. (pf.conf(5), STATEFUL TRACKING OPTIONS, "source-track")
 #[derive(Debug, Clone, Copy, PartialEq, Eq)]

@@ -6,12 +6,12 @@ ghost use Rattle.pfs_conf_tokens.specs.Reading.{closes_parens, act, chain, done,
 ghost use Rattle.pfs_conf_tokens.specs.Giving.{Gives};
 ghost use Rattle.pfs_conf_options.specs.Options.{rule_place, options_given};
 ghost use Rattle.pfs_conf_options.specs.Bounds.{AreRead};
-ghost use Rattle.pfs_conf_rules.specs.Bounds.{greatest_timeout};
+ghost use Rattle.pfs_conf_values.specs.Bounds.{greatest_timeout};
 ghost use Rattle.pfs_conf_options.specs.Reading.{track_at, counted, rate_of, rate_at, table_name_at, table_at, flush_at, overload_text_at, state_mark_at, timeout_at, connection_at, option_at, state_options_at, kept_at, state_at};
 
 use crate::clauses::{Options, OverloadText, StateClause, Track};
-use pfs_conf_rules::{Rate, Scope, TableName};
 use pfs_conf_tokens::{Cursor, Key, Refusal, Why, digits, number, split_at_byte};
+use pfs_conf_values::{Rate, Scope, TableName};
 
 /// Reads the state clause of a rule, at its `no` or `keep`:
 /// `no state`, or `keep state` with its options in parentheses, if any.

@@ -5,7 +5,7 @@ ghost use Rattle.std.specs.Prelude.{◌≡◌};
 ghost use Rattle.pfs_conf_options.specs.Options.{options_given, scope_of_options, has_overload_alone, has_global_connections, has_global_retention, has_broken_rule_pair, has_connection_limit, overload_to, resolved};
 
 use crate::clauses::{Options, OverloadText, StateClause, Track};
-use pfs_conf_rules::{Overload, Scope, StateOptions, TableNo, TimeoutName};
+use pfs_conf_values::{Overload, Scope, StateOptions, TableNo, TimeoutName};
 
 impl StateClause {
     /// The options of the clause; `no state` has none.

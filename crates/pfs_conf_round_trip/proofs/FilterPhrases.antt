@@ -15,30 +15,30 @@ use Rattle.pfs_conf_tokens.specs.Tokens.{Tok, token}
 use Rattle.pfs_conf_tokens.specs.Words.{key_of_text}
 use Rattle.pfs_conf_tokens.proofs.ShownLaws.{breaks, decimal_text, is_word_text, mark_then, split_around-append, word_then}
 use Rattle.pfs_conf_tokens.proofs.WordKeys.{key_of-All, key_of-Any, key_of-Flags, key_of-From, key_of-In, key_of-Inet, key_of-Inet6, key_of-On, key_of-Out, key_of-Port, key_of-Proto, key_of-Quick, key_of-To}
-use Rattle.pfs_addr.specs.FlagSets.{flags_of}
-use Rattle.pfs_addr.specs.Names.{is_name, name_of}
-use Rattle.pfs_addr.specs.Prefixes.{IsNetwork, Network}
-use Rattle.pfs_addr.specs.Protocols.{proto_in}
-use Rattle.pfs_addr_text.specs.Texts.{prefix_of}
-use Rattle.pfs_addr.specs.declared.flag_sets.Flags.{Flags}
-use Rattle.pfs_addr.specs.declared.packets.Dir.{Dir}
-use Rattle.pfs_addr.specs.declared.packets.Dir.TheVariants as dir
-use Rattle.pfs_addr.specs.declared.protocols.Proto.{Proto}
-use Rattle.pfs_addr.specs.declared.protocols.Proto.TheVariants as proto
-use Rattle.pfs_conf_rules.specs.Invariants.{IsTable}
-use Rattle.pfs_conf_rules.specs.LoadRules.{ArePorts, IsFilter, IsFlagTest, IsHost, IsInterface, IsProto, IsSide, IsTableNo, has_a_flag}
-use Rattle.pfs_conf_rules.specs.declared.filters.Family.{Family}
-use Rattle.pfs_conf_rules.specs.declared.filters.Family.TheVariants as family
-use Rattle.pfs_conf_rules.specs.declared.filters.Filter.{Filter}
-use Rattle.pfs_conf_rules.specs.declared.filters.FlagTest.{FlagTest}
-use Rattle.pfs_conf_rules.specs.declared.filters.FlagTest.TheVariants as flag_test
-use Rattle.pfs_conf_rules.specs.declared.filters.Host.{Host}
-use Rattle.pfs_conf_rules.specs.declared.filters.Host.TheVariants as host
-use Rattle.pfs_conf_rules.specs.declared.filters.Interface.{Interface}
-use Rattle.pfs_conf_rules.specs.declared.filters.Ports.{Ports}
-use Rattle.pfs_conf_rules.specs.declared.filters.Side.{Side}
-use Rattle.pfs_conf_rules.specs.declared.filters.TableNo.{TableNo}
-use Rattle.pfs_conf_rules.specs.declared.tables.TableDef.{TableDef}
+use Rattle.pfs_addr_values.specs.FlagSets.{flags_of}
+use Rattle.pfs_addr_values.specs.Names.{is_name, name_of}
+use Rattle.pfs_addr_values.specs.Prefixes.{IsNetwork, Network}
+use Rattle.pfs_addr_values.specs.Protocols.{proto_in}
+use Rattle.pfs_addr.specs.Texts.{prefix_of}
+use Rattle.pfs_addr_values.specs.declared.flag_sets.Flags.{Flags}
+use Rattle.pfs_addr_values.specs.declared.packets.Dir.{Dir}
+use Rattle.pfs_addr_values.specs.declared.packets.Dir.TheVariants as dir
+use Rattle.pfs_addr_values.specs.declared.protocols.Proto.{Proto}
+use Rattle.pfs_addr_values.specs.declared.protocols.Proto.TheVariants as proto
+use Rattle.pfs_conf_values.specs.Invariants.{IsTable}
+use Rattle.pfs_conf_values.specs.LoadRules.{ArePorts, IsFilter, IsFlagTest, IsHost, IsInterface, IsProto, IsSide, IsTableNo, has_a_flag}
+use Rattle.pfs_conf_values.specs.declared.filters.Family.{Family}
+use Rattle.pfs_conf_values.specs.declared.filters.Family.TheVariants as family
+use Rattle.pfs_conf_values.specs.declared.filters.Filter.{Filter}
+use Rattle.pfs_conf_values.specs.declared.filters.FlagTest.{FlagTest}
+use Rattle.pfs_conf_values.specs.declared.filters.FlagTest.TheVariants as flag_test
+use Rattle.pfs_conf_values.specs.declared.filters.Host.{Host}
+use Rattle.pfs_conf_values.specs.declared.filters.Host.TheVariants as host
+use Rattle.pfs_conf_values.specs.declared.filters.Interface.{Interface}
+use Rattle.pfs_conf_values.specs.declared.filters.Ports.{Ports}
+use Rattle.pfs_conf_values.specs.declared.filters.Side.{Side}
+use Rattle.pfs_conf_values.specs.declared.filters.TableNo.{TableNo}
+use Rattle.pfs_conf_values.specs.declared.tables.TableDef.{TableDef}
 use Rattle.pfs_conf_filters.specs.Grammar.{Behind, DirOf, FamilyOf, FlagsOf, HostOf, HostsOf, MarksOf, OnOf, ParametersOf, PortsOf, QuickOf, Says, SideOf, inward, outward, slow, quick, silent, log_first, of_anchor, affirmed, negated, on, inet, inet6, any, prefix, table, plainly, hosted, every, sides}
 use Rattle.pfs_conf_filters.specs.Reading.{all_hosts, given_hosts, interface, marked}
 use Rattle.pfs_conf_filters.specs.Values.{is_plain_word, exactly, flag_test, flag_test_by, flag_test_of, flags_around, in_plain_word, in_word, interface_name, may_name_interface, ports_of, table_name}

@@ -7,16 +7,16 @@ use Rattle.pfs_conf_tokens.specs.Lexis.{tokens}
 use Rattle.pfs_conf_tokens.specs.Tokens.{token}
 use Rattle.pfs_conf_tokens.proofs.ShownLaws.{breaks, quoted_then, space_then}
 use Rattle.pfs_conf_tokens.proofs.WordKeys.{key_of-Anchor, key_of-Block, key_of-Pass}
-use Rattle.pfs_addr.specs.Names.{is_name}
-use Rattle.pfs_conf_rules.specs.Invariants.{IsTable}
-use Rattle.pfs_conf_rules.specs.LoadRules.{IsAction, IsAnchor, IsFlagTest, IsRule}
-use Rattle.pfs_conf_rules.specs.Order.{repeats_by}
-use Rattle.pfs_conf_rules.specs.declared.actions.Action.{Action}
-use Rattle.pfs_conf_rules.specs.declared.actions.Action.TheVariants as action
-use Rattle.pfs_conf_rules.specs.declared.filters.FlagTest.{FlagTest}
-use Rattle.pfs_conf_rules.specs.declared.items.Anchor.{Anchor}
-use Rattle.pfs_conf_rules.specs.declared.items.Rule.{Rule}
-use Rattle.pfs_conf_rules.specs.declared.tables.TableDef.{TableDef}
+use Rattle.pfs_addr_values.specs.Names.{is_name}
+use Rattle.pfs_conf_values.specs.Invariants.{IsTable}
+use Rattle.pfs_conf_values.specs.LoadRules.{IsAction, IsAnchor, IsFlagTest, IsRule}
+use Rattle.pfs_conf_values.specs.Order.{repeats_by}
+use Rattle.pfs_conf_values.specs.declared.actions.Action.{Action}
+use Rattle.pfs_conf_values.specs.declared.actions.Action.TheVariants as action
+use Rattle.pfs_conf_values.specs.declared.filters.FlagTest.{FlagTest}
+use Rattle.pfs_conf_values.specs.declared.items.Anchor.{Anchor}
+use Rattle.pfs_conf_values.specs.declared.items.Rule.{Rule}
+use Rattle.pfs_conf_values.specs.declared.tables.TableDef.{TableDef}
 use Rattle.pfs_conf_filters.specs.Grammar.{VerbOf, block, none, pass}
 use Rattle.pfs_conf_filters.specs.declared.phrases.Statement.TheVariants as statement
 use Rattle.pfs_conf.specs.Grammar.{AnchorNameOf, AnchorOf, ClauseOf, RuleOf, flags, named, state, unnamed}

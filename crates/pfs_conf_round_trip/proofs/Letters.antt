@@ -3,9 +3,9 @@ use Rattle.std.proofs.Common.{◌≡◌, ℕ, Bool, true, false, suc, length, Li
 use Rattle.std.specs.Prelude.{codes, ◌||◌, ◌==◌, if◌then◌else◌}
 use Rattle.std.specs.List.{list_all}
 use Rattle.std.proofs.lemmas.Bool.{cond-true, and_parts, and_from, ne_eqb}
-use Rattle.pfs_addr.specs.FlagSets.{flags_of, is_flag_letter, names_letter}
-use Rattle.pfs_addr.specs.declared.flag_sets.Flags.{Flags}
-use Rattle.pfs_conf_rules.specs.LoadRules.{has_a_flag}
+use Rattle.pfs_addr_values.specs.FlagSets.{flags_of, is_flag_letter, names_letter}
+use Rattle.pfs_addr_values.specs.declared.flag_sets.Flags.{Flags}
+use Rattle.pfs_conf_values.specs.LoadRules.{has_a_flag}
 use Rattle.pfs_conf_show.specs.Filters.{letter_text, letters_text}
 
 -- the letters of a set of flags, each with whether it is in the set

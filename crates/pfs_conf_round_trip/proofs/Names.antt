@@ -14,7 +14,7 @@ use Rattle.pfs_conf_tokens.specs.Keys.{is_word_key}
 use Rattle.pfs_conf_tokens.specs.Lexis.{goes_on, is_word_byte}
 use Rattle.pfs_conf_tokens.specs.Words.{key_of_text, key_among, statement_words, option_words, named_words, foreign_words, starts_with_digit}
 use Rattle.pfs_conf_tokens.proofs.ShownLaws.{is_word_text}
-use Rattle.pfs_addr.specs.Names.{is_name, is_name_byte, name_of}
+use Rattle.pfs_addr_values.specs.Names.{is_name, is_name_byte, name_of}
 use Rattle.pfs_conf_filters.specs.Values.{may_name_interface}
 
 -- ---- bytes

@@ -5,13 +5,13 @@ use Rattle.std.specs.List.{AllByRecursion, IsDistinct}
 use Rattle.std.specs.Str.{bytes_eq}
 use Rattle.std.proofs.lemmas.Bool.{cond-true, cond-false, and_from, eq-eqb}
 use Rattle.std.proofs.lemmas.Map.Keys.{IsDistinct-head, IsDistinct-tail}
-use Rattle.pfs_conf_rules.specs.Configs.{table_names}
+use Rattle.pfs_conf_values.specs.Configs.{table_names}
 use Rattle.pfs_conf_settings.specs.Drafts.{Drafted, is_defined, with_name, with_table, with_tables}
 use Rattle.pfs_conf_settings.specs.Namings.{Named, defined_at, defining, is_named, naming, place_in, table_number, undefined_table}
-use Rattle.pfs_conf_rules.specs.declared.filters.TableNo.{TableNo}
-use Rattle.pfs_conf_rules.specs.declared.items.Item.{Item}
-use Rattle.pfs_conf_rules.specs.declared.limits.Limits.{Limits}
-use Rattle.pfs_conf_rules.specs.declared.tables.TableDef.{TableDef}
+use Rattle.pfs_conf_values.specs.declared.filters.TableNo.{TableNo}
+use Rattle.pfs_conf_values.specs.declared.items.Item.{Item}
+use Rattle.pfs_conf_values.specs.declared.limits.Limits.{Limits}
+use Rattle.pfs_conf_values.specs.declared.tables.TableDef.{TableDef}
 use Rattle.pfs_conf_show.specs.Tables.{name_in}
 use Rattle.pfs_conf_round_trip.proofs.TablePhrases.{bytes_sym}
 

@@ -10,13 +10,13 @@ use Rattle.pfs_conf_tokens.specs.Lexis.{is_word_byte}
 use Rattle.pfs_conf_tokens.specs.Numbers.{parts_around, split_around}
 use Rattle.pfs_conf_tokens.specs.Words.{key_of_text}
 use Rattle.pfs_conf_tokens.proofs.ShownLaws.{decimal_text, is_word_text, key_of-decimal, number_of-decimal, split_around-append}
-use Rattle.pfs_addr.specs.Numbers.{is_digit}
-use Rattle.pfs_addr.specs.Protocols.{proto_in, proto_numbered, proto_of}
-use Rattle.pfs_addr.specs.declared.protocols.Proto.{Proto}
-use Rattle.pfs_addr.specs.declared.protocols.Proto.TheVariants as proto
-use Rattle.pfs_addr_text.proofs.NumberLaws.{decimal_digits, number_of-decimal as addr_number_of-decimal}
-use Rattle.pfs_conf_rules.specs.LoadRules.{ArePorts}
-use Rattle.pfs_conf_rules.specs.declared.filters.Ports.{Ports}
+use Rattle.pfs_addr_values.specs.Numbers.{is_digit}
+use Rattle.pfs_addr_values.specs.Protocols.{proto_in, proto_numbered, proto_of}
+use Rattle.pfs_addr_values.specs.declared.protocols.Proto.{Proto}
+use Rattle.pfs_addr_values.specs.declared.protocols.Proto.TheVariants as proto
+use Rattle.pfs_addr.proofs.NumberLaws.{decimal_digits, number_of-decimal as addr_number_of-decimal}
+use Rattle.pfs_conf_values.specs.LoadRules.{ArePorts}
+use Rattle.pfs_conf_values.specs.declared.filters.Ports.{Ports}
 use Rattle.pfs_conf_filters.specs.Values.{one_port, port_by, port_of, port_numbered, port_range, ports_around, ports_of}
 use Rattle.pfs_conf_show.specs.Filters.{range_text}
 use Rattle.pfs_conf_round_trip.proofs.Pieces.{decimal_all, text-append}

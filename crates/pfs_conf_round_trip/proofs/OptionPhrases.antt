@@ -10,18 +10,18 @@ use Rattle.pfs_conf_tokens.specs.Tokens.{token}
 use Rattle.pfs_conf_tokens.specs.Words.{key_of_text}
 use Rattle.pfs_conf_tokens.proofs.ShownLaws.{breaks, decimal_text, is_word_text, key_of-decimal, number_of-decimal, split_around-append, word_then}
 use Rattle.pfs_conf_tokens.proofs.WordKeys.{key_of-Flush, key_of-Global, key_of-Keep, key_of-Max, key_of-MaxSrcConn, key_of-MaxSrcConnRate, key_of-MaxSrcNodes, key_of-MaxSrcStates, key_of-No, key_of-Overload, key_of-Rule, key_of-SourceTrack, key_of-State, key_of-TcpFirst, key_of-TcpOpening, key_of-TcpEstablished, key_of-TcpClosing, key_of-TcpFinwait, key_of-TcpClosed, key_of-UdpFirst, key_of-UdpSingle, key_of-UdpMultiple, key_of-OtherFirst, key_of-OtherSingle, key_of-OtherMultiple, key_of-SrcTrack, key_of-AdaptiveStart, key_of-AdaptiveEnd}
-use Rattle.pfs_addr.specs.Names.{is_name}
-use Rattle.pfs_addr_text.proofs.PieceLaws.{decimal_lacks}
-use Rattle.pfs_conf_rules.specs.Invariants.{IsTable}
-use Rattle.pfs_conf_rules.specs.LoadRules.{AreOptions, IsCount, IsTableNo, IsTimeout}
-use Rattle.pfs_conf_rules.specs.Bounds.{IsRate, greatest_timeout}
-use Rattle.pfs_conf_rules.specs.Timeouts.{no_timeouts, timeout_names}
-use Rattle.pfs_conf_rules.specs.declared.actions.Overload.{Overload}
-use Rattle.pfs_conf_rules.specs.declared.actions.Rate.{Rate}
-use Rattle.pfs_conf_rules.specs.declared.actions.Scope.{Scope}
-use Rattle.pfs_conf_rules.specs.declared.actions.Scope.TheVariants as scope
-use Rattle.pfs_conf_rules.specs.declared.actions.StateOptions.{StateOptions}
-use Rattle.pfs_conf_rules.specs.declared.tables.TableDef.{TableDef}
+use Rattle.pfs_addr_values.specs.Names.{is_name}
+use Rattle.pfs_addr.proofs.PieceLaws.{decimal_lacks}
+use Rattle.pfs_conf_values.specs.Invariants.{IsTable}
+use Rattle.pfs_conf_values.specs.LoadRules.{AreOptions, IsCount, IsTableNo, IsTimeout}
+use Rattle.pfs_conf_values.specs.Bounds.{IsRate, greatest_timeout}
+use Rattle.pfs_conf_values.specs.Timeouts.{no_timeouts, timeout_names}
+use Rattle.pfs_conf_values.specs.declared.actions.Overload.{Overload}
+use Rattle.pfs_conf_values.specs.declared.actions.Rate.{Rate}
+use Rattle.pfs_conf_values.specs.declared.actions.Scope.{Scope}
+use Rattle.pfs_conf_values.specs.declared.actions.Scope.TheVariants as scope
+use Rattle.pfs_conf_values.specs.declared.actions.StateOptions.{StateOptions}
+use Rattle.pfs_conf_values.specs.declared.tables.TableDef.{TableDef}
 use Rattle.pfs_conf_options.specs.Grammar.{FlushOf, KeptOf, OptionOf, OverloadOf, RateOf, StateOf, all, global, keep, listed, max, max_src_conn, max_src_conn_rate, max_src_nodes, max_src_states, no, nothing, overload, own, plainly, rule, source_track, timeout}
 use Rattle.pfs_conf_options.specs.Options.{none_given, rule_place}
 use Rattle.pfs_conf_options.specs.declared.clauses.Options.{Options}

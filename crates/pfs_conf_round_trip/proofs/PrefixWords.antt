@@ -14,13 +14,13 @@ use Rattle.pfs_conf_tokens.specs.declared.keys.Key.{Key}
 use Rattle.pfs_conf_tokens.specs.Lexis.{is_word_byte}
 use Rattle.pfs_conf_tokens.specs.Words.{key_of_text, statement_words, option_words, named_words, foreign_words}
 use Rattle.pfs_conf_tokens.proofs.ShownLaws.{decimal_text, is_word_text, key_of-decimal}
-use Rattle.pfs_addr.specs.Addresses.{IsAddr, addr_text, width_of}
-use Rattle.pfs_addr.specs.Prefixes.{IsNetwork, Network}
-use Rattle.pfs_addr_text.specs.Texts.{prefix_of}
-use Rattle.pfs_addr.specs.declared.addresses.Addr.{Addr}
-use Rattle.pfs_addr.specs.declared.addresses.Addr.TheVariants.{V4, V6}
-use Rattle.pfs_addr_text.proofs.GroupLaws.{colon_hex_colon}
-use Rattle.pfs_addr_text.proofs.PieceLaws.{addr_text_of, prefix_of-text}
+use Rattle.pfs_addr_values.specs.Addresses.{IsAddr, addr_text, width_of}
+use Rattle.pfs_addr_values.specs.Prefixes.{IsNetwork, Network}
+use Rattle.pfs_addr.specs.Texts.{prefix_of}
+use Rattle.pfs_addr_values.specs.declared.addresses.Addr.{Addr}
+use Rattle.pfs_addr_values.specs.declared.addresses.Addr.TheVariants.{V4, V6}
+use Rattle.pfs_addr.proofs.GroupLaws.{colon_hex_colon}
+use Rattle.pfs_addr.proofs.PieceLaws.{addr_text_of, prefix_of-text}
 use Rattle.pfs_conf_filters.specs.Values.{is_plain_word}
 use Rattle.pfs_conf_show.specs.Pieces.{bits_text, prefix_text}
 use Rattle.pfs_conf_round_trip.proofs.Names.{key_passes, passes}

@@ -5,27 +5,27 @@ use Rattle.std.specs.Prelude.{◌||◌, ◌&&◌, not, nat_le, if◌then◌else�
 use Rattle.std.specs.Option.{option_map}
 use Rattle.std.proofs.lemmas.Bool.{and_parts, lt-leb}
 use Rattle.pfs_conf_tokens.specs.declared.refusals.LoadRule.TheVariants as load_rule
-use Rattle.pfs_addr.specs.declared.protocols.Proto.{Proto}
+use Rattle.pfs_addr_values.specs.declared.protocols.Proto.{Proto}
 use Rattle.pfs_conf_settings.specs.Drafts.{Drafted, number_of_table, with_name}
-use Rattle.pfs_conf_rules.specs.LoadRules.{AreOptions, IsAction, IsAnchor, IsFilter, IsHost, IsRule, IsSide, IsTableNo, limits_connections, limits_sources}
-use Rattle.pfs_conf_rules.specs.Bounds.{asks_ports, is_global}
-use Rattle.pfs_conf_rules.specs.declared.actions.Action.{Action}
-use Rattle.pfs_conf_rules.specs.declared.actions.Action.TheVariants as action
-use Rattle.pfs_conf_rules.specs.declared.actions.Overload.{Overload}
-use Rattle.pfs_conf_rules.specs.declared.actions.Scope.{Scope}
-use Rattle.pfs_conf_rules.specs.declared.actions.Scope.TheVariants as scope
-use Rattle.pfs_conf_rules.specs.declared.actions.StateOptions.{StateOptions}
-use Rattle.pfs_conf_rules.specs.declared.filters.Filter.{Filter}
-use Rattle.pfs_conf_rules.specs.declared.filters.Host.{Host}
-use Rattle.pfs_conf_rules.specs.declared.filters.Host.TheVariants as host
-use Rattle.pfs_conf_rules.specs.declared.filters.Ports.{Ports}
-use Rattle.pfs_conf_rules.specs.declared.filters.Side.{Side}
-use Rattle.pfs_conf_rules.specs.declared.filters.TableNo.{TableNo}
-use Rattle.pfs_conf_rules.specs.declared.items.Anchor.{Anchor}
-use Rattle.pfs_conf_rules.specs.declared.items.Item.{Item}
-use Rattle.pfs_conf_rules.specs.declared.items.Rule.{Rule}
-use Rattle.pfs_conf_rules.specs.declared.limits.Limits.{Limits}
-use Rattle.pfs_conf_rules.specs.declared.tables.TableDef.{TableDef}
+use Rattle.pfs_conf_values.specs.LoadRules.{AreOptions, IsAction, IsAnchor, IsFilter, IsHost, IsRule, IsSide, IsTableNo, limits_connections, limits_sources}
+use Rattle.pfs_conf_values.specs.Bounds.{asks_ports, is_global}
+use Rattle.pfs_conf_values.specs.declared.actions.Action.{Action}
+use Rattle.pfs_conf_values.specs.declared.actions.Action.TheVariants as action
+use Rattle.pfs_conf_values.specs.declared.actions.Overload.{Overload}
+use Rattle.pfs_conf_values.specs.declared.actions.Scope.{Scope}
+use Rattle.pfs_conf_values.specs.declared.actions.Scope.TheVariants as scope
+use Rattle.pfs_conf_values.specs.declared.actions.StateOptions.{StateOptions}
+use Rattle.pfs_conf_values.specs.declared.filters.Filter.{Filter}
+use Rattle.pfs_conf_values.specs.declared.filters.Host.{Host}
+use Rattle.pfs_conf_values.specs.declared.filters.Host.TheVariants as host
+use Rattle.pfs_conf_values.specs.declared.filters.Ports.{Ports}
+use Rattle.pfs_conf_values.specs.declared.filters.Side.{Side}
+use Rattle.pfs_conf_values.specs.declared.filters.TableNo.{TableNo}
+use Rattle.pfs_conf_values.specs.declared.items.Anchor.{Anchor}
+use Rattle.pfs_conf_values.specs.declared.items.Item.{Item}
+use Rattle.pfs_conf_values.specs.declared.items.Rule.{Rule}
+use Rattle.pfs_conf_values.specs.declared.limits.Limits.{Limits}
+use Rattle.pfs_conf_values.specs.declared.tables.TableDef.{TableDef}
 use Rattle.pfs_conf_filters.specs.Reading.{all_hosts, given_hosts, side}
 use Rattle.pfs_conf_filters.specs.Sides.{side_not_given, destination_of, lacks_proto, names_port, source_of}
 use Rattle.pfs_conf_options.specs.Options.{has_broken_rule_pair, has_global_connections, has_global_retention, has_overload_alone, overload_to, resolved, scope_by_track, scope_of_options, states_global}

@@ -11,14 +11,14 @@ use Rattle.pfs_conf_tokens.specs.Tokens.{Tok, token}
 use Rattle.pfs_conf_tokens.specs.Words.{key_of_text}
 use Rattle.pfs_conf_tokens.proofs.ShownLaws.{breaks, is_word_text, mark_then, space_then}
 use Rattle.pfs_conf_tokens.proofs.WordKeys.{key_of-Limit, key_of-Set, key_of-SrcNodes, key_of-States, key_of-TableEntries, key_of-Tables, key_of-Timeout, key_of-TcpFirst, key_of-TcpOpening, key_of-TcpEstablished, key_of-TcpClosing, key_of-TcpFinwait, key_of-TcpClosed, key_of-UdpFirst, key_of-UdpSingle, key_of-UdpMultiple, key_of-OtherFirst, key_of-OtherSingle, key_of-OtherMultiple, key_of-SrcTrack, key_of-Interval, key_of-AdaptiveStart, key_of-AdaptiveEnd}
-use Rattle.pfs_conf_rules.specs.Invariants.{AreLimits}
+use Rattle.pfs_conf_values.specs.Invariants.{AreLimits}
 use Rattle.pfs_conf_settings.specs.Drafts.{Drafted, with_limit, with_timeout}
-use Rattle.pfs_conf_rules.specs.LoadRules.{IsCount}
-use Rattle.pfs_conf_rules.specs.Timeouts.{place_of, timeout_names}
-use Rattle.pfs_conf_rules.specs.declared.limits.LimitName.TheVariants as limit_name
-use Rattle.pfs_conf_rules.specs.declared.limits.Limits.{Limits}
-use Rattle.pfs_conf_rules.specs.declared.timeouts.TimeoutName.{TimeoutName}
-use Rattle.pfs_conf_rules.specs.declared.timeouts.TimeoutName.TheVariants as name
+use Rattle.pfs_conf_values.specs.LoadRules.{IsCount}
+use Rattle.pfs_conf_values.specs.Timeouts.{place_of, timeout_names}
+use Rattle.pfs_conf_values.specs.declared.limits.LimitName.TheVariants as limit_name
+use Rattle.pfs_conf_values.specs.declared.limits.Limits.{Limits}
+use Rattle.pfs_conf_values.specs.declared.timeouts.TimeoutName.{TimeoutName}
+use Rattle.pfs_conf_values.specs.declared.timeouts.TimeoutName.TheVariants as name
 use Rattle.pfs_conf_settings.proofs.TimeoutKeys.{placed}
 use Rattle.pfs_conf_settings.specs.SettingGrammar.{AmongLines, LimitOf, SettingOf, TimeOf, ValueOf, kept, limits, lined, src_nodes, states, table_entries, tables, timeouts}
 use Rattle.pfs_conf_settings.specs.Settings.{greatest_value, least_value, timeout_named}

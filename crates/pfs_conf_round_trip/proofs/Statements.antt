@@ -11,19 +11,19 @@ use Rattle.pfs_conf_tokens.specs.Tokens.{Tok, head, token}
 use Rattle.pfs_conf_tokens.specs.Words.{key_of_text}
 use Rattle.pfs_conf_tokens.proofs.ShownLaws.{end_then}
 use Rattle.pfs_conf_tokens.proofs.WordKeys.{key_of-Table}
-use Rattle.pfs_conf_rules.specs.Configs.{table_names}
-use Rattle.pfs_conf_rules.specs.Invariants.{IsTable}
-use Rattle.pfs_conf_rules.specs.Order.{AreNamedOnce, IsPreorder, next_depth, repeats_name}
+use Rattle.pfs_conf_values.specs.Configs.{table_names}
+use Rattle.pfs_conf_values.specs.Invariants.{IsTable}
+use Rattle.pfs_conf_values.specs.Order.{AreNamedOnce, IsPreorder, next_depth, repeats_name}
 use Rattle.pfs_conf_settings.specs.Drafts.{Drafted, is_defined, with_item, with_table}
-use Rattle.pfs_conf_rules.specs.Entries.{TextEntry}
-use Rattle.pfs_conf_rules.specs.LoadRules.{IsItem, IsItemAt}
-use Rattle.pfs_conf_rules.specs.declared.items.Anchor.{Anchor}
-use Rattle.pfs_conf_rules.specs.declared.items.Item.{Item}
-use Rattle.pfs_conf_rules.specs.declared.items.Rule.{Rule}
-use Rattle.pfs_conf_rules.specs.declared.items.What.{What}
-use Rattle.pfs_conf_rules.specs.declared.items.What.TheVariants as what
-use Rattle.pfs_conf_rules.specs.declared.limits.Limits.{Limits}
-use Rattle.pfs_conf_rules.specs.declared.tables.TableDef.{TableDef}
+use Rattle.pfs_conf_values.specs.Entries.{TextEntry}
+use Rattle.pfs_conf_values.specs.LoadRules.{IsItem, IsItemAt}
+use Rattle.pfs_conf_values.specs.declared.items.Anchor.{Anchor}
+use Rattle.pfs_conf_values.specs.declared.items.Item.{Item}
+use Rattle.pfs_conf_values.specs.declared.items.Rule.{Rule}
+use Rattle.pfs_conf_values.specs.declared.items.What.{What}
+use Rattle.pfs_conf_values.specs.declared.items.What.TheVariants as what
+use Rattle.pfs_conf_values.specs.declared.limits.Limits.{Limits}
+use Rattle.pfs_conf_values.specs.declared.tables.TableDef.{TableDef}
 use Rattle.pfs_conf.specs.Grammar.{StatementOf, anchor, close, rule, table}
 use Rattle.pfs_conf.specs.Statements.{anchor_said, name_hosts, name_rule, rule_said}
 use Rattle.pfs_conf.specs.declared.progress.Progress.{Progress}

@@ -10,17 +10,17 @@ use Rattle.std.proofs.lemmas.Map.Keys.{IsDistinct-head, IsDistinct-tail}
 use Rattle.pfs_conf_tokens.specs.declared.keys.Key.{Key}
 use Rattle.pfs_conf_tokens.specs.declared.keys.Key.TheVariants as key
 use Rattle.pfs_conf_filters.specs.Values.{is_plain_word}
-use Rattle.pfs_addr_text.specs.Texts.{prefix_of}
+use Rattle.pfs_addr.specs.Texts.{prefix_of}
 use Rattle.pfs_conf_tokens.specs.Grammar.{WordOf, ListOf, UpTo, stands, steps, skip_lines}
 use Rattle.pfs_conf_tokens.specs.Keys.{ends_line}
 use Rattle.pfs_conf_tokens.specs.Tokens.{Tok, head, token}
 use Rattle.pfs_conf_tokens.specs.Words.{key_of_text}
 use Rattle.pfs_conf_tokens.proofs.ShownLaws.{breaks, line_then, mark_then, word_then}
 use Rattle.pfs_conf_tokens.proofs.WordKeys.{key_of-Const}
-use Rattle.pfs_addr.specs.Prefixes.{IsNetwork, Network}
-use Rattle.pfs_addr.specs.declared.addresses.Addr.{Addr}
-use Rattle.pfs_addr.specs.declared.addresses.Addr.TheVariants.{V4, V6}
-use Rattle.pfs_conf_rules.specs.Entries.{TextEntry, are_same_addr, same_network, sign_of}
+use Rattle.pfs_addr_values.specs.Prefixes.{IsNetwork, Network}
+use Rattle.pfs_addr_values.specs.declared.addresses.Addr.{Addr}
+use Rattle.pfs_addr_values.specs.declared.addresses.Addr.TheVariants.{V4, V6}
+use Rattle.pfs_conf_values.specs.Entries.{TextEntry, are_same_addr, same_network, sign_of}
 use Rattle.pfs_conf_settings.specs.TableGrammar.{EntryOf, PartOf, PartsOf, SignOf, comes, constant, entries, negated, plain, some, no_parts}
 use Rattle.pfs_conf_show.specs.Pieces.{bracketed, going_on, prefix_text}
 use Rattle.pfs_conf_show.specs.Tables.{const_text, entry_text}

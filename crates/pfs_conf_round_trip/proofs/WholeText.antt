@@ -9,13 +9,13 @@ use Rattle.pfs_conf_tokens.specs.declared.refusals.LoadRule.{LoadRule}
 use Rattle.pfs_conf_tokens.specs.declared.refusals.LoadRule.TheVariants as load_rule
 use Rattle.pfs_conf_tokens.specs.Lexis.{tokens, tokens_of}
 use Rattle.pfs_conf_tokens.specs.Tokens.{Tok}
-use Rattle.pfs_conf_rules.specs.Configs.{Conf, conf_of, entries_in, is_adaptive, overloads_const, timeout_of}
-use Rattle.pfs_conf_rules.specs.Invariants.{IsConfig}
+use Rattle.pfs_conf_values.specs.Configs.{Conf, conf_of, entries_in, is_adaptive, overloads_const, timeout_of}
+use Rattle.pfs_conf_values.specs.Invariants.{IsConfig}
 use Rattle.pfs_conf_settings.specs.Drafts.{Drafted, const_overload, empty_draft, finished, has_broken_pair, has_too_many_entries, has_too_many_tables}
-use Rattle.pfs_conf_rules.specs.Timeouts.{resolved_timeouts, timeout_names}
-use Rattle.pfs_conf_rules.specs.declared.items.Item.{Item}
-use Rattle.pfs_conf_rules.specs.declared.timeouts.TimeoutName.{TimeoutName}
-use Rattle.pfs_conf_rules.specs.declared.timeouts.TimeoutName.TheVariants as name
+use Rattle.pfs_conf_values.specs.Timeouts.{resolved_timeouts, timeout_names}
+use Rattle.pfs_conf_values.specs.declared.items.Item.{Item}
+use Rattle.pfs_conf_values.specs.declared.timeouts.TimeoutName.{TimeoutName}
+use Rattle.pfs_conf_values.specs.declared.timeouts.TimeoutName.TheVariants as name
 use Rattle.pfs_conf_settings.specs.Settings.{greatest_value, least_value}
 use Rattle.pfs_conf.specs.Grammar.{StatementOf, set}
 use Rattle.pfs_conf.specs.Reads.{Reads}

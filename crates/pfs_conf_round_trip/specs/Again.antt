@@ -1,7 +1,7 @@
 -- Which configurations a rules text can say as they are shown. (own)
 use Rattle.std.specs.Prelude.{◌≤◌, length}
-use Rattle.pfs_conf_rules.specs.Configs.{Conf, timeout_of}
-use Rattle.pfs_conf_rules.specs.declared.timeouts.TimeoutName.TheVariants.{AdaptiveEnd}
+use Rattle.pfs_conf_values.specs.Configs.{Conf, timeout_of}
+use Rattle.pfs_conf_values.specs.declared.timeouts.TimeoutName.TheVariants.{AdaptiveEnd}
 use Rattle.pfs_conf.specs.Reads.{most_bytes}
 use Rattle.pfs_conf_show.specs.Texts.{text_of}
 

@@ -1,7 +1,7 @@
 //! The law of canonical texts.
 
 ghost use Rattle.std.specs.Prelude.{◌≡◌};
-ghost use Rattle.pfs_conf_rules.specs.Configs.{Conf};
+ghost use Rattle.pfs_conf_values.specs.Configs.{Conf};
 ghost use Rattle.pfs_conf.specs.Reads.{Reads};
 ghost use Rattle.pfs_conf_show.specs.Texts.{text_of};
 ghost use Rattle.pfs_conf_round_trip.specs.Again.{CanBeSaid};

@@ -2,12 +2,12 @@
 use Rattle.std.proofs.Common.{◌≡◌, ◌≤◌, ◌<◌, false, List, [], ◌∷◌, ◌++◌, length, arith, length-append, subst, sym, Ok, Err, OnOk, OnErr}
 use Rattle.std.specs.Prelude.{Result}
 use Rattle.std.proofs.lemmas.List.Elements.{All-push}
-use Rattle.pfs_conf_rules.specs.Order.{depth_after, repeats_name}
+use Rattle.pfs_conf_values.specs.Order.{depth_after, repeats_name}
 use Rattle.pfs_conf_settings.specs.Drafts.{Drafted, with_item, with_tables}
 use Rattle.pfs_conf_settings.specs.Invariants.{IsDraft}
-use Rattle.pfs_conf_rules.specs.LoadRules.{IsItem}
+use Rattle.pfs_conf_values.specs.LoadRules.{IsItem}
 use Rattle.pfs_conf_settings.specs.Namings.{Named}
-use Rattle.pfs_conf_rules.specs.declared.items.Item.{Item}
+use Rattle.pfs_conf_values.specs.declared.items.Item.{Item}
 use Rattle.pfs_conf_settings.proofs.MoreTables.{items-more}
 use Rattle.pfs_conf_settings.proofs.OrderLaws.{AreNamedOnce-push, IsPreorder-push}
 

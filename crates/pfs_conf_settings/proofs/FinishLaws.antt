@@ -4,16 +4,16 @@ use Rattle.std.specs.Prelude.{position, slice_index_or}
 use Rattle.std.specs.List.{IsDistinct, list_any, position_or_len}
 use Rattle.std.specs.Str.{bytes_eq}
 use Rattle.std.proofs.lemmas.Bool.{cond-false, cond-true, false≢true, lt-ltb, ltb-false, not-false}
-use Rattle.pfs_conf_rules.specs.Configs.{is_adaptive, overloads_const, table_names, timeout_of}
-use Rattle.pfs_conf_rules.specs.Invariants.{IsConfig, IsTable, is_seconds}
+use Rattle.pfs_conf_values.specs.Configs.{is_adaptive, overloads_const, table_names, timeout_of}
+use Rattle.pfs_conf_values.specs.Invariants.{IsConfig, IsTable, is_seconds}
 use Rattle.pfs_conf_settings.specs.Invariants.{IsDraft}
 use Rattle.pfs_conf_settings.specs.Drafts.{Drafted, broken_pair, const_overload, finished, has_broken_pair, has_too_many_entries, has_too_many_tables}
-use Rattle.pfs_conf_rules.specs.LoadRules.{IsTimeout}
-use Rattle.pfs_conf_rules.specs.Bounds.{greatest_timeout, least_timeout}
-use Rattle.pfs_conf_rules.specs.Timeouts.{place_of}
-use Rattle.pfs_conf_rules.specs.declared.items.Item.{Item}
-use Rattle.pfs_conf_rules.specs.declared.timeouts.TimeoutName.{TimeoutName}
-use Rattle.pfs_conf_rules.specs.declared.timeouts.TimeoutName.TheVariants as timeout
+use Rattle.pfs_conf_values.specs.LoadRules.{IsTimeout}
+use Rattle.pfs_conf_values.specs.Bounds.{greatest_timeout, least_timeout}
+use Rattle.pfs_conf_values.specs.Timeouts.{place_of}
+use Rattle.pfs_conf_values.specs.declared.items.Item.{Item}
+use Rattle.pfs_conf_values.specs.declared.timeouts.TimeoutName.{TimeoutName}
+use Rattle.pfs_conf_values.specs.declared.timeouts.TimeoutName.TheVariants as timeout
 
 -- no item is found where none passes
 none-passes : (p : Item → Bool) (items : List Item) → position p items ≡ None → list_any p items ≡ false

@@ -1,19 +1,19 @@
 -- What keeps the load rules, from a host to all items, keeps them where there are more tables.
 use Rattle.std.proofs.Common.{◌≤◌, ℕ, Option, Some, None, IfSome, All, List, arith}
 use Rattle.std.proofs.lemmas.List.Elements.{All-weaker}
-use Rattle.pfs_conf_rules.specs.LoadRules.{AreOptions, IsAction, IsFilter, IsHost, IsItem, IsItemAt, IsSide, IsTableNo}
-use Rattle.pfs_conf_rules.specs.declared.actions.Action.{Action}
-use Rattle.pfs_conf_rules.specs.declared.actions.Action.TheVariants as action
-use Rattle.pfs_conf_rules.specs.declared.actions.Overload.{Overload}
-use Rattle.pfs_conf_rules.specs.declared.actions.StateOptions.{StateOptions}
-use Rattle.pfs_conf_rules.specs.declared.filters.Filter.{Filter}
-use Rattle.pfs_conf_rules.specs.declared.filters.Host.{Host}
-use Rattle.pfs_conf_rules.specs.declared.filters.Host.TheVariants as host
-use Rattle.pfs_conf_rules.specs.declared.filters.Side.{Side}
-use Rattle.pfs_conf_rules.specs.declared.filters.TableNo.{TableNo}
-use Rattle.pfs_conf_rules.specs.declared.items.Item.{Item}
-use Rattle.pfs_conf_rules.specs.declared.items.What.{What}
-use Rattle.pfs_conf_rules.specs.declared.items.What.TheVariants as what
+use Rattle.pfs_conf_values.specs.LoadRules.{AreOptions, IsAction, IsFilter, IsHost, IsItem, IsItemAt, IsSide, IsTableNo}
+use Rattle.pfs_conf_values.specs.declared.actions.Action.{Action}
+use Rattle.pfs_conf_values.specs.declared.actions.Action.TheVariants as action
+use Rattle.pfs_conf_values.specs.declared.actions.Overload.{Overload}
+use Rattle.pfs_conf_values.specs.declared.actions.StateOptions.{StateOptions}
+use Rattle.pfs_conf_values.specs.declared.filters.Filter.{Filter}
+use Rattle.pfs_conf_values.specs.declared.filters.Host.{Host}
+use Rattle.pfs_conf_values.specs.declared.filters.Host.TheVariants as host
+use Rattle.pfs_conf_values.specs.declared.filters.Side.{Side}
+use Rattle.pfs_conf_values.specs.declared.filters.TableNo.{TableNo}
+use Rattle.pfs_conf_values.specs.declared.items.Item.{Item}
+use Rattle.pfs_conf_values.specs.declared.items.What.{What}
+use Rattle.pfs_conf_values.specs.declared.items.What.TheVariants as what
 
 -- Where there are more tables, what names one of the first still does.
 module _ (m n : ℕ) (more : m ≤ n) where

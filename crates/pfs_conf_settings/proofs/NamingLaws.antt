@@ -8,12 +8,12 @@ use Rattle.std.proofs.lemmas.List.{get_or_push, length-map, length-set, map-set,
 use Rattle.std.proofs.lemmas.List.Elements.{All-push, All-set}
 use Rattle.std.proofs.lemmas.Slice.Eq.{bytes_eq-Decides}
 use Rattle.indexmap.specs.IndexSet.{insert_key}
-use Rattle.pfs_addr.specs.Names.{is_name}
-use Rattle.pfs_conf_rules.specs.Configs.{table_names}
-use Rattle.pfs_conf_rules.specs.Invariants.{IsTable}
+use Rattle.pfs_addr_values.specs.Names.{is_name}
+use Rattle.pfs_conf_values.specs.Configs.{table_names}
+use Rattle.pfs_conf_values.specs.Invariants.{IsTable}
 use Rattle.pfs_conf_settings.specs.Invariants.{IsNaming}
 use Rattle.pfs_conf_settings.specs.Namings.{Named, is_named, naming, place_in, undefined_table}
-use Rattle.pfs_conf_rules.specs.declared.tables.TableDef.{TableDef}
+use Rattle.pfs_conf_values.specs.declared.tables.TableDef.{TableDef}
 
 -- a table without entries
 pub undefined_table-IsTable : (name : List ℕ) → is_name 31 name ≡ true → IsTable (undefined_table name)

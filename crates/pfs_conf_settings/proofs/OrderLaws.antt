@@ -2,8 +2,8 @@
 use Rattle.std.proofs.Common.{◌≡◌, ◌∙◌, ◌≤◌, ℕ, false, List, [], ◌∷◌, ◌++◌, refl, ap, sym, append_assoc, Ok, Err, OnOk}
 use Rattle.std.specs.Prelude.{Result}
 use Rattle.std.proofs.lemmas.List.{append-nil}
-use Rattle.pfs_conf_rules.specs.Order.{AreNamedOnce, IsPreorder, depth_after, next_depth, repeats_name}
-use Rattle.pfs_conf_rules.specs.declared.items.Item.{Item}
+use Rattle.pfs_conf_values.specs.Order.{AreNamedOnce, IsPreorder, depth_after, next_depth, repeats_name}
+use Rattle.pfs_conf_values.specs.declared.items.Item.{Item}
 
 -- behind an item at the end, the next may be as deep as that item allows
 pub depth_after-push : (most : ℕ) (items : List Item) (i : Item) → depth_after most (items ++ i ∷ []) ≡ next_depth i

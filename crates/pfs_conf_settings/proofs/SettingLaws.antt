@@ -6,9 +6,9 @@ use Rattle.pfs_conf_tokens.specs.Keys.{before_end}
 use Rattle.pfs_conf_tokens.specs.Reading.{closes_braces, chain, done, next_of, skipping, number_at}
 use Rattle.pfs_conf_tokens.proofs.Laws.{Taking, OnlineAct, Online, across, online_done, online_chain, online_taking, online_front, front_shrinks, chain_shrinks, Shrinks, online_across}
 use Rattle.pfs_conf_tokens.proofs.ReaderLaws.{closes_braces_before_end, online_list, next_shrinks, online_skipping, skipping_shrinks, online_number}
-use Rattle.pfs_conf_rules.specs.declared.limits.LimitName.{LimitName}
-use Rattle.pfs_conf_rules.specs.declared.limits.LimitName.TheVariants as limit
-use Rattle.pfs_conf_rules.specs.declared.timeouts.TimeoutName.{TimeoutName}
+use Rattle.pfs_conf_values.specs.declared.limits.LimitName.{LimitName}
+use Rattle.pfs_conf_values.specs.declared.limits.LimitName.TheVariants as limit
+use Rattle.pfs_conf_values.specs.declared.timeouts.TimeoutName.{TimeoutName}
 use Rattle.pfs_conf_settings.specs.Drafts.{Drafted, with_limit, with_timeout}
 use Rattle.pfs_conf_settings.specs.Settings.{timeout_named, bounded_at, limited, limit_by, set_limit_at, least_value, greatest_value, unkept, timed, time_by, time_at, lined_limit_at, lined_time_at, limits_by, limits_at, times_by, times_at, settings_by, settings_at}
 

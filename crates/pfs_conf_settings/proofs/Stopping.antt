@@ -7,7 +7,7 @@ use Rattle.pfs_conf_tokens.specs.declared.refusals.ReadError.TheVariants as erro
 use Rattle.pfs_conf_tokens.specs.Reading.{Reader, until_all, up_to_all}
 use Rattle.pfs_conf_tokens.specs.Giving.{refused}
 use Rattle.pfs_conf_tokens.proofs.Laws.{until_fails, up_to_fails}
-use Rattle.pfs_conf_rules.specs.Entries.{TextEntry}
+use Rattle.pfs_conf_values.specs.Entries.{TextEntry}
 use Rattle.pfs_conf_settings.specs.Extending.{Extends}
 
 pub extends_fails : (stops : Key → Bool) (step : List TextEntry → Reader (List TextEntry)) (a : List TextEntry) (ts left : List Tok) (after : List TextEntry) (e : ReadError)

@@ -8,9 +8,9 @@ use Rattle.pfs_conf_tokens.specs.Keys.{ends_line, is_word_key, in_line}
 use Rattle.pfs_conf_tokens.specs.Reading.{closes_braces, Act, refuse, chain, done, list_all, next_of, skipping}
 use Rattle.pfs_conf_tokens.proofs.Laws.{Taking, OnlineAct, Online, inside, across, online_done, online_chain, online_taking, online_front, once_taking, front_shrinks, chain_shrinks, chain_shrinks_behind, Shrinks, online_across, online_up_to_all}
 use Rattle.pfs_conf_tokens.proofs.ReaderLaws.{closes_braces_before_end, online_list, next_shrinks, online_skipping, skipping_shrinks, word_in_line}
-use Rattle.pfs_addr.specs.Prefixes.{Network}
-use Rattle.pfs_addr_text.specs.Texts.{prefix_of}
-use Rattle.pfs_conf_rules.specs.Entries.{TextEntry, sign_of}
+use Rattle.pfs_addr_values.specs.Prefixes.{Network}
+use Rattle.pfs_addr.specs.Texts.{prefix_of}
+use Rattle.pfs_conf_values.specs.Entries.{TextEntry, sign_of}
 use Rattle.pfs_conf_settings.specs.declared.tables.Parts.{Parts}
 use Rattle.pfs_conf_settings.specs.Tables.{sign_by, sign_at, again, entry_joined, entered, entry_by, entry_at, lined_entry_at, entries_by, braced_entries_at, unless, part_by, part_at, parts_at}
 use Rattle.pfs_conf_settings.specs.TableGrammar.{no_parts}

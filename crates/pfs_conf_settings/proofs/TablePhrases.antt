@@ -11,9 +11,9 @@ use Rattle.pfs_conf_tokens.specs.Grammar.{WordOf, Word, skip_lines}
 use Rattle.pfs_conf_tokens.proofs.Laws.{ok_parts, chain_ok, not_refused}
 use Rattle.pfs_conf_tokens.proofs.ReaderLaws.{closes_braces_key, line_end_key, word_head, word_is, list_is, list_reads, ReadsList, no_comma, skip_head, up_to_is, up_to_reads, Reads}
 use Rattle.pfs_conf_tokens.proofs.LineLaws.{skip_stays}
-use Rattle.pfs_addr.specs.Prefixes.{Network}
-use Rattle.pfs_addr_text.specs.Texts.{prefix_of}
-use Rattle.pfs_conf_rules.specs.Entries.{TextEntry, sign_of}
+use Rattle.pfs_addr_values.specs.Prefixes.{Network}
+use Rattle.pfs_addr.specs.Texts.{prefix_of}
+use Rattle.pfs_conf_values.specs.Entries.{TextEntry, sign_of}
 use Rattle.pfs_conf_settings.specs.declared.tables.Parts.{Parts}
 use Rattle.pfs_conf_settings.specs.Tables.{sign_by, sign_at, again, entry_joined, entered, entry_by, entry_at, lined_entry_at, entries_by, braced_entries_at, unless, part_by, part_at, parts_at}
 use Rattle.pfs_conf_settings.specs.TableGrammar.{no_parts, SignOf, plain, negated, Enters, comes, stands, EntryOf, EntriesOf, none, some, PartOf, persist, constant, counters, entries, PartsOf}

@@ -5,9 +5,9 @@ use Rattle.std.specs.Option.{option_map}
 use Rattle.pfs_conf_tokens.specs.declared.keys.Key.{Key}
 use Rattle.pfs_conf_tokens.specs.declared.keys.Key.TheVariants as key
 use Rattle.pfs_conf_tokens.specs.Keys.{timeout_place}
-use Rattle.pfs_conf_rules.specs.Timeouts.{place_of, timeout_names}
-use Rattle.pfs_conf_rules.specs.declared.timeouts.TimeoutName.{TimeoutName}
-use Rattle.pfs_conf_rules.specs.declared.timeouts.TimeoutName.TheVariants as timeout
+use Rattle.pfs_conf_values.specs.Timeouts.{place_of, timeout_names}
+use Rattle.pfs_conf_values.specs.declared.timeouts.TimeoutName.{TimeoutName}
+use Rattle.pfs_conf_values.specs.declared.timeouts.TimeoutName.TheVariants as timeout
 use Rattle.pfs_conf_settings.specs.Settings.{timeout_named}
 
 places : (k : Key) → timeout_place k ≡ option_map place_of (timeout_named k)

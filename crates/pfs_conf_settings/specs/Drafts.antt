@@ -1,15 +1,15 @@
 -- What the first statements of a text say, what each more changes, and the load rules of the whole text.
 use Rattle.std.specs.Prelude.{ℕ, not, nat_lt, Bool, true, false, Option, Some, None, List, [], ◌∷◌, ◌++◌, length, position, slice_index_or, slice_set}
-use Rattle.pfs_conf_rules.specs.Configs.{Conf, entries_in, is_adaptive, overloads_const}
-use Rattle.pfs_conf_rules.specs.Limits.{default_limits, limits_with}
+use Rattle.pfs_conf_values.specs.Configs.{Conf, entries_in, is_adaptive, overloads_const}
+use Rattle.pfs_conf_values.specs.Limits.{default_limits, limits_with}
 use Rattle.pfs_conf_settings.specs.Namings.{Named, defining, is_defined_in, naming, place_in, table_number}
-use Rattle.pfs_conf_rules.specs.Timeouts.{no_timeouts, place_of, resolved_timeouts}
-use Rattle.pfs_conf_rules.specs.declared.items.Item.{Item}
-use Rattle.pfs_conf_rules.specs.declared.limits.LimitName.{LimitName}
-use Rattle.pfs_conf_rules.specs.declared.limits.Limits.{Limits}
-use Rattle.pfs_conf_rules.specs.declared.tables.TableDef.{TableDef}
-use Rattle.pfs_conf_rules.specs.declared.timeouts.TimeoutName.{TimeoutName}
-use Rattle.pfs_conf_rules.specs.declared.timeouts.TimeoutName.TheVariants as timeout
+use Rattle.pfs_conf_values.specs.Timeouts.{no_timeouts, place_of, resolved_timeouts}
+use Rattle.pfs_conf_values.specs.declared.items.Item.{Item}
+use Rattle.pfs_conf_values.specs.declared.limits.LimitName.{LimitName}
+use Rattle.pfs_conf_values.specs.declared.limits.Limits.{Limits}
+use Rattle.pfs_conf_values.specs.declared.tables.TableDef.{TableDef}
+use Rattle.pfs_conf_values.specs.declared.timeouts.TimeoutName.{TimeoutName}
+use Rattle.pfs_conf_values.specs.declared.timeouts.TimeoutName.TheVariants as timeout
 
 -- what the first statements of a text say: the limits, the timeouts that are set, by their places, the tables that are
 -- named, which of them are defined, and the items

@@ -1,10 +1,10 @@
 -- What the statements of a text that have been read keep: the load rules of each.
 use Rattle.std.specs.Prelude.{ℕ, ◌≡◌, ◌≤◌, Bool, IfSome, None, List, [], length, All, slice_index_or}
-use Rattle.pfs_conf_rules.specs.Configs.{table_names}
-use Rattle.pfs_conf_rules.specs.Invariants.{AreLimits, IsTable}
-use Rattle.pfs_conf_rules.specs.LoadRules.{IsItem, IsTimeout}
-use Rattle.pfs_conf_rules.specs.Order.{AreNamedOnce, IsPreorder}
-use Rattle.pfs_conf_rules.specs.declared.tables.TableDef.{TableDef}
+use Rattle.pfs_conf_values.specs.Configs.{table_names}
+use Rattle.pfs_conf_values.specs.Invariants.{AreLimits, IsTable}
+use Rattle.pfs_conf_values.specs.LoadRules.{IsItem, IsTimeout}
+use Rattle.pfs_conf_values.specs.Order.{AreNamedOnce, IsPreorder}
+use Rattle.pfs_conf_values.specs.declared.tables.TableDef.{TableDef}
 use Rattle.pfs_conf_settings.specs.Drafts.{Drafted}
 
 -- tables and the list of their names, by which they are found

@@ -2,8 +2,8 @@
 use Rattle.std.specs.Prelude.{ℕ, Bool, true, false, if◌then◌else◌, List, [], ◌∷◌, ◌++◌, min, slice_index_or, slice_set}
 use Rattle.std.specs.List.{list_any, position_or_len}
 use Rattle.std.specs.Str.{bytes_eq}
-use Rattle.pfs_conf_rules.specs.Configs.{table_names}
-use Rattle.pfs_conf_rules.specs.declared.tables.TableDef.{TableDef}
+use Rattle.pfs_conf_values.specs.Configs.{table_names}
+use Rattle.pfs_conf_values.specs.declared.tables.TableDef.{TableDef}
 
 -- the tables that a text has named so far, by their numbers, and which of them it has defined
 pub record Named : Type 0 where

@@ -5,11 +5,11 @@ use Rattle.pfs_conf_tokens.specs.declared.keys.Key.TheVariants as key
 use Rattle.pfs_conf_tokens.specs.Tokens.{Tok}
 use Rattle.pfs_conf_tokens.specs.Keys.{timeout_place}
 use Rattle.pfs_conf_tokens.specs.Grammar.{Word, Number, ListOf, skip_lines}
-use Rattle.pfs_conf_rules.specs.declared.limits.LimitName.TheVariants as limit_name
-use Rattle.pfs_conf_rules.specs.declared.timeouts.TimeoutName.{TimeoutName}
+use Rattle.pfs_conf_values.specs.declared.limits.LimitName.TheVariants as limit_name
+use Rattle.pfs_conf_values.specs.declared.timeouts.TimeoutName.{TimeoutName}
 use Rattle.pfs_conf_settings.specs.Drafts.{Drafted, with_limit, with_timeout}
-use Rattle.pfs_conf_rules.specs.Bounds.{least_timeout, greatest_timeout}
-use Rattle.pfs_conf_rules.specs.Timeouts.{place_of}
+use Rattle.pfs_conf_values.specs.Bounds.{least_timeout, greatest_timeout}
+use Rattle.pfs_conf_values.specs.Timeouts.{place_of}
 
 -- a number; in braces behind line ends
 pub data ValueOf (low high : ℕ) : Bool → List Tok → ℕ → List Tok → Type 0 where

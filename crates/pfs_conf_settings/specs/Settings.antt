@@ -4,13 +4,13 @@ use Rattle.pfs_conf_tokens.specs.declared.keys.Key.{Key}
 use Rattle.pfs_conf_tokens.specs.declared.keys.Key.TheVariants as key
 use Rattle.pfs_conf_tokens.specs.declared.refusals.Why.TheVariants as why
 use Rattle.pfs_conf_tokens.specs.Reading.{closes_braces, Reader, Act, take, stay, refuse, on_front, done, chain, list_all, skipping, number_at}
-use Rattle.pfs_conf_rules.specs.declared.limits.LimitName.{LimitName}
-use Rattle.pfs_conf_rules.specs.declared.limits.LimitName.TheVariants as limit
-use Rattle.pfs_conf_rules.specs.declared.timeouts.TimeoutName.{TimeoutName}
-use Rattle.pfs_conf_rules.specs.declared.timeouts.TimeoutName.TheVariants as timeout
+use Rattle.pfs_conf_values.specs.declared.limits.LimitName.{LimitName}
+use Rattle.pfs_conf_values.specs.declared.limits.LimitName.TheVariants as limit
+use Rattle.pfs_conf_values.specs.declared.timeouts.TimeoutName.{TimeoutName}
+use Rattle.pfs_conf_values.specs.declared.timeouts.TimeoutName.TheVariants as timeout
 use Rattle.pfs_conf_settings.specs.Drafts.{Drafted, with_limit, with_timeout}
-use Rattle.pfs_conf_rules.specs.Bounds.{least_timeout, greatest_timeout}
-use Rattle.pfs_conf_rules.specs.Timeouts.{place_of}
+use Rattle.pfs_conf_values.specs.Bounds.{least_timeout, greatest_timeout}
+use Rattle.pfs_conf_values.specs.Timeouts.{place_of}
 
 -- the timeout that a key names, if it is one of those that are kept
 abbrev pub timeout_named : Key → Option TimeoutName

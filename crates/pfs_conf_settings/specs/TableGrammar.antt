@@ -4,9 +4,9 @@ use Rattle.std.specs.Prelude.{◌≡◌, Bool, true, false, Some, None, List, []
 use Rattle.pfs_conf_tokens.specs.declared.keys.Key.TheVariants as key
 use Rattle.pfs_conf_tokens.specs.Tokens.{Tok}
 use Rattle.pfs_conf_tokens.specs.Grammar.{Word, WordOf, ListOf, UpTo, skip_lines}
-use Rattle.pfs_addr.specs.Prefixes.{Network}
-use Rattle.pfs_addr_text.specs.Texts.{prefix_of}
-use Rattle.pfs_conf_rules.specs.Entries.{TextEntry, sign_of}
+use Rattle.pfs_addr_values.specs.Prefixes.{Network}
+use Rattle.pfs_addr.specs.Texts.{prefix_of}
+use Rattle.pfs_conf_values.specs.Entries.{TextEntry, sign_of}
 use Rattle.pfs_conf_settings.specs.declared.tables.Parts.{Parts}
 
 -- a sign: `!`, or none

@@ -6,9 +6,9 @@ use Rattle.pfs_conf_tokens.specs.declared.refusals.Why.TheVariants as why
 use Rattle.pfs_conf_tokens.specs.Tokens.{Tok}
 use Rattle.pfs_conf_tokens.specs.Keys.{is_word_key, ends_line}
 use Rattle.pfs_conf_tokens.specs.Reading.{closes_braces, Reader, Act, take, stay, refuse, on_front, done, chain, once, list_all, up_to_all, skipping}
-use Rattle.pfs_addr.specs.Prefixes.{Network}
-use Rattle.pfs_addr_text.specs.Texts.{prefix_of}
-use Rattle.pfs_conf_rules.specs.Entries.{TextEntry, sign_of}
+use Rattle.pfs_addr_values.specs.Prefixes.{Network}
+use Rattle.pfs_addr.specs.Texts.{prefix_of}
+use Rattle.pfs_conf_values.specs.Entries.{TextEntry, sign_of}
 use Rattle.pfs_conf_settings.specs.declared.tables.Parts.{Parts}
 use Rattle.pfs_conf_settings.specs.TableGrammar.{no_parts}
 

@@ -2,17 +2,17 @@
 
 ghost use Rattle.std.specs.Prelude.{◌≡◌, ◌<◌, ◌≤◌, ◌+◌, ◌++◌, [], ◌∷◌, IfOk, IfSome, None, OnErr, OnOk, false, true, length, position};
 ghost use Rattle.std.specs.Option.{option_map};
-ghost use Rattle.pfs_addr.specs.Names.{is_name};
-ghost use Rattle.pfs_conf_rules.specs.Configs.{is_const_table, overloads_const};
-ghost use Rattle.pfs_conf_rules.specs.Order.{depth_after, next_depth, repeats_by, repeats_name};
+ghost use Rattle.pfs_addr_values.specs.Names.{is_name};
+ghost use Rattle.pfs_conf_values.specs.Configs.{is_const_table, overloads_const};
+ghost use Rattle.pfs_conf_values.specs.Order.{depth_after, next_depth, repeats_by, repeats_name};
 ghost use Rattle.pfs_conf_settings.specs.Drafts.{broken_pair, const_overload, empty_draft, finished, has_broken_pair, has_too_many_entries, has_too_many_tables, is_defined, number_of_table, with_item, with_limit, with_name, with_table, with_timeout};
-ghost use Rattle.pfs_conf_rules.specs.LoadRules.{IsAnchor, IsCount, IsItem, IsRule, IsTimeout};
-ghost use Rattle.pfs_conf_rules.specs.Siblings.{has_sibling, is_anchor_named};
-ghost use Rattle.pfs_conf_rules.specs.Timeouts.{place_of};
+ghost use Rattle.pfs_conf_values.specs.LoadRules.{IsAnchor, IsCount, IsItem, IsRule, IsTimeout};
+ghost use Rattle.pfs_conf_values.specs.Siblings.{has_sibling, is_anchor_named};
+ghost use Rattle.pfs_conf_values.specs.Timeouts.{place_of};
 
 use crate::named_tables::NamedTables;
-use pfs_addr::NoMemory;
-use pfs_conf_rules::{
+use pfs_addr_values::NoMemory;
+use pfs_conf_values::{
     Action, Anchor, AnchorName, Config, Item, LimitName, Limits, Rule, RuleNo, RuleTimeouts,
     TableDef, TableName, TableNo, TimeoutName, Timeouts, What, count_entries,
 };

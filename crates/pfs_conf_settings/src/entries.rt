@@ -1,11 +1,11 @@
 // The entries of a table that is being read, found by their prefixes.
 
 ghost use Rattle.std.specs.Prelude.{◌≡◌, ◌++◌, [], ◌∷◌, IfOk, None, OnErr, OnOk, slice_get};
-ghost use Rattle.pfs_conf_rules.specs.Entries.{sign_of};
+ghost use Rattle.pfs_conf_values.specs.Entries.{sign_of};
 
 use indexmap::IndexMap;
-use pfs_addr::{NoMemory, Prefix};
-use pfs_conf_rules::Entries;
+use pfs_addr_values::{NoMemory, Prefix};
+use pfs_conf_values::Entries;
 use std::alloc::Global;
 use std::marker::Model;
 
@@ -20,7 +20,7 @@ pub struct EntryDraft {
 
 impl Model for EntryDraft {
     ghost use Rattle.std.specs.Prelude.{Bool, List, All};
-    ghost use Rattle.pfs_addr.specs.Prefixes.{Network, IsNetwork};
+    ghost use Rattle.pfs_addr_values.specs.Prefixes.{Network, IsNetwork};
 
     ghost Value = { List (Network × Bool) };
 

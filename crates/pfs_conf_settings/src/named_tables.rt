@@ -3,14 +3,14 @@
 ghost use Rattle.std.specs.Prelude.{◌≡◌, ◌<◌, ◌≤◌, [], All, IfOk, OnOk, OnErr, false, length, true};
 ghost use Rattle.std.specs.List.{IsDistinct};
 ghost use Rattle.std.specs.Str.{bytes_eq};
-ghost use Rattle.pfs_addr.specs.Names.{is_name};
-ghost use Rattle.pfs_conf_rules.specs.Configs.{table_names};
-ghost use Rattle.pfs_conf_rules.specs.Invariants.{IsTable};
+ghost use Rattle.pfs_addr_values.specs.Names.{is_name};
+ghost use Rattle.pfs_conf_values.specs.Configs.{table_names};
+ghost use Rattle.pfs_conf_values.specs.Invariants.{IsTable};
 ghost use Rattle.pfs_conf_settings.specs.Namings.{defining, is_defined_in, is_named, naming, place_in, table_number};
 
 use indexmap::IndexSet;
-use pfs_addr::NoMemory;
-use pfs_conf_rules::{Entries, TableDef, TableName, TableNo};
+use pfs_addr_values::NoMemory;
+use pfs_conf_values::{Entries, TableDef, TableName, TableNo};
 use std::alloc::Global;
 use std::marker::Model;
 

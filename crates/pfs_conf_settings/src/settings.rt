@@ -7,8 +7,8 @@ ghost use Rattle.pfs_conf_settings.specs.Draws.{Draws};
 ghost use Rattle.pfs_conf_settings.specs.Settings.{timeout_named, bounded_at, least_value, greatest_value, limited, timed, set_limit_at, time_at, lined_limit_at, lined_time_at, limits_at, times_at, settings_at};
 
 use crate::drafts::Draft;
-use pfs_conf_rules::{LimitName, TimeoutName};
 use pfs_conf_tokens::{Cursor, Key, Refusal, Why, number, skip_lines};
+use pfs_conf_values::{LimitName, TimeoutName};
 
 /// Reads what stands behind the word `set`, up to the line end, which stays, and sets it: a later value replaces an
 /// earlier one.

@@ -8,9 +8,9 @@ ghost use Rattle.pfs_conf_settings.specs.Tables.{entry_at, lined_entry_at, brace
 ghost use Rattle.pfs_conf_settings.specs.Extending.{Extends};
 
 use crate::entries::EntryDraft;
-use pfs_addr_text::parse_prefix;
-use pfs_conf_rules::Entries;
+use pfs_addr::parse_prefix;
 use pfs_conf_tokens::{Cursor, Key, ReadError, Refusal, Why, skip_lines};
+use pfs_conf_values::Entries;
 use std::alloc::Global;
 
 /// The parts of a table's definition that stand behind its name. (pf.conf(5), TABLES)

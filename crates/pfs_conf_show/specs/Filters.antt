@@ -1,22 +1,22 @@
 -- The parameters of rules and anchors. (pf.conf(5), PARAMETERS; their order and form are own)
 use Rattle.std.specs.Prelude.{ℕ, Bool, true, false, if◌then◌else◌, ◌==◌, ◌&&◌, List, [], ◌++◌, Option, Some, None, codes, decimal}
-use Rattle.pfs_addr.specs.declared.flag_sets.Flags.{Flags}
-use Rattle.pfs_addr.specs.declared.packets.Dir.{Dir}
-use Rattle.pfs_addr.specs.declared.packets.Dir.TheVariants as dir
-use Rattle.pfs_addr.specs.declared.protocols.Proto.{Proto}
-use Rattle.pfs_addr.specs.declared.protocols.Proto.TheVariants as proto
-use Rattle.pfs_conf_rules.specs.declared.filters.Family.{Family}
-use Rattle.pfs_conf_rules.specs.declared.filters.Family.TheVariants as family
-use Rattle.pfs_conf_rules.specs.declared.filters.Filter.{Filter}
-use Rattle.pfs_conf_rules.specs.declared.filters.FlagTest.{FlagTest}
-use Rattle.pfs_conf_rules.specs.declared.filters.FlagTest.TheVariants as flag_test
-use Rattle.pfs_conf_rules.specs.declared.filters.Host.{Host}
-use Rattle.pfs_conf_rules.specs.declared.filters.Host.TheVariants as host
-use Rattle.pfs_conf_rules.specs.declared.filters.Interface.{Interface}
-use Rattle.pfs_conf_rules.specs.declared.filters.Ports.{Ports}
-use Rattle.pfs_conf_rules.specs.declared.filters.Side.{Side}
-use Rattle.pfs_conf_rules.specs.declared.filters.TableNo.{TableNo}
-use Rattle.pfs_conf_rules.specs.declared.tables.TableDef.{TableDef}
+use Rattle.pfs_addr_values.specs.declared.flag_sets.Flags.{Flags}
+use Rattle.pfs_addr_values.specs.declared.packets.Dir.{Dir}
+use Rattle.pfs_addr_values.specs.declared.packets.Dir.TheVariants as dir
+use Rattle.pfs_addr_values.specs.declared.protocols.Proto.{Proto}
+use Rattle.pfs_addr_values.specs.declared.protocols.Proto.TheVariants as proto
+use Rattle.pfs_conf_values.specs.declared.filters.Family.{Family}
+use Rattle.pfs_conf_values.specs.declared.filters.Family.TheVariants as family
+use Rattle.pfs_conf_values.specs.declared.filters.Filter.{Filter}
+use Rattle.pfs_conf_values.specs.declared.filters.FlagTest.{FlagTest}
+use Rattle.pfs_conf_values.specs.declared.filters.FlagTest.TheVariants as flag_test
+use Rattle.pfs_conf_values.specs.declared.filters.Host.{Host}
+use Rattle.pfs_conf_values.specs.declared.filters.Host.TheVariants as host
+use Rattle.pfs_conf_values.specs.declared.filters.Interface.{Interface}
+use Rattle.pfs_conf_values.specs.declared.filters.Ports.{Ports}
+use Rattle.pfs_conf_values.specs.declared.filters.Side.{Side}
+use Rattle.pfs_conf_values.specs.declared.filters.TableNo.{TableNo}
+use Rattle.pfs_conf_values.specs.declared.tables.TableDef.{TableDef}
 use Rattle.pfs_conf_show.specs.Pieces.{not_text, prefix_text}
 use Rattle.pfs_conf_show.specs.Tables.{table_ref}
 

@@ -1,7 +1,7 @@
 -- Small pieces of the canonical text: numbers behind words, lists, prefixes. (own)
 use Rattle.std.specs.Prelude.{ℕ, Bool, true, false, if◌then◌else◌, ◌==◌, List, [], ◌∷◌, ◌++◌, Option, Some, None, codes, decimal}
-use Rattle.pfs_addr.specs.Addresses.{addr_text, width_of}
-use Rattle.pfs_addr.specs.Prefixes.{Network}
+use Rattle.pfs_addr_values.specs.Addresses.{addr_text, width_of}
+use Rattle.pfs_addr_values.specs.Prefixes.{Network}
 
 -- a word and a number behind it
 abbrev pub worded : List ℕ → ℕ → List ℕ

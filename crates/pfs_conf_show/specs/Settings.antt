@@ -1,9 +1,9 @@
 -- The lines of `set limit` and `set timeout`. (pf.conf(5), OPTIONS; their form is own)
 use Rattle.std.specs.Prelude.{ℕ, List, [], ◌∷◌, ◌++◌, codes, map, slice_index}
-use Rattle.pfs_conf_rules.specs.Timeouts.{place_of, timeout_names}
-use Rattle.pfs_conf_rules.specs.declared.limits.Limits.{Limits}
-use Rattle.pfs_conf_rules.specs.declared.timeouts.TimeoutName.{TimeoutName}
-use Rattle.pfs_conf_rules.specs.declared.timeouts.TimeoutName.TheVariants.{TcpFirst, TcpOpening, TcpEstablished, TcpClosing, TcpFinwait, TcpClosed, UdpFirst, UdpSingle, UdpMultiple, OtherFirst, OtherSingle, OtherMultiple, SrcTrack, Interval, AdaptiveStart, AdaptiveEnd}
+use Rattle.pfs_conf_values.specs.Timeouts.{place_of, timeout_names}
+use Rattle.pfs_conf_values.specs.declared.limits.Limits.{Limits}
+use Rattle.pfs_conf_values.specs.declared.timeouts.TimeoutName.{TimeoutName}
+use Rattle.pfs_conf_values.specs.declared.timeouts.TimeoutName.TheVariants.{TcpFirst, TcpOpening, TcpEstablished, TcpClosing, TcpFinwait, TcpClosed, UdpFirst, UdpSingle, UdpMultiple, OtherFirst, OtherSingle, OtherMultiple, SrcTrack, Interval, AdaptiveStart, AdaptiveEnd}
 use Rattle.pfs_conf_show.specs.Pieces.{bracketed, worded}
 
 -- the limits, each with its value

@@ -1,8 +1,8 @@
 -- The line of a table. (pf.conf(5), TABLES; its form is own)
 use Rattle.std.specs.Prelude.{ℕ, Bool, true, false, List, [], ◌++◌, Option, Some, None, codes, map, slice_get}
-use Rattle.pfs_conf_rules.specs.Entries.{TextEntry}
-use Rattle.pfs_conf_rules.specs.declared.filters.TableNo.{TableNo}
-use Rattle.pfs_conf_rules.specs.declared.tables.TableDef.{TableDef}
+use Rattle.pfs_conf_values.specs.Entries.{TextEntry}
+use Rattle.pfs_conf_values.specs.declared.filters.TableNo.{TableNo}
+use Rattle.pfs_conf_values.specs.declared.tables.TableDef.{TableDef}
 use Rattle.pfs_conf_show.specs.Pieces.{bracketed, not_text, prefix_text}
 
 -- the name of a table of a list

@@ -2,16 +2,16 @@
 -- indented. (own)
 use Rattle.std.specs.Prelude.{ℕ, zero, suc, ◌-◌, List, [], ◌∷◌, ◌++◌, Option, Some, None, codes}
 use Rattle.std.specs.List.{flat_map}
-use Rattle.pfs_conf_rules.specs.Configs.{Conf}
-use Rattle.pfs_conf_rules.specs.Order.{next_depth}
-use Rattle.pfs_conf_rules.specs.declared.actions.Action.{Action}
-use Rattle.pfs_conf_rules.specs.declared.actions.Action.TheVariants as action
-use Rattle.pfs_conf_rules.specs.declared.items.Anchor.{Anchor}
-use Rattle.pfs_conf_rules.specs.declared.items.Item.{Item}
-use Rattle.pfs_conf_rules.specs.declared.items.Rule.{Rule}
-use Rattle.pfs_conf_rules.specs.declared.items.What.{What}
-use Rattle.pfs_conf_rules.specs.declared.items.What.TheVariants as what
-use Rattle.pfs_conf_rules.specs.declared.tables.TableDef.{TableDef}
+use Rattle.pfs_conf_values.specs.Configs.{Conf}
+use Rattle.pfs_conf_values.specs.Order.{next_depth}
+use Rattle.pfs_conf_values.specs.declared.actions.Action.{Action}
+use Rattle.pfs_conf_values.specs.declared.actions.Action.TheVariants as action
+use Rattle.pfs_conf_values.specs.declared.items.Anchor.{Anchor}
+use Rattle.pfs_conf_values.specs.declared.items.Item.{Item}
+use Rattle.pfs_conf_values.specs.declared.items.Rule.{Rule}
+use Rattle.pfs_conf_values.specs.declared.items.What.{What}
+use Rattle.pfs_conf_values.specs.declared.items.What.TheVariants as what
+use Rattle.pfs_conf_values.specs.declared.tables.TableDef.{TableDef}
 use Rattle.pfs_conf_show.specs.Filters.{parameters_text}
 use Rattle.pfs_conf_show.specs.Options.{state_text}
 use Rattle.pfs_conf_show.specs.Settings.{limits_text, timeouts_text}

@@ -5,8 +5,8 @@ ghost use Rattle.pfs_conf_show.specs.Filters.{dir_text, family_text, flags_text,
 
 use crate::pieces::{push_not, push_number, push_prefix};
 use crate::tables::push_table_ref;
-use pfs_addr::{Dir, Flags, NoMemory, Proto};
-use pfs_conf_rules::{Config, Family, Filter, FlagTest, Host, Interface, Ports, Side, TableNo};
+use pfs_addr_values::{Dir, Flags, NoMemory, Proto};
+use pfs_conf_values::{Config, Family, Filter, FlagTest, Host, Interface, Ports, Side, TableNo};
 
 pub fn push_parameters(
     out: &mut Vec<u8>,

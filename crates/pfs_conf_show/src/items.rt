@@ -1,15 +1,15 @@
 // The lines of rules and anchors, and the whole text.
 
 ghost use Rattle.std.specs.Prelude.{◌≡◌, ◌≤◌, ◌-◌, ◌++◌, IfOk, OnOk};
-ghost use Rattle.pfs_conf_rules.specs.Order.{next_depth};
+ghost use Rattle.pfs_conf_values.specs.Order.{next_depth};
 ghost use Rattle.pfs_conf_show.specs.Texts.{anchor_text, braces_text, items_text, name_text, rule_text, text_of, verb_text, what_text};
 
 use crate::filters::push_parameters;
 use crate::options::push_state;
 use crate::settings::{push_limits, push_timeouts};
 use crate::tables::push_tables;
-use pfs_addr::NoMemory;
-use pfs_conf_rules::{Action, Anchor, AnchorName, Config, Item, Rule, What};
+use pfs_addr_values::NoMemory;
+use pfs_conf_values::{Action, Anchor, AnchorName, Config, Item, Rule, What};
 use std::alloc::Global;
 
 /// The canonical text of a configuration: `set limit` with all limits, `set timeout` with all timeouts as resolved, a line

@@ -2,15 +2,15 @@
 
 ghost use Rattle.std.specs.Prelude.{◌≡◌, ◌++◌, IfOk, OnOk, codes, decimal};
 ghost use Rattle.std.specs.List.{flat_map};
-ghost use Rattle.pfs_conf_rules.specs.Timeouts.{timeout_names};
+ghost use Rattle.pfs_conf_values.specs.Timeouts.{timeout_names};
 ghost use Rattle.pfs_conf_show.specs.Pieces.{begun_after, given, going_on, worded};
 ghost use Rattle.pfs_conf_show.specs.Options.{flush_text, options_text, overload_text, rate_text, rule_timeout_text, scope_text, state_text};
 
 use crate::pieces::{push_closing, push_number, push_separator, push_worded};
 use crate::settings::{TIMEOUT_NAMES, timeout_word};
 use crate::tables::push_table_ref;
-use pfs_addr::NoMemory;
-use pfs_conf_rules::{Action, Config, Overload, Rate, RuleTimeouts, Scope, StateOptions};
+use pfs_addr_values::NoMemory;
+use pfs_conf_values::{Action, Config, Overload, Rate, RuleTimeouts, Scope, StateOptions};
 
 pub fn push_state(out: &mut Vec<u8>, config: &Config, action: &Action) -> Result<(), NoMemory>
     ensures { OnOk result (out.new.items ≡ out.old.items ++ state_text config.now.tables action.now) }

@@ -1,12 +1,12 @@
 // Numbers, prefixes and the marks of lists.
 
 ghost use Rattle.std.specs.Prelude.{◌≡◌, ◌==◌, ◌++◌, OnOk, codes, decimal};
-ghost use Rattle.pfs_addr.specs.Addresses.{width_of};
+ghost use Rattle.pfs_addr_values.specs.Addresses.{width_of};
 ghost use Rattle.pfs_conf_show.specs.Pieces.{bits_text, closed_by, not_text, prefix_text, separator, worded};
 
 use itoa::Buffer;
-use pfs_addr::{NoMemory, Prefix};
-use pfs_addr_text::push_addr;
+use pfs_addr::push_addr;
+use pfs_addr_values::{NoMemory, Prefix};
 
 pub fn push_number(out: &mut Vec<u8>, n: u64) -> Result<(), NoMemory>
     ensures { OnOk result (out.new.items ≡ out.old.items ++ decimal n) }

@@ -1,13 +1,13 @@
 // The lines of `set limit` and `set timeout`.
 
 ghost use Rattle.std.specs.Prelude.{◌≡◌, ◌++◌, OnOk, codes, false, map};
-ghost use Rattle.pfs_conf_rules.specs.Timeouts.{timeout_names};
+ghost use Rattle.pfs_conf_values.specs.Timeouts.{timeout_names};
 ghost use Rattle.pfs_conf_show.specs.Pieces.{going_on, separator, worded};
 ghost use Rattle.pfs_conf_show.specs.Settings.{limit_texts, limits_text, timeout_text, timeout_word, timeouts_text};
 
 use crate::pieces::{push_separator, push_worded};
-use pfs_addr::NoMemory;
-use pfs_conf_rules::{Config, LimitName, TimeoutName};
+use pfs_addr_values::NoMemory;
+use pfs_conf_values::{Config, LimitName, TimeoutName};
 
 /// The timeouts in the order in which they are shown, which is that of their places.
 pub const TIMEOUT_NAMES: [TimeoutName; 16] = [

@@ -6,8 +6,8 @@ ghost use Rattle.pfs_conf_show.specs.Pieces.{begun_after, bracketed, going_on};
 ghost use Rattle.pfs_conf_show.specs.Tables.{angled, const_text, entry_text, table_ref, table_text};
 
 use crate::pieces::{push_closing, push_not, push_prefix, push_separator};
-use pfs_addr::{NoMemory, Prefix};
-use pfs_conf_rules::{Config, Entries, TableDef, TableName, TableNo};
+use pfs_addr_values::{NoMemory, Prefix};
+use pfs_conf_values::{Config, Entries, TableDef, TableName, TableNo};
 
 pub fn push_tables(out: &mut Vec<u8>, config: &Config) -> Result<(), NoMemory>
     ensures { OnOk result (out.new.items ≡ out.old.items ++ flat_map table_text config.now.tables) }

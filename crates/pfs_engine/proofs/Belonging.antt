@@ -1,20 +1,20 @@
 -- A packet of a held state: the state is held after it, and there is room in the overload table where it completes a handshake.
 use Rattle.std.proofs.Common.{◌≡◌, ℕ, true, Option, None, Some, ap, ◌∙◌, sym, subst, refl}
 use Rattle.std.specs.Prelude.{option_map}
-use Rattle.pfs_addr.specs.Keys.{key_of}
-use Rattle.pfs_addr.specs.Packets.{Header}
-use Rattle.pfs_addr.specs.Sameness.{same_addr}
-use Rattle.pfs_addr.specs.declared.addresses.Addr.{Addr}
+use Rattle.pfs_addr_values.specs.Keys.{key_of}
+use Rattle.pfs_addr_values.specs.Packets.{Header}
+use Rattle.pfs_addr_values.specs.Sameness.{same_addr}
+use Rattle.pfs_addr_values.specs.declared.addresses.Addr.{Addr}
 use Rattle.pfs_eval.specs.Holdings.{Holdings}
-use Rattle.pfs_conf_rules.specs.Configs.{Conf, options_of}
-use Rattle.pfs_conf_rules.specs.declared.items.RuleNo.{RuleNo}
-use Rattle.pfs_track.specs.Counts.{is_of_source}
-use Rattle.pfs_track.specs.Calls.{source_states, touch_of, world_touched, state_number, state_rule}
-use Rattle.pfs_track.specs.Touching.{completes_at, renewed, touched}
-use Rattle.pfs_track.specs.Worlds.{World, holds_number, state_with}
-use Rattle.pfs_track.specs.declared.records.State.{State}
-use Rattle.pfs_track.specs.declared.records.StateNo.{StateNo}
-use Rattle.pfs_track.specs.declared.records.Touched.{Touched}
+use Rattle.pfs_conf_values.specs.Configs.{Conf, options_of}
+use Rattle.pfs_conf_values.specs.declared.items.RuleNo.{RuleNo}
+use Rattle.pfs_store_contract.specs.Counts.{is_of_source}
+use Rattle.pfs_store_contract.specs.Calls.{source_states, touch_of, world_touched, state_number, state_rule}
+use Rattle.pfs_store_contract.specs.Touching.{completes_at, renewed, touched}
+use Rattle.pfs_store_contract.specs.Worlds.{World, holds_number, state_with}
+use Rattle.pfs_store_contract.specs.declared.records.State.{State}
+use Rattle.pfs_store_contract.specs.declared.records.StateNo.{StateNo}
+use Rattle.pfs_store_contract.specs.declared.records.Touched.{Touched}
 use Rattle.pfs_engine_machine.specs.Kept.{IsKept}
 use Rattle.pfs_engine_machine.specs.Looks.{states_beside}
 use Rattle.pfs_engine_machine.specs.Machine.{Held}

@@ -1,17 +1,17 @@
 -- A packet whose outcome needs no memory is found to need none before it is answered.
 use Rattle.std.proofs.Common.{◌≡◌, ◌∙◌, ℕ, Bool, true, false, ◌&&◌, ◌||◌, if◌then◌else◌, Option, Some, None, IsSome, Result, Ok, Err, IsOk, OnErr, ap, refl, subst, sym}
 use Rattle.std.proofs.lemmas.Bool.{false≢true}
-use Rattle.pfs_addr.specs.Keys.{key_of}
-use Rattle.pfs_addr.specs.Packets.{Header}
-use Rattle.pfs_conf_rules.specs.Configs.{Conf, rule_of}
-use Rattle.pfs_conf_rules.specs.declared.actions.Action.{Action}
-use Rattle.pfs_conf_rules.specs.declared.actions.Action.TheVariants as action
-use Rattle.pfs_track.specs.Calls.{packet_limit}
-use Rattle.pfs_track.specs.Handshakes.{hits_connections, hits_rate}
-use Rattle.pfs_track.specs.Touching.{completes_at, touched}
-use Rattle.pfs_track.specs.Worlds.{World, state_with}
-use Rattle.pfs_track.specs.declared.records.Limit.{Limit}
-use Rattle.pfs_track.specs.declared.records.State.{State}
+use Rattle.pfs_addr_values.specs.Keys.{key_of}
+use Rattle.pfs_addr_values.specs.Packets.{Header}
+use Rattle.pfs_conf_values.specs.Configs.{Conf, rule_of}
+use Rattle.pfs_conf_values.specs.declared.actions.Action.{Action}
+use Rattle.pfs_conf_values.specs.declared.actions.Action.TheVariants as action
+use Rattle.pfs_store_contract.specs.Calls.{packet_limit}
+use Rattle.pfs_store_contract.specs.Handshakes.{hits_connections, hits_rate}
+use Rattle.pfs_store_contract.specs.Touching.{completes_at, touched}
+use Rattle.pfs_store_contract.specs.Worlds.{World, state_with}
+use Rattle.pfs_store_contract.specs.declared.records.Limit.{Limit}
+use Rattle.pfs_store_contract.specs.declared.records.State.{State}
 use Rattle.pfs_engine_machine.specs.Machine.{Held, Machine, advanced, answered, by_action, by_limit, by_rule, by_state, decided, held_of, killed}
 use Rattle.pfs_engine_machine.specs.Kept.{moment_of}
 use Rattle.pfs_engine_machine.specs.Refusals.{IsFree, IsFreeOf}

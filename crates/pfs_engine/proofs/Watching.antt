@@ -2,15 +2,15 @@
 use Rattle.std.proofs.Common.{◌≡◌, ◌≤◌, ◌<◌, ◌+◌, ◌-◌, ◌^◌, ◌==◌, ◌||◌, ◌&&◌, not, ℕ, zero, suc, Bool, true, false, if◌then◌else◌, List, [], ◌∷◌, length, take, drop, map, max, min, refl, ap, ◌∙◌, sym, subst, arith, length-take, length-drop}
 use Rattle.std.specs.List.{AllByRecursion, range_with_len}
 use Rattle.std.proofs.lemmas.Bool.Decides.{nat_tests}
-use Rattle.pfs_conf_rules.specs.Configs.{Conf}
-use Rattle.pfs_track.specs.Purging.{is_among, node_round, node_share, node_slice, purge, round, state_round, state_share, state_slice}
-use Rattle.pfs_track.specs.Calls.{node_slice_of, state_slice_of}
-use Rattle.pfs_track.specs.Quiet.{NodeStays, NodesStay, StateStays, StatesStay, moved}
-use Rattle.pfs_track.specs.Worlds.{World}
-use Rattle.pfs_track.specs.declared.records.Node.{Node}
-use Rattle.pfs_track.specs.declared.records.Slice.{Slice}
-use Rattle.pfs_track.specs.declared.records.State.{State}
-use Rattle.pfs_track.specs.declared.records.Watched.{Watched}
+use Rattle.pfs_conf_values.specs.Configs.{Conf}
+use Rattle.pfs_store_contract.specs.Purging.{is_among, node_round, node_share, node_slice, purge, round, state_round, state_share, state_slice}
+use Rattle.pfs_store_contract.specs.Calls.{node_slice_of, state_slice_of}
+use Rattle.pfs_store_contract.specs.Quiet.{NodeStays, NodesStay, StateStays, StatesStay, moved}
+use Rattle.pfs_store_contract.specs.Worlds.{World}
+use Rattle.pfs_store_contract.specs.declared.records.Node.{Node}
+use Rattle.pfs_store_contract.specs.declared.records.Slice.{Slice}
+use Rattle.pfs_store_contract.specs.declared.records.State.{State}
+use Rattle.pfs_store_contract.specs.declared.records.Watched.{Watched}
 use Rattle.pfs_engine_machine.specs.Machine.{purged}
 use Rattle.pfs_engine_machine.specs.Shares.{seconds, most_nodes, most_states}
 use Rattle.pfs_engine_machine.specs.Quiet.{IsQuietUntil}

@@ -1,14 +1,14 @@
 -- What an engine makes of a packet, by what its store tells of it, and which packets need no memory before they are answered.
 use Rattle.std.specs.Prelude.{ℕ, ◌&&◌, ◌||◌, if◌then◌else◌, Option, Some, None, IsSome}
-use Rattle.pfs_addr.specs.Packets.{Header}
-use Rattle.pfs_conf_rules.specs.Configs.{Conf, options_of, rule_of}
-use Rattle.pfs_conf_rules.specs.declared.actions.Action.{Action}
-use Rattle.pfs_conf_rules.specs.declared.actions.Action.TheVariants as action
-use Rattle.pfs_track.specs.Calls.{packet_limit}
-use Rattle.pfs_track.specs.Counts.{exceeded}
-use Rattle.pfs_track.specs.Handshakes.{over_rate}
-use Rattle.pfs_track.specs.declared.records.State.{State}
-use Rattle.pfs_track.specs.declared.records.Touched.{Touched}
+use Rattle.pfs_addr_values.specs.Packets.{Header}
+use Rattle.pfs_conf_values.specs.Configs.{Conf, options_of, rule_of}
+use Rattle.pfs_conf_values.specs.declared.actions.Action.{Action}
+use Rattle.pfs_conf_values.specs.declared.actions.Action.TheVariants as action
+use Rattle.pfs_store_contract.specs.Calls.{packet_limit}
+use Rattle.pfs_store_contract.specs.Counts.{exceeded}
+use Rattle.pfs_store_contract.specs.Handshakes.{over_rate}
+use Rattle.pfs_store_contract.specs.declared.records.State.{State}
+use Rattle.pfs_store_contract.specs.declared.records.Touched.{Touched}
 use Rattle.pfs_engine_machine.specs.Machine.{Held, decided, killed}
 use Rattle.pfs_engine_machine.specs.Refusals.{IsFreeOf}
 use Rattle.pfs_engine_machine.specs.declared.events.Outcome.{Outcome}

@@ -3,9 +3,9 @@ use Rattle.std.specs.Prelude.{ℕ, ◌≡◌, ◌≤◌, ◌<◌, ◌⊎◌, tru
 use Rattle.std.specs.Option.{ForSome}
 use Rattle.pfs_eval.specs.Holdings.{Holdings}
 use Rattle.pfs_eval.specs.Tables.{entry_count, has_room}
-use Rattle.pfs_conf_rules.specs.Configs.{Conf, options_of}
-use Rattle.pfs_conf_rules.specs.declared.actions.Overload.{Overload}
-use Rattle.pfs_conf_rules.specs.declared.items.RuleNo.{RuleNo}
+use Rattle.pfs_conf_values.specs.Configs.{Conf, options_of}
+use Rattle.pfs_conf_values.specs.declared.actions.Overload.{Overload}
+use Rattle.pfs_conf_values.specs.declared.items.RuleNo.{RuleNo}
 
 -- the `overload` of the rule of a held state
 abbrev pub rule_overload : Conf → Option RuleNo → Option Overload

@@ -2,11 +2,11 @@
 use Rattle.std.specs.Prelude.{ℕ, ◌≡◌, ◌≤◌, List, Option}
 use Rattle.pfs_eval.specs.Entries.{Entry}
 use Rattle.pfs_eval.specs.Holdings.{Holdings}
-use Rattle.pfs_conf_rules.specs.Configs.{Conf, limit_of}
-use Rattle.pfs_conf_rules.specs.Invariants.{IsConfig}
-use Rattle.pfs_conf_rules.specs.declared.items.Item.{Item}
-use Rattle.pfs_conf_rules.specs.declared.limits.LimitName.TheVariants as limit_name
-use Rattle.pfs_track.specs.Worlds.{World}
+use Rattle.pfs_conf_values.specs.Configs.{Conf, limit_of}
+use Rattle.pfs_conf_values.specs.Invariants.{IsConfig}
+use Rattle.pfs_conf_values.specs.declared.items.Item.{Item}
+use Rattle.pfs_conf_values.specs.declared.limits.LimitName.TheVariants as limit_name
+use Rattle.pfs_store_contract.specs.Worlds.{World}
 use Rattle.pfs_engine_machine.specs.Kept.{IsKept, moment_of}
 use Rattle.pfs_engine_machine.specs.Machine.{Machine, held_of}
 use Rattle.pfs_engine.specs.declared.works.Work.{Work}

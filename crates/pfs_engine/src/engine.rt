@@ -2,14 +2,14 @@
 
 ghost use Rattle.std.specs.Prelude.{◌≡◌, ◌+◌, ◌*◌, ◌<◌, ◌≤◌, ◌^◌, ◌++◌, true, false, length, None, Some, Ok, IfOk, IsOk, IsSome, OnErr, OnOk, unwrap_or};
 ghost use Rattle.std.specs.Option.{ForSome};
-ghost use Rattle.pfs_addr.specs.Keys.{key_of};
-ghost use Rattle.pfs_addr.specs.Packets.{Header};
-ghost use Rattle.pfs_track.specs.Purging.{node_share, state_share};
-ghost use Rattle.pfs_track.specs.Worlds.{empty_world, state_with};
-ghost use Rattle.pfs_conf_rules.specs.Configs.{scope_of};
-ghost use Rattle.pfs_conf_rules.specs.declared.actions.Scope.TheVariants as Scope;
-ghost use Rattle.pfs_conf_rules.specs.declared.items.RuleNo.{RuleNo};
-ghost use Rattle.pfs_track.specs.declared.records.Limit.{Limit};
+ghost use Rattle.pfs_addr_values.specs.Keys.{key_of};
+ghost use Rattle.pfs_addr_values.specs.Packets.{Header};
+ghost use Rattle.pfs_store_contract.specs.Purging.{node_share, state_share};
+ghost use Rattle.pfs_store_contract.specs.Worlds.{empty_world, state_with};
+ghost use Rattle.pfs_conf_values.specs.Configs.{scope_of};
+ghost use Rattle.pfs_conf_values.specs.declared.actions.Scope.TheVariants as Scope;
+ghost use Rattle.pfs_conf_values.specs.declared.items.RuleNo.{RuleNo};
+ghost use Rattle.pfs_store_contract.specs.declared.records.Limit.{Limit};
 ghost use Rattle.pfs_engine_machine.specs.Kept.{IsWithinLimits, IsWithinShared, moment_of};
 ghost use Rattle.pfs_engine_machine.specs.Looks.{AreLooks, states_beside};
 ghost use Rattle.pfs_engine_machine.specs.Refusals.{IsFree, IsDropped};
@@ -21,11 +21,11 @@ ghost use Rattle.pfs_engine_machine.specs.Visits.{AreVisits};
 use crate::packets::{Meters, answer};
 use crate::purges::purge_due;
 use crate::works::Work;
-use pfs_addr::{Meter, NoMemory, Packet};
-use pfs_conf_rules::{Config, LimitName, TableNo};
+use pfs_addr_values::{Meter, NoMemory, Packet};
+use pfs_conf_values::{Config, LimitName, TableNo};
 use pfs_engine_machine::{Event, Outcome, What};
 use pfs_eval::{Book, Tables};
-use pfs_track::Store;
+use pfs_store_contract::Store;
 use std::alloc::Global;
 use std::marker::Model;
 

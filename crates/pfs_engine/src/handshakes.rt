@@ -2,28 +2,29 @@
 
 ghost use Rattle.std.specs.Prelude.{◌≡◌, ◌≤◌, ◌<◌, ◌+◌, ◌^◌, true, false, None, Some, filter, length, option_map, IfOk, IsOk, OnErr, OnOk};
 ghost use Rattle.std.specs.Option.{ForSome, option_copied};
-ghost use Rattle.pfs_addr.specs.Keys.{key_of};
-ghost use Rattle.pfs_conf_rules.specs.Configs.{Conf, limit_of, options_at, options_of};
-ghost use Rattle.pfs_conf_rules.specs.LoadRules.{AreOptions};
-ghost use Rattle.pfs_conf_rules.specs.Bounds.{IsRate};
-ghost use Rattle.pfs_track.specs.Counts.{exceeded};
-ghost use Rattle.pfs_track.specs.Calls.{source_states, state_number, state_rule};
-ghost use Rattle.pfs_track.specs.Handshakes.{stays_at_kill, flush_of, goes_with, over_rate};
-ghost use Rattle.pfs_track.specs.Leaving.{without};
-ghost use Rattle.pfs_track.specs.Worlds.{holds_number, state_with};
+ghost use Rattle.pfs_addr_values.specs.Keys.{key_of};
+ghost use Rattle.pfs_conf_values.specs.Configs.{Conf, limit_of, options_at, options_of};
+ghost use Rattle.pfs_conf_values.specs.LoadRules.{AreOptions};
+ghost use Rattle.pfs_conf_values.specs.Bounds.{IsRate};
+ghost use Rattle.pfs_store_contract.specs.Counts.{exceeded};
+ghost use Rattle.pfs_store_contract.specs.Calls.{source_states, state_number, state_rule};
+ghost use Rattle.pfs_store_contract.specs.Handshakes.{stays_at_kill, flush_of, goes_with, over_rate};
+ghost use Rattle.pfs_store_contract.specs.Leaving.{without};
+ghost use Rattle.pfs_store_contract.specs.Worlds.{holds_number, state_with};
 ghost use Rattle.pfs_engine_machine.specs.Kept.{IsKept};
 ghost use Rattle.pfs_engine_machine.specs.Looks.{AreLooks, AreLooksOfKill, states_beside};
 ghost use Rattle.pfs_engine_machine.specs.Machine.{added_by, by_state, held_of, tables_by};
-ghost use Rattle.pfs_track.specs.declared.records.State.{State};
+ghost use Rattle.pfs_store_contract.specs.declared.records.State.{State};
 ghost use Rattle.pfs_engine_machine.specs.Refusals.{IsFreeOf, is_tcp};
 ghost use Rattle.pfs_engine.specs.Packets.{by_touch};
 ghost use Rattle.pfs_engine.specs.Rooms.{HasRoomFor, rule_overload};
 
-use pfs_addr::{Addr, FlowKey, Meter, NoMemory, Packet, Proto};
-use pfs_conf_rules::{Config, LimitName, Overload, Rate, RuleNo, Scope, StateOptions};
+use pfs_addr_values::{Addr, FlowKey, Meter, NoMemory, Packet, Proto};
+use pfs_conf_values::{Config, LimitName, Overload, Rate, RuleNo, Scope, StateOptions};
 use pfs_engine_machine::Outcome;
 use pfs_eval::{Added, Tables};
-use pfs_track::{Score, StateNo, Store, Touched};
+use pfs_store_contract::{StateNo, Store, Touched};
+use pfs_track::Score;
 
 /// What a packet does that has the key of a held state: the state is renewed, and where its handshake
 /// completes past a limit of its rule, its source is added to the rule's overload table and states are

@@ -12,5 +12,5 @@ mod works;
 pub use engine::Engine;
 pub use pfs_engine_machine::{Event, Outcome, What};
 pub use pfs_eval::Added;
-pub use pfs_track::Limit;
+pub use pfs_store_contract::Limit;
 pub use works::Work;

@@ -1,11 +1,11 @@
 //! What one packet does.
 
 ghost use Rattle.std.specs.Prelude.{List, ◌≡◌, ◌≤◌, ◌<◌, ◌+◌, false, true, None, Some, IfOk, IsOk, IsSome, OnErr};
-ghost use Rattle.pfs_addr.specs.Keys.{key_of};
+ghost use Rattle.pfs_addr_values.specs.Keys.{key_of};
 ghost use Rattle.pfs_eval.specs.Entries.{Entry};
-ghost use Rattle.pfs_conf_rules.specs.Configs.{limit_of, options_at};
-ghost use Rattle.pfs_track.specs.Calls.{packet_limit};
-ghost use Rattle.pfs_track.specs.Worlds.{state_with};
+ghost use Rattle.pfs_conf_values.specs.Configs.{limit_of, options_at};
+ghost use Rattle.pfs_store_contract.specs.Calls.{packet_limit};
+ghost use Rattle.pfs_store_contract.specs.Worlds.{state_with};
 ghost use Rattle.pfs_engine_machine.specs.Kept.{IsKept};
 ghost use Rattle.pfs_engine_machine.specs.Looks.{AreLooks, states_beside};
 ghost use Rattle.pfs_engine_machine.specs.Machine.{answered, by_action, by_limit, by_rule, decided, held_of};
@@ -13,11 +13,11 @@ ghost use Rattle.pfs_engine_machine.specs.Visits.{AreVisits};
 ghost use Rattle.pfs_engine.specs.Packets.{NeedsNone, NeedsNoneBy};
 
 use crate::handshakes::take_packet_of_state;
-use pfs_addr::{FlowKey, Meter, NoMemory, Packet};
-use pfs_conf_rules::{Action, Config, LimitName, RuleNo};
+use pfs_addr_values::{FlowKey, Meter, NoMemory, Packet};
+use pfs_conf_values::{Action, Config, LimitName, RuleNo};
 use pfs_engine_machine::Outcome;
 use pfs_eval::{Book, Tables};
-use pfs_track::Store;
+use pfs_store_contract::Store;
 
 /// The meters of one packet.
 #[derive(Drop)]

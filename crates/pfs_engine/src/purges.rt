@@ -8,8 +8,8 @@ ghost use Rattle.pfs_engine.specs.Watches.{IsOnTheWay, IsWatched};
 
 use crate::watches::Watch;
 use crate::works::Work;
-use pfs_addr::Meter;
-use pfs_track::{Slice, Store};
+use pfs_addr_values::Meter;
+use pfs_store_contract::{Slice, Store};
 
 /// All purges due between the last moment and this one; none before the first event. No memory is taken.
 pub(crate) fn purge_due<S: Store>(store: &mut S, last: Option<u64>, now: u64) -> Work

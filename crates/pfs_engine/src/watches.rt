@@ -3,7 +3,7 @@
 ghost use Rattle.std.specs.Prelude.{◌≡◌};
 ghost use Rattle.pfs_engine.specs.Watches.{none, watch_after};
 
-use pfs_track::Watched;
+use pfs_store_contract::Watched;
 
 /// Up to when states stay, or source nodes, as far as it was seen in slices from which nothing left; 0 where nothing is known.
 #[derive(Clone, Copy)]

@@ -2,23 +2,23 @@
 use Rattle.std.proofs.Common.{◌≡◌, ◌&&◌, ◌||◌, ℕ, Bool, true, false, if◌then◌else◌, Option, None, Some, IsSome, Result, Ok, Err, IfOk, ap, refl, sym, ◌∙◌, unwrap_or}
 use Rattle.std.proofs.lemmas.Bool.{false≢true}
 use Rattle.std.specs.Option.{option_and_then}
-use Rattle.pfs_addr.specs.Keys.{key_of}
-use Rattle.pfs_addr.specs.Packets.{Header}
-use Rattle.pfs_conf_rules.specs.Configs.{Conf, no_rule, options_at, options_in, rule_at, rule_of, scope_of}
-use Rattle.pfs_conf_rules.specs.Invariants.{IsConfig}
-use Rattle.pfs_conf_rules.specs.declared.actions.Action.{Action}
-use Rattle.pfs_conf_rules.specs.declared.actions.Action.TheVariants as action
-use Rattle.pfs_conf_rules.specs.declared.actions.Scope.TheVariants as scope
-use Rattle.pfs_conf_rules.specs.declared.actions.StateOptions.{StateOptions}
-use Rattle.pfs_conf_rules.specs.declared.items.Rule.{Rule}
-use Rattle.pfs_conf_rules.specs.declared.items.RuleNo.{RuleNo}
-use Rattle.pfs_track.specs.Admission.{admitted}
-use Rattle.pfs_track.specs.Calls.{packet_limit}
-use Rattle.pfs_track.specs.Handshakes.{hits_connections, hits_rate}
-use Rattle.pfs_track.specs.Touching.{completes_at, touched}
-use Rattle.pfs_track.specs.Worlds.{state_with}
-use Rattle.pfs_track.specs.declared.records.Limit.{Limit}
-use Rattle.pfs_track.specs.declared.records.State.{State}
+use Rattle.pfs_addr_values.specs.Keys.{key_of}
+use Rattle.pfs_addr_values.specs.Packets.{Header}
+use Rattle.pfs_conf_values.specs.Configs.{Conf, no_rule, options_at, options_in, rule_at, rule_of, scope_of}
+use Rattle.pfs_conf_values.specs.Invariants.{IsConfig}
+use Rattle.pfs_conf_values.specs.declared.actions.Action.{Action}
+use Rattle.pfs_conf_values.specs.declared.actions.Action.TheVariants as action
+use Rattle.pfs_conf_values.specs.declared.actions.Scope.TheVariants as scope
+use Rattle.pfs_conf_values.specs.declared.actions.StateOptions.{StateOptions}
+use Rattle.pfs_conf_values.specs.declared.items.Rule.{Rule}
+use Rattle.pfs_conf_values.specs.declared.items.RuleNo.{RuleNo}
+use Rattle.pfs_store_contract.specs.Admission.{admitted}
+use Rattle.pfs_store_contract.specs.Calls.{packet_limit}
+use Rattle.pfs_store_contract.specs.Handshakes.{hits_connections, hits_rate}
+use Rattle.pfs_store_contract.specs.Touching.{completes_at, touched}
+use Rattle.pfs_store_contract.specs.Worlds.{state_with}
+use Rattle.pfs_store_contract.specs.declared.records.Limit.{Limit}
+use Rattle.pfs_store_contract.specs.declared.records.State.{State}
 use Rattle.pfs_engine_machine.specs.Kept.{IsKept, IsWithinShared}
 use Rattle.pfs_engine_machine.specs.Machine.{Held, answered, by_action, killed, by_limit, by_rule, by_state, by_handshake, decided, held_of}
 use Rattle.pfs_engine_machine.specs.Refusals.{IsDropped}

@@ -2,19 +2,19 @@
 use Rattle.std.proofs.Common.{◌≡◌, ◌≤◌, ◌==◌, ◌&&◌, ◌⊎◌, inl, inr, not, ℕ, Bool, true, false, if◌then◌else◌, Option, None, Some, List, All, filter, map, refl, ap, sym, ◌∙◌, arith, subst, eq-eqb}
 use Rattle.std.proofs.lemmas.Bool.{and_from, and_parts, and_right, eqb-true, false≢true, ltb-false}
 use Rattle.std.proofs.lemmas.List.Elements.{All-weaker}
-use Rattle.pfs_addr.proofs.SameLaws.{same_addr_self, same_addr_true}
-use Rattle.pfs_addr.specs.Packets.{Header}
-use Rattle.pfs_addr.specs.Sameness.{same_addr}
-use Rattle.pfs_addr.specs.declared.addresses.Addr.{Addr}
-use Rattle.pfs_conf_rules.specs.Configs.{Conf, options_of, scope_of}
-use Rattle.pfs_conf_rules.specs.declared.actions.Scope.{Scope}
-use Rattle.pfs_conf_rules.specs.declared.actions.Scope.TheVariants as scope
-use Rattle.pfs_track.specs.Counts.{node_scope_of, exceeded, is_connection, is_of_node, node_connections, node_scope_by}
-use Rattle.pfs_track.specs.Handshakes.{goes_with, hits_connections, stays_at_kill}
-use Rattle.pfs_track.specs.Touching.{completes_at, connections_in, goes_forward, renewed, stepped, touched}
-use Rattle.pfs_track.specs.Worlds.{World}
-use Rattle.pfs_track.specs.declared.records.NodeScope.{NodeScope}
-use Rattle.pfs_track.specs.declared.records.State.{State}
+use Rattle.pfs_addr_values.proofs.SameLaws.{same_addr_self, same_addr_true}
+use Rattle.pfs_addr_values.specs.Packets.{Header}
+use Rattle.pfs_addr_values.specs.Sameness.{same_addr}
+use Rattle.pfs_addr_values.specs.declared.addresses.Addr.{Addr}
+use Rattle.pfs_conf_values.specs.Configs.{Conf, options_of, scope_of}
+use Rattle.pfs_conf_values.specs.declared.actions.Scope.{Scope}
+use Rattle.pfs_conf_values.specs.declared.actions.Scope.TheVariants as scope
+use Rattle.pfs_store_contract.specs.Counts.{node_scope_of, exceeded, is_connection, is_of_node, node_connections, node_scope_by}
+use Rattle.pfs_store_contract.specs.Handshakes.{goes_with, hits_connections, stays_at_kill}
+use Rattle.pfs_store_contract.specs.Touching.{completes_at, connections_in, goes_forward, renewed, stepped, touched}
+use Rattle.pfs_store_contract.specs.Worlds.{World}
+use Rattle.pfs_store_contract.specs.declared.records.NodeScope.{NodeScope}
+use Rattle.pfs_store_contract.specs.declared.records.State.{State}
 use Rattle.pfs_track.specs.StatePhases.{is_done, phase_after}
 use Rattle.pfs_engine_machine.specs.Kept.{IsWithin, TracksAlone, own_scope}
 use Rattle.pfs_engine_machine.proofs.Changes.{count-map_at, count-stay_le}

@@ -3,17 +3,17 @@ use Rattle.std.proofs.Common.{◌≡◌, ℕ, ◌+◌, ◌<◌, ◌≤◌, Bool,
 use Rattle.std.specs.List.{AllByRecursion, list_any}
 use Rattle.std.proofs.lemmas.Bool.{false≢true}
 use Rattle.std.proofs.lemmas.Bool.Decides.{nat_tests}
-use Rattle.pfs_addr.specs.Packets.{Header}
-use Rattle.pfs_addr.specs.declared.addresses.Addr.{Addr}
-use Rattle.pfs_conf_rules.specs.Configs.{Conf, options_of}
-use Rattle.pfs_conf_rules.specs.declared.actions.Rate.{Rate}
-use Rattle.pfs_track.specs.Counts.{is_node, node_scope_of, node_states}
-use Rattle.pfs_track.specs.Leaving.{idled}
-use Rattle.pfs_track.specs.Purging.{is_among, node_numbers, state_numbers}
-use Rattle.pfs_track.specs.Touching.{nodes_scored, nodes_touched, renewed, rescored, stepped}
-use Rattle.pfs_track.specs.declared.records.Node.{Node}
-use Rattle.pfs_track.specs.declared.records.NodeScope.{NodeScope}
-use Rattle.pfs_track.specs.declared.records.State.{State}
+use Rattle.pfs_addr_values.specs.Packets.{Header}
+use Rattle.pfs_addr_values.specs.declared.addresses.Addr.{Addr}
+use Rattle.pfs_conf_values.specs.Configs.{Conf, options_of}
+use Rattle.pfs_conf_values.specs.declared.actions.Rate.{Rate}
+use Rattle.pfs_store_contract.specs.Counts.{is_node, node_scope_of, node_states}
+use Rattle.pfs_store_contract.specs.Leaving.{idled}
+use Rattle.pfs_store_contract.specs.Purging.{is_among, node_numbers, state_numbers}
+use Rattle.pfs_store_contract.specs.Touching.{nodes_scored, nodes_touched, renewed, rescored, stepped}
+use Rattle.pfs_store_contract.specs.declared.records.Node.{Node}
+use Rattle.pfs_store_contract.specs.declared.records.NodeScope.{NodeScope}
+use Rattle.pfs_store_contract.specs.declared.records.State.{State}
 use Rattle.pfs_track.specs.Scores.{score_after}
 
 -- ---- of whatever has numbers

@@ -5,24 +5,24 @@ use Rattle.std.specs.List.{range_with_len}
 use Rattle.std.specs.Prelude.{length, option_map, slice_get}
 use Rattle.std.proofs.lemmas.Bool.{false≢true}
 use Rattle.std.proofs.lemmas.Bool.Decides.{nat_tests}
-use Rattle.pfs_addr.proofs.SameLaws.{same_addr_self, same_addr_true}
-use Rattle.pfs_addr.specs.Keys.{key_of}
-use Rattle.pfs_addr.specs.Packets.{Header}
-use Rattle.pfs_addr.specs.Sameness.{same_addr}
-use Rattle.pfs_addr.specs.declared.addresses.Addr.{Addr}
-use Rattle.pfs_conf_rules.specs.Configs.{Conf, options_of, rate_seconds}
-use Rattle.pfs_conf_rules.specs.Invariants.{IsConfig}
-use Rattle.pfs_conf_rules.specs.declared.actions.Rate.{Rate}
-use Rattle.pfs_track.specs.Admission.{admitted, new_node, new_state, nodes_with}
-use Rattle.pfs_track.specs.Counts.{has_node, is_node, is_of_node, node_scope_of, node_states, same_scope}
-use Rattle.pfs_track.specs.Handshakes.{hits_connections, hits_rate, over_rate}
-use Rattle.pfs_track.specs.Leaving.{without}
-use Rattle.pfs_track.specs.Purging.{node_round, node_share, purge, state_round, state_share, state_slice, stays}
-use Rattle.pfs_track.specs.Touching.{completes_at, node_score, nodes_scored, nodes_touched, score_in, touched}
-use Rattle.pfs_track.specs.Worlds.{World, state_with}
-use Rattle.pfs_track.specs.declared.records.Node.{Node}
-use Rattle.pfs_track.specs.declared.records.NodeScope.{NodeScope}
-use Rattle.pfs_track.specs.declared.records.State.{State}
+use Rattle.pfs_addr_values.proofs.SameLaws.{same_addr_self, same_addr_true}
+use Rattle.pfs_addr_values.specs.Keys.{key_of}
+use Rattle.pfs_addr_values.specs.Packets.{Header}
+use Rattle.pfs_addr_values.specs.Sameness.{same_addr}
+use Rattle.pfs_addr_values.specs.declared.addresses.Addr.{Addr}
+use Rattle.pfs_conf_values.specs.Configs.{Conf, options_of, rate_seconds}
+use Rattle.pfs_conf_values.specs.Invariants.{IsConfig}
+use Rattle.pfs_conf_values.specs.declared.actions.Rate.{Rate}
+use Rattle.pfs_store_contract.specs.Admission.{admitted, new_node, new_state, nodes_with}
+use Rattle.pfs_store_contract.specs.Counts.{has_node, is_node, is_of_node, node_scope_of, node_states, same_scope}
+use Rattle.pfs_store_contract.specs.Handshakes.{hits_connections, hits_rate, over_rate}
+use Rattle.pfs_store_contract.specs.Leaving.{without}
+use Rattle.pfs_store_contract.specs.Purging.{node_round, node_share, purge, state_round, state_share, state_slice, stays}
+use Rattle.pfs_store_contract.specs.Touching.{completes_at, node_score, nodes_scored, nodes_touched, score_in, touched}
+use Rattle.pfs_store_contract.specs.Worlds.{World, state_with}
+use Rattle.pfs_store_contract.specs.declared.records.Node.{Node}
+use Rattle.pfs_store_contract.specs.declared.records.NodeScope.{NodeScope}
+use Rattle.pfs_store_contract.specs.declared.records.State.{State}
 use Rattle.pfs_track.specs.Scores.{score_after, zero_score}
 use Rattle.pfs_track.specs.declared.scores.Score.{Score}
 use Rattle.pfs_engine_machine.proofs.Counts.{any-push, count-filter_le, count-push}

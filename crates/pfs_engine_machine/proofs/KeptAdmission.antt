@@ -2,33 +2,33 @@
 use Rattle.std.proofs.Common.{◌≡◌, ◌∙◌, ◌+◌, ◌<◌, ◌≤◌, ◌==◌, ◌&&◌, nat_le, ℕ, Bool, true, false, Option, Some, None, IfSome, List, [], ◌∷◌, ◌++◌, All, length, length-append, if◌then◌else◌, refl, ap, sym, subst, arith}
 use Rattle.std.proofs.lemmas.Bool.Decides.{nat_tests}
 use Rattle.std.proofs.lemmas.List.Elements.{All-push, All-weaker}
-use Rattle.pfs_addr.proofs.SameLaws.{same_addr_self, same_addr_true}
-use Rattle.pfs_addr.specs.Packets.{Header}
-use Rattle.pfs_addr.specs.Sameness.{same_addr}
-use Rattle.pfs_addr.specs.declared.addresses.Addr.{Addr}
-use Rattle.pfs_addr.specs.declared.protocols.Proto.{Proto}
-use Rattle.pfs_addr.specs.declared.protocols.Proto.TheVariants as proto
-use Rattle.pfs_conf_rules.proofs.RuleLaws.{options_of-AreOptions}
-use Rattle.pfs_conf_rules.specs.Configs.{Conf, limit_of, options_of, scope_of}
-use Rattle.pfs_conf_rules.specs.Invariants.{IsConfig}
-use Rattle.pfs_conf_rules.specs.LoadRules.{IsCount}
-use Rattle.pfs_conf_rules.specs.declared.actions.Scope.{Scope}
-use Rattle.pfs_conf_rules.specs.declared.actions.Scope.TheVariants as scope
-use Rattle.pfs_conf_rules.specs.declared.actions.StateOptions.{StateOptions}
-use Rattle.pfs_conf_rules.specs.declared.limits.LimitName.TheVariants as limit_name
-use Rattle.pfs_track.proofs.LimitLaws.{met_in_turn}
-use Rattle.pfs_track.proofs.MomentLaws.{world_at-up_to_now}
-use Rattle.pfs_track.specs.Admission.{admitted, limit_met, new_node, new_state, nodes_with}
-use Rattle.pfs_track.specs.Calls.{packet_limit}
-use Rattle.pfs_track.specs.SourceLimits.{first_of, held_node_limit, new_node_limit, source_limit}
-use Rattle.pfs_track.specs.Counts.{has_node, is_connection, is_node, is_of_node, is_of_rule, node_connections, node_scope_by, node_scope_of, node_states, reached, rule_states, same_scope, scope_nodes}
-use Rattle.pfs_track.specs.Worlds.{World}
-use Rattle.pfs_track.specs.declared.records.Limit.{Limit}
-use Rattle.pfs_track.specs.declared.records.Limit.TheVariants as limit
-use Rattle.pfs_track.specs.declared.records.Node.{Node}
-use Rattle.pfs_track.specs.declared.records.NodeScope.{NodeScope}
-use Rattle.pfs_track.specs.declared.records.NodeScope.TheVariants as node_scope
-use Rattle.pfs_track.specs.declared.records.State.{State}
+use Rattle.pfs_addr_values.proofs.SameLaws.{same_addr_self, same_addr_true}
+use Rattle.pfs_addr_values.specs.Packets.{Header}
+use Rattle.pfs_addr_values.specs.Sameness.{same_addr}
+use Rattle.pfs_addr_values.specs.declared.addresses.Addr.{Addr}
+use Rattle.pfs_addr_values.specs.declared.protocols.Proto.{Proto}
+use Rattle.pfs_addr_values.specs.declared.protocols.Proto.TheVariants as proto
+use Rattle.pfs_conf_values.proofs.RuleLaws.{options_of-AreOptions}
+use Rattle.pfs_conf_values.specs.Configs.{Conf, limit_of, options_of, scope_of}
+use Rattle.pfs_conf_values.specs.Invariants.{IsConfig}
+use Rattle.pfs_conf_values.specs.LoadRules.{IsCount}
+use Rattle.pfs_conf_values.specs.declared.actions.Scope.{Scope}
+use Rattle.pfs_conf_values.specs.declared.actions.Scope.TheVariants as scope
+use Rattle.pfs_conf_values.specs.declared.actions.StateOptions.{StateOptions}
+use Rattle.pfs_conf_values.specs.declared.limits.LimitName.TheVariants as limit_name
+use Rattle.pfs_store_contract.proofs.LimitLaws.{met_in_turn}
+use Rattle.pfs_store_contract.proofs.MomentLaws.{world_at-up_to_now}
+use Rattle.pfs_store_contract.specs.Admission.{admitted, limit_met, new_node, new_state, nodes_with}
+use Rattle.pfs_store_contract.specs.Calls.{packet_limit}
+use Rattle.pfs_store_contract.specs.SourceLimits.{first_of, held_node_limit, new_node_limit, source_limit}
+use Rattle.pfs_store_contract.specs.Counts.{has_node, is_connection, is_node, is_of_node, is_of_rule, node_connections, node_scope_by, node_scope_of, node_states, reached, rule_states, same_scope, scope_nodes}
+use Rattle.pfs_store_contract.specs.Worlds.{World}
+use Rattle.pfs_store_contract.specs.declared.records.Limit.{Limit}
+use Rattle.pfs_store_contract.specs.declared.records.Limit.TheVariants as limit
+use Rattle.pfs_store_contract.specs.declared.records.Node.{Node}
+use Rattle.pfs_store_contract.specs.declared.records.NodeScope.{NodeScope}
+use Rattle.pfs_store_contract.specs.declared.records.NodeScope.TheVariants as node_scope
+use Rattle.pfs_store_contract.specs.declared.records.State.{State}
 use Rattle.pfs_track.specs.StatePhases.{first_phase, is_done}
 use Rattle.pfs_engine_machine.proofs.Counts.{any-push, count-push_failing, count-push_le, count-push_passing}
 use Rattle.pfs_engine_machine.proofs.Scopes.{IsScopeOf, and_left, and_right, global-IsScopeOf, none_without_node, own_scope-IsScopeOf, same_scope_self, same_scope_true, scope-alone, scope-shared}

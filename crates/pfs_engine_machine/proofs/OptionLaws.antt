@@ -1,12 +1,12 @@
 -- What follows where an option is there.
 use Rattle.std.proofs.Common.{◌≡◌, ℕ, Option, None, Some, Ok, Err, IfSome, ap, refl, subst, unwrap_or}
 use Rattle.std.specs.Option.{ForSome}
-use Rattle.pfs_conf_rules.specs.Configs.{Conf, no_options, options_at, options_of}
-use Rattle.pfs_conf_rules.specs.declared.actions.StateOptions.{StateOptions}
-use Rattle.pfs_track.specs.Calls.{answer_at}
-use Rattle.pfs_track.specs.Worlds.{World}
-use Rattle.pfs_track.specs.declared.records.Limit.{Limit}
-use Rattle.pfs_track.specs.declared.records.StateNo.{StateNo}
+use Rattle.pfs_conf_values.specs.Configs.{Conf, no_options, options_at, options_of}
+use Rattle.pfs_conf_values.specs.declared.actions.StateOptions.{StateOptions}
+use Rattle.pfs_store_contract.specs.Calls.{answer_at}
+use Rattle.pfs_store_contract.specs.Worlds.{World}
+use Rattle.pfs_store_contract.specs.declared.records.Limit.{Limit}
+use Rattle.pfs_store_contract.specs.declared.records.StateNo.{StateNo}
 
 pub some_of : {A : Type 0} (P : A → Type 0) (o : Option A) → IfSome o P → ForSome o P
 some_of P None h = λ x e. cc

@@ -1,15 +1,15 @@
 -- What a packet may do to what is held: nothing, make a state, renew one, and kill some.
 use Rattle.std.proofs.Common.{◌≡◌, ◌∙◌, ◌&&◌, ◌||◌, ℕ, Bool, true, false, if◌then◌else◌, Option, Some, None, refl, subst, sym}
-use Rattle.pfs_addr.specs.Keys.{key_of}
-use Rattle.pfs_addr.specs.Packets.{Header}
-use Rattle.pfs_conf_rules.specs.Configs.{Conf, options_of}
-use Rattle.pfs_track.specs.Admission.{admitted}
-use Rattle.pfs_track.specs.Calls.{packet_limit}
-use Rattle.pfs_track.specs.Handshakes.{stays_at_kill, flush_of, hits_connections, hits_rate}
-use Rattle.pfs_track.specs.Leaving.{without}
-use Rattle.pfs_track.specs.Touching.{completes_at, touched}
-use Rattle.pfs_track.specs.Worlds.{World, state_with}
-use Rattle.pfs_track.specs.declared.records.State.{State}
+use Rattle.pfs_addr_values.specs.Keys.{key_of}
+use Rattle.pfs_addr_values.specs.Packets.{Header}
+use Rattle.pfs_conf_values.specs.Configs.{Conf, options_of}
+use Rattle.pfs_store_contract.specs.Admission.{admitted}
+use Rattle.pfs_store_contract.specs.Calls.{packet_limit}
+use Rattle.pfs_store_contract.specs.Handshakes.{stays_at_kill, flush_of, hits_connections, hits_rate}
+use Rattle.pfs_store_contract.specs.Leaving.{without}
+use Rattle.pfs_store_contract.specs.Touching.{completes_at, touched}
+use Rattle.pfs_store_contract.specs.Worlds.{World, state_with}
+use Rattle.pfs_store_contract.specs.declared.records.State.{State}
 use Rattle.pfs_engine_machine.proofs.Answering as answering
 use Rattle.pfs_engine_machine.specs.Machine.{Held, answered, killed, by_state, by_handshake, held_of}
 use Rattle.pfs_engine_machine.specs.declared.events.Outcome.{Outcome}

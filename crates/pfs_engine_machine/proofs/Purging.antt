@@ -2,14 +2,14 @@
 use Rattle.std.proofs.Common.{◌≡◌, ◌≤◌, ◌<◌, ◌+◌, ◌-◌, ℕ, zero, suc, List, [], ◌∷◌, length, take, map, max, refl, ap, ◌∙◌, sym, arith}
 use Rattle.std.specs.List.{range_with_len}
 use Rattle.std.proofs.Math.Seq.{take-nil, drop-nil}
-use Rattle.pfs_conf_rules.specs.Configs.{Conf}
-use Rattle.pfs_track.specs.Leaving.{idled}
-use Rattle.pfs_track.specs.Purging.{node_numbers, node_share, node_slice, purge, round, state_numbers, state_share, state_slice}
-use Rattle.pfs_track.specs.Calls.{node_slice_of, state_slice_of}
-use Rattle.pfs_track.specs.Worlds.{World, lists}
-use Rattle.pfs_track.specs.declared.records.Node.{Node}
-use Rattle.pfs_track.specs.declared.records.Slice.{Slice}
-use Rattle.pfs_track.specs.declared.records.State.{State}
+use Rattle.pfs_conf_values.specs.Configs.{Conf}
+use Rattle.pfs_store_contract.specs.Leaving.{idled}
+use Rattle.pfs_store_contract.specs.Purging.{node_numbers, node_share, node_slice, purge, round, state_numbers, state_share, state_slice}
+use Rattle.pfs_store_contract.specs.Calls.{node_slice_of, state_slice_of}
+use Rattle.pfs_store_contract.specs.Worlds.{World, lists}
+use Rattle.pfs_store_contract.specs.declared.records.Node.{Node}
+use Rattle.pfs_store_contract.specs.declared.records.Slice.{Slice}
+use Rattle.pfs_store_contract.specs.declared.records.State.{State}
 use Rattle.pfs_engine_machine.specs.Machine.{purged}
 use Rattle.pfs_engine_machine.specs.Shares.{seconds, most_nodes, most_states}
 

@@ -3,15 +3,15 @@ use Rattle.std.proofs.Common.{◌≡◌, ◌≤◌, ◌<◌, ◌+◌, ◌-◌, �
 use Rattle.std.specs.List.{AllByRecursion}
 use Rattle.std.proofs.lemmas.Bool.Decides.{nat_tests}
 use Rattle.std.proofs.lemmas.List.Sums.{count_by-le-length, length-filter}
-use Rattle.pfs_conf_rules.specs.Configs.{Conf}
-use Rattle.pfs_track.specs.Counts.{node_states}
-use Rattle.pfs_track.specs.Leaving.{idled}
-use Rattle.pfs_track.specs.Purging.{has_expired, is_among, is_over, node_numbers, node_retention, node_round, node_share, node_slice, node_stays, purge, round, state_numbers, state_round, state_share, state_slice, stays}
-use Rattle.pfs_track.specs.Calls.{node_slice_of, state_slice_of}
-use Rattle.pfs_track.specs.Quiet.{NodeStays, StateStays, moved}
-use Rattle.pfs_track.specs.Worlds.{World, lists}
-use Rattle.pfs_track.specs.declared.records.Node.{Node}
-use Rattle.pfs_track.specs.declared.records.State.{State}
+use Rattle.pfs_conf_values.specs.Configs.{Conf}
+use Rattle.pfs_store_contract.specs.Counts.{node_states}
+use Rattle.pfs_store_contract.specs.Leaving.{idled}
+use Rattle.pfs_store_contract.specs.Purging.{has_expired, is_among, is_over, node_numbers, node_retention, node_round, node_share, node_slice, node_stays, purge, round, state_numbers, state_round, state_share, state_slice, stays}
+use Rattle.pfs_store_contract.specs.Calls.{node_slice_of, state_slice_of}
+use Rattle.pfs_store_contract.specs.Quiet.{NodeStays, StateStays, moved}
+use Rattle.pfs_store_contract.specs.Worlds.{World, lists}
+use Rattle.pfs_store_contract.specs.declared.records.Node.{Node}
+use Rattle.pfs_store_contract.specs.declared.records.State.{State}
 use Rattle.pfs_engine_machine.specs.Machine.{purged}
 use Rattle.pfs_engine_machine.specs.Shares.{seconds, most_nodes, most_states}
 use Rattle.pfs_engine_machine.specs.Quiet.{IsQuietUntil, IsSeen}

@@ -1,12 +1,12 @@
 -- What a packet changes of its state: the phase, which stays one of its protocol, and the moment.
 use Rattle.std.proofs.Common.{◌≡◌, ◌||◌, ◌==◌, ℕ, Bool, true, false, if◌then◌else◌, refl, ap, ◌∙◌}
 use Rattle.std.proofs.Math.Bool.{or-false}
-use Rattle.pfs_addr.specs.Packets.{Header}
-use Rattle.pfs_addr.specs.declared.flag_sets.Flags.{Flags}
-use Rattle.pfs_addr.specs.declared.protocols.Proto.{Proto}
-use Rattle.pfs_addr.specs.declared.protocols.Proto.TheVariants as proto
-use Rattle.pfs_track.specs.Touching.{goes_forward, renewed, stepped}
-use Rattle.pfs_track.specs.declared.records.State.{State}
+use Rattle.pfs_addr_values.specs.Packets.{Header}
+use Rattle.pfs_addr_values.specs.declared.flag_sets.Flags.{Flags}
+use Rattle.pfs_addr_values.specs.declared.protocols.Proto.{Proto}
+use Rattle.pfs_addr_values.specs.declared.protocols.Proto.TheVariants as proto
+use Rattle.pfs_store_contract.specs.Touching.{goes_forward, renewed, stepped}
+use Rattle.pfs_store_contract.specs.declared.records.State.{State}
 use Rattle.pfs_track.specs.StatePhases.{completes, is_done, phase_after}
 use Rattle.pfs_track.specs.declared.state_phases.StatePhase.{StatePhase}
 use Rattle.pfs_track.specs.declared.state_phases.StatePhase.TheVariants as phase

@@ -5,7 +5,7 @@ use Rattle.std.proofs.lemmas.Bool.{false≢true}
 use Rattle.std.proofs.lemmas.Bool.Decides.{nat_tests}
 use Rattle.std.proofs.lemmas.List.Folds.{list_any-append}
 use Rattle.std.proofs.lemmas.List.{take_all}
-use Rattle.pfs_track.specs.Purging.{is_among, round, share}
+use Rattle.pfs_store_contract.specs.Purging.{is_among, round, share}
 
 -- ---- numbers among a list
 

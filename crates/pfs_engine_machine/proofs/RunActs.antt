@@ -1,7 +1,7 @@
 -- A run of events is the run of its acts.
 use Rattle.std.proofs.Common.{◌≡◌, ℕ, List, [], ◌∷◌, ◌++◌, map, refl, sym, ◌∙◌, Some}
-use Rattle.pfs_conf_rules.specs.Configs.{Conf}
-use Rattle.pfs_track.specs.Purging.{purge}
+use Rattle.pfs_conf_values.specs.Configs.{Conf}
+use Rattle.pfs_store_contract.specs.Purging.{purge}
 use Rattle.pfs_engine_machine.specs.Machine.{Held, Machine, handled, advanced, due, first_by, held_of, purged, step, machine_after}
 use Rattle.pfs_engine_machine.specs.declared.events.Event.{Event}
 use Rattle.pfs_engine_machine.specs.declared.events.What.{What}

@@ -1,7 +1,7 @@
 -- A run with one event more.
 use Rattle.std.proofs.Common.{arith, ◌≡◌, ℕ, ◌+◌, ◌<◌, List, [], ◌∷◌, ◌++◌, length, take, drop, get_or, Option, Some, refl, ap, ◌∙◌, sym, append_assoc, add-one, drop-cons, subst}
 use Rattle.std.proofs.lemmas.List.{append-nil, take_more}
-use Rattle.pfs_conf_rules.specs.Configs.{Conf}
+use Rattle.pfs_conf_values.specs.Configs.{Conf}
 use Rattle.pfs_engine_machine.specs.declared.events.Event.{Event}
 use Rattle.pfs_engine_machine.specs.declared.events.Outcome.{Outcome}
 use Rattle.pfs_engine_machine.specs.Machine.{Machine, step, machine_after, outcomes_of}

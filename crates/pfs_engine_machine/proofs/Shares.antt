@@ -1,9 +1,9 @@
 -- No slice examines more than its share.
 use Rattle.std.proofs.Common.{◌≤◌, ℕ, List, [], ◌∷◌, arith}
 use Rattle.std.proofs.lemmas.List.{length-take}
-use Rattle.pfs_conf_rules.specs.Configs.{Conf}
-use Rattle.pfs_track.specs.Purging.{node_round, node_share, purge, state_round, state_share, state_slice}
-use Rattle.pfs_track.specs.Worlds.{World}
+use Rattle.pfs_conf_values.specs.Configs.{Conf}
+use Rattle.pfs_store_contract.specs.Purging.{node_round, node_share, purge, state_round, state_share, state_slice}
+use Rattle.pfs_store_contract.specs.Worlds.{World}
 use Rattle.pfs_engine_machine.specs.Shares.{most_nodes, most_states}
 
 pub most_states-share : (conf : Conf) (w : World) (ss : List ℕ) → most_states conf w ss ≤ state_share conf

@@ -3,25 +3,25 @@ use Rattle.std.proofs.Common.{◌≡◌, ℕ, ◌+◌, ◌≤◌, Bool, true, fa
 use Rattle.std.proofs.lemmas.Bool.{false≢true}
 use Rattle.std.proofs.lemmas.Bool.Decides.{nat_tests}
 use Rattle.std.proofs.lemmas.List.{length-map}
-use Rattle.pfs_addr.specs.Packets.{Header}
-use Rattle.pfs_addr.specs.declared.addresses.Addr.{Addr}
-use Rattle.pfs_conf_rules.specs.Configs.{Conf, limit_of, options_of}
-use Rattle.pfs_conf_rules.specs.declared.actions.Rate.{Rate}
-use Rattle.pfs_conf_rules.specs.declared.limits.LimitName.TheVariants as limit_name
-use Rattle.pfs_track.proofs.LimitLaws.{met_in_turn}
-use Rattle.pfs_track.specs.Admission.{admitted, new_node, new_state, nodes_with}
-use Rattle.pfs_track.specs.Calls.{packet_limit}
-use Rattle.pfs_track.specs.SourceLimits.{first_of, held_node_limit, new_node_limit, source_limit}
-use Rattle.pfs_track.specs.Counts.{has_node, node_scope_of, reached, rule_states, scope_nodes}
-use Rattle.pfs_track.specs.Leaving.{idled, left, without}
-use Rattle.pfs_track.specs.Purging.{is_among, node_numbers, node_round, node_share, node_slice, node_stays, round, state_numbers, state_round, state_share, state_slice, stays}
-use Rattle.pfs_track.specs.Touching.{completes_at, nodes_scored, nodes_touched, renewed, rescored, touched}
-use Rattle.pfs_track.specs.Worlds.{World, empty_world, holds_number}
-use Rattle.pfs_track.specs.declared.records.Limit.{Limit}
-use Rattle.pfs_track.specs.declared.records.Limit.TheVariants as limit
-use Rattle.pfs_track.specs.declared.records.Node.{Node}
-use Rattle.pfs_track.specs.declared.records.NodeScope.{NodeScope}
-use Rattle.pfs_track.specs.declared.records.State.{State}
+use Rattle.pfs_addr_values.specs.Packets.{Header}
+use Rattle.pfs_addr_values.specs.declared.addresses.Addr.{Addr}
+use Rattle.pfs_conf_values.specs.Configs.{Conf, limit_of, options_of}
+use Rattle.pfs_conf_values.specs.declared.actions.Rate.{Rate}
+use Rattle.pfs_conf_values.specs.declared.limits.LimitName.TheVariants as limit_name
+use Rattle.pfs_store_contract.proofs.LimitLaws.{met_in_turn}
+use Rattle.pfs_store_contract.specs.Admission.{admitted, new_node, new_state, nodes_with}
+use Rattle.pfs_store_contract.specs.Calls.{packet_limit}
+use Rattle.pfs_store_contract.specs.SourceLimits.{first_of, held_node_limit, new_node_limit, source_limit}
+use Rattle.pfs_store_contract.specs.Counts.{has_node, node_scope_of, reached, rule_states, scope_nodes}
+use Rattle.pfs_store_contract.specs.Leaving.{idled, left, without}
+use Rattle.pfs_store_contract.specs.Purging.{is_among, node_numbers, node_round, node_share, node_slice, node_stays, round, state_numbers, state_round, state_share, state_slice, stays}
+use Rattle.pfs_store_contract.specs.Touching.{completes_at, nodes_scored, nodes_touched, renewed, rescored, touched}
+use Rattle.pfs_store_contract.specs.Worlds.{World, empty_world, holds_number}
+use Rattle.pfs_store_contract.specs.declared.records.Limit.{Limit}
+use Rattle.pfs_store_contract.specs.declared.records.Limit.TheVariants as limit
+use Rattle.pfs_store_contract.specs.declared.records.Node.{Node}
+use Rattle.pfs_store_contract.specs.declared.records.NodeScope.{NodeScope}
+use Rattle.pfs_store_contract.specs.declared.records.State.{State}
 use Rattle.pfs_engine_machine.specs.Machine.{Held}
 use Rattle.pfs_engine_machine.proofs.PacketChanges.{answered_keeps}
 use Rattle.pfs_engine_machine.proofs.HeldNumbers.{among-same, made-more, numbers-idled, numbers-renewed, numbers-touched, was}

@@ -4,19 +4,19 @@ use Rattle.std.specs.List.{All, AllByRecursion}
 use Rattle.std.proofs.lemmas.Bool.{false≢true}
 use Rattle.std.proofs.lemmas.List.{length-map}
 use Rattle.std.proofs.lemmas.List.Elements.{recursion_from_All}
-use Rattle.pfs_addr.specs.declared.addresses.Addr.{Addr}
-use Rattle.pfs_conf_rules.specs.Configs.{Conf, timeout_of}
-use Rattle.pfs_conf_rules.specs.Invariants.{IsConfig}
-use Rattle.pfs_conf_rules.specs.declared.timeouts.TimeoutName.TheVariants as timeout
-use Rattle.pfs_track.specs.Admission.{new_node, new_state, nodes_with}
-use Rattle.pfs_track.specs.Counts.{has_node, node_scope_of}
-use Rattle.pfs_track.specs.Leaving.{left}
-use Rattle.pfs_track.specs.Purging.{has_expired, is_among, is_over, node_numbers, node_share, purge, round, share, state_numbers, state_share, state_slice}
-use Rattle.pfs_track.specs.Touching.{completes_at}
-use Rattle.pfs_track.specs.Worlds.{World, holds_number}
-use Rattle.pfs_track.specs.declared.records.Node.{Node}
-use Rattle.pfs_track.specs.declared.records.NodeScope.{NodeScope}
-use Rattle.pfs_track.specs.declared.records.State.{State}
+use Rattle.pfs_addr_values.specs.declared.addresses.Addr.{Addr}
+use Rattle.pfs_conf_values.specs.Configs.{Conf, timeout_of}
+use Rattle.pfs_conf_values.specs.Invariants.{IsConfig}
+use Rattle.pfs_conf_values.specs.declared.timeouts.TimeoutName.TheVariants as timeout
+use Rattle.pfs_store_contract.specs.Admission.{new_node, new_state, nodes_with}
+use Rattle.pfs_store_contract.specs.Counts.{has_node, node_scope_of}
+use Rattle.pfs_store_contract.specs.Leaving.{left}
+use Rattle.pfs_store_contract.specs.Purging.{has_expired, is_among, is_over, node_numbers, node_share, purge, round, share, state_numbers, state_share, state_slice}
+use Rattle.pfs_store_contract.specs.Touching.{completes_at}
+use Rattle.pfs_store_contract.specs.Worlds.{World, holds_number}
+use Rattle.pfs_store_contract.specs.declared.records.Node.{Node}
+use Rattle.pfs_store_contract.specs.declared.records.NodeScope.{NodeScope}
+use Rattle.pfs_store_contract.specs.declared.records.State.{State}
 use Rattle.pfs_engine_machine.specs.Machine.{Held, start}
 use Rattle.pfs_engine_machine.specs.declared.events.Event.{Event}
 use Rattle.pfs_engine_machine.proofs.PacketChanges.{IsKeptByPackets, answered_keeps}

@@ -1,8 +1,8 @@
 -- What is held stays within the limits through the acts of a run whose moments do not fall.
 use Rattle.std.proofs.Common.{◌≤◌, ℕ, Option, Some, None, List, [], ◌∷◌, ◌++◌, map, arith, refl, subst}
 use Rattle.std.specs.Option.{ForSome}
-use Rattle.pfs_conf_rules.specs.Configs.{Conf}
-use Rattle.pfs_conf_rules.specs.Invariants.{IsConfig}
+use Rattle.pfs_conf_values.specs.Configs.{Conf}
+use Rattle.pfs_conf_values.specs.Invariants.{IsConfig}
 use Rattle.pfs_engine_machine.proofs.KeptPackets.{kept_answered}
 use Rattle.pfs_engine_machine.proofs.KeptTime.{kept_expired, kept_later, kept_purge, kept_start}
 use Rattle.pfs_engine_machine.specs.Kept.{IsKept, IsWithinLimits, moment_of}

@@ -1,6 +1,6 @@
 -- A run taken apart, by computation: a purge for each whole second after the first event, before what comes then.
 use Rattle.std.proofs.Common.{◌≡◌, ℕ, List, [], ◌∷◌, None, refl}
-use Rattle.pfs_addr.specs.Packets.{Header}
+use Rattle.pfs_addr_values.specs.Packets.{Header}
 use Rattle.pfs_engine_machine.specs.declared.events.Event.{Event}
 use Rattle.pfs_engine_machine.specs.declared.events.What.{What}
 use Rattle.pfs_engine_machine.specs.declared.events.What.TheVariants as what

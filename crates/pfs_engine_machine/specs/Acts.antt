@@ -1,8 +1,8 @@
 -- A run as the single things that happen in it, one after another. (own)
 use Rattle.std.specs.Prelude.{◌≡◌, ℕ, suc, Option, Some, None, List, [], ◌∷◌, ◌++◌, map}
-use Rattle.pfs_addr.specs.Packets.{Header}
-use Rattle.pfs_conf_rules.specs.Configs.{Conf}
-use Rattle.pfs_track.specs.Purging.{purge}
+use Rattle.pfs_addr_values.specs.Packets.{Header}
+use Rattle.pfs_conf_values.specs.Configs.{Conf}
+use Rattle.pfs_store_contract.specs.Purging.{purge}
 use Rattle.pfs_engine_machine.specs.Kept.{IsWithinLimits}
 use Rattle.pfs_engine_machine.specs.Machine.{Held, answered, due, expired, first_by, held_of, start}
 use Rattle.pfs_engine_machine.specs.declared.events.Event.{Event}

@@ -1,28 +1,28 @@
 -- The machine: what is held, what one event does to it, and a run of events. (pf.conf(5), STATEFUL FILTERING and STATEFUL TRACKING OPTIONS)
 use Rattle.std.specs.Prelude.{ℕ, ◌+◌, ◌-◌, ◌&&◌, ◌||◌, Bool, if◌then◌else◌, Option, Some, None, List, [], ◌∷◌, length, filter, unwrap_or}
 use Rattle.std.specs.List.{range_with_len}
-use Rattle.pfs_addr.specs.Keys.{key_of}
-use Rattle.pfs_addr.specs.Packets.{Header}
-use Rattle.pfs_addr.specs.declared.addresses.Addr.{Addr}
+use Rattle.pfs_addr_values.specs.Keys.{key_of}
+use Rattle.pfs_addr_values.specs.Packets.{Header}
+use Rattle.pfs_addr_values.specs.declared.addresses.Addr.{Addr}
 use Rattle.pfs_eval.specs.Entries.{Entry}
 use Rattle.pfs_eval.specs.Matching.{matches_item}
 use Rattle.pfs_eval.specs.Tables.{added_to, config_entries, entries_after, entries_expired, entry_count, expired_count}
 use Rattle.pfs_eval.specs.Verdict.{verdict}
 use Rattle.pfs_eval.specs.declared.tables.Added.{Added}
-use Rattle.pfs_conf_rules.specs.Configs.{Conf, limit_of, options_of, rule_of}
-use Rattle.pfs_conf_rules.specs.declared.actions.Action.{Action}
-use Rattle.pfs_conf_rules.specs.declared.actions.Action.TheVariants as action
-use Rattle.pfs_conf_rules.specs.declared.actions.Overload.{Overload}
-use Rattle.pfs_conf_rules.specs.declared.items.RuleNo.{RuleNo}
-use Rattle.pfs_conf_rules.specs.declared.limits.LimitName.TheVariants as limit_name
-use Rattle.pfs_track.specs.Admission.{admitted, limit_met}
-use Rattle.pfs_track.specs.Handshakes.{flush_of, goes_with, hits_connections, hits_rate, stays_at_kill}
-use Rattle.pfs_track.specs.Leaving.{without}
-use Rattle.pfs_track.specs.Purging.{purge}
-use Rattle.pfs_track.specs.Touching.{completes_at, touched}
-use Rattle.pfs_track.specs.Worlds.{World, empty_world, state_with}
-use Rattle.pfs_track.specs.declared.records.Limit.{Limit}
-use Rattle.pfs_track.specs.declared.records.State.{State}
+use Rattle.pfs_conf_values.specs.Configs.{Conf, limit_of, options_of, rule_of}
+use Rattle.pfs_conf_values.specs.declared.actions.Action.{Action}
+use Rattle.pfs_conf_values.specs.declared.actions.Action.TheVariants as action
+use Rattle.pfs_conf_values.specs.declared.actions.Overload.{Overload}
+use Rattle.pfs_conf_values.specs.declared.items.RuleNo.{RuleNo}
+use Rattle.pfs_conf_values.specs.declared.limits.LimitName.TheVariants as limit_name
+use Rattle.pfs_store_contract.specs.Admission.{admitted, limit_met}
+use Rattle.pfs_store_contract.specs.Handshakes.{flush_of, goes_with, hits_connections, hits_rate, stays_at_kill}
+use Rattle.pfs_store_contract.specs.Leaving.{without}
+use Rattle.pfs_store_contract.specs.Purging.{purge}
+use Rattle.pfs_store_contract.specs.Touching.{completes_at, touched}
+use Rattle.pfs_store_contract.specs.Worlds.{World, empty_world, state_with}
+use Rattle.pfs_store_contract.specs.declared.records.Limit.{Limit}
+use Rattle.pfs_store_contract.specs.declared.records.State.{State}
 use Rattle.pfs_engine_machine.specs.declared.events.Event.{Event}
 use Rattle.pfs_engine_machine.specs.declared.events.Outcome.{Outcome}
 use Rattle.pfs_engine_machine.specs.declared.events.Outcome.TheVariants as outcome

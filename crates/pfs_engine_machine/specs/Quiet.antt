@@ -1,9 +1,9 @@
 -- What is known of the seconds to come, so that they need not be done one by one. (own)
 use Rattle.std.specs.Prelude.{ℕ, ◌≤◌, List, length, min}
 use Rattle.std.specs.List.{AllByRecursion}
-use Rattle.pfs_conf_rules.specs.Configs.{Conf}
-use Rattle.pfs_track.specs.Quiet.{NodeStays, StateStays}
-use Rattle.pfs_track.specs.Worlds.{World}
+use Rattle.pfs_conf_values.specs.Configs.{Conf}
+use Rattle.pfs_store_contract.specs.Quiet.{NodeStays, StateStays}
+use Rattle.pfs_store_contract.specs.Worlds.{World}
 
 -- nothing leaves before this moment
 pub record IsQuietUntil (conf : Conf) (w : World) (until : ℕ) : Type 0 where

@@ -1,12 +1,12 @@
 -- A rate counts every handshake of its source, however often the source's node was purged. (own; pf.conf(5), STATEFUL TRACKING
 -- OPTIONS, "max-src-conn-rate")
 use Rattle.std.specs.Prelude.{◌≡◌, ℕ, ◌*◌, nat_lt, length, option_map, slice_get, Bool, false, Some, List, [], ◌∷◌, ◌++◌}
-use Rattle.pfs_conf_rules.specs.Configs.{Conf, options_of}
-use Rattle.pfs_conf_rules.specs.declared.actions.Rate.{Rate}
-use Rattle.pfs_track.specs.Counts.{node_scope_of}
-use Rattle.pfs_track.specs.Touching.{score_in, touched}
-use Rattle.pfs_track.specs.Worlds.{World}
-use Rattle.pfs_track.specs.declared.records.State.{State}
+use Rattle.pfs_conf_values.specs.Configs.{Conf, options_of}
+use Rattle.pfs_conf_values.specs.declared.actions.Rate.{Rate}
+use Rattle.pfs_store_contract.specs.Counts.{node_scope_of}
+use Rattle.pfs_store_contract.specs.Touching.{score_in, touched}
+use Rattle.pfs_store_contract.specs.Worlds.{World}
+use Rattle.pfs_store_contract.specs.declared.records.State.{State}
 use Rattle.pfs_track.specs.Scores.{zero_score}
 use Rattle.pfs_track.specs.declared.scores.Score.{Score}
 use Rattle.pfs_engine_machine.specs.Machine.{advanced, start, machine_after, outcomes_of}

@@ -1,14 +1,14 @@
 -- The rate of a source by the whole history of its handshakes, in which no source node occurs. (pf.conf(5), STATEFUL TRACKING
 -- OPTIONS, "max-src-conn-rate"; the score is own)
 use Rattle.std.specs.Prelude.{ℕ, ◌==◌, ◌&&◌, Bool, if◌then◌else◌, Option, Some, None, List, [], ◌∷◌, filter, map}
-use Rattle.pfs_addr.specs.Keys.{key_of}
-use Rattle.pfs_addr.specs.Packets.{Header}
-use Rattle.pfs_addr.specs.Sameness.{same_addr}
-use Rattle.pfs_addr.specs.declared.addresses.Addr.{Addr}
-use Rattle.pfs_conf_rules.specs.Configs.{Conf, options_of, rate_seconds}
-use Rattle.pfs_track.specs.Touching.{completes_at}
-use Rattle.pfs_track.specs.Worlds.{World, state_with}
-use Rattle.pfs_track.specs.declared.records.State.{State}
+use Rattle.pfs_addr_values.specs.Keys.{key_of}
+use Rattle.pfs_addr_values.specs.Packets.{Header}
+use Rattle.pfs_addr_values.specs.Sameness.{same_addr}
+use Rattle.pfs_addr_values.specs.declared.addresses.Addr.{Addr}
+use Rattle.pfs_conf_values.specs.Configs.{Conf, options_of, rate_seconds}
+use Rattle.pfs_store_contract.specs.Touching.{completes_at}
+use Rattle.pfs_store_contract.specs.Worlds.{World, state_with}
+use Rattle.pfs_store_contract.specs.declared.records.State.{State}
 use Rattle.pfs_track.specs.Scores.{score_after, zero_score}
 use Rattle.pfs_track.specs.declared.scores.Score.{Score}
 use Rattle.pfs_engine_machine.specs.declared.events.Event.{Event}

@@ -1,8 +1,8 @@
 -- What may come in a run of events, and where a run stops.
 use Rattle.std.specs.Prelude.{ℕ, ◌+◌, ◌≡◌, ◌≤◌, ◌<◌, ◌^◌, ◌⊎◌, false, Option, Some, List, [], ◌∷◌, ◌++◌, length, take, slice_get}
 use Rattle.std.specs.Option.{ForSome}
-use Rattle.pfs_addr.specs.Packets.{Header}
-use Rattle.pfs_conf_rules.specs.Configs.{Conf, is_const_table}
+use Rattle.pfs_addr_values.specs.Packets.{Header}
+use Rattle.pfs_conf_values.specs.Configs.{Conf, is_const_table}
 use Rattle.pfs_engine_machine.specs.declared.events.Event.{Event}
 use Rattle.pfs_engine_machine.specs.declared.events.Outcome.{Outcome}
 use Rattle.pfs_engine_machine.specs.declared.events.What.{What}

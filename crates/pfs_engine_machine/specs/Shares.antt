@@ -1,10 +1,10 @@
 -- The seconds of a jump, and the fullest slices of them. (own)
 use Rattle.std.specs.Prelude.{ℕ, ◌+◌, ◌-◌, max, List, [], ◌∷◌}
 use Rattle.std.specs.List.{range_with_len}
-use Rattle.pfs_conf_rules.specs.Configs.{Conf}
-use Rattle.pfs_track.specs.Calls.{node_slice_of, state_slice_of}
-use Rattle.pfs_track.specs.Purging.{purge, state_slice}
-use Rattle.pfs_track.specs.Worlds.{World}
+use Rattle.pfs_conf_values.specs.Configs.{Conf}
+use Rattle.pfs_store_contract.specs.Calls.{node_slice_of, state_slice_of}
+use Rattle.pfs_store_contract.specs.Purging.{purge, state_slice}
+use Rattle.pfs_store_contract.specs.Worlds.{World}
 
 -- the whole seconds after one moment up to another, in rising order
 abbrev pub seconds : ℕ → ℕ → List ℕ

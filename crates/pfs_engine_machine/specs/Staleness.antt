@@ -1,15 +1,15 @@
 -- What is to go goes in time, whatever arrives. (own; pf.conf(5), OPTIONS, "interval")
 use Rattle.std.specs.Prelude.{◌≡◌, ℕ, ◌*◌, Bool, true, false, ◌==◌, None, List, ◌∷◌, ◌++◌}
 use Rattle.std.specs.List.{All, Contains, list_any}
-use Rattle.pfs_addr.specs.Keys.{key_of}
-use Rattle.pfs_addr.specs.Sameness.{same_key}
-use Rattle.pfs_addr.specs.declared.packets.FlowKey.{FlowKey}
-use Rattle.pfs_conf_rules.specs.Configs.{Conf, timeout_of}
-use Rattle.pfs_conf_rules.specs.declared.timeouts.TimeoutName.TheVariants as timeout
-use Rattle.pfs_track.specs.Purging.{has_expired, is_over, state_slice}
-use Rattle.pfs_track.specs.Worlds.{World, holds_number}
-use Rattle.pfs_track.specs.declared.records.Node.{Node}
-use Rattle.pfs_track.specs.declared.records.State.{State}
+use Rattle.pfs_addr_values.specs.Keys.{key_of}
+use Rattle.pfs_addr_values.specs.Sameness.{same_key}
+use Rattle.pfs_addr_values.specs.declared.packets.FlowKey.{FlowKey}
+use Rattle.pfs_conf_values.specs.Configs.{Conf, timeout_of}
+use Rattle.pfs_conf_values.specs.declared.timeouts.TimeoutName.TheVariants as timeout
+use Rattle.pfs_store_contract.specs.Purging.{has_expired, is_over, state_slice}
+use Rattle.pfs_store_contract.specs.Worlds.{World, holds_number}
+use Rattle.pfs_store_contract.specs.declared.records.Node.{Node}
+use Rattle.pfs_store_contract.specs.declared.records.State.{State}
 use Rattle.pfs_engine_machine.specs.declared.events.Event.{Event}
 use Rattle.pfs_engine_machine.specs.Acts.{RunAct, Arrive, Expire, Purge, acts_of, after, purges}
 

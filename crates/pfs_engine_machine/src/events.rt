@@ -1,9 +1,9 @@
 //! What comes, and what the machine does with it.
 
-use pfs_addr::Packet;
-use pfs_conf_rules::{RuleNo, TableNo};
+use pfs_addr_values::Packet;
+use pfs_conf_values::{RuleNo, TableNo};
 use pfs_eval::Added;
-use pfs_track::Limit;
+use pfs_store_contract::Limit;
 
 /// What comes at a moment.
 #[derive(Clone, Copy, Debug, PartialEq, Eq)]

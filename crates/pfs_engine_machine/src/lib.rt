@@ -8,6 +8,6 @@ mod staying;
 
 pub use events::{Event, Outcome, What};
 pub use pfs_eval::Added;
-pub use pfs_track::Limit;
+pub use pfs_store_contract::Limit;
 pub use rates::rate_memory;
 pub use staying::{staleness, within_limits};

@@ -5,7 +5,7 @@ ghost use Rattle.pfs_engine_machine.specs.RateMemory.{RateIsRemembered, ScoreIsR
 ghost use Rattle.pfs_engine_machine.specs.Runs.{IsInOrder};
 
 use crate::events::Event;
-use pfs_conf_rules::{Config, LimitName};
+use pfs_conf_values::{Config, LimitName};
 
 /// At each handshake of a rule with `max-src-conn-rate`, the score that is compared with the limit is the one of all
 /// handshakes of the source in the run up to then, however often its source node was purged and made again; so the rate is

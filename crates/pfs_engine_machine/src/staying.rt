@@ -7,7 +7,7 @@ ghost use Rattle.pfs_engine_machine.specs.Machine.{start, machine_after};
 ghost use Rattle.pfs_engine_machine.specs.Runs.{IsInOrder};
 
 use crate::events::Event;
-use pfs_conf_rules::{Config, LimitName};
+use pfs_conf_values::{Config, LimitName};
 
 /// Whatever arrives, a state that is expired at each of `2 * interval` purges in a row, and of whose key no packet comes
 /// meanwhile, is gone after the last of them; so is a source node that has no state and is past its retention at each.

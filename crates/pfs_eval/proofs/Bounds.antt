@@ -4,10 +4,10 @@ use Rattle.std.specs.List.{take_while}
 use Rattle.std.proofs.lemmas.List.Sums.{take_while-cons}
 use Rattle.std.proofs.lemmas.Bool.Decides.{nat_tests}
 use Rattle.std.proofs.lemmas.Bool.{cond-true, false≢true}
-use Rattle.pfs_conf_rules.specs.declared.items.Item.{Item}
+use Rattle.pfs_conf_values.specs.declared.items.Item.{Item}
 use Rattle.pfs_eval.specs.Verdict.{Place, is_quick, is_hit, cut}
-use Rattle.pfs_conf_rules.specs.Depths.{is_rule}
-use Rattle.pfs_conf_rules.specs.Order.{next_depth, IsPreorder}
+use Rattle.pfs_conf_values.specs.Depths.{is_rule}
+use Rattle.pfs_conf_values.specs.Order.{next_depth, IsPreorder}
 use Rattle.pfs_eval.specs.Visits.{count_at, direct_items, opened_items, visit_bound, visit_floor}
 use Rattle.pfs_eval.specs.Lines.{back, stop_depth_of}
 use Rattle.pfs_eval.proofs.Paths.{shown, place_at, within, hides, rest_of}

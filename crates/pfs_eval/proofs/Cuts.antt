@@ -2,7 +2,7 @@
 use Rattle.std.proofs.Common.{◌≡◌, ℕ, ◌+◌, ◌<◌, ◌≤◌, max, Bool, true, false, ◌&&◌, ◌||◌, cond, nat_lt, nat_le, List, [], ◌∷◌, filter, map, Option, Some, None, refl, ap, arith}
 use Rattle.std.specs.List.{list_any}
 use Rattle.std.proofs.lemmas.Bool.Decides.{nat_tests}
-use Rattle.pfs_conf_rules.specs.declared.items.Item.{Item}
+use Rattle.pfs_conf_values.specs.declared.items.Item.{Item}
 use Rattle.pfs_eval.specs.Verdict.{Place, is_quick, is_hit, ends_before, cut_from, cut, last_or, verdict}
 use Rattle.pfs_eval.specs.Lines.{back, stop_depth_of}
 use Rattle.pfs_eval.proofs.Paths.{on_path, same_cond, rest_of, path-shown}

@@ -2,12 +2,12 @@
 use Rattle.std.proofs.Common.{◌≡◌, ℕ, ◌+◌, Bool, true, false, ◌&&◌, cond, List, [], ◌∷◌, filter, map, Option, Some, None, refl, ap, sym, ◌∙◌, arith, subst, suc}
 use Rattle.std.specs.Prelude.{IfSome, IsSome, option_map, slice_get}
 use Rattle.std.specs.List.{list_all, list_any}
-use Rattle.pfs_conf_rules.specs.Configs.{rule_in}
-use Rattle.pfs_conf_rules.specs.Depths.{is_rule}
-use Rattle.pfs_conf_rules.specs.declared.items.Item.{Item}
-use Rattle.pfs_conf_rules.specs.declared.items.RuleNo.{RuleNo}
-use Rattle.pfs_conf_rules.specs.declared.items.What.{What}
-use Rattle.pfs_conf_rules.specs.declared.items.What.TheVariants.{Rule, Anchor}
+use Rattle.pfs_conf_values.specs.Configs.{rule_in}
+use Rattle.pfs_conf_values.specs.Depths.{is_rule}
+use Rattle.pfs_conf_values.specs.declared.items.Item.{Item}
+use Rattle.pfs_conf_values.specs.declared.items.RuleNo.{RuleNo}
+use Rattle.pfs_conf_values.specs.declared.items.What.{What}
+use Rattle.pfs_conf_values.specs.declared.items.What.TheVariants.{Rule, Anchor}
 use Rattle.pfs_eval.specs.Verdict.{Place, enclosing, path_from, is_hit, ends_before, cut_from, cut, last_or, verdict, IsRuleAt}
 use Rattle.pfs_eval.proofs.Paths.{place_at}
 

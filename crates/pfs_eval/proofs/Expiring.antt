@@ -4,7 +4,7 @@ use Rattle.std.proofs.lemmas.List.{map-set, get_or-map, length-map}
 use Rattle.std.proofs.lemmas.List.Elements.{All-filter}
 use Rattle.std.proofs.lemmas.List.Filters.{length-filter_both}
 use Rattle.std.proofs.lemmas.List.Sums.{sum_by-set}
-use Rattle.pfs_addr.specs.Prefixes.{IsNetwork}
+use Rattle.pfs_addr_values.specs.Prefixes.{IsNetwork}
 use Rattle.pfs_eval.specs.Entries.{Entry}
 use Rattle.pfs_eval.specs.Holdings.{AreKept, HeldEntries}
 use Rattle.pfs_eval.specs.Lengths.{IsLengthNoted}

@@ -7,11 +7,11 @@ use Rattle.std.proofs.lemmas.List.Elements.{All-append, All-cons, All-head, All-
 use Rattle.std.proofs.lemmas.List.{get_or-replicate}
 use Rattle.std.proofs.lemmas.Bool.Decides.{nat_tests}
 use Rattle.std.proofs.lemmas.Bool.{and_from, and_parts, cond-true, cond-false, false≢true}
-use Rattle.pfs_addr.specs.declared.addresses.Addr.{Addr}
-use Rattle.pfs_addr.specs.declared.addresses.Addr.TheVariants.{V4, V6}
-use Rattle.pfs_addr.specs.Addresses.{IsAddr, same_family, width_of}
-use Rattle.pfs_addr.specs.Prefixes.{Network, IsNetwork, cleared, covers, network_of}
-use Rattle.pfs_addr.proofs.PrefixLaws.{cleared_family, cleared_width, covers_true, network_covers, network_of_is_network}
+use Rattle.pfs_addr_values.specs.declared.addresses.Addr.{Addr}
+use Rattle.pfs_addr_values.specs.declared.addresses.Addr.TheVariants.{V4, V6}
+use Rattle.pfs_addr_values.specs.Addresses.{IsAddr, same_family, width_of}
+use Rattle.pfs_addr_values.specs.Prefixes.{Network, IsNetwork, cleared, covers, network_of}
+use Rattle.pfs_addr_values.proofs.PrefixLaws.{cleared_family, cleared_width, covers_true, network_covers, network_of_is_network}
 use Rattle.pfs_eval.specs.Entries.{Entry, narrower, narrowest, says_yes, answer_of, is_prefix_of, mark_at, holds_prefix}
 use Rattle.pfs_eval.specs.Holdings.{AreKept}
 use Rattle.pfs_eval.specs.Lengths.{AreLong, AreOn, IsLengthNoted, next}

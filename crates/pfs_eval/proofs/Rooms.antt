@@ -7,7 +7,7 @@ use Rattle.std.proofs.lemmas.List.Sums.{sum_by-set}
 use Rattle.std.proofs.lemmas.Option.{unwrap_or-slice_get}
 use Rattle.std.proofs.lemmas.Bool.Decides.{nat_tests}
 use Rattle.std.proofs.lemmas.Bool.{cond-false}
-use Rattle.pfs_addr.specs.declared.addresses.Addr.{Addr}
+use Rattle.pfs_addr_values.specs.declared.addresses.Addr.{Addr}
 use Rattle.pfs_eval.specs.Entries.{Entry, holds_host}
 use Rattle.pfs_eval.specs.Holdings.{HeldEntries, Holdings, holdings}
 use Rattle.pfs_eval.specs.Tables.{entries_at, entry_count, added_to, has_room}

@@ -1,9 +1,9 @@
 -- A skip step passes over nothing that could match.
 use Rattle.std.proofs.Common.{◌≡◌, ℕ, ◌+◌, ◌<◌, ◌≤◌, Bool, false, ◌&&◌, List, [], ◌∷◌, length, filter, drop, slice_get, Option, Some, ap, sym, ◌∙◌, arith}
 use Rattle.std.proofs.lemmas.Bool.{cond-false}
-use Rattle.pfs_addr.specs.Packets.{Header}
-use Rattle.pfs_conf_rules.specs.declared.filters.Filter.{Filter}
-use Rattle.pfs_conf_rules.specs.declared.items.Item.{Item}
+use Rattle.pfs_addr_values.specs.Packets.{Header}
+use Rattle.pfs_conf_values.specs.declared.filters.Filter.{Filter}
+use Rattle.pfs_conf_values.specs.declared.items.Item.{Item}
 use Rattle.pfs_eval.specs.Entries.{Entry}
 use Rattle.pfs_eval.specs.Lines.{back}
 use Rattle.pfs_eval.specs.Matching.{dir_holds, family_holds, filter_of, flags_hold, host_holds, interface_holds, matches_item, ports_hold, proto_holds}

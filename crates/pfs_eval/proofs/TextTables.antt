@@ -8,12 +8,12 @@ use Rattle.std.proofs.lemmas.List.Elements.{All-head, All-tail}
 use Rattle.std.proofs.lemmas.List.Sums.{sum_by-cons}
 use Rattle.std.proofs.lemmas.Map.Keys.{IsDistinct-tail, apart_from_distinct}
 use Rattle.std.proofs.lemmas.Option.{slice_get_within, get_or_from_slice_get}
-use Rattle.pfs_addr.specs.declared.addresses.Addr.{Addr}
-use Rattle.pfs_addr.specs.declared.addresses.Addr.TheVariants.{V4, V6}
-use Rattle.pfs_addr.specs.Prefixes.{Network, IsNetwork, network_of}
-use Rattle.pfs_conf_rules.specs.Configs.{Conf, entry_count_of}
-use Rattle.pfs_conf_rules.specs.Entries.{are_same_addr, same_network, TextEntry}
-use Rattle.pfs_conf_rules.specs.declared.tables.TableDef.{TableDef}
+use Rattle.pfs_addr_values.specs.declared.addresses.Addr.{Addr}
+use Rattle.pfs_addr_values.specs.declared.addresses.Addr.TheVariants.{V4, V6}
+use Rattle.pfs_addr_values.specs.Prefixes.{Network, IsNetwork, network_of}
+use Rattle.pfs_conf_values.specs.Configs.{Conf, entry_count_of}
+use Rattle.pfs_conf_values.specs.Entries.{are_same_addr, same_network, TextEntry}
+use Rattle.pfs_conf_values.specs.declared.tables.TableDef.{TableDef}
 use Rattle.pfs_eval.specs.Entries.{Entry, entry_of_text, holds_prefix, is_prefix_of}
 use Rattle.pfs_eval.specs.Holdings.{HeldEntries}
 use Rattle.pfs_eval.specs.Tables.{config_entries, entry_count}

@@ -2,10 +2,10 @@
 use Rattle.std.specs.Prelude.{ℕ, Bool, false, not, ◌&&◌, ◌==◌, nat_le, if◌then◌else◌, Option, Some, None, List, [], ◌∷◌}
 use Rattle.std.specs.List.{list_any}
 use Rattle.std.specs.Map.{lookup}
-use Rattle.pfs_addr.specs.declared.addresses.Addr.{Addr}
-use Rattle.pfs_addr.specs.Addresses.{width_of}
-use Rattle.pfs_addr.specs.Prefixes.{Network, covers}
-use Rattle.pfs_conf_rules.specs.Entries.{TextEntry}
+use Rattle.pfs_addr_values.specs.declared.addresses.Addr.{Addr}
+use Rattle.pfs_addr_values.specs.Addresses.{width_of}
+use Rattle.pfs_addr_values.specs.Prefixes.{Network, covers}
+use Rattle.pfs_conf_values.specs.Entries.{TextEntry}
 use Rattle.pfs_eval.specs.declared.entries.Mark.{Mark}
 
 -- an entry of a table: a prefix, and what is kept beside it

@@ -1,6 +1,6 @@
 -- What tables hold: entries, room for more, the limit on them, and which lengths of prefixes are noted.
 use Rattle.std.specs.Prelude.{ℕ, All, List, map}
-use Rattle.pfs_addr.specs.Prefixes.{IsNetwork}
+use Rattle.pfs_addr_values.specs.Prefixes.{IsNetwork}
 use Rattle.pfs_eval.specs.Entries.{Entry}
 use Rattle.pfs_eval.specs.Lengths.{AreOn, AreLong, IsLengthNoted}
 use Rattle.pfs_eval.specs.declared.lengths.Lengths.{Lengths}

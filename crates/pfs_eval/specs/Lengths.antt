@@ -1,9 +1,9 @@
 -- The lengths of a table's prefixes, as its look-ups go through them.
 use Rattle.std.specs.Prelude.{ℕ, ◌≡◌, ◌+◌, ◌≤◌, List, length, slice_index}
-use Rattle.pfs_addr.specs.declared.addresses.Addr.{Addr}
-use Rattle.pfs_addr.specs.declared.addresses.Addr.TheVariants.{V4, V6}
-use Rattle.pfs_addr.specs.Addresses.{width_of}
-use Rattle.pfs_addr.specs.Prefixes.{Network}
+use Rattle.pfs_addr_values.specs.declared.addresses.Addr.{Addr}
+use Rattle.pfs_addr_values.specs.declared.addresses.Addr.TheVariants.{V4, V6}
+use Rattle.pfs_addr_values.specs.Addresses.{width_of}
+use Rattle.pfs_addr_values.specs.Prefixes.{Network}
 use Rattle.pfs_eval.specs.declared.lengths.Lengths.{Lengths}
 
 -- the numbers of an address's family

@@ -1,9 +1,9 @@
 -- What a walk over items reads of each of them.
 use Rattle.std.specs.Prelude.{ℕ, suc, zero, ◌≡◌, ◌≤◌, ◌+◌, ◌&&◌, max, if◌then◌else◌, Option, Some, None, List, [], ◌∷◌, length, slice_get}
-use Rattle.pfs_conf_rules.specs.Depths.{is_rule}
-use Rattle.pfs_conf_rules.specs.Order.{IsPreorder}
-use Rattle.pfs_conf_rules.specs.declared.items.Item.{Item}
-use Rattle.pfs_conf_rules.specs.declared.items.What.{What}
+use Rattle.pfs_conf_values.specs.Depths.{is_rule}
+use Rattle.pfs_conf_values.specs.Order.{IsPreorder}
+use Rattle.pfs_conf_values.specs.declared.items.Item.{Item}
+use Rattle.pfs_conf_values.specs.declared.items.What.{What}
 use Rattle.pfs_eval.specs.Matching.{filter_of}
 use Rattle.pfs_eval.specs.Skips.{IsSkip, skip_of}
 use Rattle.pfs_eval.specs.Verdict.{enclosing, is_quick}

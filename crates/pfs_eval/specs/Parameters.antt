@@ -1,9 +1,9 @@
 -- The nine parameters of an item, one by one.
 use Rattle.std.specs.Prelude.{◌≡◌, Bool, true, false, ◌&&◌, List}
-use Rattle.pfs_addr.specs.Packets.{Header}
-use Rattle.pfs_conf_rules.specs.declared.filters.Filter.{Filter}
-use Rattle.pfs_conf_rules.specs.declared.filters.FlagTest.{FlagTest}
-use Rattle.pfs_conf_rules.specs.declared.filters.FlagTest.TheVariants.{Any, Exactly}
+use Rattle.pfs_addr_values.specs.Packets.{Header}
+use Rattle.pfs_conf_values.specs.declared.filters.Filter.{Filter}
+use Rattle.pfs_conf_values.specs.declared.filters.FlagTest.{FlagTest}
+use Rattle.pfs_conf_values.specs.declared.filters.FlagTest.TheVariants.{Any, Exactly}
 use Rattle.pfs_eval.specs.Entries.{Entry}
 use Rattle.pfs_eval.specs.Matching.{dir_holds, interface_holds, family_holds, proto_holds, host_holds, ports_hold, flags_hold, same_flags}
 use Rattle.pfs_eval.specs.declared.comparing.Parameter.{Parameter}

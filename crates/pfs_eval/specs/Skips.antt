@@ -1,7 +1,7 @@
 -- Skip steps: where a walk may go on from an item that fails on a parameter.
 use Rattle.std.specs.Prelude.{◌≡◌, ℕ, ◌+◌, nat_lt, Some, List, drop, slice_get}
 use Rattle.std.specs.List.{prefix_len}
-use Rattle.pfs_conf_rules.specs.declared.items.Item.{Item}
+use Rattle.pfs_conf_values.specs.declared.items.Item.{Item}
 use Rattle.pfs_eval.specs.Matching.{filter_of}
 use Rattle.pfs_eval.specs.Parameters.{IsSame}
 use Rattle.pfs_eval.specs.declared.comparing.Parameter.{Parameter}

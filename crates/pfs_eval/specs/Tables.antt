@@ -1,11 +1,11 @@
 -- The answer of a table for an address, a host that is added, old entries that leave, and room for more.
 use Rattle.std.specs.Prelude.{ℕ, ◌+◌, Bool, false, not, nat_le, nat_lt, if◌then◌else◌, Some, List, [], ◌∷◌, ◌++◌, filter, length, map, unwrap_or, slice_get, slice_set, slice_index}
 use Rattle.std.specs.List.{sum_by}
-use Rattle.pfs_addr.specs.declared.addresses.Addr.{Addr}
-use Rattle.pfs_addr.specs.Addresses.{width_of}
-use Rattle.pfs_addr.specs.Prefixes.{network_of}
-use Rattle.pfs_conf_rules.specs.Configs.{Conf}
-use Rattle.pfs_conf_rules.specs.declared.tables.TableDef.{TableDef}
+use Rattle.pfs_addr_values.specs.declared.addresses.Addr.{Addr}
+use Rattle.pfs_addr_values.specs.Addresses.{width_of}
+use Rattle.pfs_addr_values.specs.Prefixes.{network_of}
+use Rattle.pfs_conf_values.specs.Configs.{Conf}
+use Rattle.pfs_conf_values.specs.declared.tables.TableDef.{TableDef}
 use Rattle.pfs_eval.specs.Entries.{Entry, answer_of, entry_of_text, holds_host}
 use Rattle.pfs_eval.specs.declared.entries.Mark.{Mark}
 use Rattle.pfs_eval.specs.declared.tables.Added.{Added}

@@ -2,11 +2,11 @@
 use Rattle.std.specs.Prelude.{ℕ, ◌+◌, Bool, ◌&&◌, ◌||◌, nat_lt, nat_le, if◌then◌else◌, Option, Some, None, List, [], ◌∷◌, IsSome, filter, map, slice_get}
 use Rattle.std.specs.List.{list_all, list_any}
 use Rattle.std.specs.Option.{option_and_then}
-use Rattle.pfs_conf_rules.specs.Configs.{rule_in}
-use Rattle.pfs_conf_rules.specs.Depths.{is_rule}
-use Rattle.pfs_conf_rules.specs.declared.items.Item.{Item}
-use Rattle.pfs_conf_rules.specs.declared.items.What.{What}
-use Rattle.pfs_conf_rules.specs.declared.items.What.TheVariants.{Rule, Anchor}
+use Rattle.pfs_conf_values.specs.Configs.{rule_in}
+use Rattle.pfs_conf_values.specs.Depths.{is_rule}
+use Rattle.pfs_conf_values.specs.declared.items.Item.{Item}
+use Rattle.pfs_conf_values.specs.declared.items.What.{What}
+use Rattle.pfs_conf_values.specs.declared.items.What.TheVariants.{Rule, Anchor}
 
 -- All that follows is over a test, whether an item matches: it speaks of no packet.
 

@@ -1,8 +1,8 @@
 -- The most and the fewest comparisons of items with a packet that an evaluation needs.
 use Rattle.std.specs.Prelude.{ℕ, ◌+◌, if◌then◌else◌, Bool, ◌&&◌, ◌==◌, not, nat_lt, List, [], ◌∷◌, length, filter}
 use Rattle.std.specs.List.{take_while}
-use Rattle.pfs_conf_rules.specs.declared.items.Item.{Item}
-use Rattle.pfs_conf_rules.specs.Depths.{is_rule}
+use Rattle.pfs_conf_values.specs.declared.items.Item.{Item}
+use Rattle.pfs_conf_values.specs.Depths.{is_rule}
 use Rattle.pfs_eval.specs.Verdict.{Place, cut}
 
 -- the number of items of this depth

@@ -1,8 +1,8 @@
 //! The book of a configuration's rules, and their verdict on a packet.
 
 ghost use Rattle.std.specs.Prelude.{◌≡◌, ◌+◌, ◌-◌, ◌≤◌, ◌<◌, ◌^◌, All, IfOk, IfSome, length, option_map};
-ghost use Rattle.pfs_conf_rules.specs.Order.{IsPreorder};
-ghost use Rattle.pfs_conf_rules.specs.declared.items.Item.{Item};
+ghost use Rattle.pfs_conf_values.specs.Order.{IsPreorder};
+ghost use Rattle.pfs_conf_values.specs.declared.items.Item.{Item};
 ghost use Rattle.pfs_eval.specs.Matching.{matches_item};
 ghost use Rattle.pfs_eval.specs.Verdict.{IsRuleAt, cut, verdict};
 ghost use Rattle.pfs_eval.specs.Visits.{visit_bound, visit_floor};
@@ -10,8 +10,8 @@ ghost use Rattle.pfs_eval.specs.Visits.{visit_bound, visit_floor};
 use crate::lines::{Line, item_at, lines};
 use crate::tables::Tables;
 use crate::walks::Walk;
-use pfs_addr::{Meter, NoMemory, Packet};
-use pfs_conf_rules::{Config, Item, RuleNo};
+use pfs_addr_values::{Meter, NoMemory, Packet};
+use pfs_conf_values::{Config, Item, RuleNo};
 use std::alloc::{AllocError, Global};
 use std::marker::Model;
 
@@ -25,7 +25,7 @@ pub struct Book {
 
 impl Model for Book {
     ghost use Rattle.std.specs.Prelude.{List};
-    ghost use Rattle.pfs_conf_rules.specs.declared.items.Item.{Item};
+    ghost use Rattle.pfs_conf_values.specs.declared.items.Item.{Item};
     ghost use Rattle.pfs_eval.specs.Lines.{AreLines};
 
     ghost Value = { List Item };

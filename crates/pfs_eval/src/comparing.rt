@@ -6,8 +6,8 @@ ghost use Rattle.pfs_eval.specs.Matching.{common_flags, dir_holds, family_holds,
 ghost use Rattle.pfs_eval.specs.Parameters.{IsSame, holds_at, same_test};
 
 use crate::tables::Tables;
-use pfs_addr::{Addr, Dir, Flags, Meter, Packet, Prefix, Proto};
-use pfs_conf_rules::{Family, Filter, FlagTest, Host, Interface, Ports, TableNo, What};
+use pfs_addr_values::{Addr, Dir, Flags, Meter, Packet, Prefix, Proto};
+use pfs_conf_values::{Family, Filter, FlagTest, Host, Interface, Ports, TableNo, What};
 
 /// A parameter of an item, in the order in which they are compared. (pf.conf(5), PARAMETERS)
 #[derive(Clone, Copy)]

@@ -1,16 +1,16 @@
 // The entries of one table: prefixes in the order in which they came, each with its mark.
 
 ghost use Rattle.std.specs.Prelude.{◌≡◌, All, ◌<◌, ◌≤◌, ◌++◌, [], ◌∷◌, IfOk, IsOk, OnErr, OnOk, map, nat_lt, not, false};
-ghost use Rattle.pfs_addr.specs.Addresses.{width_of};
-ghost use Rattle.pfs_addr.specs.Prefixes.{IsNetwork, network_of};
+ghost use Rattle.pfs_addr_values.specs.Addresses.{width_of};
+ghost use Rattle.pfs_addr_values.specs.Prefixes.{IsNetwork, network_of};
 ghost use Rattle.pfs_eval.specs.Holdings.{AreKept};
 ghost use Rattle.pfs_eval.specs.Entries.{Entry, answer_of, entry_of_text, holds_host, holds_prefix, mark_at};
 ghost use Rattle.pfs_eval.specs.Tables.{is_old, old_count, young};
 
 use crate::lengths::Lengths;
 use indexmap::IndexMap;
-use pfs_addr::{Addr, Prefix};
-use pfs_conf_rules::Entries;
+use pfs_addr_values::{Addr, Prefix};
+use pfs_conf_values::Entries;
 use std::alloc::{AllocError, Global};
 use std::marker::Model;
 

@@ -1,11 +1,11 @@
 //! The lengths of a table's prefixes, by which its entries are looked up: the longest first.
 
 ghost use Rattle.std.specs.Prelude.{◌≡◌, ◌&&◌, ◌+◌, ◌-◌, ◌<◌, ◌≤◌, ℕ, if◌then◌else◌, length, min, nat_le, replicate, slice_index};
-ghost use Rattle.pfs_addr.specs.Addresses.{same_family, width_of};
-ghost use Rattle.pfs_addr.specs.declared.addresses.Addr.{Addr};
+ghost use Rattle.pfs_addr_values.specs.Addresses.{same_family, width_of};
+ghost use Rattle.pfs_addr_values.specs.declared.addresses.Addr.{Addr};
 ghost use Rattle.pfs_eval.specs.Lengths.{AreLong, next};
 
-use pfs_addr::Addr;
+use pfs_addr_values::Addr;
 
 /// Which lengths the prefixes of a table have or had, told by how many bits they leave out: 0 of a host. At each number
 /// stands the least such number from it on, or one more than the address has bits.

@@ -1,15 +1,15 @@
 //! What a walk reads of each item of a book.
 
 ghost use Rattle.std.specs.Prelude.{◌≡◌, ◌+◌, ◌<◌, ◌≤◌, ℕ, [], IfOk, Some, drop, if◌then◌else◌, length, max, nat_le, slice_get, slice_index};
-ghost use Rattle.pfs_conf_rules.specs.Invariants.{IsConfig};
-ghost use Rattle.pfs_conf_rules.specs.Depths.{is_rule};
+ghost use Rattle.pfs_conf_values.specs.Invariants.{IsConfig};
+ghost use Rattle.pfs_conf_values.specs.Depths.{is_rule};
 ghost use Rattle.pfs_eval.specs.Lines.{AreLines, IsLine, back, next_place, stop_depth_of};
 ghost use Rattle.pfs_eval.specs.Skips.{AreSkipsOf, body_length};
 ghost use Rattle.pfs_eval.specs.Verdict.{enclosing, is_quick};
 
 use crate::comparing::Asked;
 use crate::skips::Skips;
-use pfs_conf_rules::{Config, Item, What};
+use pfs_conf_values::{Config, Item, What};
 use std::alloc::{AllocError, Global};
 
 /// What a walk reads of an item: what is compared, and where the walk goes on.

@@ -1,12 +1,12 @@
 // All tables of a configuration, and the limit on their entries.
 
 ghost use Rattle.std.specs.Prelude.{◌≡◌, ◌<◌, ◌≤◌, ◌⊎◌, IfOk, IsOk, OnErr, OnOk, Some, length, nat_le, option_map, slice_get, true};
-ghost use Rattle.pfs_conf_rules.specs.Configs.{limit_of};
+ghost use Rattle.pfs_conf_values.specs.Configs.{limit_of};
 ghost use Rattle.pfs_eval.specs.Tables.{added_to, config_entries, entries_after, entries_expired, entry_count, expired_count, has_room, table_answer};
 
 use crate::entries::{Mark, Table};
-use pfs_addr::{Addr, NoMemory};
-use pfs_conf_rules::{Config, Entries, LimitName, TableNo};
+use pfs_addr_values::{Addr, NoMemory};
+use pfs_conf_values::{Config, Entries, LimitName, TableNo};
 use std::alloc::Global;
 use std::marker::Model;
 

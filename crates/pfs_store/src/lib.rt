@@ -1,6 +1,8 @@
 //! The stores of states and source nodes: what each kind does, and the kinds.
 #![tactic(auto)]
 
+pub use pfs_store_contract::{
+    Limit, Node, NodeScope, Slice, State, StateNo, Store, Touched, Watched,
+};
 pub use pfs_store_index::{IndexStore, looks_are_counted};
 pub use pfs_store_plain::PlainStore;
-pub use pfs_track::{Limit, Node, NodeScope, Slice, State, StateNo, Store, Touched};

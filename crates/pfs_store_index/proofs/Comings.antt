@@ -5,25 +5,25 @@ use Rattle.std.proofs.lemmas.Bool.Decides.{nat_tests}
 use Rattle.std.proofs.lemmas.List.{get_or-set_other}
 use Rattle.std.proofs.lemmas.Grind.{get_or-set_at}
 use Rattle.std.proofs.lemmas.Map.Keys.{IsDistinct-head, IsDistinct-tail, IsDistinct-cons}
-use Rattle.pfs_addr.proofs.SameLaws.{same_addr_self, same_addr_true, same_key_true}
-use Rattle.pfs_addr.specs.Keys.{first_end, second_end}
-use Rattle.pfs_addr.specs.Packets.{Header}
-use Rattle.pfs_addr.specs.Sameness.{same_key}
-use Rattle.pfs_addr.specs.declared.addresses.Addr.{Addr}
-use Rattle.pfs_addr.specs.declared.packets.Dir.{Dir}
-use Rattle.pfs_addr.specs.declared.packets.Dir.TheVariants.{In, Out}
-use Rattle.pfs_addr.specs.declared.packets.FlowKey.{FlowKey}
-use Rattle.pfs_conf_rules.specs.Configs.{Conf, scope_of}
-use Rattle.pfs_conf_rules.specs.declared.actions.Scope.{Scope}
-use Rattle.pfs_conf_rules.specs.declared.actions.Scope.TheVariants as scope
+use Rattle.pfs_addr_values.proofs.SameLaws.{same_addr_self, same_addr_true, same_key_true}
+use Rattle.pfs_addr_values.specs.Keys.{first_end, second_end}
+use Rattle.pfs_addr_values.specs.Packets.{Header}
+use Rattle.pfs_addr_values.specs.Sameness.{same_key}
+use Rattle.pfs_addr_values.specs.declared.addresses.Addr.{Addr}
+use Rattle.pfs_addr_values.specs.declared.packets.Dir.{Dir}
+use Rattle.pfs_addr_values.specs.declared.packets.Dir.TheVariants.{In, Out}
+use Rattle.pfs_addr_values.specs.declared.packets.FlowKey.{FlowKey}
+use Rattle.pfs_conf_values.specs.Configs.{Conf, scope_of}
+use Rattle.pfs_conf_values.specs.declared.actions.Scope.{Scope}
+use Rattle.pfs_conf_values.specs.declared.actions.Scope.TheVariants as scope
 use Rattle.pfs_track.specs.StatePhases.{is_done}
-use Rattle.pfs_track.specs.Admission.{new_node, nodes_with}
-use Rattle.pfs_track.specs.Counts.{has_node, in_scope, is_connection, is_node, is_of_node, is_of_rule, is_of_source, node_connections, node_scope_by, node_scope_of, node_states, rule_states}
-use Rattle.pfs_conf_rules.specs.Bounds.{is_global}
-use Rattle.pfs_track.specs.Plain.{AreCounts}
-use Rattle.pfs_track.specs.declared.records.NodeScope.{NodeScope}
-use Rattle.pfs_track.specs.declared.records.NodeScope.TheVariants as node_scope
-use Rattle.pfs_track.specs.declared.records.State.{State}
+use Rattle.pfs_store_contract.specs.Admission.{new_node, nodes_with}
+use Rattle.pfs_store_contract.specs.Counts.{has_node, in_scope, is_connection, is_node, is_of_node, is_of_rule, is_of_source, node_connections, node_scope_by, node_scope_of, node_states, rule_states}
+use Rattle.pfs_conf_values.specs.Bounds.{is_global}
+use Rattle.pfs_store_contract.specs.Plain.{AreCounts}
+use Rattle.pfs_store_contract.specs.declared.records.NodeScope.{NodeScope}
+use Rattle.pfs_store_contract.specs.declared.records.NodeScope.TheVariants as node_scope
+use Rattle.pfs_store_contract.specs.declared.records.State.{State}
 use Rattle.pfs_store_index.specs.Records.{IsAbove, Placed}
 use Rattle.pfs_store_index.specs.Sourced.{source_at}
 use Rattle.pfs_store_index.specs.Tallies.{is_tally, nodes_of}

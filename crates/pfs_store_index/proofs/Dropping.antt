@@ -3,14 +3,14 @@ use Rattle.std.proofs.Common.{◌≡◌, ◌∙◌, ◌==◌, ℕ, Bool, true, f
 use Rattle.std.specs.BTreeSet.{BTreeSet}
 use Rattle.std.specs.HashMap.{HashMap}
 use Rattle.std.specs.List.{find, list_any, AllByRecursion}
-use Rattle.pfs_addr.specs.declared.addresses.Addr.{Addr}
-use Rattle.pfs_addr.specs.declared.packets.FlowKey.{FlowKey}
-use Rattle.pfs_conf_rules.specs.Configs.{Conf}
-use Rattle.pfs_track.specs.Counts.{is_of_node, node_states}
-use Rattle.pfs_track.specs.Purging.{node_numbers}
-use Rattle.pfs_track.specs.declared.records.Node.{Node}
-use Rattle.pfs_track.specs.declared.records.NodeScope.{NodeScope}
-use Rattle.pfs_track.specs.declared.records.State.{State}
+use Rattle.pfs_addr_values.specs.declared.addresses.Addr.{Addr}
+use Rattle.pfs_addr_values.specs.declared.packets.FlowKey.{FlowKey}
+use Rattle.pfs_conf_values.specs.Configs.{Conf}
+use Rattle.pfs_store_contract.specs.Counts.{is_of_node, node_states}
+use Rattle.pfs_store_contract.specs.Purging.{node_numbers}
+use Rattle.pfs_store_contract.specs.declared.records.Node.{Node}
+use Rattle.pfs_store_contract.specs.declared.records.NodeScope.{NodeScope}
+use Rattle.pfs_store_contract.specs.declared.records.State.{State}
 use Rattle.pfs_store_index.specs.Records.{IsRising, Placed, states_of}
 use Rattle.pfs_store_index.specs.Tallies.{has_node_number, is_tally, nodes_of, other_node}
 use Rattle.pfs_store_index.specs.declared.nodes.Tally.{Tally}

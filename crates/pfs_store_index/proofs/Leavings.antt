@@ -4,18 +4,18 @@ use Rattle.std.specs.List.{find, list_any, AllByRecursion, IsDistinct}
 use Rattle.std.proofs.lemmas.Bool.Decides.{nat_tests}
 use Rattle.std.proofs.lemmas.List.{get_or-set_other}
 use Rattle.std.proofs.lemmas.Grind.{get_or-set_at}
-use Rattle.pfs_addr.specs.Sameness.{same_key}
-use Rattle.pfs_addr.specs.declared.addresses.Addr.{Addr}
-use Rattle.pfs_addr.specs.declared.packets.FlowKey.{FlowKey}
-use Rattle.pfs_conf_rules.specs.Configs.{Conf}
+use Rattle.pfs_addr_values.specs.Sameness.{same_key}
+use Rattle.pfs_addr_values.specs.declared.addresses.Addr.{Addr}
+use Rattle.pfs_addr_values.specs.declared.packets.FlowKey.{FlowKey}
+use Rattle.pfs_conf_values.specs.Configs.{Conf}
 use Rattle.pfs_track.specs.StatePhases.{is_done}
-use Rattle.pfs_track.specs.Counts.{is_connection, is_of_node, is_of_rule, is_of_source, node_connections, node_scope_of, node_states, rule_states}
-use Rattle.pfs_track.specs.Leaving.{idled}
-use Rattle.pfs_track.specs.Calls.{other_than}
-use Rattle.pfs_track.specs.Plain.{AreCounts}
-use Rattle.pfs_track.specs.declared.records.Node.{Node}
-use Rattle.pfs_track.specs.declared.records.NodeScope.{NodeScope}
-use Rattle.pfs_track.specs.declared.records.State.{State}
+use Rattle.pfs_store_contract.specs.Counts.{is_connection, is_of_node, is_of_rule, is_of_source, node_connections, node_scope_of, node_states, rule_states}
+use Rattle.pfs_store_contract.specs.Leaving.{idled}
+use Rattle.pfs_store_contract.specs.Calls.{other_than}
+use Rattle.pfs_store_contract.specs.Plain.{AreCounts}
+use Rattle.pfs_store_contract.specs.declared.records.Node.{Node}
+use Rattle.pfs_store_contract.specs.declared.records.NodeScope.{NodeScope}
+use Rattle.pfs_store_contract.specs.declared.records.State.{State}
 use Rattle.pfs_store_index.specs.Records.{Placed}
 use Rattle.pfs_store_index.specs.Tallies.{nodes_of}
 use Rattle.pfs_store_index.specs.declared.nodes.Tally.{Tally}

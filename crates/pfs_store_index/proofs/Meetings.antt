@@ -2,19 +2,19 @@
 use Rattle.std.proofs.Common.{◌≡◌, ◌∙◌, ◌+◌, ◌==◌, ◌&&◌, ◌||◌, ℕ, Bool, true, false, cond, if◌then◌else◌, Option, Some, None, List, [], ◌∷◌, length, map, filter, option_map, refl, ap, sym, subst, arith}
 use Rattle.std.specs.List.{find, list_any, AllByRecursion}
 use Rattle.std.proofs.lemmas.Bool.Decides.{nat_tests}
-use Rattle.pfs_addr.specs.Packets.{Header}
-use Rattle.pfs_addr.specs.declared.addresses.Addr.{Addr}
-use Rattle.pfs_addr.specs.declared.packets.FlowKey.{FlowKey}
-use Rattle.pfs_conf_rules.specs.Configs.{Conf, options_of}
-use Rattle.pfs_conf_rules.specs.declared.actions.Rate.{Rate}
+use Rattle.pfs_addr_values.specs.Packets.{Header}
+use Rattle.pfs_addr_values.specs.declared.addresses.Addr.{Addr}
+use Rattle.pfs_addr_values.specs.declared.packets.FlowKey.{FlowKey}
+use Rattle.pfs_conf_values.specs.Configs.{Conf, options_of}
+use Rattle.pfs_conf_values.specs.declared.actions.Rate.{Rate}
 use Rattle.pfs_track.specs.Scores.{score_after}
 use Rattle.pfs_track.specs.StatePhases.{is_done, phase_after}
 use Rattle.pfs_track.specs.declared.scores.Score.{Score}
-use Rattle.pfs_track.specs.Counts.{is_connection, is_of_node, node_connections, node_scope_of, node_states}
-use Rattle.pfs_track.specs.Touching.{completes_at, goes_forward, nodes_scored, nodes_touched, renewed, stepped}
-use Rattle.pfs_track.specs.declared.records.Node.{Node}
-use Rattle.pfs_track.specs.declared.records.NodeScope.{NodeScope}
-use Rattle.pfs_track.specs.declared.records.State.{State}
+use Rattle.pfs_store_contract.specs.Counts.{is_connection, is_of_node, node_connections, node_scope_of, node_states}
+use Rattle.pfs_store_contract.specs.Touching.{completes_at, goes_forward, nodes_scored, nodes_touched, renewed, stepped}
+use Rattle.pfs_store_contract.specs.declared.records.Node.{Node}
+use Rattle.pfs_store_contract.specs.declared.records.NodeScope.{NodeScope}
+use Rattle.pfs_store_contract.specs.declared.records.State.{State}
 use Rattle.pfs_store_index.specs.Records.{Placed, placed_at, put, states_of}
 use Rattle.pfs_store_index.specs.Tallies.{is_tally, nodes_of}
 use Rattle.pfs_store_index.specs.declared.nodes.Tally.{Tally}

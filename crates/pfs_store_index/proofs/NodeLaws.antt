@@ -9,12 +9,12 @@ use Rattle.std.specs.declared.cmp.Ordering.TheVariants.{Less}
 use Rattle.std.proofs.lemmas.Bool.Decides.{nat_tests}
 use Rattle.std.proofs.lemmas.Map.Keys.{IsDistinct-cons, sorted_head, sorted_tail}
 use Rattle.indexmap.specs.IndexMap.{IndexMap, get}
-use Rattle.pfs_addr.proofs.SameLaws.{same_addr_self, same_addr_true}
-use Rattle.pfs_addr.specs.Sameness.{same_addr}
-use Rattle.pfs_addr.specs.declared.addresses.Addr.{Addr}
-use Rattle.pfs_track.specs.Counts.{same_scope, scope_nodes}
-use Rattle.pfs_track.specs.Purging.{node_numbers}
-use Rattle.pfs_track.specs.declared.records.NodeScope.{NodeScope}
+use Rattle.pfs_addr_values.proofs.SameLaws.{same_addr_self, same_addr_true}
+use Rattle.pfs_addr_values.specs.Sameness.{same_addr}
+use Rattle.pfs_addr_values.specs.declared.addresses.Addr.{Addr}
+use Rattle.pfs_store_contract.specs.Counts.{same_scope, scope_nodes}
+use Rattle.pfs_store_contract.specs.Purging.{node_numbers}
+use Rattle.pfs_store_contract.specs.declared.records.NodeScope.{NodeScope}
 use Rattle.pfs_store_index.specs.Keeping.{AreInPlace, IsNoted, IsPlaced, SameCounts, held, number_of_node, one_if, place_of_node, same_place}
 use Rattle.pfs_store_index.specs.Records.{IsAbove, IsRising}
 use Rattle.pfs_store_index.specs.Tallies.{IsOrderly, IsTallied, count_of, has_node_number, is_tally, nodes_of, put_tally, same_node}

@@ -6,18 +6,18 @@ use Rattle.std.proofs.lemmas.Bool.Decides.{nat_tests}
 use Rattle.std.proofs.Common.{All}
 use Rattle.std.proofs.lemmas.List.Elements.{All-head, All-tail}
 use Rattle.std.proofs.lemmas.Map.Keys.{IsDistinct-head, IsDistinct-tail}
-use Rattle.pfs_addr.proofs.SameLaws.{same_addr_self, same_addr_true}
-use Rattle.pfs_addr.specs.Sameness.{same_addr}
-use Rattle.pfs_addr.specs.declared.addresses.Addr.{Addr}
-use Rattle.pfs_conf_rules.specs.Configs.{Conf, scope_of}
-use Rattle.pfs_conf_rules.specs.declared.actions.Scope.{Scope}
-use Rattle.pfs_conf_rules.specs.declared.actions.Scope.TheVariants as scope
-use Rattle.pfs_conf_rules.specs.declared.items.RuleNo.{RuleNo}
-use Rattle.pfs_track.specs.Counts.{is_of_node, node_scope_by, node_scope_of, same_scope}
-use Rattle.pfs_track.specs.declared.records.Node.{Node}
-use Rattle.pfs_track.specs.declared.records.NodeScope.{NodeScope}
-use Rattle.pfs_track.specs.declared.records.NodeScope.TheVariants as node_scope
-use Rattle.pfs_track.specs.declared.records.State.{State}
+use Rattle.pfs_addr_values.proofs.SameLaws.{same_addr_self, same_addr_true}
+use Rattle.pfs_addr_values.specs.Sameness.{same_addr}
+use Rattle.pfs_addr_values.specs.declared.addresses.Addr.{Addr}
+use Rattle.pfs_conf_values.specs.Configs.{Conf, scope_of}
+use Rattle.pfs_conf_values.specs.declared.actions.Scope.{Scope}
+use Rattle.pfs_conf_values.specs.declared.actions.Scope.TheVariants as scope
+use Rattle.pfs_conf_values.specs.declared.items.RuleNo.{RuleNo}
+use Rattle.pfs_store_contract.specs.Counts.{is_of_node, node_scope_by, node_scope_of, same_scope}
+use Rattle.pfs_store_contract.specs.declared.records.Node.{Node}
+use Rattle.pfs_store_contract.specs.declared.records.NodeScope.{NodeScope}
+use Rattle.pfs_store_contract.specs.declared.records.NodeScope.TheVariants as node_scope
+use Rattle.pfs_store_contract.specs.declared.records.State.{State}
 use Rattle.pfs_store_index.specs.Tallies.{IsTallied, has_node_number, is_tally, nodes_of, put_tally, same_node}
 use Rattle.pfs_store_index.specs.declared.nodes.Tally.{Tally}
 use Rattle.pfs_store_index.specs.Ties.{IsScope, IsScoped, at_node, is_at}

@@ -7,9 +7,9 @@ use Rattle.std.specs.Ordering.{nat_cmp}
 use Rattle.std.proofs.lemmas.Bool.Decides.{nat_tests}
 use Rattle.slab.specs.Slab.{Slab, get, Updates, ContainsKey, with_value}
 use Rattle.slab.proofs.SlabLemmas.{Updates-with_value}
-use Rattle.pfs_track.specs.Calls.{other_than}
-use Rattle.pfs_track.specs.Purging.{state_numbers}
-use Rattle.pfs_track.specs.declared.records.State.{State}
+use Rattle.pfs_store_contract.specs.Calls.{other_than}
+use Rattle.pfs_store_contract.specs.Purging.{state_numbers}
+use Rattle.pfs_store_contract.specs.declared.records.State.{State}
 use Rattle.pfs_store_index.specs.Keeping.{held, IsPlaced, AreInPlace, number_in, place_of_record, record_in}
 use Rattle.pfs_store_index.specs.Records.{IsRecordAt, IsRising, Placed, is_placed, leaves_number, placed_at, put, put_state, stands_at, states_of}
 use Rattle.pfs_store_index.proofs.Ordered.{IsUpdated, find_placed, found, kept-written, look-placed, rising-held, view-written}

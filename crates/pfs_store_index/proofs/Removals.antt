@@ -3,9 +3,9 @@ use Rattle.std.proofs.Common.{◌≡◌, ◌∙◌, ◌+◌, ◌==◌, ◌||◌,
 use Rattle.std.specs.List.{find, list_any, AllByRecursion, IsDistinct}
 use Rattle.std.proofs.lemmas.Bool.Decides.{nat_tests}
 use Rattle.std.proofs.lemmas.Map.Keys.{IsDistinct-head, IsDistinct-tail, IsDistinct-cons}
-use Rattle.pfs_addr.proofs.SameLaws.{same_key_true, same_key_self}
-use Rattle.pfs_addr.specs.Sameness.{same_key}
-use Rattle.pfs_addr.specs.declared.packets.FlowKey.{FlowKey}
+use Rattle.pfs_addr_values.proofs.SameLaws.{same_key_true, same_key_self}
+use Rattle.pfs_addr_values.specs.Sameness.{same_key}
+use Rattle.pfs_addr_values.specs.declared.packets.FlowKey.{FlowKey}
 use Rattle.pfs_store_index.proofs.RisingWalks.{Apart, IsRisingBy, has_number, head-apart, head-is, rest-rising, same_number}
 
 module _ {X : Type 0} (number : X → ℕ) where

@@ -2,11 +2,11 @@
 use Rattle.std.proofs.Common.{◌≡◌, ◌∙◌, ◌+◌, ◌==◌, ◌||◌, ℕ, Bool, true, false, cond, if◌then◌else◌, Option, Some, None, is_some, unwrap_or, List, map, option_map, refl, ap, sym, subst, arith}
 use Rattle.std.specs.List.{find, list_any, AllByRecursion}
 use Rattle.std.proofs.lemmas.Bool.Decides.{nat_tests}
-use Rattle.pfs_addr.specs.Packets.{Header}
-use Rattle.pfs_addr.specs.Sameness.{same_key}
-use Rattle.pfs_addr.specs.declared.addresses.Addr.{Addr}
-use Rattle.pfs_addr.specs.declared.packets.FlowKey.{FlowKey}
-use Rattle.pfs_conf_rules.specs.Configs.{Conf}
+use Rattle.pfs_addr_values.specs.Packets.{Header}
+use Rattle.pfs_addr_values.specs.Sameness.{same_key}
+use Rattle.pfs_addr_values.specs.declared.addresses.Addr.{Addr}
+use Rattle.pfs_addr_values.specs.declared.packets.FlowKey.{FlowKey}
+use Rattle.pfs_conf_values.specs.Configs.{Conf}
 use Rattle.pfs_track.specs.Scores.{zero_score}
 use Rattle.pfs_track.specs.StatePhases.{completes, is_done, phase_after}
 use Rattle.pfs_track.specs.TcpPhases.{tcp_completes}
@@ -14,12 +14,12 @@ use Rattle.pfs_track.specs.PhaseLaws.{tcp_completes-once}
 use Rattle.pfs_track.specs.declared.scores.Score.{Score}
 use Rattle.pfs_track.specs.declared.state_phases.StatePhase.{StatePhase}
 use Rattle.pfs_track.specs.declared.state_phases.StatePhase.TheVariants.{Tcp, Udp, Other}
-use Rattle.pfs_track.specs.Counts.{is_node, node_connections}
-use Rattle.pfs_track.specs.Purging.{state_numbers}
-use Rattle.pfs_track.specs.Touching.{connections_in, goes_forward, renewed, score_in, stepped}
-use Rattle.pfs_track.specs.declared.records.Node.{Node}
-use Rattle.pfs_track.specs.declared.records.NodeScope.{NodeScope}
-use Rattle.pfs_track.specs.declared.records.State.{State}
+use Rattle.pfs_store_contract.specs.Counts.{is_node, node_connections}
+use Rattle.pfs_store_contract.specs.Purging.{state_numbers}
+use Rattle.pfs_store_contract.specs.Touching.{connections_in, goes_forward, renewed, score_in, stepped}
+use Rattle.pfs_store_contract.specs.declared.records.Node.{Node}
+use Rattle.pfs_store_contract.specs.declared.records.NodeScope.{NodeScope}
+use Rattle.pfs_store_contract.specs.declared.records.State.{State}
 use Rattle.pfs_store_index.specs.Records.{IsRecordAt, IsRising, Placed, is_placed, put, stands_at, states_of}
 use Rattle.pfs_store_index.specs.Tallies.{is_tally, nodes_of}
 use Rattle.pfs_store_index.specs.declared.nodes.Tally.{Tally}

@@ -7,7 +7,7 @@ use Rattle.std.specs.declared.cmp.Ordering.TheVariants.{Less}
 use Rattle.std.proofs.lemmas.Bool.Decides.{nat_tests}
 use Rattle.std.proofs.lemmas.List.{drop_min, take_min, take_more}
 use Rattle.std.proofs.lemmas.Map.Keys.{sorted_head, sorted_tail}
-use Rattle.pfs_track.specs.Purging.{is_among}
+use Rattle.pfs_store_contract.specs.Purging.{is_among}
 use Rattle.pfs_store_index.specs.Records.{between}
 use Rattle.pfs_store_index.specs.Rounds.{waiting}
 

@@ -1,17 +1,17 @@
 -- The records of states as the states themselves, by number and by key.
 use Rattle.std.proofs.Common.{◌≡◌, ◌∙◌, ◌<◌, ◌≤◌, ◌==◌, ℕ, Bool, true, false, if◌then◌else◌, not, Option, Some, None, List, [], ◌∷◌, length, map, filter, option_map, refl, ap, sym, subst, ◌⊎◌, inl, inr, IsSome}
 use Rattle.std.specs.List.{find}
-use Rattle.pfs_addr.specs.Sameness.{same_key}
-use Rattle.pfs_addr.specs.declared.packets.FlowKey.{FlowKey}
+use Rattle.pfs_addr_values.specs.Sameness.{same_key}
+use Rattle.pfs_addr_values.specs.declared.packets.FlowKey.{FlowKey}
 use Rattle.std.specs.Option.{option_and_then}
 use Rattle.std.proofs.lemmas.Bool.{cases_lt}
 use Rattle.std.proofs.lemmas.Option.{slice_get_past}
-use Rattle.pfs_conf_rules.specs.Configs.{Conf, options_at, options_in, rule_in as rule_in_item}
-use Rattle.pfs_conf_rules.specs.declared.items.Item.{Item}
-use Rattle.pfs_conf_rules.specs.declared.items.Rule.{Rule}
-use Rattle.pfs_track.specs.Calls.{other_than, state_number, state_rule}
-use Rattle.pfs_track.specs.Purging.{node_numbers, state_numbers}
-use Rattle.pfs_track.specs.declared.records.State.{State}
+use Rattle.pfs_conf_values.specs.Configs.{Conf, options_at, options_in, rule_in as rule_in_item}
+use Rattle.pfs_conf_values.specs.declared.items.Item.{Item}
+use Rattle.pfs_conf_values.specs.declared.items.Rule.{Rule}
+use Rattle.pfs_store_contract.specs.Calls.{other_than, state_number, state_rule}
+use Rattle.pfs_store_contract.specs.Purging.{node_numbers, state_numbers}
+use Rattle.pfs_store_contract.specs.declared.records.State.{State}
 use Rattle.pfs_store_index.specs.Records.{IsAbove, IsRising, Placed, leaves_number, states_of}
 use Rattle.pfs_store_index.specs.Tallies.{nodes_of}
 use Rattle.pfs_store_index.specs.declared.nodes.Tally.{Tally}

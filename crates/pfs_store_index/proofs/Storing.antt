@@ -3,29 +3,29 @@ use Rattle.std.proofs.Common.{◌≡◌, ◌∙◌, ◌+◌, ◌-◌, ◌<◌, �
 use Rattle.std.specs.List.{AllByRecursion}
 use Rattle.std.proofs.lemmas.Bool.Decides.{nat_tests}
 use Rattle.std.proofs.lemmas.Option.{slice_get_past}
-use Rattle.pfs_addr.specs.Packets.{Header}
-use Rattle.pfs_addr.specs.declared.addresses.Addr.{Addr}
-use Rattle.pfs_conf_rules.specs.Configs.{Conf}
-use Rattle.pfs_conf_rules.specs.declared.actions.Rate.{Rate}
-use Rattle.pfs_conf_rules.specs.declared.items.RuleNo.{RuleNo}
+use Rattle.pfs_addr_values.specs.Packets.{Header}
+use Rattle.pfs_addr_values.specs.declared.addresses.Addr.{Addr}
+use Rattle.pfs_conf_values.specs.Configs.{Conf}
+use Rattle.pfs_conf_values.specs.declared.actions.Rate.{Rate}
+use Rattle.pfs_conf_values.specs.declared.items.RuleNo.{RuleNo}
 use Rattle.pfs_track.specs.Lifetimes.{is_expired, scaled_lifetime}
 use Rattle.pfs_track.specs.Scores.{score_after}
-use Rattle.pfs_track.specs.Admission.{new_node, nodes_with}
-use Rattle.pfs_track.proofs.SliceLaws.{lifetime-unread}
-use Rattle.pfs_track.specs.Counts.{has_node, is_node, is_of_source, node_scope_of, node_states, rule_states}
-use Rattle.pfs_track.specs.Calls.{source_states, stays_unflushed}
-use Rattle.pfs_track.specs.Leaving.{idled, is_flushed, without}
-use Rattle.pfs_track.specs.Plain.{AreCounts}
-use Rattle.pfs_track.specs.Purging.{has_expired, is_among, node_numbers, node_share, node_slice, node_stays, round, state_numbers, state_share, state_slice, stays}
-use Rattle.pfs_track.specs.Touching.{completes_at, nodes_scored, nodes_touched, renewed, rescored, touched}
-use Rattle.pfs_track.specs.Worlds.{holds_number, lists}
-use Rattle.pfs_track.specs.declared.records.Node.{Node}
-use Rattle.pfs_track.specs.declared.records.NodeScope.{NodeScope}
-use Rattle.pfs_track.specs.declared.records.State.{State}
+use Rattle.pfs_store_contract.specs.Admission.{new_node, nodes_with}
+use Rattle.pfs_store_contract.proofs.SliceLaws.{lifetime-unread}
+use Rattle.pfs_store_contract.specs.Counts.{has_node, is_node, is_of_source, node_scope_of, node_states, rule_states}
+use Rattle.pfs_store_contract.specs.Calls.{source_states, stays_unflushed}
+use Rattle.pfs_store_contract.specs.Leaving.{idled, is_flushed, without}
+use Rattle.pfs_store_contract.specs.Plain.{AreCounts}
+use Rattle.pfs_store_contract.specs.Purging.{has_expired, is_among, node_numbers, node_share, node_slice, node_stays, round, state_numbers, state_share, state_slice, stays}
+use Rattle.pfs_store_contract.specs.Touching.{completes_at, nodes_scored, nodes_touched, renewed, rescored, touched}
+use Rattle.pfs_store_contract.specs.Worlds.{holds_number, lists}
+use Rattle.pfs_store_contract.specs.declared.records.Node.{Node}
+use Rattle.pfs_store_contract.specs.declared.records.NodeScope.{NodeScope}
+use Rattle.pfs_store_contract.specs.declared.records.State.{State}
 use Rattle.pfs_store_index.specs.Records.{IsAbove, between}
 use Rattle.pfs_store_index.specs.Holdings.{Holding}
 use Rattle.pfs_store_index.specs.Rounds.{waiting}
-use Rattle.pfs_track.specs.Quiet.{StateStays}
+use Rattle.pfs_store_contract.specs.Quiet.{StateStays}
 use Rattle.pfs_store_index.specs.Staying.{StatesHold}
 use Rattle.pfs_store_index.specs.Stored.{due_at, AreUnread, IsNumbered, IsStored, has_pair, is_due, world_of}
 use Rattle.pfs_store_index.proofs.Leavings.{state_number}

@@ -2,9 +2,9 @@
 use Rattle.std.proofs.Common.{◌≡◌, ◌∙◌, ◌+◌, ◌-◌, ◌<◌, ◌≤◌, ◌==◌, ◌&&◌, ◌||◌, ℕ, Bool, true, false, not, if◌then◌else◌, Option, Some, None, List, [], ◌∷◌, ◌++◌, length, filter, take, drop, nat_lt, refl, ap, sym, subst, arith, length-take, length-drop, take-add, drop-drop}
 use Rattle.std.specs.List.{AllByRecursion}
 use Rattle.std.proofs.lemmas.Bool.Decides.{nat_tests}
-use Rattle.pfs_track.specs.Calls.{other_than}
-use Rattle.pfs_track.specs.Purging.{is_among, state_numbers}
-use Rattle.pfs_track.specs.declared.records.State.{State}
+use Rattle.pfs_store_contract.specs.Calls.{other_than}
+use Rattle.pfs_store_contract.specs.Purging.{is_among, state_numbers}
+use Rattle.pfs_store_contract.specs.declared.records.State.{State}
 use Rattle.pfs_store_index.specs.Records.{between}
 use Rattle.pfs_store_index.specs.Walks.{IsLeaver, IsNext, IsWalk}
 use Rattle.pfs_store_index.specs.Rounds.{waiting}

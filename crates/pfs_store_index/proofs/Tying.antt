@@ -6,19 +6,19 @@ use Rattle.std.specs.BTreeSet.{BTreeSet}
 use Rattle.std.specs.HashMap as hash
 use Rattle.std.specs.HashMap.{HashMap}
 use Rattle.std.specs.List.{find, list_any, AllByRecursion, IsDistinct}
-use Rattle.pfs_addr.specs.Packets.{Header}
-use Rattle.pfs_addr.specs.Sameness.{same_key}
-use Rattle.pfs_addr.specs.declared.addresses.Addr.{Addr}
-use Rattle.pfs_addr.specs.declared.packets.FlowKey.{FlowKey}
-use Rattle.pfs_conf_rules.specs.Configs.{Conf, options_of}
+use Rattle.pfs_addr_values.specs.Packets.{Header}
+use Rattle.pfs_addr_values.specs.Sameness.{same_key}
+use Rattle.pfs_addr_values.specs.declared.addresses.Addr.{Addr}
+use Rattle.pfs_addr_values.specs.declared.packets.FlowKey.{FlowKey}
+use Rattle.pfs_conf_values.specs.Configs.{Conf, options_of}
 use Rattle.pfs_track.specs.StatePhases.{is_done}
-use Rattle.pfs_track.specs.Counts.{node_scope_of, rule_states}
-use Rattle.pfs_track.specs.Calls.{other_than}
-use Rattle.pfs_track.specs.Plain.{AreCounts}
-use Rattle.pfs_track.specs.Purging.{state_numbers}
-use Rattle.pfs_track.specs.Touching.{completes_at, renewed}
-use Rattle.pfs_track.specs.declared.records.NodeScope.{NodeScope}
-use Rattle.pfs_track.specs.declared.records.State.{State}
+use Rattle.pfs_store_contract.specs.Counts.{node_scope_of, rule_states}
+use Rattle.pfs_store_contract.specs.Calls.{other_than}
+use Rattle.pfs_store_contract.specs.Plain.{AreCounts}
+use Rattle.pfs_store_contract.specs.Purging.{state_numbers}
+use Rattle.pfs_store_contract.specs.Touching.{completes_at, renewed}
+use Rattle.pfs_store_contract.specs.declared.records.NodeScope.{NodeScope}
+use Rattle.pfs_store_contract.specs.declared.records.State.{State}
 use Rattle.pfs_store_index.specs.Records.{IsRising, Placed, leaves_number, placed_at, states_of}
 use Rattle.pfs_store_index.specs.declared.nodes.Tally.{Tally}
 use Rattle.pfs_store_index.specs.declared.indexes.Entry.{Entry}

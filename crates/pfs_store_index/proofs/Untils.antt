@@ -1,12 +1,12 @@
 -- Up to when what was examined stays: of one more, of those of two stretches, and where some leave.
 use Rattle.std.proofs.Common.{◌≡◌, ◌∙◌, ◌≤◌, ◌==◌, ◌||◌, ℕ, Bool, true, false, not, Option, Some, None, List, [], ◌∷◌, ◌++◌, filter, min, slice_get, refl, ap, sym, subst, arith, if◌then◌else◌, ◌+◌, drop, take, take-add}
 use Rattle.std.specs.List.{find, AllByRecursion}
-use Rattle.pfs_track.specs.Calls.{other_than}
-use Rattle.pfs_conf_rules.specs.Configs.{Conf}
-use Rattle.pfs_track.specs.Purging.{is_among, state_numbers}
-use Rattle.pfs_track.specs.Quiet.{NodeStays}
-use Rattle.pfs_track.specs.declared.records.Node.{Node}
-use Rattle.pfs_track.specs.declared.records.State.{State}
+use Rattle.pfs_store_contract.specs.Calls.{other_than}
+use Rattle.pfs_conf_values.specs.Configs.{Conf}
+use Rattle.pfs_store_contract.specs.Purging.{is_among, state_numbers}
+use Rattle.pfs_store_contract.specs.Quiet.{NodeStays}
+use Rattle.pfs_store_contract.specs.declared.records.Node.{Node}
+use Rattle.pfs_store_contract.specs.declared.records.State.{State}
 use Rattle.pfs_store_index.specs.Records.{between}
 use Rattle.pfs_store_index.specs.Walks.{IsLeaver, IsNext, IsWalk, StayUntil}
 use Rattle.pfs_store_index.specs.Rounds.{waiting}

@@ -10,8 +10,8 @@ use Rattle.std.specs.declared.ops.Bound.TheVariants.{Included, Excluded}
 use Rattle.std.proofs.lemmas.Bool.Decides.{nat_tests}
 use Rattle.std.proofs.lemmas.Map.Keys.{sorted_head, sorted_tail}
 use Rattle.slab.specs.Slab.{Slab, get, ContainsKey}
-use Rattle.pfs_track.specs.Purging.{state_numbers}
-use Rattle.pfs_track.specs.declared.records.State.{State}
+use Rattle.pfs_store_contract.specs.Purging.{state_numbers}
+use Rattle.pfs_store_contract.specs.declared.records.State.{State}
 use Rattle.pfs_store_index.specs.Keeping.{AreInPlace, IsPlaced, held, number_in, place_of_record, record_in}
 use Rattle.pfs_store_index.specs.Records.{between, states_of}
 use Rattle.pfs_store_index.specs.Walks.{IsLeaver, IsWalk, StayUntil}

@@ -1,10 +1,10 @@
 -- Rounds of the purge as two numbers: those above the cursor and up to the mark are still to be examined.
 use Rattle.std.specs.Prelude.{ℕ, ◌==◌, ◌&&◌, not, Bool, List, filter, map}
-use Rattle.pfs_addr.specs.declared.addresses.Addr.{Addr}
-use Rattle.pfs_track.specs.Counts.{is_of_source}
-use Rattle.pfs_track.specs.Purging.{is_among}
-use Rattle.pfs_track.specs.declared.records.Node.{Node}
-use Rattle.pfs_track.specs.declared.records.State.{State}
+use Rattle.pfs_addr_values.specs.declared.addresses.Addr.{Addr}
+use Rattle.pfs_store_contract.specs.Counts.{is_of_source}
+use Rattle.pfs_store_contract.specs.Purging.{is_among}
+use Rattle.pfs_store_contract.specs.declared.records.Node.{Node}
+use Rattle.pfs_store_contract.specs.declared.records.State.{State}
 use Rattle.pfs_store_index.specs.Records.{between}
 
 -- the numbers that a round with this cursor and mark has still to examine

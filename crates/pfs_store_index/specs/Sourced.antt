@@ -1,10 +1,10 @@
 -- The source of a state, as its key and its direction tell it. (own)
 use Rattle.std.specs.Prelude.{◌≡◌}
-use Rattle.pfs_addr.specs.declared.addresses.Addr.{Addr}
-use Rattle.pfs_addr.specs.declared.packets.Dir.{Dir}
-use Rattle.pfs_addr.specs.declared.packets.Dir.TheVariants.{In, Out}
-use Rattle.pfs_addr.specs.declared.packets.FlowKey.{FlowKey}
-use Rattle.pfs_track.specs.declared.records.State.{State}
+use Rattle.pfs_addr_values.specs.declared.addresses.Addr.{Addr}
+use Rattle.pfs_addr_values.specs.declared.packets.Dir.{Dir}
+use Rattle.pfs_addr_values.specs.declared.packets.Dir.TheVariants.{In, Out}
+use Rattle.pfs_addr_values.specs.declared.packets.FlowKey.{FlowKey}
+use Rattle.pfs_store_contract.specs.declared.records.State.{State}
 
 -- the address of the end from which packets of a direction come
 abbrev pub source_at : Dir → FlowKey → Addr

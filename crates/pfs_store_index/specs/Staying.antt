@@ -1,11 +1,11 @@
 -- Up to when states and source nodes stay that were examined. (own)
 use Rattle.std.specs.Prelude.{ℕ, ◌≡◌, ◌≤◌, ◌==◌, true, List}
 use Rattle.std.specs.List.{AllByRecursion}
-use Rattle.pfs_conf_rules.specs.Configs.{Conf}
-use Rattle.pfs_track.specs.Purging.{is_among}
-use Rattle.pfs_track.specs.Quiet.{NodeStays}
-use Rattle.pfs_track.specs.declared.records.Node.{Node}
-use Rattle.pfs_track.specs.declared.records.State.{State}
+use Rattle.pfs_conf_values.specs.Configs.{Conf}
+use Rattle.pfs_store_contract.specs.Purging.{is_among}
+use Rattle.pfs_store_contract.specs.Quiet.{NodeStays}
+use Rattle.pfs_store_contract.specs.declared.records.Node.{Node}
+use Rattle.pfs_store_contract.specs.declared.records.State.{State}
 
 -- no state whose number is among these leaves before a moment, where each has one at which it leaves
 abbrev pub StatesHold : (State → ℕ) → List ℕ → ℕ → List State → Type 0

@@ -1,14 +1,14 @@
 -- A store of what is held, and of two rounds of the purge, each of which is two numbers. (own)
 use Rattle.std.specs.Prelude.{ℕ, ◌≡◌, ◌≤◌, ◌+◌, Bool, false, if◌then◌else◌, is_some, List, length, slice_index}
 use Rattle.std.specs.List.{AllByRecursion}
-use Rattle.pfs_conf_rules.specs.Configs.{Conf, rule_timeout_of}
-use Rattle.pfs_conf_rules.specs.declared.items.RuleNo.{RuleNo}
-use Rattle.pfs_conf_rules.specs.declared.timeouts.TimeoutName.{TimeoutName}
-use Rattle.pfs_conf_rules.specs.declared.timeouts.TimeoutName.TheVariants.{AdaptiveEnd, AdaptiveStart}
+use Rattle.pfs_conf_values.specs.Configs.{Conf, rule_timeout_of}
+use Rattle.pfs_conf_values.specs.declared.items.RuleNo.{RuleNo}
+use Rattle.pfs_conf_values.specs.declared.timeouts.TimeoutName.{TimeoutName}
+use Rattle.pfs_conf_values.specs.declared.timeouts.TimeoutName.TheVariants.{AdaptiveEnd, AdaptiveStart}
 use Rattle.pfs_track.specs.Lifetimes.{scaled, value_for}
-use Rattle.pfs_track.specs.Purging.{node_numbers, state_numbers}
-use Rattle.pfs_track.specs.Worlds.{World, lists}
-use Rattle.pfs_track.specs.declared.records.State.{State}
+use Rattle.pfs_store_contract.specs.Purging.{node_numbers, state_numbers}
+use Rattle.pfs_store_contract.specs.Worlds.{World, lists}
+use Rattle.pfs_store_contract.specs.declared.records.State.{State}
 use Rattle.pfs_store_index.specs.Walks.{end_of, state_has_expired}
 use Rattle.pfs_store_index.specs.Holdings.{Holding}
 use Rattle.pfs_store_index.specs.Rounds.{waiting}

@@ -2,12 +2,12 @@
 -- counts are own)
 use Rattle.std.specs.Prelude.{◌≡◌, ℕ, ◌==◌, ◌&&◌, not, Bool, true, if◌then◌else◌, List, map, slice_index}
 use Rattle.std.specs.List.{IsDistinct, list_any}
-use Rattle.pfs_addr.specs.declared.addresses.Addr.{Addr}
-use Rattle.pfs_track.specs.Counts.{is_node}
-use Rattle.pfs_track.specs.Purging.{node_numbers}
-use Rattle.pfs_track.specs.declared.records.Node.{Node}
-use Rattle.pfs_track.specs.declared.records.NodeScope.{NodeScope}
-use Rattle.pfs_track.specs.declared.records.NodeScope.TheVariants as node_scope
+use Rattle.pfs_addr_values.specs.declared.addresses.Addr.{Addr}
+use Rattle.pfs_store_contract.specs.Counts.{is_node}
+use Rattle.pfs_store_contract.specs.Purging.{node_numbers}
+use Rattle.pfs_store_contract.specs.declared.records.Node.{Node}
+use Rattle.pfs_store_contract.specs.declared.records.NodeScope.{NodeScope}
+use Rattle.pfs_store_contract.specs.declared.records.NodeScope.TheVariants as node_scope
 use Rattle.pfs_store_index.specs.Records.{IsRising}
 use Rattle.pfs_store_index.specs.declared.nodes.Tally.{Tally}
 

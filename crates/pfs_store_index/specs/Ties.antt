@@ -8,23 +8,23 @@ use Rattle.std.specs.HashMap.{HashMap}
 use Rattle.std.specs.List.{find, list_any, AllByRecursion, IsDistinct}
 use Rattle.std.specs.Ordering.{nat_cmp, ordering_then}
 use Rattle.std.specs.declared.cmp.Ordering.{Ordering}
-use Rattle.pfs_addr.specs.Sameness.{same_key}
-use Rattle.pfs_addr.specs.contracts.addresses.AddrOrd.TheImpl as addr_ord
-use Rattle.pfs_addr.specs.declared.addresses.Addr.{Addr}
-use Rattle.pfs_addr.specs.declared.packets.FlowKey.{FlowKey}
-use Rattle.pfs_conf_rules.specs.Configs.{Conf, scope_of}
-use Rattle.pfs_conf_rules.specs.declared.actions.Rate.{Rate}
-use Rattle.pfs_conf_rules.specs.declared.actions.Scope.TheVariants as scope
+use Rattle.pfs_addr_values.specs.Sameness.{same_key}
+use Rattle.pfs_addr_values.specs.contracts.addresses.AddrOrd.TheImpl as addr_ord
+use Rattle.pfs_addr_values.specs.declared.addresses.Addr.{Addr}
+use Rattle.pfs_addr_values.specs.declared.packets.FlowKey.{FlowKey}
+use Rattle.pfs_conf_values.specs.Configs.{Conf, scope_of}
+use Rattle.pfs_conf_values.specs.declared.actions.Rate.{Rate}
+use Rattle.pfs_conf_values.specs.declared.actions.Scope.TheVariants as scope
 use Rattle.pfs_track.specs.Scores.{score_after, zero_score}
 use Rattle.pfs_track.specs.StatePhases.{is_done}
 use Rattle.pfs_track.specs.declared.scores.Score.{Score}
-use Rattle.pfs_track.specs.Admission.{new_node}
-use Rattle.pfs_track.specs.Counts.{is_of_source, node_connections, node_scope_of, node_states}
-use Rattle.pfs_track.specs.Plain.{AreCounts}
-use Rattle.pfs_track.specs.declared.records.Node.{Node}
-use Rattle.pfs_track.specs.declared.records.NodeScope.{NodeScope}
-use Rattle.pfs_track.specs.declared.records.NodeScope.TheVariants as node_scope
-use Rattle.pfs_track.specs.declared.records.State.{State}
+use Rattle.pfs_store_contract.specs.Admission.{new_node}
+use Rattle.pfs_store_contract.specs.Counts.{is_of_source, node_connections, node_scope_of, node_states}
+use Rattle.pfs_store_contract.specs.Plain.{AreCounts}
+use Rattle.pfs_store_contract.specs.declared.records.Node.{Node}
+use Rattle.pfs_store_contract.specs.declared.records.NodeScope.{NodeScope}
+use Rattle.pfs_store_contract.specs.declared.records.NodeScope.TheVariants as node_scope
+use Rattle.pfs_store_contract.specs.declared.records.State.{State}
 use Rattle.pfs_store_index.specs.Records.{Placed, states_of}
 use Rattle.pfs_store_index.specs.Tallies.{is_tally}
 use Rattle.pfs_store_index.specs.declared.nodes.Tally.{Tally}

@@ -2,12 +2,12 @@
 -- of them; the test is that it has expired. (own)
 use Rattle.std.specs.Prelude.{◌≡◌, ℕ, ◌+◌, ◌<◌, ◌≤◌, ◌==◌, Bool, true, false, Option, Some, None, List, [], filter, length, slice_get, take, drop}
 use Rattle.std.specs.List.{AllByRecursion, find}
-use Rattle.pfs_conf_rules.specs.declared.items.RuleNo.{RuleNo}
-use Rattle.pfs_conf_rules.specs.declared.timeouts.TimeoutName.{TimeoutName}
+use Rattle.pfs_conf_values.specs.declared.items.RuleNo.{RuleNo}
+use Rattle.pfs_conf_values.specs.declared.timeouts.TimeoutName.{TimeoutName}
 use Rattle.pfs_track.specs.Lifetimes.{is_expired}
 use Rattle.pfs_track.specs.StatePhases.{slot}
-use Rattle.pfs_track.specs.Purging.{state_numbers}
-use Rattle.pfs_track.specs.declared.records.State.{State}
+use Rattle.pfs_store_contract.specs.Purging.{state_numbers}
+use Rattle.pfs_store_contract.specs.declared.records.State.{State}
 use Rattle.pfs_store_index.specs.Records.{between}
 
 -- the moment at which a state expires, and whether it has expired at a second, where states of a rule may stay so long in

@@ -4,7 +4,7 @@ ghost use Rattle.std.specs.Prelude.{◌≡◌, ◌+◌, ◌-◌, ◌<◌, ◌≤
 ghost use Rattle.pfs_store_index.specs.Stored.{AreUnread, has_pair, seconds_of};
 
 use crate::walks::Lifetimes;
-use pfs_conf_rules::{Config, RuleNo, TimeoutName};
+use pfs_conf_values::{Config, RuleNo, TimeoutName};
 use pfs_track::{StatePhase, lifetime};
 
 /// The lifetimes of states, where the rules had these counts of states and so many were held.

@@ -1,18 +1,18 @@
 //! The states of a source are flushed: a walk over its own states alone.
 
 ghost use Rattle.std.specs.Prelude.{◌≡◌, ◌+◌, ◌-◌, ◌<◌, ◌≤◌, ◌^◌, filter, length, map, true};
-ghost use Rattle.pfs_track.specs.Calls.{source_states, stays_unflushed};
-ghost use Rattle.pfs_track.specs.Leaving.{idled, is_flushed};
-ghost use Rattle.pfs_track.specs.Purging.{state_numbers};
-ghost use Rattle.pfs_track.specs.Worlds.{holds_number};
+ghost use Rattle.pfs_store_contract.specs.Calls.{source_states, stays_unflushed};
+ghost use Rattle.pfs_store_contract.specs.Leaving.{idled, is_flushed};
+ghost use Rattle.pfs_store_contract.specs.Purging.{state_numbers};
+ghost use Rattle.pfs_store_contract.specs.Worlds.{holds_number};
 ghost use Rattle.pfs_store_index.specs.Records.{IsRising};
 ghost use Rattle.pfs_store_index.specs.Rounds.{state_survives};
 ghost use Rattle.pfs_store_index.specs.Stored.{IsNumbered};
 
 use crate::indexes::Indexes;
-use pfs_addr::{Addr, Meter};
-use pfs_conf_rules::RuleNo;
-use pfs_track::State;
+use pfs_addr_values::{Addr, Meter};
+use pfs_conf_values::RuleNo;
+use pfs_store_contract::State;
 use std::hash::BuildHasher;
 
 /// Takes out the states of a source, all of them or those of one rule, of a store that has made so many states. It looks at

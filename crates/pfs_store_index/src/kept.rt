@@ -4,9 +4,10 @@ ghost use Rattle.std.specs.Prelude.{◌≡◌, ◌<◌, ◌^◌};
 ghost use Rattle.pfs_store_index.specs.Sourced.{IsSourced, source_at};
 ghost use Rattle.pfs_track.specs.StatePhases.{slot};
 
-use pfs_addr::{Addr, Dir, FlowKey};
-use pfs_conf_rules::{RuleNo, TimeoutName};
-use pfs_track::{State, StatePhase};
+use pfs_addr_values::{Addr, Dir, FlowKey};
+use pfs_conf_values::{RuleNo, TimeoutName};
+use pfs_store_contract::State;
+use pfs_track::StatePhase;
 use std::marker::Model;
 
 /// A state whose source is the end of its key from which packets of its direction come. Clauses see the state.
@@ -23,7 +24,7 @@ pub(crate) struct Kept {
 }
 
 impl Model for Kept {
-    ghost use Rattle.pfs_track.specs.declared.records.State.{State};
+    ghost use Rattle.pfs_store_contract.specs.declared.records.State.{State};
     ghost use Rattle.pfs_store_index.specs.Sourced.{source_at};
 
     ghost Value = { State };

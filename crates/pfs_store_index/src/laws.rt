@@ -3,7 +3,7 @@
 ghost use Rattle.std.specs.Prelude.{◌≡◌, true};
 
 use crate::store::IndexStore;
-use pfs_track::Store;
+use pfs_store_contract::Store;
 use std::hash::BuildHasher;
 
 /// The store by indexes counts looks: what `Store` and the engine promise where a kind of store counts looks is promised of it.

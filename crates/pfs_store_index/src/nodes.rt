@@ -2,17 +2,17 @@
 
 ghost use Rattle.std.specs.Prelude.{◌≡◌, ◌<◌, ◌≤◌, ◌++◌, ◌∷◌, [], IfSome, None, OnErr, OnOk, Some, filter, length, map, option_map, slice_get, true};
 ghost use Rattle.std.specs.List.{AllByRecursion, find, list_any};
-ghost use Rattle.pfs_track.specs.Counts.{scope_nodes};
-ghost use Rattle.pfs_track.specs.Purging.{node_numbers};
-ghost use Rattle.pfs_track.specs.Quiet.{turned};
+ghost use Rattle.pfs_store_contract.specs.Counts.{scope_nodes};
+ghost use Rattle.pfs_store_contract.specs.Purging.{node_numbers};
+ghost use Rattle.pfs_store_contract.specs.Quiet.{turned};
 ghost use Rattle.pfs_store_index.specs.Records.{IsAbove, between};
 ghost use Rattle.pfs_store_index.specs.Tallies.{IsOrderly, IsTallied, has_node_number, is_tally, nodes_of, other_node, put_tally};
 
 use crate::rounds::{Round, turned};
 use crate::scope_counts::ScopeCounts;
 use indexmap::IndexMap;
-use pfs_addr::{Addr, NoMemory};
-use pfs_track::{Node, NodeScope};
+use pfs_addr_values::{Addr, NoMemory};
+use pfs_store_contract::{Node, NodeScope};
 use std::alloc::Global;
 use std::collections::BTreeMap;
 use std::hash::BuildHasher;

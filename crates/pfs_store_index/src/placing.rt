@@ -3,7 +3,7 @@
 ghost use Rattle.std.specs.Prelude.{◌≡◌, ◌<◌, ◌^◌, ◌++◌, ◌∷◌, [], IfOk, OnErr, OnOk, false, Some};
 ghost use Rattle.std.specs.BTreeSet.{contains};
 ghost use Rattle.std.specs.List.{AllByRecursion};
-ghost use Rattle.pfs_track.specs.Purging.{node_numbers, state_numbers};
+ghost use Rattle.pfs_store_contract.specs.Purging.{node_numbers, state_numbers};
 ghost use Rattle.pfs_store_index.specs.Records.{IsAbove, placed_at, states_of};
 ghost use Rattle.pfs_store_index.specs.Sourced.{IsSourced};
 ghost use Rattle.pfs_store_index.specs.Tallies.{nodes_of};
@@ -12,8 +12,8 @@ ghost use Rattle.pfs_store_index.specs.Ties.{HasPair, IsFew, SamePairs, joined, 
 use crate::nodes::Nodes;
 use crate::records::Records;
 use crate::tallying::join;
-use pfs_addr::{Addr, NoMemory};
-use pfs_track::{NodeScope, State};
+use pfs_addr_values::{Addr, NoMemory};
+use pfs_store_contract::{NodeScope, State};
 use std::collections::BTreeSet;
 use std::hash::BuildHasher;
 

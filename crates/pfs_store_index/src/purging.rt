@@ -2,13 +2,13 @@
 
 ghost use Rattle.std.specs.Prelude.{◌≡◌, ◌+◌, ◌-◌, ◌<◌, ◌≤◌, ◌^◌, ◌==◌, ◌&&◌, [], IfSome, Some, drop, filter, length, map, nat_le, take, true};
 ghost use Rattle.std.specs.List.{AllByRecursion, find};
-ghost use Rattle.pfs_conf_rules.specs.Configs.{rule_retention, timeout_of};
-ghost use Rattle.pfs_conf_rules.specs.declared.timeouts.TimeoutName.TheVariants as timeout;
-ghost use Rattle.pfs_track.specs.Counts.{node_states};
-ghost use Rattle.pfs_track.specs.Leaving.{idled};
-ghost use Rattle.pfs_track.specs.Plain.{AreCounts};
-ghost use Rattle.pfs_track.specs.Purging.{is_among, is_over, node_numbers, node_retention, node_stays, round, share, state_numbers, stays};
-ghost use Rattle.pfs_track.specs.Quiet.{StateStays};
+ghost use Rattle.pfs_conf_values.specs.Configs.{rule_retention, timeout_of};
+ghost use Rattle.pfs_conf_values.specs.declared.timeouts.TimeoutName.TheVariants as timeout;
+ghost use Rattle.pfs_store_contract.specs.Counts.{node_states};
+ghost use Rattle.pfs_store_contract.specs.Leaving.{idled};
+ghost use Rattle.pfs_store_contract.specs.Plain.{AreCounts};
+ghost use Rattle.pfs_store_contract.specs.Purging.{is_among, is_over, node_numbers, node_retention, node_stays, round, share, state_numbers, stays};
+ghost use Rattle.pfs_store_contract.specs.Quiet.{StateStays};
 ghost use Rattle.pfs_store_index.specs.Records.{IsRising};
 ghost use Rattle.pfs_store_index.specs.Walks.{IsWalk, StayUntil, looks_of};
 ghost use Rattle.pfs_store_index.specs.Staying.{NodeHolds, NodesHold, StatesHold};
@@ -20,9 +20,9 @@ use crate::indexes::Indexes;
 use crate::nodes::Tally;
 use crate::rounds::Round;
 use crate::walks::Walk;
-use pfs_addr::Meter;
-use pfs_conf_rules::{Config, StateOptions, TimeoutName};
-use pfs_track::NodeScope;
+use pfs_addr_values::Meter;
+use pfs_conf_values::{Config, StateOptions, TimeoutName};
+use pfs_store_contract::NodeScope;
 use std::hash::BuildHasher;
 
 /// What a walk did: up to where it went, how many it examined, how many of them left, and up to when the others stay.

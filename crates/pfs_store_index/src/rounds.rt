@@ -3,8 +3,8 @@
 ghost use Rattle.std.specs.Prelude.{◌≡◌, ◌+◌, ◌-◌, ◌<◌, ◌≤◌, ◌==◌, [], drop, filter, length};
 ghost use Rattle.std.specs.List.{AllByRecursion};
 ghost use Rattle.std.specs.Map.{keys_of};
-ghost use Rattle.pfs_track.specs.Purging.{round};
-ghost use Rattle.pfs_track.specs.Quiet.{turned};
+ghost use Rattle.pfs_store_contract.specs.Purging.{round};
+ghost use Rattle.pfs_store_contract.specs.Quiet.{turned};
 ghost use Rattle.pfs_store_index.specs.Records.{IsRising, between};
 
 use std::collections::BTreeMap;

@@ -1,13 +1,13 @@
 //! How many source nodes each scope has.
 
 ghost use Rattle.std.specs.Prelude.{◌≡◌, ◌+◌, ◌-◌, ◌<◌, ◌^◌, ℕ, OnErr, OnOk};
-ghost use Rattle.pfs_track.specs.Counts.{same_scope};
-ghost use Rattle.pfs_track.specs.declared.records.NodeScope.{NodeScope};
+ghost use Rattle.pfs_store_contract.specs.Counts.{same_scope};
+ghost use Rattle.pfs_store_contract.specs.declared.records.NodeScope.{NodeScope};
 ghost use Rattle.pfs_store_index.specs.Keeping.{HasRoom, SameCounts, one_if};
 ghost use Rattle.pfs_store_index.specs.Tallies.{count_of};
 
-use pfs_addr::NoMemory;
-use pfs_track::NodeScope;
+use pfs_addr_values::NoMemory;
+use pfs_store_contract::NodeScope;
 use std::alloc::Global;
 
 /// A count for each scope: those of rules by their numbers, where the last are 0, and that of all.

@@ -7,7 +7,7 @@ ghost use Rattle.pfs_store_index.specs.Stays.{IsStay};
 
 use crate::kept::Kept;
 use crate::walks::Lifetimes;
-use pfs_conf_rules::{RuleNo, TimeoutName};
+use pfs_conf_values::{RuleNo, TimeoutName};
 use pfs_track::is_expired;
 
 /// For how many seconds states of a rule may stay in a phase of a timeout.

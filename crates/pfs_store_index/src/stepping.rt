@@ -1,10 +1,10 @@
 //! What a packet makes of a state.
 
 ghost use Rattle.std.specs.Prelude.{◌≡◌};
-ghost use Rattle.pfs_track.specs.Touching.{completes_at, goes_forward, stepped};
+ghost use Rattle.pfs_store_contract.specs.Touching.{completes_at, goes_forward, stepped};
 
-use pfs_addr::Packet;
-use pfs_track::State;
+use pfs_addr_values::Packet;
+use pfs_store_contract::State;
 
 /// The state after a packet of it, and whether its handshake completes with it.
 pub(crate) fn stepped(state: &State, packet: &Packet, now: u64) -> (State, bool)

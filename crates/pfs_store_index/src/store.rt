@@ -1,7 +1,7 @@
 //! A store by indexes.
 
 ghost use Rattle.std.specs.Prelude.{◌≡◌, IfOk, true};
-ghost use Rattle.pfs_track.specs.Worlds.{empty_world};
+ghost use Rattle.pfs_store_contract.specs.Worlds.{empty_world};
 
 use crate::expiring::counted_rules;
 use crate::flushing::flush;
@@ -12,9 +12,10 @@ use crate::purging::{
     walk_states,
 };
 use crate::rounds::Round;
-use pfs_addr::{Addr, FlowKey, Meter, NoMemory, Packet};
-use pfs_conf_rules::{Config, LimitName, RuleNo};
-use pfs_track::{Limit, Slice, State, StateNo, StatePhase, Store, Touched, Watched};
+use pfs_addr_values::{Addr, FlowKey, Meter, NoMemory, Packet};
+use pfs_conf_values::{Config, LimitName, RuleNo};
+use pfs_store_contract::{Limit, Slice, State, StateNo, Store, Touched, Watched};
+use pfs_track::StatePhase;
 use std::alloc::Global;
 use std::hash::{BuildHasher, BuildHasherDefault, FoldHasher};
 use std::marker::Model;
@@ -35,7 +36,7 @@ pub struct IndexStore<S: BuildHasher> {
 
 impl<S: BuildHasher> Model for IndexStore<S> {
     ghost use Rattle.std.specs.Prelude.{length};
-    ghost use Rattle.pfs_track.specs.Plain.{Plain};
+    ghost use Rattle.pfs_store_contract.specs.Plain.{Plain};
     ghost use Rattle.pfs_store_index.specs.Stored.{IsStored, world_of};
 
     ghost Value = { Plain };

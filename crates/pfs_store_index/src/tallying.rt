@@ -2,20 +2,21 @@
 
 ghost use Rattle.std.specs.Prelude.{◌≡◌, ◌≤◌, [], IfSome, OnErr, OnOk, Some, map, true};
 ghost use Rattle.std.specs.List.{AllByRecursion, find, list_any};
-ghost use Rattle.pfs_conf_rules.specs.Configs.{options_of};
-ghost use Rattle.pfs_conf_rules.specs.Bounds.{IsRate};
-ghost use Rattle.pfs_track.specs.Counts.{node_scope_of};
-ghost use Rattle.pfs_track.specs.Purging.{node_numbers};
-ghost use Rattle.pfs_track.specs.Worlds.{IsUpToNow, lists};
+ghost use Rattle.pfs_conf_values.specs.Configs.{options_of};
+ghost use Rattle.pfs_conf_values.specs.Bounds.{IsRate};
+ghost use Rattle.pfs_store_contract.specs.Counts.{node_scope_of};
+ghost use Rattle.pfs_store_contract.specs.Purging.{node_numbers};
+ghost use Rattle.pfs_store_contract.specs.Worlds.{IsUpToNow, lists};
 ghost use Rattle.pfs_store_index.specs.Records.{IsAbove};
 ghost use Rattle.pfs_store_index.specs.Tallies.{is_tally, nodes_of};
 ghost use Rattle.pfs_store_index.specs.Ties.{HasTally, IsFew, IsScored, at_node, connections_at, joined, left_of, met_by, score_at, scored_by};
 
 use crate::indexes::node_scope;
 use crate::nodes::{Nodes, Tally};
-use pfs_addr::{Addr, NoMemory};
-use pfs_conf_rules::{Config, Rate, RuleNo};
-use pfs_track::{Node, NodeScope, Score, State};
+use pfs_addr_values::{Addr, NoMemory};
+use pfs_conf_values::{Config, Rate, RuleNo};
+use pfs_store_contract::{Node, NodeScope, State};
+use pfs_track::Score;
 use std::hash::BuildHasher;
 
 /// What is told of a node after a packet of one of its states; 0 where there is none.

@@ -1,12 +1,13 @@
 //! Walks over records in the order of their numbers: how long states may stay, and how far a walk came.
 
 ghost use Rattle.std.specs.Prelude.{◌≡◌, ℕ};
-ghost use Rattle.pfs_conf_rules.specs.declared.items.RuleNo.{RuleNo};
-ghost use Rattle.pfs_conf_rules.specs.declared.timeouts.TimeoutName.{TimeoutName};
+ghost use Rattle.pfs_conf_values.specs.declared.items.RuleNo.{RuleNo};
+ghost use Rattle.pfs_conf_values.specs.declared.timeouts.TimeoutName.{TimeoutName};
 ghost use Rattle.pfs_track.specs.StatePhases.{slot};
 
-use pfs_conf_rules::RuleNo;
-use pfs_track::{State, StatePhase};
+use pfs_conf_values::RuleNo;
+use pfs_store_contract::State;
+use pfs_track::StatePhase;
 
 /// How long states may stay without a packet, by the rule that made them and the timeout of their phase.
 pub trait Lifetimes {

@@ -1,8 +1,8 @@
 -- What the store over plain lists keeps to itself.
 use Rattle.std.specs.Prelude.{ℕ, ◌≡◌, ◌≤◌, List, All, length}
-use Rattle.pfs_conf_rules.specs.Configs.{Conf}
-use Rattle.pfs_track.specs.declared.records.Node.{Node}
-use Rattle.pfs_track.specs.declared.records.State.{State}
+use Rattle.pfs_conf_values.specs.Configs.{Conf}
+use Rattle.pfs_store_contract.specs.declared.records.Node.{Node}
+use Rattle.pfs_store_contract.specs.declared.records.State.{State}
 
 -- no score is past the greatest
 abbrev pub AreScores : List Node → Type 0

@@ -1,12 +1,12 @@
 // Counts of states, and the nodes that a scope has.
 
 ghost use Rattle.std.specs.Prelude.{◌≡◌, Bool, filter, length};
-ghost use Rattle.pfs_track.specs.Counts.{has_node, in_scope, is_connection, is_of_node, is_of_rule, node_scope_of, reached, scope_nodes};
-ghost use Rattle.pfs_track.specs.declared.records.State.{State};
+ghost use Rattle.pfs_store_contract.specs.Counts.{has_node, in_scope, is_connection, is_of_node, is_of_rule, node_scope_of, reached, scope_nodes};
+ghost use Rattle.pfs_store_contract.specs.declared.records.State.{State};
 
-use pfs_addr::Addr;
-use pfs_conf_rules::{Config, RuleNo, Scope};
-use pfs_track::{Node, NodeScope, State};
+use pfs_addr_values::Addr;
+use pfs_conf_values::{Config, RuleNo, Scope};
+use pfs_store_contract::{Node, NodeScope, State};
 
 /// A test of states.
 pub(crate) trait Test {

@@ -1,16 +1,16 @@
 // States leave, in lists of states and nodes.
 
 ghost use Rattle.std.specs.Prelude.{◌≡◌, ◌≤◌, ℕ, List, filter, length, map, vec_capacity};
-ghost use Rattle.pfs_track.specs.Counts.{node_states};
-ghost use Rattle.pfs_track.specs.Leaving.{idled, is_flushed, without};
-ghost use Rattle.pfs_track.specs.Calls.{other_than, stays_unflushed};
+ghost use Rattle.pfs_store_contract.specs.Counts.{node_states};
+ghost use Rattle.pfs_store_contract.specs.Leaving.{idled, is_flushed, without};
+ghost use Rattle.pfs_store_contract.specs.Calls.{other_than, stays_unflushed};
 ghost use Rattle.pfs_store_plain.specs.Rooms.{AreScores};
-ghost use Rattle.pfs_track.specs.Worlds.{holds_number, lists};
+ghost use Rattle.pfs_store_contract.specs.Worlds.{holds_number, lists};
 
 use crate::counts::{OfNode, Test, count};
-use pfs_addr::Addr;
-use pfs_conf_rules::{Config, RuleNo};
-use pfs_track::{Node, State};
+use pfs_addr_values::Addr;
+use pfs_conf_values::{Config, RuleNo};
+use pfs_store_contract::{Node, State};
 
 /// All states but that of a number.
 #[derive(Clone, Copy)]

@@ -1,18 +1,18 @@
 // The limits that a new state meets.
 
 ghost use Rattle.std.specs.Prelude.{◌≡◌, [], IsSome};
-ghost use Rattle.pfs_conf_rules.specs.Configs.{options_at, options_of};
-ghost use Rattle.pfs_track.specs.Admission.{limit_met};
-ghost use Rattle.pfs_track.specs.SourceLimits.{held_node_limit, new_node_limit, source_limit};
-ghost use Rattle.pfs_track.specs.Worlds.{lists};
+ghost use Rattle.pfs_conf_values.specs.Configs.{options_at, options_of};
+ghost use Rattle.pfs_store_contract.specs.Admission.{limit_met};
+ghost use Rattle.pfs_store_contract.specs.SourceLimits.{held_node_limit, new_node_limit, source_limit};
+ghost use Rattle.pfs_store_contract.specs.Worlds.{lists};
 
 use crate::counts::{OfNode, OfRule, count, has_node, is_reached, node_scope, scope_nodes};
-use pfs_addr::Addr;
-use pfs_conf_rules::{Config, LimitName, RuleNo, StateOptions};
-use pfs_track::{Limit, Node, NodeScope, State};
+use pfs_addr_values::Addr;
+use pfs_conf_values::{Config, LimitName, RuleNo, StateOptions};
+use pfs_store_contract::{Limit, Node, NodeScope, State};
 
 /// The first limit that a state of this rule and source would meet.
-#[tactic(auto, using(pfs_track::proofs::LimitLaws::met_in_turn))]
+#[tactic(auto, using(pfs_store_contract::proofs::LimitLaws::met_in_turn))]
 pub(crate) fn limit_met(
     config: &Config,
     states: &[State],

@@ -1,20 +1,21 @@
 // A store over plain lists.
 
 ghost use Rattle.std.specs.Prelude.{◌≡◌, ◌+◌, ◌<◌, ◌≤◌, [], ◌∷◌, ◌++◌, false, IfOk, IsOk, IsSome, None, OnErr, OnOk, length, vec_capacity};
-ghost use Rattle.pfs_conf_rules.specs.Configs.{options_at};
-ghost use Rattle.pfs_track.specs.Admission.{admitted, nodes_with};
-ghost use Rattle.pfs_track.specs.Calls.{packet_limit};
+ghost use Rattle.pfs_conf_values.specs.Configs.{options_at};
+ghost use Rattle.pfs_store_contract.specs.Admission.{admitted, nodes_with};
+ghost use Rattle.pfs_store_contract.specs.Calls.{packet_limit};
 ghost use Rattle.pfs_store_plain.specs.Rooms.{AreScores};
-ghost use Rattle.pfs_track.specs.Worlds.{empty_world};
+ghost use Rattle.pfs_store_contract.specs.Worlds.{empty_world};
 
 use crate::counts::{count, has_node, node_scope};
 use crate::leaving::{Flushed, OtherThan, Unflushed, holds_number, leave};
 use crate::limits::limit_met;
 use crate::purging::{slice_nodes, slice_states};
 use crate::touching::{self, state_with};
-use pfs_addr::{Addr, FlowKey, Meter, NoMemory, Packet};
-use pfs_conf_rules::{Config, RuleNo};
-use pfs_track::{Limit, Node, NodeScope, Score, Slice, State, StateNo, StatePhase, Store, Touched};
+use pfs_addr_values::{Addr, FlowKey, Meter, NoMemory, Packet};
+use pfs_conf_values::{Config, RuleNo};
+use pfs_store_contract::{Limit, Node, NodeScope, Slice, State, StateNo, Store, Touched};
+use pfs_track::{Score, StatePhase};
 use std::alloc::{AllocError, Global};
 use std::marker::Model;
 
@@ -34,9 +35,9 @@ pub struct PlainStore {
 
 impl Model for PlainStore {
     ghost use Rattle.std.specs.Prelude.{vec_capacity};
-    ghost use Rattle.pfs_track.specs.Plain.{Plain};
+    ghost use Rattle.pfs_store_contract.specs.Plain.{Plain};
     ghost use Rattle.pfs_store_plain.specs.Rooms.{IsRoomy};
-    ghost use Rattle.pfs_track.specs.Worlds.{lists};
+    ghost use Rattle.pfs_store_contract.specs.Worlds.{lists};
 
     ghost Value = { Plain };
 

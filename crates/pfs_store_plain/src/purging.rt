@@ -1,21 +1,22 @@
 // The slices of the purge, in lists of states and nodes.
 
 ghost use Rattle.std.specs.Prelude.{◌≡◌, ◌+◌, ◌-◌, ◌<◌, ◌≤◌, ◌==◌, ◌&&◌, ℕ, [], List, ◌^◌, not, drop, filter, length, map, min, None, replicate, slice_index, slice_index_or, take, unwrap_or, vec_capacity};
-ghost use Rattle.pfs_conf_rules.specs.Configs.{rate_seconds, rule_retention, timeout_of};
-ghost use Rattle.pfs_conf_rules.specs.declared.timeouts.TimeoutName.TheVariants as timeout;
-ghost use Rattle.pfs_conf_rules.specs.Timeouts.{place_of};
+ghost use Rattle.pfs_conf_values.specs.Configs.{rate_seconds, rule_retention, timeout_of};
+ghost use Rattle.pfs_conf_values.specs.declared.timeouts.TimeoutName.TheVariants as timeout;
+ghost use Rattle.pfs_conf_values.specs.Timeouts.{place_of};
 ghost use Rattle.pfs_track.specs.Lifetimes.{is_expired, scaled_lifetime};
-ghost use Rattle.pfs_track.specs.Counts.{rule_states};
-ghost use Rattle.pfs_track.specs.Plain.{AreCounts};
-ghost use Rattle.pfs_track.specs.Purging.{is_among, is_over, node_retention, node_share, node_slice, node_stays, round, share, state_share, state_slice};
-ghost use Rattle.pfs_track.specs.Calls.{node_slice_of, state_slice_of};
+ghost use Rattle.pfs_store_contract.specs.Counts.{rule_states};
+ghost use Rattle.pfs_store_contract.specs.Plain.{AreCounts};
+ghost use Rattle.pfs_store_contract.specs.Purging.{is_among, is_over, node_retention, node_share, node_slice, node_stays, round, share, state_share, state_slice};
+ghost use Rattle.pfs_store_contract.specs.Calls.{node_slice_of, state_slice_of};
 ghost use Rattle.pfs_store_plain.specs.Rooms.{AreScores};
-ghost use Rattle.pfs_track.specs.Worlds.{lists};
+ghost use Rattle.pfs_store_contract.specs.Worlds.{lists};
 
 use crate::counts::{OfNode, Test, count};
 use crate::leaving::{idle, keep};
-use pfs_conf_rules::{Config, LimitName, StateOptions, TimeoutName};
-use pfs_track::{Node, NodeScope, Slice, State, is_expired, lifetime};
+use pfs_conf_values::{Config, LimitName, StateOptions, TimeoutName};
+use pfs_store_contract::{Node, NodeScope, Slice, State};
+use pfs_track::{is_expired, lifetime};
 
 /// What a round goes over: states, or source nodes.
 pub(crate) trait Numbered {

@@ -1,19 +1,20 @@
 // A packet of a state that is held, in lists of states and nodes.
 
 ghost use Rattle.std.specs.Prelude.{◌≡◌, ◌≤◌, ℕ, [], IfSome, IsSome, List, Some, map, option_map};
-ghost use Rattle.pfs_addr.specs.Keys.{key_of};
-ghost use Rattle.pfs_conf_rules.specs.Configs.{options_of};
-ghost use Rattle.pfs_conf_rules.specs.Bounds.{IsRate};
-ghost use Rattle.pfs_track.specs.Counts.{node_scope_of};
+ghost use Rattle.pfs_addr_values.specs.Keys.{key_of};
+ghost use Rattle.pfs_conf_values.specs.Configs.{options_of};
+ghost use Rattle.pfs_conf_values.specs.Bounds.{IsRate};
+ghost use Rattle.pfs_store_contract.specs.Counts.{node_scope_of};
 ghost use Rattle.pfs_store_plain.specs.Rooms.{AreScores};
-ghost use Rattle.pfs_track.specs.Touching.{completes_at, connections_in, goes_forward, node_score, nodes_scored, nodes_touched, renewed, rescored, score_in};
-ghost use Rattle.pfs_track.specs.Calls.{touch_of, world_touched};
-ghost use Rattle.pfs_track.specs.Worlds.{IsUpToNow, lists, state_with};
+ghost use Rattle.pfs_store_contract.specs.Touching.{completes_at, connections_in, goes_forward, node_score, nodes_scored, nodes_touched, renewed, rescored, score_in};
+ghost use Rattle.pfs_store_contract.specs.Calls.{touch_of, world_touched};
+ghost use Rattle.pfs_store_contract.specs.Worlds.{IsUpToNow, lists, state_with};
 
 use crate::counts::{Connections, OfNode, count, node_scope};
-use pfs_addr::{Addr, FlowKey, Packet};
-use pfs_conf_rules::{Config, Rate, RuleNo};
-use pfs_track::{Node, NodeScope, Score, State, Touched};
+use pfs_addr_values::{Addr, FlowKey, Packet};
+use pfs_conf_values::{Config, Rate, RuleNo};
+use pfs_store_contract::{Node, NodeScope, State, Touched};
+use pfs_track::Score;
 
 /// Takes a packet of the state that has its key.
 pub(crate) fn touch(

@@ -1,11 +1,11 @@
 //! Calls of a store, each of which leaves it made for its configuration, and with nothing that comes after its moment.
 
 ghost use Rattle.std.specs.Prelude.{◌≡◌};
-ghost use Rattle.pfs_track.specs.Worlds.{IsUpToNow};
+ghost use Rattle.pfs_store_contract.specs.Worlds.{IsUpToNow};
 
-use pfs_addr::{Addr, FlowKey, Meter, Packet};
+use pfs_addr_values::{Addr, FlowKey, Meter, Packet};
 use pfs_conf::{Config, RuleNo};
-use pfs_track::{Limit, Slice, StateNo, Store, Touched, Watched};
+use pfs_store_contract::{Limit, Slice, StateNo, Store, Touched, Watched};
 use std::process::Abort;
 use std::test::Fail;
 

@@ -2,15 +2,15 @@
 //! one.
 
 ghost use Rattle.std.specs.Prelude.{◌≡◌};
-ghost use Rattle.pfs_track.specs.Worlds.{IsUpToNow};
+ghost use Rattle.pfs_store_contract.specs.Worlds.{IsUpToNow};
 
 use crate::calls::{admit, flush, kill, purge_nodes, purge_states, touch};
 use crate::packets::{Sent, packet};
-use pfs_addr::{Addr, Flags, FlowKey, Packet};
+use pfs_addr_values::{Addr, Flags, FlowKey, Packet};
 use pfs_conf::{Config, RuleNo, load};
 use pfs_store::IndexStore;
+use pfs_store_contract::{Limit, Slice, StateNo, Store, Touched};
 use pfs_store_plain::PlainStore;
-use pfs_track::{Limit, Slice, StateNo, Store, Touched};
 use std::alloc::AllocGlobal;
 use std::process::Abort;
 use std::test::Fail;

@@ -3,7 +3,7 @@
 use crate::engines::tell_each;
 use crate::packets::A1;
 use crate::scripts::{Came, Case};
-use pfs_addr::Addr;
+use pfs_addr_values::Addr;
 use pfs_conf::RuleNo;
 use pfs_engine::{Added, Outcome};
 use std::test::Fail;

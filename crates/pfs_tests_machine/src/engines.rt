@@ -6,12 +6,12 @@ ghost use Rattle.pfs_engine_machine.specs.Runs.{AreAllowed, IsInOrder, MayCome, 
 
 use crate::scripts::{Case, Script};
 use crate::tallied::Tallied;
-use pfs_addr::Packet;
+use pfs_addr_values::Packet;
 use pfs_conf::{Config, TableNo, load};
 use pfs_engine::{Engine, Event, Outcome, What};
 use pfs_store::IndexStore;
+use pfs_store_contract::Store;
 use pfs_store_plain::PlainStore;
-use pfs_track::Store;
 use std::alloc::{AllocGlobal, Global};
 use std::hash::{BuildHasherDefault, FoldHasher};
 use std::process::Abort;

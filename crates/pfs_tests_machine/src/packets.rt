@@ -1,9 +1,9 @@
 //! Packets on em0 between sources and a server.
 
 ghost use Rattle.std.specs.Prelude.{◌≡◌, true};
-ghost use Rattle.pfs_addr.specs.Protocols.{has_ports};
+ghost use Rattle.pfs_addr_values.specs.Protocols.{has_ports};
 
-use pfs_addr::{Addr, Dir, Endpoint, Flags, Packet, Proto, parse_ifname};
+use pfs_addr_values::{Addr, Dir, Endpoint, Flags, Packet, Proto, parse_ifname};
 use std::test::Fail;
 
 /// Two sources.

@@ -1,7 +1,7 @@
 //! Lists of events with their outcomes, written as rows.
 
 use crate::packets::{ACK, FIN_ACK, RST, SYN, SYN_ACK, Sent, packet};
-use pfs_addr::Addr;
+use pfs_addr_values::Addr;
 use pfs_conf::{RuleNo, TableNo};
 use pfs_engine::{Event, Outcome, What};
 use std::alloc::Global;

@@ -1,7 +1,7 @@
 //! Stores by themselves: the numbers of states, what is told of handshakes, what leaves, and the slices of a round.
 
 ghost use Rattle.std.specs.Prelude.{◌≡◌, ◌≤◌};
-ghost use Rattle.pfs_track.specs.Worlds.{IsUpToNow};
+ghost use Rattle.pfs_store_contract.specs.Worlds.{IsUpToNow};
 
 use crate::calls::{
     admit, flush, kill, pass_over, purge_nodes, purge_states, touch, watch_nodes, watch_states,
@@ -9,11 +9,12 @@ use crate::calls::{
 use crate::engines::{UNSCALED, configured};
 use crate::packets::{A1, A2, ACK, SYN, SYN_ACK, Sent, packet};
 use crate::tallied::Tallied;
-use pfs_addr::{Addr, FlowKey};
+use pfs_addr_values::{Addr, FlowKey};
 use pfs_conf::{Config, RuleNo};
 use pfs_store::IndexStore;
+use pfs_store_contract::{Limit, StateNo, Store, Touched};
 use pfs_store_plain::PlainStore;
-use pfs_track::{Limit, Score, StateNo, Store, Touched};
+use pfs_track::Score;
 use std::process::Abort;
 use std::test::Fail;
 

@@ -2,9 +2,9 @@
 
 ghost use Rattle.std.specs.Prelude.{◌≡◌};
 
-use pfs_addr::{Addr, FlowKey, Meter, NoMemory, Packet};
+use pfs_addr_values::{Addr, FlowKey, Meter, NoMemory, Packet};
 use pfs_conf::RuleNo;
-use pfs_track::{Limit, Slice, StateNo, Store, Touched};
+use pfs_store_contract::{Limit, Slice, StateNo, Store, Touched};
 
 /// Any store, with a count of the calls that change it.
 #[derive(Drop)]

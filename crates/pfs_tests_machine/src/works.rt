@@ -2,10 +2,10 @@
 
 use crate::engines::{UNSCALED, held, indexed, pass_time, plain, take};
 use crate::packets::{A1, A2, ACK, SYN, SYN_ACK, Sent, packet};
-use pfs_addr::Addr;
+use pfs_addr_values::Addr;
 use pfs_conf::RuleNo;
 use pfs_engine::{Added, Engine, Limit, Outcome, Work};
-use pfs_track::Store;
+use pfs_store_contract::Store;
 use std::process::Abort;
 use std::test::Fail;
 

@@ -5,7 +5,7 @@ ghost use Rattle.std.specs.Option.{ForSome};
 ghost use Rattle.pfs_engine_machine.specs.Runs.{AreAllowed, IsInOrder, MayCome, MayExpire};
 
 use crate::packets::{A1, A2, Sent, packet};
-use pfs_addr::{Addr, NoMemory, Packet};
+use pfs_addr_values::{Addr, NoMemory, Packet};
 use pfs_conf::{Config, RuleNo, TableNo, load};
 use pfs_engine::{Added, Engine, Event, Limit, Outcome, What};
 use pfs_store::{IndexStore, PlainStore, Store};

@@ -3,7 +3,7 @@
 ghost use Rattle.std.specs.Prelude.{◌≡◌};
 
 use crate::packets::{A1, A2, Sent, packet};
-use pfs_addr::{Addr, FlowKey, Meter, NoMemory, Packet};
+use pfs_addr_values::{Addr, FlowKey, Meter, NoMemory, Packet};
 use pfs_conf::{Config, RuleNo, load};
 use pfs_store::{IndexStore, Limit, PlainStore, StateNo, Store};
 use pfs_tests_telling::{

@@ -3,7 +3,7 @@
 ghost use Rattle.std.specs.Prelude.{◌≡◌, ◌<◌, length};
 
 use crate::packets::{A1, Sent, packet};
-use pfs_addr::{Addr, Meter, NoMemory, Packet};
+use pfs_addr_values::{Addr, Meter, NoMemory, Packet};
 use pfs_conf::{Config, RuleNo, TableNo, load};
 use pfs_eval::{Added, Book, Tables};
 use pfs_tests_telling::{

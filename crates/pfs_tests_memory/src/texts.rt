@@ -1,7 +1,7 @@
 // Addresses as text, and rules texts with their configurations.
 
-use pfs_addr::Addr;
-use pfs_addr_text::push_addr;
+use pfs_addr::push_addr;
+use pfs_addr_values::Addr;
 use pfs_conf::{Config, Kind, LoadFault, load, show};
 use pfs_tests_telling::{
     EVERYTHING, FULL, NODES, OVERLOAD, SHOWN, Stop, begin, end, plain, refused,

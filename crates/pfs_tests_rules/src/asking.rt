@@ -1,6 +1,6 @@
 //! The rules of a configuration, asked about packets.
 
-use pfs_addr::{Meter, Packet};
+use pfs_addr_values::{Meter, Packet};
 use pfs_conf::{Config, RuleNo};
 use pfs_eval::{Book, Tables};
 use std::alloc::Global;

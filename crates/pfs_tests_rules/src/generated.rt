@@ -5,7 +5,7 @@ ghost use Rattle.std.specs.Prelude.{◌<◌};
 use crate::asking::Rules;
 use crate::packets::{SYN, SYN_ACK, packet_on};
 use crate::plain::{Evaluation, Step};
-use pfs_addr::{Addr, Dir, Packet, Proto};
+use pfs_addr_values::{Addr, Dir, Packet, Proto};
 use pfs_conf::load;
 use std::alloc::{AllocError, Global};
 use std::process::Abort;

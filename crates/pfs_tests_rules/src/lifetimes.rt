@@ -2,7 +2,7 @@
 
 use crate::packets::SYN_ACK;
 use crate::texts::configured;
-use pfs_addr::Proto;
+use pfs_addr_values::Proto;
 use pfs_conf::RuleNo;
 use pfs_track::{StatePhase, is_expired, lifetime};
 use std::test::Fail;

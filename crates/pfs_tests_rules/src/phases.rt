@@ -1,7 +1,7 @@
 //! Phases of connections by worked examples.
 
 use crate::packets::{ACK, FIN_ACK, NONE, SYN, SYN_ACK};
-use pfs_addr::{Flags, Proto};
+use pfs_addr_values::{Flags, Proto};
 use pfs_conf::TimeoutName;
 use pfs_track::{Other, Phases, StatePhase, Tcp, Udp};
 

@@ -4,8 +4,8 @@ ghost use Rattle.std.specs.Prelude.{◌≡◌, IfOk, length};
 
 use crate::packets::{A1, S6};
 use crate::texts::configured;
-use pfs_addr::Addr;
-use pfs_addr_text::parse_addr;
+use pfs_addr::parse_addr;
+use pfs_addr_values::Addr;
 use pfs_conf::TableNo;
 use pfs_eval::{Added, Tables};
 use std::alloc::AllocGlobal;

@@ -1,7 +1,7 @@
 //! Walks every phase that a TCP connection can reach beside ranks that step by a table which is written anew here, and
 //! compares what is seen of each.
 
-use pfs_addr::{Flags, Proto};
+use pfs_addr_values::{Flags, Proto};
 use pfs_conf::TimeoutName;
 use pfs_track::StatePhase;
 use std::test::Fail;

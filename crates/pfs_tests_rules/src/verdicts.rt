@@ -3,7 +3,7 @@
 use crate::asking::Rules;
 use crate::packets::{A1, S6, packet};
 use crate::texts::configured;
-use pfs_addr::{Addr, Dir, Packet, Proto};
+use pfs_addr_values::{Addr, Dir, Packet, Proto};
 use pfs_conf::RuleNo;
 use std::alloc::Global;
 use std::test::Fail;

@@ -2,7 +2,7 @@
 
 use crate::asking::Rules;
 use crate::packets::{A1, SYN, packet, packet_on};
-use pfs_addr::{Dir, Packet, Proto};
+use pfs_addr_values::{Dir, Packet, Proto};
 use pfs_conf::{RuleNo, load};
 use std::alloc::{AllocError, Global};
 use std::test::Fail;

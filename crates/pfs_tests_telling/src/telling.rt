@@ -1,6 +1,6 @@
 // What is told of a call, and which calls the words choose.
 
-use pfs_addr::NoMemory;
+use pfs_addr_values::NoMemory;
 use pfs_conf::LoadFault;
 use std::alloc::{AllocError, AllocFailed};
 use std::io::{Error, ErrorKind};

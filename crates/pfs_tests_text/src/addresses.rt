@@ -1,7 +1,7 @@
 //! IPv4 addresses and prefixes, numbers, protocols, flags and names at the edges of their texts.
 
-use pfs_addr::{Addr, Flags, Name, Prefix, Proto, parse_ifname};
-use pfs_addr_text::{parse_addr, parse_flags, parse_number, parse_prefix, parse_proto, push_addr};
+use pfs_addr::{parse_addr, parse_flags, parse_number, parse_prefix, parse_proto, push_addr};
+use pfs_addr_values::{Addr, Flags, Name, Prefix, Proto, parse_ifname};
 use std::test::Fail;
 
 const ADDRESSES: &[(&[u8], Option<Addr>)] = &[

@@ -1,8 +1,8 @@
 //! State clauses written out by hand: what they say, where they are refused, and what their options mean.
 
 use pfs_conf_options::{Options, OverloadText, StateClause, Track, state_clause};
-use pfs_conf_rules::{Overload, Rate, Scope, TableName, TableNo, TimeoutName};
 use pfs_conf_tokens::{Cursor, Key, Refusal, Why};
+use pfs_conf_values::{Overload, Rate, Scope, TableName, TableNo, TimeoutName};
 use std::test::Fail;
 
 // The options of a clause that is read up to the end of its line.

@@ -1,6 +1,6 @@
 //! What a configuration says of its text: items, tables, limits, timeouts, and its canonical text.
 
-use pfs_addr::{Addr, Prefix};
+use pfs_addr_values::{Addr, Prefix};
 use pfs_conf::{
     Action, Config, FlagTest, Host, LimitName, RuleNo, Scope, TableNo, TimeoutName, load,
 };

@@ -1,6 +1,6 @@
 //! Packets, the keys of their states, the meter, and the text of an error.
 
-use pfs_addr::{
+use pfs_addr_values::{
     Addr, Dir, Endpoint, Flags, FlowKey, IfName, Meter, NoMemory, Packet, Proto, parse_ifname,
 };
 use std::process::Abort;

@@ -2,13 +2,13 @@
 
 ghost use Rattle.std.specs.Prelude.{◌<◌, ◌^◌, length};
 
-use pfs_addr::{Dir, Flags, Proto, parse_ifname};
-use pfs_addr_text::{parse_flags, parse_prefix};
+use pfs_addr::{parse_flags, parse_prefix};
+use pfs_addr_values::{Dir, Flags, Proto, parse_ifname};
 use pfs_conf_filters::{
     Head, Hosts, Marks, Parameters, Statement, Verb, read_flags, read_parameters, read_verb,
 };
-use pfs_conf_rules::{Family, FlagTest, Host, Interface, Ports, Side, TableName};
 use pfs_conf_tokens::{Cursor, Key, Refusal, Why};
+use pfs_conf_values::{Family, FlagTest, Host, Interface, Ports, Side, TableName};
 use std::process::Abort;
 use std::test::Fail;
 

@@ -1,7 +1,7 @@
 //! IPv6 addresses and prefixes at the edges of their texts.
 
-use pfs_addr::{Addr, Prefix};
-use pfs_addr_text::{parse_addr, parse_prefix, push_addr};
+use pfs_addr::{parse_addr, parse_prefix, push_addr};
+use pfs_addr_values::{Addr, Prefix};
 use std::test::Fail;
 
 // Eight groups as an address

@@ -1,5 +1,0 @@
-pub mod LimitLaws
-pub mod MomentLaws
-pub mod SliceLaws
-pub mod Turns
-mod Worked

@@ -1,7 +1,7 @@
 -- Phases of UDP and of the other protocols without handshakes: how far each peer has sent, and the timeouts.
 use Rattle.std.specs.Prelude.{Bool, true, false}
-use Rattle.pfs_conf_rules.specs.declared.timeouts.TimeoutName.{TimeoutName}
-use Rattle.pfs_conf_rules.specs.declared.timeouts.TimeoutName.TheVariants.{UdpFirst, UdpSingle, UdpMultiple, OtherFirst, OtherSingle, OtherMultiple}
+use Rattle.pfs_conf_values.specs.declared.timeouts.TimeoutName.{TimeoutName}
+use Rattle.pfs_conf_values.specs.declared.timeouts.TimeoutName.TheVariants.{UdpFirst, UdpSingle, UdpMultiple, OtherFirst, OtherSingle, OtherMultiple}
 use Rattle.pfs_track.specs.declared.datagrams.DatagramPhase.{DatagramPhase}
 use Rattle.pfs_track.specs.declared.datagrams.Stage.{Stage}
 use Rattle.pfs_track.specs.declared.datagrams.Stage.TheVariants.{First as FirstStage, Single as SingleStage, Multiple as MultipleStage}

@@ -1,8 +1,8 @@
 -- How long a state may stay without a packet: its timeout, scaled by an adaptive pair; and when that is over.
 use Rattle.std.specs.Prelude.{ℕ, Bool, is_some, unwrap_or, ◌+◌, ◌-◌, ◌*◌, ◌/◌, ◌&&◌, ◌||◌, ◌==◌, if◌then◌else◌, nat_le}
-use Rattle.pfs_conf_rules.specs.Configs.{Conf, timeout_of, rule_timeout_of}
-use Rattle.pfs_conf_rules.specs.declared.timeouts.TimeoutName.{TimeoutName}
-use Rattle.pfs_conf_rules.specs.declared.timeouts.TimeoutName.TheVariants.{AdaptiveStart, AdaptiveEnd}
+use Rattle.pfs_conf_values.specs.Configs.{Conf, timeout_of, rule_timeout_of}
+use Rattle.pfs_conf_values.specs.declared.timeouts.TimeoutName.{TimeoutName}
+use Rattle.pfs_conf_values.specs.declared.timeouts.TimeoutName.TheVariants.{AdaptiveStart, AdaptiveEnd}
 use Rattle.pfs_track.specs.StatePhases.{slot}
 use Rattle.pfs_track.specs.declared.state_phases.StatePhase.{StatePhase}
 

@@ -2,7 +2,7 @@
 use Rattle.std.specs.Prelude.{Bool, true, false, ◌≡◌, ◌≤◌, ◌||◌, refl, ℕ}
 use Rattle.std.proofs.Common.{lit≤}
 use Rattle.std.proofs.lemmas.Bool.{false≢true}
-use Rattle.pfs_addr.specs.declared.flag_sets.Flags.{Flags}
+use Rattle.pfs_addr_values.specs.declared.flag_sets.Flags.{Flags}
 use Rattle.pfs_track.specs.TcpRanks.{rank_number}
 use Rattle.pfs_track.specs.TcpPhases.{tcp_peers, tcp_step, tcp_completes}
 use Rattle.pfs_track.specs.Datagrams.{once_sent, once_answered, udp_step}

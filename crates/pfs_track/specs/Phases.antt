@@ -1,6 +1,6 @@
 -- What the phases of every protocol keep: no rank falls, and a handshake completes once and stays complete.
 use Rattle.std.specs.Prelude.{ℕ, Bool, true, false, ◌≡◌, ◌≤◌}
-use Rattle.pfs_addr.specs.declared.flag_sets.Flags.{Flags}
+use Rattle.pfs_addr_values.specs.declared.flag_sets.Flags.{Flags}
 
 -- no packet lowers a rank
 abbrev pub NeverFalls : {P : Type 0} → (P → ℕ) → (P → Bool → Flags → P) → Type 0

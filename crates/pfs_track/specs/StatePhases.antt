@@ -1,9 +1,9 @@
 -- The phase of a state, by its protocol: at first, after a packet, its timeout, and its handshake.
 use Rattle.std.specs.Prelude.{Bool, false}
-use Rattle.pfs_addr.specs.declared.flag_sets.Flags.{Flags}
-use Rattle.pfs_addr.specs.declared.protocols.Proto.{Proto}
-use Rattle.pfs_addr.specs.declared.protocols.Proto.TheVariants.{Tcp as OverTcp, Udp as OverUdp, Other as OverOther}
-use Rattle.pfs_conf_rules.specs.declared.timeouts.TimeoutName.{TimeoutName}
+use Rattle.pfs_addr_values.specs.declared.flag_sets.Flags.{Flags}
+use Rattle.pfs_addr_values.specs.declared.protocols.Proto.{Proto}
+use Rattle.pfs_addr_values.specs.declared.protocols.Proto.TheVariants.{Tcp as OverTcp, Udp as OverUdp, Other as OverOther}
+use Rattle.pfs_conf_values.specs.declared.timeouts.TimeoutName.{TimeoutName}
 use Rattle.pfs_track.specs.Datagrams.{first_datagram, udp_step, udp_slot, other_slot}
 use Rattle.pfs_track.specs.TcpPhases.{first_tcp, tcp_step, tcp_completes}
 use Rattle.pfs_track.specs.declared.state_phases.StatePhase.{StatePhase}

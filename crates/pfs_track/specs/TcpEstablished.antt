@@ -1,7 +1,7 @@
 -- Where a handshake has completed, both peers are at least at ESTABLISHED: what makes a phase of TCP after a packet a phase.
 use Rattle.std.specs.Prelude.{Bool, true, false, ◌≡◌, ◌≤◌, ◌||◌, if◌then◌else◌}
 use Rattle.std.proofs.Common.{arith, refl, lit≤}
-use Rattle.pfs_addr.specs.declared.flag_sets.Flags.{Flags}
+use Rattle.pfs_addr_values.specs.declared.flag_sets.Flags.{Flags}
 use Rattle.pfs_track.specs.declared.tcp_ranks.Ends.{Ends}
 use Rattle.pfs_track.specs.declared.tcp_ranks.TcpRank.{TcpRank}
 use Rattle.pfs_track.specs.declared.tcp_ranks.TcpRank.TheVariants.{SynSent, Closing, TimeWait}

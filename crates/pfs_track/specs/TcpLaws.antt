@@ -2,7 +2,7 @@
 use Rattle.std.specs.Prelude.{Bool, true, false, ◌≡◌, ◌≤◌, if◌then◌else◌}
 use Rattle.std.proofs.Common.{arith, lit≤}
 use Rattle.std.proofs.lemmas.Bool.{false≢true}
-use Rattle.pfs_addr.specs.declared.flag_sets.Flags.{Flags}
+use Rattle.pfs_addr_values.specs.declared.flag_sets.Flags.{Flags}
 use Rattle.pfs_track.specs.declared.tcp_ranks.Ends.{Ends}
 use Rattle.pfs_track.specs.declared.tcp_ranks.Peers.{Peers}
 use Rattle.pfs_track.specs.declared.tcp_ranks.TcpRank.{TcpRank}

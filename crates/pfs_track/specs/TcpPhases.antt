@@ -1,8 +1,8 @@
 -- Phases of TCP: the ranks of both peers, their timeout, and whether the handshake has completed.
 use Rattle.std.specs.Prelude.{Bool, false, ◌||◌}
 use Rattle.std.proofs.lemmas.Bool.{false≢true}
-use Rattle.pfs_addr.specs.declared.flag_sets.Flags.{Flags}
-use Rattle.pfs_conf_rules.specs.declared.timeouts.TimeoutName.TheVariants.{TcpFirst}
+use Rattle.pfs_addr_values.specs.declared.flag_sets.Flags.{Flags}
+use Rattle.pfs_conf_values.specs.declared.timeouts.TimeoutName.TheVariants.{TcpFirst}
 use Rattle.pfs_track.specs.TcpEstablished.{peers_established}
 use Rattle.pfs_track.specs.TcpRanks.{peers_after, tcp_timeout}
 use Rattle.pfs_track.specs.declared.tcp_phases.TcpPhase.{TcpPhase}

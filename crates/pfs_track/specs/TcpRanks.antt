@@ -1,8 +1,8 @@
 -- The ranks of a TCP peer, what the flags of a packet make of them, and which timeout two ranks have.
 use Rattle.std.specs.Prelude.{ℕ, Bool, true, false, not, if◌then◌else◌, ◌==◌, ◌&&◌, ◌||◌, ◌≤◌, nat_lt}
-use Rattle.pfs_addr.specs.declared.flag_sets.Flags.{Flags}
-use Rattle.pfs_conf_rules.specs.declared.timeouts.TimeoutName.{TimeoutName}
-use Rattle.pfs_conf_rules.specs.declared.timeouts.TimeoutName.TheVariants.{TcpOpening, TcpEstablished, TcpClosing, TcpFinwait, TcpClosed}
+use Rattle.pfs_addr_values.specs.declared.flag_sets.Flags.{Flags}
+use Rattle.pfs_conf_values.specs.declared.timeouts.TimeoutName.{TimeoutName}
+use Rattle.pfs_conf_values.specs.declared.timeouts.TimeoutName.TheVariants.{TcpOpening, TcpEstablished, TcpClosing, TcpFinwait, TcpClosed}
 use Rattle.pfs_track.specs.declared.tcp_ranks.Ends.{Ends}
 use Rattle.pfs_track.specs.declared.tcp_ranks.Peers.{Peers}
 use Rattle.pfs_track.specs.declared.tcp_ranks.TcpRank.{TcpRank}

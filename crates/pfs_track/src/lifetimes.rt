@@ -4,7 +4,7 @@ ghost use Rattle.std.specs.Prelude.{◌≡◌};
 ghost use Rattle.pfs_track.specs.Lifetimes.{scaled, scaled_lifetime, is_expired, value_for};
 
 use crate::state_phases::StatePhase;
-use pfs_conf_rules::{Config, RuleNo, TimeoutName};
+use pfs_conf_values::{Config, RuleNo, TimeoutName};
 
 /// The seconds for which a state of a rule may stay without a packet, where the rule has `rule_states` states and all
 /// rules together have `all_states`: the value of the phase's timeout, the rule's or else the global one. It is scaled

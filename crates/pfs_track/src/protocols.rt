@@ -1,14 +1,14 @@
 // What the three kinds of protocols have in common: phases, and the packets that lead from one to the next.
 
 ghost use Rattle.std.specs.Prelude.{◌≡◌, ℕ, Bool, false};
-ghost use Rattle.pfs_addr.specs.declared.flag_sets.Flags.{Flags};
-ghost use Rattle.pfs_conf_rules.specs.declared.timeouts.TimeoutName.{TimeoutName};
+ghost use Rattle.pfs_addr_values.specs.declared.flag_sets.Flags.{Flags};
+ghost use Rattle.pfs_conf_values.specs.declared.timeouts.TimeoutName.{TimeoutName};
 ghost use Rattle.pfs_track.specs.Phases.{NeverFalls, CompletesOnce, StaysComplete};
 
 use crate::datagrams::{DatagramPhase, Stage};
 use crate::tcp_phases::TcpPhase;
-use pfs_addr::Flags;
-use pfs_conf_rules::TimeoutName;
+use pfs_addr_values::Flags;
+use pfs_conf_values::TimeoutName;
 
 /// A protocol whose connections go through phases.
 ///

@@ -6,8 +6,8 @@ ghost use Rattle.pfs_track.specs.StatePhases.{first_phase, phase_after, complete
 use crate::datagrams::DatagramPhase;
 use crate::protocols::{Other, Phases, Tcp, Udp};
 use crate::tcp_phases::TcpPhase;
-use pfs_addr::{Flags, Proto};
-use pfs_conf_rules::TimeoutName;
+use pfs_addr_values::{Flags, Proto};
+use pfs_conf_values::TimeoutName;
 
 /// The phase of a state: how far its connection has come, its current timeout, and whether its handshake has completed.
 #[derive(Debug, Clone, Copy, PartialEq, Eq)]

@@ -4,8 +4,8 @@ ghost use Rattle.std.specs.Prelude.{◌≡◌, true};
 ghost use Rattle.pfs_track.specs.TcpRanks.{IsEstablished};
 
 use crate::tcp_ranks::{TcpRank, meet, timeout_of};
-use pfs_addr::Flags;
-use pfs_conf_rules::TimeoutName;
+use pfs_addr_values::Flags;
+use pfs_conf_values::TimeoutName;
 
 /// How far a TCP connection has come: the ranks of its two peers, its current timeout, and whether its handshake has
 /// completed. Where it has, both ranks are at least `ESTABLISHED`.

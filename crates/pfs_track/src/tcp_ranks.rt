@@ -3,8 +3,8 @@
 ghost use Rattle.std.specs.Prelude.{◌≡◌};
 ghost use Rattle.pfs_track.specs.TcpRanks.{is_below, raised, acknowledged, acted, peers_after, tcp_timeout};
 
-use pfs_addr::Flags;
-use pfs_conf_rules::TimeoutName;
+use pfs_addr_values::Flags;
+use pfs_conf_values::TimeoutName;
 
 /// How far a peer of a TCP connection has come: the states of RFC 9293, section 3.3.2, from the least rank to the
 /// greatest. (the order is own to this profile)

@@ -1,5 +1,5 @@
 -- Answers of take: a packet, a skip and an expiry each make the machine's step of their event (`ok`).
-use Rattle.pfs_cli_report.proofs.Stepping.{step-expire, step-packet, step-skip}
+use Rattle.pfs_cli_formats.proofs.Stepping.{step-expire, step-packet, step-skip}
 use Rattle.pfs_cli.proofs.machine.take.Goals as goal
 
 pub returns-in-Packet-clause-ok : goal.returns-in-Packet-clause-ok

@@ -1,7 +1,7 @@
 -- Answer of tell_records: where memory for its reader is refused, nothing is written (`tells`).
 use Rattle.std.proofs.Common.{[]}
-use Rattle.pfs_cli_report.specs.Traces.{events_of}
-use Rattle.pfs_cli_report.specs.Reading.{records_of}
+use Rattle.pfs_cli_formats.specs.Traces.{events_of}
+use Rattle.pfs_cli_formats.specs.Reading.{records_of}
 use Rattle.pfs_cli.proofs.Telling.{Appends-nothing, no-lines}
 use Rattle.pfs_cli.proofs.records.tell_records.Goals as goal
 

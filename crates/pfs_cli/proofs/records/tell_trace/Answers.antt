@@ -2,9 +2,9 @@
 use Rattle.std.proofs.Common.{◌≡◌, sym, ◌∙◌, [], true, false}
 use Rattle.csv.specs.Reading.{default_config, reader_state}
 use Rattle.csv.specs.Records.{fields_of}
-use Rattle.pfs_cli_report.specs.Traces.{events_of}
-use Rattle.pfs_cli_report.specs.Reading.{records_left}
-use Rattle.pfs_cli_report.specs.Events.{is_header}
+use Rattle.pfs_cli_formats.specs.Traces.{events_of}
+use Rattle.pfs_cli_formats.specs.Reading.{records_left}
+use Rattle.pfs_cli_formats.specs.Events.{is_header}
 use Rattle.pfs_cli.proofs.Telling.{Appends-nothing, ends-other, ends-empty, no-lines, trace-rest}
 use Rattle.pfs_cli.proofs.records.tell_trace.Goals as goal
 

@@ -1,7 +1,7 @@
 -- Answer of push_rate: a rate that is given goes on with the list of options (`text`).
 use Rattle.std.proofs.Common.{ℕ, List, Option, ◌++◌, sym, ap, ◌∙◌, append-nil}
 use Rattle.std.specs.Prelude.{codes}
-use Rattle.pfs_conf_rules.specs.declared.actions.Rate.{Rate}
+use Rattle.pfs_conf_values.specs.declared.actions.Rate.{Rate}
 use Rattle.pfs_conf_show.specs.Options.{rate_text}
 use Rattle.pfs_conf_show.specs.Pieces.{given, going_on, separator}
 use Rattle.pfs_conf_show.proofs.ListLaws.{behind}

@@ -1,8 +1,8 @@
 -- Answer of push_rule_timeouts: one timeout more, if it is given, goes on with the list of options.
 use Rattle.std.proofs.Common.{◌≡◌, ◌<◌, ℕ, List, length, get_or, ap, ◌∙◌}
 use Rattle.std.specs.Prelude.{codes}
-use Rattle.pfs_conf_rules.specs.Timeouts.{timeout_names}
-use Rattle.pfs_conf_rules.specs.declared.timeouts.TimeoutName.TheVariants.{TcpFirst}
+use Rattle.pfs_conf_values.specs.Timeouts.{timeout_names}
+use Rattle.pfs_conf_values.specs.declared.timeouts.TimeoutName.TheVariants.{TcpFirst}
 use Rattle.pfs_conf_show.specs.Pieces.{given, worded}
 use Rattle.pfs_conf_show.specs.Options.{rule_timeout_text}
 use Rattle.pfs_conf_show.specs.Settings.{timeout_word}

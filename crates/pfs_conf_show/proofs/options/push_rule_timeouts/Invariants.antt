@@ -2,7 +2,7 @@
 use Rattle.std.proofs.Common.{◌≡◌, ◌++◌, take}
 use Rattle.std.specs.Prelude.{codes}
 use Rattle.std.specs.List.{flat_map}
-use Rattle.pfs_conf_rules.specs.Timeouts.{timeout_names}
+use Rattle.pfs_conf_values.specs.Timeouts.{timeout_names}
 use Rattle.pfs_conf_show.specs.Pieces.{begun_after, going_on}
 use Rattle.pfs_conf_show.specs.Options.{rule_timeout_text}
 use Rattle.pfs_conf_show.proofs.options.push_rule_timeouts.Given as goal

@@ -1,8 +1,8 @@
 -- Answer of push_timeout_list: one timeout more goes on with the list.
 use Rattle.std.proofs.Common.{◌≡◌, ◌<◌, ℕ, List, length, get_or, ap, ◌∙◌}
 use Rattle.std.specs.Prelude.{codes}
-use Rattle.pfs_conf_rules.specs.Timeouts.{timeout_names}
-use Rattle.pfs_conf_rules.specs.declared.timeouts.TimeoutName.TheVariants.{TcpFirst}
+use Rattle.pfs_conf_values.specs.Timeouts.{timeout_names}
+use Rattle.pfs_conf_values.specs.declared.timeouts.TimeoutName.TheVariants.{TcpFirst}
 use Rattle.pfs_conf_show.specs.Pieces.{worded}
 use Rattle.pfs_conf_show.specs.Settings.{timeout_text, timeout_word}
 use Rattle.pfs_conf_show.proofs.ListLaws.{list_step, begun_step}

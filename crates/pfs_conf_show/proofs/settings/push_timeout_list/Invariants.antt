@@ -1,7 +1,7 @@
 -- Invariant of push_timeout_list: the timeouts so far are written as a list.
 use Rattle.std.proofs.Common.{◌≡◌, ◌++◌, take, map, false}
 use Rattle.std.specs.Prelude.{codes}
-use Rattle.pfs_conf_rules.specs.Timeouts.{timeout_names}
+use Rattle.pfs_conf_values.specs.Timeouts.{timeout_names}
 use Rattle.pfs_conf_show.specs.Pieces.{begun_after, going_on}
 use Rattle.pfs_conf_show.specs.Settings.{timeout_text}
 use Rattle.pfs_conf_show.proofs.settings.push_timeout_list.Given as goal

@@ -1,7 +1,7 @@
 -- Answer of push_timeouts: `set timeout`, the list and its end are the line of the timeouts.
 use Rattle.std.proofs.Common.{false, map}
 use Rattle.std.specs.Prelude.{codes}
-use Rattle.pfs_conf_rules.specs.Timeouts.{timeout_names}
+use Rattle.pfs_conf_values.specs.Timeouts.{timeout_names}
 use Rattle.pfs_conf_show.specs.Pieces.{going_on}
 use Rattle.pfs_conf_show.specs.Settings.{timeout_text}
 use Rattle.pfs_conf_show.proofs.ListLaws.{line}

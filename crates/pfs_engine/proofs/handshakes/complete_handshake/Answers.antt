@@ -1,6 +1,6 @@
 -- Answers of complete_handshake: the rule has the rate that is asked, and its overload table has room.
 use Rattle.std.proofs.Common.{◌≡◌, true, refl, subst, sym}
-use Rattle.pfs_conf_rules.specs.declared.actions.StateOptions.{StateOptions}
+use Rattle.pfs_conf_values.specs.declared.actions.StateOptions.{StateOptions}
 use Rattle.pfs_engine.specs.Rooms.{HasRoomFor}
 use Rattle.pfs_engine_machine.proofs.OptionLaws.{options_there, some_of}
 use Rattle.pfs_engine.proofs.handshakes.complete_handshake.Goals as goal

@@ -1,8 +1,8 @@
 -- Answers of kill_with: no more states after a kill than before, and the difference is what it killed; its looks (`looks`); what a flush of
 -- the states of a rule kills.
 use Rattle.std.proofs.Common.{◌==◌, arith, ap, length, rules}
-use Rattle.pfs_track.specs.Calls.{other_than}
-use Rattle.pfs_track.specs.Worlds.{World}
+use Rattle.pfs_store_contract.specs.Calls.{other_than}
+use Rattle.pfs_store_contract.specs.Worlds.{World}
 use Rattle.pfs_engine_machine.proofs.Counts.{count-rest, count_le}
 use Rattle.pfs_engine.proofs.handshakes.kill_with.Goals as goal
 

@@ -1,9 +1,9 @@
 -- Answers of take_packet_of_state: after the touch the state is held and there is room; its looks (`looks`).
 use Rattle.std.proofs.Common.{◌≡◌, ℕ, arith, refl, subst}
 use Rattle.std.specs.Prelude.{option_map}
-use Rattle.pfs_addr.specs.Keys.{key_of}
-use Rattle.pfs_track.specs.Worlds.{state_with}
-use Rattle.pfs_track.specs.Calls.{state_rule}
+use Rattle.pfs_addr_values.specs.Keys.{key_of}
+use Rattle.pfs_store_contract.specs.Worlds.{state_with}
+use Rattle.pfs_store_contract.specs.Calls.{state_rule}
 use Rattle.pfs_engine_machine.specs.Looks.{AreLooks}
 use Rattle.pfs_engine_machine.specs.Machine.{held_of}
 use Rattle.pfs_engine.proofs.Belonging.{beside_after, held_after, room_after}

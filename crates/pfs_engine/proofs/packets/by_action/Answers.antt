@@ -1,7 +1,7 @@
 -- Answers of by_action: a state is made where no limit is met, and else the packet is dropped for the first one met (`ok`).
 use Rattle.std.proofs.Common.{◌≡◌, ◌∙◌, None, Some, ap, rules, sym}
-use Rattle.pfs_conf_rules.specs.Configs.{Conf}
-use Rattle.pfs_track.specs.Calls.{packet_limit}
+use Rattle.pfs_conf_values.specs.Configs.{Conf}
+use Rattle.pfs_store_contract.specs.Calls.{packet_limit}
 use Rattle.pfs_engine_machine.proofs.OptionLaws.{admitted_at, refused_at}
 use Rattle.pfs_engine.proofs.packets.by_action.Goals as goal
 

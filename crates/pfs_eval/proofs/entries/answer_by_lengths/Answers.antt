@@ -1,6 +1,6 @@
 -- Answers of answer_by_lengths: the entry of the longest length decides; where none is found at any length, no.
 use Rattle.std.proofs.Common.{◌≤◌, ◌+◌, ◌∙◌, arith, sym}
-use Rattle.pfs_addr.specs.Addresses.{width_of}
+use Rattle.pfs_addr_values.specs.Addresses.{width_of}
 use Rattle.pfs_eval.proofs.Narrowest.{hidden-all, hidden-found, hidden-less, hidden-none, next-below}
 use Rattle.pfs_eval.proofs.entries.answer_by_lengths.Goals as goal
 

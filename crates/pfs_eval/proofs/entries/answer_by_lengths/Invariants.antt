@@ -1,6 +1,6 @@
 -- Invariant of answer_by_lengths: the entries that cover the address leave out no fewer bits than are next.
 use Rattle.std.proofs.Common.{◌≤◌, ◌+◌, ◌-◌}
-use Rattle.pfs_addr.specs.Addresses.{width_of}
+use Rattle.pfs_addr_values.specs.Addresses.{width_of}
 use Rattle.pfs_eval.proofs.Narrowest.{AreBelow}
 use Rattle.pfs_eval.proofs.entries.answer_by_lengths.Given as goal
 

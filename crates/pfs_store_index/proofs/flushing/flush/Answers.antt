@@ -1,8 +1,8 @@
 -- Answers of flush: one state of the source more, and at the end which states stay (`states`) and `looks`.
 use Rattle.std.proofs.Common.{◌≡◌, ◌∙◌, sym, ap, refl, filter, take, map, arith}
 use Rattle.std.proofs.lemmas.List.{take_all}
-use Rattle.pfs_track.specs.Counts.{is_of_source}
-use Rattle.pfs_track.specs.Leaving.{idled, is_flushed}
+use Rattle.pfs_store_contract.specs.Counts.{is_of_source}
+use Rattle.pfs_store_contract.specs.Leaving.{idled, is_flushed}
 use Rattle.pfs_store_index.specs.Rounds.{state_survives, waiting_of}
 use Rattle.pfs_store_index.proofs.Idling.{idled-same, step-nodes}
 use Rattle.pfs_store_index.proofs.Leavings.{state_number}

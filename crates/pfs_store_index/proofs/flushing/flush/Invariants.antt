@@ -1,6 +1,6 @@
 -- Invariant of flush: of the states of the source the first are examined, and the others wait.
 use Rattle.std.proofs.Common.{◌≡◌, ◌+◌, ◌-◌, ◌≤◌, length, filter, map, take, drop}
-use Rattle.pfs_track.specs.Leaving.{idled, is_flushed}
+use Rattle.pfs_store_contract.specs.Leaving.{idled, is_flushed}
 use Rattle.pfs_store_index.specs.Rounds.{waiting_of}
 use Rattle.pfs_store_index.proofs.Leavings.{state_number}
 use Rattle.pfs_store_index.proofs.RisingWalks.{stays_by}

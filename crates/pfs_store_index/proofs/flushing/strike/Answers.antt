@@ -1,8 +1,8 @@
 -- Answers of strike: the state of this number is there, and leaves if it is flushed; all others stay.
 use Rattle.std.proofs.Common.{◌≡◌, ◌∙◌, Some, sym, ap, filter, subst}
 use Rattle.std.specs.List.{find}
-use Rattle.pfs_track.specs.Leaving.{is_flushed}
-use Rattle.pfs_track.specs.Calls.{other_than}
+use Rattle.pfs_store_contract.specs.Leaving.{is_flushed}
+use Rattle.pfs_store_contract.specs.Calls.{other_than}
 use Rattle.pfs_store_index.proofs.Idling.{idled-same}
 use Rattle.pfs_store_index.proofs.Leavings.{state_number}
 use Rattle.pfs_store_index.proofs.RisingWalks.{found-number, has_number, survive-kept, survive-removed}

@@ -1,6 +1,6 @@
 -- Answer of node_round: where no node of the round waits, a new round begins with all that are held.
 use Rattle.std.proofs.Common.{sym}
-use Rattle.pfs_track.specs.Purging.{node_numbers}
+use Rattle.pfs_store_contract.specs.Purging.{node_numbers}
 use Rattle.pfs_store_index.specs.Rounds.{waiting}
 use Rattle.pfs_store_index.proofs.Storing.{round-begins}
 use Rattle.pfs_store_index.proofs.purging.node_round.Goals as goal

@@ -1,6 +1,6 @@
 -- Answer of state_round: where no state of the round waits, a new round begins with all that are held.
 use Rattle.std.proofs.Common.{sym}
-use Rattle.pfs_track.specs.Purging.{state_numbers}
+use Rattle.pfs_store_contract.specs.Purging.{state_numbers}
 use Rattle.pfs_store_index.specs.Rounds.{waiting}
 use Rattle.pfs_store_index.proofs.Storing.{round-begins}
 use Rattle.pfs_store_index.proofs.purging.state_round.Goals as goal

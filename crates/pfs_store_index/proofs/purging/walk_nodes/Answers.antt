@@ -1,10 +1,10 @@
 -- Answers of walk_nodes: one node more, and at the end that the share was examined and which nodes stay.
 use Rattle.std.proofs.Common.{◌≡◌, ◌∙◌, List, Some, None, slice_get, option_map, sym, ap, subst, ◌+◌, refl, filter, take, arith, length-take}
-use Rattle.pfs_track.specs.Purging.{is_over, node_numbers, node_stays}
+use Rattle.pfs_store_contract.specs.Purging.{is_over, node_numbers, node_stays}
 use Rattle.pfs_store_index.specs.declared.nodes.Tally.{Tally}
-use Rattle.pfs_conf_rules.specs.Configs.{Conf}
-use Rattle.pfs_track.specs.Quiet.{NodeStays}
-use Rattle.pfs_track.specs.declared.records.State.{State}
+use Rattle.pfs_conf_values.specs.Configs.{Conf}
+use Rattle.pfs_store_contract.specs.Quiet.{NodeStays}
+use Rattle.pfs_store_contract.specs.declared.records.State.{State}
 use Rattle.pfs_store_index.specs.Rounds.{node_survives, waiting}
 use Rattle.pfs_store_index.specs.Staying.{NodeHolds, NodesHold}
 use Rattle.pfs_store_index.proofs.Untils.{hold-none, node-more}

@@ -1,6 +1,6 @@
 -- Invariant of walk_nodes: of the nodes that waited the first are examined, and the others wait.
 use Rattle.std.proofs.Common.{◌≡◌, ◌-◌, ◌≤◌, length, filter, take, drop}
-use Rattle.pfs_track.specs.Purging.{is_over, node_numbers}
+use Rattle.pfs_store_contract.specs.Purging.{is_over, node_numbers}
 use Rattle.pfs_store_index.specs.Rounds.{waiting}
 use Rattle.pfs_store_index.specs.Staying.{NodesHold}
 use Rattle.pfs_store_index.proofs.Idling.{node_number}

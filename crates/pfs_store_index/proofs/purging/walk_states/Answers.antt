@@ -1,12 +1,12 @@
 -- Answers of walk_states: one stretch more, and at the end which states stay (`states`) and still wait.
 use Rattle.std.proofs.Common.{◌≡◌, ◌∙◌, ◌-◌, ℕ, List, ap, refl, subst, ◌≤◌, filter, length, take, map, arith, length-take, length-drop}
-use Rattle.pfs_track.specs.Leaving.{idled}
-use Rattle.pfs_track.specs.Purging.{state_numbers}
+use Rattle.pfs_store_contract.specs.Leaving.{idled}
+use Rattle.pfs_store_contract.specs.Purging.{state_numbers}
 use Rattle.pfs_store_index.specs.Rounds.{states_survive, waiting}
 use Rattle.pfs_store_index.specs.Stored.{due_at, is_due}
 use Rattle.pfs_store_index.specs.Staying.{StatesHold}
-use Rattle.pfs_conf_rules.specs.Configs.{Conf}
-use Rattle.pfs_track.specs.declared.records.State.{State}
+use Rattle.pfs_conf_values.specs.Configs.{Conf}
+use Rattle.pfs_store_contract.specs.declared.records.State.{State}
 use Rattle.pfs_store_index.proofs.Idling.{idled-same, step-nodes}
 use Rattle.pfs_store_index.proofs.Leavings.{state_number}
 use Rattle.pfs_store_index.proofs.Storing.{due-hold, due-stays}

@@ -1,7 +1,7 @@
 -- Invariant of walk_states: of the states that waited the first are examined, and the others wait.
 use Rattle.std.proofs.Common.{◌≡◌, ◌+◌, ◌≤◌, ◌<◌, length, filter, map, take, drop}
-use Rattle.pfs_track.specs.Leaving.{idled}
-use Rattle.pfs_track.specs.Purging.{state_numbers}
+use Rattle.pfs_store_contract.specs.Leaving.{idled}
+use Rattle.pfs_store_contract.specs.Purging.{state_numbers}
 use Rattle.pfs_store_index.specs.Rounds.{waiting}
 use Rattle.pfs_store_index.specs.Stored.{due_at, is_due}
 use Rattle.pfs_store_index.specs.Staying.{StatesHold}

@@ -3,7 +3,7 @@ use Rattle.std.proofs.Common.{◌∙◌, ap, sym, refl, arith, map, is_some, if�
 use Rattle.std.proofs.Common.{Option}
 use Rattle.pfs_store_index.specs.declared.nodes.Tally.{Tally}
 use Rattle.pfs_store_index.specs.Ties.{IsFew, at_node, joined, joined_of, new_tally}
-use Rattle.pfs_track.specs.declared.records.NodeScope.{NodeScope}
+use Rattle.pfs_store_contract.specs.declared.records.NodeScope.{NodeScope}
 use Rattle.pfs_store_index.specs.Tallies.{is_tally}
 use Rattle.pfs_store_index.proofs.OneNode.{put-at, tallied-at}
 use Rattle.pfs_store_index.proofs.Searches.{found-all}

@@ -1,6 +1,6 @@
 -- Answers of leave: the node counts one state less; without a scope, or a node in it, none changes.
 use Rattle.std.proofs.Common.{◌∙◌, Option, ap, map, sym}
-use Rattle.pfs_track.specs.declared.records.NodeScope.{NodeScope}
+use Rattle.pfs_store_contract.specs.declared.records.NodeScope.{NodeScope}
 use Rattle.pfs_store_index.specs.Ties.{at_node, left_of}
 use Rattle.pfs_store_index.proofs.Leavings.{left-faithful}
 use Rattle.pfs_store_index.proofs.OneNode.{no-scope, none-at, put-at, tallied-at}

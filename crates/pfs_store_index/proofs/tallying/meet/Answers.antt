@@ -1,7 +1,7 @@
 -- Answer of meet: where the rule tracks no sources, no node changes (`nodes`).
 use Rattle.std.proofs.Common.{◌∙◌, Option, ap, map}
-use Rattle.pfs_conf_rules.specs.Configs.{options_of}
-use Rattle.pfs_track.specs.declared.records.NodeScope.{NodeScope}
+use Rattle.pfs_conf_values.specs.Configs.{options_of}
+use Rattle.pfs_store_contract.specs.declared.records.NodeScope.{NodeScope}
 use Rattle.pfs_store_index.specs.Ties.{at_node, met_by}
 use Rattle.pfs_store_index.proofs.OneNode.{no-scope}
 use Rattle.pfs_store_index.proofs.tallying.meet.Goals as goal

@@ -1,6 +1,6 @@
 -- Invariant of settle: the nodes so far are settled, the others as before, no score past the greatest.
 use Rattle.std.proofs.Common.{◌≡◌, ◌++◌, take, drop, map, filter}
-use Rattle.pfs_track.specs.Leaving.{idled}
+use Rattle.pfs_store_contract.specs.Leaving.{idled}
 use Rattle.pfs_store_plain.specs.Rooms.{AreScores}
 use Rattle.pfs_store_plain.proofs.leaving.settle.Given as goal
 

@@ -1,7 +1,7 @@
 -- Answer of strike: the numbers that are left are those that states have (`items`).
 use Rattle.std.proofs.Common.{rules}
 use Rattle.std.proofs.lemmas.Fn.{filter_same}
-use Rattle.pfs_track.specs.Worlds.{holds_number}
+use Rattle.pfs_store_contract.specs.Worlds.{holds_number}
 use Rattle.pfs_store_plain.proofs.leaving.strike.Goals as goal
 
 pub returns-clause-items : goal.returns-clause-items

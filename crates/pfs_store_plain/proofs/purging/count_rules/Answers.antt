@@ -2,7 +2,7 @@
 use Rattle.std.proofs.Common.{take, arith}
 use Rattle.std.proofs.lemmas.List.{length-take-le}
 use Rattle.std.proofs.lemmas.List.Sums.{count_by-le-length, length-filter}
-use Rattle.pfs_track.specs.Counts.{is_of_rule}
+use Rattle.pfs_store_contract.specs.Counts.{is_of_rule}
 use Rattle.pfs_store_plain.proofs.purging.count_rules.Goals as goal
 
 pub overflow_add-counts : goal.overflow_add-counts

@@ -1,7 +1,7 @@
 -- Answer of keep_nodes: the nodes that are left are those that stay by the definition (`items`).
 use Rattle.std.proofs.Common.{rules}
 use Rattle.std.proofs.lemmas.Fn.{filter_same}
-use Rattle.pfs_track.specs.Purging.{node_stays}
+use Rattle.pfs_store_contract.specs.Purging.{node_stays}
 use Rattle.pfs_store_plain.proofs.purging.keep_nodes.Goals as goal
 
 pub returns-clause-items : goal.returns-clause-items

@@ -1,7 +1,7 @@
 -- Answers of slice_nodes: the slice leaves the lists as defined (`world`), and what it tells (`answer`).
 use Rattle.std.proofs.Common.{[], rules}
-use Rattle.pfs_track.proofs.SliceLaws.{node_slice-parts, node_slice-told}
-use Rattle.pfs_track.specs.Worlds.{lists}
+use Rattle.pfs_store_contract.proofs.SliceLaws.{node_slice-parts, node_slice-told}
+use Rattle.pfs_store_contract.specs.Worlds.{lists}
 use Rattle.pfs_store_plain.proofs.purging.slice_nodes.Goals as goal
 
 pub returns-clause-world : goal.returns-clause-world

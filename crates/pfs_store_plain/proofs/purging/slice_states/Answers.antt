@@ -1,10 +1,10 @@
 -- Answers of slice_states: the slice leaves the lists as defined (`world`), and what it tells (`answer`).
 use Rattle.std.proofs.Common.{◌≡◌, ◌∙◌, ℕ, List, [], length, filter, map, take, ap, rules}
-use Rattle.pfs_track.proofs.SliceLaws.{state_slice-parts, state_slice-told, stays_by}
-use Rattle.pfs_track.specs.Leaving.{idled}
-use Rattle.pfs_track.specs.Worlds.{lists}
-use Rattle.pfs_track.specs.declared.records.Node.{Node}
-use Rattle.pfs_track.specs.declared.records.State.{State}
+use Rattle.pfs_store_contract.proofs.SliceLaws.{state_slice-parts, state_slice-told, stays_by}
+use Rattle.pfs_store_contract.specs.Leaving.{idled}
+use Rattle.pfs_store_contract.specs.Worlds.{lists}
+use Rattle.pfs_store_contract.specs.declared.records.Node.{Node}
+use Rattle.pfs_store_contract.specs.declared.records.State.{State}
 use Rattle.pfs_store_plain.proofs.purging.slice_states.Goals as goal
 
 pub returns-clause-world : goal.returns-clause-world

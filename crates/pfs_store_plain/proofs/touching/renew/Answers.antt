@@ -2,7 +2,7 @@
 use Rattle.std.proofs.Common.{◌<◌, length, arith}
 use Rattle.std.proofs.lemmas.List.{get_or_default}
 use Rattle.std.proofs.lemmas.List.Edits.{map_over_more}
-use Rattle.pfs_track.specs.Touching.{renewed}
+use Rattle.pfs_store_contract.specs.Touching.{renewed}
 use Rattle.pfs_store_plain.proofs.touching.renew.Goals as goal
 
 pub loop-state-preserved : goal.loop-state-preserved

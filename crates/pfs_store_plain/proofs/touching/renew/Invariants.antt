@@ -1,6 +1,6 @@
 -- Invariant of renew: the states so far are renewed, and the others as before.
 use Rattle.std.proofs.Common.{◌≡◌, ◌++◌, take, drop, map}
-use Rattle.pfs_track.specs.Touching.{renewed}
+use Rattle.pfs_store_contract.specs.Touching.{renewed}
 use Rattle.pfs_store_plain.proofs.touching.renew.Given as goal
 
 -- those so far are renewed

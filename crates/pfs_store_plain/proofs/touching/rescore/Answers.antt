@@ -3,8 +3,8 @@ use Rattle.std.proofs.Common.{◌<◌, ◌≤◌, ◌≢◌, length, arith, get_
 use Rattle.std.proofs.lemmas.List.{get_or_default, length-set}
 use Rattle.std.proofs.lemmas.List.Edits.{map_over_more}
 use Rattle.std.proofs.lemmas.List.Elements.{All-set}
-use Rattle.pfs_track.specs.Touching.{rescored}
-use Rattle.pfs_track.specs.declared.records.Node.{Node}
+use Rattle.pfs_store_contract.specs.Touching.{rescored}
+use Rattle.pfs_store_contract.specs.declared.records.Node.{Node}
 use Rattle.pfs_store_plain.proofs.touching.rescore.Goals as goal
 
 pub loop-node-preserved : goal.loop-node-preserved

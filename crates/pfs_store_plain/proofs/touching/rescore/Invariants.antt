@@ -2,8 +2,8 @@
 use Rattle.std.proofs.Common.{◌≡◌, ◌≤◌, ◌++◌, take, drop, map, length}
 use Rattle.std.specs.List.{AllWithin}
 use Rattle.pfs_store_plain.specs.Rooms.{AreScores}
-use Rattle.pfs_track.specs.Touching.{rescored}
-use Rattle.pfs_track.specs.declared.records.Node.{Node}
+use Rattle.pfs_store_contract.specs.Touching.{rescored}
+use Rattle.pfs_store_contract.specs.declared.records.Node.{Node}
 use Rattle.pfs_store_plain.proofs.touching.rescore.Given as goal
 
 -- the nodes so far are done; of the others the last handshake came before now; no score is past the greatest

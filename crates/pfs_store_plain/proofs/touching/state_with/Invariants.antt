@@ -1,8 +1,8 @@
 -- Invariant of state_with: the first state that has the key is among those that are left.
 use Rattle.std.proofs.Common.{◌≡◌, drop}
 use Rattle.std.specs.List.{find}
-use Rattle.pfs_addr.specs.Sameness.{same_key}
-use Rattle.pfs_track.specs.declared.records.State.{State}
+use Rattle.pfs_addr_values.specs.Sameness.{same_key}
+use Rattle.pfs_store_contract.specs.declared.records.State.{State}
 use Rattle.pfs_store_plain.proofs.touching.state_with.Given as goal
 
 -- the first is among the rest

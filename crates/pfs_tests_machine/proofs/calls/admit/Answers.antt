@@ -1,5 +1,5 @@
 -- Answer of admit: a packet that makes a state, or is refused, leaves no handshake to come (`order`).
-use Rattle.pfs_track.proofs.MomentLaws.{world_at-up_to_now}
+use Rattle.pfs_store_contract.proofs.MomentLaws.{world_at-up_to_now}
 use Rattle.pfs_tests_machine.proofs.calls.admit.Goals as goal
 
 pub returns-clause-order : goal.returns-clause-order

@@ -1,5 +1,5 @@
 -- Answer of flush: a flush leaves no handshake to come (`order`).
-use Rattle.pfs_track.proofs.MomentLaws.{flushed-up_to_now}
+use Rattle.pfs_store_contract.proofs.MomentLaws.{flushed-up_to_now}
 use Rattle.pfs_tests_machine.proofs.calls.flush.Goals as goal
 
 pub returns-clause-order : goal.returns-clause-order

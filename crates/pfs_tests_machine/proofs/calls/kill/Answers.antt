@@ -1,5 +1,5 @@
 -- Answer of kill: a kill leaves no handshake to come (`order`).
-use Rattle.pfs_track.proofs.MomentLaws.{killed-up_to_now}
+use Rattle.pfs_store_contract.proofs.MomentLaws.{killed-up_to_now}
 use Rattle.pfs_tests_machine.proofs.calls.kill.Goals as goal
 
 pub returns-clause-order : goal.returns-clause-order

@@ -1,5 +1,5 @@
 -- Answer of purge_nodes: a slice of the nodes leaves no handshake to come (`order`).
-use Rattle.pfs_track.proofs.MomentLaws.{node_slice-up_to_now}
+use Rattle.pfs_store_contract.proofs.MomentLaws.{node_slice-up_to_now}
 use Rattle.pfs_tests_machine.proofs.calls.purge_nodes.Goals as goal
 
 pub returns-clause-order : goal.returns-clause-order

@@ -1,5 +1,5 @@
 -- Answer of purge_states: a slice of the states leaves no handshake to come (`order`).
-use Rattle.pfs_track.proofs.MomentLaws.{state_slice-up_to_now}
+use Rattle.pfs_store_contract.proofs.MomentLaws.{state_slice-up_to_now}
 use Rattle.pfs_tests_machine.proofs.calls.purge_states.Goals as goal
 
 pub returns-clause-order : goal.returns-clause-order

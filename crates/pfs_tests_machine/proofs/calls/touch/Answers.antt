@@ -1,5 +1,5 @@
 -- Answer of touch: a packet of a state leaves no handshake to come (`order`).
-use Rattle.pfs_track.proofs.MomentLaws.{world_touched-up_to_now}
+use Rattle.pfs_store_contract.proofs.MomentLaws.{world_touched-up_to_now}
 use Rattle.pfs_tests_machine.proofs.calls.touch.Goals as goal
 
 pub returns-clause-order : goal.returns-clause-order

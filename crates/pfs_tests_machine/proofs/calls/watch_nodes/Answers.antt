@@ -1,5 +1,5 @@
 -- Answer of watch_nodes: what the slice leaves is up to now.
-use Rattle.pfs_track.proofs.MomentLaws.{node_slice-up_to_now}
+use Rattle.pfs_store_contract.proofs.MomentLaws.{node_slice-up_to_now}
 use Rattle.pfs_tests_machine.proofs.calls.watch_nodes.Goals as goal
 
 pub returns-clause-order : goal.returns-clause-order

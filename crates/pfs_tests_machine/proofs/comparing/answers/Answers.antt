@@ -1,6 +1,6 @@
 -- Answer of answers: after one more call the store has no handshake after the next moment.
 use Rattle.std.proofs.Common.{◌≤◌, ◌/◌, ◌+◌, ℕ, arith}
-use Rattle.pfs_track.proofs.MomentLaws.{later-up_to_now}
+use Rattle.pfs_store_contract.proofs.MomentLaws.{later-up_to_now}
 use Rattle.pfs_tests_machine.proofs.comparing.answers.Goals as goal
 
 later : (n : ℕ) → n / 5 ≤ (n + 1) / 5

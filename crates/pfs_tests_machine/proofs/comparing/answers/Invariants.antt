@@ -1,6 +1,6 @@
 -- Invariant of answers: the store is made for the configuration, with no handshake after this moment.
 use Rattle.std.proofs.Common.{◌≡◌, ◌/◌}
-use Rattle.pfs_track.specs.Worlds.{IsUpToNow}
+use Rattle.pfs_store_contract.specs.Worlds.{IsUpToNow}
 use Rattle.pfs_tests_machine.proofs.comparing.answers.Given as goal
 
 -- it is made for the configuration, and no handshake came after the moment of the next call

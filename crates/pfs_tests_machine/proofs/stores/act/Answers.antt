@@ -1,5 +1,5 @@
 -- Answer of act: at a later moment the store still has no handshake that is to come.
-use Rattle.pfs_track.proofs.MomentLaws.{later-up_to_now}
+use Rattle.pfs_store_contract.proofs.MomentLaws.{later-up_to_now}
 use Rattle.pfs_tests_machine.proofs.stores.act.Goals as goal
 
 pub come-requires-clause-order : goal.come-requires-clause-order

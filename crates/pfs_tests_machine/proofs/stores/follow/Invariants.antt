@@ -1,6 +1,6 @@
 -- Invariant of follow: the store is made for the configuration, and no handshake came after the last moment.
 use Rattle.std.proofs.Common.{◌≡◌}
-use Rattle.pfs_track.specs.Worlds.{IsUpToNow}
+use Rattle.pfs_store_contract.specs.Worlds.{IsUpToNow}
 use Rattle.pfs_tests_machine.proofs.stores.follow.Given as goal
 
 -- the store is made for the configuration, and no handshake came after the last moment

@@ -2,7 +2,7 @@
 use Rattle.std.proofs.Common.{◌≡◌, ◌<◌, ℕ, arith, length, Ok, Err, IfOk, OnOk}
 use Rattle.std.specs.Prelude.{List, Result}
 use Rattle.pfs_conf_settings.specs.Namings.{Named, naming, place_in, table_number}
-use Rattle.pfs_conf_rules.specs.declared.filters.TableNo.{TableNo}
+use Rattle.pfs_conf_values.specs.declared.filters.TableNo.{TableNo}
 use Rattle.pfs_conf_settings.proofs.DraftLaws.{IsDraft-with_tables}
 use Rattle.pfs_conf_settings.proofs.NamingLaws.{naming-IsPlaced}
 use Rattle.pfs_conf_settings.proofs.drafts.Draft.number_of.Goals as goal

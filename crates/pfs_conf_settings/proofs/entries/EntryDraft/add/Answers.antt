@@ -1,8 +1,8 @@
 -- Answers of EntryDraft::add: an entry whose prefix is new goes last (`ok`), and all of them are prefixes.
 use Rattle.std.proofs.Common.{◌≡◌, ◌∷◌, [], ◌++◌, ◌∙◌, ap, refl, None}
 use Rattle.std.proofs.lemmas.List.Elements.{All-push}
-use Rattle.pfs_addr.specs.Prefixes.{IsNetwork}
-use Rattle.pfs_conf_rules.specs.Entries.{TextEntry, sign_of}
+use Rattle.pfs_addr_values.specs.Prefixes.{IsNetwork}
+use Rattle.pfs_conf_values.specs.Entries.{TextEntry, sign_of}
 use Rattle.pfs_conf_settings.proofs.EntryLaws.{put-last, same-networks}
 use Rattle.pfs_conf_settings.proofs.entries.EntryDraft.add.Goals as goal
 

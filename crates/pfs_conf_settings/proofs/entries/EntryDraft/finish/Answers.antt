@@ -3,7 +3,7 @@ use Rattle.std.proofs.Common.{◌≡◌, ◌∙◌, ◌++◌, [], ◌∷◌, ℕ
 use Rattle.std.specs.Prelude.{slice_get}
 use Rattle.std.proofs.lemmas.List.{take_more}
 use Rattle.std.proofs.lemmas.Option.{get_or_from_slice_get, slice_get_within}
-use Rattle.pfs_conf_rules.specs.Entries.{TextEntry}
+use Rattle.pfs_conf_values.specs.Entries.{TextEntry}
 use Rattle.pfs_conf_settings.proofs.entries.EntryDraft.finish.Goals as goal
 
 one-more : (xs : List TextEntry) (n : ℕ) (x : TextEntry) → slice_get xs n ≡ Some x → take n xs ++ x ∷ [] ≡ take (n + 1) xs

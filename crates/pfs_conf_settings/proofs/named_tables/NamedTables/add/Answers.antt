@@ -1,8 +1,8 @@
 -- Answer of NamedTables::add: with one more table at the end names and tables still agree.
 use Rattle.std.proofs.Common.{◌∙◌, [], ◌∷◌, ◌++◌, ℕ, List, false, ap}
-use Rattle.pfs_conf_rules.specs.Entries.{TextEntry}
+use Rattle.pfs_conf_values.specs.Entries.{TextEntry}
 use Rattle.pfs_conf_settings.specs.Namings.{Named, is_named}
-use Rattle.pfs_conf_rules.specs.declared.tables.TableDef.{TableDef}
+use Rattle.pfs_conf_values.specs.declared.tables.TableDef.{TableDef}
 use Rattle.pfs_conf_settings.proofs.NamingLaws.{IsNaming-push}
 use Rattle.pfs_conf_settings.proofs.named_tables.NamedTables.add.Goals as goal
 

@@ -1,7 +1,7 @@
 -- Answers of Engine::advance: what an engine keeps, its limits, and that no slice exceeds its share.
 use Rattle.std.proofs.Common.{◌≡◌, ◌∙◌, ap, arith, subst, sym}
-use Rattle.pfs_conf_rules.specs.Configs.{Conf}
-use Rattle.pfs_track.specs.Worlds.{World}
+use Rattle.pfs_conf_values.specs.Configs.{Conf}
+use Rattle.pfs_store_contract.specs.Worlds.{World}
 use Rattle.pfs_engine_machine.specs.Kept.{IsKept, IsWithinLimits}
 use Rattle.pfs_engine_machine.specs.Machine.{due, held_of, purged}
 use Rattle.pfs_engine_machine.specs.Shares.{most_nodes, most_states}

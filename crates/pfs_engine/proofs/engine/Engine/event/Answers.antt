@@ -1,6 +1,6 @@
 -- Answers of Engine::event: memory is refused only where the packet needs it, and never at a skip (`err`).
 use Rattle.std.proofs.Common.{IsOk, subst}
-use Rattle.pfs_conf_rules.specs.Configs.{Conf}
+use Rattle.pfs_conf_values.specs.Configs.{Conf}
 use Rattle.pfs_engine_machine.specs.Kept.{moment_of}
 use Rattle.pfs_engine_machine.specs.Machine.{answered}
 use Rattle.pfs_engine_machine.specs.Refusals.{IsFree}

@@ -1,6 +1,6 @@
 -- Answers of Engine::new: what an engine keeps, and its limits, hold before the first event.
 use Rattle.std.proofs.Common.{ap, arith}
-use Rattle.pfs_track.specs.Worlds.{World}
+use Rattle.pfs_store_contract.specs.Worlds.{World}
 use Rattle.pfs_engine_machine.proofs.KeptTime.{kept_start}
 use Rattle.pfs_engine.proofs.engine.Engine.new.Goals as goal
 

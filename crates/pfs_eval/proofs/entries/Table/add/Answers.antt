@@ -1,6 +1,6 @@
 -- Answers of Table::add: an entry that is not there goes last (`ok`), and its length is marked.
 use Rattle.std.proofs.Common.{◌++◌, ◌-◌, [], ◌∷◌, ap, ◌∙◌, rules}
-use Rattle.pfs_addr.specs.Prefixes.{network_of}
+use Rattle.pfs_addr_values.specs.Prefixes.{network_of}
 use Rattle.pfs_eval.specs.Entries.{holds_prefix}
 use Rattle.pfs_eval.specs.Holdings.{HeldEntries}
 use Rattle.pfs_eval.proofs.Narrowest.{inserted-last, kept-added}

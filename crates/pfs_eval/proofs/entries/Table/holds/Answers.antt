@@ -1,7 +1,7 @@
 -- Answer of Table::holds: the look-up by a host's prefix finds an entry where there is one.
 use Rattle.std.proofs.Common.{◌∙◌, rules, ap, subst}
-use Rattle.pfs_addr.specs.Addresses.{width_of}
-use Rattle.pfs_addr.specs.Prefixes.{network_of}
+use Rattle.pfs_addr_values.specs.Addresses.{width_of}
+use Rattle.pfs_addr_values.specs.Prefixes.{network_of}
 use Rattle.pfs_eval.specs.Entries.{holds_host}
 use Rattle.pfs_eval.proofs.Narrowest.{TellsOnly, lookup-holds_prefix}
 use Rattle.pfs_eval.proofs.entries.Table.holds.Goals as goal

@@ -1,8 +1,8 @@
 -- Answers of Table::of: the next entry of a text is not in the table yet, and goes last.
 use Rattle.std.proofs.Common.{◌≡◌, ◌++◌, [], ◌∷◌, None, Some, ap, sym, ◌∙◌, map, take}
 use Rattle.std.specs.Prelude.{option_map, slice_get}
-use Rattle.pfs_addr.specs.Prefixes.{network_of}
-use Rattle.pfs_conf_rules.specs.Entries.{TextEntry}
+use Rattle.pfs_addr_values.specs.Prefixes.{network_of}
+use Rattle.pfs_conf_values.specs.Entries.{TextEntry}
 use Rattle.pfs_eval.specs.Entries.{entry_of_text}
 use Rattle.pfs_eval.proofs.TextTables.{not-held, own_network, taken-more}
 use Rattle.pfs_eval.proofs.entries.Table.of.Goals as goal

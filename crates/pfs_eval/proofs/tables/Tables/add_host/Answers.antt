@@ -1,6 +1,6 @@
 -- Answers of Tables::add_host: what becomes of a host (`answer`, `ok`), and on an error (`err`, `only_new`).
 use Rattle.std.proofs.Common.{◌+◌, ◌++◌, [], ◌∷◌, false, Some, ap, sym, ◌∙◌}
-use Rattle.pfs_addr.specs.Prefixes.{network_of}
+use Rattle.pfs_addr_values.specs.Prefixes.{network_of}
 use Rattle.pfs_eval.specs.Holdings.{Holdings}
 use Rattle.pfs_eval.specs.Tables.{entry_count, host_entry, entries_after}
 use Rattle.pfs_eval.specs.declared.tables.Added.TheVariants.{New}

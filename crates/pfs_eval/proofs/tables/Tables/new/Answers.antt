@@ -1,7 +1,7 @@
 -- Answers of Tables::new: one table more, and at the end the count of entries is the configuration's, and so is the limit.
 use Rattle.std.proofs.Common.{◌≡◌, ◌++◌, [], ◌∷◌, ap, sym, ◌∙◌, arith, map, take}
 use Rattle.std.proofs.lemmas.List.{take_all}
-use Rattle.pfs_conf_rules.specs.declared.tables.TableDef.{TableDef}
+use Rattle.pfs_conf_values.specs.declared.tables.TableDef.{TableDef}
 use Rattle.pfs_eval.specs.Entries.{entry_of_text}
 use Rattle.pfs_eval.specs.Tables.{config_entries, entry_count}
 use Rattle.pfs_eval.proofs.Rooms.{entries_of}

@@ -1,6 +1,6 @@
 -- Invariant of Tables::new: the tables so far have the entries that the configuration says.
 use Rattle.std.proofs.Common.{◌≡◌, map, take}
-use Rattle.pfs_conf_rules.specs.declared.tables.TableDef.{TableDef}
+use Rattle.pfs_conf_values.specs.declared.tables.TableDef.{TableDef}
 use Rattle.pfs_eval.specs.Entries.{entry_of_text}
 use Rattle.pfs_eval.proofs.Rooms.{entries_of}
 use Rattle.pfs_eval.proofs.tables.Tables.new.Given as goal

@@ -1,8 +1,8 @@
 -- Answers of Indexes::drop_node: the node is there and goes (`nodes`), and without it all stays tied.
 use Rattle.std.proofs.Common.{◌≡◌, ◌∙◌, ◌==◌, Some, ap, filter, not}
 use Rattle.std.specs.List.{find}
-use Rattle.pfs_track.specs.Counts.{node_states}
-use Rattle.pfs_track.specs.declared.records.Node.{Node}
+use Rattle.pfs_store_contract.specs.Counts.{node_states}
+use Rattle.pfs_store_contract.specs.declared.records.Node.{Node}
 use Rattle.pfs_store_index.specs.Tallies.{nodes_of}
 use Rattle.pfs_store_index.specs.Holdings.{Holding}
 use Rattle.pfs_store_index.proofs.Dropping.{node-held, nodes-dropped, tied-dropped}

@@ -1,9 +1,9 @@
 -- Answers of Indexes::find: the index by key tells the number of the state that has the key, or none.
 use Rattle.std.proofs.Common.{◌∙◌, ap, option_map}
 use Rattle.std.specs.List.{find}
-use Rattle.pfs_addr.specs.Sameness.{same_key}
-use Rattle.pfs_track.specs.Calls.{state_number}
-use Rattle.pfs_track.specs.declared.records.State.{State}
+use Rattle.pfs_addr_values.specs.Sameness.{same_key}
+use Rattle.pfs_store_contract.specs.Calls.{state_number}
+use Rattle.pfs_store_contract.specs.declared.records.State.{State}
 use Rattle.pfs_store_index.specs.Holdings.{Holding}
 use Rattle.pfs_store_index.specs.declared.indexes.Entry.{Entry}
 use Rattle.pfs_store_index.proofs.Stands.{number-at}

@@ -2,8 +2,8 @@
 use Rattle.std.proofs.Common.{◌≡◌, IfSome, Some, subst}
 use Rattle.std.specs.List.{find}
 use Rattle.std.proofs.Common.{◌==◌}
-use Rattle.pfs_track.specs.Counts.{node_states}
-use Rattle.pfs_track.specs.declared.records.Node.{Node}
+use Rattle.pfs_store_contract.specs.Counts.{node_states}
+use Rattle.pfs_store_contract.specs.declared.records.Node.{Node}
 use Rattle.pfs_store_index.specs.Records.{states_of}
 use Rattle.pfs_store_index.specs.declared.nodes.Tally.{Tally}
 use Rattle.pfs_store_index.specs.Holdings.{Holding}

@@ -2,12 +2,12 @@
 use Rattle.std.proofs.Common.{◌≡◌, ◌∙◌, ◌<◌, ◌≤◌, Option, None, Some, cond, length, ap, refl, subst, sym, arith, rules}
 use Rattle.std.specs.List.{find}
 use Rattle.std.proofs.lemmas.List.{get_or_read}
-use Rattle.pfs_addr.specs.Sameness.{same_key}
-use Rattle.pfs_track.specs.Admission.{nodes_with}
-use Rattle.pfs_track.specs.Counts.{is_of_rule, node_scope_of}
-use Rattle.pfs_track.specs.Purging.{node_numbers, state_numbers}
-use Rattle.pfs_track.specs.declared.records.NodeScope.{NodeScope}
-use Rattle.pfs_track.specs.declared.records.State.{State}
+use Rattle.pfs_addr_values.specs.Sameness.{same_key}
+use Rattle.pfs_store_contract.specs.Admission.{nodes_with}
+use Rattle.pfs_store_contract.specs.Counts.{is_of_rule, node_scope_of}
+use Rattle.pfs_store_contract.specs.Purging.{node_numbers, state_numbers}
+use Rattle.pfs_store_contract.specs.declared.records.NodeScope.{NodeScope}
+use Rattle.pfs_store_contract.specs.declared.records.State.{State}
 use Rattle.pfs_store_index.specs.Records.{IsAbove, states_of}
 use Rattle.pfs_store_index.specs.Tallies.{nodes_of}
 use Rattle.pfs_store_index.specs.Holdings.{Holding}

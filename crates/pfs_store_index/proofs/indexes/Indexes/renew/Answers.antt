@@ -2,13 +2,13 @@
 use Rattle.std.proofs.Common.{◌≡◌, ◌∙◌, ◌≤◌, is_some, [], length, map, ap, subst, sym, arith}
 use Rattle.std.specs.HashMap as hash
 use Rattle.std.specs.List.{find, list_any}
-use Rattle.pfs_addr.specs.Keys.{key_of}
-use Rattle.pfs_addr.specs.Sameness.{same_key}
-use Rattle.pfs_conf_rules.specs.Configs.{Conf, options_of}
-use Rattle.pfs_track.specs.Counts.{node_scope_of}
-use Rattle.pfs_track.specs.Touching.{completes_at, connections_in, nodes_touched, renewed, score_in}
-use Rattle.pfs_track.specs.Worlds.{IsUpToNow, lists}
-use Rattle.pfs_track.specs.declared.records.State.{State}
+use Rattle.pfs_addr_values.specs.Keys.{key_of}
+use Rattle.pfs_addr_values.specs.Sameness.{same_key}
+use Rattle.pfs_conf_values.specs.Configs.{Conf, options_of}
+use Rattle.pfs_store_contract.specs.Counts.{node_scope_of}
+use Rattle.pfs_store_contract.specs.Touching.{completes_at, connections_in, nodes_touched, renewed, score_in}
+use Rattle.pfs_store_contract.specs.Worlds.{IsUpToNow, lists}
+use Rattle.pfs_store_contract.specs.declared.records.State.{State}
 use Rattle.pfs_store_index.specs.Records.{states_of}
 use Rattle.pfs_store_index.specs.Sourced.{IsSourced}
 use Rattle.pfs_store_index.specs.Tallies.{is_tally, nodes_of}

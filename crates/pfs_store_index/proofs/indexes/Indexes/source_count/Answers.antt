@@ -1,6 +1,6 @@
 -- Answers of Indexes::source_count: whether there is a node (`some`), and how many states it has (`value`).
 use Rattle.std.proofs.Common.{◌∙◌, ap, is_some, sym}
-use Rattle.pfs_track.specs.Counts.{has_node, node_states}
+use Rattle.pfs_store_contract.specs.Counts.{has_node, node_states}
 use Rattle.pfs_store_index.specs.Records.{states_of}
 use Rattle.pfs_store_index.specs.Tallies.{is_tally}
 use Rattle.pfs_store_index.specs.declared.nodes.Tally.{Tally}

@@ -2,7 +2,7 @@
 use Rattle.std.proofs.Common.{◌≡◌, ◌∙◌, ◌<◌, Option, Some, length, map, ap, sym, rules}
 use Rattle.std.specs.List.{find}
 use Rattle.std.proofs.lemmas.List.{get_or_read}
-use Rattle.pfs_track.specs.declared.records.NodeScope.{NodeScope}
+use Rattle.pfs_store_contract.specs.declared.records.NodeScope.{NodeScope}
 use Rattle.pfs_store_index.specs.Records.{states_of}
 use Rattle.pfs_store_index.specs.Tallies.{nodes_of}
 use Rattle.pfs_store_index.specs.Holdings.{Holding}

@@ -3,7 +3,7 @@ use Rattle.std.proofs.Common.{◌≡◌, ◌≤◌, ◌∙◌, List, ap, subst, 
 use Rattle.std.specs.List.{AllByRecursion}
 use Rattle.std.specs.Map.{keys_of}
 use Rattle.indexmap.specs.IndexMap.{get}
-use Rattle.pfs_track.specs.Purging.{node_numbers}
+use Rattle.pfs_store_contract.specs.Purging.{node_numbers}
 use Rattle.pfs_store_index.specs.Keeping.{number_of_node, place_of_node, same_place}
 use Rattle.pfs_store_index.specs.Tallies.{nodes_of}
 use Rattle.pfs_store_index.specs.declared.nodes.Tally.{Tally}

@@ -2,7 +2,7 @@
 use Rattle.std.proofs.Common.{◌≡◌, ◌≤◌, ◌∙◌, List, ap, subst, sym}
 use Rattle.std.specs.List.{AllByRecursion}
 use Rattle.std.specs.Map.{keys_of}
-use Rattle.pfs_track.specs.Purging.{state_numbers}
+use Rattle.pfs_store_contract.specs.Purging.{state_numbers}
 use Rattle.pfs_store_index.specs.Records.{Placed, states_of}
 use Rattle.pfs_store_index.proofs.Turning.{turned-same}
 use Rattle.pfs_store_index.proofs.Walking.{numbers-keys}

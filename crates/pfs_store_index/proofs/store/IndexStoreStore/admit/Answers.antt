@@ -1,13 +1,13 @@
 -- Answers of IndexStore's admit: a new number is above all others, and the world then is as defined (`ok`).
 use Rattle.std.proofs.Common.{◌≡◌, ◌∙◌, ◌+◌, ◌<◌, ◌++◌, ◌∷◌, [], None, Option, ap, refl, sym, arith}
-use Rattle.pfs_track.specs.Admission.{limit_met, new_state, nodes_with}
-use Rattle.pfs_track.specs.Calls.{packet_limit, world_at}
-use Rattle.pfs_track.specs.Counts.{node_scope_of}
-use Rattle.pfs_track.specs.Plain.{Plain}
-use Rattle.pfs_track.specs.Purging.{node_numbers, state_numbers}
-use Rattle.pfs_track.specs.Worlds.{World, lists}
-use Rattle.pfs_track.specs.declared.records.Limit.{Limit}
-use Rattle.pfs_track.specs.declared.records.State.{State}
+use Rattle.pfs_store_contract.specs.Admission.{limit_met, new_state, nodes_with}
+use Rattle.pfs_store_contract.specs.Calls.{packet_limit, world_at}
+use Rattle.pfs_store_contract.specs.Counts.{node_scope_of}
+use Rattle.pfs_store_contract.specs.Plain.{Plain}
+use Rattle.pfs_store_contract.specs.Purging.{node_numbers, state_numbers}
+use Rattle.pfs_store_contract.specs.Worlds.{World, lists}
+use Rattle.pfs_store_contract.specs.declared.records.Limit.{Limit}
+use Rattle.pfs_store_contract.specs.declared.records.State.{State}
 use Rattle.pfs_track.specs.StatePhases.{first_phase}
 use Rattle.pfs_store_index.specs.Sourced.{source_at}
 use Rattle.pfs_store_index.specs.Rounds.{waiting}

@@ -1,9 +1,9 @@
 -- Answers of IndexStore's flush: the world without the flushed (`world`), how many (`answer`), and the looks.
 use Rattle.std.proofs.Common.{◌≡◌, ◌∙◌, ◌-◌, ap, length, arith, rules}
-use Rattle.pfs_track.specs.Calls.{source_states, world_flushed, flushed_count, stays_unflushed}
-use Rattle.pfs_track.specs.Plain.{Plain}
+use Rattle.pfs_store_contract.specs.Calls.{source_states, world_flushed, flushed_count, stays_unflushed}
+use Rattle.pfs_store_contract.specs.Plain.{Plain}
 use Rattle.pfs_store_index.proofs.Searches.{count-le}
-use Rattle.pfs_track.specs.Counts.{is_of_source}
+use Rattle.pfs_store_contract.specs.Counts.{is_of_source}
 use Rattle.pfs_store_index.proofs.Storing.{few-numbered, flushed-count, flushed-le, stored-without, world-without}
 use Rattle.pfs_store_index.proofs.store.IndexStoreStore.flush.Goals as goal
 

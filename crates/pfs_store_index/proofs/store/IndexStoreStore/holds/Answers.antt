@@ -1,7 +1,7 @@
 -- Answers of IndexStore's holds: no state has the number 0, and any other is held where the order has it.
 use Rattle.std.proofs.Common.{◌≡◌, ◌∙◌, ◌≤◌, ap, is_some, sym, arith}
-use Rattle.pfs_track.specs.Plain.{Plain}
-use Rattle.pfs_track.specs.Worlds.{holds_number}
+use Rattle.pfs_store_contract.specs.Plain.{Plain}
+use Rattle.pfs_store_contract.specs.Worlds.{holds_number}
 use Rattle.pfs_store_index.proofs.Storing.{held-next, held-zero}
 use Rattle.pfs_store_index.proofs.store.IndexStoreStore.holds.Goals as goal
 

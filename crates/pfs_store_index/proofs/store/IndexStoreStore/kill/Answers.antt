@@ -1,8 +1,8 @@
 -- Answers of IndexStore's kill: the state is there to be taken out, and the world without it is as defined.
 use Rattle.std.proofs.Common.{◌≡◌, ◌∙◌, Some, ap, subst, sym, map}
 use Rattle.std.specs.List.{find}
-use Rattle.pfs_track.specs.Leaving.{idled}
-use Rattle.pfs_track.specs.Calls.{world_killed, other_than}
+use Rattle.pfs_store_contract.specs.Leaving.{idled}
+use Rattle.pfs_store_contract.specs.Calls.{world_killed, other_than}
 use Rattle.pfs_store_index.proofs.Leavings.{state_number}
 use Rattle.pfs_store_index.proofs.Storing.{stored-without, world-without}
 use Rattle.pfs_store_index.proofs.RisingWalks.{found-number, has_number}

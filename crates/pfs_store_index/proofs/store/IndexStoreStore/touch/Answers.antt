@@ -1,13 +1,13 @@
 -- Answers of IndexStore's touch: the state is there; the `world` after it and the `answer` are as defined.
 use Rattle.std.proofs.Common.{◌≡◌, ◌∙◌, true, Option, Some, None, ap, is_some, option_map, refl, sym, arith}
 use Rattle.std.specs.List.{find}
-use Rattle.pfs_addr.specs.Keys.{key_of}
-use Rattle.pfs_addr.specs.Sameness.{same_key}
-use Rattle.pfs_track.specs.Plain.{Plain}
-use Rattle.pfs_track.specs.Calls.{touch_of, world_touched, state_number}
-use Rattle.pfs_track.specs.Worlds.{state_with}
-use Rattle.pfs_track.specs.declared.records.State.{State}
-use Rattle.pfs_track.specs.declared.records.StateNo.{StateNo}
+use Rattle.pfs_addr_values.specs.Keys.{key_of}
+use Rattle.pfs_addr_values.specs.Sameness.{same_key}
+use Rattle.pfs_store_contract.specs.Plain.{Plain}
+use Rattle.pfs_store_contract.specs.Calls.{touch_of, world_touched, state_number}
+use Rattle.pfs_store_contract.specs.Worlds.{state_with}
+use Rattle.pfs_store_contract.specs.declared.records.State.{State}
+use Rattle.pfs_store_contract.specs.declared.records.StateNo.{StateNo}
 use Rattle.pfs_store_index.specs.Stored.{world_of}
 use Rattle.pfs_store_index.proofs.Storing.{few-numbered, stored-touched, world-touched}
 use Rattle.pfs_store_index.proofs.store.IndexStoreStore.touch.Goals as goal

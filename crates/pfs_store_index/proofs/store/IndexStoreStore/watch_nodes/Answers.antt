@@ -1,7 +1,7 @@
 -- Answers of IndexStore's watch_nodes: the slice of the definition, up to when its nodes stay, the round's end.
 use Rattle.std.proofs.Common.{◌≡◌, ◌∙◌, ◌-◌, ap, length, take, rules}
-use Rattle.pfs_track.specs.Plain.{Plain}
-use Rattle.pfs_track.specs.Purging.{node_numbers, node_round, node_share, node_slice}
+use Rattle.pfs_store_contract.specs.Plain.{Plain}
+use Rattle.pfs_store_contract.specs.Purging.{node_numbers, node_round, node_share, node_slice}
 use Rattle.pfs_store_index.proofs.Storing.{stored-nodes, world-node_slice}
 use Rattle.pfs_store_index.specs.Rounds.{waiting}
 use Rattle.pfs_store_index.proofs.store.IndexStoreStore.watch_nodes.Goals as goal

@@ -1,7 +1,7 @@
 -- Answers of PlainStore's admit: where a limit is met it is told, and the world is as before (`in-Some`); where none is, the world is that with the state.
 use Rattle.std.proofs.Common.{◌∙◌, IsSome, ap, subst, sym}
 use borrow.Author.Tests.{clash}
-use Rattle.pfs_track.specs.Calls.{answer_at, world_at}
+use Rattle.pfs_store_contract.specs.Calls.{answer_at, world_at}
 use Rattle.pfs_store_plain.proofs.plain.PlainStoreStore.admit.Goals as goal
 
 pub returns-in-Some-clause-answer : goal.returns-in-Some-clause-answer

@@ -1,9 +1,9 @@
 -- Answer of PlainStore's kill: what leave says of its lists it says of the whole world (`world`).
 use Rattle.std.proofs.Common.{◌≡◌, ◌∙◌, ℕ, List, ◌++◌, length, take, drop, ap, arith}
 use Rattle.std.proofs.Math.Seq.{take-append_seam}
-use Rattle.pfs_track.specs.Calls.{world_killed}
-use Rattle.pfs_track.specs.Plain.{Plain}
-use Rattle.pfs_track.specs.Worlds.{lists}
+use Rattle.pfs_store_contract.specs.Calls.{world_killed}
+use Rattle.pfs_store_contract.specs.Plain.{Plain}
+use Rattle.pfs_store_contract.specs.Worlds.{lists}
 use Rattle.pfs_store_plain.proofs.plain.PlainStoreStore.kill.Goals as goal
 
 whole : {A : Type 0} (n : ℕ) (xs ys : List A) → n ≡ length xs → take n (xs ++ drop (length xs) ys) ≡ xs

@@ -1,8 +1,8 @@
 -- Answers of TcpPhase::step: a complete phase has both peers established; it is as defined (`phase`).
 use Rattle.std.proofs.Common.{◌≡◌, ◌∙◌, Bool, true, ◌||◌, ap, subst, sym}
 use Rattle.std.proofs.Props.{props}
-use Rattle.pfs_addr.specs.declared.flag_sets.Flags.{Flags}
-use Rattle.pfs_conf_rules.specs.declared.timeouts.TimeoutName.{TimeoutName}
+use Rattle.pfs_addr_values.specs.declared.flag_sets.Flags.{Flags}
+use Rattle.pfs_conf_values.specs.declared.timeouts.TimeoutName.{TimeoutName}
 use Rattle.pfs_track.proofs.tcp_phases.TcpPhase.step.Goals as goal
 use Rattle.pfs_track.specs.TcpEstablished.{peers_established}
 use Rattle.pfs_track.specs.TcpPhases.{tcp_peers, tcp_step}

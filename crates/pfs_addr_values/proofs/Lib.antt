@@ -1,0 +1,5 @@
+pub mod LastBytes
+mod Laying
+pub mod PrefixLaws
+pub mod SameLaws
+mod WideLaws

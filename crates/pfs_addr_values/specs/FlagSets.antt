@@ -1,0 +1,28 @@
+-- Sets of TCP flags, by the letters FSRPAUEW that a text names.
+use Rattle.std.specs.Prelude.{ℕ, List, Bool, Option, Some, None, if◌then◌else◌, ◌==◌, ◌||◌}
+use Rattle.std.specs.List.{list_all, list_any}
+use Rattle.pfs_addr_values.specs.declared.flag_sets.Flags.{Flags}
+
+-- one of the letters FSRPAUEW
+abbrev pub is_flag_letter : ℕ → Bool
+is_flag_letter b = (b == 70) || (b == 83) || (b == 82) || (b == 80) || (b == 65) || (b == 85) || (b == 69) || (b == 87)
+
+-- whether a letter stands in a text
+abbrev pub names_letter : ℕ → List ℕ → Bool
+names_letter letter text = list_any (λ b. b == letter) text
+
+-- the flags that a text names, where all its bytes are letters of flags
+abbrev pub flags_of : List ℕ → Option Flags
+flags_of text =
+    if list_all is_flag_letter text
+    then Some (record {
+      fin = names_letter 70 text;
+      syn = names_letter 83 text;
+      rst = names_letter 82 text;
+      psh = names_letter 80 text;
+      ack = names_letter 65 text;
+      urg = names_letter 85 text;
+      ece = names_letter 69 text;
+      cwr = names_letter 87 text;
+    })
+    else None

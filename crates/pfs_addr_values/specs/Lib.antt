@@ -1,0 +1,10 @@
+pub mod Addresses
+pub mod FlagSets
+pub mod Keys
+pub mod Names
+pub mod Numbers
+pub mod Packets
+pub mod Padding
+pub mod Prefixes
+pub mod Protocols
+pub mod Sameness

@@ -1,0 +1,21 @@
+-- What a packet tells, and that its ports are 0 unless its protocol has ports.
+use Rattle.std.specs.Prelude.{ℕ, List, false, ◌≡◌}
+use Rattle.pfs_addr_values.specs.Protocols.{has_ports}
+use Rattle.pfs_addr_values.specs.declared.protocols.Proto.{Proto}
+use Rattle.pfs_addr_values.specs.declared.flag_sets.Flags.{Flags}
+use Rattle.pfs_addr_values.specs.declared.packets.Dir.{Dir}
+use Rattle.pfs_addr_values.specs.declared.packets.Endpoint.{Endpoint}
+
+-- what a packet tells: its direction, the name of its interface, its protocol, its two ends and its flags
+pub record Header : Type 0 where
+  pub dir : Dir
+  pub ifname : List ℕ
+  pub proto : Proto
+  pub source : Endpoint
+  pub destination : Endpoint
+  pub flags : Flags
+
+-- the ports are 0 unless the protocol has ports
+pub record IsPortless (proto : Proto) (source destination : Endpoint) : Type 0 where
+  pub from : has_ports proto ≡ false → source.port ≡ 0
+  pub to : has_ports proto ≡ false → destination.port ≡ 0

@@ -1,0 +1,158 @@
+// Names of interfaces, tables and anchors, held in place.
+
+ghost use Rattle.std.specs.Prelude.{◌≡◌, ◌≢◌, true};
+ghost use Rattle.std.specs.Bool.{OnTrue};
+ghost use Rattle.std.specs.Str.{bytes_eq};
+ghost use Rattle.std.specs.List.{list_all};
+ghost use Rattle.std.specs.Hash as fed;
+ghost use Rattle.std.proofs.Common.{rules};
+ghost use Rattle.std.specs.Cmp.Rules.{comparing, hashing};
+ghost use Rattle.pfs_addr_values.specs.Names.{is_name, is_name_byte, name_of};
+
+use std::fmt;
+use std::hash::{Hash, Hasher};
+use std::marker::Model;
+
+/// A name of 1 to `N` bytes, each a letter, a digit, `_`, `-` or `.`. It takes no memory.
+///
+/// Clauses see the list of its bytes. (pf.conf(5), GRAMMAR; which lengths there are is told where a name is used)
+#[derive(Clone, Copy)]
+pub struct Name<const N: usize> {
+    bytes: [u8; N],
+    len: usize,
+}
+
+/// The name of a network interface: 1 to 15 bytes. (pf.conf(5), PARAMETERS, "on")
+pub type IfName = Name<15>;
+
+impl<const N: usize> Model for Name<N> {
+    ghost use Rattle.std.specs.Prelude.{List, ℕ, take, replicate, length, ◌++◌, ◌-◌};
+
+    ghost Value = { List ℕ };
+
+    ghost use Rattle.pfs_addr_values.specs.Names.{IsPadded};
+    ghost use Rattle.pfs_addr_values.specs.Padding.{padded-back};
+
+    ghost view = { λ n. take n.len n.bytes };
+
+    ghost invariant = { λ n. IsPadded N n.bytes n.len };
+
+    ghost inverse = { λ xs. record { bytes = xs ++ replicate (N - length xs) 0; len = length xs } };
+
+    ghost inverse_ok = { λ a h. padded-back N a h };
+}
+
+impl<const N: usize> Name<N> {
+    /// The name that this text is, if it is one: 1 to `N` bytes, each a letter, a digit, `_`, `-` or `.`. `None` for
+    /// every other text. It takes no memory.
+    pub fn parse(text: &[u8]) -> Option<Name<N>>
+        ensures { result ≡ name_of N text.now }
+    {
+        if may_be_name(text, N) {
+            Some(Name::padded(text))
+        } else {
+            None
+        }
+    }
+
+    fn padded(text: &[u8]) -> Name<N>
+        requires { is_name N text.now ≡ true }
+        ensures { result ≡ text.now }
+    {
+        let mut bytes = [0; N];
+        bytes[..text.len()].copy_from_slice(text);
+        Name {
+            bytes,
+            len: text.len(),
+        }
+    }
+
+    /// The bytes of the name.
+    pub fn as_bytes(&self) -> &[u8]
+        ensures { result.now ≡ self.now }
+    {
+        &self.bytes[..self.len]
+    }
+}
+
+/// The interface name that this text is, if it is one: 1 to 15 bytes of letters, digits, `_`, `-` and `.`. `None` for
+/// every other text. It takes no memory. (pf.conf(5), PARAMETERS, "on"; the length is that of if_nametoindex(3))
+pub fn parse_ifname(text: &[u8]) -> Option<IfName>
+    ensures { result ≡ name_of 15 text.now }
+{
+    Name::parse(text)
+}
+
+impl<const N: usize> PartialEq for Name<N> {
+    ghost eq = { λ a b. bytes_eq a b };
+
+    ghost laws = { Prim.search (comparing, rules) };
+
+    fn eq(&self, other: &Name<N>) -> bool {
+        same_bytes(self.as_bytes(), other.as_bytes())
+    }
+}
+
+impl<const N: usize> Eq for Name<N> {
+    ghost laws = { Prim.search (comparing, rules) };
+}
+
+impl<const N: usize> Hash for Name<N> {
+    ghost hash_input = { λ a. fed.slice fed.u8 a };
+
+    ghost respects_eq = { Prim.search (hashing, rules) };
+
+    fn hash<H: Hasher>(&self, state: &mut H) {
+        self.as_bytes().hash(state);
+    }
+}
+
+impl<const N: usize> fmt::Debug for Name<N> {
+    fn fmt<W: fmt::Write>(&self, f: &mut fmt::Formatter<W>) -> fmt::Result {
+        for b in self.as_bytes() {
+            write!(f, "{}", char::from(*b))?;
+        }
+        Ok(())
+    }
+}
+
+// Whether two texts are the same. Names of interfaces mostly differ in their last byte, so that is compared first.
+#[tactic(auto, using(crate::proofs::LastBytes::unequal))]
+fn same_bytes(one: &[u8], other: &[u8]) -> bool
+    ensures { result ≡ bytes_eq one.now other.now }
+{
+    if differ_at_end(one, other) {
+        return false;
+    }
+    one == other
+}
+
+fn differ_at_end(one: &[u8], other: &[u8]) -> bool
+    ensures { OnTrue result (one.now ≢ other.now) }
+{
+    match (one, other) {
+        ([.., x], [.., y]) => *x != *y,
+        _ => false,
+    }
+}
+
+fn may_be_name(text: &[u8], most: usize) -> bool
+    ensures { result ≡ is_name most text.now }
+{
+    if text.is_empty() || text.len() > most {
+        return false;
+    }
+    are_allowed(text)
+}
+
+fn are_allowed(text: &[u8]) -> bool
+    ensures { result ≡ list_all is_name_byte text.now }
+{
+    text.iter().all(|b| is_allowed(*b))
+}
+
+fn is_allowed(b: u8) -> bool
+    ensures { result ≡ is_name_byte b }
+{
+    matches!(b, b'a'..=b'z' | b'A'..=b'Z' | b'0'..=b'9' | b'_' | b'-' | b'.')
+}

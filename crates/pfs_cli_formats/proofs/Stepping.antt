@@ -1,0 +1,195 @@
+-- The moment of the machine is that of its last event, and what a record says of its own moment.
+use Rattle.std.proofs.Common.{◌≡◌, ◌<◌, ◌≤◌, ℕ, List, Bool, true, false, Option, Some, None, refl, sym, ap, ◌∙◌, arith, subst}
+use Rattle.std.specs.Prelude.{Result, Ok, Err, IfOk, codes, cond, not, ◌^◌, ◌==◌, if◌then◌else◌, length, nat_le, nat_lt, ok_or, option_map, slice_get}
+use Rattle.std.specs.Option.{ForSome, option_map_or}
+use Rattle.std.proofs.lemmas.Map.Entries.{option_filter}
+use Rattle.std.specs.List.{position_or_len}
+use Rattle.std.specs.Str.{bytes_eq}
+use Rattle.std.proofs.lemmas.Bool.Decides.{nat_tests}
+use Rattle.pfs_addr_values.specs.Numbers.{number_of}
+use Rattle.pfs_addr_values.specs.Packets.{Header}
+use Rattle.pfs_conf_values.specs.Configs.{Conf, has_name, is_const_table, table_named}
+use Rattle.pfs_conf_values.specs.declared.filters.TableNo.{TableNo}
+use Rattle.pfs_engine_machine.specs.Kept.{moment_of}
+use Rattle.pfs_engine_machine.specs.Machine.{Machine, handled, advanced, answered, expired, first_by, leaving, step}
+use Rattle.pfs_engine_machine.specs.Runs.{MayCome, MayExpire}
+use Rattle.pfs_engine_machine.specs.declared.events.Event.{Event}
+use Rattle.pfs_engine_machine.specs.declared.events.Outcome.{Outcome}
+use Rattle.pfs_engine_machine.specs.declared.events.Outcome.TheVariants as outcome
+use Rattle.pfs_engine_machine.specs.declared.events.What.{What}
+use Rattle.pfs_engine_machine.specs.declared.events.What.TheVariants as what
+use Rattle.pfs_cli_formats.specs.declared.faults.TraceFault.{TraceFault}
+use Rattle.pfs_cli_formats.specs.declared.faults.TraceFault.TheVariants as fault
+use Rattle.pfs_cli_formats.specs.Events.{changing, column_of, number_to, falls, at_moment, packet_at, expiry_at, event_at, in_column, and_then}
+use Rattle.pfs_cli_formats.specs.Reading.{arrival_at, leaving_at}
+
+pub last-step : (conf : Conf) (m : Machine) (e : Event) → (step conf m e).1.last ≡ Some e.time
+unfolding step
+last-step conf m e = refl
+
+-- ---- the moment of a record
+
+number_to-bound : (most : ℕ) (o : Option ℕ) (n : ℕ) → option_filter (λ x. nat_le x most) o ≡ Some n → n ≤ most
+number_to-bound most None n q = cc
+number_to-bound most (Some x) n q = by (nat_le x most) refl q
+  where
+    by : (b : Bool) → nat_le x most ≡ b → cond b (Some x) None ≡ Some n → n ≤ most
+    by true test e = let same : x ≡ n = cc in rw (← same) (grind (arith, nat_tests, test))
+    by false test e = cc
+
+order-kept : (last : Option ℕ) (time : ℕ) → falls last time ≡ false → ForSome last (λ m. m ≤ time)
+order-kept None time q x e = cc
+order-kept (Some m) time q x e = let same : m ≡ x = cc in rw (← same) (grind (arith, nat_tests, q))
+
+-- ---- the table of a record
+
+-- a table that is found by its name is one of the configuration's
+named-known : (conf : Conf) (name : List ℕ) (t : TableNo) → table_named conf name ≡ Some t → t.0 < length conf.tables
+named-known conf name t e = by (nat_lt at (length conf.tables)) refl e
+  where
+    at : ℕ
+    at = position_or_len (has_name name) conf.tables
+
+    by : (b : Bool) → nat_lt at (length conf.tables) ≡ b → option_map (λ (n : ℕ). let found : TableNo = record { 0 = n } in found) (if b then Some at else None) ≡ Some t
+        → t.0 < length conf.tables
+    by true test h =
+        let same : record { 0 = at } ≡ t = cc in
+        let number : at ≡ t.0 = ap (λ (x : TableNo). x.0) same in
+        rw (← number) (grind (arith, nat_tests, test))
+    by false test h = cc
+
+changing-may : (conf : Conf) (o : Option TableNo) (t : TableNo) → ((u : TableNo) → o ≡ Some u → u.0 < length conf.tables) → changing conf o ≡ Some t
+    → MayExpire conf t.0
+changing-may conf None t known e = cc
+changing-may conf (Some u) t known e = by (is_const_table (slice_get conf.tables u.0)) refl e
+  where
+    by : (b : Bool) → is_const_table (slice_get conf.tables u.0) ≡ b → cond (not b) (Some u) None ≡ Some t → MayExpire conf t.0
+    by true test h = cc
+    by false test h =
+        let same : u ≡ t = cc in
+        subst (λ (x : TableNo). MayExpire conf x.0) same (record { known = known u refl; changes = test })
+
+-- what comes of an expiry may come
+expire-may : (conf : Conf) (seconds : ℕ) (name : List ℕ) (w : What)
+    → option_map (λ t. what.Expire t seconds) (changing conf (table_named conf name)) ≡ Some w → MayCome conf w
+expire-may conf seconds name w e = by (changing conf (table_named conf name)) refl e
+  where
+    by : (o : Option TableNo) → changing conf (table_named conf name) ≡ o → option_map (λ t. what.Expire t seconds) o ≡ Some w → MayCome conf w
+    by None at h = cc
+    by (Some t) at h =
+        let same : what.Expire t seconds ≡ w = cc in
+        subst (MayCome conf) same (changing-may conf (table_named conf name) t (named-known conf name) at)
+
+-- a packet, and a record that is skipped, may come
+arrived-may : (conf : Conf) (packet : Option Header) → MayCome conf (option_map_or what.Packet packet what.Skip)
+arrived-may conf None = tt
+arrived-may conf (Some p) = tt
+
+-- it is not before the last one, and may come
+record IsRead (conf : Conf) (last : Option ℕ) (time : ℕ) (e : Event) : Type 0 where
+  order : falls last time ≡ false
+  moment : e.time ≡ time
+  may : MayCome conf e.what
+
+moment-read : (conf : Conf) (row : ℕ) (last : Option ℕ) (time : ℕ) (o : Option What) (e : Event) → ((w : What) → o ≡ Some w → MayCome conf w)
+    → at_moment row last time o ≡ Ok e → IsRead conf last time e
+moment-read conf row last time o e may q = by (falls last time) refl q
+  where
+    made : falls last time ≡ false → (w : Option What) → o ≡ w
+        → and_then (ok_or w (fault.Table row)) (λ comes. Ok (record { time = time; what = comes })) ≡ Ok e → IsRead conf last time e
+    made test None at h = cc
+    made test (Some w) at h =
+        let same : record { time = time; what = w } ≡ e = cc in record {
+          order = test;
+          moment = sym (ap (λ (d : Event). d.time) same);
+          may = subst (λ (d : Event). MayCome conf d.what) same (may w at);
+        }
+
+    by : (b : Bool) → falls last time ≡ b
+        → (if b then Err (fault.TimeFell row) else and_then (ok_or o (fault.Table row)) (λ comes. Ok (record { time = time; what = comes }))) ≡ Ok e → IsRead conf last time e
+    by true test h = cc
+    by false test h = made test o refl h
+
+arrival-read : (conf : Conf) (row : ℕ) (last : Option ℕ) (time : ℕ) (fields : List (List ℕ)) (e : Event) → arrival_at row last time fields ≡ Ok e → IsRead conf last time e
+arrival-read conf row last time fields e q = by (packet_at row fields) q
+  where
+    by : (r : Result (Option Header) TraceFault) → and_then r (λ packet. at_moment row last time (Some (option_map_or what.Packet packet what.Skip))) ≡ Ok e → IsRead conf last time e
+    by (Err f) h = cc
+    by (Ok o) h =
+        let comes : What = option_map_or what.Packet o what.Skip in
+        moment-read conf row last time (Some comes) e (λ w same. let is : comes ≡ w = cc in subst (MayCome conf) is (arrived-may conf o)) h
+
+leaving-read : (conf : Conf) (row : ℕ) (last : Option ℕ) (time : ℕ) (fields : List (List ℕ)) (e : Event) → leaving_at conf row last time fields ≡ Ok e → IsRead conf last time e
+leaving-read conf row last time fields e q = by (expiry_at row fields) q
+  where
+    by : (r : Result (List ℕ × ℕ) TraceFault)
+        → and_then r (λ read. at_moment row last time (option_map (λ t. what.Expire t read.1) (changing conf (table_named conf read.0)))) ≡ Ok e → IsRead conf last time e
+    by (Err f) h = cc
+    by (Ok x) h = moment-read conf row last time (option_map (λ t. what.Expire t x.1) (changing conf (table_named conf x.0))) e (expire-may conf x.1 x.0) h
+
+-- the event of a record: its moment is not before the last one, and is small, and it may come
+pub record IsEvent (conf : Conf) (last : Option ℕ) (e : Event) : Type 0 where
+  pub order : ForSome last (λ m. m ≤ e.time)
+  pub moment : e.time < 2 ^ 32
+  pub table : MayCome conf e.what
+
+pub event-read : (conf : Conf) (row : ℕ) (last : Option ℕ) (fields : List (List ℕ)) (e : Event) → event_at conf row last fields ≡ Ok e → IsEvent conf last e
+event-read conf row last fields e q = by_length (length fields == 9) q
+  where
+    rest : ℕ → Bool → Result Event TraceFault
+    rest time b = if b then leaving_at conf row last time fields else arrival_at row last time fields
+
+    by_kind : (time : ℕ) (b : Bool) → rest time b ≡ Ok e → IsRead conf last time e
+    by_kind time true h = leaving-read conf row last time fields e h
+    by_kind time false h = arrival-read conf row last time fields e h
+
+    by_time : (o : Option ℕ) → number_to 4294967295 (column_of fields 1) ≡ o
+        → in_column row 1 o (λ time. rest time (bytes_eq (column_of fields 2) (codes "expire"))) ≡ Ok e → IsEvent conf last e
+    by_time None test h = cc
+    by_time (Some time) test h =
+        let read = by_kind time (bytes_eq (column_of fields 2) (codes "expire")) h in
+        let small : time ≤ 4294967295 = number_to-bound 4294967295 (number_of (column_of fields 1)) time test in record {
+          order = rw read.moment (order-kept last time read.order);
+          moment = omega (arith, small, read.moment);
+          table = read.may;
+        }
+
+    by_length : (b : Bool)
+        → (if b then in_column row 1 (number_to 4294967295 (column_of fields 1)) (λ time. rest time (bytes_eq (column_of fields 2) (codes "expire"))) else Err (fault.Columns row)) ≡ Ok e
+        → IsEvent conf last e
+    by_length true h = by_time (number_to 4294967295 (column_of fields 1)) refl h
+    by_length false h = cc
+
+-- ---- one event is its moment, and then what comes
+
+-- what comes of an event, by what it is
+abbrev stepped : Conf → Machine → ℕ → What → Outcome × Machine
+stepped conf m now w = leaving (advanced conf m now) (handled conf (advanced conf m now).held (first_by m.first now) now w)
+
+pub step-skip : (conf : Conf) (m new : Machine) (e : Event) → new ≡ advanced conf m e.time → e.what ≡ what.Skip → (outcome.Skip, new) ≡ step conf m e
+unfolding step
+step-skip conf m new e is comes = ap (λ (a : Machine). (outcome.Skip, a)) is ∙ ap (stepped conf m e.time) (sym comes)
+
+-- a machine is what it holds and its moments
+rebuilt : (m now : Machine) → m.first ≡ now.first → m.last ≡ now.last → m ≡ record { held = m.held; first = now.first; last = now.last }
+rebuilt m now first last =
+    ap (λ (l : Option ℕ). let a : Machine = record { held = m.held; first = m.first; last = l } in a) last
+    ∙ ap (λ (f : Option ℕ). let a : Machine = record { held = m.held; first = f; last = now.last } in a) first
+
+pub step-packet : {E : Type 0} (conf after : Conf) (m now new : Machine) (e : Event) (p : Header) (r : Result Outcome E) → after ≡ conf → now ≡ advanced conf m e.time → e.what ≡ what.Packet p
+    → new.first ≡ now.first → new.last ≡ now.last → IfOk r (λ o. (o, new.held) ≡ answered after now.held p (moment_of now.last)) → IfOk r (λ o. (o, new) ≡ step conf m e)
+unfolding step
+step-packet conf after m now new e p (Err f) same is comes first last h = tt
+step-packet conf after m now new e p (Ok o) same is comes first last h =
+    let answer : (o, new.held) ≡ answered conf (advanced conf m e.time).held p e.time = rw (same, is) at h in
+    ap (λ (a : Machine). (o, a)) (rebuilt new (advanced conf m e.time) (first ∙ ap (λ (a : Machine). a.first) is) (last ∙ ap (λ (a : Machine). a.last) is))
+    ∙ (ap (leaving (advanced conf m e.time)) answer ∙ ap (stepped conf m e.time) (sym comes))
+
+pub step-expire : (conf : Conf) (m now new : Machine) (e : Event) (table : TableNo) (seconds left : ℕ) → now ≡ advanced conf m e.time → e.what ≡ what.Expire table seconds
+    → new.first ≡ now.first → new.last ≡ now.last
+    → (outcome.Expire left, new.held) ≡ expired now.held (moment_of now.first) (moment_of now.last) table.0 seconds → (outcome.Expire left, new) ≡ step conf m e
+unfolding step
+step-expire conf m now new e table seconds left is comes first last h =
+    let gone : (outcome.Expire left, new.held) ≡ expired (advanced conf m e.time).held (first_by m.first e.time) e.time table.0 seconds = rw is at h in
+    ap (λ (a : Machine). (outcome.Expire left, a)) (rebuilt new (advanced conf m e.time) (first ∙ ap (λ (a : Machine). a.first) is) (last ∙ ap (λ (a : Machine). a.last) is))
+    ∙ (ap (leaving (advanced conf m e.time)) gone ∙ ap (stepped conf m e.time) (sym comes))

@@ -1,0 +1,54 @@
+-- The lines of a report: `ROW WORD @RULE`, and `end rows=R states=S nodes=N entries=E`. (own)
+use Rattle.std.specs.Prelude.{◌++◌, ℕ, Bool, true, false, List, codes, Option, Some, None}
+use Rattle.std.specs.Fmt.{decimal}
+use Rattle.pfs_conf_values.specs.declared.items.RuleNo.{RuleNo}
+use Rattle.pfs_store_contract.specs.declared.records.Limit.{Limit}
+use Rattle.pfs_store_contract.specs.declared.records.Limit.TheVariants as limit
+use Rattle.pfs_engine_machine.specs.Sources.{Addition, by_addition}
+use Rattle.pfs_engine_machine.specs.declared.events.Outcome.{Outcome}
+use Rattle.pfs_engine_machine.specs.declared.events.Outcome.TheVariants as outcome
+
+-- a refused state is told by the limit that it met, in pf.conf(5)'s word for it
+abbrev pub limit_word : Limit → List ℕ
+limit_word limit.Max = codes "drop:max"
+limit_word limit.MaxSrcNodes = codes "drop:max-src-nodes"
+limit_word limit.SrcNodes = codes "drop:src-nodes"
+limit_word limit.MaxSrcStates = codes "drop:max-src-states"
+limit_word limit.States = codes "drop:states"
+
+-- killed states are told by the limits that were met: `max-src-conn`, `max-src-conn-rate` or both
+abbrev pub kill_word : Bool → Bool → List ℕ
+kill_word true true = codes "kill:max-src-conn+max-src-conn-rate"
+kill_word true false = codes "kill:max-src-conn"
+kill_word false rate = codes "kill:max-src-conn-rate"
+
+-- a rule is written by its number
+abbrev pub mark_text : Option RuleNo → List ℕ
+mark_text (Some r) = codes "@" ++ decimal r.0
+mark_text None = codes "-"
+
+-- what became of the source of killed states in the overload table of the rule
+abbrev pub overload_word : Addition → List ℕ
+overload_word a = by_addition (codes "added") (codes "held") (codes "full") (codes "none") a
+
+-- what a line tells: its word, and the rule by which it came, or `-`; of killed states also the overload and how many were killed,
+-- of entries that expired how many left
+abbrev pub outcome_text : Outcome → List ℕ
+outcome_text (outcome.State r) = codes "state " ++ mark_text (Some r)
+outcome_text (outcome.New r) = codes "new " ++ mark_text (Some r)
+outcome_text (outcome.Pass r) = codes "pass " ++ mark_text r
+outcome_text (outcome.Block r) = codes "block " ++ mark_text (Some r)
+outcome_text (outcome.Drop r l) = limit_word l ++ (codes " " ++ mark_text (Some r))
+outcome_text (outcome.Kill r conn rate overload killed) =
+    kill_word conn rate ++ (codes " " ++ (mark_text (Some r) ++ (codes " overload=" ++ (overload_word overload ++ (codes " killed=" ++ decimal killed)))))
+outcome_text outcome.Skip = codes "skip -"
+outcome_text (outcome.Expire removed) = codes "expire - removed=" ++ decimal removed
+
+-- the line of a record
+abbrev pub row_text : ℕ → Outcome → List ℕ
+row_text row o = decimal row ++ (codes " " ++ (outcome_text o ++ codes "\n"))
+
+-- the last line: how many records there were, and the states, source nodes and table entries that are held after them
+abbrev pub end_text : ℕ → ℕ → ℕ → ℕ → List ℕ
+end_text rows states nodes entries =
+    codes "end rows=" ++ (decimal rows ++ (codes " states=" ++ (decimal states ++ (codes " nodes=" ++ (decimal nodes ++ (codes " entries=" ++ (decimal entries ++ codes "\n")))))))

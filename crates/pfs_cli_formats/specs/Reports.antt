@@ -1,0 +1,39 @@
+-- The report of a trace under a configuration, and its fronts. (own)
+use Rattle.std.specs.Prelude.{◌≡◌, ◌+◌, ◌++◌, ℕ, List, [], ◌∷◌, length, take, Option, Some, None}
+use Rattle.pfs_conf_values.specs.Configs.{Conf}
+use Rattle.pfs_engine_machine.specs.declared.events.Event.{Event}
+use Rattle.pfs_engine_machine.specs.declared.events.Outcome.{Outcome}
+use Rattle.pfs_engine_machine.specs.Machine.{Machine, start, states_held, nodes_held, entries_held, outcomes_of, machine_after}
+use Rattle.pfs_cli_formats.specs.Lines.{row_text, end_text}
+use Rattle.pfs_cli_formats.specs.Traces.{Trace, trace_of}
+use Rattle.pfs_cli_formats.specs.declared.faults.TraceFault.{TraceFault}
+
+-- one line for each outcome, the first in this row
+unfoldable pub lines_from : ℕ → List Outcome → List ℕ
+lines_from row [] = []
+lines_from row (o ∷ os) = row_text row o ++ lines_from (row + 1) os
+
+-- the lines of the machine's outcomes for these events, which are the first of a trace
+abbrev pub lines_of : Conf → List Event → List ℕ
+lines_of conf es = lines_from 1 (outcomes_of conf (start conf) es)
+
+-- the last line, with what is held
+abbrev pub end_line_of : ℕ → Machine → List ℕ
+end_line_of rows m = end_text rows (states_held m) (nodes_held m) (entries_held m)
+
+-- the text of a report: a line for each record before the first faulty one, and if there is none, the last line
+abbrev pub report : Conf → Trace → List ℕ
+report conf (es, None) = lines_of conf es ++ end_line_of (length es) (machine_after conf (start conf) es)
+report conf (es, Some f) = lines_of conf es
+
+-- the report of a trace: its text, and what is wrong with the first faulty record
+abbrev pub report_of : Conf → List ℕ → List ℕ × Option TraceFault
+report_of conf bytes = (report conf (trace_of conf bytes), (trace_of conf bytes).1)
+
+-- this text is the lines of the first records of a trace, none of them faulty
+abbrev pub AreFirstLines : Conf → Trace → List ℕ → Type 0
+AreFirstLines conf trace text = (k : ℕ) × (text ≡ lines_of conf (take k trace.0))
+
+-- this text begins the report
+abbrev pub BeginsReport : Conf → Trace → List ℕ → Type 0
+BeginsReport conf trace text = (rest : List ℕ) × (report conf trace ≡ text ++ rest)

@@ -1,0 +1,49 @@
+-- The parts of a line, as the code writes them.
+use Rattle.std.specs.Prelude.{◌++◌, List, [], ℕ, codes, Option, Some, None}
+use Rattle.std.specs.Fmt.{decimal}
+use Rattle.pfs_conf_values.specs.declared.items.RuleNo.{RuleNo}
+use Rattle.pfs_engine_machine.specs.declared.events.Outcome.{Outcome}
+use Rattle.pfs_engine_machine.specs.declared.events.Outcome.TheVariants as outcome
+use Rattle.pfs_cli_formats.specs.Lines.{kill_word, limit_word, overload_word}
+
+-- the word of a line
+abbrev pub word_of : Outcome → List ℕ
+word_of (outcome.State r) = codes "state"
+word_of (outcome.New r) = codes "new"
+word_of (outcome.Pass r) = codes "pass"
+word_of (outcome.Block r) = codes "block"
+word_of (outcome.Drop r l) = limit_word l
+word_of (outcome.Kill r conn rate overload killed) = kill_word conn rate
+word_of outcome.Skip = codes "skip"
+word_of (outcome.Expire removed) = codes "expire"
+
+-- the rule by which it came: none for a record that is no packet, and for a packet that no rule matched
+abbrev pub rule_by : Outcome → Option RuleNo
+rule_by (outcome.State r) = Some r
+rule_by (outcome.New r) = Some r
+rule_by (outcome.Pass r) = r
+rule_by (outcome.Block r) = Some r
+rule_by (outcome.Drop r l) = Some r
+rule_by (outcome.Kill r conn rate overload killed) = Some r
+rule_by outcome.Skip = None
+rule_by (outcome.Expire removed) = None
+
+-- a line of killed states goes on with the overload and how many were killed, one of entries that expired with how many left
+abbrev pub note_text : Outcome → List ℕ
+note_text (outcome.Kill r conn rate overload killed) = codes " overload=" ++ (overload_word overload ++ (codes " killed=" ++ decimal killed))
+note_text (outcome.Expire removed) = codes " removed=" ++ decimal removed
+note_text _ = []
+
+-- before a rule's number stands `@`, and `-` where there is no rule
+abbrev pub rule_sign : Option RuleNo → List ℕ
+rule_sign (Some r) = codes "@"
+rule_sign None = codes "-"
+
+-- the number of a rule
+abbrev pub number_text : Option RuleNo → List ℕ
+number_text (Some r) = decimal r.0
+number_text None = []
+
+-- what stands between the row of a line and the number of its rule
+abbrev pub lead_of : Outcome → List ℕ
+lead_of o = codes " " ++ (word_of o ++ (codes " " ++ rule_sign (rule_by o)))

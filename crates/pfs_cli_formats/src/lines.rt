@@ -1,0 +1,143 @@
+//! The lines of a report.
+
+ghost use Rattle.std.specs.Prelude.{◌≡◌, ◌++◌, OnOk, decimal};
+ghost use Rattle.pfs_cli_formats.specs.Lines.{row_text, end_text, overload_word};
+ghost use Rattle.pfs_cli_formats.specs.Words.{lead_of, note_text, number_text, rule_by};
+
+use itoa::Buffer;
+use pfs_conf_values::RuleNo;
+use pfs_engine_machine::{Added, Limit, Outcome};
+use std::alloc::AllocError;
+
+/// The last line of a report: how many records there were, and what is held after them.
+#[derive(Clone, Copy)]
+pub struct EndLine {
+    /// The records behind the header.
+    pub rows: u64,
+    /// The states that are held.
+    pub states: u64,
+    /// The source nodes that are held, those without states too.
+    pub nodes: u64,
+    /// The entries that all tables have.
+    pub entries: u64,
+}
+
+/// Appends the line of a record: its row, what the machine did with it, and by which rule. An error comes where memory
+/// was refused; a part of the line may stand there then.
+#[tactic(auto, using(crate::proofs::Rows::parted))]
+pub fn push_row(out: &mut Vec<u8>, row: u64, outcome: &Outcome) -> Result<(), AllocError>
+    ensures { OnOk result (out.new.items ≡ out.old.items ++ row_text row outcome.now) }
+{
+    push_number(out, row)?;
+    out.extend_from_slice(lead(outcome).as_bytes())?;
+    push_rule(out, rule(outcome))?;
+    push_note(out, outcome)?;
+    out.extend_from_slice(b"\n")
+}
+
+/// Appends the last line. An error comes where memory was refused; a part of the line may stand there then.
+pub fn push_end(out: &mut Vec<u8>, end: &EndLine) -> Result<(), AllocError>
+    ensures { OnOk result (out.new.items ≡ out.old.items ++ end_text end.now.rows end.now.states end.now.nodes end.now.entries) }
+{
+    push_named(out, b"end rows=", end.rows)?;
+    push_named(out, b" states=", end.states)?;
+    push_named(out, b" nodes=", end.nodes)?;
+    push_named(out, b" entries=", end.entries)?;
+    out.extend_from_slice(b"\n")
+}
+
+fn push_named(out: &mut Vec<u8>, name: &[u8], number: u64) -> Result<(), AllocError>
+    ensures { OnOk result (out.new.items ≡ out.old.items ++ (name.now ++ decimal number)) }
+{
+    out.extend_from_slice(name)?;
+    push_number(out, number)
+}
+
+fn push_number(out: &mut Vec<u8>, number: u64) -> Result<(), AllocError>
+    ensures { OnOk result (out.new.items ≡ out.old.items ++ decimal number) }
+{
+    let mut buffer = Buffer::new();
+    out.extend_from_slice(buffer.format(number).as_bytes())
+}
+
+// The number of a rule, behind the `@` of its line.
+fn push_rule(out: &mut Vec<u8>, rule: Option<RuleNo>) -> Result<(), AllocError>
+    ensures { OnOk result (out.new.items ≡ out.old.items ++ number_text rule) }
+{
+    match rule {
+        Some(RuleNo(number)) => push_number(out, u64::from(number)),
+        None => Ok(()),
+    }
+}
+
+// What a line of killed states goes on with, and one of entries that expired; nothing on any other.
+fn push_note(out: &mut Vec<u8>, outcome: &Outcome) -> Result<(), AllocError>
+    ensures { OnOk result (out.new.items ≡ out.old.items ++ note_text outcome.now) }
+{
+    match *outcome {
+        Outcome::Kill {
+            overload,
+            killed,
+            ..
+        } => {
+            out.extend_from_slice(b" overload=")?;
+            out.extend_from_slice(overload_name(overload).as_bytes())?;
+            out.extend_from_slice(b" killed=")?;
+            push_number(out, killed)
+        }
+        Outcome::Expire(removed) => push_named(out, b" removed=", removed),
+        _ => Ok(()),
+    }
+}
+
+fn overload_name(overload: Option<Added>) -> &'static str
+    ensures { result.now ≡ overload_word overload }
+{
+    match overload {
+        Some(Added::New) => "added",
+        Some(Added::Held) => "held",
+        Some(Added::Full) => "full",
+        None => "none",
+    }
+}
+
+fn rule(outcome: &Outcome) -> Option<RuleNo>
+    ensures { result ≡ rule_by outcome.now }
+{
+    match *outcome {
+        Outcome::State(rule)
+        | Outcome::New(rule)
+        | Outcome::Block(rule)
+        | Outcome::Drop(rule, _)
+        | Outcome::Kill { rule, .. } => Some(rule),
+        Outcome::Pass(rule) => rule,
+        Outcome::Skip | Outcome::Expire(_) => None,
+    }
+}
+
+// What stands between the row and the number of the rule: the word, and `@`, or `-` where there is no rule.
+fn lead(outcome: &Outcome) -> &'static str
+    ensures { result.now ≡ lead_of outcome.now }
+{
+    match *outcome {
+        Outcome::State(_) => " state @",
+        Outcome::New(_) => " new @",
+        Outcome::Pass(Some(_)) => " pass @",
+        Outcome::Pass(None) => " pass -",
+        Outcome::Block(_) => " block @",
+        Outcome::Drop(_, Limit::Max) => " drop:max @",
+        Outcome::Drop(_, Limit::MaxSrcNodes) => " drop:max-src-nodes @",
+        Outcome::Drop(_, Limit::SrcNodes) => " drop:src-nodes @",
+        Outcome::Drop(_, Limit::MaxSrcStates) => " drop:max-src-states @",
+        Outcome::Drop(_, Limit::States) => " drop:states @",
+        Outcome::Kill {
+            conn: true,
+            rate: true,
+            ..
+        } => " kill:max-src-conn+max-src-conn-rate @",
+        Outcome::Kill { conn: true, .. } => " kill:max-src-conn @",
+        Outcome::Kill { .. } => " kill:max-src-conn-rate @",
+        Outcome::Skip => " skip -",
+        Outcome::Expire(_) => " expire -",
+    }
+}

@@ -1,9 +1,0 @@
--- Which items are rules.
-use Rattle.std.specs.Prelude.{Bool, true, false}
-use Rattle.pfs_conf_rules.specs.declared.items.What.{What}
-use Rattle.pfs_conf_rules.specs.declared.items.What.TheVariants.{Rule, Anchor}
-
--- whether this is a rule, and no anchor
-abbrev pub is_rule : What → Bool
-is_rule (Rule r) = true
-is_rule (Anchor a) = false

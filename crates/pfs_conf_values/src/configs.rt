@@ -1,0 +1,249 @@
+// What a rules text says, and how it is read.
+
+ghost use Rattle.std.specs.Prelude.{◌≡◌, ◌<◌, ◌≤◌, ◌-◌, ◌^◌, IfOk, IfSome, IsSome, length, min, position, slice_get};
+ghost use Rattle.std.specs.Option.{option_copied};
+ghost use Rattle.pfs_conf_values.specs.Configs.{conf_of, entries_in, entry_count_of, has_name, is_const_table, limit_of, options_at, rate_seconds, retention_in, retention_of, rule_at, rule_timeout_of, scope_of, table_named, timeout_of};
+ghost use Rattle.pfs_conf_values.specs.Invariants.{IsConfig, IsTable};
+ghost use Rattle.pfs_conf_values.specs.LoadRules.{AreOptions, IsItem, IsRule};
+
+use crate::actions::{Action, Rate, Scope, StateOptions};
+use crate::filters::TableNo;
+use crate::items::{Item, Rule, RuleNo, What};
+use crate::limits::{LimitName, Limits};
+use crate::tables::{TableDef, copy_tables};
+use crate::timeouts::{TimeoutName, Timeouts};
+use pfs_addr_values::NoMemory;
+use std::marker::Model;
+
+/// What an accepted rules text says: limits, timeouts, tables and items, with defaults filled in.
+///
+/// Clauses see a `Conf`. Every one keeps `IsConfig`, the load rules; `limit`, `item_count` and `table_count` tell it to
+/// callers, and `item`, `rule`, `options` and `table` what they give keeps of it. No reader takes memory, and each takes
+/// constant time but for `table_named`, which goes through the tables.
+#[derive(Debug, Drop)]
+pub struct Config {
+    limits: Limits,
+    timeouts: Timeouts,
+    tables: Vec<TableDef>,
+    entries: u64,
+    items: Vec<Item>,
+}
+
+impl Model for Config {
+    ghost use Rattle.pfs_conf_values.specs.Configs.{Conf};
+    ghost use Rattle.pfs_conf_values.specs.Invariants.{IsConfigCounted};
+
+    ghost Value = { Conf };
+
+    ghost view = { λ c. record { limits = c.limits; timeouts = c.timeouts; tables = c.tables.items; items = c.items.items } };
+
+    ghost invariant = { λ c. IsConfigCounted c.entries (record { limits = c.limits; timeouts = c.timeouts; tables = c.tables.items; items = c.items.items }) };
+}
+
+impl Config {
+    /// The configuration of these parts, which keep the load rules. It counts the entries, and takes no memory.
+    pub fn of_parts(
+        limits: Limits,
+        timeouts: Timeouts,
+        tables: Vec<TableDef>,
+        items: Vec<Item>,
+    ) -> Config
+        requires { IsConfig (conf_of limits timeouts tables.items items.items) }
+        ensures { result ≡ conf_of limits timeouts tables.items items.items }
+    {
+        let entries = count_entries(&tables);
+        Config {
+            limits,
+            timeouts,
+            tables,
+            entries,
+            items,
+        }
+    }
+
+    /// How many rules and anchors there are: at most 10,000.
+    pub fn item_count(&self) -> u32
+        ensures value { result ≡ length self.now.items }
+        ensures sound { IsConfig self.now }
+    {
+        self.items.len() as u32
+    }
+
+    /// The rule or anchor of this number, if there is one: they are numbered from 0 in the order of the text, those inside
+    /// an anchor behind it. It keeps the load rules.
+    pub fn item(&self, number: u32) -> Option<&Item>
+        ensures value { option_copied result ≡ slice_get self.now.items number }
+        ensures kept { IfSome (option_copied result) (IsItem (length self.now.tables)) }
+        ensures shallow { IfSome (option_copied result) (λ i. i.depth ≤ 16) }
+    {
+        self.items.get(number as usize)
+    }
+
+    /// The rule of this number, if that item is a rule. It keeps the load rules.
+    pub fn rule(&self, number: RuleNo) -> Option<&Rule>
+        ensures value { option_copied result ≡ rule_at self.now number.0 }
+        ensures kept { IfSome (option_copied result) (IsRule (length self.now.tables)) }
+    {
+        match &self.item(number.0)?.what {
+            What::Rule(rule) => Some(rule),
+            What::Anchor(_) => None,
+        }
+    }
+
+    /// The options of the rule of this number, if it keeps state. They keep the load rules.
+    pub fn options(&self, number: RuleNo) -> Option<&StateOptions>
+        ensures value { option_copied result ≡ options_at self.now number.0 }
+        ensures kept { IfSome (option_copied result) (AreOptions (length self.now.tables)) }
+    {
+        match &self.rule(number)?.action {
+            Action::Keep(options) => Some(options),
+            Action::Block | Action::Pass => None,
+        }
+    }
+
+    /// How many tables the text names: at most the limit on tables.
+    pub fn table_count(&self) -> u32
+        ensures value { result ≡ length self.now.tables }
+        ensures sound { IsConfig self.now }
+    {
+        self.tables.len() as u32
+    }
+
+    /// The table of this number, if there is one: its name is one, and no two of its entries have the same prefix.
+    pub fn table(&self, number: TableNo) -> Option<&TableDef>
+        ensures value { option_copied result ≡ slice_get self.now.tables number.0 }
+        ensures kept { IfSome (option_copied result) IsTable }
+    {
+        self.tables.get(number.0 as usize)
+    }
+
+    /// The number of the table of this name, if there is one: each that the text names, defined or not. It compares the
+    /// name with those of the tables, one after another. (pf.conf(5), TABLES)
+    pub fn table_named(&self, name: &[u8]) -> Option<TableNo>
+        ensures value { result ≡ table_named self.now name.now }
+        ensures known { IfSome result (λ t. t.0 < length self.now.tables) }
+    {
+        let place = place_named(&self.tables, name)?;
+        Some(TableNo(place as u32))
+    }
+
+    /// Whether the table of this number is `const`: then no source is added to it, and no entry leaves it.
+    /// (pf.conf(5), TABLES, "const")
+    pub fn is_const(&self, number: TableNo) -> bool
+        requires { number.0 < length self.now.tables }
+        ensures { result ≡ is_const_table (slice_get self.now.tables number.0) }
+    {
+        self.tables[number.0 as usize].is_const
+    }
+
+    /// How many entries all tables have together: at most the limit on entries.
+    pub fn entry_count(&self) -> u64
+        ensures value { result ≡ entry_count_of self.now }
+        ensures sound { IsConfig self.now }
+    {
+        self.entries
+    }
+
+    /// The value of a limit.
+    pub fn limit(&self, name: LimitName) -> u64
+        ensures value { result ≡ limit_of self.now name }
+        ensures sound { IsConfig self.now }
+    {
+        u64::from(self.limits.get(name))
+    }
+
+    /// The value of a timeout: seconds, of the adaptive two states.
+    pub fn timeout(&self, name: TimeoutName) -> u64
+        ensures value { result ≡ timeout_of self.now name }
+        ensures sound { IsConfig self.now }
+    {
+        self.timeouts.get(name)
+    }
+
+    /// The value that a rule gives for a timeout of its own states, if it keeps state and gives one.
+    pub fn rule_timeout(&self, number: RuleNo, name: TimeoutName) -> Option<u64>
+        ensures { result ≡ rule_timeout_of self.now number.0 name }
+    {
+        let value = self.options(number)?.timeouts.get(name)?;
+        Some(u64::from(value))
+    }
+
+    /// The scope of a rule's source nodes; none where it keeps no state or does not track sources.
+    /// (pf.conf(5), STATEFUL TRACKING OPTIONS, "source-track")
+    pub fn scope(&self, number: RuleNo) -> Option<Scope>
+        ensures { result ≡ scope_of self.now number.0 }
+    {
+        self.options(number)?.scope
+    }
+
+    /// The seconds for which a source node of a rule that tracks sources is kept after its last state left. Of a node of
+    /// the rule alone they are the greater of `src.track`, the rule's or else the global one, and of the seconds of its
+    /// `max-src-conn-rate`; of a node that rules share the global `src.track`. (own to this profile)
+    pub fn retention(&self, number: RuleNo) -> u64
+        requires { IsSome (scope_of self.now number.0) }
+        ensures { result ≡ retention_of self.now number.0 }
+    {
+        let global = self.timeout(TimeoutName::SrcTrack);
+        let Some(options) = self.options(number) else {
+            return global;
+        };
+        retention_by(options, global)
+    }
+
+    /// An equal configuration in memory of its own. `NoMemory` is answered where that memory is refused.
+    pub fn copy(&self) -> Result<Config, NoMemory>
+        ensures { IfOk result (λ c. c ≡ self.now) }
+    {
+        let alloc = *self.tables.allocator();
+        let items = Vec::from_slice(alloc, &self.items)?;
+        let tables = copy_tables(alloc, &self.tables)?;
+        Ok(Config::of_parts(self.limits, self.timeouts, tables, items))
+    }
+}
+
+/// How many entries these tables have together; 2^64 - 1 for as many or more.
+pub fn count_entries(tables: &[TableDef]) -> u64
+    ensures { result ≡ min (entries_in tables.now) (2 ^ 64 - 1) }
+{
+    let mut count: u64 = 0;
+    for table in tables {
+        count = count.saturating_add(table.entries.len() as u64);
+    }
+    count
+}
+
+// The place of the table of this name.
+fn place_named(tables: &[TableDef], name: &[u8]) -> Option<usize>
+    ensures value { result ≡ position (has_name name.now) tables.now }
+    ensures within { IfSome result (λ place. place < length tables.now) }
+{
+    tables.iter().position(|table| has_name(table, name))
+}
+
+fn has_name(table: &TableDef, name: &[u8]) -> bool
+    ensures { result ≡ has_name name.now table.now }
+{
+    table.name.as_bytes() == name
+}
+
+// The retention of a source node of a rule with these options, where this is the global `src.track`.
+fn retention_by(options: &StateOptions, global: u64) -> u64
+    ensures { result ≡ retention_in global options.now options.now.scope }
+{
+    match options.scope {
+        Some(Scope::Rule) => {
+            let own = match options.timeouts.get(TimeoutName::SrcTrack) {
+                Some(seconds) => u64::from(seconds),
+                None => global,
+            };
+            own.max(rate_seconds(options.max_src_conn_rate))
+        }
+        _ => global,
+    }
+}
+
+fn rate_seconds(rate: Option<Rate>) -> u64
+    ensures { result ≡ rate_seconds rate }
+{
+    rate.map_or(0, |rate| u64::from(rate.seconds))
+}

@@ -1,0 +1,101 @@
+// What a rule or an anchor asks of a packet.
+
+use pfs_addr_values::{Dir, Flags, IfName, Name, Prefix, Proto};
+
+/// The number of a table, from 0: tables are numbered by the first place in the text that names them.
+#[derive(Debug, Clone, Copy, PartialEq, Eq)]
+pub struct TableNo(pub u32);
+
+/// The name of a table: 1 to 31 bytes. (pf.conf(5), TABLES)
+pub type TableName = Name<31>;
+
+/// An address family. (pf.conf(5), PARAMETERS, "inet" and "inet6")
+#[derive(Debug, Clone, Copy, PartialEq, Eq)]
+pub enum Family {
+    /// `inet`: IPv4.
+    Inet,
+    /// `inet6`: IPv6.
+    Inet6,
+}
+
+/// `on em0`, or `on ! em0`: the interface that a packet must, or must not, be on. (pf.conf(5), PARAMETERS, "on")
+#[derive(Debug, Clone, Copy, PartialEq, Eq)]
+pub struct Interface {
+    /// The name that is written.
+    pub name: IfName,
+    /// Whether a `!` stands before it.
+    pub negated: bool,
+}
+
+/// A host of a rule. `T` names a table: `TableNo` in a configuration, `TableName` in a statement that is being read.
+/// (pf.conf(5), PARAMETERS, "from .. to")
+#[derive(Debug, Clone, Copy, PartialEq, Eq)]
+pub enum Host<T> {
+    /// `any`: every address.
+    Any,
+    /// The addresses that a prefix covers, or with `!` the others of its family.
+    Prefix {
+        /// The prefix.
+        prefix: Prefix,
+        /// Whether a `!` stands before it.
+        negated: bool,
+    },
+    /// The addresses for which a table answers yes, or with `!` the others.
+    Table {
+        /// The table.
+        table: T,
+        /// Whether a `!` stands before it.
+        negated: bool,
+    },
+}
+
+/// The ports from `low` to `high`, both among them.
+#[derive(Debug, Clone, Copy, PartialEq, Eq)]
+pub struct Ports {
+    /// The least port.
+    pub low: u16,
+    /// The greatest port, at least the least.
+    pub high: u16,
+}
+
+/// A host with its ports, as it stands behind `from` or `to`.
+#[derive(Debug, Clone, Copy, PartialEq, Eq)]
+pub struct Side<T> {
+    /// The addresses.
+    pub host: Host<T>,
+    /// The ports, or every port.
+    pub ports: Option<Ports>,
+}
+
+/// `flags a/b`, or `flags any`. It is tested on TCP packets alone. (pf.conf(5), PARAMETERS, "flags")
+#[derive(Debug, Clone, Copy, PartialEq, Eq)]
+pub enum FlagTest {
+    /// Every set of flags.
+    Any,
+    /// Of the flags `among`, exactly those of `set`.
+    Exactly {
+        /// The flags that must be set.
+        set: Flags,
+        /// The flags that are looked at.
+        among: Flags,
+    },
+}
+
+/// What is asked of a packet: each part that is given has to hold.
+#[derive(Debug, Clone, Copy, PartialEq, Eq)]
+pub struct Filter {
+    /// In or out.
+    pub dir: Option<Dir>,
+    /// The interface.
+    pub on: Option<Interface>,
+    /// The address family.
+    pub family: Option<Family>,
+    /// The protocol.
+    pub proto: Option<Proto>,
+    /// Source address and port.
+    pub from: Side<TableNo>,
+    /// Destination address and port.
+    pub to: Side<TableNo>,
+    /// TCP flags.
+    pub flags: FlagTest,
+}

@@ -1,0 +1,73 @@
+-- The limits that a new state meets, and the world with it. (pf.conf(5), OPTIONS, "set limit", and STATEFUL TRACKING OPTIONS;
+-- the order of the limits is own)
+use Rattle.std.specs.Prelude.{ℕ, ◌+◌, ◌&&◌, not, nat_le, Bool, false, if◌then◌else◌, Option, Some, None, List, [], ◌∷◌, ◌++◌, length}
+use Rattle.pfs_addr_values.specs.Packets.{Header}
+use Rattle.pfs_addr_values.specs.Keys.{key_of}
+use Rattle.pfs_addr_values.specs.declared.addresses.Addr.{Addr}
+use Rattle.pfs_conf_values.specs.Configs.{Conf, limit_of, options_of}
+use Rattle.pfs_conf_values.specs.declared.limits.LimitName.TheVariants as limit_name
+use Rattle.pfs_track.specs.Scores.{zero_score}
+use Rattle.pfs_track.specs.StatePhases.{first_phase}
+use Rattle.pfs_store_contract.specs.Worlds.{World}
+use Rattle.pfs_store_contract.specs.Counts.{node_scope_of, rule_states, node_states, scope_nodes, has_node, reached}
+use Rattle.pfs_store_contract.specs.declared.records.Limit.{Limit}
+use Rattle.pfs_store_contract.specs.declared.records.Limit.TheVariants as limit
+use Rattle.pfs_store_contract.specs.declared.records.Node.{Node}
+use Rattle.pfs_store_contract.specs.declared.records.NodeScope.{NodeScope}
+use Rattle.pfs_store_contract.specs.declared.records.State.{State}
+
+-- ---- limits
+
+-- the first limit of these rows whose test holds
+abbrev pub first_met : List (Bool × Limit) → Option Limit
+first_met [] = None
+first_met (row ∷ rows) = if row.0 then Some row.1 else first_met rows
+
+-- a test of the scope in which a rule tracks sources: it fails where it tracks none
+abbrev pub tracks : Option NodeScope → (NodeScope → Bool) → Bool
+tracks None test = false
+tracks (Some scope) test = test scope
+
+-- the first limit that a state of this rule and source would meet: the rule's maximum of states; for a source without a
+-- node in the rule's scope, the maximum of its nodes and the limit of all nodes; for one with a node, the maximum of the
+-- node's states; the limit of all states
+abbrev pub limit_met : Conf → World → ℕ → Addr → Option Limit
+limit_met conf w rule source =
+    let o = options_of conf rule in
+    let scope = node_scope_of conf rule in
+    first_met ((reached o.max (rule_states rule w.states), limit.Max)
+    ∷ (tracks scope (λ s. not (has_node s source w.nodes) && reached o.max_src_nodes (scope_nodes s w.nodes)), limit.MaxSrcNodes)
+    ∷ (tracks scope (λ s. not (has_node s source w.nodes) && nat_le (limit_of conf limit_name.SrcNodes) (length w.nodes)), limit.SrcNodes)
+    ∷ (tracks scope (λ s. has_node s source w.nodes && reached o.max_src_states (node_states conf s source w.states)), limit.MaxSrcStates)
+    ∷ (nat_le (limit_of conf limit_name.States) (length w.states), limit.States)
+    ∷ [])
+
+-- ---- a new state
+
+-- the state that a packet makes
+abbrev pub new_state : ℕ → Header → ℕ → ℕ → State
+new_state number p rule now = record {
+  number = number;
+  key = key_of p;
+  dir = p.dir;
+  source = p.source.addr;
+  rule = record { 0 = rule };
+  phase = first_phase p.proto;
+  last = now;
+}
+
+-- the node that is made with it, where its source has none in the rule's scope
+abbrev pub new_node : ℕ → NodeScope → Addr → Node
+new_node number scope source = record { number = number; scope = scope; source = source; score = zero_score; idle = 0 }
+
+abbrev pub nodes_with : List Node → ℕ → Addr → Option NodeScope → List Node
+nodes_with nodes number source None = nodes
+nodes_with nodes number source (Some scope) = if has_node scope source nodes then nodes else nodes ++ new_node number scope source ∷ []
+
+-- the world with one state more: numbers count from 1 and are never used again
+abbrev pub admitted : Conf → World → Header → ℕ → ℕ → World
+admitted conf w p rule now = record w {
+  states = w.states ++ new_state (w.made + 1) p rule now ∷ [];
+  nodes = nodes_with w.nodes (w.made + 1) p.source.addr (node_scope_of conf rule);
+  made = w.made + 1;
+}

@@ -1,0 +1,95 @@
+-- What the calls of a store answer and leave, by the definitions of the machine.
+use Rattle.std.specs.Prelude.{ℕ, ◌+◌, ◌-◌, ◌==◌, not, Bool, Option, Some, None, List, length, filter, take, Result, Ok, Err}
+use Rattle.pfs_addr_values.specs.Packets.{Header}
+use Rattle.pfs_addr_values.specs.declared.addresses.Addr.{Addr}
+use Rattle.pfs_conf_values.specs.Configs.{Conf}
+use Rattle.pfs_conf_values.specs.declared.items.RuleNo.{RuleNo}
+use Rattle.pfs_store_contract.specs.Admission.{admitted, limit_met}
+use Rattle.pfs_store_contract.specs.Counts.{is_of_source, node_scope_of}
+use Rattle.pfs_store_contract.specs.Leaving.{is_flushed, without}
+use Rattle.pfs_store_contract.specs.Purging.{node_round, node_share, node_slice, state_round, state_share, state_slice}
+use Rattle.pfs_store_contract.specs.Touching.{completes_at, connections_in, score_in, touched}
+use Rattle.pfs_store_contract.specs.Worlds.{World}
+use Rattle.pfs_store_contract.specs.declared.records.Limit.{Limit}
+use Rattle.pfs_store_contract.specs.declared.records.Slice.{Slice}
+use Rattle.pfs_store_contract.specs.declared.records.State.{State}
+use Rattle.pfs_store_contract.specs.declared.records.StateNo.{StateNo}
+use Rattle.pfs_store_contract.specs.declared.records.Touched.{Touched}
+
+-- ---- what is asked of a state
+
+abbrev pub state_number : State → StateNo
+state_number s = record { 0 = s.number }
+
+abbrev pub state_rule : State → RuleNo
+state_rule s = s.rule
+
+-- ---- a new state
+
+-- the limit that a packet meets at a rule
+abbrev pub packet_limit : Conf → World → Header → ℕ → Option Limit
+packet_limit conf w p rule = limit_met conf w rule p.source.addr
+
+-- where this limit is met, or none
+abbrev pub answer_at : World → Option Limit → Result StateNo Limit
+answer_at w None = Ok (record { 0 = w.made + 1 })
+answer_at w (Some l) = Err l
+
+-- a refusal changes nothing
+abbrev pub world_at : Conf → World → Header → ℕ → ℕ → Option Limit → World
+world_at conf w p rule now None = admitted conf w p rule now
+world_at conf w p rule now (Some l) = w
+
+-- ---- a packet of the state that has its key
+
+abbrev pub world_touched : Conf → World → Header → ℕ → Option State → World
+world_touched conf w p now None = w
+world_touched conf w p now (Some s) = touched conf w s p now
+
+-- the rule, the source, whether the handshake completed, and the connections and the score after it
+abbrev pub touch_of : Conf → World → Header → ℕ → State → Touched
+touch_of conf w p now s = record {
+  rule = s.rule;
+  source = s.source;
+  completed = completes_at p s;
+  connections = connections_in conf s.source (touched conf w s p now).states (node_scope_of conf s.rule.0);
+  score = score_in s.source (touched conf w s p now).nodes (node_scope_of conf s.rule.0);
+}
+
+-- ---- states are killed or flushed
+
+-- one state is killed
+abbrev pub other_than : ℕ → State → Bool
+other_than number s = not (s.number == number)
+
+abbrev pub world_killed : Conf → World → ℕ → ℕ → World
+world_killed conf w number now = without conf w (other_than number) now
+
+-- the states of a source are flushed, all of them or those of one rule
+abbrev pub stays_unflushed : Addr → Option RuleNo → State → Bool
+stays_unflushed source rule s = not (is_flushed source rule s)
+
+abbrev pub world_flushed : Conf → World → Addr → Option RuleNo → ℕ → World
+world_flushed conf w source rule now = without conf w (stays_unflushed source rule) now
+
+-- how many are flushed
+abbrev pub flushed_count : World → Addr → Option RuleNo → ℕ
+flushed_count w source rule = length (filter (is_flushed source rule) w.states)
+
+-- the states of a source, of whatever rules
+abbrev pub source_states : Addr → List State → ℕ
+source_states source states = length (filter (is_of_source source) states)
+
+-- ---- how many a slice examines and takes out
+
+abbrev pub state_slice_of : Conf → World → ℕ → Slice
+state_slice_of conf w now = record {
+  examined = length (take (state_share conf) (state_round w));
+  removed = length w.states - length (state_slice conf w now).states;
+}
+
+abbrev pub node_slice_of : Conf → World → ℕ → Slice
+node_slice_of conf w now = record {
+  examined = length (take (node_share conf) (node_round w));
+  removed = length w.nodes - length (node_slice conf w now).nodes;
+}

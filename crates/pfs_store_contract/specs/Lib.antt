@@ -1,0 +1,11 @@
+pub mod Admission
+pub mod Calls
+pub mod Counts
+pub mod Handshakes
+pub mod Leaving
+pub mod Plain
+pub mod Purging
+pub mod Quiet
+pub mod SourceLimits
+pub mod Touching
+pub mod Worlds

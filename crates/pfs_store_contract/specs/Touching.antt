@@ -1,0 +1,73 @@
+-- A packet of a state that is held: its phase is renewed, and at a completed handshake of a rule with a rate its node's
+-- score. (pf.conf(5), STATEFUL TRACKING OPTIONS; the table of phases and the score are own)
+use Rattle.std.specs.Prelude.{ℕ, ◌==◌, Bool, true, false, if◌then◌else◌, Option, Some, None, List, map, option_map, unwrap_or}
+use Rattle.std.specs.List.{find}
+use Rattle.pfs_addr_values.specs.Packets.{Header}
+use Rattle.pfs_addr_values.specs.declared.addresses.Addr.{Addr}
+use Rattle.pfs_addr_values.specs.contracts.packets.DirPartialEq.TheImpl as dir_eq
+use Rattle.pfs_conf_values.specs.Configs.{Conf, options_of}
+use Rattle.pfs_conf_values.specs.declared.actions.Rate.{Rate}
+use Rattle.pfs_track.specs.Scores.{score_after, zero_score}
+use Rattle.pfs_track.specs.StatePhases.{phase_after, completes}
+use Rattle.pfs_track.specs.declared.scores.Score.{Score}
+use Rattle.pfs_store_contract.specs.Worlds.{World}
+use Rattle.pfs_store_contract.specs.Counts.{is_node, node_connections, node_scope_of}
+use Rattle.pfs_store_contract.specs.declared.records.Node.{Node}
+use Rattle.pfs_store_contract.specs.declared.records.NodeScope.{NodeScope}
+use Rattle.pfs_store_contract.specs.declared.records.State.{State}
+
+-- a packet goes forward when its direction is that of the packet that made the state
+abbrev pub goes_forward : Header → State → Bool
+goes_forward p s = (dir_eq.ghosts).eq p.dir s.dir
+
+-- a packet completes the handshake of a state
+abbrev pub completes_at : Header → State → Bool
+completes_at p s = completes s.phase (goes_forward p s) p.flags
+
+-- the state after its packet
+abbrev pub stepped : Header → ℕ → State → State
+stepped p now s = record s { phase = phase_after s.phase (goes_forward p s) p.flags; last = now }
+
+-- the state of a number after its packet
+abbrev pub renewed : ℕ → Header → ℕ → State → State
+renewed number p now s = if s.number == number then stepped p now s else s
+
+-- ---- scores
+
+-- the score of a source's node
+abbrev pub node_score : NodeScope → Addr → List Node → Score
+node_score scope source nodes = unwrap_or (option_map (λ (n : Node). n.score) (find (is_node scope source) nodes)) zero_score
+
+-- the node of a scope and source after a handshake
+abbrev pub rescored : NodeScope → Addr → ℕ → ℕ → Node → Node
+rescored scope source seconds now n = if is_node scope source n then record n { score = score_after seconds n.score now } else n
+
+-- the nodes after a handshake of a source: only a rule that tracks sources and has a rate keeps a score
+abbrev pub nodes_scored : List Node → Addr → ℕ → Option NodeScope → Option Rate → List Node
+nodes_scored nodes source now None rate = nodes
+nodes_scored nodes source now (Some scope) None = nodes
+nodes_scored nodes source now (Some scope) (Some rate) = map (rescored scope source rate.seconds now) nodes
+
+-- ---- the world after a packet of a state
+
+-- the nodes: a completed handshake counts in the score of its source's node
+abbrev pub nodes_touched : Conf → List Node → State → ℕ → Bool → List Node
+nodes_touched conf nodes s now true = nodes_scored nodes s.source now (node_scope_of conf s.rule.0) (options_of conf s.rule.0).max_src_conn_rate
+nodes_touched conf nodes s now false = nodes
+
+-- the phase and the last moment of the state are renewed, and its node's score
+abbrev pub touched : Conf → World → State → Header → ℕ → World
+touched conf w s p now = record w {
+  states = map (renewed s.number p now) w.states;
+  nodes = nodes_touched conf w.nodes s now (completes_at p s);
+}
+
+-- ---- the connections and the score of a source in the scope of a rule; none where the rule tracks no sources
+
+abbrev pub connections_in : Conf → Addr → List State → Option NodeScope → ℕ
+connections_in conf source states None = 0
+connections_in conf source states (Some scope) = node_connections conf scope source states
+
+abbrev pub score_in : Addr → List Node → Option NodeScope → Score
+score_in source nodes None = zero_score
+score_in source nodes (Some scope) = node_score scope source nodes

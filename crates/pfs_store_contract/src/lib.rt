@@ -1,0 +1,8 @@
+//! The contract of a store of states and source nodes: what every kind of store is to its callers, and what each call does.
+#![tactic(auto)]
+
+mod records;
+mod store;
+
+pub use records::{Limit, Node, NodeScope, Slice, State, StateNo, Touched, Watched};
+pub use store::Store;

@@ -1,0 +1,104 @@
+// What is held: states and source nodes, and what calls tell of them.
+
+use pfs_addr_values::{Addr, Dir, FlowKey};
+use pfs_conf_values::RuleNo;
+use pfs_track::{Score, StatePhase};
+
+/// The number of a state: they count from 1 in the order of making, and none is used again.
+#[derive(Debug, Clone, Copy, PartialEq, Eq)]
+pub struct StateNo(pub u64);
+
+/// A state that is held. (pf.conf(5), STATEFUL FILTERING)
+#[derive(Debug, Clone, Copy, PartialEq, Eq)]
+pub struct State {
+    /// Its number.
+    pub number: u64,
+    /// The key of its packets.
+    pub key: FlowKey,
+    /// The direction of the packet that made it.
+    pub dir: Dir,
+    /// The source address of the packet that made it.
+    pub source: Addr,
+    /// The rule that made it.
+    pub rule: RuleNo,
+    /// How far its connection has come.
+    pub phase: StatePhase,
+    /// The moment of its last packet, in seconds.
+    pub last: u64,
+}
+
+/// For which rules a source node counts.
+#[derive(Debug, Clone, Copy, PartialEq, Eq, Hash)]
+pub enum NodeScope {
+    /// One rule: `source-track rule`.
+    Rule(RuleNo),
+    /// All rules that track sources globally: `source-track global`.
+    Global,
+}
+
+/// A source node: what is known of one source address in one scope.
+/// (pf.conf(5), STATEFUL TRACKING OPTIONS)
+#[derive(Debug, Clone, Copy, PartialEq, Eq)]
+pub struct Node {
+    /// The number of the state with which it was made.
+    pub number: u64,
+    /// Its scope.
+    pub scope: NodeScope,
+    /// Its source address.
+    pub source: Addr,
+    /// The score of its handshakes.
+    pub score: Score,
+    /// The moment at which its last state left, in seconds; 0 until then.
+    pub idle: u64,
+}
+
+/// The limit that refuses a state. (pf.conf(5), OPTIONS, "set limit", and STATEFUL TRACKING OPTIONS)
+#[derive(Debug, Clone, Copy, PartialEq, Eq)]
+pub enum Limit {
+    /// `max`: the rule holds as many states.
+    Max,
+    /// `max-src-nodes`: the scope has as many source nodes, and the source has none of them.
+    MaxSrcNodes,
+    /// `set limit src-nodes`: so many source nodes are held, and the source has none in the scope.
+    SrcNodes,
+    /// `max-src-states`: the source's node has as many states.
+    MaxSrcStates,
+    /// `set limit states`: so many states are held.
+    States,
+}
+
+/// What a packet of a held state did.
+#[derive(Debug, Clone, Copy, PartialEq, Eq)]
+pub struct Touched {
+    /// The rule of the state.
+    pub rule: RuleNo,
+    /// The source of the state.
+    pub source: Addr,
+    /// Whether the handshake completed with it.
+    pub completed: bool,
+    /// The connections of the source's node after it; 0 for a rule that tracks no sources.
+    pub connections: u64,
+    /// The score of the source's node after it; 0 at moment 0 for a rule that tracks no sources.
+    pub score: Score,
+}
+
+/// What one slice of a round did.
+#[derive(Debug, Clone, Copy, PartialEq, Eq)]
+pub struct Slice {
+    /// How many were examined, those that stay too.
+    pub examined: u64,
+    /// How many left.
+    pub removed: u64,
+}
+
+/// What a slice did, and up to when what it examined stays.
+#[derive(Debug, Clone, Copy, PartialEq, Eq)]
+pub struct Watched {
+    /// How many it examined, and how many of them left.
+    pub slice: Slice,
+    /// A moment, in seconds, before which none of those that it examined leaves, as long as no other leaves and nothing comes;
+    /// 0 where none is known.
+    pub until: u64,
+    /// The round is known to be over with it.
+    pub over: bool,
+}

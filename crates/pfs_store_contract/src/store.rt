@@ -1,0 +1,189 @@
+// What every kind of store does: the changes of the states and source nodes that it holds.
+
+ghost use Rattle.std.specs.Prelude.{◌≡◌, ◌+◌, ◌<◌, ◌≤◌, ◌^◌, [], Bool, false, true, None, Some, IfOk, IsOk, IsSome, OnErr, length, option_map};
+ghost use Rattle.pfs_addr_values.specs.Keys.{key_of};
+ghost use Rattle.pfs_conf_values.specs.Configs.{Conf, options_at};
+ghost use Rattle.pfs_store_contract.specs.Calls.{packet_limit, answer_at, world_at, source_states, world_flushed, flushed_count, world_killed, node_slice_of, state_slice_of, touch_of, world_touched, state_number, state_rule};
+ghost use Rattle.pfs_store_contract.specs.Purging.{node_slice, state_slice};
+ghost use Rattle.pfs_store_contract.specs.Quiet.{NodesStay, StatesStay, moved};
+ghost use Rattle.pfs_store_contract.specs.Worlds.{IsUpToNow, World, holds_number, state_with};
+
+use crate::records::{Limit, Slice, StateNo, Touched, Watched};
+use pfs_addr_values::{Addr, FlowKey, Meter, NoMemory, Packet};
+use pfs_conf_values::RuleNo;
+
+/// States and source nodes, however they are kept.
+///
+/// Clauses see what is held as one `World`, and each change as an equation of the world after it. Moments are in seconds.
+/// A look is one reading of a state's record; a kind of store that counts looks ticks the meter at each, and every other
+/// leaves the meter alone. Only `admit` takes memory.
+pub trait Store {
+    // what is held
+    ghost world: { Self → World };
+
+    // the configuration that it was made for
+    ghost config: { Self → Conf };
+
+    // whether this kind of store counts looks
+    ghost counts: { Bool };
+
+    /// The number of the state that has this key. It looks at no record.
+    fn find(&self, key: &FlowKey) -> Option<StateNo>
+        ensures { result ≡ option_map state_number (state_with key.now (world self.now)) };
+
+    /// The rule of the state that has this key. It looks at no record.
+    fn rule_at(&self, key: &FlowKey) -> Option<RuleNo>
+        ensures { result ≡ option_map state_rule (state_with key.now (world self.now)) };
+
+    /// Whether a state of this number is held. It looks at no record.
+    fn holds(&self, number: StateNo) -> bool
+        ensures { result ≡ holds_number (world self.now).states number.0 };
+
+    /// How many states are held.
+    fn state_count(&self) -> u64
+        ensures { result ≡ length (world self.now).states };
+
+    /// How many source nodes are held, those without states too.
+    fn node_count(&self) -> u64
+        ensures { result ≡ length (world self.now).nodes };
+
+    /// How many states were ever made.
+    fn made(&self) -> u64
+        ensures { result ≡ (world self.now).made };
+
+    /// Makes a state for a packet whose key is held by none, at a rule that keeps state, and with it a source node where the
+    /// rule tracks sources and the source has none in its scope. It answers the number of the state, or the first limit that
+    /// the state would meet: `max`; of a source without a node `max-src-nodes` and the limit of source nodes; of one with a
+    /// node `max-src-states`; the limit of states.
+    ///
+    /// `NoMemory` where no limit is met and room for them was refused; where a limit is met no memory is taken. In both cases
+    /// what is held is unchanged. Fewer than 1,000,000,000 states were made before. It looks at no record.
+    /// (pf.conf(5), OPTIONS, "set limit", and STATEFUL TRACKING OPTIONS; the order of the limits is own to this profile)
+    fn admit(
+        &mut self,
+        packet: &Packet,
+        rule: RuleNo,
+        now: u64,
+    ) -> Result<Result<StateNo, Limit>, NoMemory>
+        requires fresh { state_with (key_of packet.now) (world self.old) ≡ None }
+        requires keeps { IsSome (options_at (config self.old) rule.0) }
+        requires room { (world self.old).made < 1000000000 }
+        ensures answer { IfOk result (λ a.
+            a ≡ answer_at (world self.old) (packet_limit (config self.old) (world self.old) packet.now rule.0)) }
+        ensures ok { IfOk result (λ a. world self.new
+            ≡ world_at (config self.old) (world self.old) packet.now rule.0 now
+            (packet_limit (config self.old) (world self.old) packet.now rule.0)) }
+        ensures err { OnErr result (world self.new ≡ world self.old) }
+        ensures no_memory { IsSome (packet_limit (config self.old) (world self.old) packet.now rule.0) → IsOk result }
+        ensures config { config self.new ≡ config self.old };
+
+    /// Takes a packet of the state that has its key, whose number this is: the state's phase and the moment of its last packet
+    /// are renewed, and where the handshake completes at a rule that tracks sources and has `max-src-conn-rate`, the score of
+    /// its source's node. No handshake that a score counts came after `now`. It looks at one record.
+    /// (pf.conf(5), STATEFUL TRACKING OPTIONS; the table of phases and the score are own to this profile)
+    fn touch(&mut self, number: StateNo, packet: &Packet, now: u64, meter: &mut Meter) -> Touched
+        requires held { option_map state_number (state_with (key_of packet.now) (world self.old)) ≡ Some number }
+        requires order { IsUpToNow now (world self.old) }
+        requires meter { meter.old ≤ 2 ^ 63 }
+        ensures answer { Some result
+            ≡ option_map (touch_of (config self.old) (world self.old) packet.now now) (state_with (key_of packet.now) (world self.old)) }
+        ensures world { world self.new
+            ≡ world_touched (config self.old) (world self.old) packet.now now (state_with (key_of packet.now) (world self.old)) }
+        ensures looks { counts ≡ true → meter.new ≡ meter.old + 1 }
+        ensures uncounted { counts ≡ false → meter.new ≡ meter.old }
+        ensures most { meter.new ≤ meter.old + 1000000000 }
+        ensures config { config self.new ≡ config self.old };
+
+    /// Takes out the state of this number, which is held. A node that loses its last state has been idle since `now`. It looks
+    /// at one record.
+    fn kill(&mut self, number: StateNo, now: u64, meter: &mut Meter)
+        requires held { holds_number (world self.old).states number.0 ≡ true }
+        requires meter { meter.old ≤ 2 ^ 63 }
+        ensures world { world self.new ≡ world_killed (config self.old) (world self.old) number.0 now }
+        ensures looks { counts ≡ true → meter.new ≡ meter.old + 1 }
+        ensures uncounted { counts ≡ false → meter.new ≡ meter.old }
+        ensures most { meter.new ≤ meter.old + 1000000000 }
+        ensures config { config self.new ≡ config self.old };
+
+    /// Takes out the states of a source, all of them or those of one rule, and answers how many they are. A node that loses
+    /// its last state has been idle since `now`. It looks at each record that leaves, and at no more than one for each state
+    /// of the source. (pf.conf(5), STATEFUL TRACKING OPTIONS, "flush")
+    fn flush(&mut self, source: Addr, rule: Option<RuleNo>, now: u64, meter: &mut Meter) -> u64
+        requires meter { meter.old ≤ 2 ^ 63 }
+        ensures answer { result ≡ flushed_count (world self.old) source rule }
+        ensures world { world self.new ≡ world_flushed (config self.old) (world self.old) source rule now }
+        ensures looks { counts ≡ true → meter.old + result ≤ meter.new }
+        ensures few_looks { counts ≡ true → meter.new ≤ meter.old + source_states source (world self.old).states }
+        ensures uncounted { counts ≡ false → meter.new ≡ meter.old }
+        ensures most { meter.new ≤ meter.old + 1000000000 }
+        ensures config { config self.new ≡ config self.old };
+
+    /// Examines the next states of the round, or the first of a new one: of L, the limit of states, and `interval` at most
+    /// 1 + L / `interval`. Those leave that are expired at `now` under the counts before the call. A node that loses its last
+    /// state has been idle since `now`. It looks at each record that it examines.
+    /// (pf.conf(5), OPTIONS, "interval"; the rounds are own to this profile)
+    fn purge_states(&mut self, now: u64, meter: &mut Meter) -> Slice
+        requires meter { meter.old ≤ 2 ^ 63 }
+        ensures answer { result ≡ state_slice_of (config self.old) (world self.old) now }
+        ensures world { world self.new ≡ state_slice (config self.old) (world self.old) now }
+        ensures looks { counts ≡ true → meter.new ≡ meter.old + result.examined }
+        ensures uncounted { counts ≡ false → meter.new ≡ meter.old }
+        ensures most { meter.new ≤ meter.old + 1000000000 }
+        ensures config { config self.new ≡ config self.old };
+
+    /// Examines the next source nodes of their round, or the first of a new one, at most so many as `purge_states` does by
+    /// the limit of source nodes. Those leave that have no state, and whose retention after their idle moment is over at
+    /// `now`. It looks at no record of a state. (pf.conf(5), OPTIONS, "src.track"; the rounds are own to this profile)
+    fn purge_nodes(&mut self, now: u64) -> Slice
+        ensures answer { result ≡ node_slice_of (config self.old) (world self.old) now }
+        ensures world { world self.new ≡ node_slice (config self.old) (world self.old) now }
+        ensures config { config self.new ≡ config self.old };
+
+    /// Does the slice of `purge_states`, and tells up to when the states stay that it examined, under the counts before it, and
+    /// whether the round is over. A kind of store that does not know it tells the moment 0.
+    /// (pf.conf(5), OPTIONS, "interval"; the rounds are own)
+    fn watch_states(&mut self, now: u64, meter: &mut Meter) -> Watched
+        requires meter { meter.old ≤ 2 ^ 63 }
+        ensures answer { result.slice ≡ state_slice_of (config self.old) (world self.old) now }
+        ensures world { world self.new ≡ state_slice (config self.old) (world self.old) now }
+        ensures until { StatesStay (config self.old) (world self.old) result.until (world self.new).states }
+        ensures over { result.over ≡ true → (world self.new).pending_states ≡ [] }
+        ensures looks { counts ≡ true → meter.new ≡ meter.old + result.slice.examined }
+        ensures uncounted { counts ≡ false → meter.new ≡ meter.old }
+        ensures most { meter.new ≤ meter.old + 1000000000 }
+        ensures config { config self.new ≡ config self.old }
+    {
+        Watched {
+            slice: self.purge_states(now, meter),
+            until: 0,
+            over: false,
+        }
+    }
+
+    /// Does the slice of `purge_nodes`, and tells up to when the source nodes stay that it examined, where they get no state
+    /// and lose none, and whether the round is over. A kind of store that does not know it tells the moment 0.
+    /// (pf.conf(5), OPTIONS, "src.track"; the rounds are own)
+    fn watch_nodes(&mut self, now: u64) -> Watched
+        ensures answer { result.slice ≡ node_slice_of (config self.old) (world self.old) now }
+        ensures world { world self.new ≡ node_slice (config self.old) (world self.old) now }
+        ensures until { NodesStay (config self.old) (world self.old) result.until (world self.new).nodes }
+        ensures over { result.over ≡ true → (world self.new).pending_nodes ≡ [] }
+        ensures config { config self.new ≡ config self.old }
+    {
+        Watched {
+            slice: self.purge_nodes(now),
+            until: 0,
+            over: false,
+        }
+    }
+
+    /// Passes over some of so many seconds in which nothing leaves, and answers over how many: both rounds go on by so many
+    /// slices, as if each of them had been done. A kind of store that cannot answers 0. It looks at no record. (own)
+    fn pass_over(&mut self, seconds: u64) -> u64
+        ensures most { result ≤ seconds }
+        ensures world { world self.new ≡ moved (config self.old) result (world self.old) }
+        ensures config { config self.new ≡ config self.old }
+    {
+        0
+    }
+}
