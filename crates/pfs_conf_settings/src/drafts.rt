@@ -225,6 +225,7 @@ impl Draft {
             timeouts,
             tables,
             items,
+            hasher: _,
         } = self;
         let tables = tables.into_tables();
         let timeouts = Timeouts::resolved(&timeouts, limits.states);
