@@ -20,9 +20,10 @@ fn address(number: u64) -> Addr {
     Addr::V6((0x2001_0db8_0000_0000_0000_0000_0000_0000 | u128::from(number)).to_be_bytes())
 }
 
-// The place of an address: the last 16 bits of its hash.
+// The place of an address: the last 16 bits of its hash, as an index takes them of both halves.
 fn place(rules: &RulesHasher, addr: Addr) -> u64 {
-    rules.hash_one(addr) % PLACES
+    let hash = rules.hash_one(addr);
+    (hash ^ (hash >> 32)) % PLACES
 }
 
 // Addresses that all have place 0 under these rules, found by trying one after another.
