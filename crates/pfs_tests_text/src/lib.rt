@@ -45,6 +45,8 @@ mod round_trips;
 #[cfg(test)]
 mod settings;
 #[cfg(test)]
+mod together;
+#[cfg(test)]
 mod tokens;
 #[cfg(test)]
 mod wide_addresses;
