@@ -1,3 +1,4 @@
+pub mod Bodies
 pub mod Bounds
 pub mod Cuts
 pub mod Deciding
