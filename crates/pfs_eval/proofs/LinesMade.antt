@@ -175,6 +175,9 @@ pub looked_up : {X : Type 0} (xs : List X) (p : ℕ) (x : X) → (true ≡ nat_l
     → slice_get xs p ≡ Some x
 looked_up xs p x h = let within : p < length xs = grind (arith, nat_tests, h.0) in slice_get_read xs _ p x refl within h.1
 
+pub none_past : {X : Type 0} (xs : List X) (p : ℕ) (x : X) → false ≡ nat_lt p (length xs) → slice_get xs p ≡ Some x → ⊥
+none_past xs p x h at = let within = slice_get_within xs p x at in grind (arith, nat_tests)
+
 -- behind the body of the item of a line
 behind_of : (items : List Item) (p q : ℕ) (i : Item) (line : Line) → IsLine items p i line
     → q ≡ p + 1 + body_length line.depth (drop (p + 1) items) → place_behind items p i ≡ q

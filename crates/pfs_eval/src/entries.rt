@@ -4,7 +4,7 @@ ghost use Rattle.std.specs.Prelude.{◌≡◌, All, ◌<◌, ◌≤◌, ◌++◌
 ghost use Rattle.pfs_addr_values.specs.Addresses.{width_of};
 ghost use Rattle.pfs_addr_values.specs.Prefixes.{IsNetwork, network_of};
 ghost use Rattle.pfs_eval.specs.Holdings.{AreKept};
-ghost use Rattle.pfs_eval.specs.Entries.{Entry, answer_of, entry_of_text, holds_host, holds_prefix, mark_at};
+ghost use Rattle.pfs_eval.specs.Entries.{AreDistinct, Entry, answer_of, entry_of_text, holds_host, holds_prefix, mark_at};
 ghost use Rattle.pfs_eval.specs.Tables.{is_old, old_count, young};
 
 use crate::lengths::Lengths;
@@ -107,6 +107,7 @@ impl Table {
         ensures ok { OnOk result (self.new.entries ≡ self.old.entries ++ (network_of addr bits, mark) ∷ []) }
         ensures err { OnErr result (self.new.entries ≡ self.old.entries) }
         ensures no_memory { 0 < self.old.spare → IsOk result }
+        ensures distinct { AreDistinct self.old.entries → AreDistinct self.new.entries }
     {
         self.map.insert(addr.prefix(bits), mark)?;
         self.lengths.note(addr, addr.width() - bits);
