@@ -7,7 +7,7 @@ ghost use Rattle.pfs_eval.specs.Tables.{OthersKept, added_to, config_entries, en
 
 use crate::entries::{Mark, Table};
 use pfs_addr_values::{Addr, NoMemory};
-use pfs_conf_values::{Config, Entries, LimitName, TableNo};
+use pfs_conf_values::{Config, Entries, LimitName, RulesHasher, TableNo};
 use std::alloc::Global;
 use std::marker::Model;
 
@@ -48,15 +48,17 @@ impl Model for Tables {
 
 #[tactic(auto, unfolding(crate::specs::Tables::table_answer))]
 impl Tables {
-    /// The tables of a configuration, with the entries that its text says. The error says that memory was refused.
+    /// The tables of a configuration, with the entries that its text says, found by a hasher that is begun with the
+    /// configuration. The error says that memory was refused.
     pub fn new(alloc: Global, config: &Config) -> Result<Tables, NoMemory>
         ensures entries { IfOk result (λ t. t.entries ≡ config_entries config.now) }
         ensures limit { IfOk result (λ t. t.limit ≡ limit_of config.now LimitName.TableEntries) }
     {
+        let hasher = RulesHasher::of_config(config);
         let count = config.table_count();
         let mut tables = Vec::with_capacity(alloc, count as usize)?;
         for number in 0..count {
-            tables.push(Table::of(alloc, entries_of(config, number))?)?;
+            tables.push(Table::of(alloc, hasher, entries_of(config, number))?)?;
         }
         Ok(Tables {
             tables,
@@ -149,8 +151,8 @@ impl Tables {
 
     /// Takes out of a table the entries that were added `seconds` before `now`, or before that; for those that the rules
     /// text says, the moment `first` counts. It answers how many left. The others keep their order, and no other table
-    /// changes. No room is lost. It goes through the entries of that table alone, and takes no memory. (pfctl(8), "-T expire"; which
-    /// moments count is own to this profile)
+    /// changes. No room is lost. It goes through the entries of that table alone, and takes no memory. (pfctl(8),
+    /// "-T expire"; which moments count is own to this profile)
     pub fn expire(&mut self, table: TableNo, first: u64, now: u64, seconds: u64) -> u64
         requires table { table.0 < length self.old.entries }
         requires moments { first ≤ now }

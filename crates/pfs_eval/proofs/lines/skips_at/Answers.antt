@@ -1,5 +1,5 @@
 -- The skips of an item, by whether another follows in its body.
-use Rattle.std.proofs.Common.{◌<◌, ◌≤◌, length, arith, ap, refl, sym, ◌∙◌}
+use Rattle.std.proofs.Common.{◌<◌, length, arith, ap, refl, sym, ◌∙◌}
 use Rattle.std.proofs.lemmas.Option.{slice_get_read}
 use Rattle.pfs_eval.specs.declared.lines.Line.{Line}
 use Rattle.pfs_eval.proofs.LinesMade.{looked_up, none_past, skips-alone, skips-joined}

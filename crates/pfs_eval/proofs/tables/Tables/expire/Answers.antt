@@ -20,8 +20,7 @@ pub invariant_of-self : goal.invariant_of-self
 invariant_of-self c =
     let view = ap (λ (h : Holdings). h.entries) c.self.view_is in
     let within = within-held c.self.inside.tables.items c.args.self.now.entries c.args.table.0 view c.requires.table in
-    let fewer = count-expired c.self.inside.tables.items c.args.table.0 c.args.first c.args.now c.args.seconds c.index_mut.result.now c.expire-left.new.self within c.index_mut.ensures.value c.expire-left.ensures.entries in
-    (
+    let fewer = count-expired c.self.inside.tables.items c.args.table.0 c.args.first c.args.now c.args.seconds c.index_mut.result.now c.expire-left.new.self within c.index_mut.ensures.value c.expire-left.ensures.entries in (
       omega (arith, fewer, c.expire-left.ensures.answer, c.self.invariant.0),
       c.self.invariant.1,
       distinct-set c.self.inside.tables.items c.args.table.0 c.expire-left.new.self
