@@ -34,7 +34,7 @@ fn most_in_a_place(alloc: Global, rules: &RulesHasher) -> Result<usize, Fail> {
     }
     places.sort_unstable();
     let mut most = 0;
-    let mut run = 0;
+    let mut run: usize = 0;
     let mut last = PLACES;
     for place in &places {
         run = if *place == last {
