@@ -34,10 +34,14 @@ fn most_in_a_place(alloc: Global, rules: &RulesHasher) -> Result<usize, Fail> {
     }
     places.sort_unstable();
     let mut most = 0;
-    let mut run = 0;
+    let mut run: usize = 0;
     let mut last = PLACES;
     for place in &places {
-        run = if *place == last { run + 1 } else { 1 };
+        run = if *place == last {
+            run.saturating_add(1)
+        } else {
+            1
+        };
         last = *place;
         most = run.max(most);
     }
