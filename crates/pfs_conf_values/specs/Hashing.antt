@@ -13,8 +13,8 @@ use Rattle.pfs_conf_values.specs.contracts.timeouts.TimeoutsHash.TheImpl as time
 use Rattle.pfs_conf_values.specs.declared.tables.TableDef.{TableDef}
 
 -- a hasher after these writes
-abbrev pub after : DefaultHasher → HashWrites → DefaultHasher
-after s writes = fold sip.write s writes
+abbrev pub after_writes : DefaultHasher → HashWrites → DefaultHasher
+after_writes s writes = fold sip.write s writes
 
 -- what is written of an entry: its prefix, and whether it is negated
 abbrev pub entry_writes : TextEntry → HashWrites
@@ -22,18 +22,18 @@ entry_writes e = (prefix.ghosts).hash_input e.0 ++ fed.bool e.1
 
 -- a hasher after a table: its name, whether it is `const`, and its entries
 abbrev pub after_table : DefaultHasher → TableDef → DefaultHasher
-after_table s t = after s (fed.slice fed.u8 t.name ++ fed.bool t.is_const ++ fed.slice entry_writes t.entries)
+after_table s t = after_writes s (fed.slice fed.u8 t.name ++ fed.bool t.is_const ++ fed.slice entry_writes t.entries)
 
 -- a hasher after tables: how many they are, and each
 abbrev pub after_tables : DefaultHasher → List TableDef → DefaultHasher
-after_tables s tables = fold after_table (after s (fed.usize (length tables))) tables
+after_tables s tables = fold after_table (after_writes s (fed.usize (length tables))) tables
 
 -- a hasher after a configuration: limits, timeouts, tables, items
 abbrev pub after_conf : DefaultHasher → Conf → DefaultHasher
 after_conf s conf =
     let head = (limits.ghosts).hash_input conf.limits ++ (timeouts.ghosts).hash_input conf.timeouts in
-    after (after_tables (after s head) conf.tables) (fed.slice (item.ghosts).hash_input conf.items)
+    after_writes (after_tables (after_writes s head) conf.tables) (fed.slice (item.ghosts).hash_input conf.items)
 
 -- a hasher after a text: its bytes
 abbrev pub after_text : DefaultHasher → List ℕ → DefaultHasher
-after_text s text = after s (text ∷ [])
+after_text s text = after_writes s (text ∷ [])
