@@ -100,7 +100,7 @@ read-end rem a b f left config source r = records_left-end default_config a.stat
 pub failed-read : {S : Type 0} (rem : S → Option (List ℕ)) (a b : Reader S) (k : ErrorKind) → a.flexible ≡ true → ExplainsRead rem a b false k → stops_reader k ≡ true
 failed-read rem a b (kind.Io e) flexible why = refl
 failed-read rem a b kind.OutOfMemory flexible why = refl
-failed-read rem a b (kind.UnequalLengths pos expected len) flexible why = absurd (clash (sym flexible ∙ why.0))
+failed-read rem a b (kind.UnequalLengths pos expected len) flexible why = absurd (clash (sym why.0 ∙ flexible))
 failed-read rem a b (kind.Utf8 pos err) flexible why = absurd (clash why.0)
 failed-read rem a b (kind.Serialize text) flexible why = absurd why
 failed-read rem a b (kind.Deserialize pos err) flexible why = absurd why

@@ -5,6 +5,7 @@ use crate::reports::{HEADER, trace_of};
 use crate::runs::{replayed, tell, tell_joined};
 use pfs_cli::{Kind, LoadFault, ReplayFault, check};
 use pfs_cli_streams::{Feed, Sink};
+use pfs_conf::load;
 use std::alloc::AllocGlobal;
 use std::process::Abort;
 use std::test::Fail;
@@ -74,6 +75,45 @@ fn a_trace_is_cut_behind_each_byte(rt: HostRuntime) -> Result<(), Fail> {
         tell_cut(&rt, &trace, cut)?;
     }
     Ok(())
+}
+
+const TEXT: &[u8] = b"set limit states 2\npass in proto udp all\n";
+
+fn refused(line: u64, kind: Kind) -> Result<u32, LoadFault> {
+    Err(LoadFault { line, kind })
+}
+
+// What the text is read as when it is cut behind a byte, up to this one: how many rules there are, or the fault.
+fn fronts() -> [(usize, Result<u32, LoadFault>); 14] {
+    [
+        (0, Ok(0)),
+        (4, refused(1, Kind::Syntax)),
+        (8, refused(1, Kind::Unsupported)),
+        (17, refused(1, Kind::Syntax)),
+        (19, Ok(0)),
+        (22, refused(2, Kind::Syntax)),
+        (24, Ok(1)),
+        (25, refused(2, Kind::Syntax)),
+        (27, Ok(1)),
+        (33, refused(2, Kind::Syntax)),
+        (35, refused(2, Kind::Unsupported)),
+        (37, Ok(1)),
+        (39, refused(2, Kind::Syntax)),
+        (41, Ok(1)),
+    ]
+}
+
+#[test]
+fn rules_are_cut_behind_each_byte(rt: HostRuntime) {
+    let mut next = 0;
+    for (last, wanted) in &fronts() {
+        for cut in next..=*last {
+            let told = load(rt.alloc(), &TEXT[..cut.min(TEXT.len())]);
+            same!(rt; told.map(|config| config.item_count()), *wanted, cut);
+        }
+        next = *last + 1;
+    }
+    same!(rt; next, TEXT.len() + 1);
 }
 
 // Such spaces, checked: what is written, and how it ends.
