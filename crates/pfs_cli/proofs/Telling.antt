@@ -1,11 +1,14 @@
 -- What stands between two records of a run, and how a run ends.
+use borrow.Author.Tests.{clash}
 use Rattle.std.proofs.Common.{◌≡◌, ◌≤◌, ◌<◌, ◌+◌, ◌++◌, ◌∙◌, ℕ, List, [], ◌∷◌, length, take, drop, Option, Some, None, true, false, refl, sym, ap, arith, subst, append_assoc, length-append}
 use Rattle.std.specs.Prelude.{Result, Ok, Err, nat_lt}
 use Rattle.std.proofs.lemmas.List.{append-nil, take-append-drop}
 use Rattle.std.proofs.Math.Seq.{take-append_seam}
 use Rattle.std.proofs.lemmas.Bool.Decides.{nat_tests}
 use Rattle.std.specs.Io.KnownBytes.{Appends, Keeps}
-use Rattle.csv.specs.Reading.{Reached, ReadRecord, Ready, source_of, default_config}
+use Rattle.csv.specs.Reading.{Reached, ReadRecord, Ready, ExplainsRead, source_of, stops_reader, default_config}
+use Rattle.csv.specs.declared.error.ErrorKind.{ErrorKind}
+use Rattle.csv.specs.declared.error.ErrorKind.TheVariants as kind
 use Rattle.csv.specs.Machine.{Read, next_record}
 use Rattle.csv.specs.declared.parser.State.{State}
 use Rattle.csv.specs.declared.reader.Reader.{Reader}
@@ -92,6 +95,15 @@ read-more rem a b f left config source r =
 pub read-end : {S : Type 0} (rem : S → Option (List ℕ)) (a b : Reader S) (f : Fields) (left : List ℕ) → a.config ≡ default_config → source_of rem a ≡ Some left → ReadRecord rem a b false f
     → records_left default_config a.state left ≡ []
 read-end rem a b f left config source r = records_left-end default_config a.state left (rows-end rem a b f default_config left config source r)
+
+-- a read of a reader that takes records of every length fails only for the reader below or for memory
+pub failed-read : {S : Type 0} (rem : S → Option (List ℕ)) (a b : Reader S) (k : ErrorKind) → a.flexible ≡ true → ExplainsRead rem a b false k → stops_reader k ≡ true
+failed-read rem a b (kind.Io e) flexible why = refl
+failed-read rem a b kind.OutOfMemory flexible why = refl
+failed-read rem a b (kind.UnequalLengths pos expected len) flexible why = absurd (clash (sym why.0 ∙ flexible))
+failed-read rem a b (kind.Utf8 pos err) flexible why = absurd (clash why.0)
+failed-read rem a b (kind.Serialize text) flexible why = absurd why
+failed-read rem a b (kind.Deserialize pos err) flexible why = absurd why
 
 -- what was read and written so far of a trace that begins with these records
 pub record ToldSoFar {S : Type 0} (rem : S → Option (List ℕ)) (conf : Conf) (trace : Trace) (before now : Option (List ℕ)) (rows : ℕ) (m : Machine) (rdr : Reader S) : Type 0 where
@@ -270,6 +282,7 @@ pub record Running {S : Type 0} (rem : S → Option (List ℕ)) (begun : Reader 
   pub plain : rdr.trim ≡ trim.None
   pub ready : Ready rdr
   pub config : rdr.config ≡ default_config
+  pub flexible : rdr.flexible ≡ true
   pub rules : v.config ≡ first.config
   pub within : rows ≤ 1000000000
   pub taken : v.taken ≤ rows

@@ -2,7 +2,7 @@
 
 ghost use Rattle.std.specs.Prelude.{◌≡◌, Some, None, Ok, Err, ◌<◌, ◌≤◌, ◌+◌, ◌^◌, ℕ, List, true, false};
 ghost use Rattle.std.specs.Io.KnownBytes.{Appends};
-ghost use Rattle.csv.specs.Reading.{Ready, source_of, reader_trim, reader_config, reader_state, default_config};
+ghost use Rattle.csv.specs.Reading.{Ready, source_of, reader_trim, reader_config, reader_state, default_config, is_flexible, has_failed};
 ghost use Rattle.csv.specs.declared.reader.Trim.TheVariants as trim;
 ghost use Rattle.csv.specs.Records.{fields_of};
 ghost use Rattle.pfs_cli_streams.specs.Sinks.{bytes_held, write_failures as failures_of};
@@ -149,12 +149,14 @@ fn tell_rows<H: Store, S: Read, W: Write>(
     requires plain { reader_trim reader.old ≡ trim.None }
     requires ready { Ready reader.old }
     requires config { reader_config reader.old ≡ default_config }
+    requires flexible { is_flexible reader.old ≡ true }
     requires first { engine.old.machine ≡ start engine.old.config }
     requires taken { engine.old.taken ≡ 0 }
     ensures tells { (xs : List ℕ) → source_of S.remaining reader.old ≡ Some xs →
         ((t : List ℕ) × Appends (bytes_held W.contents out.old) (bytes_held W.contents out.new) t
         × Tells engine.old.config (events_from engine.old.config 0 None (records_left default_config (reader_state reader.old) xs)) t result) }
     ensures fails { result ≡ Err (Stop.Write) → 0 < failures_of out.new }
+    ensures source { result ≡ Err (Stop.Source) → has_failed reader.new ≡ true }
 {
     for rows in 0..=ROW_LIMIT {
         match reader.read_byte_record(fields) {
@@ -184,12 +186,14 @@ fn tell_trace<H: Store, S: Read, W: Write>(
     requires plain { reader_trim reader.old ≡ trim.None }
     requires ready { Ready reader.old }
     requires config { reader_config reader.old ≡ default_config }
+    requires flexible { is_flexible reader.old ≡ true }
     requires first { engine.old.machine ≡ start engine.old.config }
     requires taken { engine.old.taken ≡ 0 }
     ensures tells { (xs : List ℕ) → source_of S.remaining reader.old ≡ Some xs →
         ((t : List ℕ) × Appends (bytes_held W.contents out.old) (bytes_held W.contents out.new) t
         × Tells engine.old.config (events_of engine.old.config (records_left default_config (reader_state reader.old) xs)) t result) }
     ensures fails { result ≡ Err (Stop.Write) → 0 < failures_of out.new }
+    ensures source { result ≡ Err (Stop.Source) → has_failed reader.new ≡ true }
 {
     match reader.read_byte_record(fields) {
         Ok(true) => {}

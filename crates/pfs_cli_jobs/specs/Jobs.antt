@@ -1,6 +1,7 @@
 -- The jobs of a command line, by what clap finds in its words.
 use Rattle.std.specs.Prelude.{◌≡◌, List, codes, true, Option, Some, None}
-use Rattle.clap.specs.Words.{App, Row, Rule, Text, first_of, new_app, new_rule, with_rule, with_subcommand}
+use Rattle.clap.specs.Words.{App, Row, Rule, Shape, Text, first_of, new_app, new_rule, with_rule, with_subcommand}
+use Rattle.clap.specs.Simple.{on_top}
 use Rattle.pfs_cli_jobs.specs.declared.tasks.Job.{Job}
 use Rattle.pfs_cli_jobs.specs.declared.tasks.Job.TheVariants as job
 
@@ -18,9 +19,13 @@ show_app = with_rule (new_app (codes "show")) (file_rule (codes "RULES"))
 abbrev pub replay_app : App
 replay_app = with_rule (with_rule (new_app (codes "replay")) (file_rule (codes "RULES"))) (file_rule (codes "TRACE"))
 
--- the command line of the program
+-- the program, which has a version
+abbrev pub program_app : App
+program_app = on_top (λ (s : Shape). record s { has_version = true }) (new_app (codes "pfsrc"))
+
+-- its command line
 abbrev pub pfsrc_app : App
-pfsrc_app = with_subcommand (with_subcommand (with_subcommand (new_app (codes "pfsrc")) check_app.top) show_app.top) replay_app.top
+pfsrc_app = with_subcommand (with_subcommand (with_subcommand program_app check_app.top) show_app.top) replay_app.top
 
 -- a subcommand with its entries
 abbrev pub Found : Type 0

@@ -1,20 +1,23 @@
 // How the words of the command line are read, with `clap`.
 
 ghost use Rattle.std.specs.Prelude.{◌≡◌, IfOk, map, false, codes, Some};
-ghost use Rattle.clap.specs.Words.{app_of, subcommand_of, rule_of, new_app, with_subcommand, first_of, found_of, kind_of, rows_of};
+ghost use Rattle.clap.specs.Words.{app_of, subcommand_of, rule_of, with_subcommand, first_of, found_of, kind_of, rows_of};
 ghost use Rattle.clap.specs.declared.builder.command.Command.TheViews.{out-Command};
-ghost use Rattle.pfs_cli_jobs.specs.Jobs.{JobIs, check_app, show_app, replay_app, pfsrc_app, file_rule};
+ghost use Rattle.pfs_cli_jobs.specs.Jobs.{JobIs, check_app, show_app, replay_app, program_app, pfsrc_app, file_rule};
 
 use crate::tasks::Job;
 use clap::error::ErrorKind;
 use clap::{Arg, ArgMatches, Command, Error};
 use std::alloc::{AllocError, Global};
 
+/// What `--version` tells behind the program's name.
+const VERSION: &str = "0.1.0, the limits of pf as in OpenBSD 7.4";
+
 /// The job that the words of a command line ask for: the program's name, and then nothing, `check RULES`, `show RULES` or
 /// `replay RULES TRACE`.
 ///
 /// The error is clap's, with its message: for a word that is none of these, for a file that is missing or too many, for
-/// `--help` and `help`, which are no mistakes, and for want of memory. It takes memory.
+/// `--help`, `help` and `--version`, which are no mistakes, and for want of memory. It takes memory.
 pub fn job<'a>(alloc: Global, words: &'a [&'a str]) -> Result<Job<'a>, Error>
     ensures { IfOk result (λ j. JobIs (subcommand_of pfsrc_app (map (λ w. w.now) words.entry.now)) j) }
 {
@@ -35,29 +38,30 @@ fn pfsrc<'a>(alloc: Global) -> Result<Command<'a>, AllocError>
 
 // (each holds at most one command over a `?`: each that is held there is dear to prove)
 fn with_show<'a>(alloc: Global) -> Result<Command<'a>, AllocError>
-    ensures { IfOk result (λ c. app_of c ≡ with_subcommand (with_subcommand (new_app (codes "pfsrc")) check_app.top) show_app.top) }
+    ensures { IfOk result (λ c. app_of c ≡ with_subcommand (with_subcommand program_app check_app.top) show_app.top) }
 {
     let show = show(alloc)?;
     with_check(alloc)?.subcommand(show)
 }
 
 fn with_check<'a>(alloc: Global) -> Result<Command<'a>, AllocError>
-    ensures { IfOk result (λ c. app_of c ≡ with_subcommand (new_app (codes "pfsrc")) check_app.top) }
+    ensures { IfOk result (λ c. app_of c ≡ with_subcommand program_app check_app.top) }
 {
     let check = check(alloc)?;
     program(alloc).subcommand(check)
 }
 
 fn program<'a>(alloc: Global) -> Command<'a>
-    ensures app { app_of result ≡ new_app (codes "pfsrc") }
+    ensures app { app_of result ≡ program_app }
     ensures local { (out-Command result).has_globals ≡ false }
 {
     Command::new(alloc, "pfsrc")
+        .version(VERSION)
         .about(
             "Tells beforehand what pf's limits do to a packet trace: which packets make states, which limit drops them, and whose states are killed.",
         )
         .after_help(
-            "Without a command it reads rules and trace from standard input, with a line %% between them, and writes the report:\n  cat rules separator trace | pfsrc\npfsrc --version tells which program this is.\nStatus: 0 done, 1 a fault in the trace, 2 words that are not understood, 3 a fault in the rules, 4 reading, writing or memory failed.",
+            "Without a command it reads rules and trace from standard input, with a line %% between them, and writes the report:\n  cat rules separator trace | pfsrc\nStatus: 0 done, 1 a fault in the trace, 2 words that are not understood, 3 a fault in the rules, 4 reading, writing or memory failed.",
         )
 }
 

@@ -2,9 +2,10 @@
 
 use crate::engines::{UNSCALED, held, indexed, pass_time, plain, take};
 use crate::packets::{A1, A2, ACK, SYN, SYN_ACK, Sent, packet};
+use crate::scripts::{Came, Case, Script};
 use pfs_addr_values::Addr;
 use pfs_conf::RuleNo;
-use pfs_engine::{Added, Engine, Limit, Outcome, Work};
+use pfs_engine::{Added, Engine, Event, Limit, Outcome, What, Work};
 use pfs_store_contract::Store;
 use std::process::Abort;
 use std::test::Fail;
@@ -283,4 +284,149 @@ fn a_long_jump_is_short_where_what_is_held_stays(rt: HostRuntime) -> Result<(), 
         true,
         (0, 0, 0),
     )
+}
+
+// Rules and events over an indexed store, at how many states each packet looks at most, and each lapse of time.
+struct Looked {
+    case: Case,
+    of_packets: &'static [u64],
+    of_time: u64,
+}
+
+const AT_MOST: &[Looked] = &[
+    Looked {
+        case: Case {
+            shows: "two states and a third one that is refused",
+            rules: b"set limit states 2\npass in proto udp all",
+            rows: &[
+                (5, Came::Udp(53), A1, 1000, NEW),
+                (5, Came::Udp(53), A2, 1000, NEW),
+                (5, Came::Udp(53), A3, 1000, REFUSED),
+            ],
+            end: (2, 0, 0),
+        },
+        of_packets: &[0, 0, 0],
+        of_time: 0,
+    },
+    Looked {
+        case: Case {
+            shows: "the second connection is killed",
+            rules: b"pass in proto tcp to any port 80 keep state (max-src-conn 1)",
+            rows: &[
+                (0, Came::Shake(0), A1, 1000, STATE),
+                (0, Came::Shake(0), A1, 1001, ALONE),
+            ],
+            end: (1, 1, 0),
+        },
+        of_packets: &[0, 1, 1, 0, 1, 2],
+        of_time: 0,
+    },
+    Looked {
+        case: Case {
+            shows: "flush takes the states of the rule",
+            rules: b"block quick from <bad>\npass in proto udp all\n\
+                pass in proto tcp to any port 80 keep state (max-src-conn 1, overload <bad> flush)",
+            rows: &[
+                (0, Came::Udp(53), A1, 53000, Outcome::New(RuleNo(1))),
+                (0, Came::Shake(2), A1, 1000, SHAKEN),
+                (0, Came::Shake(2), A1, 1001, OF_THE_RULE),
+                (0, Came::Syn, A1, 1002, Outcome::Block(RuleNo(0))),
+            ],
+            end: (1, 1, 1),
+        },
+        of_packets: &[0, 0, 1, 1, 0, 1, 4, 0],
+        of_time: 0,
+    },
+    Looked {
+        case: Case {
+            shows: "flush global takes them all",
+            rules: b"block quick from <bad>\npass in proto udp all\n\
+                pass in proto tcp to any port 80 keep state (max-src-conn 1, overload <bad> flush global)",
+            rows: &[
+                (0, Came::Udp(53), A1, 53000, Outcome::New(RuleNo(1))),
+                (0, Came::Shake(2), A1, 1000, SHAKEN),
+                (0, Came::Shake(2), A1, 1001, ALL),
+                (0, Came::Syn, A1, 1002, Outcome::Block(RuleNo(0))),
+            ],
+            end: (0, 1, 1),
+        },
+        of_packets: &[0, 0, 1, 1, 0, 1, 4, 0],
+        of_time: 0,
+    },
+    Looked {
+        case: Case {
+            shows: "a flood against rounds",
+            rules: b"set limit states 6\nset timeout { interval 5, tcp.first 4, udp.first 1 }\npass",
+            rows: &[
+                (0, Came::Syn, A1, 1, NEW),
+                (0, Came::Udp(53), A2, 1, NEW),
+                (0, Came::Udp(53), A2, 2, NEW),
+                (1, Came::Udp(53), A2, 3, NEW),
+                (1, Came::Udp(53), A2, 4, NEW),
+                (2, Came::Udp(53), A2, 5, NEW),
+                (2, Came::Udp(53), A2, 6, NEW),
+                (3, Came::Udp(53), A2, 7, NEW),
+                (3, Came::Udp(53), A2, 8, NEW),
+                (4, Came::Udp(53), A2, 9, NEW),
+                (4, Came::Udp(53), A2, 10, NEW),
+                (5, Came::Udp(53), A2, 11, NEW),
+                (5, Came::Udp(53), A2, 12, REFUSED),
+                (6, Came::Nothing, A1, 0, Outcome::Skip),
+            ],
+            end: (4, 0, 0),
+        },
+        of_packets: &[0; 14],
+        of_time: 2,
+    },
+];
+
+const A3: Addr = Addr::V4([198, 51, 100, 3]);
+
+const REFUSED: Outcome = Outcome::Drop(RuleNo(0), Limit::States);
+
+const OF_THE_RULE: Outcome = Outcome::Kill {
+    rule: RuleNo(2),
+    conn: true,
+    rate: false,
+    overload: Some(Added::New),
+    killed: 2,
+};
+
+// One event, and the looks that it took at most.
+fn look<S: Store>(
+    rt: &impl Abort,
+    engine: &mut Engine<S>,
+    event: &Event,
+    outcome: Outcome,
+    (of_time, of_packet): (u64, u64),
+) -> Result<(), Fail> {
+    pass_time(rt, engine, event.time);
+    same!(rt; engine.work().looks <= of_time, true, event);
+    if let What::Packet(packet) = &event.what {
+        same!(rt; take(rt, engine, packet)?, outcome, event);
+        same!(rt; engine.work().looks <= of_packet, true, event);
+    }
+    Ok(())
+}
+
+#[test]
+fn looks_are_at_most_those_of_their_rows(rt: HostRuntime) -> Result<(), Fail> {
+    for Looked {
+        case,
+        of_packets,
+        of_time,
+    } in AT_MOST {
+        let script = Script::of(rt.alloc(), case.rows)?;
+        let mut engine = indexed(rt.alloc(), UNSCALED, case.rules)?;
+        for ((event, outcome), of_packet) in script
+            .events
+            .iter()
+            .zip(&script.outcomes)
+            .zip(*of_packets)
+        {
+            look(&rt, &mut engine, event, *outcome, (*of_time, *of_packet))?;
+        }
+        same!(rt; (held(&engine), of_packets.len()), (case.end, script.events.len()), case.shows);
+    }
+    Ok(())
 }

@@ -240,6 +240,23 @@ fn walk<S: Store>(rt: &HostRuntime, engine: &mut Engine<S>, case: &Case) -> Resu
     let is_right = is_end(engine, case);
     end(rt)?;
     plain(rt, is_right)?;
+    if case.has_overload {
+        expire(rt, engine, case)?;
+    }
+    Ok(())
+}
+
+// All entries of the table leave, those of the text too.
+fn expire<S: Store>(rt: &HostRuntime, engine: &mut Engine<S>, case: &Case) -> Result<(), Stop> {
+    if engine.last().is_none() || !may_expire(engine.config(), TableNo(0)) {
+        return Err(Stop::Input);
+    }
+    let (states, nodes, entries, taken) = held(engine);
+    begin_free(rt, "expire")?;
+    let left = engine.expire(TableNo(0), 0);
+    end(rt)?;
+    let stays = held(engine) == (states, nodes, 0, taken);
+    plain(rt, stays && left == entries && entries == case.end.2)?;
     Ok(())
 }
 

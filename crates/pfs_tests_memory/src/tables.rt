@@ -134,7 +134,8 @@ fn add_with_room(rt: &HostRuntime, config: &Config) -> Result<(), Stop>
         add_free(rt, &mut tables, number, Added::Held)?;
     }
     room_at_limit(rt, &mut tables)?;
-    add_free(rt, &mut tables, FREE, Added::Full)
+    add_free(rt, &mut tables, FREE, Added::Full)?;
+    expire(rt, &mut tables)
 }
 
 fn add_without_room(rt: &HostRuntime, config: &Config) -> Result<(), Stop>
@@ -204,4 +205,15 @@ fn add(rt: &HostRuntime, tables: &mut Tables, number: u8) -> Result<bool, Stop>
         ),
         Err(_) => refused(rt, is_held(tables, number)),
     }
+}
+
+// All entries leave, those of the text too.
+fn expire(rt: &HostRuntime, tables: &mut Tables) -> Result<(), Stop>
+    requires { 0 < length tables.old.entries }
+{
+    begin_free(rt, "expire")?;
+    let left = tables.expire(TableNo(0), 5, 5, 0);
+    end(rt)?;
+    plain(rt, left == u64::from(FREE) + 1 && tables.entries() == 0)?;
+    Ok(())
 }

@@ -1,7 +1,7 @@
 //! Records that take old entries out of a table.
 
-use crate::runs::tell;
-use crate::traces::{A, B, Case, Sent, tell_each};
+use crate::runs::{tell, tell_over_stores};
+use crate::traces::{A, B, Case, Sent, UNSCALED, tell_each};
 use pfs_cli::ReplayFault;
 use std::alloc::AllocGlobal;
 use std::process::Abort;
@@ -181,8 +181,82 @@ fn old_entries_leave(rt: HostRuntime) -> Result<(), Fail> {
     tell_each(&rt, EXPIRED)
 }
 
+// The ten records in front of two expiries in the row that shows what they do, and their lines but for what became of the source.
+const SHAKEN: &[&str] = &[
+    "100,in,em0,icmp,198.51.100.1,,192.0.2.1,,",
+    "104,in,em0,tcp,198.51.100.1,1000,192.0.2.1,80,S",
+    "104,out,em0,tcp,192.0.2.1,80,198.51.100.1,1000,SA",
+    "104,in,em0,tcp,198.51.100.1,1000,192.0.2.1,80,A",
+    "104,in,em0,tcp,198.51.100.1,1001,192.0.2.1,80,S",
+    "104,out,em0,tcp,192.0.2.1,80,198.51.100.1,1001,SA",
+    "104,in,em0,tcp,198.51.100.1,1001,192.0.2.1,80,A",
+    "106,in,em0,tcp,198.51.100.1,1002,192.0.2.1,80,S",
+    "106,out,em0,tcp,192.0.2.1,80,198.51.100.1,1002,SA",
+    "106,in,em0,tcp,198.51.100.1,1002,192.0.2.1,80,A",
+];
+
+// The rules, the two expiries, what became of the source at its two last handshakes, and how the replay ends.
+type Told = (
+    &'static str,
+    [&'static str; 2],
+    [&'static str; 2],
+    ReplayFault,
+);
+
+const TOLD: &[Told] = &[
+    (
+        CONST,
+        ["108,expire,bad,,,5,,,", "109,expire,bad,,,5,,,"],
+        ["none", "none"],
+        ReplayFault::Table(11),
+    ),
+    (
+        OVERLOAD,
+        ["108,expire,worse,,,5,,,", "109,expire,bad,,,5,,,"],
+        ["added", "held"],
+        ReplayFault::Table(11),
+    ),
+    (
+        OVERLOAD,
+        ["108,expire,bad,udp,,5,,,", "109,expire,bad,,,5,,,"],
+        ["added", "held"],
+        ReplayFault::Field(11, 4),
+    ),
+];
+
+// One such replay, over each kind of store.
+fn tell_shaken(rt: &(impl Abort + AllocGlobal), told: &Told) -> Result<(), Fail> {
+    let (rules, [first, second], [added, held], fault) = *told;
+    let mut trace = String::new(rt.alloc());
+    write!(trace, "time,dir,if,proto,src,sport,dst,dport,flags\n")?;
+    for record in SHAKEN {
+        write!(trace, "{record}\n")?;
+    }
+    write!(trace, "{first}\n{second}\n")?;
+    let mut text = String::new(rt.alloc());
+    write!(text, "{UNSCALED}{rules}")?;
+    let mut report = String::new(rt.alloc());
+    write!(
+        report,
+        "1 skip -\n2 new @0\n3 state @0\n4 state @0\n5 new @0\n6 state @0\n"
+    )?;
+    write!(report, "7 kill:max-src-conn @0 overload={added} killed=1\n")?;
+    write!(report, "8 new @0\n9 state @0\n")?;
+    write!(report, "10 kill:max-src-conn @0 overload={held} killed=1\n")?;
+    tell_over_stores(
+        rt,
+        text.as_bytes(),
+        trace.as_bytes(),
+        Err(fault),
+        report.as_bytes(),
+    )
+}
+
 #[test]
 fn a_table_must_be_there_and_not_const(rt: HostRuntime) -> Result<(), Fail> {
+    for told in TOLD {
+        tell_shaken(&rt, told)?;
+    }
     tell_refused(&rt, &tables())
 }
 

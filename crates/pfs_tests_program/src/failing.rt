@@ -3,7 +3,7 @@
 use crate::fakes::{Endless, Halting, narrow_writer};
 use crate::reports::{HEADER, trace_of};
 use crate::runs::{replayed, replayed_joined};
-use pfs_cli::{Job, Kind, LoadFault, ReplayFault, perform};
+use pfs_cli::{Job, ReplayFault, perform};
 use pfs_cli_streams::{Feed, Sink};
 use std::alloc::AllocGlobal;
 use std::process::Abort;
@@ -147,25 +147,6 @@ fn a_write_of_a_job_fails_at_each_turn(rt: HostRuntime) {
         for room in 0..=whole {
             same!(rt; told_of(&rt, job, 999, room), (Err(ReplayFault::Write), room));
         }
-    }
-}
-
-#[test]
-fn rules_without_an_end(rt: HostRuntime) {
-    let too_long = ReplayFault::Rules(LoadFault {
-        line: 0,
-        kind: Kind::TooLong,
-    });
-    for (bound, fault) in [(100, ReplayFault::Endless), (2_000_000, too_long)] {
-        let (told, _, _, written) = replayed(
-            rt.alloc(),
-            Endless(b' '),
-            HEADER,
-            Vec::new(rt.alloc()),
-            bound,
-        );
-        same!(rt; told, Err(fault));
-        same!(rt; written.len(), 0);
     }
 }
 

@@ -24,6 +24,8 @@ macro_rules! holds {
 #[cfg(test)]
 mod checks;
 #[cfg(test)]
+mod cuts;
+#[cfg(test)]
 mod expiring;
 #[cfg(test)]
 mod failing;

@@ -1,12 +1,16 @@
 //! Reports of rules and records, and what is told of texts that are refused.
 
 use crate::fakes::{Halting, narrow_writer};
-use crate::runs::{replayed_joined, tell, tell_joined};
+use crate::runs::{replayed_joined, tell, tell_joined, tell_over_stores};
 use pfs_cli::{Kind, LoadFault, ReplayFault, status};
 use std::alloc::Global;
 use std::test::Fail;
 
 pub const HEADER: &[u8] = b"time,dir,if,proto,src,sport,dst,dport,flags\n";
+
+const UNSCALED: &[u8] = b"set timeout { adaptive.start 0, adaptive.end 0 }\n";
+
+const ALL_UDP: &[u8] = b"set timeout { adaptive.start 0, adaptive.end 0 }\npass in proto udp all\n";
 
 // Rules, records behind the header, what is written, and how it ends.
 #[derive(Clone, Copy)]
@@ -22,13 +26,13 @@ struct Row {
 fn rows() -> [Row; 9] {
     [
         Row {
-            rules: b"",
+            rules: UNSCALED,
             records: b"",
             report: b"end rows=0 states=0 nodes=0 entries=0\n",
             outcome: Ok(()),
         },
         Row {
-            rules: b"",
+            rules: UNSCALED,
             records: b"5,in,em0,udp,198.51.100.1,1,192.0.2.1,53,\n",
             report: b"1 pass -\nend rows=1 states=0 nodes=0 entries=0\n",
             outcome: Ok(()),
@@ -40,7 +44,7 @@ fn rows() -> [Row; 9] {
             outcome: Ok(()),
         },
         Row {
-            rules: b"set limit states 1\npass in proto udp all keep state (max 1)\n",
+            rules: b"set timeout { adaptive.start 0, adaptive.end 0 }\nset limit states 1\npass in proto udp all keep state (max 1)\n",
             records: b"5,in,em0,udp,198.51.100.1,1000,192.0.2.1,53,\n5,in,em0,udp,198.51.100.2,1000,192.0.2.1,53,\n",
             report: b"1 new @0\n2 drop:max @0\nend rows=2 states=1 nodes=0 entries=0\n",
             outcome: Ok(()),
@@ -58,19 +62,19 @@ fn rows() -> [Row; 9] {
             outcome: Ok(()),
         },
         Row {
-            rules: b"pass in proto udp all",
+            rules: ALL_UDP,
             records: b"7,in,em0,udp,198.51.100.1,1,192.0.2.1,53,\n7,in,em0,udp,198.51.100.1,2,192.0.2.1,53,\n7,in,em0,udp,198.51.100.1,3,192.0.2.1,53\n",
             report: b"1 new @0\n2 new @0\n",
             outcome: Err(ReplayFault::Columns(3)),
         },
         Row {
-            rules: b"pass in proto udp all",
+            rules: ALL_UDP,
             records: b"7,in,em0,udp,198.51.100.1,1,192.0.2.1,53,\n6,in,em0,udp,198.51.100.1,2,192.0.2.1,53,\n",
             report: b"1 new @0\n",
             outcome: Err(ReplayFault::TimeFell(2)),
         },
         Row {
-            rules: b"pass in proto udp all",
+            rules: ALL_UDP,
             records: b"7,in,em0,udp,198.51.100.1,65536,192.0.2.1,53,\n",
             report: b"",
             outcome: Err(ReplayFault::Field(1, 6)),
@@ -89,9 +93,10 @@ pub fn trace_of(alloc: Global, records: &[u8]) -> Result<Vec<u8>, Fail> {
 fn rows_from_two_texts(rt: HostRuntime) -> Result<(), Fail> {
     for row in &rows() {
         let trace = trace_of(rt.alloc(), row.records)?;
-        tell(&rt, row.rules, &trace, row.outcome, row.report);
+        tell_over_stores(&rt, row.rules, &trace, row.outcome, row.report)?;
     }
-    Ok(())
+    let empty = Err(ReplayFault::Columns(0));
+    tell_over_stores(&rt, ALL_UDP, b"", empty, b"")
 }
 
 #[test]

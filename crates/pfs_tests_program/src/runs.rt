@@ -1,10 +1,17 @@
 //! Replays over any readers and writer, and over texts in memory.
 
-use pfs_cli::{ReplayFault, replay, replay_joined};
+use pfs_cli::{ReplayFault, Stop, replay, replay_joined, write_report_over};
+use pfs_cli_formats::TraceFault;
 use pfs_cli_streams::{Feed, Sink};
+use pfs_conf::load;
+use pfs_store::{IndexStore, PlainStore};
 use std::alloc::{AllocGlobal, Global};
+use std::hash::{BuildHasherDefault, FoldHasher};
 use std::io::{Read, Write};
 use std::process::Abort;
+use std::test::Fail;
+
+type Indexed = IndexStore<BuildHasherDefault<FoldHasher>>;
 
 /// How a replay ended, how many reads of its trace and how many writes failed, and its writer.
 pub type Ran<W> = (Result<(), ReplayFault>, u64, u64, W);
@@ -60,4 +67,44 @@ pub fn tell_joined(
     let (told, _, _, written) = replayed_joined(rt.alloc(), text, Vec::new(rt.alloc()), 99);
     same!(rt; told, outcome);
     same!(rt; written.as_slice(), report);
+}
+
+// How a replay of a trace ends, by how its report does.
+fn ended(told: Result<(), Stop>) -> Result<(), ReplayFault> {
+    match told {
+        Ok(()) => Ok(()),
+        Err(Stop::Fault(TraceFault::Columns(row))) => Err(ReplayFault::Columns(row)),
+        Err(Stop::Fault(TraceFault::Field(row, column))) => Err(ReplayFault::Field(row, column)),
+        Err(Stop::Fault(TraceFault::TimeFell(row))) => Err(ReplayFault::TimeFell(row)),
+        Err(Stop::Fault(TraceFault::Table(row))) => Err(ReplayFault::Table(row)),
+        Err(Stop::Fault(TraceFault::TooManyRows)) => Err(ReplayFault::TooManyRows),
+        Err(Stop::Source) => Err(ReplayFault::Read),
+        Err(Stop::Memory) => Err(ReplayFault::Memory),
+        Err(Stop::Write) => Err(ReplayFault::Write),
+    }
+}
+
+/// Over each kind of store, and as a replay: rules that are accepted and this trace have this outcome and this report.
+pub fn tell_over_stores(
+    rt: &(impl Abort + AllocGlobal),
+    rules: &[u8],
+    trace: &[u8],
+    outcome: Result<(), ReplayFault>,
+    report: &[u8],
+) -> Result<(), Fail> {
+    tell(rt, rules, trace, outcome, report);
+    let alloc = rt.alloc();
+    let config = load(alloc, rules)?;
+    let store = PlainStore::new(alloc, &config)?;
+    let mut out = Sink::new(Vec::new(alloc));
+    let told = write_report_over(alloc, config, store, trace, &mut out);
+    same!(rt; ended(told), outcome);
+    same!(rt; out.into_inner().as_slice(), report);
+    let config = load(alloc, rules)?;
+    let store = Indexed::new(alloc, &config)?;
+    let mut out = Sink::new(Vec::new(alloc));
+    let told = write_report_over(alloc, config, store, trace, &mut out);
+    same!(rt; ended(told), outcome);
+    same!(rt; out.into_inner().as_slice(), report);
+    Ok(())
 }

@@ -1,7 +1,6 @@
 //! Short records, and the reports of them.
 
-use crate::runs;
-use crate::runs::tell_joined;
+use crate::runs::{tell_joined, tell_over_stores};
 use std::process::Abort;
 use std::test::Fail;
 
@@ -57,7 +56,8 @@ fn write_sent(trace: &mut String, sent: &Sent) -> Result<(), Fail> {
     Ok(())
 }
 
-/// The report of these rules, behind a first line of them, and of these records is this one, from two texts and from one.
+/// The report of these rules, behind a first line of them, and of these records is this one, from two texts, over each kind
+/// of store, and from one text.
 fn tell(rt: &(impl Abort + AllocGlobal), first: &str, case: &Case) -> Result<(), Fail> {
     let mut trace = String::new(rt.alloc());
     write!(trace, "time,dir,if,proto,src,sport,dst,dport,flags\n")?;
@@ -67,7 +67,7 @@ fn tell(rt: &(impl Abort + AllocGlobal), first: &str, case: &Case) -> Result<(),
     let mut rules = String::new(rt.alloc());
     write!(rules, "{first}{}\n", case.rules)?;
     let report = case.report.as_bytes();
-    runs::tell(rt, rules.as_bytes(), trace.as_bytes(), Ok(()), report);
+    tell_over_stores(rt, rules.as_bytes(), trace.as_bytes(), Ok(()), report)?;
     write!(rules, "%%\n{trace}")?;
     tell_joined(rt, rules.as_bytes(), Ok(()), report);
     Ok(())

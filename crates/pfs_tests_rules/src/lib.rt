@@ -17,6 +17,8 @@ macro_rules! same {
 #[cfg(test)]
 mod asking;
 #[cfg(test)]
+mod bounds;
+#[cfg(test)]
 mod checks;
 #[cfg(test)]
 mod generated;

@@ -1,10 +1,11 @@
 //! Which rule decides on a packet, by each parameter of a rule.
 
 use crate::asking::Rules;
+use crate::bounds::visit_bound;
 use crate::packets::{A1, S6, packet};
 use crate::texts::configured;
 use pfs_addr_values::{Addr, Dir, Packet, Proto};
-use pfs_conf::RuleNo;
+use pfs_conf::{RuleNo, load};
 use std::alloc::Global;
 use std::test::Fail;
 
@@ -123,39 +124,42 @@ fn flags_are_asked_of_tcp_alone(rt: HostRuntime) -> Result<(), Fail> {
     Ok(())
 }
 
-const ANCHORED: &[u8] = b"block all
+const ANCHORED: &[u8] = b"set timeout { adaptive.start 0, adaptive.end 0 }
+block all
 anchor \"a\" in {
-pass quick proto udp to any port 53
+pass quick proto udp to any port 53 no state
 anchor out {
 pass
 }
-pass proto tcp
+pass proto tcp no state
 }
 anchor \"b\" quick proto tcp {
-pass proto tcp to any port 22
+pass proto tcp to any port 22 no state
 }
-pass in proto udp
+pass in proto udp no state
 ";
 
-// The packet, the rule that decides on it, and the number of visits
-const QUICK: &[(Dir, bool, u16, u32, u64)] = &[
-    (Dir::In, false, 53, 2, 3),
-    (Dir::In, true, 22, 7, 7),
-    (Dir::In, true, 80, 5, 8),
-    (Dir::In, false, 99, 8, 7),
-    (Dir::Out, false, 53, 0, 4),
+// The packet, the rule that decides on it, the number of visits, and the most that it may be
+const QUICK: &[(Dir, bool, u16, u32, u64, u64)] = &[
+    (Dir::In, false, 53, 2, 3, 7),
+    (Dir::In, true, 22, 7, 7, 8),
+    (Dir::In, true, 80, 5, 8, 8),
+    (Dir::In, false, 99, 8, 7, 7),
+    (Dir::Out, false, 53, 0, 4, 4),
 ];
 
 #[test]
 fn quick_ends_the_whole_evaluation(rt: HostRuntime) -> Result<(), Fail> {
-    for &(dir, is_tcp, port, rule, visits) in QUICK {
+    let config = load(rt.alloc(), ANCHORED)?;
+    let rules = Rules::of(rt.alloc(), &config)?;
+    for &(dir, is_tcp, port, rule, visits, bound) in QUICK {
         let packet = if is_tcp {
             packet(dir, Proto::Tcp, A1, port)?
         } else {
             packet(dir, Proto::Udp, A1, port)?
         };
-        let decided = decided(rt.alloc(), ANCHORED, &packet)?;
-        same!(rt; decided, (Some(RuleNo(rule)), visits), rule);
+        same!(rt; rules.ask(&packet), (Some(RuleNo(rule)), visits), rule);
+        same!(rt; visit_bound(&config, &packet), bound, rule);
     }
     Ok(())
 }

@@ -1,6 +1,7 @@
 //! How many items are visited where neighbours ask the same.
 
 use crate::asking::Rules;
+use crate::bounds::visit_bound;
 use crate::packets::{A1, SYN, packet, packet_on};
 use pfs_addr_values::{Dir, Packet, Proto};
 use pfs_conf::{RuleNo, load};
@@ -24,8 +25,10 @@ fn rules_of_another_interface_are_skipped(rt: HostRuntime) -> Result<(), Fail> {
     let rules = Rules::of(rt.alloc(), &config)?;
     let udp = packet(Dir::In, Proto::Udp, A1, 53)?;
     same!(rt; rules.ask(&udp), (Some(RuleNo(50)), 2));
+    same!(rt; visit_bound(&config, &udp), 51);
     let tcp = packet_on(b"em1", Dir::In, Proto::Tcp, A1, 50, SYN)?;
     same!(rt; rules.ask(&tcp), (Some(RuleNo(49)), 51));
+    same!(rt; visit_bound(&config, &tcp), 51);
     Ok(())
 }
 

@@ -11,9 +11,6 @@ use std::fs::File;
 use std::io::{self, BufWriter, Write};
 use std::process::ExitCode;
 
-/// What `--version` tells.
-const VERSION: &str = "pfsrc 0.1.0, the limits of pf as in OpenBSD 7.4";
-
 /// The most reads of one input.
 const READS: u64 = 1_099_511_627_776;
 
@@ -29,9 +26,6 @@ fn run(rt: &HostRuntime) -> u8 {
     let Ok(names) = names(rt, &words) else {
         return told(rt, &ReplayFault::Memory);
     };
-    if asks_version(names.as_slice()) {
-        return version(rt);
-    }
     match job(rt.alloc(), names.as_slice()) {
         Ok(job) => match done(rt, &job) {
             Ok(()) => 0,
@@ -49,19 +43,6 @@ fn words(rt: &HostRuntime) -> io::Result<Vec<String>> {
 
 fn names<'a>(rt: &HostRuntime, words: &'a [String]) -> Result<Vec<&'a str>, AllocError> {
     words.iter().map(|word| word.as_str()).collect(rt.alloc())
-}
-
-/// Whether the words are `--version` alone, behind the program's name.
-fn asks_version(names: &[&str]) -> bool {
-    names.len() == 2 && (names[1] == "--version" || names[1] == "-V")
-}
-
-/// Writes which program this is, and whose rules it follows; the status.
-fn version(rt: &HostRuntime) -> u8 {
-    match println!(rt; "{VERSION}") {
-        Ok(()) => 0,
-        Err(_) => told(rt, &ReplayFault::Write),
-    }
 }
 
 /// Does the job over the files that it names, or over standard input. Both files of a replay are opened before either is
@@ -117,11 +98,18 @@ fn wordless(rt: &HostRuntime, error: &io::Error) -> u8 {
     told(rt, &ReplayFault::Memory)
 }
 
-/// Tells what `clap` says of the words: help on standard output with status 0, a mistake on standard error with status 2.
+/// Tells what `clap` says of the words: help or the version on standard output with status 0, a mistake on standard error
+/// with status 2.
 fn refused(rt: &HostRuntime, refusal: &Error) -> u8 {
     if refusal.kind() == ErrorKind::OutOfMemory {
         return told(rt, &ReplayFault::Memory);
     }
-    let _ = refusal.print(rt);
-    if refusal.use_stderr() { 2 } else { 0 }
+    let printed = refusal.print(rt);
+    if refusal.use_stderr() {
+        return 2;
+    }
+    match printed {
+        Ok(()) => 0,
+        Err(_) => told(rt, &ReplayFault::Write),
+    }
 }

@@ -2,7 +2,7 @@
 use Rattle.std.proofs.Common.{refl, arith, subst, ◌<◌, ◌+◌, ◌∙◌, ℕ, List, inl, Err}
 use Rattle.csv.specs.Records.{fields_of}
 use Rattle.pfs_cli.specs.Turns.{WritesLine}
-use Rattle.pfs_cli.proofs.Telling.{so_far-start, so_far-more, ends-source, ends-end, ends-limit, ends-record, TakesRecord-rules}
+use Rattle.pfs_cli.proofs.Telling.{so_far-start, so_far-more, ends-source, ends-end, ends-limit, ends-record, failed-read, TakesRecord-rules}
 use Rattle.pfs_cli.proofs.records.tell_rows.Goals as goal
 
 pub loop-rows-init : goal.loop-rows-init
@@ -10,6 +10,7 @@ loop-rows-init g c = record {
   plain = c.requires.plain;
   ready = c.requires.ready;
   config = c.requires.config;
+  flexible = c.requires.flexible;
   rules = refl;
   within = omega arith;
   taken = omega (arith, c.requires.taken);
@@ -27,6 +28,7 @@ loop-rows-preserved g c =
       plain = r.3 ∙ inv.plain;
       ready = inl (c.in-Ok-true.ensures.ready inv.plain);
       config = r.2 ∙ inv.config;
+      flexible = c.in-Ok-true.ensures.flexible ∙ inv.flexible;
       rules = c.in-Ok.ensures.config ∙ inv.rules;
       within = omega arith;
       taken = omega (arith, inv.taken, c.in-Ok.ensures.taken);
@@ -37,6 +39,11 @@ loop-rows-preserved g c =
 pub returns-in-Err-clause-tells : goal.returns-in-Err-clause-tells
 returns-in-Err-clause-tells g c xs s =
     ends-source g.S.Read.remaining c.args.engine.now.config _ _ _ c.loop-rows.rows c.loop-rows.engine.machine c.loop-rows.reader (c.loop-rows.invariant.so_far xs s)
+
+pub returns-in-Err-clause-source : goal.returns-in-Err-clause-source
+returns-in-Err-clause-source g c is =
+    let inv = c.loop-rows.invariant in
+    c.in-Err.ensures.fails ∙ failed-read g.S.Read.remaining c.loop-rows.reader c.read_byte_record.new.self _ inv.flexible (c.in-Err.ensures.why inv.ready)
 
 pub returns-in-Ok-false-clause-tells : goal.returns-in-Ok-false-clause-tells
 returns-in-Ok-false-clause-tells g c xs s =

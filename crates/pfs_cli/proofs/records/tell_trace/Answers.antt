@@ -5,7 +5,7 @@ use Rattle.csv.specs.Records.{fields_of}
 use Rattle.pfs_cli_formats.specs.Traces.{events_of}
 use Rattle.pfs_cli_formats.specs.Reading.{records_left}
 use Rattle.pfs_cli_formats.specs.Events.{is_header}
-use Rattle.pfs_cli.proofs.Telling.{Appends-nothing, ends-other, ends-empty, no-lines, trace-rest}
+use Rattle.pfs_cli.proofs.Telling.{Appends-nothing, ends-other, ends-empty, failed-read, no-lines, trace-rest}
 use Rattle.pfs_cli.proofs.records.tell_trace.Goals as goal
 
 pub returns-in-Ok-false-clause-tells : goal.returns-in-Ok-false-clause-tells
@@ -15,6 +15,10 @@ returns-in-Ok-false-clause-tells g c xs s =
 
 pub returns-in-Err-clause-tells : goal.returns-in-Err-clause-tells
 returns-in-Err-clause-tells g c xs s = ([], Appends-nothing _, no-lines c.args.engine.now.config (events_of c.args.engine.now.config (records_left default_config (reader_state c.args.reader.now) xs)))
+
+pub returns-in-Err-clause-source : goal.returns-in-Err-clause-source
+returns-in-Err-clause-source g c is =
+    c.in-Err.ensures.fails ∙ failed-read g.S.Read.remaining c.args.reader.now c.read_byte_record.new.self _ c.requires.flexible (c.in-Err.ensures.why c.requires.ready)
 
 pub returns-then-not-has_columns-clause-tells : goal.returns-then-not-has_columns-clause-tells
 returns-then-not-has_columns-clause-tells g c xs s =
