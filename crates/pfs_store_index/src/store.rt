@@ -1,7 +1,10 @@
 //! A store by indexes.
 
-ghost use Rattle.std.specs.Prelude.{◌≡◌, IfOk, true};
-ghost use Rattle.pfs_store_contract.specs.Worlds.{empty_world};
+ghost use Rattle.std.specs.Prelude.{◌≡◌, ◌+◌, ◌<◌, IfOk, IsSome, None, OnErr, OnOk, true};
+ghost use Rattle.pfs_addr_values.specs.Keys.{key_of};
+ghost use Rattle.pfs_conf_values.specs.Configs.{options_at};
+ghost use Rattle.pfs_store_contract.specs.Admission.{admitted};
+ghost use Rattle.pfs_store_contract.specs.Worlds.{empty_world, state_with};
 
 use crate::expiring::counted_rules;
 use crate::flushing::flush;
@@ -92,6 +95,39 @@ impl<S: BuildHasher> IndexStore<S> {
     }
 }
 
+impl<S: BuildHasher> IndexStore<S> {
+    // Makes the state of a packet at a rule, and with it the node of its source where it has none, whatever limits they meet.
+    fn make(&mut self, packet: &Packet, rule: RuleNo, now: u64) -> Result<StateNo, NoMemory>
+        requires fresh { state_with (key_of packet.now) self.old.world ≡ None }
+        requires keeps { IsSome (options_at self.old.config rule.0) }
+        requires room { self.old.world.made < 1000000000 }
+        ensures number { IfOk result (λ n. n.0 ≡ self.old.world.made + 1) }
+        ensures ok { OnOk result (self.new.world ≡ admitted self.old.config self.old.world packet.now rule.0 now) }
+        ensures err { OnErr result (self.new.world ≡ self.old.world) }
+        ensures config { self.new.config ≡ self.old.config }
+    {
+        let source = packet.src();
+        let _count = self.indexes.state_count();
+        let number = self.made + 1;
+        let state = State {
+            number,
+            key: FlowKey::of(packet),
+            dir: packet.dir(),
+            source,
+            rule,
+            phase: StatePhase::first(packet.proto()),
+            last: now,
+        };
+        match self.indexes.put(state) {
+            Ok(()) => {
+                self.made = number;
+                Ok(StateNo(number))
+            }
+            Err(_) => Err(NoMemory),
+        }
+    }
+}
+
 impl<S: BuildHasher> Store for IndexStore<S> {
     ghost world = { λ s. s.world };
 
@@ -133,27 +169,12 @@ impl<S: BuildHasher> Store for IndexStore<S> {
         rule: RuleNo,
         now: u64,
     ) -> Result<Result<StateNo, Limit>, NoMemory> {
-        let source = packet.src();
-        if let Some(limit) = limit_met(&self.indexes, rule, source) {
-            return Ok(Err(limit));
-        }
-        let _count = self.indexes.state_count();
-        let number = self.made + 1;
-        let state = State {
-            number,
-            key: FlowKey::of(packet),
-            dir: packet.dir(),
-            source,
-            rule,
-            phase: StatePhase::first(packet.proto()),
-            last: now,
-        };
-        match self.indexes.put(state) {
-            Ok(()) => {
-                self.made = number;
-                Ok(Ok(StateNo(number)))
-            }
-            Err(_) => Err(NoMemory),
+        match limit_met(&self.indexes, rule, packet.src()) {
+            Some(limit) => Ok(Err(limit)),
+            None => match self.make(packet, rule, now) {
+                Ok(number) => Ok(Ok(number)),
+                Err(refused) => Err(refused),
+            },
         }
     }
 
