@@ -35,6 +35,8 @@ mod configurations;
 #[cfg(test)]
 mod faults;
 #[cfg(test)]
+mod hashing;
+#[cfg(test)]
 mod packets;
 #[cfg(test)]
 mod parameters;
