@@ -16,11 +16,11 @@ use crate::purging::{
 };
 use crate::rounds::Round;
 use pfs_addr_values::{Addr, FlowKey, Meter, NoMemory, Packet};
-use pfs_conf_values::{Config, LimitName, RuleNo};
+use pfs_conf_values::{Config, LimitName, RuleNo, RulesHasher};
 use pfs_store_contract::{Limit, Slice, State, StateNo, Store, Touched, Watched};
 use pfs_track::StatePhase;
 use std::alloc::Global;
-use std::hash::{BuildHasher, BuildHasherDefault, FoldHasher};
+use std::hash::BuildHasher;
 use std::marker::Model;
 
 /// A store that finds states by their keys, by their numbers and by their sources, and source nodes by scope and source. The
@@ -29,7 +29,7 @@ use std::marker::Model;
 ///
 /// Clauses see a `Plain`: the configuration that it was made for, and its world.
 #[derive(Drop)]
-pub struct IndexStore<S: BuildHasher> {
+pub struct IndexStore<S: BuildHasher = RulesHasher> {
     indexes: Indexes<S>,
     made: u64,
     states_round: Round,
@@ -53,27 +53,21 @@ impl<S: BuildHasher> Model for IndexStore<S> {
         IsStored s.indexes s.states_round.cursor s.states_round.mark s.nodes_round.cursor s.nodes_round.mark s.made (length s.counts.items) };
 }
 
-impl IndexStore<BuildHasherDefault<FoldHasher>> {
-    /// An empty store, made for this configuration, of which it keeps a copy. Its hashes have a fixed seed. `NoMemory` where
+impl IndexStore {
+    /// An empty store, made for this configuration, of which it keeps a copy. Both its hashes, of keys and of source nodes, begin
+    /// with all that the configuration says, so who does not know it cannot choose keys that fall together. `NoMemory` where
     /// memory for the copy is refused.
-    pub fn new(
-        alloc: Global,
-        config: &Config,
-    ) -> Result<IndexStore<BuildHasherDefault<FoldHasher>>, NoMemory>
+    pub fn new(alloc: Global, config: &Config) -> Result<IndexStore, NoMemory>
         ensures { IfOk result (λ s. s ≡ record { config = config.now; world = empty_world }) }
     {
-        IndexStore::with_hashers(
-            alloc,
-            config,
-            BuildHasherDefault::new(),
-            BuildHasherDefault::new(),
-        )
+        let hasher = RulesHasher::of_config(config);
+        IndexStore::with_hashers(alloc, config, hasher, hasher)
     }
 }
 
 impl<S: BuildHasher> IndexStore<S> {
-    /// An empty store as `new` makes it, whose index by key hashes with the first of these, and that of the source nodes with
-    /// the second: a random seed keeps who chooses keys from making them collide.
+    /// An empty store as `new` makes it, but for its hashers: the index by key has the first of these, and that of the source
+    /// nodes the second.
     pub fn with_hashers(
         alloc: Global,
         config: &Config,
