@@ -32,11 +32,38 @@ loop-stayed-preserved g c =
       share = omega arith;
     }
 
-pub returns-clause-passing : goal.returns-clause-passing
-returns-clause-passing g c =
+pub returns-in_default-clause-passing : goal.returns-in_default-clause-passing
+returns-in_default-clause-passing g c =
     is-passing number_of_node place_of_node (is_past c.args.config.now c.args.now) (get same_place c.args.table.now) c.args.order.now.entries c.loop-stayed.rest c.args.round.cursor c.loop-stayed.last c.args.round.mark c.args.share c.loop-stayed.stayed
     c.requires.kept c.loop-stayed.invariant.walking c.loop-stayed.invariant.share
 
-pub returns-clause-until : goal.returns-clause-until
-returns-clause-until g c =
+pub returns-in_default-clause-until : goal.returns-in_default-clause-until
+returns-in_default-clause-until g c =
+    each-value number_of_node place_of_node (IsKeptUntil c.args.config.now c.loop-stayed.until) (get same_place c.args.table.now) c.args.round.cursor c.loop-stayed.last c.args.order.now.entries c.requires.kept.placed c.loop-stayed.invariant.until
+
+pub returns-in_default-get-clause-passing : goal.returns-in_default-get-clause-passing
+returns-in_default-get-clause-passing g c =
+    is-passing number_of_node place_of_node (is_past c.args.config.now c.args.now) (get same_place c.args.table.now) c.args.order.now.entries c.loop-stayed.rest c.args.round.cursor c.loop-stayed.last c.args.round.mark c.args.share c.loop-stayed.stayed
+    c.requires.kept c.loop-stayed.invariant.walking c.loop-stayed.invariant.share
+
+pub returns-in_default-get-clause-until : goal.returns-in_default-get-clause-until
+returns-in_default-get-clause-until g c =
+    each-value number_of_node place_of_node (IsKeptUntil c.args.config.now c.loop-stayed.until) (get same_place c.args.table.now) c.args.round.cursor c.loop-stayed.last c.args.order.now.entries c.requires.kept.placed c.loop-stayed.invariant.until
+
+pub returns-then-is_over-clause-passing : goal.returns-then-is_over-clause-passing
+returns-then-is_over-clause-passing g c =
+    is-passing number_of_node place_of_node (is_past c.args.config.now c.args.now) (get same_place c.args.table.now) c.args.order.now.entries c.loop-stayed.rest c.args.round.cursor c.loop-stayed.last c.args.round.mark c.args.share c.loop-stayed.stayed
+    c.requires.kept c.loop-stayed.invariant.walking c.loop-stayed.invariant.share
+
+pub returns-then-is_over-clause-until : goal.returns-then-is_over-clause-until
+returns-then-is_over-clause-until g c =
+    each-value number_of_node place_of_node (IsKeptUntil c.args.config.now c.loop-stayed.until) (get same_place c.args.table.now) c.args.round.cursor c.loop-stayed.last c.args.order.now.entries c.requires.kept.placed c.loop-stayed.invariant.until
+
+pub returns-after-loop-stayed-clause-passing : goal.returns-after-loop-stayed-clause-passing
+returns-after-loop-stayed-clause-passing g c =
+    is-passing number_of_node place_of_node (is_past c.args.config.now c.args.now) (get same_place c.args.table.now) c.args.order.now.entries c.loop-stayed.rest c.args.round.cursor c.loop-stayed.last c.args.round.mark c.args.share c.loop-stayed.stayed
+    c.requires.kept c.loop-stayed.invariant.walking c.loop-stayed.invariant.share
+
+pub returns-after-loop-stayed-clause-until : goal.returns-after-loop-stayed-clause-until
+returns-after-loop-stayed-clause-until g c =
     each-value number_of_node place_of_node (IsKeptUntil c.args.config.now c.loop-stayed.until) (get same_place c.args.table.now) c.args.round.cursor c.loop-stayed.last c.args.order.now.entries c.requires.kept.placed c.loop-stayed.invariant.until

@@ -11,39 +11,19 @@ use Rattle.pfs_store_index.proofs.Stretches.{passing-all, passing-fewer, passing
 use Rattle.pfs_store_index.proofs.Untils.{hold-between, node-more, over-none}
 use Rattle.pfs_store_index.proofs.purging.examine_nodes.Goals as goal
 
-pub returns-then-stayed-eqshare-clause-nodes : goal.returns-then-stayed-eqshare-clause-nodes
-returns-then-stayed-eqshare-clause-nodes g c =
+pub returns-then-passed-share-clause-nodes : goal.returns-then-passed-share-clause-nodes
+returns-then-passed-share-clause-nodes g c =
     let k = c.pass_nodes-passed.result in
     passing-stays node_number (is_over c.args.indexes.now.config c.args.indexes.now.states c.args.now) c.args.round.cursor c.args.round.mark c.args.share k.stayed k.last c.args.indexes.now.nodes c.pass_nodes-passed.ensures.passing
 
-pub returns-then-stayed-eqshare-clause-waiting : goal.returns-then-stayed-eqshare-clause-waiting
-returns-then-stayed-eqshare-clause-waiting g c = c.pass_nodes-passed.ensures.passing.rest
-
-pub returns-then-stayed-eqshare-clause-order : goal.returns-then-stayed-eqshare-clause-order
-returns-then-stayed-eqshare-clause-order g c = c.pass_nodes-passed.ensures.passing.to
-
-pub returns-then-stayed-eqshare-clause-within : goal.returns-then-stayed-eqshare-clause-within
-returns-then-stayed-eqshare-clause-within g c =
-    let k = c.pass_nodes-passed.result in
-    passing-fewer node_number (is_over c.args.indexes.now.config c.args.indexes.now.states c.args.now) c.args.round.cursor c.args.round.mark c.args.share k.stayed k.last c.args.indexes.now.nodes c.pass_nodes-passed.ensures.passing
-
-pub returns-then-stayed-eqshare-clause-share : goal.returns-then-stayed-eqshare-clause-share
-returns-then-stayed-eqshare-clause-share g c = omega (arith, c.pass_nodes-passed.ensures.passing.within)
-
-pub returns-then-stayed-eqshare-clause-until : goal.returns-then-stayed-eqshare-clause-until
-returns-then-stayed-eqshare-clause-until g c =
+pub returns-then-passed-share-clause-until : goal.returns-then-passed-share-clause-until
+returns-then-passed-share-clause-until g c =
     let k = c.pass_nodes-passed.result in
     let conf = c.args.indexes.now.config in
     let xs = c.args.indexes.now.states in
     let ns = c.args.indexes.now.nodes in
     subst (λ ks. NodesHold conf xs ks k.until ns) c.pass_nodes-passed.ensures.passing.passed
     (hold-between node_number (NodeStays conf xs) c.args.round.cursor k.last k.until (node_numbers ns) ns c.pass_nodes-passed.ensures.until)
-
-pub returns-then-stayed-eqshare-clause-ends : goal.returns-then-stayed-eqshare-clause-ends
-returns-then-stayed-eqshare-clause-ends g c = λ _.
-    let k = c.pass_nodes-passed.result in
-    passing-all node_number (is_over c.args.indexes.now.config c.args.indexes.now.states c.args.now) c.args.round.cursor c.args.round.mark c.args.share k.stayed k.last c.args.indexes.now.nodes c.pass_nodes-passed.ensures.passing
-    (λ l. absurd (omega (arith, l)))
 
 pub returns-in-Some-clause-nodes : goal.returns-in-Some-clause-nodes
 returns-in-Some-clause-nodes g c =
@@ -103,20 +83,6 @@ pub returns-in-None-clause-nodes : goal.returns-in-None-clause-nodes
 returns-in-None-clause-nodes g c =
     let k = c.pass_nodes-passed.result in
     passing-stays node_number (is_over c.args.indexes.now.config c.args.indexes.now.states c.args.now) c.args.round.cursor c.args.round.mark c.args.share k.stayed k.last c.args.indexes.now.nodes c.pass_nodes-passed.ensures.passing
-
-pub returns-in-None-clause-waiting : goal.returns-in-None-clause-waiting
-returns-in-None-clause-waiting g c = c.pass_nodes-passed.ensures.passing.rest
-
-pub returns-in-None-clause-order : goal.returns-in-None-clause-order
-returns-in-None-clause-order g c = c.pass_nodes-passed.ensures.passing.to
-
-pub returns-in-None-clause-within : goal.returns-in-None-clause-within
-returns-in-None-clause-within g c =
-    let k = c.pass_nodes-passed.result in
-    passing-fewer node_number (is_over c.args.indexes.now.config c.args.indexes.now.states c.args.now) c.args.round.cursor c.args.round.mark c.args.share k.stayed k.last c.args.indexes.now.nodes c.pass_nodes-passed.ensures.passing
-
-pub returns-in-None-clause-share : goal.returns-in-None-clause-share
-returns-in-None-clause-share g c = omega (arith, c.pass_nodes-passed.ensures.passing.within)
 
 pub returns-in-None-clause-until : goal.returns-in-None-clause-until
 returns-in-None-clause-until g c =
