@@ -1,17 +1,15 @@
 -- A walk by nodes that stay: of the entries in a range, of their tallies, and of their nodes.
-use Rattle.std.proofs.Common.{◌≡◌, ◌∙◌, ◌+◌, ◌==◌, ◌&&◌, ◌≤◌, ℕ, Bool, true, false, Option, Some, List, [], ◌∷◌, ◌++◌, length, map, filter, min, nat_le, ap, sym, subst, arith}
+use Rattle.std.proofs.Common.{◌≡◌, ◌∙◌, ◌+◌, ◌==◌, ◌&&◌, ◌≤◌, ℕ, Bool, true, false, Option, Some, List, [], ◌∷◌, ◌++◌, length, map, filter, nat_le, ap, sym, subst, arith}
 use Rattle.std.specs.List.{AllByRecursion}
 use Rattle.std.specs.List.Sorted.{IsStrictlySortedBy}
 use Rattle.std.specs.Map.{keys_of}
 use Rattle.std.specs.Ordering.{nat_cmp}
-use Rattle.pfs_addr_values.specs.declared.addresses.Addr.{Addr}
 use Rattle.pfs_conf_values.specs.Configs.{Conf}
 use Rattle.pfs_store_contract.specs.Purging.{is_over, node_retention}
 use Rattle.pfs_store_contract.specs.Quiet.{NodeStays}
 use Rattle.pfs_store_contract.specs.declared.records.Node.{Node}
-use Rattle.pfs_store_contract.specs.declared.records.NodeScope.{NodeScope}
 use Rattle.pfs_store_contract.specs.declared.records.State.{State}
-use Rattle.pfs_store_index.specs.Keeping.{AreInPlace, IsPlaced, held, number_of_node, place_of_node}
+use Rattle.pfs_store_index.specs.Keeping.{AreInPlace, IsPlaced, held, number_of_node}
 use Rattle.pfs_store_index.specs.Records.{between}
 use Rattle.pfs_store_index.specs.Staying.{IsKeptUntil, is_past}
 use Rattle.pfs_store_index.specs.Tallies.{nodes_of}

@@ -1,13 +1,12 @@
 -- Answers of examine_nodes: those that stay, one after another, and then one that is examined by itself, or none.
-use Rattle.std.proofs.Common.{◌≡◌, ◌∙◌, ◌+◌, ◌<◌, List, Some, None, [], slice_get, option_map, sym, ap, subst, filter, take, length, arith, length-take}
+use Rattle.std.proofs.Common.{◌∙◌, ◌+◌, sym, ap, subst, take, arith, length-take}
 use Rattle.pfs_store_contract.specs.Purging.{is_over, node_numbers}
 use Rattle.pfs_store_contract.specs.Quiet.{NodeStays}
-use Rattle.pfs_store_index.specs.declared.nodes.Tally.{Tally}
-use Rattle.pfs_store_index.specs.Rounds.{node_survives, waiting}
+use Rattle.pfs_store_index.specs.Rounds.{waiting}
 use Rattle.pfs_store_index.specs.Staying.{NodesHold}
 use Rattle.pfs_store_index.proofs.Idling.{node_number}
 use Rattle.pfs_store_index.proofs.RisingWalks.{all-in, all-next, at_next, step-stays}
-use Rattle.pfs_store_index.proofs.Stretches.{passing-all, passing-fewer, passing-stays}
+use Rattle.pfs_store_index.proofs.Stretches.{passing-all, passing-stays}
 use Rattle.pfs_store_index.proofs.Untils.{hold-between, node-more, over-none}
 use Rattle.pfs_store_index.proofs.purging.examine_nodes.Goals as goal
 

@@ -1,5 +1,5 @@
 -- Answers of walk_nodes: one stretch more, and at the end that the share was examined and which nodes stay.
-use Rattle.std.proofs.Common.{◌≡◌, ◌∙◌, ◌+◌, ◌-◌, List, refl, ap, subst, filter, length, take, arith, length-take, length-drop}
+use Rattle.std.proofs.Common.{◌≡◌, ◌∙◌, ◌-◌, List, refl, ap, subst, filter, length, take, arith, length-take, length-drop}
 use Rattle.pfs_conf_values.specs.Configs.{Conf}
 use Rattle.pfs_store_contract.specs.Purging.{is_over, node_numbers, node_stays}
 use Rattle.pfs_store_contract.specs.Quiet.{NodeStays}
