@@ -14,11 +14,10 @@ use pfs_store::{IndexStore, PlainStore, Store};
 use std::alloc::Global;
 use std::env;
 use std::fs::File;
-use std::hash::{BuildHasherDefault, FoldHasher};
 use std::io::{self, BufWriter, Read, Write};
 use std::process::ExitCode;
 
-type Indexed = IndexStore<BuildHasherDefault<FoldHasher>>;
+type Indexed = IndexStore;
 
 /// Why a comparison stops.
 #[derive(Clone, Copy, Debug)]

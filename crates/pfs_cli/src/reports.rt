@@ -15,11 +15,10 @@ use pfs_engine::Engine;
 use pfs_store_contract::Store;
 use pfs_store_index::IndexStore;
 use std::alloc::Global;
-use std::hash::{BuildHasherDefault, FoldHasher};
 use std::io::{Read, Write};
 
 /// The store of a replay; here alone is it said what kind it is.
-type TraceStore = IndexStore<BuildHasherDefault<FoldHasher>>;
+type TraceStore = IndexStore;
 
 /// Reads the trace of `source`, and writes its report under a configuration: the line of each record
 /// before the next is read, and the last line, with what is held. Nothing is flushed. What is held is kept in an empty store

@@ -6,6 +6,7 @@ mod Meetings
 mod NodeLaws
 mod OneNode
 mod Ordered
+mod Passing
 mod RecordLaws
 mod Removals
 mod Renewing

@@ -1,12 +1,12 @@
 -- A stretch of a slice: states that stay, one after another, and then one that leaves.
-use Rattle.std.proofs.Common.{◌≡◌, ◌∙◌, ◌+◌, ◌-◌, ◌<◌, ◌≤◌, ◌==◌, ◌&&◌, ◌||◌, ℕ, Bool, true, false, not, if◌then◌else◌, Option, Some, None, List, [], ◌∷◌, ◌++◌, length, filter, take, drop, nat_lt, refl, ap, sym, subst, arith, length-take, length-drop, take-add, drop-drop}
+use Rattle.std.proofs.Common.{◌≡◌, ◌∙◌, ◌+◌, ◌-◌, ◌<◌, ◌≤◌, ◌==◌, ◌&&◌, ◌||◌, ℕ, Bool, true, false, not, if◌then◌else◌, Option, Some, None, List, [], ◌∷◌, ◌++◌, length, map, filter, take, drop, nat_lt, refl, ap, sym, subst, arith, length-take, length-drop, take-add, drop-drop}
 use Rattle.std.specs.List.{AllByRecursion}
 use Rattle.std.proofs.lemmas.Bool.Decides.{nat_tests}
 use Rattle.pfs_store_contract.specs.Calls.{other_than}
 use Rattle.pfs_store_contract.specs.Purging.{is_among, state_numbers}
 use Rattle.pfs_store_contract.specs.declared.records.State.{State}
 use Rattle.pfs_store_index.specs.Records.{between}
-use Rattle.pfs_store_index.specs.Walks.{IsLeaver, IsNext, IsWalk}
+use Rattle.pfs_store_index.specs.Walks.{IsLeaver, IsNext, IsPassing, IsWalk}
 use Rattle.pfs_store_index.specs.Rounds.{waiting}
 use Rattle.pfs_store_index.proofs.Leavings.{state_number}
 use Rattle.pfs_store_index.proofs.RisingWalks.{IsRisingBy, all-in, all-next, at_next, filter-twice, same_number, stay_more, stays_by, step-stays, survive-removed, survives}
@@ -22,17 +22,17 @@ among-between a l k (n ∷ ns) h = go (among-between a l k ns) (between a l n) r
     go more true t false e = more (rw (t, e) at h)
     go more false t c e = more (rw t at h)
 
-passed-stay : (leaves : State → Bool) (a l : ℕ) (ns : List ℕ) (xs : List State) → AllByRecursion (λ (x : State). between a l x.number ≡ true → leaves x ≡ false) xs
-    → xs ≡ filter (stays_by state_number leaves (filter (between a l) ns)) xs
-passed-stay leaves a l ns [] h = refl
-passed-stay leaves a l ns (x ∷ xs) (h, hs) = (λ i. if sym kept i then x ∷ passed-stay leaves a l ns xs hs i else passed-stay leaves a l ns xs hs i)
+passed-stay : {X : Type 0} (number : X → ℕ) (leaves : X → Bool) (a l : ℕ) (ns : List ℕ) (xs : List X) → AllByRecursion (λ (x : X). between a l (number x) ≡ true → leaves x ≡ false) xs
+    → xs ≡ filter (stays_by number leaves (filter (between a l) ns)) xs
+passed-stay number leaves a l ns [] h = refl
+passed-stay number leaves a l ns (x ∷ xs) (h, hs) = (λ i. if sym kept i then x ∷ passed-stay number leaves a l ns xs hs i else passed-stay number leaves a l ns xs hs i)
   where
-    go : (b : Bool) → is_among (filter (between a l) ns) x.number ≡ b → not (b && leaves x) ≡ true
-    go true e = ap not (h (among-between a l x.number ns e))
+    go : (b : Bool) → is_among (filter (between a l) ns) (number x) ≡ b → not (b && leaves x) ≡ true
+    go true e = ap not (h (among-between a l (number x) ns e))
     go false e = refl
 
-    kept : not (is_among (filter (between a l) ns) x.number && leaves x) ≡ true
-    kept = go (is_among (filter (between a l) ns) x.number) refl
+    kept : not (is_among (filter (between a l) ns) (number x) && leaves x) ≡ true
+    kept = go (is_among (filter (between a l) ns) (number x)) refl
 
 -- ---- one stretch
 
@@ -46,7 +46,7 @@ pub record IsStretch (leaves : State → Bool) (above most cursor examined : ℕ
 pub stretch-stays : (leaves : State → Bool) (above most share stayed last : ℕ) (o : Option State) (xs : List State) → o ≡ None
     → IsWalk leaves xs above most share stayed last o → IsStretch leaves above most last stayed xs xs
 stretch-stays leaves above most share stayed last o xs q w = record {
-  stay = passed-stay leaves above last (state_numbers xs) xs w.stay ∙ ap (λ zs. filter (stays_by state_number leaves zs) xs) w.passed;
+  stay = passed-stay state_number leaves above last (state_numbers xs) xs w.stay ∙ ap (λ zs. filter (stays_by state_number leaves zs) xs) w.passed;
   rest = w.rest;
   to = w.to;
 }
@@ -59,7 +59,7 @@ stretch-leaves leaves above most share stayed last o s xs xs' q r w e =
     let ws = waiting above most (state_numbers xs) in
     let n : IsNext leaves xs last most stayed share s = subst (IsLeaver leaves xs last most stayed share) q w.leaver in
     let before : xs ≡ filter (stays_by state_number leaves (take stayed ws)) xs =
-    passed-stay leaves above last (state_numbers xs) xs w.stay ∙ ap (λ zs. filter (stays_by state_number leaves zs) xs) w.passed in
+    passed-stay state_number leaves above last (state_numbers xs) xs w.stay ∙ ap (λ zs. filter (stays_by state_number leaves zs) xs) w.passed in
     let x = at_next stayed s.number ws (waiting last most (state_numbers xs)) w.rest n.next in
     let f : xs' ≡ filter (survives state_number leaves s.number) xs = e ∙ survive-removed state_number leaves s.number s xs r n.found n.passes in
     record {
@@ -96,6 +96,19 @@ all-passed leaves above most share stayed last o xs q w =
     (passed_fewer stayed (waiting above last (state_numbers xs)) (waiting above most (state_numbers xs)) w.count w.passed) w.rest
     (subst (IsLeaver leaves xs last most stayed share) q w.leaver)
 
+-- ---- a walk by those that stay
+
+module _ {X : Type 0} (number : X → ℕ) (leaves : X → Bool) (above most share stayed last : ℕ) (xs : List X) (w : IsPassing number leaves xs above most share stayed last) where
+  pub passing-stays : xs ≡ filter (stays_by number leaves (take stayed (waiting above most (map number xs)))) xs
+  passing-stays = passed-stay number leaves above last (map number xs) xs w.stay ∙ ap (λ zs. filter (stays_by number leaves zs) xs) w.passed
+
+  pub passing-fewer : stayed ≤ length (waiting above most (map number xs))
+  passing-fewer = passed_fewer stayed (waiting above last (map number xs)) (waiting above most (map number xs)) w.count w.passed
+
+  -- where none waits behind it, all that the share allows are passed by
+  pub passing-all : (stayed < share → waiting last most (map number xs) ≡ []) → stayed ≡ length (take share (waiting above most (map number xs)))
+  passing-all h = all_passed share stayed (waiting above most (map number xs)) (waiting last most (map number xs)) w.within passing-fewer w.rest h
+
 -- ---- one stretch after another
 
 pub among-append : (xs ys : List ℕ) (k : ℕ) → is_among (xs ++ ys) k ≡ (is_among xs k || is_among ys k)
@@ -106,17 +119,17 @@ among-append (x ∷ xs) ys k = go (x == k) (among-append xs ys k)
     go true h = refl
     go false h = h
 
-stays-append : (leaves : State → Bool) (ns ms : List ℕ) (xs : List State)
-    → filter (stays_by state_number leaves ms) (filter (stays_by state_number leaves ns) xs) ≡ filter (stays_by state_number leaves (ns ++ ms)) xs
-stays-append leaves ns ms xs =
-    filter-twice (stays_by state_number leaves ms) (stays_by state_number leaves ns) (stays_by state_number leaves (ns ++ ms))
-    (λ (x : State). stay_more (is_among ns x.number) (is_among ms x.number) (leaves x) ∙ ap (λ b. not (b && leaves x)) (sym (among-append ns ms x.number))) xs
+stays-append : {X : Type 0} (number : X → ℕ) (leaves : X → Bool) (ns ms : List ℕ) (xs : List X)
+    → filter (stays_by number leaves ms) (filter (stays_by number leaves ns) xs) ≡ filter (stays_by number leaves (ns ++ ms)) xs
+stays-append number leaves ns ms xs =
+    filter-twice (stays_by number leaves ms) (stays_by number leaves ns) (stays_by number leaves (ns ++ ms))
+    (λ x. stay_more (is_among ns (number x)) (is_among ms (number x)) (leaves x) ∙ ap (λ b. not (b && leaves x)) (sym (among-append ns ms (number x)))) xs
 
-pub stretch-more : (leaves : State → Bool) (i j : ℕ) (ws zs : List ℕ) (xs0 xs xs' : List State) → xs ≡ filter (stays_by state_number leaves (take i ws)) xs0
-    → zs ≡ drop i ws → xs' ≡ filter (stays_by state_number leaves (take j zs)) xs → xs' ≡ filter (stays_by state_number leaves (take (i + j) ws)) xs0
-stretch-more leaves i j ws zs xs0 xs xs' e d e' =
-    e' ∙ (λ k. filter (stays_by state_number leaves (take j (d k))) (e k)) ∙ stays-append leaves (take i ws) (take j (drop i ws)) xs0
-    ∙ ap (λ ns. filter (stays_by state_number leaves ns) xs0) (sym (take-add i j ws))
+pub stretch-more : {X : Type 0} (number : X → ℕ) (leaves : X → Bool) (i j : ℕ) (ws zs : List ℕ) (xs0 xs xs' : List X) → xs ≡ filter (stays_by number leaves (take i ws)) xs0
+    → zs ≡ drop i ws → xs' ≡ filter (stays_by number leaves (take j zs)) xs → xs' ≡ filter (stays_by number leaves (take (i + j) ws)) xs0
+stretch-more number leaves i j ws zs xs0 xs xs' e d e' =
+    e' ∙ (λ k. filter (stays_by number leaves (take j (d k))) (e k)) ∙ stays-append number leaves (take i ws) (take j (drop i ws)) xs0
+    ∙ ap (λ ns. filter (stays_by number leaves ns) xs0) (sym (take-add i j ws))
 
 pub rest-more : (i j : ℕ) (ws zs rest : List ℕ) → zs ≡ drop i ws → rest ≡ drop j zs → rest ≡ drop (i + j) ws
 rest-more i j ws zs rest d e = e ∙ ap (drop j) d ∙ drop-drop j i ws

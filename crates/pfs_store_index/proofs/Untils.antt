@@ -69,6 +69,11 @@ module _ {X : Type 0} (number : X → ℕ) (Stays : ℕ → X → Type 0) where
       go true e = e
       go false e = e
 
+  -- those that were passed by
+  pub hold-between : (above last until : ℕ) (ns : List ℕ) (xs : List X) → AllByRecursion (λ x. between above last (number x) ≡ true → Stays until x) xs → Hold (filter (between above last) ns) until xs
+  hold-between above last until ns [] h = tt
+  hold-between above last until ns (x ∷ xs) (h, hs) = ((λ e. h (among-between above last (number x) ns e)), hold-between above last until ns xs hs)
+
   -- those of two stretches
   pub hold-both : ((u v : ℕ) (x : X) → v ≤ u → Stays u x → Stays v x) → (a b : List ℕ) (u v : ℕ) (xs : List X) → Hold a u xs → Hold b v xs → Hold (a ++ b) (min u v) xs
   hold-both lower a b u v [] h k = tt
@@ -158,6 +163,17 @@ node-more conf states n u v r before after p xs xs' e t m h k =
     let b : NodesHold conf states (before ++ n ∷ []) (min u v) xs' =
     hold-both node_number (NodeStays conf states) (less_kept conf states) before (n ∷ []) u v xs' h' k' in
     subst (λ l. NodesHold conf states after l xs') (sym m) (subst (λ ns. NodesHold conf states ns (min u v) xs') (sym t) b)
+
+-- one stretch after another
+pub nodes-more : (conf : Conf) (states : List State) (i j u v r : ℕ) (ws zs : List ℕ) (p : Node → Bool) (xs xs' : List Node) → zs ≡ drop i ws → xs' ≡ filter p xs → r ≡ min u v
+    → NodesHold conf states (take i ws) u xs → NodesHold conf states (take j zs) v xs' → NodesHold conf states (take (i + j) ws) r xs'
+nodes-more conf states i j u v r ws zs p xs xs' d e m h k =
+    let h' : NodesHold conf states (take i ws) u xs' =
+    subst (λ ys. NodesHold conf states (take i ws) u ys) (sym e) (hold-filter node_number (NodeStays conf states) p (take i ws) u xs h) in
+    let k' : NodesHold conf states (take j (drop i ws)) v xs' = subst (λ ys. NodesHold conf states (take j ys) v xs') d k in
+    let b : NodesHold conf states (take i ws ++ take j (drop i ws)) (min u v) xs' =
+    hold-both node_number (NodeStays conf states) (less_kept conf states) (take i ws) (take j (drop i ws)) u v xs' h' k' in
+    subst (λ n. NodesHold conf states (take (i + j) ws) n xs') (sym m) (subst (λ ns. NodesHold conf states ns (min u v) xs') (sym (take-add i j ws)) b)
 
 -- ---- the round is over
 

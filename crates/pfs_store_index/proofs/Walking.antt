@@ -63,7 +63,7 @@ raised : (l m : ℕ) (ks : List ℕ) → l < m → AllByRecursion (λ k. nat_cmp
 raised l m [] h d = tt
 raised l m (k ∷ ks) h (d, ds) = (less_through l m k h d, raised l m ks h ds)
 
-take-front : (xs ys : List ℕ) → take (length xs) (xs ++ ys) ≡ xs
+pub take-front : (xs ys : List ℕ) → take (length xs) (xs ++ ys) ≡ xs
 take-front [] ys = refl
 take-front (x ∷ xs) ys = ap (λ zs. x ∷ zs) (take-front xs ys)
 
@@ -284,7 +284,7 @@ until-more moment slab es rest above last most stayed until m k p st passes kept
 pub numbers-keys : (slab : Slab State) (es : List (ℕ × ℕ)) → AllByRecursion (IsPlaced number_in place_of_record (record_in slab)) es → state_numbers (states_of (held (record_in slab) es)) ≡ keys_of es
 numbers-keys slab es h = numbers-states (held (record_in slab) es) ∙ numbers-held number_in place_of_record (record_in slab) es h
 
-split-keys : (above last most : ℕ) (es : List (ℕ × ℕ)) → IsStrictlySortedBy nat_cmp (keys_of es) → above ≤ last → last ≤ most
+pub split-keys : {P : Type 0} (above last most : ℕ) (es : List (ℕ × P)) → IsStrictlySortedBy nat_cmp (keys_of es) → above ≤ last → last ≤ most
     → filter (between above most) (keys_of es) ≡ filter (between above last) (keys_of es) ++ filter (between last most) (keys_of es)
 split-keys above last most es o p q =
     sym (span-keys above most es) ∙ ap keys_of (split-span above last most es o p q) ∙ map-both (span above last es) (span last most es)

@@ -25,3 +25,6 @@ states_survive leaves examined s = not (is_among examined s.number && leaves s)
 
 abbrev pub node_survives : (Node → Bool) → ℕ → Node → Bool
 node_survives leaves n node = not ((n == node.number) && leaves node)
+
+abbrev pub nodes_survive : (Node → Bool) → List ℕ → Node → Bool
+nodes_survive leaves examined node = not (is_among examined node.number && leaves node)

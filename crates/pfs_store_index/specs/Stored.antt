@@ -1,5 +1,5 @@
 -- A store of what is held, and of two rounds of the purge, each of which is two numbers. (own)
-use Rattle.std.specs.Prelude.{ℕ, ◌≡◌, ◌≤◌, ◌+◌, Bool, false, if◌then◌else◌, is_some, List, length, slice_index}
+use Rattle.std.specs.Prelude.{ℕ, ◌≡◌, ◌≤◌, Bool, false, if◌then◌else◌, is_some, List, length, slice_index}
 use Rattle.std.specs.List.{AllByRecursion}
 use Rattle.pfs_conf_values.specs.Configs.{Conf, rule_timeout_of}
 use Rattle.pfs_conf_values.specs.declared.items.RuleNo.{RuleNo}

@@ -1,6 +1,6 @@
 -- A walk over the records in a range of numbers, from the least on: up to the first whose state passes a test, or to a share
 -- of them; the test is that it has expired. (own)
-use Rattle.std.specs.Prelude.{◌≡◌, ℕ, ◌+◌, ◌<◌, ◌≤◌, ◌==◌, Bool, true, false, Option, Some, None, List, [], filter, length, slice_get, take, drop}
+use Rattle.std.specs.Prelude.{◌≡◌, ℕ, ◌+◌, ◌<◌, ◌≤◌, ◌==◌, Bool, true, false, Option, Some, None, List, [], filter, length, map, slice_get, take, drop}
 use Rattle.std.specs.List.{AllByRecursion, find}
 use Rattle.pfs_conf_values.specs.declared.items.RuleNo.{RuleNo}
 use Rattle.pfs_conf_values.specs.declared.timeouts.TimeoutName.{TimeoutName}
@@ -29,6 +29,16 @@ pub record IsNext (test : State → Bool) (states : List State) (last most staye
 abbrev pub IsLeaver : (State → Bool) → List State → ℕ → ℕ → ℕ → ℕ → Option State → Type 0
 IsLeaver test states last most stayed share (Some s) = IsNext test states last most stayed share s
 IsLeaver test states last most stayed share None = stayed < share → filter (between last most) (state_numbers states) ≡ []
+
+-- a walk passed by so many elements, the last of them of this number, and none of them passes
+pub record IsPassing {X : Type 0} (number : X → ℕ) (test : X → Bool) (xs : List X) (above most share stayed last : ℕ) : Type 0 where
+  pub from : above ≤ last
+  pub to : last ≤ most
+  pub stay : AllByRecursion (λ (x : X). between above last (number x) ≡ true → test x ≡ false) xs
+  pub count : stayed ≡ length (filter (between above last) (map number xs))
+  pub passed : filter (between above last) (map number xs) ≡ take stayed (filter (between above most) (map number xs))
+  pub rest : filter (between last most) (map number xs) ≡ drop stayed (filter (between above most) (map number xs))
+  pub within : stayed ≤ share
 
 -- the walk passed by so many states, the last of them of this number, and none of them passes
 pub record IsWalk (test : State → Bool) (states : List State) (above most share stayed last : ℕ) (stopped : Option State) : Type 0 where

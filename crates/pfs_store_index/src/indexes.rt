@@ -9,19 +9,19 @@ ghost use Rattle.pfs_store_contract.specs.Counts.{has_node, node_scope_of, node_
 ghost use Rattle.pfs_store_contract.specs.Leaving.{idled};
 ghost use Rattle.pfs_store_contract.specs.Calls.{other_than, touch_of, state_number, state_rule};
 ghost use Rattle.pfs_store_contract.specs.Plain.{AreCounts};
-ghost use Rattle.pfs_store_contract.specs.Purging.{node_numbers, state_numbers};
-ghost use Rattle.pfs_store_contract.specs.Quiet.{turned};
+ghost use Rattle.pfs_store_contract.specs.Purging.{is_over, node_numbers, state_numbers};
+ghost use Rattle.pfs_store_contract.specs.Quiet.{NodeStays, turned};
 ghost use Rattle.pfs_store_contract.specs.Touching.{completes_at, nodes_touched, renewed};
 ghost use Rattle.pfs_store_contract.specs.Worlds.{IsUpToNow, holds_number, lists, state_with};
-ghost use Rattle.pfs_store_index.specs.Records.{IsAbove, IsRising, placed_at};
+ghost use Rattle.pfs_store_index.specs.Records.{IsAbove, IsRising, between, placed_at};
 ghost use Rattle.pfs_store_index.specs.Sourced.{IsSourced};
-ghost use Rattle.pfs_store_index.specs.Walks.{IsWalk, StayUntil, end_of, state_has_expired, looks_of};
+ghost use Rattle.pfs_store_index.specs.Walks.{IsPassing, IsWalk, StayUntil, end_of, state_has_expired, looks_of};
 ghost use Rattle.pfs_store_index.specs.Holdings.{IsUncompleted};
 ghost use Rattle.pfs_store_index.specs.Rounds.{waiting, waiting_of};
 ghost use Rattle.pfs_store_index.specs.Stored.{IsNumbered};
 ghost use Rattle.pfs_store_index.specs.Ties.{HasRule, entry_of};
 
-use crate::nodes::{Nodes, Tally};
+use crate::nodes::{Nodes, Passed, Tally};
 use crate::placing::place;
 use crate::records::Records;
 use crate::rounds::Round;
@@ -214,6 +214,17 @@ impl<S: BuildHasher> Indexes<S> {
         ensures states { IfSome result (λ t. t.states ≡ node_states self.now.config t.node.scope t.node.source self.now.states) }
     {
         self.nodes.next_between(above, most)
+    }
+
+    /// Passes by the nodes that are still to be examined in a round, from the least number on, as long as none of them leaves
+    /// at a second, and by so many at most.
+    pub(crate) fn pass_nodes(&self, round: Round, share: u64, now: u64) -> Passed
+        requires range { round.cursor ≤ round.mark }
+        ensures passing { IsPassing (λ n. n.number) (is_over self.now.config self.now.states now) self.now.nodes round.cursor round.mark share result.stayed result.last }
+        ensures until { AllByRecursion (λ n. between round.cursor result.last n.number ≡ true →
+            NodeStays self.now.config self.now.states result.until n) self.now.nodes }
+    {
+        self.nodes.pass(&self.config, round, share, now)
     }
 
     /// The record of a number: one look.

@@ -11,6 +11,7 @@ mod nodes;
 mod placing;
 mod purging;
 mod records;
+mod retaining;
 mod rounds;
 mod scope_counts;
 mod stays;

@@ -2,16 +2,22 @@
 
 ghost use Rattle.std.specs.Prelude.{◌≡◌, ◌<◌, ◌≤◌, ◌++◌, ◌∷◌, [], IfSome, None, OnErr, OnOk, Some, filter, length, map, option_map, slice_get, true};
 ghost use Rattle.std.specs.List.{AllByRecursion, find, list_any};
+ghost use Rattle.indexmap.specs.IndexMap.{get};
 ghost use Rattle.pfs_store_contract.specs.Counts.{scope_nodes};
 ghost use Rattle.pfs_store_contract.specs.Purging.{node_numbers};
 ghost use Rattle.pfs_store_contract.specs.Quiet.{turned};
+ghost use Rattle.pfs_store_index.specs.Keeping.{AreInPlace, held, number_of_node, place_of_node, same_place};
 ghost use Rattle.pfs_store_index.specs.Records.{IsAbove, between};
+ghost use Rattle.pfs_store_index.specs.Staying.{IsKeptUntil, is_past};
 ghost use Rattle.pfs_store_index.specs.Tallies.{IsOrderly, IsTallied, has_node_number, is_tally, nodes_of, other_node, put_tally};
+ghost use Rattle.pfs_store_index.specs.Walks.{IsPassing};
 
+use crate::retaining::{is_over, kept_until};
 use crate::rounds::{Round, turned};
 use crate::scope_counts::ScopeCounts;
 use indexmap::IndexMap;
 use pfs_addr_values::{Addr, NoMemory};
+use pfs_conf_values::Config;
 use pfs_store_contract::{Node, NodeScope};
 use std::alloc::Global;
 use std::collections::BTreeMap;
@@ -28,6 +34,17 @@ pub struct Tally {
     pub states: u64,
     /// How many of them are connections: their handshake has completed.
     pub connections: u64,
+}
+
+/// How far a walk by nodes came that all stay.
+#[derive(Debug, Clone, Copy, PartialEq, Eq)]
+pub(crate) struct Passed {
+    /// How many it passed by.
+    pub(crate) stayed: u64,
+    /// The number of the last of them, or that above which the walk began.
+    pub(crate) last: u64,
+    /// A moment, in seconds, up to which none of them leaves that gets no state and loses none, or an earlier one.
+    pub(crate) until: u64,
 }
 
 /// The source nodes by rising number, each with its counts. They are found by a hash of scope and source, of the hasher
@@ -104,6 +121,16 @@ impl<S: BuildHasher> Nodes<S> {
         }
     }
 
+    /// Passes by the nodes that are still to be examined in a round, from the least number on, as long as none of them leaves
+    /// at the second `now`, and by at most `share`. All are found by one search by number. It takes no memory.
+    pub(crate) fn pass(&self, config: &Config, round: Round, share: u64, now: u64) -> Passed
+        requires range { round.cursor ≤ round.mark }
+        ensures passing { IsPassing number_of_node (is_past config.now now) self.now round.cursor round.mark share result.stayed result.last }
+        ensures until { AllByRecursion (λ t. between round.cursor result.last (number_of_node t) ≡ true → IsKeptUntil config.now result.until t) self.now }
+    {
+        pass_range(&self.table, &self.order, config, round, share, now)
+    }
+
     /// The round after so many slices, while no node comes or goes: each passes by the next numbers of the round, `share` at
     /// most, or by the first of a new one, up to `made`. It takes no memory.
     pub fn turned(&self, round: Round, share: u64, made: u64, slices: u64) -> Round
@@ -168,5 +195,43 @@ impl<S: BuildHasher> Nodes<S> {
             }
             None => unreachable!(),
         }
+    }
+}
+
+fn pass_range<S: BuildHasher>(
+    table: &IndexMap<(NodeScope, Addr), Tally, S>,
+    order: &BTreeMap<u64, (NodeScope, Addr)>,
+    config: &Config,
+    round: Round,
+    share: u64,
+    now: u64,
+) -> Passed
+    requires kept { AreInPlace number_of_node place_of_node (get same_place table.now) order.now.entries }
+    requires range { round.cursor ≤ round.mark }
+    ensures passing { IsPassing number_of_node (is_past config.now now) (held (get same_place table.now) order.now.entries) round.cursor round.mark share result.stayed result.last }
+    ensures until { AllByRecursion (λ t. between round.cursor result.last (number_of_node t) ≡ true → IsKeptUntil config.now result.until t) (held (get same_place table.now) order.now.entries) }
+{
+    let mut rest = order.range((Bound::Excluded(round.cursor), Bound::Included(round.mark)));
+    let mut stayed = 0;
+    let mut last = round.cursor;
+    let mut until = u64::MAX;
+    while stayed < share {
+        let Some((number, place)) = rest.next() else {
+            break;
+        };
+        let Some(tally) = table.get(place) else {
+            break;
+        };
+        if is_over(config, tally, now) {
+            break;
+        }
+        until = until.min(kept_until(config, tally));
+        stayed += 1;
+        last = *number;
+    }
+    Passed {
+        stayed,
+        last,
+        until,
     }
 }

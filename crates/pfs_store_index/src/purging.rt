@@ -2,7 +2,7 @@
 
 ghost use Rattle.std.specs.Prelude.{◌≡◌, ◌+◌, ◌-◌, ◌<◌, ◌≤◌, ◌^◌, ◌==◌, ◌&&◌, [], IfSome, Some, drop, filter, length, map, nat_le, take, true};
 ghost use Rattle.std.specs.List.{AllByRecursion, find};
-ghost use Rattle.pfs_conf_values.specs.Configs.{rule_retention, timeout_of};
+ghost use Rattle.pfs_conf_values.specs.Configs.{timeout_of};
 ghost use Rattle.pfs_conf_values.specs.declared.timeouts.TimeoutName.TheVariants as timeout;
 ghost use Rattle.pfs_store_contract.specs.Counts.{node_states};
 ghost use Rattle.pfs_store_contract.specs.Leaving.{idled};
@@ -13,16 +13,16 @@ ghost use Rattle.pfs_store_index.specs.Records.{IsRising};
 ghost use Rattle.pfs_store_index.specs.Walks.{IsWalk, StayUntil, looks_of};
 ghost use Rattle.pfs_store_index.specs.Staying.{NodeHolds, NodesHold, StatesHold};
 ghost use Rattle.pfs_store_index.specs.Stored.{AreUnread, IsNumbered, due_at, is_due};
-ghost use Rattle.pfs_store_index.specs.Rounds.{node_survives, states_survive, waiting};
+ghost use Rattle.pfs_store_index.specs.Rounds.{node_survives, nodes_survive, states_survive, waiting};
 
 use crate::expiring::Scaled;
 use crate::indexes::Indexes;
 use crate::nodes::Tally;
+use crate::retaining::{is_over, kept_until};
 use crate::rounds::Round;
 use crate::walks::Walk;
 use pfs_addr_values::Meter;
-use pfs_conf_values::{Config, StateOptions, TimeoutName};
-use pfs_store_contract::NodeScope;
+use pfs_conf_values::{Config, TimeoutName};
 use std::hash::BuildHasher;
 
 /// What a walk did: up to where it went, how many it examined, how many of them left, and up to when the others stay.
@@ -271,20 +271,77 @@ pub(crate) fn walk_nodes<S: BuildHasher>(
     let held = indexes.node_count();
     let mut cursor = round.cursor;
     let mut examined = 0;
+    let mut left = share;
     let mut until = u64::MAX;
-    while examined < share {
-        let Some(tally) = indexes.next_node(cursor, round.mark) else {
-            break;
+    while left > 0 {
+        let rest = Round {
+            cursor,
+            mark: round.mark,
         };
-        until = until.min(examine_node(indexes, &tally, now));
-        cursor = tally.node.number;
-        examined += 1;
+        let stretch = examine_nodes(indexes, rest, left, now);
+        cursor = stretch.cursor;
+        examined += stretch.examined;
+        left = stretch.left;
+        until = until.min(stretch.until);
     }
     Steps {
         cursor,
         examined,
         removed: held.saturating_sub(indexes.node_count()),
         until,
+    }
+}
+
+/// Examines the next nodes of a round, so many at most: passes by those that stay in one walk, and examines the one behind
+/// them.
+fn examine_nodes<S: BuildHasher>(
+    indexes: &mut Indexes<S>,
+    round: Round,
+    share: u64,
+    now: u64,
+) -> Stretch
+    requires order { round.cursor ≤ round.mark }
+    requires some { 0 < share }
+    ensures config { indexes.new.config ≡ indexes.old.config }
+    ensures states { indexes.new.states ≡ indexes.old.states }
+    ensures nodes { indexes.new.nodes
+        ≡ filter (nodes_survive (is_over indexes.old.config indexes.old.states now) (take result.examined (waiting round.cursor round.mark (node_numbers indexes.old.nodes)))) indexes.old.nodes }
+    ensures waiting { waiting result.cursor round.mark (node_numbers indexes.new.nodes)
+        ≡ drop result.examined (waiting round.cursor round.mark (node_numbers indexes.old.nodes)) }
+    ensures order { result.cursor ≤ round.mark }
+    ensures within { result.examined ≤ length (waiting round.cursor round.mark (node_numbers indexes.old.nodes)) }
+    ensures share { result.examined + result.left ≤ share }
+    ensures less { result.left < share }
+    ensures goes { 0 < result.left → result.examined + result.left ≡ share }
+    ensures until { NodesHold indexes.old.config indexes.old.states
+        (take result.examined (waiting round.cursor round.mark (node_numbers indexes.old.nodes))) result.until indexes.new.nodes }
+    ensures ends { result.left ≡ 0 → result.examined ≡ length (take share (waiting round.cursor round.mark (node_numbers indexes.old.nodes))) }
+{
+    let passed = indexes.pass_nodes(round, share, now);
+    if passed.stayed == share {
+        return Stretch {
+            cursor: passed.last,
+            examined: passed.stayed,
+            left: 0,
+            until: passed.until,
+        };
+    }
+    match indexes.next_node(passed.last, round.mark) {
+        Some(tally) => {
+            let until = examine_node(indexes, &tally, now);
+            Stretch {
+                cursor: tally.node.number,
+                examined: passed.stayed + 1,
+                left: share - passed.stayed - 1,
+                until: passed.until.min(until),
+            }
+        }
+        None => Stretch {
+            cursor: passed.last,
+            examined: passed.stayed,
+            left: 0,
+            until: passed.until,
+        },
     }
 }
 
@@ -306,53 +363,4 @@ fn examine_node<S: BuildHasher>(indexes: &mut Indexes<S>, tally: &Tally, now: u6
         indexes.drop_node(tally.node);
     }
     until
-}
-
-/// Up to when a node stays, as long as it gets no state and loses none.
-fn kept_until(config: &Config, tally: &Tally) -> u64
-    ensures { tally.now.states ≡ 0 → result ≤ tally.now.node.idle + node_retention config.now tally.now.node.scope }
-{
-    if tally.states == 0 {
-        let retention = node_retention(config, tally.node.scope);
-        tally.node.idle.saturating_add(retention)
-    } else {
-        u64::MAX
-    }
-}
-
-/// Whether a node has no state, and its retention is over.
-fn is_over(config: &Config, tally: &Tally, now: u64) -> bool
-    ensures { result
-        ≡ ((tally.now.states == 0) && nat_le (tally.now.node.idle + node_retention config.now tally.now.node.scope) now) }
-{
-    let retention = node_retention(config, tally.node.scope);
-    tally.states == 0 && retention <= now && tally.node.idle <= now - retention
-}
-
-/// How long a node without states is kept.
-fn node_retention(config: &Config, scope: NodeScope) -> u64
-    ensures { result ≡ node_retention config.now scope }
-{
-    let global = config.timeout(TimeoutName::SrcTrack);
-    match scope {
-        NodeScope::Rule(rule) => match config.options(rule) {
-            Some(options) => rule_retention(options, global),
-            None => global,
-        },
-        NodeScope::Global => global,
-    }
-}
-
-/// The greater of `src.track` and of the seconds of the rate, in the options of a rule.
-fn rule_retention(options: &StateOptions, global: u64) -> u64
-    ensures { result ≡ rule_retention global options.now }
-{
-    let seconds = match options.timeouts.get(TimeoutName::SrcTrack) {
-        Some(seconds) => u64::from(seconds),
-        None => global,
-    };
-    match options.max_src_conn_rate {
-        Some(rate) => seconds.max(u64::from(rate.seconds)),
-        None => seconds,
-    }
 }

@@ -1,7 +1,10 @@
 //! A store by indexes.
 
-ghost use Rattle.std.specs.Prelude.{◌≡◌, IfOk, true};
-ghost use Rattle.pfs_store_contract.specs.Worlds.{empty_world};
+ghost use Rattle.std.specs.Prelude.{◌≡◌, ◌+◌, ◌<◌, IfOk, IsSome, None, OnErr, OnOk, true};
+ghost use Rattle.pfs_addr_values.specs.Keys.{key_of};
+ghost use Rattle.pfs_conf_values.specs.Configs.{options_at};
+ghost use Rattle.pfs_store_contract.specs.Admission.{admitted};
+ghost use Rattle.pfs_store_contract.specs.Worlds.{empty_world, state_with};
 
 use crate::expiring::counted_rules;
 use crate::flushing::flush;
@@ -13,11 +16,11 @@ use crate::purging::{
 };
 use crate::rounds::Round;
 use pfs_addr_values::{Addr, FlowKey, Meter, NoMemory, Packet};
-use pfs_conf_values::{Config, LimitName, RuleNo};
+use pfs_conf_values::{Config, LimitName, RuleNo, RulesHasher};
 use pfs_store_contract::{Limit, Slice, State, StateNo, Store, Touched, Watched};
 use pfs_track::StatePhase;
 use std::alloc::Global;
-use std::hash::{BuildHasher, BuildHasherDefault, FoldHasher};
+use std::hash::BuildHasher;
 use std::marker::Model;
 
 /// A store that finds states by their keys, by their numbers and by their sources, and source nodes by scope and source. The
@@ -26,7 +29,7 @@ use std::marker::Model;
 ///
 /// Clauses see a `Plain`: the configuration that it was made for, and its world.
 #[derive(Drop)]
-pub struct IndexStore<S: BuildHasher> {
+pub struct IndexStore<S: BuildHasher = RulesHasher> {
     indexes: Indexes<S>,
     made: u64,
     states_round: Round,
@@ -50,27 +53,21 @@ impl<S: BuildHasher> Model for IndexStore<S> {
         IsStored s.indexes s.states_round.cursor s.states_round.mark s.nodes_round.cursor s.nodes_round.mark s.made (length s.counts.items) };
 }
 
-impl IndexStore<BuildHasherDefault<FoldHasher>> {
-    /// An empty store, made for this configuration, of which it keeps a copy. Its hashes have a fixed seed. `NoMemory` where
+impl IndexStore {
+    /// An empty store, made for this configuration, of which it keeps a copy. Both its hashes, of keys and of source nodes, begin
+    /// with all that the configuration says, so who does not know it cannot choose keys that fall together. `NoMemory` where
     /// memory for the copy is refused.
-    pub fn new(
-        alloc: Global,
-        config: &Config,
-    ) -> Result<IndexStore<BuildHasherDefault<FoldHasher>>, NoMemory>
+    pub fn new(alloc: Global, config: &Config) -> Result<IndexStore, NoMemory>
         ensures { IfOk result (λ s. s ≡ record { config = config.now; world = empty_world }) }
     {
-        IndexStore::with_hashers(
-            alloc,
-            config,
-            BuildHasherDefault::new(),
-            BuildHasherDefault::new(),
-        )
+        let hasher = RulesHasher::of_config(config);
+        IndexStore::with_hashers(alloc, config, hasher, hasher)
     }
 }
 
 impl<S: BuildHasher> IndexStore<S> {
-    /// An empty store as `new` makes it, whose index by key hashes with the first of these, and that of the source nodes with
-    /// the second: a random seed keeps who chooses keys from making them collide.
+    /// An empty store as `new` makes it, but for its hashers: the index by key has the first of these, and that of the source
+    /// nodes the second.
     pub fn with_hashers(
         alloc: Global,
         config: &Config,
@@ -89,6 +86,39 @@ impl<S: BuildHasher> IndexStore<S> {
             nodes_round: Round { cursor: 0, mark: 0 },
             counts,
         })
+    }
+}
+
+impl<S: BuildHasher> IndexStore<S> {
+    // Makes the state of a packet at a rule, and with it the node of its source where it has none, whatever limits they meet.
+    fn make(&mut self, packet: &Packet, rule: RuleNo, now: u64) -> Result<StateNo, NoMemory>
+        requires fresh { state_with (key_of packet.now) self.old.world ≡ None }
+        requires keeps { IsSome (options_at self.old.config rule.0) }
+        requires room { self.old.world.made < 1000000000 }
+        ensures number { IfOk result (λ n. n.0 ≡ self.old.world.made + 1) }
+        ensures ok { OnOk result (self.new.world ≡ admitted self.old.config self.old.world packet.now rule.0 now) }
+        ensures err { OnErr result (self.new.world ≡ self.old.world) }
+        ensures config { self.new.config ≡ self.old.config }
+    {
+        let source = packet.src();
+        let _count = self.indexes.state_count();
+        let number = self.made + 1;
+        let state = State {
+            number,
+            key: FlowKey::of(packet),
+            dir: packet.dir(),
+            source,
+            rule,
+            phase: StatePhase::first(packet.proto()),
+            last: now,
+        };
+        match self.indexes.put(state) {
+            Ok(()) => {
+                self.made = number;
+                Ok(StateNo(number))
+            }
+            Err(_) => Err(NoMemory),
+        }
     }
 }
 
@@ -133,27 +163,12 @@ impl<S: BuildHasher> Store for IndexStore<S> {
         rule: RuleNo,
         now: u64,
     ) -> Result<Result<StateNo, Limit>, NoMemory> {
-        let source = packet.src();
-        if let Some(limit) = limit_met(&self.indexes, rule, source) {
-            return Ok(Err(limit));
-        }
-        let _count = self.indexes.state_count();
-        let number = self.made + 1;
-        let state = State {
-            number,
-            key: FlowKey::of(packet),
-            dir: packet.dir(),
-            source,
-            rule,
-            phase: StatePhase::first(packet.proto()),
-            last: now,
-        };
-        match self.indexes.put(state) {
-            Ok(()) => {
-                self.made = number;
-                Ok(Ok(StateNo(number)))
-            }
-            Err(_) => Err(NoMemory),
+        match limit_met(&self.indexes, rule, packet.src()) {
+            Some(limit) => Ok(Err(limit)),
+            None => match self.make(packet, rule, now) {
+                Ok(number) => Ok(Ok(number)),
+                Err(refused) => Err(refused),
+            },
         }
     }
 

@@ -13,7 +13,6 @@ use pfs_store::IndexStore;
 use pfs_store_contract::Store;
 use pfs_store_plain::PlainStore;
 use std::alloc::{AllocGlobal, Global};
-use std::hash::{BuildHasherDefault, FoldHasher};
 use std::process::Abort;
 use std::test::Fail;
 
@@ -39,7 +38,7 @@ pub fn indexed(
     alloc: Global,
     first: &[u8],
     rules: &[u8],
-) -> Result<Engine<IndexStore<BuildHasherDefault<FoldHasher>>>, Fail> {
+) -> Result<Engine<IndexStore>, Fail> {
     let config = configured(alloc, first, rules)?;
     let store = IndexStore::new(alloc, &config)?;
     Ok(Engine::new(alloc, config, store)?)

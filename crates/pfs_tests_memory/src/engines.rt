@@ -12,9 +12,8 @@ use pfs_store::{IndexStore, PlainStore, Store};
 use pfs_tests_telling::{
     CONNECTIONS, FULL, NODES, OVERLOAD, Stop, answered, begin, begin_free, end, plain, refused,
 };
-use std::hash::{BuildHasherDefault, FoldHasher};
 
-type Indexed = IndexStore<BuildHasherDefault<FoldHasher>>;
+type Indexed = IndexStore;
 
 /// When a packet comes, what it is, its source and port, and what comes of it.
 type Row = (u64, Sent, Addr, u16, Outcome);

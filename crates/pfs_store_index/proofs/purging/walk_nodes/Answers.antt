@@ -1,87 +1,85 @@
--- Answers of walk_nodes: one node more, and at the end that the share was examined and which nodes stay.
-use Rattle.std.proofs.Common.{◌≡◌, ◌∙◌, List, Some, None, slice_get, option_map, sym, ap, subst, ◌+◌, refl, filter, take, arith, length-take}
-use Rattle.pfs_store_contract.specs.Purging.{is_over, node_numbers, node_stays}
-use Rattle.pfs_store_index.specs.declared.nodes.Tally.{Tally}
+-- Answers of walk_nodes: one stretch more, and at the end that the share was examined and which nodes stay.
+use Rattle.std.proofs.Common.{◌≡◌, ◌∙◌, ◌-◌, List, refl, ap, subst, filter, length, take, arith, length-take, length-drop}
 use Rattle.pfs_conf_values.specs.Configs.{Conf}
+use Rattle.pfs_store_contract.specs.Purging.{is_over, node_numbers, node_stays}
 use Rattle.pfs_store_contract.specs.Quiet.{NodeStays}
 use Rattle.pfs_store_contract.specs.declared.records.State.{State}
-use Rattle.pfs_store_index.specs.Rounds.{node_survives, waiting}
-use Rattle.pfs_store_index.specs.Staying.{NodeHolds, NodesHold}
-use Rattle.pfs_store_index.proofs.Untils.{hold-none, node-more}
+use Rattle.pfs_store_index.specs.Rounds.{nodes_survive, waiting}
+use Rattle.pfs_store_index.specs.Staying.{NodesHold}
 use Rattle.pfs_store_index.proofs.Idling.{node_number}
-use Rattle.pfs_store_index.proofs.RisingWalks.{all-examined, all-in, all-next, at_next, examined-dropped, examined-taken, stays-none, step-stays}
+use Rattle.pfs_store_index.proofs.RisingWalks.{examined-dropped, examined-taken, stays-none}
+use Rattle.pfs_store_index.proofs.Stretches.{all-more, rest-more, stretch-more}
+use Rattle.pfs_store_index.proofs.Untils.{hold-none, nodes-more}
 use Rattle.pfs_store_index.proofs.purging.walk_nodes.Goals as goal
-use Rattle.pfs_store_index.proofs.purging.walk_nodes.Goals.{else-loop-examined-test, then-loop-examined-test+in_default}
 
-pub loop-examined-init : goal.loop-examined-init
-loop-examined-init g c = record {
-  config = refl;
-  kept = refl;
-  held = c.node_count-held.ensures.value;
-  order = c.requires.order;
-  share = omega arith;
-  within = omega arith;
-  nodes = stays-none node_number (is_over c.args.indexes.now.config c.args.indexes.now.states c.args.now) c.args.indexes.now.nodes;
-  until = hold-none node_number (NodeStays c.args.indexes.now.config c.args.indexes.now.states) _ c.args.indexes.now.nodes;
-  rest = refl;
-}
+pub loop-left-init : goal.loop-left-init
+loop-left-init g c =
+    let ws = waiting c.args.round.cursor c.args.round.mark (node_numbers c.args.indexes.now.nodes) in
+    record {
+      config = refl;
+      kept = refl;
+      held = c.node_count-held.ensures.value;
+      order = c.requires.order;
+      share = omega arith;
+      goes = λ _. omega arith;
+      ends = λ h. omega (arith, h, length-take c.args.share ws);
+      within = omega arith;
+      nodes = stays-none node_number (is_over c.args.indexes.now.config c.args.indexes.now.states c.args.now) c.args.indexes.now.nodes;
+      until = hold-none node_number (NodeStays c.args.indexes.now.config c.args.indexes.now.states) _ c.args.indexes.now.nodes;
+      rest = refl;
+    }
 
-pub loop-examined-preserved : goal.loop-examined-preserved
-loop-examined-preserved g c =
-    let i = c.loop-examined.invariant in
-    let n = c.in-Some.tally.node.number in
+pub loop-left-preserved : goal.loop-left-preserved
+loop-left-preserved g c =
+    let i = c.loop-left.invariant in
     let conf = c.args.indexes.now.config in
     let xs = c.args.indexes.now.states in
     let ws = waiting c.args.round.cursor c.args.round.mark (node_numbers c.args.indexes.now.nodes) in
+    let zs = waiting c.loop-left.cursor c.args.round.mark (node_numbers c.loop-left.indexes.nodes) in
     let leaves = is_over conf xs c.args.now in
-    let first : slice_get (waiting c.loop-examined.cursor c.args.round.mark (node_numbers c.loop-examined.indexes.nodes)) 0 ≡ Some n = sym c.in-Some.ensures.number in
-    let q = all-in node_number c.loop-examined.cursor c.args.round.mark n c.loop-examined.indexes.nodes first in
-    let x = at_next c.loop-examined.examined n ws (waiting c.loop-examined.cursor c.args.round.mark (node_numbers c.loop-examined.indexes.nodes)) i.rest first in
-    let e : c.examine_node.new.indexes.nodes ≡ filter (node_survives (is_over conf xs c.args.now) n) c.loop-examined.indexes.nodes =
-    c.examine_node.ensures.nodes ∙ (λ j. filter (node_survives (is_over (i.config j) (i.kept j) c.args.now) n) c.loop-examined.indexes.nodes) in
+    let f = c.examine_nodes-stretch.ensures in
+    let more = c.examine_nodes-stretch.result in
+    let ns' = c.examine_nodes-stretch.new.indexes.nodes in
+    let e : ns' ≡ filter (nodes_survive leaves (take more.examined zs)) c.loop-left.indexes.nodes =
+    f.nodes ∙ (λ j. filter (nodes_survive (is_over (i.config j) (i.kept j) c.args.now) (take more.examined zs)) c.loop-left.indexes.nodes) in
     record {
-      config = c.examine_node.ensures.config ∙ i.config;
-      kept = c.examine_node.ensures.states ∙ i.kept;
+      config = f.config ∙ i.config;
+      kept = f.states ∙ i.kept;
       held = i.held;
-      order = q.most;
-      share = omega (arith, c.loop-examined-test.true);
-      within = omega (arith, x.within);
-      nodes = step-stays node_number leaves n c.loop-examined.examined ws c.args.indexes.now.nodes c.loop-examined.indexes.nodes c.examine_node.new.indexes.nodes i.nodes e x.taken;
-      until = node-more conf xs n c.loop-examined.until c.examine_node.result c.min-until.result (take c.loop-examined.examined ws) (take (c.loop-examined.examined + 1) ws) _ c.loop-examined.indexes.nodes c.examine_node.new.indexes.nodes e x.taken c.min-until.ensures i.until
-          (subst (λ (ys : List State). NodeHolds conf ys n c.examine_node.result c.examine_node.new.indexes.nodes) i.kept
-          (subst (λ (k : Conf). NodeHolds k c.loop-examined.indexes.states n c.examine_node.result c.examine_node.new.indexes.nodes) i.config c.examine_node.ensures.until));
-      rest = ap (λ ys. waiting n c.args.round.mark (node_numbers ys)) e ∙ all-next node_number leaves c.loop-examined.cursor c.args.round.mark n _ c.loop-examined.indexes.nodes c.examine_node.ensures.rising x.first;
+      order = f.order;
+      share = omega (arith, f.share, i.share);
+      goes = λ h. omega (arith, f.goes h, i.goes c.loop-left-test.true);
+      ends = λ h.
+          let left : c.loop-left.left ≡ c.args.share - c.loop-left.examined = omega (arith, i.goes c.loop-left-test.true) in
+          all-more c.args.share c.loop-left.examined more.examined ws zs (omega (arith, i.share)) i.within i.rest (f.ends h ∙ ap (λ k. length (take k zs)) left);
+      within = omega (arith, i.within, f.within, ap length i.rest, length-drop c.loop-left.examined ws);
+      nodes = stretch-more node_number leaves c.loop-left.examined more.examined ws zs c.args.indexes.now.nodes c.loop-left.indexes.nodes ns' i.nodes i.rest e;
+      until =
+          nodes-more conf xs c.loop-left.examined more.examined c.loop-left.until more.until c.min-until.result ws zs _ c.loop-left.indexes.nodes ns' i.rest e c.min-until.ensures i.until
+          (subst (λ (ys : List State). NodesHold conf ys (take more.examined zs) more.until ns') i.kept
+          (subst (λ (k : Conf). NodesHold k c.loop-left.indexes.states (take more.examined zs) more.until ns') i.config f.until));
+      rest = rest-more c.loop-left.examined more.examined ws zs (waiting more.cursor c.args.round.mark (node_numbers ns')) i.rest f.waiting;
     }
 
 pub returns-clause-examined : goal.returns-clause-examined
-returns-clause-examined g c =
-    let i = c.loop-examined.invariant in
-    let ws = waiting c.args.round.cursor c.args.round.mark (node_numbers c.args.indexes.now.nodes) in
-    let l = length-take c.args.share ws in
-    elim c.loop-examined-test.branch [
-      | else-loop-examined-test w ↦ omega (arith, l, i.share, i.within, w.loop-examined-test.false)
-      | then-loop-examined-test+in_default w ↦
-          let none : slice_get (waiting c.loop-examined.cursor c.args.round.mark (node_numbers c.loop-examined.indexes.nodes)) 0 ≡ None =
-          sym w.next_node.ensures.number ∙ ap (option_map (λ (t : Tally). t.node.number)) w.in_default.is in
-          omega (arith, l, i.share, i.within, w.loop-examined-test.true, all-examined c.loop-examined.examined ws (waiting c.loop-examined.cursor c.args.round.mark (node_numbers c.loop-examined.indexes.nodes)) i.rest none)
-    ]
+returns-clause-examined g c = c.loop-left.invariant.ends (omega (arith, c.loop-left-test.false))
 
 pub returns-clause-nodes : goal.returns-clause-nodes
 returns-clause-nodes g c =
-    let i = c.loop-examined.invariant in
+    let i = c.loop-left.invariant in
     let ws = waiting c.args.round.cursor c.args.round.mark (node_numbers c.args.indexes.now.nodes) in
-    let z = examined-taken c.loop-examined.examined c.args.share ws (returns-clause-examined g c) in
+    let z = examined-taken c.loop-left.examined c.args.share ws (i.ends (omega (arith, c.loop-left-test.false))) in
     i.nodes ∙ ap (λ zs. filter (node_stays c.args.indexes.now.config c.args.indexes.now.states c.args.now zs) c.args.indexes.now.nodes) z
 
 pub returns-clause-waiting : goal.returns-clause-waiting
 returns-clause-waiting g c =
-    let i = c.loop-examined.invariant in
+    let i = c.loop-left.invariant in
     let ws = waiting c.args.round.cursor c.args.round.mark (node_numbers c.args.indexes.now.nodes) in
-    i.rest ∙ examined-dropped c.loop-examined.examined c.args.share ws (returns-clause-examined g c)
+    i.rest ∙ examined-dropped c.loop-left.examined c.args.share ws (i.ends (omega (arith, c.loop-left-test.false)))
 
 pub returns-clause-until : goal.returns-clause-until
 returns-clause-until g c =
-    let i = c.loop-examined.invariant in
+    let i = c.loop-left.invariant in
     let ws = waiting c.args.round.cursor c.args.round.mark (node_numbers c.args.indexes.now.nodes) in
-    let z = examined-taken c.loop-examined.examined c.args.share ws (returns-clause-examined g c) in
-    subst (λ ns. NodesHold c.args.indexes.now.config c.args.indexes.now.states ns c.loop-examined.until c.loop-examined.indexes.nodes) z i.until
+    let z = examined-taken c.loop-left.examined c.args.share ws (i.ends (omega (arith, c.loop-left-test.false))) in
+    subst (λ ns. NodesHold c.args.indexes.now.config c.args.indexes.now.states ns c.loop-left.until c.loop-left.indexes.nodes) z i.until

@@ -61,7 +61,7 @@ loop-left-preserved g c =
           let left : c.loop-left.left ≡ c.args.share - c.loop-left.examined = omega (arith, i.goes c.loop-left-test.true) in
           all-more c.args.share c.loop-left.examined more.examined ws zs (omega (arith, i.share)) i.within i.rest (f.ends h ∙ ap (λ k. length (take k zs)) left);
       within = omega (arith, i.within, f.within, ap length i.rest, length-drop c.loop-left.examined ws);
-      states = stretch-more leaves c.loop-left.examined more.examined ws zs c.args.indexes.now.states c.loop-left.indexes.states xs' i.states i.rest e;
+      states = stretch-more state_number leaves c.loop-left.examined more.examined ws zs c.args.indexes.now.states c.loop-left.indexes.states xs' i.states i.rest e;
       nodes = step-nodes conf (stays_by state_number leaves (take c.loop-left.examined ws)) (states_survive leaves (take more.examined zs)) c.args.now c.args.indexes.now.states c.loop-left.indexes.states xs' c.args.indexes.now.nodes c.loop-left.indexes.nodes _ i.states e i.nodes m;
       rest = rest-more c.loop-left.examined more.examined ws zs (waiting more.cursor c.args.round.mark (state_numbers xs')) i.rest f.waiting;
       until =

@@ -1,12 +1,10 @@
--- Answers of IndexStore's admit: a new number is above all others, and the world then is as defined (`ok`).
-use Rattle.std.proofs.Common.{◌≡◌, ◌∙◌, ◌+◌, ◌<◌, ◌++◌, ◌∷◌, [], None, Option, ap, refl, sym, arith}
-use Rattle.pfs_store_contract.specs.Admission.{limit_met, new_state, nodes_with}
-use Rattle.pfs_store_contract.specs.Calls.{packet_limit, world_at}
+-- Answers of IndexStore's make: a new number is above all others, and the world then is as defined (`ok`).
+use Rattle.std.proofs.Common.{◌≡◌, ◌∙◌, ◌+◌, ◌<◌, ◌++◌, ◌∷◌, [], ap, refl, sym, arith}
+use Rattle.pfs_store_contract.specs.Admission.{admitted, new_state, nodes_with}
 use Rattle.pfs_store_contract.specs.Counts.{node_scope_of}
 use Rattle.pfs_store_contract.specs.Plain.{Plain}
 use Rattle.pfs_store_contract.specs.Purging.{node_numbers, state_numbers}
 use Rattle.pfs_store_contract.specs.Worlds.{World, lists}
-use Rattle.pfs_store_contract.specs.declared.records.Limit.{Limit}
 use Rattle.pfs_store_contract.specs.declared.records.State.{State}
 use Rattle.pfs_track.specs.StatePhases.{first_phase}
 use Rattle.pfs_store_index.specs.Sourced.{source_at}
@@ -14,7 +12,7 @@ use Rattle.pfs_store_index.specs.Rounds.{waiting}
 use Rattle.pfs_store_index.specs.Stored.{world_of}
 use Rattle.pfs_store_index.proofs.Comings.{key-sourced}
 use Rattle.pfs_store_index.proofs.Storing.{few-numbered, made-above, stored-came, world-came}
-use Rattle.pfs_store_index.proofs.store.IndexStoreStore.admit.Goals as goal
+use Rattle.pfs_store_index.proofs.store.IndexStore.make.Goals as goal
 
 pub put-requires-clause-above : goal.put-requires-clause-above
 put-requires-clause-above g c = made-above c.self.inside.made _ c.self.invariant.numbered
@@ -45,9 +43,6 @@ returns-in-Ok-clause-ok g c =
     let s : State = record { number = c.self.inside.made + 1; key = c.of.result; dir = c.dir.result; source = c.src-source.result; rule = c.args.rule; phase = c.first.result; last = c.args.now } in
     let q : s ≡ new_state (c.self.inside.made + 1) c.args.packet.now c.args.rule.0 c.args.now =
     (λ j. record { number = c.self.inside.made + 1; key = c.of.ensures j; dir = c.dir.ensures j; source = c.src-source.ensures j; rule = c.args.rule; phase = (c.first.ensures ∙ ap first_phase c.proto.ensures) j; last = c.args.now }) in
-    let n : None ≡ packet_limit c.self.inside.indexes.config w c.args.packet.now c.args.rule.0 =
-    sym c.in_default.is ∙ c.limit_met.ensures ∙ ap (limit_met c.self.inside.indexes.config w c.args.rule.0) c.src-source.ensures in
     world-came s h c.put.new.self c.self.inside.states_round.cursor c.self.inside.states_round.mark c.self.inside.nodes_round.cursor c.self.inside.nodes_round.mark m _ c.self.invariant refl c.in-Ok.ensures.states c.in-Ok.ensures.nodes
     ∙ ap (λ (x : State). lists (h.states ++ x ∷ []) (nodes_with h.nodes (m + 1) x.source (node_scope_of h.config x.rule.0)) (waiting c.self.inside.states_round.cursor c.self.inside.states_round.mark (state_numbers h.states)) (waiting c.self.inside.nodes_round.cursor c.self.inside.nodes_round.mark (node_numbers h.nodes)) (m + 1)) q
-    ∙ ap (λ (o : Option Limit). world_at h.config w c.args.packet.now c.args.rule.0 c.args.now o) n
-    ∙ ap (λ (p : Plain). world_at p.config p.world c.args.packet.now c.args.rule.0 c.args.now (packet_limit p.config p.world c.args.packet.now c.args.rule.0)) c.self.view_is
+    ∙ ap (λ (p : Plain). admitted p.config p.world c.args.packet.now c.args.rule.0 c.args.now) c.self.view_is

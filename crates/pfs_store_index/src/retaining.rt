@@ -1,0 +1,58 @@
+//! How long source nodes are kept.
+
+ghost use Rattle.std.specs.Prelude.{◌≡◌};
+ghost use Rattle.pfs_conf_values.specs.Configs.{rule_retention};
+ghost use Rattle.pfs_store_contract.specs.Purging.{node_retention};
+ghost use Rattle.pfs_store_index.specs.Staying.{IsKeptUntil, is_past};
+
+use crate::nodes::Tally;
+use pfs_conf_values::{Config, StateOptions, TimeoutName};
+use pfs_store_contract::NodeScope;
+
+/// Up to when a node stays, as long as it gets no state and loses none.
+pub(crate) fn kept_until(config: &Config, tally: &Tally) -> u64
+    ensures { IsKeptUntil config.now result tally.now }
+{
+    if tally.states == 0 {
+        let retention = node_retention(config, tally.node.scope);
+        tally.node.idle.saturating_add(retention)
+    } else {
+        u64::MAX
+    }
+}
+
+/// Whether a node has no state, and its retention is over.
+pub(crate) fn is_over(config: &Config, tally: &Tally, now: u64) -> bool
+    ensures { result ≡ is_past config.now now tally.now }
+{
+    let retention = node_retention(config, tally.node.scope);
+    tally.states == 0 && retention <= now && tally.node.idle <= now - retention
+}
+
+/// How long a node without states is kept.
+fn node_retention(config: &Config, scope: NodeScope) -> u64
+    ensures { result ≡ node_retention config.now scope }
+{
+    let global = config.timeout(TimeoutName::SrcTrack);
+    match scope {
+        NodeScope::Rule(rule) => match config.options(rule) {
+            Some(options) => rule_retention(options, global),
+            None => global,
+        },
+        NodeScope::Global => global,
+    }
+}
+
+/// The greater of `src.track` and of the seconds of the rate, in the options of a rule.
+fn rule_retention(options: &StateOptions, global: u64) -> u64
+    ensures { result ≡ rule_retention global options.now }
+{
+    let seconds = match options.timeouts.get(TimeoutName::SrcTrack) {
+        Some(seconds) => u64::from(seconds),
+        None => global,
+    };
+    match options.max_src_conn_rate {
+        Some(rate) => seconds.max(u64::from(rate.seconds)),
+        None => seconds,
+    }
+}
