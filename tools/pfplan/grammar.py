@@ -9,7 +9,7 @@ from .cursor import Cursor
 from .filters import HEAD, MOST_SECONDS, MOST_STATES, TIMEOUTS, TIMEOUTS_FOR_NOTHING, FilterReader
 from .lexer import Kind, Lexer, Token, trouble
 from .sources import Sources, read_text
-from .syntax import Anchor, Antispoof, Host, HostKind, Load, Other, Parsed, Part, Place, Rule, Setting, Statement, Table
+from .syntax import Anchor, Antispoof, Host, HostKind, Load, Other, Parsed, Part, Place, Rule, Setting, Statement, StateOption, Table
 
 DEEPEST_FILE = 16  # files that include one another
 DEEPEST_ANCHOR = 64
@@ -243,6 +243,7 @@ class Parser:
         self.at.take()
         name = self.at.want_word(*SETTINGS)
         pairs: tuple[tuple[str, int], ...] = ()
+        options: list[StateOption] = []
         value = ""
         mark = self.at.mark()
         if name in ("limit", "timeout"):
@@ -258,7 +259,7 @@ class Parser:
             value = self.at.want_word("if-bound", "floating")
         elif name == "state-defaults":
             while not self.at.is_end():
-                self.filters.state_option()
+                options.append(self.filters.state_option())
                 self.at.take_mark(",")
         else:
             self.at.skip_line()
@@ -267,7 +268,7 @@ class Parser:
         if not self.at.is_end():
             raise self.at.wanted("the end of the line")
         self.at.take()
-        return Setting(place, text, name, pairs, value)
+        return Setting(place, text, name, pairs, tuple(options), value)
 
     def _pairs(self, read: Callable[[], tuple[str, int]]) -> tuple[tuple[str, int], ...]:
         if not self.at.take_mark("{"):

@@ -171,6 +171,8 @@ def prefix_of(text: str, length: int | None) -> Network | None:
     """The network that a text of an address and a length name; `10/8` and `172.16/12` are read as pfctl does. None where it is none."""
     if length is not None and re.fullmatch(r"[0-9]{1,3}(\.[0-9]{1,3}){0,2}", text):
         text += ".0" * (3 - text.count("."))
+    if "%" in text:
+        return None
     try:
         address = ipaddress.ip_address(text)
         return ipaddress.ip_network(address if length is None else f"{address}/{length}", strict=False)

@@ -137,12 +137,14 @@ class Teller:
     is_strict: bool = False
     told: list[Leftover] = field(default_factory=list)
     notes: list[str] = field(default_factory=list)
+    _seen: set[Leftover] = field(default_factory=set)
 
     def tell(self, place: Place, text: str, reason: Reason) -> None:
         """Tells a thing once, however often the same statement is expanded."""
         leftover = Leftover(place.file, place.line, text, reason.text, reason.changes)
-        if leftover in self.told[-64:]:
+        if leftover in self._seen:
             return
+        self._seen.add(leftover)
         self.told.append(leftover)
         if self.is_strict and reason.changes:
             raise Trouble(f"{leftover.shown()} (--strict)", Status.RULES)

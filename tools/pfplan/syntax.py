@@ -132,10 +132,11 @@ class Statement:
 
 @dataclass(frozen=True)
 class Setting(Statement):
-    """`set`: the name, and the pairs of `limit`, `timeout` and `optimization`."""
+    """`set`: its name, the pairs of `limit` and `timeout`, the options of `state-defaults`, or what else stands there."""
 
     name: str
     pairs: tuple[tuple[str, int], ...] = ()
+    options: tuple[StateOption, ...] = ()
     value: str = ""
 
 
