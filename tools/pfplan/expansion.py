@@ -43,12 +43,16 @@ class Combination:
 
 @dataclass
 class Scope:
-    """Where statements stand: the anchors around them, the names that anchors have there, and tables of that anchor alone."""
+    """Where statements stand: the anchors around them, the names that anchors have there, and tables of that anchor alone.
+
+    A copy has the rules of a body that stand before it already; its tables are theirs.
+    """
 
     depth: int = 0
     path: str = ""
     anchors: set[str] = field(default_factory=set)
     tables: dict[str, str] = field(default_factory=dict)
+    is_copy: bool = False
 
 
 @dataclass
@@ -64,22 +68,20 @@ class Expander:
     origins: list[Place] = field(default_factory=list)
     _defined: set[str] = field(default_factory=set)
     _defaults: State | None = None
+    _opened: dict[int, dict[str, str]] = field(default_factory=dict)
 
     def expand(self, statements: list[Statement]) -> None:
         """Expands all statements of a text, into `lines`, `labels` and `origins`."""
         self._body(statements, Scope())
 
     def _body(self, statements: list[Statement], scope: Scope) -> None:
-        if scope.depth:
-            self._name_tables(statements, scope)
         for it in statements:
             self._statement(it, scope)
 
-    def _name_tables(self, statements: list[Statement], scope: Scope) -> None:
+    def _own_tables(self, body: tuple[Statement, ...], path: str) -> dict[str, str]:
         """A table that is defined in an anchor is that anchor's own: it gets a name that no other has."""
-        for it in statements:
-            if isinstance(it, Table) and it.name not in scope.tables:
-                scope.tables[it.name] = self.chooser.tables.reserve(f"{scope.path}.{it.name}")
+        names = dict.fromkeys(it.name for it in body if isinstance(it, Table))
+        return {it: self.chooser.tables.reserve(f"{path}.{it}") for it in names}
 
     def _statement(self, statement: Statement, scope: Scope) -> None:
         if isinstance(statement, Rule):
@@ -101,6 +103,8 @@ class Expander:
             self.lines.extend(self.settings.lines(statement))
 
     def _table(self, table: Table, scope: Scope) -> None:
+        if scope.is_copy:
+            return
         name = scope.tables.get(table.name, self.chooser.tables.plain(table.name))
         if name in self._defined:
             self.teller.tell_whole(table, telling("a table of that name is defined before it"))
@@ -251,8 +255,8 @@ class Expander:
             raise refuse(anchor.place, f"{anchor.filter.state.word} state: an anchor keeps none")
         counts = any_counts(anchor.body)
         heads = self._combinations(anchor, anchor.filter, scope, counts)
-        if counts and len(heads) > 1:
-            self.teller.tell_whole(anchor, telling("it stands for several anchors with the same rules, which would count states apart"))
+        if counts and (len(heads) > 1 or id(anchor.body) in self._opened):
+            self.teller.tell_whole(anchor, telling("it has the same rules as another anchor, and they would count states apart"))
             return
         if heads:
             self._tell_parts(anchor, anchor.filter.parts)
@@ -269,7 +273,11 @@ class Expander:
         line = _joined("anchor", shown, asked.direction, quick, head.interface, head.family, head.protocol, head.hosts(), flags, "{")
         self._item(anchor.place, line)
         path = f"{scope.path}.{name or 'anchor'}".strip(".")
-        self._body(list(anchor.body or ()), Scope(scope.depth + 1, path))
+        body = anchor.body or ()
+        is_copy = scope.is_copy or id(body) in self._opened
+        if id(body) not in self._opened:
+            self._opened[id(body)] = self._own_tables(body, path)
+        self._body(list(body), Scope(scope.depth + 1, path, tables=self._opened[id(body)], is_copy=is_copy))
         self.lines.append("}")
 
 

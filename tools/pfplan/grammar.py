@@ -8,7 +8,7 @@ from pathlib import Path
 from .cursor import Cursor
 from .filters import HEAD, MOST_SECONDS, MOST_STATES, TIMEOUTS, TIMEOUTS_FOR_NOTHING, FilterReader
 from .lexer import Kind, Lexer, Token, trouble
-from .sources import Sources, read_text
+from .named_files import NamedFiles, read_text
 from .syntax import Anchor, Antispoof, Host, HostKind, Load, Other, Parsed, Part, Place, Rule, Setting, Statement, StateOption, Table
 
 DEEPEST_FILE = 16  # files that include one another
@@ -32,7 +32,7 @@ _LINE_OF_PFCTL = re.compile(r"(.*:[0-9]+:|pfctl:)$")
 class Parser:
     """Reads the statements of one text. Macros are shared with the texts that include it; those in `fixed` keep their value."""
 
-    def __init__(self, text: str, file: str, parsed: Parsed, sources: Sources, fixed: frozenset[str] = frozenset(), depth: int = 0) -> None:
+    def __init__(self, text: str, file: str, parsed: Parsed, sources: NamedFiles, fixed: frozenset[str] = frozenset(), depth: int = 0) -> None:
         self._file = file
         self._parsed = parsed
         self._sources = sources
@@ -296,7 +296,7 @@ class Parser:
         self.at.want_name("an interface")
 
 
-def parse(text: str, file: str, macros: dict[str, str], sources: Sources) -> Parsed:
+def parse(text: str, file: str, macros: dict[str, str], sources: NamedFiles) -> Parsed:
     """The statements of a text. `macros` are those of the command line, which the text does not change.
 
     Trouble with status 3, with file, line, the token, what was expected, and the nearest word where it may be a slip.
@@ -306,6 +306,6 @@ def parse(text: str, file: str, macros: dict[str, str], sources: Sources) -> Par
     return parsed
 
 
-def parse_file(path: Path, macros: dict[str, str], sources: Sources) -> Parsed:
+def parse_file(path: Path, macros: dict[str, str], sources: NamedFiles) -> Parsed:
     """The statements of a file, and of those that it includes. Trouble as `parse`, and with status 4 where it can't be read."""
     return parse(read_text(path), str(path), macros, sources)

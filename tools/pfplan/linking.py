@@ -6,7 +6,7 @@ from pathlib import Path
 
 from .grammar import parse_file
 from .leftovers import Teller, harmless, telling
-from .sources import Sources
+from .named_files import NamedFiles
 from .syntax import Anchor, Load, Setting, Statement
 
 DEEPEST = 16  # anchors inside one another, as pfsrc takes them
@@ -16,11 +16,11 @@ DEEPEST = 16  # anchors inside one another, as pfsrc takes them
 class Linker:
     """Puts the rules of files into anchors that have no body."""
 
-    sources: Sources
+    sources: NamedFiles
     teller: Teller
     macros: Mapping[str, str]
     files: dict[str, Path]
-    called: set[str] = field(default_factory=set)
+    _bodies: dict[str, tuple[Statement, ...]] = field(default_factory=dict)
 
     def link(self, statements: list[Statement]) -> list[Statement]:
         """The statements, with a body for each anchor whose file is known; loads are told where they lead nowhere."""
@@ -33,7 +33,7 @@ class Linker:
                 self.files.setdefault(it.name.strip("/"), path)
         linked = [self._linked(it, "", 0) for it in statements if not isinstance(it, Load)]
         for it in loads:
-            if it.name.strip("/") in self.files and it.name.strip("/") not in self.called:
+            if it.name.strip("/") in self.files and it.name.strip("/") not in self._bodies:
                 self.teller.tell_whole(it, harmless("no anchor of this text has that name"))
         return linked
 
@@ -44,11 +44,13 @@ class Linker:
         body = statement.body
         path = self.files.get(name)
         if body is None and path is not None and statement.name and depth < DEEPEST:
-            self.called.add(name)
-            body = tuple(self._loaded(path))
-        if body is None:
-            return statement
-        return replace(statement, body=tuple(self._linked(it, name, depth + 1) for it in body))
+            if name not in self._bodies:
+                self._bodies[name] = self._linked_body(tuple(self._loaded(path)), name, depth)
+            return replace(statement, body=self._bodies[name])
+        return statement if body is None else replace(statement, body=self._linked_body(body, name, depth))
+
+    def _linked_body(self, body: tuple[Statement, ...], name: str, depth: int) -> tuple[Statement, ...]:
+        return tuple(self._linked(it, name, depth + 1) for it in body)
 
     def _loaded(self, path: Path) -> list[Statement]:
         """The rules of an anchor's file, read with macros of its own. Settings in it are told: pf takes none of them."""

@@ -13,12 +13,12 @@ from .errors import Status, Trouble
 from .expansion import Expander, table_names, walk
 from .grammar import parse
 from .inputs import check_rules
-from .interfaces import Machine, Network, read_ifconfig
+from .interfaces import Machine, Network, read_ifconfig, shown
 from .leftovers import Leftover, Teller
 from .linking import Linker
 from .outputs import whole_file
 from .settings import Settings
-from .sources import Sources, read_text
+from .named_files import NamedFiles, read_text
 from .syntax import Place, Setting, Statement
 from .tables import TableMaker
 
@@ -71,7 +71,7 @@ def convert(path: Path, options: RuleOptions) -> Ruleset:
 def convert_text(text: str, name: str, options: RuleOptions) -> Ruleset:
     """The rules text of a text; `name` stands for its file in what is told, and says where the files are that it names."""
     teller = Teller(options.strict)
-    sources = Sources(options.root)
+    sources = NamedFiles(options.root)
     parsed = parse(text, name, dict(options.macros), sources)
     anchors = {anchor.strip("/"): path for anchor, path in options.anchors}
     statements = Linker(sources, teller, dict(options.macros), anchors).link(parsed.statements)
@@ -86,7 +86,7 @@ def convert_text(text: str, name: str, options: RuleOptions) -> Ruleset:
     return ruleset
 
 
-def _expander(statements: list[Statement], teller: Teller, sources: Sources, options: RuleOptions) -> Expander:
+def _expander(statements: list[Statement], teller: Teller, sources: NamedFiles, options: RuleOptions) -> Expander:
     machine = _machine(options)
     tables = MadeTables()
     tables.take(table_names(statements))
@@ -109,8 +109,8 @@ def _machine(options: RuleOptions) -> Machine:
     return machine
 
 
-def _notes(teller: Teller, made: MadeTables, sources: Sources) -> tuple[str, ...]:
-    tables = [f"<{name}> stands for {len(entries)} addresses that a rule has at once" for name, entries in made.made.items()]
+def _notes(teller: Teller, made: MadeTables, sources: NamedFiles) -> tuple[str, ...]:
+    tables = [f"<{name}> stands for what a rule asks for at once: {', '.join(map(shown, entries[:4]))}{' ..' if len(entries) > 4 else ''}" for name, entries in made.made.items()]
     renamed = [f"table <{old}> is called <{new}>" for old, new in made.renamed.items()]
     return (*teller.notes, *tables, *renamed, *dict.fromkeys(sources.found))
 

@@ -7,7 +7,7 @@ from pathlib import Path
 
 from .interfaces import Machine, Network, prefix_of, shown
 from .leftovers import Teller, telling
-from .sources import Sources, read_text
+from .named_files import NamedFiles, read_text
 from .syntax import Host, HostKind, Table
 
 _COMMENT = re.compile(r"[#;].*")
@@ -18,7 +18,7 @@ class TableMaker:
     """Makes the line of a table."""
 
     machine: Machine
-    sources: Sources
+    sources: NamedFiles
     teller: Teller
     files: Mapping[str, Path]
 

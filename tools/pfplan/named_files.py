@@ -10,7 +10,7 @@ MOST_BYTES = 64 << 20  # of one file
 
 
 @dataclass
-class Sources:
+class NamedFiles:
     """Finds the files that a text names: an absolute name below `root`, a relative one beside the file that names it.
 
     Where no file has the absolute name, one of the same last name beside the text is taken, and `found` tells so.
