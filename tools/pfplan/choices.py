@@ -8,6 +8,7 @@ from dataclasses import dataclass, field
 from .interfaces import Location, Machine, Network, prefix_of, shown
 from .leftovers import Reason, Teller, beyond, harmless, telling
 from .syntax import Filter, Host, HostKind, Interface, Place, Port, State
+from .tables import TableMaker
 
 FAMILIES = {4: "inet", 6: "inet6"}
 NAME = re.compile(r"[A-Za-z0-9_.-]+")
@@ -105,6 +106,7 @@ class Chooser:
     machine: Machine
     tables: MadeTables
     teller: Teller
+    contents: TableMaker
 
     def interfaces(self, asked: Filter, place: Place, counts: bool) -> Options:
         """The choices of `on`: none, or one for each interface."""
@@ -162,7 +164,7 @@ class Chooser:
         if host.kind is HostKind.ANY:
             return ANY_CHOICE
         if host.kind is HostKind.TABLE:
-            return [Choice(f"{sign}<{host.text}>")]
+            return self._table(host, sign)
         if host.kind is HostKind.ROUTE:
             return [Gap(host.shown(), beyond("a trace does not carry routes"))]
         if host.kind is HostKind.RANGE:
@@ -170,6 +172,12 @@ class Chooser:
         if host.kind is HostKind.DYNAMIC:
             return self._dynamic(host, sign, family)
         return self._named(host, sign, family)
+
+    def _table(self, host: Host, sign: str) -> Options:
+        """A table, unless entries that are not there would have it match more than it does in pf."""
+        if host.text in (self.contents.narrower if host.negated else self.contents.wider):
+            return [Gap(host.shown(), beyond(f"entries of <{host.text}> are not there, and without them it matches other addresses too"))]
+        return [Choice(f"{sign}<{host.text}>")]
 
     def _range(self, host: Host, sign: str) -> Options:
         try:

@@ -68,6 +68,7 @@ class Expander:
     origins: list[Place] = field(default_factory=list)
     _defined: set[str] = field(default_factory=set)
     _defaults: State | None = None
+    _lines_of_tables: dict[int, str] = field(default_factory=dict)
     _opened: dict[int, dict[str, str]] = field(default_factory=dict)
 
     def expand(self, statements: list[Statement]) -> None:
@@ -75,6 +76,9 @@ class Expander:
         self._body(statements, Scope())
 
     def _body(self, statements: list[Statement], scope: Scope) -> None:
+        for it in statements:
+            if isinstance(it, Table) and not scope.is_copy:
+                self._prepare(it, scope)
         for it in statements:
             self._statement(it, scope)
 
@@ -88,8 +92,8 @@ class Expander:
             self._rule(statement, scope)
         elif isinstance(statement, Anchor):
             self._anchor(statement, scope)
-        elif isinstance(statement, Table):
-            self._table(statement, scope)
+        elif isinstance(statement, Table) and id(statement) in self._lines_of_tables:
+            self.lines.append(self._lines_of_tables[id(statement)])
         elif isinstance(statement, Antispoof):
             self._antispoof(statement, scope)
         elif isinstance(statement, Other):
@@ -102,9 +106,8 @@ class Expander:
             self._defaults = self.settings.defaults(statement) or self._defaults
             self.lines.extend(self.settings.lines(statement))
 
-    def _table(self, table: Table, scope: Scope) -> None:
-        if scope.is_copy:
-            return
+    def _prepare(self, table: Table, scope: Scope) -> None:
+        """Makes the line of a table before the rules are expanded, which may stand in front of it."""
         name = scope.tables.get(table.name, self.chooser.tables.plain(table.name))
         if name in self._defined:
             self.teller.tell_whole(table, telling("a table of that name is defined before it"))
@@ -114,7 +117,7 @@ class Expander:
         if scope.depth:
             self.chooser.tables.moved.append(line)
         else:
-            self.lines.append(line)
+            self._lines_of_tables[id(table)] = line
 
     def _antispoof(self, statement: Antispoof, scope: Scope) -> None:
         """The rules that pfctl makes of it: no packet of the interface's networks from elsewhere, and none from its own addresses."""

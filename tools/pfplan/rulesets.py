@@ -81,7 +81,10 @@ def convert_text(text: str, name: str, options: RuleOptions) -> Ruleset:
     expander.expand(statements)
     made = expander.chooser.tables
     lines = [*made.lines(), *expander.lines, *expander.settings.last_lines()]
-    ruleset = Ruleset("".join(f"{it}\n" for it in lines), expander.labels, tuple(teller.told), _notes(teller, made, sources), tuple(expander.origins))
+    files = list(dict.fromkeys([name, *(it.file for it in teller.told)]))
+    told = sorted(teller.told, key=lambda it: (files.index(it.file), it.line))
+    whole = "".join(f"{it}\n" for it in lines)
+    ruleset = Ruleset(whole, expander.labels, tuple(told), _notes(teller, made, sources), tuple(expander.origins))
     _check_size(name, ruleset, expander)
     return ruleset
 
@@ -93,7 +96,7 @@ def _expander(statements: list[Statement], teller: Teller, sources: NamedFiles, 
     settings = Settings(teller)
     settings.look(it for it in walk(statements) if isinstance(it, Setting))
     maker = TableMaker(machine, sources, teller, dict(options.entries))
-    return Expander(Chooser(machine, tables, teller), maker, settings, teller)
+    return Expander(Chooser(machine, tables, teller, maker), maker, settings, teller)
 
 
 def _machine(options: RuleOptions) -> Machine:

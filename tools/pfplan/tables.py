@@ -2,7 +2,7 @@
 
 import re
 from collections.abc import Mapping
-from dataclasses import dataclass
+from dataclasses import dataclass, field
 from pathlib import Path
 
 from .interfaces import Machine, Network, prefix_of, shown
@@ -15,28 +15,40 @@ _COMMENT = re.compile(r"[#;].*")
 
 @dataclass
 class TableMaker:
-    """Makes the line of a table."""
+    """Makes the lines of tables.
+
+    An entry that is not there leaves a table narrower, so `! <t>` would match more: such tables are in `narrower`. Without a
+    negated entry `<t>` would match more: those are in `wider`. Both hold names of the rules text.
+    """
 
     machine: Machine
     sources: NamedFiles
     teller: Teller
     files: Mapping[str, Path]
+    narrower: set[str] = field(default_factory=set)
+    wider: set[str] = field(default_factory=set)
 
     def line(self, table: Table, name: str) -> str:
         """The definition, with every entry that is an address. Others are told, as files that are not there."""
         entries: dict[Network, bool] = {}
-        for host in [*table.entries, *self._from_files(table)]:
-            self._add(table, host, entries)
+        hosts, is_whole = self._from_files(table)
+        for host in [*table.entries, *hosts]:
+            self._add(table, name, host, entries)
+        if not is_whole:
+            self.narrower.add(name)
+            if entries:
+                self.wider.add(name)
         words = ["table", f"<{name}>", *table.parts]
         if entries:
             words.append(f"{{ {', '.join(('!' if negated else '') + shown(it) for it, negated in entries.items())} }}")
         return " ".join(words)
 
-    def _add(self, table: Table, host: Host, entries: dict[Network, bool]) -> None:
+    def _add(self, table: Table, name: str, host: Host, entries: dict[Network, bool]) -> None:
         networks = self._networks(host)
         if networks is None:
             text = ("!" if host.negated else "") + host.shown().removeprefix("! ")
             self.teller.tell(table.place, f"entry {text} of <{table.name}>", telling("it is no address"))
+            (self.wider if host.negated else self.narrower).add(name)
             return
         for it in networks:
             if entries.setdefault(it, host.negated) != host.negated:
@@ -55,19 +67,22 @@ class TableMaker:
             return None
         return [it.network for it in found]
 
-    def _from_files(self, table: Table) -> list[Host]:
+    def _from_files(self, table: Table) -> tuple[list[Host], bool]:
+        """The entries of a table's files, and whether all files were there."""
         given = self.files.get(table.name)
         if given is not None:
-            return entries_of(given)
+            return entries_of(given), True
         found: list[Host] = []
+        is_whole = True
         for name in table.files:
             path = self.sources.find(name, table.place.file)
             if path is None:
                 help_ = f"its entries are not there; give them with --entries {table.name}=FILE"
                 self.teller.tell(table.place, f'file "{name}" of <{table.name}>', telling(help_))
+                is_whole = False
             else:
                 found.extend(entries_of(path))
-        return found
+        return found, is_whole
 
 
 def entries_of(path: Path) -> list[Host]:
