@@ -11,14 +11,11 @@ from dataclasses import dataclass, field
 from itertools import islice
 from pathlib import Path
 
-from .connections import Connections
+from .connections import Connections, Key
 from .counting import Answers
 from .errors import Status, Trouble
 from .records import Traces
 from .words import Network
-
-# a connection: protocol, the user's address and port, those of the other end
-Key = tuple[str, ...]
 
 
 @dataclass(slots=True)
@@ -120,13 +117,14 @@ def _moment_of(line: str) -> int:
 
 def _follow_users(sides: Sequence[Side], row: int, lines: Sequence[str], picks: Picks) -> None:
     """Gives the records of users to each side, with the words that it told of them."""
+    members = sides[0].connections.members
+    members.of(set())  # what it remembers is kept within bounds there
     kills = [{it for it in set(side.texts) if it.startswith("kill:")} for side in sides]
     for at in picks.of(lines):
         column = lines[at].split(",")
         if len(column) != 9 or column[1] == "expire":
             continue
         source = column[4]
-        members = sides[0].connections.members
         if not (members.has(source) or members.has(column[6])):
             continue
         moment = int(column[0])
