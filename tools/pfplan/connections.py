@@ -32,20 +32,20 @@ class Members:
 
     def __init__(self, networks: Sequence[Network]) -> None:
         self._networks = tuple(networks)
-        self._known: dict[str, bool] = {}
+        self._members: set[str] = set()
+        self._others: set[str] = set()
 
     def has(self, address: str) -> bool:
         """Whether a network has it. False for a text that is no address."""
-        known = self._known.get(address)
-        if known is None:
-            known = self._known[address] = self._ask(address)
-        return known
+        return address in self._members or address not in self._others and bool(self.of({address}))
 
     def of(self, addresses: set[str]) -> set[str]:
         """Those of some addresses that a network has."""
-        if len(self._known) > REMEMBERED:
-            self._known.clear()
-        return {it for it in addresses if self.has(it)}
+        if len(self._members) + len(self._others) > 2 * REMEMBERED:
+            self._members, self._others = set(), set()
+        for address in addresses - self._others - self._members:
+            (self._members if self._ask(address) else self._others).add(address)
+        return addresses & self._members
 
     def _ask(self, address: str) -> bool:
         try:

@@ -3,7 +3,7 @@
 from collections import Counter
 from collections.abc import Iterable, Iterator, Sequence
 from dataclasses import dataclass, field
-from itertools import groupby
+from itertools import compress, groupby
 from pathlib import Path
 from typing import NoReturn
 
@@ -109,7 +109,7 @@ class Answers:
         numbers = [it[0] for it in parts]
         if "end" in numbers:
             count = numbers.index("end")
-        if numbers[:count] != [str(it) for it in range(self.rows + 1, self.rows + count + 1)]:
+        if numbers[:count] != list(map(str, range(self.rows + 1, self.rows + count + 1))):
             self._refuse_first(lines)
         return [it[2] for it in parts[:count]]
 
@@ -219,23 +219,33 @@ class Moments:
                 yield lines
 
     def _count(self, lines: Sequence[str], texts: Sequence[str]) -> None:
-        columns = [it.split(",") for it in lines]
-        if set(map(len, columns)) != {9}:
-            self._row += next(i for i, it in enumerate(columns, 1) if len(it) != 9)
-            self._refuse("not nine columns")
-        self._count_moments([it[0] for it in columns], texts)
-        sources = [it[4] for it in columns]
-        self._count_sources(sources, texts)
-        for direction, interface in {(it[1], it[2]) for it in columns}:
-            if direction != "expire" and len(self.interfaces) < INTERFACES:
-                self.interfaces.add(interface)
-        self._follow(columns, sources, texts)
+        columns = self._columns(lines)
+        self._count_moments(columns[0], texts)
+        self._count_sources(columns[4], texts)
+        if "expire" in columns[1]:
+            self._see(name for direction, name in zip(columns[1], columns[2], strict=True) if direction != "expire")
+        else:
+            self._see(columns[2])
+        if self._has_users:
+            self._follow(columns, texts)
         self._row += len(lines)
+
+    def _columns(self, lines: Sequence[str]) -> list[list[str]]:
+        """The nine columns of the lines. One split serves all of them: between two lines stands a part that no line holds."""
+        parts = ",\n,".join(lines).split(",")
+        if len(parts) != 10 * len(lines) - 1 or parts[9::10].count("\n") != len(lines) - 1:
+            self._row += next(i for i, it in enumerate(lines, 1) if it.count(",") != 8)
+            self._refuse("not nine columns")
+        return [parts[it::10] for it in range(9)]
+
+    def _see(self, names: Iterable[str]) -> None:
+        if len(self.interfaces) < INTERFACES:
+            self.interfaces.update(names)
 
     def _count_moments(self, times: Sequence[str], texts: Sequence[str]) -> None:
         at = 0
         for time, group in groupby(times):
-            count = sum(1 for _ in group)
+            count = len(list(group))
             if not (time.isascii() and time.isdigit()):
                 self._row += at + 1
                 self._refuse("the moment is no number")
@@ -278,37 +288,28 @@ class Moments:
 
     def _count_sources(self, sources: Sequence[str], texts: Sequence[str]) -> None:
         words = {it: self._answers.word_of(it) for it in set(texts)}
+        self.seen.add(sources)
         drops = {it for it, word in words.items() if word.startswith("drop:")}
-        made = {it for it, word in words.items() if word == "new"}
-        kills = {it for it, word in words.items() if word.startswith("kill:")}
-        self.seen.add(Counter(sources))
         if drops:
-            self.refused.add(Counter([source for source, text in zip(sources, texts, strict=True) if text in drops]))
+            self.refused.add(compress(sources, map(drops.__contains__, texts)))
+        made = {it for it, word in words.items() if word == "new"}
         if made:
-            self.made.add(Counter([source for source, text in zip(sources, texts, strict=True) if text in made]))
-        if kills:
-            killed: Counter[str] = Counter()
-            for source, text in zip(sources, texts, strict=True):
-                if text in kills:
-                    killed[source] += self._answers.killed_of(text)
-            self.killed.add(+killed)
+            self.made.add(compress(sources, map(made.__contains__, texts)))
+        kills = {it for it, word in words.items() if word.startswith("kill:")}
+        for source, text in compress(zip(sources, texts, strict=True), map(kills.__contains__, texts)) if kills else ():
+            self.killed.add_one(source, self._answers.killed_of(text))
 
-    def _follow(self, columns: Sequence[Sequence[str]], sources: Sequence[str], texts: Sequence[str]) -> None:
-        if not self._has_users:
-            return
-        targets = [it[6] for it in columns]
-        users = self.connections.members.of({*sources, *targets})
-        if not users:
-            return
-        for at, (source, target) in enumerate(zip(sources, targets, strict=True)):
-            if source not in users and target not in users:
-                continue
+    def _follow(self, columns: Sequence[Sequence[str]], texts: Sequence[str]) -> None:
+        sources, targets = columns[4], columns[6]
+        is_user = self.connections.members.of({*sources, *targets}).__contains__
+        rows = range(len(texts))
+        for at in sorted({*compress(rows, map(is_user, sources)), *compress(rows, map(is_user, targets))}):
             word = self._answers.word_of(texts[at])
             row = self._row + at + 1
             if word not in ("skip", "expire"):
-                self.connections.follow(row, int(columns[at][0]), word, columns[at])
+                self.connections.follow(row, int(columns[0][at]), word, [it[at] for it in columns])
             if word.startswith("kill:"):
-                self.connections.kill(row, source)
+                self.connections.kill(row, sources[at])
 
     def _refuse(self, why: str) -> NoReturn:
         raise Trouble(f"{self._trace.name}: row {self._row}: {why}", Status.REFUSED)

@@ -2,6 +2,7 @@
 
 import ipaddress
 from collections import Counter
+from collections.abc import Iterable
 from dataclasses import dataclass
 
 # How many sources are counted at a time.
@@ -23,10 +24,17 @@ class Sources:
         self._counts: Counter[str] = Counter()
         self.dropped = 0  # the greatest count that was dropped
 
-    def add(self, counts: "Counter[str]") -> None:
-        """Adds the counts of some records. Those without a source count for nothing."""
-        counts.pop("", None)
-        self._counts.update(counts)
+    def add(self, sources: Iterable[str]) -> None:
+        """Adds one for each record of a source. Those without a source count for nothing."""
+        self._counts.update(sources)
+        self._bound()
+
+    def add_one(self, source: str, count: int) -> None:
+        """Adds to the count of a source."""
+        self._counts[source] += count
+        self._bound()
+
+    def _bound(self) -> None:
         if len(self._counts) > MOST:
             kept = self._counts.most_common(MOST // 2 + 1)
             self.dropped = max(self.dropped, kept.pop()[1])
@@ -34,9 +42,10 @@ class Sources:
 
     def top(self, most: int) -> list[Source]:
         """The sources with the greatest counts; of equal ones the lower address comes first."""
+        self._counts.pop("", None)
         if not self._counts or most < 1:
             return []
-        least = min(count for _, count in self._counts.most_common(most))
+        least = self._counts.most_common(most)[-1][1]
         best = [Source(address, count) for address, count in self._counts.items() if count >= max(least, 1)]
         return sorted(best, key=lambda it: (-it.count, _place(it.address)))[:most]
 
