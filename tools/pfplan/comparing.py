@@ -4,7 +4,7 @@ import argparse
 import contextlib
 import json
 from collections import Counter
-from collections.abc import Callable, Sequence
+from collections.abc import Callable, Iterator, Sequence
 from dataclasses import asdict, dataclass, field
 from pathlib import Path
 from typing import Any
@@ -201,9 +201,18 @@ def compare(paths: Sequence[Path], trace: Path, arguments: argparse.Namespace) -
 
 
 def _only(one: Sequence[str], other: Sequence[str]) -> tuple[list[str], list[str]]:
-    """The lines of canonical texts that only one of the two has."""
-    there, here = Counter(other), Counter(one)
+    """The lines of canonical texts that only one of the two has; of limits and timeouts, each is a line."""
+    here, there = Counter(_lines(one)), Counter(_lines(other))
     return list((here - there).elements()), list((there - here).elements())
+
+
+def _lines(shown: Sequence[str]) -> Iterator[str]:
+    for line in shown:
+        if line.startswith("set "):
+            head, _, inner = line.partition("{")
+            yield from (f"{head}{it.strip()}" for it in inner.rstrip(" }").split(","))
+        elif line.strip() != "}":
+            yield line
 
 
 def add_words(parser: argparse.ArgumentParser) -> None:

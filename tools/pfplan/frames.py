@@ -45,8 +45,13 @@ p, ul { margin: 6px 0; } ul { padding-left: 22px; } a { color: var(--link); }
 .answer .headline { font-size: 1.35rem; line-height: 1.3; margin: 0 0 4px; font-weight: 600; }
 .wide { overflow-x: auto; } table { border-collapse: collapse; width: 100%; font-size: 0.92rem; }
 th, td { text-align: left; vertical-align: top; padding: 5px 12px 5px 0; border-bottom: 1px solid var(--rule); }
-th { font-weight: 600; color: var(--soft); } td.number, th.number { text-align: right; font-variant-numeric: tabular-nums; white-space: nowrap; }
-td.name { min-width: 13em; } td.short { white-space: nowrap; } tr.told td { font-weight: 600; }
+th { font-weight: 600; color: var(--soft); } td.number, th.number { text-align: right; font-variant-numeric: tabular-nums; }
+td.number { white-space: nowrap; } th { vertical-align: bottom; }
+td.name { min-width: 13em; } th.name { font-family: inherit; font-size: inherit; } td.short { white-space: nowrap; }
+tr.told td { font-weight: 600; }
+@media (max-width: 620px) { .stack thead { display: none; } .stack tr { display: block; border-bottom: 1px solid var(--rule); padding: 6px 0; }
+  .stack td { display: block; border: 0; padding: 0; text-align: left; white-space: normal; min-width: 0; }
+  .stack td::before { content: attr(data-head) " "; color: var(--soft); font: 0.85rem system-ui, sans-serif; } }
 .pictures { display: grid; grid-template-columns: repeat(auto-fill, minmax(min(100%, 300px), 1fr)); gap: 20px 28px; }
 .pictures.few { grid-template-columns: repeat(auto-fill, minmax(min(100%, 400px), 1fr)); }
 figure { margin: 0; min-width: 0; } figcaption { font-size: 0.9rem; margin-bottom: 2px; }
@@ -109,16 +114,20 @@ def code(text: str) -> Markup:
 
 
 def table(heads: Sequence[str], rows: Iterable[Sequence[Child]], kinds: str, told: frozenset[int] = frozenset()) -> Markup:
-    """A table. A letter of `kinds` for each column: `n` a number, `s` short, `c` a name or a rule, `t` a text. Rows in `told` stand out."""
+    """A table. A letter of `kinds` for each column: `n` a number, `s` short, `c` a name or a rule, `t` a text. Rows in `told` stand out.
+
+    On a narrow screen the cells of a table with texts stand below one another, each behind its head.
+    """
     classes = {"n": "number", "s": "short", "c": "name", "t": "text"}
     top = tag("tr", *(tag("th", head, class_=classes[kind]) for head, kind in zip(heads, kinds)))
-    body = [row_of(row, [classes[kind] for kind in kinds], number in told) for number, row in enumerate(rows)]
-    return tag("div", tag("table", tag("thead", top), tag("tbody", *body)), class_="wide")
+    body = [row_of(row, heads, [classes[kind] for kind in kinds], number in told) for number, row in enumerate(rows)]
+    is_stacked = len(kinds) > 2 and bool(set(kinds) & set("ct"))
+    return tag("div", tag("table", tag("thead", top), tag("tbody", *body), class_="stack" if is_stacked else "grid"), class_="wide")
 
 
-def row_of(cells: Sequence[Child], classes: Sequence[str], is_told: bool) -> Markup:
+def row_of(cells: Sequence[Child], heads: Sequence[str], classes: Sequence[str], is_told: bool) -> Markup:
     """A row of a table."""
-    inner = [tag("td", cell, class_=name) for cell, name in zip(cells, classes)]
+    inner = [tag("td", cell, class_=name, data_head=head) for cell, head, name in zip(cells, heads, classes)]
     return tag("tr", *inner, class_="told") if is_told else tag("tr", *inner)
 
 

@@ -55,7 +55,6 @@ class Style(Enum):
 
     LINE = "with lines linewidth 2 linecolor"
     AREA = "with filledcurves y1=0 fillcolor"
-    STEPS = "with fillsteps fillcolor"
     POINTS = "with linespoints linewidth 2 pointtype 7 pointsize 0.5 linecolor"
 
 

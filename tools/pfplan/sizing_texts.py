@@ -109,7 +109,7 @@ def text_of(found: Sizing) -> str:
 def page_of(found: Sizing) -> str:
     """The same as a page."""
     told = list(verdicts(found))
-    title = f"Which {found.varied.title}?"
+    title = f"Which value of {found.varied.title}?"
     parts: list[Child] = [
         tag("h1", title),
         soft(subject_of(found)),

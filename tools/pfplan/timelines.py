@@ -87,11 +87,11 @@ def users_picture(line: Timeline) -> Picture:
     refused = [it.served + it.refused for it in line.moments]
     lost = [it.served + it.refused + it.lost for it in line.moments]
     heights = ((Role.LOST, lost), (Role.REFUSED, refused), (Role.SERVED, served))
-    series = tuple(Series(role, Style.STEPS, stairs(line, values)) for role, values in heights)
+    series = tuple(Series(role, Style.AREA, stairs(line, values)) for role, values in heights)
     return Picture(series, Across.SECONDS, 0.0, line.end, max(lost, default=0.0) * ROOM)
 
 
 def stairs(line: Timeline, heights: Sequence[float]) -> tuple[tuple[float, float], ...]:
-    """The points of steps, the last of which goes on to the end of the axis."""
-    points = [(it.begin, height) for it, height in zip(line.moments, heights)]
-    return tuple([*points, (line.end, heights[-1])]) if points else ()
+    """The outline of steps: each height from its moment to the next, the last one to the end of the axis."""
+    begins = [it.begin for it in line.moments]
+    return tuple((at, height) for begin, end, height in zip(begins, [*begins[1:], line.end], heights) for at in (begin, end))
