@@ -55,6 +55,10 @@ class Members:
         return any(value in it for it in self._networks)
 
 
+# protocol, the user's address and port, those of the other end
+Key = tuple[str, ...]
+
+
 def is_bad(word: str) -> bool:
     """Whether a packet did not go through."""
     return word == "block" or word.startswith("drop:")
@@ -69,6 +73,8 @@ class _Connection:
     is_tcp: bool
     is_greeted: bool = False
     is_answered: bool = False
+    key: Key = ()
+    first: int = 0  # the row of its first packet
 
     def outcome(self) -> str:
         if self.state in ("open", "closed"):
@@ -79,15 +85,19 @@ class _Connection:
 class Connections:
     """Follows the connections of users, and counts those whose end is known.
 
-    `told(begin, outcome)` is called for each that is over. Memory grows with the connections that are open at a time.
+    `told(begin, outcome)` is called for each that is over, and `ended(key, first row, outcome)`, which tells it from all others. Memory
+    grows with the connections that are open at a time.
     """
 
-    def __init__(self, users: Sequence[Network], told: Callable[[int, str], None]) -> None:
+    def __init__(
+        self, users: Sequence[Network], told: Callable[[int, str], None], ended: Callable[[Key, int, str], None] | None = None
+    ) -> None:
         self.members = Members(users)
         self.outcomes: Counter[str] = Counter()
         self.refused_by: Counter[str] = Counter()
         self.without_beginning = 0
         self._told = told
+        self._ended = ended
         self._flows: dict[tuple[str, ...], _Connection] = {}
         self._killed: dict[str, int] = {}
         self._most = 2 * REMEMBERED
@@ -128,6 +138,7 @@ class Connections:
         before = self._flows.pop(key, None)
         if before:
             self._end(before)
+        flow.key, flow.first = key, flow.row
         self._flows[key] = flow
         if len(self._flows) > self._most:
             self._forget()
@@ -153,6 +164,8 @@ class Connections:
         if outcome == "refused":
             self.refused_by[flow.word] += 1
         self._told(flow.begin, outcome)
+        if self._ended:
+            self._ended(flow.key, flow.first, outcome)
 
     def _forget(self) -> None:
         """Counts the older of the connections that are over, and lets them go."""
