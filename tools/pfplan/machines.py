@@ -184,7 +184,8 @@ class Runs:
     def _parallel(self) -> list[str]:
         """The command line of GNU parallel. The last word is a shell's command: what is in it is quoted, or holds letters of our own."""
         machines = self._machines
-        command = ["parallel", "--plain", "--will-cite", "--null", "--halt", "now,fail=1", "--workdir", "...", "--cleanup", "--termseq", "TERM,2000,KILL,50"]
+        command = ["parallel", "--plain", "--will-cite", "--null", "--halt", "now,fail=1", "--cleanup", "--termseq", "TERM,2000,KILL,50"]
+        command += ["--workdir", f".parallel/tmp/{self._folder.name}"]
         command += [f"--jobs={machines.jobs}"] if machines.jobs else []
         command += [f"--sshlogin={it}" for it in machines.logins]
         command += [f"--sshloginfile={it.resolve()}" for it in machines.login_files]
