@@ -1,6 +1,7 @@
 """Files that are written: whole, or not there at all."""
 
 import contextlib
+import io
 import os
 import shutil
 import sys
@@ -45,17 +46,19 @@ def _beside(path: Path) -> Iterator[TextIO]:
 
 
 def _spooled(path: Path | None) -> Iterator[TextIO]:
-    with tempfile.TemporaryFile("w+", encoding="utf-8", errors="surrogateescape", newline="\n", prefix="pfplan-") as file:
+    with tempfile.TemporaryFile(prefix="pfplan-") as kept:
+        file = io.TextIOWrapper(kept, encoding="utf-8", errors="surrogateescape", newline="\n")
         yield file
         file.flush()
-        file.seek(0)
+        kept.seek(0)
         try:
             if path is None:
-                shutil.copyfileobj(file.buffer, sys.stdout.buffer)
+                sys.stdout.flush()
+                shutil.copyfileobj(kept, sys.stdout.buffer)
                 sys.stdout.flush()
             else:
                 with open(path, "wb") as device:
-                    shutil.copyfileobj(file.buffer, device)
+                    shutil.copyfileobj(kept, device)
         except BrokenPipeError:
             # what waits in Python's buffer would be told once more when it ends
             os.dup2(os.open(os.devnull, os.O_WRONLY), sys.stdout.fileno())

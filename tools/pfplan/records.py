@@ -91,12 +91,13 @@ def blocks_of_lines(lines: Iterable[str]) -> Iterator[list[str]]:
         yield block
 
 
-@dataclass(slots=True)
 class Traces:
-    """The records of a trace in blocks, past its header and blank lines; `line` is how many lines were read."""
+    """The records of a trace in blocks, past its header and blank lines. `name` stands in messages for a copy of a pipe."""
 
-    path: Path
-    line: int = 0
+    def __init__(self, path: Path, name: Path | None = None) -> None:
+        self.path = path
+        self.name = name or path
+        self._line = 0
 
     def blocks(self) -> Iterator[list[str]]:
         """The lines of the records. Trouble with status 1 for another header and for a quote, which pfplan does not read."""
@@ -104,10 +105,10 @@ class Traces:
         is_begun = False
         for lines in line_blocks(self.path):
             if any('"' in it for it in lines):
-                at = next(i for i, it in enumerate(lines, self.line + 1) if '"' in it)
-                raise Trouble(f"{self.path}: line {at}: a quote, which pfplan does not read", Status.REFUSED)
-            before = self.line
-            self.line += len(lines)
+                at = next(i for i, it in enumerate(lines, self._line + 1) if '"' in it)
+                raise Trouble(f"{self.name}: line {at}: a quote, which pfplan does not read", Status.REFUSED)
+            before = self._line
+            self._line += len(lines)
             if "" in lines:
                 lines = [it for it in lines if it]
             if not is_begun and lines:
@@ -118,7 +119,7 @@ class Traces:
 
     def _check_header(self, line: str, number: int) -> None:
         if line.removeprefix("\xef\xbb\xbf") != HEADER:
-            raise Trouble(f"{self.path}: line {number}: no header of a trace, which is {HEADER}", Status.REFUSED)
+            raise Trouble(f"{self.name}: line {number}: no header of a trace, which is {HEADER}", Status.REFUSED)
 
 
 def records(path: Path) -> Iterator[Record]:

@@ -12,9 +12,10 @@ from pathlib import Path
 from typing import IO
 
 from .errors import Status, Trouble, reason_of
-from .inputs import check_rules, check_trace
+from .inputs import HEADER, check_rules, check_trace
 from .outputs import whole_file
 from .progress import Progress
+from .records import End, Traces, read_answer
 
 TOP = Path(__file__).resolve().parent.parent.parent
 _ENDED = {1: Status.REFUSED, 3: Status.RULES, 70: Status.NOT_BUILT}
@@ -113,22 +114,25 @@ def items_of(shown: Sequence[str]) -> list[str]:
     return [it.strip() for it in shown if it.strip() != "}" and not it.startswith(("set ", "table "))]
 
 
-def held_after(rules: Path, trace: Path, lines: int, moment: int) -> tuple[int, int, int]:
-    """States, source nodes and table entries that are held at a moment: after the first `lines` lines of a trace.
+def held_after(rules: Path, trace: Path, records: int, moment: int) -> tuple[int, int, int]:
+    """States, source nodes and table entries that are held at a moment, after the first `records` of a trace.
 
-    One more record of a kind that is skipped ends the beginning that is replayed, so that all purges up to the moment are done.
+    One more record, of a kind that is skipped, ends the beginning that is replayed, so that all purges up to the moment are done.
     """
-    with tempfile.NamedTemporaryFile("w", prefix="pfplan-", encoding="latin-1", newline="") as beginning:
-        with open(trace, encoding="latin-1", newline="") as file:
-            for _, line in zip(range(lines), file, strict=False):
-                beginning.write(line)
-        beginning.write(f"{moment},in,none,icmp,0.0.0.0,,0.0.0.0,,\n")
-        beginning.flush()
-        last = ""
-        for last in stream_report(rules, Path(beginning.name)):
-            pass
-    counts = dict(part.split("=") for part in last.split()[1:])
-    return int(counts["states"]), int(counts["nodes"]), int(counts["entries"])
+    with tempfile.TemporaryDirectory(prefix="pfplan-") as folder:
+        beginning, report = Path(folder, "trace"), Path(folder, "report")
+        with open(beginning, "w", encoding="latin-1", newline="\n") as file:
+            file.write(f"{HEADER}\n")
+            for lines in Traces(trace).blocks():
+                file.writelines(f"{it}\n" for it in lines[:records])
+                records -= min(records, len(lines))
+                if not records:
+                    break
+            file.write(f"{moment},in,none,icmp,0.0.0.0,,0.0.0.0,,\n")
+        run_replay(Replay(rules, beginning, report))
+        end = read_answer(_last_line(report))
+    assert isinstance(end, End)
+    return end.states, end.nodes, end.entries
 
 
 class _Runs:
@@ -215,9 +219,13 @@ def _check_end(status: int, told: IO[str], rules: Path, trace: Path) -> None:
 
 def _rows_of(report: Path) -> int:
     """The number in the last whole line of a report that is being written."""
+    number = _last_line(report).partition(" ")[0]
+    return int(number) if number.isdigit() else 0
+
+
+def _last_line(report: Path) -> str:
     with open(report, "rb") as file:
         file.seek(0, os.SEEK_END)
         file.seek(max(0, file.tell() - 200))
-        lines = file.read().split(b"\n")
-    number = lines[-2].split(b" ")[0] if len(lines) > 1 else b"0"
-    return int(number) if number.isdigit() else 0
+        lines = file.read().decode("latin-1").split("\n")
+    return lines[-2] if len(lines) > 1 else ""

@@ -22,6 +22,7 @@ COMMANDS = (
     ("compare", "comparing", "rulesets under one trace, side by side"),
     ("size", "sizing", "which values of a limit, a maximum or a timeout serve the users"),
     ("margins", "margins", "how sure an answer is"),
+    ("measure", "measuring", "one replay in a few numbers, as a line of JSON: what size and margins run"),
 )
 ENDS = """The program that replays is ./pfsrc of the repository, or what the environment names as PFSRC.
 Status: 0 done; 1 a trace, a report or a capture is refused; 2 a word of the command line; 3 a pf.conf or a rules text is
