@@ -38,7 +38,7 @@ PORTS = [0, 1, 21, 22, 23, 25, 53, 79, 80, 81, 443, 65535]
 PORT_NAMES = {21: "ftp", 22: "ssh", 25: "smtp", 53: "domain", 80: "www", 443: "https"}
 HARMLESS = ['label "a b"', "queue q", "queue (q, p)", "tag T", "set prio 3", "set (prio 3, tos 8)", "allow-opts", "rtable 1", "route-to 10.0.0.2",
             "reply-to 10.0.0.2@em0", "dup-to 10.0.0.2", "scrub (no-df)", "divert-packet port 700"]  # fmt: skip
-BEYOND = ["user root", "group { 5 > 10 }", "tagged T", "! tagged T", "received-on em1", "! received-on em1", 'os "OpenBSD"', "tos 8", "prio 3",
+BEYOND = ["user root", "group { 5 > 10 }", "tagged T", "! tagged T", "received-on em1", "! received-on em1", "tos 8", "prio 3",
           "fragment", "probability 50%", "once", "max-pkt-rate 9/9"]  # fmt: skip
 
 

@@ -74,7 +74,8 @@ class DrawnRulesets(unittest.TestCase):
 
     def check_rule(self, drawn: Drawn, made: Ruleset, packets: list[Packet], drawer: Drawer) -> None:
         """What is carried of one of the rules, alone, matches the packets that the drawn rule matches and no other."""
-        rules = rules_of(drawn.items)
+        carried = {it.line for it in made.origins}
+        rules = [it for it in rules_of(drawn.items) if it.line in carried]
         if not rules:
             return
         rule = drawer.random.choice(rules)
