@@ -46,6 +46,7 @@ LAST = 4294967295
 # Names in frame.protocols of what stands between an IPv6 header and what it carries.
 _BETWEEN = ("ipv6.", "ah", "mipv6", "hip", "shim6")
 _NUMBERS = {"tcp": 6, "udp": 17, "icmpv6": 58, "ip": 4, "ipv6": 41, "gre": 47, "esp": 50, "sctp": 132, "dccp": 33, "ospf": 89, "pim": 103}
+_ENDED = {70: Status.NOT_BUILT}
 _NAMES = {6: "tcp", 17: "udp", 1: "icmp", 58: "icmp6"}
 
 
@@ -228,27 +229,35 @@ def tshark_words(capture: str) -> list[str]:
 
 
 @contextlib.contextmanager
-def _running(words: Sequence[str], name: str) -> Iterator[IO[str]]:
-    """What a program prints. Trouble where it is not there, or says that the capture is none."""
+def _running(words: Sequence[str], name: str) -> Iterator[tuple[IO[str], list[str]]]:
+    """What a program prints, and once it has ended well the lines of its standard error. Trouble where it is not there, or fails."""
+    said: list[str] = []
     with tempfile.TemporaryFile("w+", errors="replace", prefix="pfplan-") as told:
         try:
             process = subprocess.Popen(words, stdin=None if name == "-" else subprocess.DEVNULL, stdout=subprocess.PIPE, stderr=told, text=True, encoding="latin-1")
         except FileNotFoundError:
-            raise Trouble("tshark is not here, and neither is ./pfstrace (on Debian: apt-get install tshark)", Status.FAILED) from None
+            raise Trouble(_missing(words[0]), Status.FAILED) from None
         except OSError as error:
             raise Trouble(f"{words[0]}: can't be run: {reason_of(error)}", Status.FAILED) from None
         assert process.stdout is not None
         try:
             with process.stdout as lines:
-                yield lines
+                yield lines, said
         finally:
             if process.poll() is None and sys.exc_info()[0]:
                 process.terminate()
             process.wait()
+        told.seek(0)
+        said += [it for it in told.read(65536).splitlines() if it.strip() and not it.startswith("Running as user")]
         if process.returncode:
-            told.seek(0)
-            said = [it for it in told.read(4096).splitlines() if it.strip() and not it.startswith("Running as user")]
-            raise Trouble(f"{name}: {os.path.basename(words[0])}: {said[-1] if said else f'status {process.returncode}'}", Status.REFUSED)
+            why = said[-1] if said else f"status {process.returncode}"
+            raise Trouble(f"{name}: {os.path.basename(words[0])}: {why}", _ENDED.get(process.returncode, Status.REFUSED))
+
+
+def _missing(word: str) -> str:
+    if word == "tshark":
+        return "tshark is not here, and neither is ./pfstrace (on Debian: apt-get install tshark)"
+    return f"{word}: no such program (PFSTRACE names it)"
 
 
 def check_capture(path: Path) -> None:
@@ -263,18 +272,56 @@ def check_capture(path: Path) -> None:
             raise Trouble(f"{path}: a text, where a capture is wanted", Status.REFUSED)
 
 
+def reader() -> str:
+    """What reads captures: the program that PFSTRACE names, ./pfstrace where the repository has it, else tshark."""
+    named = os.environ.get("PFSTRACE")
+    own = TOP / "pfstrace"
+    return named or (str(own) if own.exists() else "tshark")
+
+
 def make_trace(capture: Path, inside: Sequence[Network], trace: Path | None, *, name: str | None = None, told: Path | None = None, is_zero: bool = False) -> list[str]:
     """Writes the trace of a capture, and answers the lines of the account. Trouble where the capture is refused; then nothing is written."""
     if str(capture) != "-":
         check_capture(capture)
+    if reader() == "tshark":
+        return _by_tshark(capture, inside, trace, name, told, is_zero)
+    return _by_pfstrace(capture, inside, trace, name, told, is_zero)
+
+
+def _by_tshark(capture: Path, inside: Sequence[Network], trace: Path | None, name: str | None, told: Path | None, is_zero: bool) -> list[str]:
     with contextlib.ExitStack() as stack:
         beside = stack.enter_context(whole_file(told)) if told else None
         out = stack.enter_context(whole_file(trace))
         maker = Maker(inside, name, is_zero=is_zero, told=beside)
-        lines = stack.enter_context(_running(tshark_words(str(capture)), str(capture)))
+        lines, _ = stack.enter_context(_running(tshark_words(str(capture)), str(capture)))
         out.write(f"{HEADER}\n")
         out.writelines(records_of(lines, maker, str(capture)))
     return list(maker.account.lines())
+
+
+def _by_pfstrace(capture: Path, inside: Sequence[Network], trace: Path | None, name: str | None, told: Path | None, is_zero: bool) -> list[str]:
+    words = [reader(), *(it for network in inside for it in ("--inside", str(network)))]
+    words += ["--interface", name] if name else []
+    with contextlib.ExitStack() as stack:
+        # pfstrace writes what is told itself: beside its place, and under its name once all is well
+        beside = stack.enter_context(whole_file(told)) if told else None
+        words += ["--told", str(beside.name)] if beside else []
+        words += [] if str(capture) == "-" else ["--", str(capture)]
+        out = stack.enter_context(whole_file(trace))
+        lines, account = stack.enter_context(_running(words, str(capture)))
+        out.writelines(from_zero(lines) if is_zero else lines)
+    return account
+
+
+def from_zero(lines: Iterable[str]) -> Iterator[str]:
+    """A trace whose moments count from that of its first record."""
+    first = -1
+    for line in lines:
+        time, comma, rest = line.partition(",")
+        if time.isdigit():
+            first = int(time) if first < 0 else first
+            time = str(int(time) - first)
+        yield time + comma + rest
 
 
 def add_words(parser: Parser) -> None:

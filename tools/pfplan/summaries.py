@@ -214,7 +214,12 @@ def _users(moments: Moments, users: Sequence[Network]) -> Users:
     connections = moments.connections
     outcomes = {it: connections.outcomes[it] for it in KINDS}
     refused_by = {it: connections.refused_by[it] for it in WORDS if it in connections.refused_by}
-    return Users(",".join(map(str, users)), sum(outcomes.values()), outcomes, refused_by, connections.without_beginning)
+    return Users(",".join(_short(it) for it in users), sum(outcomes.values()), outcomes, refused_by, connections.without_beginning)
+
+
+def _short(network: Network) -> str:
+    """A network, without the length where that is the whole address's."""
+    return str(network.network_address) if network.num_addresses == 1 else str(network)
 
 
 def _by_number(rules: "Counter[str]") -> dict[str, int]:
