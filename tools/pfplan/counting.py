@@ -3,6 +3,7 @@
 from collections import Counter
 from collections.abc import Iterable, Iterator, Sequence
 from dataclasses import dataclass, field
+from functools import lru_cache
 from itertools import compress, groupby
 from pathlib import Path
 from typing import NoReturn
@@ -49,6 +50,12 @@ class Step:
 def step_of(first: int, last: int) -> int:
     """Seconds in a step, so that there are at most 120 steps from the first moment to the last."""
     return next((it for it in STEPS if (last - first) // it < MOST_STEPS), STEPS[-1])
+
+
+@lru_cache(maxsize=4)
+def _row_begins(first: int, count: int) -> tuple[str, ...]:
+    """How the lines of rows begin: their number and a space. Reports that are read side by side ask for the same."""
+    return tuple([f"{it} " for it in range(first, first + count)])
 
 
 class Answers:
@@ -104,6 +111,17 @@ class Answers:
 
     def _texts(self, lines: Sequence[str]) -> list[str]:
         """What stands behind the numbers of the rows; the numbers have to be those that follow."""
+        count = len(lines) - (1 if lines and lines[-1].startswith("end ") else 0)
+        begins = _row_begins(self.rows + 1, count)
+        if begins and all(map(str.startswith, lines, begins)):
+            width = len(begins[0])
+            if len(begins[-1]) == width:
+                return [it[width:] for it in lines[:count]]
+            return [it[len(begin) :] for it, begin in zip(lines, begins)]
+        return self._slow_texts(lines)
+
+    def _slow_texts(self, lines: Sequence[str]) -> list[str]:
+        """As `_texts`, of lines that are not plainly those of the rows that follow: says what is wrong with them."""
         count = len(lines)
         parts = [it.partition(" ") for it in lines]
         numbers = [it[0] for it in parts]

@@ -31,6 +31,7 @@ from .words import file, number
 PACKAGES = {"parallel": "parallel", "rsync": "rsync", "ssh": "openssh-client"}
 # Seconds that a run has to end by itself once it was told to.
 GRACE = 5
+SECONDS_TO_CLEAR = 20
 
 
 @dataclass(frozen=True)
@@ -106,6 +107,8 @@ class Runs:
 
     def __exit__(self, kind: type[BaseException] | None, error: BaseException | None, trace: TracebackType | None) -> None:
         self.stop()
+        if error is not None and not self._machines.is_here and self._count:
+            self._clear_there()
         self._place.cleanup()
 
     def measure(self, texts: Sequence[bytes], progress: Progress | None = None) -> list[str]:
@@ -181,19 +184,33 @@ class Runs:
             raise _trouble("".join(told), status)
         return [said[it] for it in names]
 
+    def _clear_there(self) -> None:
+        """Takes away what runs that were ended left on other machines, as far as these can be reached."""
+        command = ["parallel", "--plain", "--will-cite", "--nonall", *self._logins(), f"rm -rf -- {self._workdir}"]
+        with contextlib.suppress(OSError, subprocess.TimeoutExpired, KeyboardInterrupt):
+            subprocess.run(command, stdin=subprocess.DEVNULL, capture_output=True, timeout=SECONDS_TO_CLEAR, check=False, start_new_session=True)
+
+    @property
+    def _workdir(self) -> str:
+        """The folder of the runs on other machines, below the home there. Its last part is a name that tempfile made: letters, digits and `_`."""
+        return f".parallel/tmp/{self._folder.name}"
+
+    def _logins(self) -> list[str]:
+        logins = [f"--sshlogin={it}" for it in self._machines.logins]
+        return logins + [f"--sshloginfile={it.resolve()}" for it in self._machines.login_files]
+
     def _parallel(self) -> list[str]:
         """The command line of GNU parallel. The last word is a shell's command: what is in it is quoted, or holds letters of our own."""
         machines = self._machines
         command = ["parallel", "--plain", "--will-cite", "--null", "--halt", "now,fail=1", "--cleanup", "--termseq", "TERM,2000,KILL,50"]
-        command += ["--workdir", f".parallel/tmp/{self._folder.name}"]
         command += [f"--jobs={machines.jobs}"] if machines.jobs else []
-        command += [f"--sshlogin={it}" for it in machines.logins]
-        command += [f"--sshloginfile={it.resolve()}" for it in machines.login_files]
-        command += ["--basefile", "./trace", "--transferfile", "./{}"]
+        command += [*self._logins(), "--workdir", self._workdir, "--basefile", "./trace", "--transferfile", "./{}"]
         program = [f"PFSRC={os.environ['PFSRC']}"] if os.environ.get("PFSRC") else []
         path = machines.there or str(TOP / "pfplan")
         words = [shlex.quote(it) for it in ("env", *program, path, "measure", "--named")]
-        return [*command, " ".join([*words, "{}", "trace", *map(shlex.quote, self._words)])]
+        # on this machine itself, the login `:`, nothing is brought: the files are where they were made
+        here = f"test -e trace || cd {shlex.quote(str(self._folder))};"
+        return [*command, " ".join([here, *words, "{}", "trace", *map(shlex.quote, self._words)])]
 
     def _start(self, command: Sequence[str], folder: Path | None) -> "subprocess.Popen[str]":
         """A process in a session of its own, so that an interrupt from the keyboard reaches it through `stop` alone."""

@@ -2,6 +2,7 @@
 
 import argparse
 import contextlib
+import itertools
 import json
 from collections.abc import Iterator, Sequence
 from dataclasses import asdict, dataclass, field
@@ -12,7 +13,7 @@ from .connections import KINDS
 from .errors import Status, Trouble
 from .inputs import regular
 from .records import WORDS, End
-from .replays import stream_report
+from .replays import stream_blocks
 from .sides import Side, follow, side_of, word_counts
 from .summaries import held_at
 from .words import Network, file, networks, number
@@ -103,13 +104,8 @@ def measure_of(side: Side, most_held: int | None = None) -> Measure:
 @contextlib.contextmanager
 def replayed(rules: Path, trace: Path) -> Iterator[Iterator[str]]:
     """The lines of a report as they come. The program is ended where the body leaves before it has."""
-    lines = stream_report(rules, trace)
-    try:
-        yield lines
-    finally:
-        close = getattr(lines, "close", None)
-        if close:
-            close()
+    with contextlib.closing(stream_blocks(rules, trace)) as blocks:
+        yield itertools.chain.from_iterable(blocks)
 
 
 def most_held_at(rules: Path, trace: Path, moments: int, end: End) -> int | None:

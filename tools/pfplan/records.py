@@ -8,7 +8,7 @@ from collections.abc import Iterable, Iterator
 from dataclasses import dataclass
 from itertools import islice
 from pathlib import Path
-from typing import TextIO
+from typing import IO
 
 from .errors import Status, Trouble, reason_of
 from .inputs import HEADER, check_trace
@@ -70,7 +70,7 @@ def line_blocks(path: Path) -> Iterator[list[str]]:
         raise Trouble(f"{path}: can't be read: {reason_of(error)}", Status.FAILED) from None
 
 
-def blocks_of(file: TextIO, name: Path | str) -> Iterator[list[str]]:
+def blocks_of(file: IO[str], name: Path | str) -> Iterator[list[str]]:
     """The lines of a file that is open, as `line_blocks`."""
     while text := file.read(BLOCK):
         if not text.endswith("\n"):

@@ -6,7 +6,7 @@ import os
 import subprocess
 import tempfile
 import threading
-from collections.abc import Iterator, Sequence
+from collections.abc import Generator, Iterator, Sequence
 from dataclasses import dataclass
 from pathlib import Path
 from typing import IO
@@ -15,6 +15,7 @@ from .errors import Status, Trouble, reason_of
 from .inputs import HEADER, check_rules, check_trace
 from .outputs import whole_file
 from .progress import Progress
+from .records import blocks_of
 from .records import End, Traces, read_answer
 
 TOP = Path(__file__).resolve().parent.parent.parent
@@ -86,7 +87,13 @@ def run_replays(replays: Sequence[Replay], jobs: int, progress: Progress | None 
 
 
 def stream_report(rules: Path, trace: Path) -> Iterator[str]:
-    """The lines of a report as the program writes them, without their line feeds; nothing is kept on disk.
+    """The lines of a report, one by one, as `stream_blocks`."""
+    for lines in stream_blocks(rules, trace):
+        yield from lines
+
+
+def stream_blocks(rules: Path, trace: Path) -> Generator[list[str], None, None]:
+    """The lines of a report in blocks as the program writes them, without their line feeds; nothing is kept on disk.
 
     Trouble as `run_replay`, after the lines that were written before it.
     """
@@ -95,8 +102,7 @@ def stream_report(rules: Path, trace: Path) -> Iterator[str]:
     with tempfile.TemporaryFile("w+", prefix="pfplan-") as told, _started(_words(rules, trace), subprocess.PIPE, told) as process:
         assert process.stdout is not None
         with process.stdout as lines:
-            for line in lines:
-                yield line.rstrip("\n")
+            yield from blocks_of(lines, f"the report of {rules}")
         _check_end(process.wait(), told, rules, trace)
 
 
