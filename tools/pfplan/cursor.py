@@ -140,7 +140,12 @@ class Cursor:
     def wanted(self, what: str, words: Iterable[str] = ()) -> Trouble:
         """A syntax error at the token: what was expected, and the nearest of the words that may stand there."""
         near = difflib.get_close_matches(self.token.text, list(words), 1, 0.7) if self.token.kind is Kind.WORD else []
-        return trouble(self.token, f"{self.token.shown()}: wanted {what}" + (f"; is '{near[0]}' meant?" if near else ""))
+        said = f"{self.token.shown()}: wanted {what}"
+        if near:
+            said += f"; is '{near[0]}' meant?"
+        elif self.is_mark("$"):
+            said += "; a macro in the quotes of another is not expanded, so write it outside of them"
+        return trouble(self.token, said)
 
     def _fail_word(self, texts: tuple[str, ...]) -> str:
         named = " or ".join(f"'{it}'" for it in texts) if len(texts) < 6 else "one of " + ", ".join(texts)

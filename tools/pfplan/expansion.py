@@ -15,7 +15,7 @@ from .services import shown_protocol
 from .settings import Settings
 from .states import beyond_pfsrc, carried_state, check_state, refuse
 from .syntax import (
-    Anchor, Antispoof, Filter, Host, HostKind, Interface, Other, Part, Place, Rule, Setting, Side, State, Statement, Table,
+    Anchor, Antispoof, Filter, Host, HostKind, Interface, Other, Place, Rule, Setting, Side, State, Statement, Table,
 )  # fmt: skip
 from .tables import TableMaker
 
@@ -146,9 +146,10 @@ class Expander:
         combinations = self._combinations(rule, asked, scope, counts_states(state))
         if not combinations:
             return
-        self._tell_parts(rule, asked.parts)
+        self._tell_parts(rule)
         clause = carried_state(state, rule.place, self.teller, self._renamed(scope))
-        head = [rule.action, rule.answer, asked.direction, asked.log, "quick" if asked.quick else ""]
+        direction = asked.direction or ("out" if any(it.kind == "binat-to" for it in asked.parts) else "")
+        head = [rule.action, rule.answer, direction, asked.log, "quick" if asked.quick else ""]
         flags = f"flags {asked.flags}" if asked.flags else ""
         for it in combinations:
             self._label(asked, it)
@@ -163,14 +164,16 @@ class Expander:
 
     def _goes_whole(self, statement: Rule | Anchor, more: Reason | None = None) -> bool:
         """Tells a rule or an anchor that a part makes one that can't be carried."""
-        reasons = [it for it in (more, *map(reason_of_part, statement.filter.parts)) if it is not None and it.goes]
+        asked = statement.filter
+        reasons = [more] if more is not None else []
+        reasons += [reason for it in asked.parts if (reason := reason_of_part(it, asked.direction)).goes]
         if reasons:
             self.teller.tell_whole(statement, next((it for it in reasons if it.changes), reasons[0]))
         return bool(reasons)
 
-    def _tell_parts(self, statement: Statement, parts: tuple[Part, ...]) -> None:
-        for it in parts:
-            self.teller.tell(statement.place, it.text, reason_of_part(it))
+    def _tell_parts(self, statement: Rule | Anchor) -> None:
+        for it in statement.filter.parts:
+            self.teller.tell(statement.place, it.text, reason_of_part(it, statement.filter.direction))
 
     def _label(self, asked: Filter, made: Combination) -> None:
         """Keeps the label of the item that comes next, with what its macros stand for (pf.conf(5), "label")."""
@@ -262,7 +265,7 @@ class Expander:
             self.teller.tell_whole(anchor, telling("it has the same rules as another anchor, and they would count states apart"))
             return
         if heads:
-            self._tell_parts(anchor, anchor.filter.parts)
+            self._tell_parts(anchor)
         for head in heads:
             self._open(anchor, head, scope)
 

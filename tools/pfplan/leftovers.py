@@ -70,7 +70,7 @@ _REASONS = {
     "divert-packet": telling(ELSEWHERE),
     "nat-to": telling(TRANSLATED),
     "rdr-to": telling(TRANSLATED),
-    "binat-to": telling(TRANSLATED),
+    "binat-to": telling(f"{TRANSLATED}; the rule is carried for packets out, and that for packets in is not"),
     "af-to": telling(TRANSLATED),
     "once": beyond("the rule leaves at its first match"),
     "max-pkt-rate": beyond("it counts packets, not states"),
@@ -98,8 +98,10 @@ _OTHERS = {
 _OLD_TRANSLATION = telling("old syntax; addresses are translated before the rules are asked")
 
 
-def reason_of_part(part: Part) -> Reason:
-    """Why a part of a rule is left out."""
+def reason_of_part(part: Part, direction: str) -> Reason:
+    """Why a part of a rule of that direction is left out."""
+    if part.kind == "binat-to" and direction == "in":
+        return beyond("binat-to stands for a rule of packets out, and one of packets in with other addresses")
     if part.kind == "scrub":
         return telling("pf drops packets by their timestamps") if "reassemble tcp" in part.text else harmless(SCRUBS)
     return _REASONS[part.kind]

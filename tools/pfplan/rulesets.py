@@ -58,7 +58,7 @@ class Ruleset:
         """The lines for standard error: what was left out, what else is to know, and how much there is of each."""
         changing = sum(it.changes_answer for it in self.leftovers)
         lines = [it.shown() for it in self.leftovers] + [f"note: {it}" for it in self.notes]
-        count = f"{len(self.origins)} items; left out: {changing} that can change an answer, {len(self.leftovers) - changing} that change none"
+        count = f"{len(self.origins)} item{'' if len(self.origins) == 1 else 's'}; left out: {changing} that can change an answer, {len(self.leftovers) - changing} that change none"
         return [*lines, count]
 
 

@@ -63,7 +63,7 @@ class Held:
 
 @dataclass(slots=True)
 class Interfaces:
-    """Interfaces of rules that no record has, and those of records that no rule names."""
+    """Interfaces of rules that no record has, and those of records that no rule names, where some rule names one."""
 
     without_records: list[str]
     without_rules: list[str]
@@ -206,7 +206,7 @@ def _summary(answers: Answers, moments: Moments | None, rules: list[str], labels
         summary.users = _users(moments, users)
     if rules:
         named = {name for it in rules for name in _interfaces(it)}
-        summary.interfaces = Interfaces(sorted(named - moments.interfaces), sorted(moments.interfaces - named))
+        summary.interfaces = Interfaces(sorted(named - moments.interfaces), sorted(moments.interfaces - named) if named else [])
     return summary
 
 
