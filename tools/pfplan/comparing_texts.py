@@ -31,7 +31,7 @@ def rows_of(found: Comparison) -> Iterator[Row]:
         limits = [next((limit for limit in it.limits if limit.word == word), None) for it in measures]
         if any(limits):
             yield word, [f"{it.records:,}" if it else "0" for it in limits]
-            yield "  first moment, last moment", [f"{it.first}, {it.last}" if it else "-" for it in limits]
+            yield f"  {word}: first, last moment", [f"{it.first}, {it.last}" if it else "-" for it in limits]
     if any(it.states_killed for it in measures):
         yield "states killed", [f"{it.states_killed:,}" for it in measures]
     for word in ("added", "full"):

@@ -62,7 +62,8 @@ def follow(trace: Path, sides: Sequence[Side], users: Sequence[Network], each: C
             each(row, lines)
         row += len(lines)
     for side in sides:
-        side.answers.take(list(side.report))
+        if side.answers.take(list(side.report)):
+            raise Trouble(f"{trace}: row {row + 1}: the report of {side.name} has more rows than the trace has records", Status.REFUSED)
         side.answers.finish(False)
         side.connections.finish()
 
