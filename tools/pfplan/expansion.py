@@ -10,6 +10,7 @@ from dataclasses import dataclass, field, replace
 
 from .choices import NO_CHOICE, Choice, Chooser, Gap, counts_states
 from .leftovers import TRANSLATION_NOTE, TRANSLATIONS, Reason, Teller, reason_of_match, reason_of_other, reason_of_part, telling
+from .lexer import printable
 from .linking import DEEPEST
 from .services import shown_protocol
 from .settings import Settings
@@ -66,7 +67,6 @@ class Expander:
     lines: list[str] = field(default_factory=list)
     labels: dict[int, str] = field(default_factory=dict)
     origins: list[Place] = field(default_factory=list)
-    _defined: set[str] = field(default_factory=set)
     _defaults: State | None = None
     _lines_of_tables: dict[int, str] = field(default_factory=dict)
     _opened: dict[int, dict[str, str]] = field(default_factory=dict)
@@ -76,9 +76,8 @@ class Expander:
         self._body(statements, Scope())
 
     def _body(self, statements: list[Statement], scope: Scope) -> None:
-        for it in statements:
-            if isinstance(it, Table) and not scope.is_copy:
-                self._prepare(it, scope)
+        if not scope.is_copy:
+            self._tables([it for it in statements if isinstance(it, Table)], scope)
         for it in statements:
             self._statement(it, scope)
 
@@ -106,18 +105,19 @@ class Expander:
             self._defaults = self.settings.defaults(statement) or self._defaults
             self.lines.extend(self.settings.lines(statement))
 
-    def _prepare(self, table: Table, scope: Scope) -> None:
-        """Makes the line of a table before the rules are expanded, which may stand in front of it."""
-        name = scope.tables.get(table.name, self.chooser.tables.plain(table.name))
-        if name in self._defined:
-            self.teller.tell_whole(table, telling("a table of that name is defined before it"))
-            return
-        self._defined.add(name)
-        line = self.tables.line(table, name)
-        if scope.depth:
-            self.chooser.tables.moved.append(line)
-        else:
-            self._lines_of_tables[id(table)] = line
+    def _tables(self, defined: list[Table], scope: Scope) -> None:
+        """Makes the lines of tables before the rules are expanded, which may stand in front of them. The last of a name stands."""
+        last = {it.name: it for it in defined}
+        for it in defined:
+            if last[it.name] is not it:
+                self.teller.tell_whole(it, telling(f"<{it.name}> is defined again at line {last[it.name].place.line}, and that stands"))
+                continue
+            name = scope.tables.get(it.name, self.chooser.tables.plain(it.name))
+            line = self.tables.line(it, name)
+            if scope.depth:
+                self.chooser.tables.moved.append(line)
+            else:
+                self._lines_of_tables[id(it)] = line
 
     def _antispoof(self, statement: Antispoof, scope: Scope) -> None:
         """The rules that pfctl makes of it: no packet of the interface's networks from elsewhere, and none from its own addresses."""
@@ -190,7 +190,7 @@ class Expander:
             "proto": made.protocol.removeprefix("proto "),
             "nr": str(number),
         }
-        label = text.removeprefix("label ").strip('"')
+        label = printable(text.removeprefix("label ").strip('"'))
         self.labels[number] = re.sub(r"\$(srcaddr|dstaddr|srcport|dstport|proto|if|nr)", lambda it: words[it[1]], label)
 
     def _combinations(self, statement: Rule | Anchor, asked: Filter, scope: Scope, counts: bool) -> list[Combination]:
@@ -243,7 +243,7 @@ class Expander:
         """A list with two negated items asks for nothing, as each item is a rule of its own: that is said."""
         lists: list[tuple[Host, ...] | tuple[Interface, ...]] = [asked.source.hosts, asked.destination.hosts, asked.interfaces]
         if any(len(it) > 1 and any(item.negated for item in it) for it in lists):
-            where = f"{statement.place.file}: line {statement.place.line}"
+            where = f"{printable(statement.place.file)}: line {statement.place.line}"
             self.teller.note(
                 f"{where}: a list with a negated item: each item is a rule of its own, as in pf, so one rule matches what another leaves out"
             )

@@ -79,9 +79,15 @@ class FilterReader:
         if self.at.take_mark("("):
             while not self.at.take_mark(")"):
                 if self.at.want_word("all", "matches", "user", "to") == "to":
-                    self.at.want_name("an interface")
+                    self._log_interface()
                 self.at.take_mark(",")
         return self.at.text_since(mark)
+
+    def _log_interface(self) -> None:
+        token = self.at.token
+        name = self.at.want_name("an interface")
+        if not re.fullmatch(r"[A-Za-z0-9_.-]{1,15}", name) or name in ("any", "rdomain"):
+            raise trouble(token, f"{token.shown()} is no name of an interface")
 
     def interfaces(self) -> tuple[Interface, ...]:
         """`on` and an interface or a list of them; nothing where no `on` stands."""

@@ -37,6 +37,10 @@ class Linker:
                 self.teller.tell_whole(it, harmless("no anchor of this text has that name"))
         return linked
 
+    def called(self) -> set[str]:
+        """The names of the anchors that got their rules from a file."""
+        return set(self._bodies)
+
     def _linked(self, statement: Statement, above: str, depth: int) -> Statement:
         if not isinstance(statement, Anchor):
             return statement

@@ -15,11 +15,12 @@ from .grammar import parse
 from .inputs import check_rules
 from .interfaces import Machine, Network, read_ifconfig, shown
 from .leftovers import Leftover, Teller
+from .lexer import printable
 from .linking import Linker
 from .outputs import whole_file
 from .settings import Settings
 from .named_files import NamedFiles, read_text
-from .syntax import Place, Setting, Statement
+from .syntax import Place, Setting, Statement, Table
 from .tables import TableMaker
 
 MOST_ITEMS, MOST_BYTES = 10_000, 1_048_576  # of a rules text of pfsrc
@@ -74,18 +75,20 @@ def convert_text(text: str, name: str, options: RuleOptions) -> Ruleset:
     sources = NamedFiles(options.root)
     parsed = parse(text, name, dict(options.macros), sources)
     anchors = {anchor.strip("/"): path for anchor, path in options.anchors}
-    statements = Linker(sources, teller, dict(options.macros), anchors).link(parsed.statements)
+    linker = Linker(sources, teller, dict(options.macros), anchors)
+    statements = linker.link(parsed.statements)
     if not statements and not teller.told:
         raise Trouble(f"{name}: there is no statement in it", Status.RULES)
     expander = _expander(statements, teller, sources, options)
     expander.expand(statements)
+    _note_unused(teller, statements, linker, options)
     made = expander.chooser.tables
     lines = [*made.lines(), *expander.lines, *expander.settings.last_lines()]
     files = list(dict.fromkeys([name, *(it.file for it in teller.told)]))
     told = sorted(teller.told, key=lambda it: (files.index(it.file), it.line))
     whole = "".join(f"{it}\n" for it in lines)
     ruleset = Ruleset(whole, expander.labels, tuple(told), _notes(teller, made, sources), tuple(expander.origins))
-    _check_size(name, ruleset, expander)
+    _check_size(name, lines, ruleset, expander.settings.limits)
     return ruleset
 
 
@@ -118,18 +121,38 @@ def _machine(options: RuleOptions) -> Machine:
     return machine
 
 
+def _note_unused(teller: Teller, statements: list[Statement], linker: Linker, options: RuleOptions) -> None:
+    """Says which tables and anchors of the command line the text does not have."""
+    tables = {it.name for it in walk(statements) if isinstance(it, Table)}
+    for table, _ in options.entries:
+        if table not in tables:
+            teller.note(f"--entries {table}: the text defines no table of that name")
+    for anchor, _ in options.anchors:
+        if anchor.strip("/") not in linker.called():
+            teller.note(f"--anchor {anchor}: the text calls no anchor of that name")
+
+
 def _notes(teller: Teller, made: MadeTables, sources: NamedFiles) -> tuple[str, ...]:
-    tables = [f"<{name}> stands for what a rule asks for at once: {', '.join(map(shown, entries[:4]))}{' ..' if len(entries) > 4 else ''}" for name, entries in made.made.items()]
+    tables = []
+    for name, entries in made.made.items():
+        shown_entries = ", ".join(map(shown, entries[:4])) + (" .." if len(entries) > 4 else "")
+        tables.append(f"<{name}> stands for what a rule asks for at once: {shown_entries}")
     renamed = [f"table <{old}> is called <{new}>" for old, new in made.renamed.items()]
-    return (*teller.notes, *tables, *renamed, *dict.fromkeys(sources.found))
+    return tuple(map(printable, (*teller.notes, *tables, *renamed, *dict.fromkeys(sources.found))))
 
 
-def _check_size(name: str, ruleset: Ruleset, expander: Expander) -> None:
-    """Trouble where the rules text is larger than pfsrc takes."""
-    if len(ruleset.origins) > MOST_ITEMS:
-        raise Trouble(f"{name}: stands for {len(ruleset.origins)} rules and anchors; pfsrc takes {MOST_ITEMS}", Status.RULES)
-    if len(ruleset.text) > MOST_BYTES:
-        raise Trouble(f"{name}: its rules text has {len(ruleset.text)} bytes; pfsrc takes {MOST_BYTES}", Status.RULES)
+def _check_size(name: str, lines: list[str], ruleset: Ruleset, limits: dict[str, int]) -> None:
+    """Trouble where the rules text is larger than pfsrc takes, or its tables hold more than its own limits allow."""
+    tables = len(set(re.findall(r"<([A-Za-z0-9_.-]+)>", ruleset.text)))
+    entries = sum(it.count(",") + 1 for it in lines if it.startswith("table ") and "{" in it)
+    for count, most, what in (
+        (len(ruleset.origins), MOST_ITEMS, f"rules and anchors; pfsrc takes {MOST_ITEMS}"),
+        (len(ruleset.text), MOST_BYTES, f"bytes of rules text; pfsrc takes {MOST_BYTES}"),
+        (tables, limits["tables"], f"tables; set limit tables is {limits['tables']}"),
+        (entries, limits["table-entries"], f"entries of tables; set limit table-entries is {limits['table-entries']}"),
+    ):
+        if count > most:
+            raise Trouble(f"{name}: stands for {count} {what}", Status.RULES)
 
 
 def _pair(text: str) -> tuple[str, str]:

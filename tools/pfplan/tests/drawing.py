@@ -21,6 +21,7 @@ em2: flags=8843<UP,BROADCAST,RUNNING,SIMPLEX,MULTICAST> mtu 1500
 \tgroups: lan
 \tinet6 2001:db8:1::1 prefixlen 126
 """
+MOST_RULES = 9000  # of a drawn ruleset: pfsrc takes 10,000
 FAMILIES = {4: "inet", 6: "inet6"}
 INTERFACES = ("lo0", "em0", "em1", "em2")
 GROUPS = {"egress": ("em0",), "lan": ("em1", "em2"), "any": ("em0", "em1", "em2")}
@@ -149,6 +150,8 @@ class Drawer:
             entries = {self.prefix(): self.chance(0.3) for _ in range(self.random.randint(0, 4))}
             drawn.tables[name] = list(entries.items())
         drawn.items = [self.item(0) for _ in range(self.random.randint(1, 6))]
+        while sum(map(most_rules, drawn.items)) > MOST_RULES:
+            drawn.items = [self.item(0) for _ in range(self.random.randint(1, 6))]
         return drawn
 
     def item(self, depth: int) -> Rule | Anchor:
@@ -271,6 +274,17 @@ def has_combination(asked: Filter) -> bool:
     return bool(families(asked.source) & families(asked.destination) & ({asked.family} if asked.family else set(FAMILIES.values())))
 
 
+def most_rules(item: Rule | Anchor) -> int:
+    """At most how many rules and anchors an item stands for."""
+    asked = item.asked
+    count = max(1, len(asked.protocols)) * max(1, sum(len(GROUPS.get(name, (name,))) + 2 * negated for name, negated in asked.interfaces))
+    for hosts in (asked.source, asked.destination):
+        count *= max(1, sum(len(NAMES[it.value]) if it.kind == "static" else 1 for it in hosts))
+    for ports in (asked.source_ports, asked.destination_ports):
+        count *= max(1, sum(2 if it.operator in ("!=", "<>") else 1 for it in ports))
+    return count * (1 + sum(map(most_rules, item.body))) if isinstance(item, Anchor) else count
+
+
 class Writer:
     """Writes a drawn ruleset in one of the many ways that pf.conf allows, and notes on which line each item stands."""
 
@@ -331,8 +345,8 @@ class Writer:
         self._pending = []
         item.line = len(self._lines) + 1
         text = " ".join(it for it in text.split(" ") if it)
-        if self._chance(0.15) and not text.endswith("{"):
-            place = text.rfind(" ")
+        place = text.rfind(" ")
+        if self._chance(0.15) and not text.endswith("{") and place > 0:
             text = f"{text[:place]} \\\n   {text[place + 1 :]}"
         if self._chance(0.1):
             text += "   # said twice"
