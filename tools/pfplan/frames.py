@@ -52,13 +52,14 @@ tr.told td { font-weight: 600; }
 @media (max-width: 620px) { .stack thead { display: none; } .stack tr { display: block; border-bottom: 1px solid var(--rule); padding: 6px 0; }
   .stack td { display: block; border: 0; padding: 0; text-align: left; white-space: normal; min-width: 0; }
   .stack td:empty { display: none; } .stack td::before { content: attr(data-head) " "; color: var(--soft); font: 0.85rem system-ui, sans-serif; } }
+.pictures + .pictures { margin-top: 24px; }
 .pictures { display: grid; grid-template-columns: repeat(auto-fill, minmax(min(100%, 300px), 1fr)); gap: 20px 28px; }
 .pictures.few { grid-template-columns: repeat(auto-fill, minmax(min(100%, 400px), 1fr)); }
 figure { margin: 0; min-width: 0; } figcaption { font-size: 0.9rem; margin-bottom: 2px; }
 .key { white-space: nowrap; margin-left: 10px; } .key::before { content: ""; display: inline-block; width: 0.7em; height: 0.7em;
   margin-right: 4px; background: currentColor; }
 footer { margin-top: 40px; border-top: 1px solid var(--rule); padding-top: 10px; font-size: 0.88rem; color: var(--soft); }
-@media print { body { font-size: 11pt; } main { max-width: none; padding: 0; } h2, figure, tr { break-inside: avoid; } h2 { break-after: avoid; }
+@media print { .pictures.few { grid-template-columns: 1fr 1fr; } body { font-size: 11pt; } main { max-width: none; padding: 0; } h2, figure, tr { break-inside: avoid; } h2 { break-after: avoid; }
   .wide { overflow: visible; } .answer, .area, .line, .key::before { print-color-adjust: exact; -webkit-print-color-adjust: exact; } }
 """
 
@@ -143,4 +144,4 @@ def figure(caption: Iterable[Child], picture: Markup) -> Markup:
 
 def gallery(figures: Sequence[Markup]) -> Markup:
     """Figures side by side, as many in a row as the page is wide enough for."""
-    return tag("div", *figures, class_="pictures few" if len(figures) <= 4 else "pictures")
+    return tag("div", *figures, class_="pictures few" if len(figures) in (1, 2, 4) else "pictures")
