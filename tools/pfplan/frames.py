@@ -53,7 +53,7 @@ tr.told td { font-weight: 600; }
   .stack td { display: block; border: 0; padding: 0; text-align: left; white-space: normal; min-width: 0; }
   .stack td:empty { display: none; } .stack td::before { content: attr(data-head) " "; color: var(--soft); font: 0.85rem system-ui, sans-serif; } }
 .pictures + .pictures { margin-top: 24px; }
-.pictures { display: grid; grid-template-columns: repeat(auto-fill, minmax(min(100%, 300px), 1fr)); gap: 20px 28px; }
+.pictures { display: grid; grid-template-columns: repeat(auto-fill, minmax(min(100%, 300px), 1fr)); gap: 20px 28px; align-items: end; }
 .pictures.few { grid-template-columns: repeat(auto-fill, minmax(min(100%, 400px), 1fr)); }
 figure { margin: 0; min-width: 0; } figcaption { font-size: 0.9rem; margin-bottom: 2px; }
 .key { white-space: nowrap; margin-left: 10px; } .key::before { content: ""; display: inline-block; width: 0.7em; height: 0.7em;
