@@ -22,6 +22,7 @@ from .errors import Status, Trouble, reason_of
 from .inputs import HEADER, Kind, kind_of
 from .outputs import whole_file
 from .replays import TOP
+from .rulesets import machine_of
 from .words import Network, Parser, file, interface, networks
 
 DESCRIPTION = """Makes a trace of a capture, by ./pfstrace where the repository has it, else by tshark.
@@ -333,6 +334,7 @@ def add_words(parser: Parser) -> None:
         help="the networks behind the firewall, and its own addresses: a packet to them from elsewhere is in, one from them to elsewhere "
         "is out. A pflog, and a capture of all interfaces of a Linux machine, tell the direction themselves",
     )  # fmt: skip
+    parser.add_argument("--ifconfig", type=file, metavar="FILE", help="what ifconfig prints on the firewall, in place of --inside")
     parser.add_argument("--interface", "--if", type=interface, metavar="NAME", help="the interface of every record (that of a pflog, else em0)")
     parser.add_argument("--told", type=file, metavar="FILE", help="for a pflog: writes there, for each record, its row, what pf did, and by which rule")
     parser.add_argument("--zero", action="store_true", help="moments count from that of the first record; else they are those of the capture, since 1970")
@@ -341,8 +343,9 @@ def add_words(parser: Parser) -> None:
 
 def run(arguments: argparse.Namespace) -> int:
     """Runs the command."""
+    inside = arguments.inside or machine_of(arguments.ifconfig).inside()
     made = make_trace(
-        arguments.capture, arguments.inside, arguments.out, name=arguments.interface, told=arguments.told, is_zero=arguments.zero
+        arguments.capture, inside, arguments.out, name=arguments.interface, told=arguments.told, is_zero=arguments.zero
     )
     for line in made:
         print(line, file=sys.stderr)

@@ -99,12 +99,18 @@ def _expander(statements: list[Statement], teller: Teller, sources: NamedFiles, 
     return Expander(Chooser(machine, tables, teller, maker), maker, settings, teller)
 
 
+def machine_of(ifconfig: Path | None) -> Machine:
+    """The firewall that ifconfig told of. Trouble with status 3 where the file is not what ifconfig prints, 4 where it can't be read."""
+    if ifconfig is None:
+        return Machine()
+    machine = Machine(read_ifconfig(read_text(ifconfig)))
+    if not machine.interfaces:
+        raise Trouble(f"{ifconfig}: no interface in it: it is not what ifconfig prints", Status.RULES)
+    return machine
+
+
 def _machine(options: RuleOptions) -> Machine:
-    machine = Machine()
-    if options.ifconfig is not None:
-        machine.interfaces = read_ifconfig(read_text(options.ifconfig))
-        if not machine.interfaces:
-            raise Trouble(f"{options.ifconfig}: no interface in it: it is not what ifconfig prints", Status.RULES)
+    machine = machine_of(options.ifconfig)
     for name, prefix in options.addresses:
         machine.given.setdefault(name, []).append(prefix)
     for group, interface in options.interfaces:

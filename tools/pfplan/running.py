@@ -55,7 +55,7 @@ def add_words(parser: Parser) -> None:
     parser.add_argument("capture", type=file, metavar="CAPTURE", help="a capture, or a trace")
     parser.add_argument("--into", type=file, required=True, metavar="FOLDER", help="the folder; it is made where it is not there")
     parser.add_argument("--users", type=networks, metavar="PREFIX,..", default=(), help="the networks of the users: says who of them was served")
-    parser.add_argument("--inside", type=networks, metavar="PREFIX,..", action="extend", default=[], help="the networks behind the firewall, as pfplan trace takes them")
+    parser.add_argument("--inside", type=networks, metavar="PREFIX,..", action="extend", default=[], help="the networks behind the firewall, as pfplan trace takes them (by --ifconfig)")
     parser.add_argument("--if", dest="name", type=interface, metavar="NAME", help="the interface of every record of the capture")
     parser.add_argument("--zero", action="store_true", help="moments of the capture count from that of its first record")
     parser.add_argument("--held", type=number(0, 10_000), metavar="N", default=MOMENTS, help=f"asks the program how much is held at N moments ({MOMENTS})")
@@ -94,7 +94,8 @@ def _trace(arguments: argparse.Namespace, files: Files) -> Path:
     given: Path = arguments.capture
     if kind_of(given) is Kind.TRACE:
         return given
-    for line in make_trace(given, arguments.inside, files / "trace.csv", name=arguments.name, is_zero=arguments.zero):
+    inside = arguments.inside or rulesets.machine_of(arguments.ifconfig).inside()
+    for line in make_trace(given, inside, files / "trace.csv", name=arguments.name, is_zero=arguments.zero):
         print(line, file=sys.stderr)
     return files / "trace.csv"
 
