@@ -1,0 +1,38 @@
+"""Runs a command, and tells what went wrong in one line."""
+
+import signal
+import sys
+from collections.abc import Sequence
+from types import FrameType
+
+from .errors import Status, Trouble, reason_of
+from .words import COMMANDS, parse
+
+
+def main(words: Sequence[str] | None = None) -> int:
+    """Runs the command that the words name, and answers the status (tools/README.md)."""
+    given = list(sys.argv[1:] if words is None else words)
+    name = f"pfplan {given[0]}" if given and given[0] in [it for it, _, _ in COMMANDS] else "pfplan"
+    signal.signal(signal.SIGTERM, _interrupt)
+    try:
+        arguments = parse(given)
+        return int(arguments.run(arguments))
+    except Trouble as trouble:
+        message, status = trouble.message, trouble.status
+    except KeyboardInterrupt:
+        message, status = "interrupted", Status.INTERRUPTED
+    except MemoryError:
+        message, status = "no memory", Status.FAILED
+    except OSError as error:
+        message, status = f"{error.filename or 'reading or writing'}: {reason_of(error)}", Status.FAILED
+    if message:
+        print(f"{name}: {message}", file=sys.stderr)
+    return status
+
+
+def _interrupt(number: int, frame: FrameType | None) -> None:
+    raise KeyboardInterrupt
+
+
+if __name__ == "__main__":
+    sys.exit(main())

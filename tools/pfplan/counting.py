@@ -1,0 +1,362 @@
+"""Counts what a report and its trace hold, block by block. What is counted is told by summaries.Summary."""
+
+from collections import Counter
+from collections.abc import Iterable, Iterator, Sequence
+from dataclasses import dataclass, field
+from functools import lru_cache
+from itertools import compress, groupby
+from pathlib import Path
+from typing import NoReturn
+
+from .connections import Connections
+from .errors import Status, Trouble
+from .records import End, Traces, read_answer
+from .sources import Sources
+from .words import Network
+
+STEPS = (1, 2, 5, 10, 15, 30, 60, 120, 300, 600, 900, 1800, 3600, 7200, 14400, 43200, 86400, 604800, 2592000, 31536000)
+MOST_STEPS = 120
+# Texts of a report's lines that are remembered.
+KNOWN = 50_000
+# Names of interfaces that are kept of a trace.
+INTERFACES = 1000
+
+
+@dataclass(slots=True)
+class Limit:
+    """A limit that was met: by which rows, and with a trace at which moments and in how many seconds."""
+
+    word: str
+    records: int = 0
+    first_row: int = 0
+    last_row: int = 0
+    first_moment: int | None = None
+    last_moment: int | None = None
+    seconds: int = 0
+    killed: int = 0
+
+
+@dataclass(slots=True)
+class Step:
+    """What came of the records of some seconds: by word, states killed, and of users' connections that began then."""
+
+    moment: int
+    words: Counter[str] = field(default_factory=Counter)
+    killed: int = 0
+    tried: int = 0
+    outcomes: Counter[str] = field(default_factory=Counter)
+
+
+def step_of(first: int, last: int) -> int:
+    """Seconds in a step, so that there are at most 120 steps from the first moment to the last."""
+    return next((it for it in STEPS if (last - first) // it < MOST_STEPS), STEPS[-1])
+
+
+@lru_cache(maxsize=4)
+def _row_begins(first: int, count: int) -> tuple[str, ...]:
+    """How the lines of rows begin: their number and a space. Reports that are read side by side ask for the same."""
+    return tuple([f"{it} " for it in range(first, first + count)])
+
+
+class Answers:
+    """Counts the lines of a report: each word by rule, limits with their rows, kills and what overload did."""
+
+    def __init__(self, name: Path | str, items: int | None) -> None:
+        self.rows = 0
+        self.by_rule: dict[str, Counter[str]] = {}
+        self.limits: dict[str, Limit] = {}
+        self.overloads: Counter[str] = Counter()
+        self.end: End | None = None
+        self._name = name
+        self._items = items
+        # the word of a text behind the row's number, and the states that it killed
+        self._known: dict[str, tuple[str, int]] = {}
+
+    def take(self, lines: Sequence[str]) -> list[str]:
+        """Counts the lines of a block, and answers the texts behind the rows' numbers, without that of the last line."""
+        if self.end is not None and lines:
+            self._refuse(self.rows + 2, "a line after the last")
+        if len(self._known) > KNOWN:
+            self._known.clear()
+        texts = self._texts(lines)
+        first = self.rows + 1
+        self.rows += len(texts)
+        counts = Counter(texts)
+        for text in counts:
+            if text not in self._known:
+                self._know(text, first + texts.index(text))
+        for text, count in counts.items():
+            word, killed = self._known[text]
+            self._count(word, text, count, killed)
+        self._count_limits(texts, first)
+        if len(lines) > len(texts):
+            self._take_end(lines[len(texts)])
+            if len(lines) > len(texts) + 1:
+                self._refuse(self.rows + 2, "a line after the last")
+        return texts
+
+    def word_of(self, text: str) -> str:
+        """The word of a text that `take` answered."""
+        return self._known[text][0]
+
+    def killed_of(self, text: str) -> int:
+        """The states that a text of `take` says were killed."""
+        return self._known[text][1]
+
+    def finish(self, is_partial: bool) -> None:
+        """The report is over. Trouble where it has no last line, unless `is_partial`."""
+        if self.end is None and not is_partial:
+            why = "no end line: the report is cut, or a fault stopped it (--partial takes it)" if self.rows else "the report is empty"
+            self._refuse(self.rows, why)
+
+    def _texts(self, lines: Sequence[str]) -> list[str]:
+        """What stands behind the numbers of the rows; the numbers have to be those that follow."""
+        count = len(lines) - (1 if lines and lines[-1].startswith("end ") else 0)
+        begins = _row_begins(self.rows + 1, count)
+        if begins and all(map(str.startswith, lines, begins)):
+            width = len(begins[0])
+            if len(begins[-1]) == width:
+                return [it[width:] for it in lines[:count]]
+            return [it[len(begin) :] for it, begin in zip(lines, begins)]
+        return self._slow_texts(lines)
+
+    def _slow_texts(self, lines: Sequence[str]) -> list[str]:
+        """As `_texts`, of lines that are not plainly those of the rows that follow: says what is wrong with them."""
+        count = len(lines)
+        parts = [it.partition(" ") for it in lines]
+        numbers = [it[0] for it in parts]
+        if "end" in numbers:
+            count = numbers.index("end")
+        if numbers[:count] != list(map(str, range(self.rows + 1, self.rows + count + 1))):
+            self._refuse_first(lines)
+        return [it[2] for it in parts[:count]]
+
+    def _refuse_first(self, lines: Sequence[str]) -> NoReturn:
+        for row, line in enumerate(lines, self.rows + 1):
+            try:
+                found = read_answer(line)
+            except ValueError as error:
+                self._refuse(row, str(error))
+            if isinstance(found, End):
+                break
+            if found.row != row or not line.startswith(f"{row} "):
+                self._refuse(row, f"row {row} is wanted")
+        self._refuse(self.rows + len(lines), "no line of a report")
+
+    def _know(self, text: str, row: int) -> None:
+        try:
+            answer = read_answer(f"0 {text}")
+        except ValueError as error:
+            self._refuse(row, str(error))
+        assert not isinstance(answer, End)
+        if self._items is not None and answer.rule != "-" and int(answer.rule[1:]) >= self._items:
+            self._refuse(row, f"the rules have no {answer.rule}")
+        self._known[text] = answer.word, answer.killed
+
+    def _count(self, word: str, text: str, count: int, killed: int) -> None:
+        part = text.split(" ")
+        self.by_rule.setdefault(word, Counter())[part[1]] += count
+        if not word.startswith(("drop:", "kill:")):
+            return
+        limit = self.limits.setdefault(word, Limit(word))
+        limit.records += count
+        if word.startswith("kill:"):
+            self.overloads[part[2].removeprefix("overload=")] += count
+            limit.killed += killed * count
+
+    def _count_limits(self, texts: Sequence[str], first: int) -> None:
+        if not self.limits:
+            return
+        rows = range(first, first + len(texts))
+        for text, row in dict(zip(texts, rows, strict=True)).items():
+            if limit := self.limits.get(self._known[text][0]):
+                limit.last_row = max(limit.last_row, row)
+        if all(it.first_row for it in self.limits.values()):
+            return
+        for text, row in dict(zip(reversed(texts), reversed(rows), strict=True)).items():
+            limit = self.limits.get(self._known[text][0])
+            if limit and (not limit.first_row or first <= limit.first_row and row < limit.first_row):
+                limit.first_row = row
+
+    def _take_end(self, line: str) -> None:
+        try:
+            end = read_answer(line)
+        except ValueError as error:
+            self._refuse(self.rows + 1, str(error))
+        assert isinstance(end, End)
+        if end.rows != self.rows:
+            self._refuse(self.rows + 1, f"the last line tells {end.rows} rows, and there are {self.rows}")
+        self.end = end
+
+    def _refuse(self, line: int, why: str) -> NoReturn:
+        raise Trouble(f"{self._name}: line {line}: {why}", Status.REFUSED)
+
+
+class Moments:
+    """Counts the records of a trace beside the answers that they got: by the step of their moment, by source and by interface."""
+
+    def __init__(self, trace: Traces, answers: Answers, users: Sequence[Network], step: int) -> None:
+        self.first: int | None = None
+        self.last = 0
+        self.step = step
+        self.steps: dict[int, Step] = {}
+        self.refused, self.killed, self.made, self.seen = Sources(), Sources(), Sources(), Sources()
+        self.interfaces: set[str] = set()
+        self.connections = Connections(users, self._count_connection)
+        self._trace = trace
+        self._back: list[str] = []
+        self._lines = self._ahead()
+        self._answers = answers
+        self._has_users = bool(users)
+        self._row = 0
+        self._seconds: dict[str, int] = {}
+
+    def take(self, texts: Sequence[str]) -> None:
+        """Counts as many records as there are answers. Trouble where the trace has fewer, or is none."""
+        while texts:
+            lines = next(self._lines, None)
+            if lines is None:
+                self._refuse("the report has more rows than the trace has records")
+            if len(lines) > len(texts):
+                self._back = lines[len(texts) :]
+                lines = lines[: len(texts)]
+            self._count(lines, texts[: len(lines)])
+            texts = texts[len(lines) :]
+
+    def finish(self, is_whole: bool) -> None:
+        """The report is over. Trouble where it is whole and the trace has more records."""
+        if is_whole and next(self._lines, None) is not None:
+            raise Trouble(f"{self._trace.name}: row {self._row + 1}: the trace has more records than the report has rows", Status.REFUSED)
+        self.connections.finish()
+
+    def _ahead(self) -> Iterator[list[str]]:
+        for lines in self._trace.blocks():
+            yield lines
+            while self._back:
+                lines, self._back = self._back, []
+                yield lines
+
+    def _count(self, lines: Sequence[str], texts: Sequence[str]) -> None:
+        columns = self._columns(lines)
+        self._count_moments(columns[0], texts)
+        self._count_sources(columns[4], texts)
+        if "expire" in columns[1]:
+            self._see(name for direction, name in zip(columns[1], columns[2], strict=True) if direction != "expire")
+        else:
+            self._see(columns[2])
+        if self._has_users:
+            self._follow(columns, texts)
+        self._row += len(lines)
+
+    def _columns(self, lines: Sequence[str]) -> list[list[str]]:
+        """The nine columns of the lines. One split serves all of them: between two lines stands a part that no line holds."""
+        parts = ",\n,".join(lines).split(",")
+        if len(parts) != 10 * len(lines) - 1 or parts[9::10].count("\n") != len(lines) - 1:
+            self._row += next(i for i, it in enumerate(lines, 1) if it.count(",") != 8)
+            self._refuse("not nine columns")
+        return [parts[it::10] for it in range(9)]
+
+    def _see(self, names: Iterable[str]) -> None:
+        if len(self.interfaces) < INTERFACES:
+            self.interfaces.update(names)
+
+    def _count_moments(self, times: Sequence[str], texts: Sequence[str]) -> None:
+        at = 0
+        for time, group in groupby(times):
+            count = len(list(group))
+            if not (time.isascii() and time.isdigit()):
+                self._row += at + 1
+                self._refuse("the moment is no number")
+            moment = int(time)
+            if self.first is None:
+                self.first = moment
+            elif moment < self.last:
+                self._row += at + 1
+                self._refuse("the moment falls")
+            self.last = moment
+            self._count_second(moment, Counter(texts[at : at + count]) if count > 1 else Counter((texts[at],)))
+            at += count
+
+    def _count_second(self, moment: int, counts: "Counter[str]") -> None:
+        step = self._step(moment)
+        for text, count in counts.items():
+            word = self._answers.word_of(text)
+            step.words[word] += count
+            limit = self._answers.limits.get(word)
+            if limit is None:
+                continue
+            step.killed += self._answers.killed_of(text) * count
+            if limit.first_moment is None:
+                limit.first_moment = moment
+            if limit.last_moment != moment:
+                limit.seconds += 1
+                limit.last_moment = moment
+
+    def _step(self, moment: int) -> Step:
+        number = (moment - (self.first or 0)) // self.step
+        step = self.steps.get(number)
+        if step is None:
+            step = self.steps[number] = Step((self.first or 0) + number * self.step)
+        return step
+
+    def _count_connection(self, begin: int, outcome: str) -> None:
+        step = self._step(begin)
+        step.tried += 1
+        step.outcomes[outcome] += 1
+
+    def _count_sources(self, sources: Sequence[str], texts: Sequence[str]) -> None:
+        words = {it: self._answers.word_of(it) for it in set(texts)}
+        self.seen.add(sources)
+        drops = {it for it, word in words.items() if word.startswith("drop:")}
+        if drops:
+            self.refused.add(compress(sources, map(drops.__contains__, texts)))
+        made = {it for it, word in words.items() if word == "new"}
+        if made:
+            self.made.add(compress(sources, map(made.__contains__, texts)))
+        kills = {it for it, word in words.items() if word.startswith("kill:")}
+        for source, text in compress(zip(sources, texts, strict=True), map(kills.__contains__, texts)) if kills else ():
+            self.killed.add_one(source, self._answers.killed_of(text))
+
+    def _follow(self, columns: Sequence[Sequence[str]], texts: Sequence[str]) -> None:
+        sources, targets = columns[4], columns[6]
+        is_user = self.connections.members.of({*sources, *targets}).__contains__
+        rows = range(len(texts))
+        for at in sorted({*compress(rows, map(is_user, sources)), *compress(rows, map(is_user, targets))}):
+            word = self._answers.word_of(texts[at])
+            row = self._row + at + 1
+            if word not in ("skip", "expire"):
+                self.connections.follow(row, int(columns[0][at]), word, [it[at] for it in columns])
+            if word.startswith("kill:"):
+                self.connections.kill(row, sources[at])
+
+    def _refuse(self, why: str) -> NoReturn:
+        raise Trouble(f"{self._trace.name}: row {self._row}: {why}", Status.REFUSED)
+
+
+def last_moment_of(trace: Path) -> int | None:
+    """The moment of the last record of a trace, of which only the end is read; None where that is no record."""
+    with open(trace, "rb") as file:
+        file.seek(0, 2)
+        file.seek(max(0, file.tell() - 4096))
+        lines = file.read().decode("latin-1").split()
+    time = lines[-1].partition(",")[0] if lines else ""
+    return int(time) if time.isascii() and time.isdigit() else None
+
+
+def first_moment_of(trace: Path) -> int | None:
+    """The moment of the first record of a trace; None where there is none."""
+    for lines in Traces(trace).blocks():
+        time = lines[0].partition(",")[0]
+        return int(time) if time.isascii() and time.isdigit() else None
+    return None
+
+
+def count(blocks: Iterable[list[str]], answers: Answers, moments: Moments | None, is_partial: bool) -> None:
+    """Counts a report, and its trace beside it. Trouble where one of them is none, or they are not of one replay."""
+    for lines in blocks:
+        texts = answers.take(lines)
+        if moments:
+            moments.take(texts)
+    answers.finish(is_partial)
+    if moments:
+        moments.finish(answers.end is not None)

@@ -1,0 +1,253 @@
+"""Where the runs of `size` and `margins` go on: side by side on this machine, or over several by GNU parallel.
+
+A run is the command `pfplan measure` with a rules text, the trace and words that hold no name of the user's: numbers and networks. Names
+never come into a command that a shell reads: the files of the runs have names of our own in a temporary folder, and what words are the
+user's (the path of pfplan and of pfsrc) are quoted for the shell. On other machines pfplan has to stand under the same path, or under the one
+that `--there` names; rules and trace are brought by rsync over ssh into a folder that goes when they are done.
+"""
+
+import argparse
+import concurrent.futures
+import contextlib
+import os
+import shlex
+import shutil
+import signal
+import subprocess
+import sys
+import tempfile
+import threading
+from collections.abc import Sequence
+from dataclasses import dataclass
+from pathlib import Path
+from types import TracebackType
+
+from .errors import Status, Trouble, reason_of
+from .inputs import check_readable
+from .progress import Progress
+from .replays import TOP
+from .words import file, number
+
+PACKAGES = {"parallel": "parallel", "rsync": "rsync", "ssh": "openssh-client"}
+# Seconds that a run has to end by itself once it was told to.
+GRACE = 5
+SECONDS_TO_CLEAR = 20
+
+
+@dataclass(frozen=True)
+class Machines:
+    """Which machines, and how many runs at a time on each. Without logins it is this machine alone."""
+
+    jobs: int | None
+    logins: tuple[str, ...] = ()
+    login_files: tuple[Path, ...] = ()
+    there: str | None = None
+
+    @property
+    def is_here(self) -> bool:
+        """Whether all runs are on this machine, without GNU parallel."""
+        return not self.logins and not self.login_files
+
+
+def add_words(parser: argparse.ArgumentParser) -> None:
+    """The words that say where runs go on."""
+    group = parser.add_argument_group("where it runs")
+    group.add_argument("--jobs", type=number(1, 1000), metavar="N", help="runs side by side on each machine (one for each processor)")
+    group.add_argument("--sshlogin", action="append", default=[], metavar="LOGIN", help="another machine, by GNU parallel: user@host, 8/host, : for this one")
+    group.add_argument("--sshloginfile", action="append", default=[], type=file, metavar="FILE", help="a file with such logins, one a line")
+    group.add_argument("--there", metavar="PATH", help="where pfplan is on the other machines (by default as here)")
+
+
+def of(arguments: argparse.Namespace) -> Machines:
+    """The machines that the words name. Trouble where a file of logins can't be read, or a Debian package is missing."""
+    for path in arguments.sshloginfile:
+        check_readable(path)
+    for login in arguments.sshlogin:
+        if not login.strip() or not login.isprintable():
+            raise Trouble(f"--sshlogin: {login!r} is no login")
+    machines = Machines(arguments.jobs, tuple(arguments.sshlogin), tuple(arguments.sshloginfile), arguments.there)
+    if not machines.is_here:
+        check_parallel()
+    return machines
+
+
+def check_parallel() -> None:
+    """Trouble with status 4 where GNU parallel, rsync or ssh is not installed: it says which Debian package has it."""
+    for name, package in PACKAGES.items():
+        if shutil.which(name) is None:
+            raise Trouble(f"--sshlogin: {name} is not here (Debian package {package})", Status.FAILED)
+    told = subprocess.run(["parallel", "--version"], capture_output=True, text=True, check=False, stdin=subprocess.DEVNULL)
+    if not told.stdout.startswith("GNU parallel"):
+        raise Trouble("--sshlogin: the command parallel is not that of GNU (Debian package parallel)", Status.FAILED)
+
+
+class Runs:
+    """Runs of one trace. Leaving it ends those that still go on, and takes the temporary folder away."""
+
+    def __init__(self, machines: Machines, trace: Path, words: Sequence[str]) -> None:
+        """`words` follow the names of rules and trace in each run's command line."""
+        self._machines = machines
+        self._trace = trace
+        self._words = list(words)
+        self._lock = threading.Lock()
+        self._processes: set[subprocess.Popen[str]] = set()
+        self._is_stopped = False
+        self._count = 0
+
+    def __enter__(self) -> "Runs":
+        self._place = tempfile.TemporaryDirectory(prefix="pfplan-")
+        self._folder = Path(self._place.name)
+        if not self._machines.is_here:
+            try:
+                shutil.copyfile(self._trace, self._folder / "trace")
+            except OSError as error:
+                self._place.cleanup()
+                raise Trouble(f"{self._folder}: the trace can't be copied: {reason_of(error)}", Status.FAILED) from None
+        return self
+
+    def __exit__(self, kind: type[BaseException] | None, error: BaseException | None, trace: TracebackType | None) -> None:
+        self.stop()
+        if error is not None and not self._machines.is_here and self._count:
+            self._clear_there()
+        self._place.cleanup()
+
+    def measure(self, texts: Sequence[bytes], progress: Progress | None = None) -> list[str]:
+        """Runs each rules text, and answers the line that each run printed, in their order.
+
+        Trouble with the run's own message and status where one fails; then the others are ended.
+        """
+        names = []
+        for text in texts:
+            names.append(f"rules-{self._count}")
+            self._count += 1
+            try:
+                (self._folder / names[-1]).write_bytes(text)
+            except OSError as error:
+                raise Trouble(f"{self._folder}: can't be written: {reason_of(error)}", Status.FAILED) from None
+        return self._here(names, progress) if self._machines.is_here else self._spread(names, progress)
+
+    def stop(self) -> None:
+        """Ends all that run and waits for them; what has not ended in five seconds is killed."""
+        with self._lock:
+            self._is_stopped = True
+            going = list(self._processes)
+        for process in going:
+            _end(process)
+
+    def _here(self, names: Sequence[str], progress: Progress | None) -> list[str]:
+        jobs = self._machines.jobs or os.cpu_count() or 1
+        trace = str(self._trace.resolve())
+        pool = concurrent.futures.ThreadPoolExecutor(max_workers=min(jobs, max(1, len(names))))
+        commands = [[sys.executable, str(TOP / "pfplan"), "measure", str(self._folder / it), trace, *self._words] for it in names]
+        futures = [pool.submit(self._one, it) for it in commands]
+        try:
+            for future in concurrent.futures.as_completed(futures):
+                future.result()
+                if progress:
+                    progress.advance()
+        except BaseException:
+            pool.shutdown(wait=False, cancel_futures=True)
+            self.stop()
+            raise
+        pool.shutdown()
+        return [it.result() for it in futures]
+
+    def _one(self, command: Sequence[str]) -> str:
+        """One run on this machine, up to its end; the line that it printed."""
+        process = self._start(command, None)
+        said, told = process.communicate()
+        self._drop(process)
+        if process.returncode != 0:
+            raise _trouble(told, process.returncode)
+        return said
+
+    def _spread(self, names: Sequence[str], progress: Progress | None) -> list[str]:
+        """Runs by GNU parallel. Each prints one line, which begins with the name of its rules."""
+        process = self._start(self._parallel(), self._folder)
+        assert process.stdin is not None and process.stdout is not None and process.stderr is not None
+        told: list[str] = []
+        reader = threading.Thread(target=told.extend, args=(process.stderr,), daemon=True)
+        reader.start()
+        said: dict[str, str] = {}
+        with contextlib.suppress(BrokenPipeError):
+            process.stdin.write("\0".join(names))
+            process.stdin.close()
+        for line in process.stdout:
+            name, _, rest = line.partition(" ")
+            said[name] = rest
+            if progress:
+                progress.advance()
+        status = process.wait()
+        reader.join()
+        self._drop(process)
+        if status != 0 or set(said) != set(names):
+            raise _trouble("".join(told), status)
+        return [said[it] for it in names]
+
+    def _clear_there(self) -> None:
+        """Takes away what runs that were ended left on other machines, as far as these can be reached."""
+        command = ["parallel", "--plain", "--will-cite", "--nonall", *self._logins(), f"rm -rf -- {self._workdir}"]
+        with contextlib.suppress(OSError, subprocess.TimeoutExpired, KeyboardInterrupt):
+            subprocess.run(command, stdin=subprocess.DEVNULL, capture_output=True, timeout=SECONDS_TO_CLEAR, check=False, start_new_session=True)
+
+    @property
+    def _workdir(self) -> str:
+        """The folder of the runs on other machines, below the home there. Its last part is a name that tempfile made: letters, digits and `_`."""
+        return f".parallel/tmp/{self._folder.name}"
+
+    def _logins(self) -> list[str]:
+        logins = [f"--sshlogin={it}" for it in self._machines.logins]
+        return logins + [f"--sshloginfile={it.resolve()}" for it in self._machines.login_files]
+
+    def _parallel(self) -> list[str]:
+        """The command line of GNU parallel. The last word is a shell's command: what is in it is quoted, or holds letters of our own."""
+        machines = self._machines
+        command = ["parallel", "--plain", "--will-cite", "--null", "--halt", "now,fail=1", "--cleanup", "--termseq", "TERM,2000,KILL,50"]
+        command += [f"--jobs={machines.jobs}"] if machines.jobs else []
+        command += [*self._logins(), "--workdir", self._workdir, "--basefile", "./trace", "--transferfile", "./{}"]
+        program = [f"PFSRC={os.environ['PFSRC']}"] if os.environ.get("PFSRC") else []
+        path = machines.there or str(TOP / "pfplan")
+        words = [shlex.quote(it) for it in ("env", *program, path, "measure", "--named")]
+        # on this machine itself, the login `:`, nothing is brought: the files are where they were made
+        here = f"test -e trace || cd {shlex.quote(str(self._folder))};"
+        return [*command, " ".join([here, *words, "{}", "trace", *map(shlex.quote, self._words)])]
+
+    def _start(self, command: Sequence[str], folder: Path | None) -> "subprocess.Popen[str]":
+        """A process in a session of its own, so that an interrupt from the keyboard reaches it through `stop` alone."""
+        source = subprocess.DEVNULL if folder is None else subprocess.PIPE
+        with self._lock:
+            if self._is_stopped:
+                raise Trouble("ended", Status.INTERRUPTED)
+            try:
+                process = subprocess.Popen(
+                    command, stdin=source, stdout=subprocess.PIPE, stderr=subprocess.PIPE, text=True, cwd=folder, start_new_session=True
+                )
+            except OSError as error:
+                raise Trouble(f"{command[0]}: can't be run: {reason_of(error)}", Status.FAILED) from None
+            self._processes.add(process)
+            return process
+
+    def _drop(self, process: "subprocess.Popen[str]") -> None:
+        with self._lock:
+            self._processes.discard(process)
+
+
+def _end(process: "subprocess.Popen[str]") -> None:
+    """Ends a process with all that it started in its session. GNU parallel ends its runs when it is told twice."""
+    for number_of_signal in (signal.SIGTERM, signal.SIGTERM, signal.SIGKILL):
+        with contextlib.suppress(ProcessLookupError, PermissionError):
+            os.killpg(process.pid, number_of_signal)
+        try:
+            process.wait(timeout=GRACE if number_of_signal is signal.SIGTERM else None)
+            break
+        except subprocess.TimeoutExpired:
+            continue
+
+
+def _trouble(told: str, status: int) -> Trouble:
+    """What a run that failed said: its last line, without the name of the command."""
+    lines = [it.strip() for it in told.splitlines() if it.strip()]
+    own = [it for it in lines if it.startswith("pfplan measure: ")]
+    said = (own or lines or [f"a run ended with status {status} and said nothing"])[-1]
+    known = status if own and status in set(Status) else Status.FAILED
+    return Trouble(said.removeprefix("pfplan measure: "), known)

@@ -1,0 +1,323 @@
+"""The command `summary`: what a report holds, and what became of the users."""
+
+import argparse
+import bisect
+import concurrent.futures
+import json
+import sys
+from collections import Counter
+from collections.abc import Iterable, Mapping, Sequence
+from dataclasses import asdict, dataclass, field
+from pathlib import Path
+from typing import Any
+
+from . import summary_texts
+from .connections import KINDS
+from .counting import Answers, Limit, Moments, Step, count, first_moment_of, last_moment_of, step_of
+from .errors import Status, Trouble
+from .inputs import Kind, check_trace, kind_of, regular
+from .outputs import whole_file
+from .progress import Progress
+from .records import WORDS, End, Traces, blocks_of, line_blocks
+from .replays import check_program, held_after, items_of, show_rules
+from .sources import Source
+from .words import Network, Parser, file, networks, number
+
+DESCRIPTION = """Sums up a report of ./pfsrc replay.
+
+A connection of a user begins with a SYN from the user (for other protocols: with its first packet). It is
+  served      its handshake went through, and every packet of it up to the first FIN or RST
+  unanswered  it was let in, and the trace shows no handshake: the server refused it or did not answer
+  refused     its first packet was blocked or dropped, and so was each repetition of it
+  killed      its state was killed by a limit on its source, or by the flush that followed
+  cut         it was let in, and a later packet was not: its state had run out, which adaptive timeouts hasten
+Where a connection has no first packet in the trace it is counted apart."""
+MOST_SERIES = 100_000
+
+
+@dataclass(slots=True)
+class Users:
+    """What became of the connections of users: how many had which outcome (connections.KINDS), and by which words they were refused."""
+
+    of: str
+    connections: int
+    outcomes: dict[str, int]
+    refused_by: dict[str, int]
+    without_beginning: int
+
+    @property
+    def served(self) -> float:
+        """The share of the connections that were served, 0 to 1; 1 where there were none."""
+        return self.outcomes["served"] / self.connections if self.connections else 1.0
+
+
+@dataclass(frozen=True, slots=True)
+class Held:
+    """What is held at a moment."""
+
+    moment: int
+    states: int
+    nodes: int
+    entries: int
+
+
+@dataclass(slots=True)
+class Interfaces:
+    """Interfaces of rules that no record has, and those of records that no rule names, where some rule names one."""
+
+    without_records: list[str]
+    without_rules: list[str]
+
+
+@dataclass(slots=True)
+class Tops:
+    """Sources with the greatest counts: records refused by a limit, states killed, states made, and records."""
+
+    refused: list[Source] = field(default_factory=list)
+    killed: list[Source] = field(default_factory=list)
+    made: list[Source] = field(default_factory=list)
+    seen: list[Source] = field(default_factory=list)
+    is_exact: bool = True
+
+
+@dataclass(slots=True)
+class Summary:
+    """All counts of a report, and with a trace those that need moments and sources."""
+
+    records: int
+    answers: dict[str, dict[str, int]]  # word -> `@N` or `-` -> records
+    limits: list[Limit]
+    overloads: dict[str, int]
+    end: End | None
+    first_moment: int | None = None
+    last_moment: int | None = None
+    step_seconds: int = 0
+    steps: list[Step] = field(default_factory=list)
+    users: Users | None = None
+    sources: Tops = field(default_factory=Tops)
+    rules: list[str] = field(default_factory=list)  # the n-th is the text of `@n`
+    labels: dict[int, str] = field(default_factory=dict)
+    undecided: list[int] = field(default_factory=list)  # rules, not anchors, that no record has
+    interfaces: Interfaces | None = None
+    held: list[Held] = field(default_factory=list)
+
+    def words(self) -> dict[str, int]:
+        """How many records have each word, in the order of the report's words."""
+        return {word: sum(self.answers.get(word, {}).values()) for word in WORDS}
+
+    def to_json(self) -> dict[str, Any]:
+        """The counts for machines (tools/README.md)."""
+        return {
+            "records": self.records,
+            "moments": None if self.first_moment is None else [self.first_moment, self.last_moment],
+            "words": self.words(),
+            "rules": self._rules(),
+            "undecided": [self._rule(it) for it in self.undecided],
+            "interfaces": asdict(self.interfaces) if self.interfaces else None,
+            "limits": [asdict(it) for it in self.limits],
+            "overloads": self.overloads,
+            "sources": asdict(self.sources),
+            "users": asdict(self.users) | {"served": self.users.served} if self.users else None,
+            "series": {"seconds": self.step_seconds, "steps": [_step_json(it) for it in self.steps]},
+            "held": [asdict(it) for it in self.held],
+            "end": asdict(self.end) if self.end else None,
+        }
+
+    def to_text(self) -> str:
+        """The counts for people."""
+        return summary_texts.text_of(self)
+
+    def _rules(self) -> list[dict[str, Any]]:
+        return [
+            ({"rule": rule} if rule == "-" else self._rule(int(rule[1:]))) | {"word": word, "records": records}
+            for word, rules in self.answers.items()
+            for rule, records in rules.items()
+        ]
+
+    def _rule(self, item: int) -> dict[str, Any]:
+        text = self.rules[item] if item < len(self.rules) else None
+        return {"rule": f"@{item}", "text": text, "label": self.labels.get(item)}
+
+
+def summarize(
+    report: Path,
+    trace: Path | None = None,
+    users: Sequence[Network] = (),
+    rules: Path | None = None,
+    *,
+    labels: Mapping[int, str] | None = None,
+    every: int = 0,
+    top: int = 5,
+    is_partial: bool = False,
+) -> Summary:
+    """Sums up a report in a file. Trouble where a file can't be read, is none, or they are not of one replay."""
+    if kind_of(report) in (Kind.TRACE, Kind.CAPTURE):
+        raise Trouble(f"{report}: a trace or a capture, where a report is wanted", Status.REFUSED)
+    return summarize_blocks(line_blocks(report), report, trace, users, rules, labels=labels, every=every, top=top, is_partial=is_partial)
+
+
+def summarize_blocks(
+    blocks: Iterable[list[str]],
+    name: Path | str,
+    trace: Path | None = None,
+    users: Sequence[Network] = (),
+    rules: Path | None = None,
+    *,
+    labels: Mapping[int, str] | None = None,
+    every: int = 0,
+    top: int = 5,
+    is_partial: bool = False,
+) -> Summary:
+    """Sums up the lines of a report as they come (records.blocks_of_lines, replays.stream_report); `name` stands in messages."""
+    texts = items_of(show_rules(rules)) if rules else []
+    answers = Answers(name, len(texts) if rules else None)
+    if trace is None:
+        count(blocks, answers, None, is_partial)
+        return _summary(answers, None, texts, labels or {}, users, top)
+    check_trace(trace)
+    with regular(trace) as kept:
+        moments = Moments(Traces(kept, trace), answers, users, _step(kept, every))
+        count(blocks, answers, moments, is_partial)
+    return _summary(answers, moments, texts, labels or {}, users, top)
+
+
+def _step(trace: Path, every: int) -> int:
+    """Seconds in a step of the series."""
+    first, last = first_moment_of(trace) or 0, last_moment_of(trace) or 0
+    if every and (last - first) // every > MOST_SERIES:
+        raise Trouble(f"--every: {every} seconds make more than {MOST_SERIES} steps from moment {first} to {last}")
+    return every or step_of(first, last)
+
+
+def _summary(answers: Answers, moments: Moments | None, rules: list[str], labels: Mapping[int, str], users: Sequence[Network], top: int) -> Summary:
+    by_rule = {word: _by_number(answers.by_rule[word]) for word in WORDS if word in answers.by_rule}
+    summary = Summary(
+        answers.rows, by_rule, [answers.limits[it] for it in WORDS if it in answers.limits], dict(answers.overloads), answers.end,
+        rules=rules, labels=dict(labels), undecided=_undecided(rules, by_rule),
+    )  # fmt: skip
+    if moments is None or moments.first is None:
+        return summary
+    summary.first_moment, summary.last_moment, summary.step_seconds = moments.first, moments.last, moments.step
+    summary.steps = _filled(moments)
+    tops = (moments.refused, moments.killed, moments.made, moments.seen)
+    refused, killed, made, seen = (it.top(top) for it in tops)
+    summary.sources = Tops(refused, killed, made, seen, not any(it.dropped for it in tops))
+    if users:
+        summary.users = _users(moments, users)
+    if rules:
+        named = {name for it in rules for name in _interfaces(it)}
+        summary.interfaces = Interfaces(sorted(named - moments.interfaces), sorted(moments.interfaces - named) if named else [])
+    return summary
+
+
+def _users(moments: Moments, users: Sequence[Network]) -> Users:
+    connections = moments.connections
+    outcomes = {it: connections.outcomes[it] for it in KINDS}
+    refused_by = {it: connections.refused_by[it] for it in WORDS if it in connections.refused_by}
+    return Users(",".join(_short(it) for it in users), sum(outcomes.values()), outcomes, refused_by, connections.without_beginning)
+
+
+def _short(network: Network) -> str:
+    """A network, without the length where that is the whole address's."""
+    return str(network.network_address) if network.num_addresses == 1 else str(network)
+
+
+def _by_number(rules: "Counter[str]") -> dict[str, int]:
+    return dict(sorted(rules.items(), key=lambda it: -1 if it[0] == "-" else int(it[0][1:])))
+
+
+def _undecided(rules: Sequence[str], by_rule: Mapping[str, Mapping[str, int]]) -> list[int]:
+    told = {rule for rules_of in by_rule.values() for rule in rules_of}
+    return [it for it, text in enumerate(rules) if f"@{it}" not in told and not text.startswith("anchor")]
+
+
+def _interfaces(rule: str) -> list[str]:
+    """The interface that the canonical text of a rule names, without `!`."""
+    part = rule.split(" ")
+    if "on" not in part:
+        return []
+    at = part.index("on") + 1
+    return [part[at + 1] if part[at] == "!" else part[at]]
+
+
+def _filled(moments: Moments) -> list[Step]:
+    """The steps from the first to the last, those too in which nothing came."""
+    first = moments.first or 0
+    return [moments.steps.get(it) or Step(first + it * moments.step) for it in range((moments.last - first) // moments.step + 1)]
+
+
+def _step_json(step: Step) -> dict[str, Any]:
+    return {"moment": step.moment, "words": dict(step.words), "killed": step.killed, "tried": step.tried, "outcomes": dict(step.outcomes)}
+
+
+def held_at(rules: Path, trace: Path, count: int, jobs: int = 1) -> list[Held]:
+    """What is held at so many moments of a trace, evenly from its first to its last.
+
+    A report does not tell when states run out, so the program replays a beginning of the trace for each moment: together half
+    as many times the whole trace as there are moments.
+    """
+    places = _moments(trace, count)
+    progress = Progress("held", len(places), "moments")
+
+    def ask(place: tuple[int, int]) -> Held:
+        held = Held(place[1], *held_after(rules, trace, *place))
+        progress.advance()
+        return held
+
+    try:
+        with concurrent.futures.ThreadPoolExecutor(max(1, jobs)) as pool:
+            return list(pool.map(ask, places))
+    finally:
+        progress.finish()
+
+
+def _moments(trace: Path, count: int) -> list[tuple[int, int]]:
+    """For each of some moments: how many lines of the trace are not after it, and the moment."""
+    first, last = first_moment_of(trace), last_moment_of(trace)
+    if first is None or last is None:
+        return []
+    wanted = sorted({first + (it * (last - first) // (count - 1) if count > 1 else last - first) for it in range(count)})
+    found: list[tuple[int, int]] = []
+    records = 0
+    for lines in Traces(trace).blocks():
+        times = [int(it.partition(",")[0]) for it in lines]
+        while wanted and times[-1] > wanted[0]:
+            found.append((records + bisect.bisect(times, wanted[0]), wanted.pop(0)))
+        records += len(lines)
+    return found + [(records, it) for it in wanted]
+
+
+def add_words(parser: Parser) -> None:
+    """The words of the command."""
+    parser.description = DESCRIPTION
+    parser.add_argument("report", type=file, metavar="REPORT", help="- is standard input")
+    parser.add_argument("--trace", type=file, metavar="TRACE", help="the trace that was replayed: adds moments, sources, and what is said of users")
+    parser.add_argument("--rules", type=file, metavar="RULES", help="the rules that were replayed: adds the text of each rule, as ./pfsrc show prints it")
+    parser.add_argument("--users", type=networks, metavar="PREFIX,..", default=(), help="the networks of the users (with --trace)")
+    parser.add_argument("--held", type=number(1, 10_000), metavar="N", help="asks the program how much was held at N moments (with --trace and --rules)")
+    parser.add_argument("--jobs", type=number(1, 1000), metavar="N", default=1, help="how many replays --held runs side by side (1)")
+    parser.add_argument("--every", type=number(1, 4294967295), metavar="N", default=0, help="seconds in a step of the series (so that there are at most 120)")
+    parser.add_argument("--top", type=number(1, 1000), metavar="N", default=5, help="how many sources are named (5)")
+    parser.add_argument("--json", action="store_true", help="for machines")
+    parser.add_argument("--partial", action="store_true", help="takes a report without its last line, as a fault in the trace leaves it")
+    parser.add_argument("--out", type=file, metavar="FILE", help="where the summary goes (standard output)")
+
+
+def run(arguments: argparse.Namespace) -> int:
+    """Runs the command."""
+    if arguments.users and not arguments.trace:
+        raise Trouble("--users wants --trace")
+    if arguments.held and not (arguments.trace and arguments.rules):
+        raise Trouble("--held wants --trace and --rules")
+    if arguments.rules:
+        check_program()
+    more = {"every": arguments.every, "top": arguments.top, "is_partial": arguments.partial}
+    if str(arguments.report) == "-":
+        summary = summarize_blocks(blocks_of(sys.stdin, "report"), "report", arguments.trace, arguments.users, arguments.rules, **more)
+    else:
+        summary = summarize(arguments.report, arguments.trace, arguments.users, arguments.rules, **more)
+    if arguments.held:
+        summary.held = held_at(arguments.rules, arguments.trace, arguments.held, arguments.jobs)
+    with whole_file(arguments.out) as out:
+        out.write(json.dumps(summary.to_json(), indent=2) + "\n" if arguments.json else summary.to_text())
+    return Status.DONE

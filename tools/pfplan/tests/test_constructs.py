@@ -1,0 +1,100 @@
+"""Each construct of pf.conf(5): what becomes of it. The cases are in constructs.txt, and docs/PFCONF.md names them.
+
+A case is `=== NAME WORDS`, a text, what `pfplan rules WORDS` writes behind `--- rules`, and what it says behind `--- told`. Files that
+the texts name are in the folder constructs/.
+"""
+
+import contextlib
+import io
+import os
+import re
+import subprocess
+import tempfile
+import unittest
+from dataclasses import dataclass
+from pathlib import Path
+
+from pfplan.__main__ import main
+from pfplan.replays import TOP, program
+
+HERE = Path(__file__).resolve().parent
+TEXTS = HERE / "constructs"
+
+
+@dataclass(frozen=True)
+class Case:
+    """A text and what comes of it."""
+
+    name: str
+    words: tuple[str, ...]
+    text: str
+    rules: str
+    told: str
+
+
+def cases() -> list[Case]:
+    """All cases of constructs.txt."""
+    found = []
+    for block in (HERE / "constructs.txt").read_text("utf-8").split("=== ")[1:]:
+        head, _, rest = block.partition("\n")
+        text, _, told = rest.partition("--- told\n")
+        text, _, rules = text.partition("--- rules\n")
+        name, *words = head.split()
+        found.append(Case(name, tuple(words), text, rules, told))
+    return found
+
+
+def answer(name: str, words: tuple[str, ...], text: str) -> tuple[int, str, str]:
+    """Status, standard output and standard error of `pfplan rules` on a file of that name, in the folder of the texts."""
+    with tempfile.TemporaryDirectory() as folder, contextlib.chdir(folder):
+        for it in TEXTS.iterdir():
+            os.symlink(it, it.name)
+        Path(name).write_text(text, "utf-8")
+        output, errors = io.StringIO(), io.StringIO()
+        with contextlib.redirect_stderr(errors):
+            status = main(["rules", *words, "--out", "made", name])
+        if Path("made").exists():
+            output.write(Path("made").read_text("utf-8"))
+    return status, output.getvalue(), errors.getvalue()
+
+
+class Constructs(unittest.TestCase):
+    """What becomes of each construct."""
+
+    def test_each(self) -> None:
+        """Rules and what is told are those of the case; a text that is refused has no rules."""
+        for case in cases():
+            with self.subTest(case.name):
+                status, rules, told = answer(case.name, case.words, case.text)
+                self.assertEqual(rules, case.rules)
+                self.assertEqual(told, case.told)
+                self.assertEqual(status, 3 if told.startswith("pfplan rules: ") else 0)
+
+    def test_accepted(self) -> None:
+        """Every rules text is accepted by pfsrc."""
+        for case in cases():
+            with self.subTest(case.name), tempfile.NamedTemporaryFile("w") as file:
+                file.write(case.rules)
+                file.flush()
+                ended = subprocess.run([program(), "check", file.name], capture_output=True, text=True, check=False)
+                self.assertEqual((ended.returncode, ended.stderr), (0, ""))
+
+    def test_again(self) -> None:
+        """Expanding what was expanded changes nothing, and leaves nothing out."""
+        for case in cases():
+            if not case.rules or case.name == "on_group_unknown":
+                continue
+            with self.subTest(case.name):
+                _, rules, told = answer("again", (), case.rules)
+                self.assertEqual(rules, case.rules)
+                self.assertRegex(told, r"^again: \d+ items?; left out: 0 that can change an answer, 0 that change none\n$")
+
+    def test_documented(self) -> None:
+        """docs/PFCONF.md names every case, and no other."""
+        names = {case.name for case in cases()}
+        named = set(re.findall(r"`([a-z_]+)`(?=[^|]*\|$)", (TOP / "docs/PFCONF.md").read_text("utf-8"), re.MULTILINE))
+        self.assertEqual(named, names)
+
+
+if __name__ == "__main__":
+    unittest.main()

@@ -1,0 +1,142 @@
+"""The words of the command line: one parser, to which each command adds its own."""
+
+import argparse
+import difflib
+import importlib
+import ipaddress
+import re
+from collections.abc import Callable, Sequence
+from pathlib import Path
+from typing import Any, NoReturn
+
+from .errors import Trouble
+
+# command, the module that has it, what it does
+COMMANDS = (
+    ("rules", "rulesets", "a rules text of a pf.conf, and what was left out of it"),
+    ("trace", "captures", "a trace of a capture"),
+    ("flood", "floods", "a trace of an imagined flood, with users beside it"),
+    ("run", "running", "all at once: rules, trace, report, summary, pictures and report.html in a folder"),
+    ("summary", "summaries", "what a report holds, and what became of the users"),
+    ("compare", "comparing", "rulesets under one trace, side by side"),
+    ("size", "sizing", "which values of a limit, a maximum or a timeout serve the users"),
+    ("margins", "margins", "how sure an answer is"),
+    ("measure", "measuring", "one replay in a few numbers, as a line of JSON: what size and margins run"),
+)
+ENDS = """The program that replays is ./pfsrc of the repository, or what the environment names as PFSRC.
+Status: 0 done; 1 a trace, a report or a capture is refused; 2 a word of the command line; 3 a pf.conf or a rules text is
+refused; 4 reading or writing failed, or no memory; 70 pfsrc is not there or could not be built; 130 interrupted.
+pfplan is tested, not proved. tools/README.md says more."""
+
+Network = ipaddress.IPv4Network | ipaddress.IPv6Network
+
+
+class Parser(argparse.ArgumentParser):
+    """A parser whose refusals are Trouble, with the word that may have been meant."""
+
+    def __init__(self, *words: Any, **more: Any) -> None:
+        more.setdefault("allow_abbrev", False)
+        more.setdefault("formatter_class", argparse.RawDescriptionHelpFormatter)
+        super().__init__(*words, **more)
+
+    def error(self, message: str) -> NoReturn:
+        """Trouble with argparse's message, as `--rate: no value`."""
+        message = message.removeprefix("argument ")
+        message = message.replace("expected one argument", "no value").replace("expected at least one argument", "no value")
+        message = re.sub(r"^unrecognized arguments: (.*)$", lambda it: self.unknown(it[1]), message)
+        raise Trouble(message)
+
+    def unknown(self, words: str) -> str:
+        """What is said of words that no command has, with the nearest word that there is."""
+        word = words.split(" ")[0]
+        known = [it for action in self._actions for it in action.option_strings]
+        near = difflib.get_close_matches(word.split("=")[0], known, 1)
+        return f"'{word}': no such word" + (f"; is {near[0]} meant?" if near else "") + f" ({self.prog} --help)"
+
+    def parse_known_args(self, args: Any = None, namespace: Any = None) -> Any:
+        """As argparse's, but a word that this command does not know is refused by the command itself, which knows the near ones."""
+        parsed, rest = super().parse_known_args(args, namespace)
+        if rest:
+            self.error("unrecognized arguments: " + " ".join(rest))
+        return parsed, rest
+
+
+def make_parser(asked: str) -> Parser:
+    """The parser with every command, and with the words of the one that is asked for: the code of no other is loaded."""
+    parser = Parser(prog="pfplan", description="From a pf.conf and a capture, or an imagined flood, to an answer that one can look at.", epilog=ENDS)
+    commands = parser.add_subparsers(dest="command", metavar="COMMAND", parser_class=Parser)
+    for name, module, does in COMMANDS:
+        words = commands.add_parser(name, help=does)
+        if name == asked:
+            code = importlib.import_module(f".{module}", __package__)
+            words.description = f"{does[0].upper()}{does[1:]}."
+            code.add_words(words)
+            words.set_defaults(run=code.run)
+    return parser
+
+
+def parse(words: Sequence[str]) -> argparse.Namespace:
+    """The words of the command line, read. Trouble with status 2 says which word is refused, and why."""
+    parser = make_parser(words[0] if words else "")
+    names = [name for name, _, _ in COMMANDS]
+    if words and not words[0].startswith("-") and words[0] not in names:
+        near = difflib.get_close_matches(words[0], names, 1)
+        raise Trouble(f"'{words[0]}': no such command" + (f"; is {near[0]} meant?" if near else f"; there are {', '.join(names)}"))
+    arguments = parser.parse_args(words)
+    if arguments.command is None:
+        raise Trouble(f"a command is wanted: {', '.join(names)} (pfplan --help)")
+    return arguments
+
+
+def number(least: int, most: int) -> Callable[[str], int]:
+    """A reader of numbers from `least` to `most`, for argparse."""
+
+    def read(text: str) -> int:
+        if not re.fullmatch(r"[0-9]{1,10}", text):
+            raise argparse.ArgumentTypeError(f"'{text}' is no number")
+        if not least <= int(text) <= most:
+            raise argparse.ArgumentTypeError(f"'{text}' is not from {least} to {most}")
+        return int(text)
+
+    return read
+
+
+def one_of(*names: str) -> Callable[[str], str]:
+    """A reader of one of some names, for argparse."""
+
+    def read(text: str) -> str:
+        if text not in names:
+            raise argparse.ArgumentTypeError(f"'{text}' is none of {', '.join(names)}")
+        return text
+
+    return read
+
+
+def network(text: str) -> Network:
+    """A reader of a prefix of either family, for argparse; bits past its length are cleared."""
+    try:
+        return ipaddress.ip_network(text, strict=False)
+    except ValueError:
+        raise argparse.ArgumentTypeError(f"'{text}' is no prefix") from None
+
+
+def networks(text: str) -> tuple[Network, ...]:
+    """A reader of prefixes that are split by commas, for argparse."""
+    found = tuple(network(it) for it in re.split(r"[ ,]+", text) if it)
+    if not found:
+        raise argparse.ArgumentTypeError(f"'{text}' is no prefix")
+    return found
+
+
+def interface(text: str) -> str:
+    """A reader of a name that an interface may have in a trace, for argparse."""
+    if text in ("any", "rdomain") or not re.fullmatch(r"[A-Za-z0-9_.-]{1,15}", text):
+        raise argparse.ArgumentTypeError(f"'{text}' is no name of an interface")
+    return text
+
+
+def file(text: str) -> Path:
+    """A reader of a file's name, for argparse."""
+    if not text:
+        raise argparse.ArgumentTypeError("an empty name of a file")
+    return Path(text)
