@@ -1,0 +1,54 @@
+// What the header of a log of packets says beside the packet.
+
+ghost use Rattle.std.specs.Prelude.{◌≡◌, ◌+◌, ◌≤◌, length};
+ghost use Rattle.pfs_capture_packets.specs.Logs.{dir_at, logged_of, name_at, text_length};
+
+use crate::bytes::holds;
+use pfs_addr_values::{Dir, IfName, parse_ifname};
+
+/// What pf says of a packet that it logged. (pflog(4))
+#[derive(Clone, Copy, Debug)]
+pub struct Logged {
+    /// Whether the packet came in or went out.
+    pub dir: Dir,
+    /// The name of its interface.
+    pub ifname: IfName,
+}
+
+/// What the header of pflog(4) says of its packet, or `None` where the frame ends within it, where its direction is neither
+/// in nor out, and where the name of its interface is none that a trace can have.
+pub fn read_log(frame: &[u8]) -> Option<Logged>
+    ensures { result ≡ logged_of frame.now }
+{
+    if !holds(frame, 0, 61) {
+        return None;
+    }
+    let dir = dir_at(frame[60])?;
+    let ifname = name_at(&frame[4..20])?;
+    Some(Logged { dir, ifname })
+}
+
+fn dir_at(byte: u8) -> Option<Dir>
+    ensures { result ≡ dir_at byte }
+{
+    match byte {
+        1 => Some(Dir::In),
+        2 => Some(Dir::Out),
+        _ => None,
+    }
+}
+
+// The name of an interface, in a field that zeros fill up.
+fn name_at(field: &[u8]) -> Option<IfName>
+    ensures { result ≡ name_at field.now }
+{
+    parse_ifname(&field[..text_length(field)])
+}
+
+// How many bytes a text has that ends before the first zero.
+fn text_length(field: &[u8]) -> usize
+    ensures is { result ≡ text_length field.now }
+    ensures within { result ≤ length field.now }
+{
+    field.iter().position(|byte| *byte == 0).unwrap_or(field.len())
+}
