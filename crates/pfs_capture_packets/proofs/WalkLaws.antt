@@ -1,10 +1,9 @@
 -- A walk goes on, ends or stops as its next header says.
-use Rattle.std.proofs.Common.{ℕ, ◌≡◌, ◌+◌, ◌-◌, ◌<◌, suc, List, Ok, Err, Result, ap, refl, arith, ◌∙◌, sym}
+use Rattle.std.proofs.Common.{ℕ, ◌≡◌, ◌+◌, ◌-◌, ◌<◌, ◌≤◌, suc, List, Ok, Err, ap, arith, ◌∙◌}
 use Rattle.pfs_capture_packets.specs.declared.walks.Layer.{Layer}
 use Rattle.pfs_capture_packets.specs.declared.walks.Place.{Place}
 use Rattle.pfs_capture_packets.specs.declared.walks.Next.{Next}
-use Rattle.pfs_capture_packets.specs.declared.walks.Next.TheVariants.{On, Here, Stop}
-use Rattle.pfs_capture_packets.specs.declared.packets.Reason.{Reason}
+use Rattle.pfs_capture_packets.specs.declared.packets.Reason.TheVariants as reason
 use Rattle.pfs_capture_packets.specs.Headers.{behind}
 use Rattle.pfs_capture_packets.specs.Walks.{at_next, walk_from}
 
@@ -20,3 +19,10 @@ pub left-turn : (m i : ℕ) (layer : Layer) (bytes : List ℕ) (place : Place) (
 left-turn m i layer bytes place next h e =
     let turns : m - i ≡ suc (m - (i + 1)) = omega arith in
     ap (λ k. walk_from k layer bytes place) turns ∙ walk-turn (m - (i + 1)) layer bytes place next e
+
+-- no header is left
+pub left-none : (m i : ℕ) (layer : Layer) (bytes : List ℕ) (place : Place) → m ≤ i → walk_from (m - i) layer bytes place ≡ Err reason.NotIp
+unfolding walk_from
+left-none m i layer bytes place h =
+    let turns : m - i ≡ 0 = omega arith in
+    ap (λ k. walk_from k layer bytes place) turns

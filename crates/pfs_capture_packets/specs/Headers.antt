@@ -31,10 +31,10 @@ abbrev pub behind_extension : List ℕ → Place → Next
 behind_extension bytes place =
     if is_extension place.kind
     then (if nat_le (place.at + 8) (length bytes)
-      then (if place.kind == 44
-        then (if u16_at bytes (place.at + 2) / 8 == 0 then next_header bytes place 8 else Stop reason.LaterFragment)
-        else next_header bytes place ((slice_index bytes (place.at + 1) + 1) * 8))
-      else Stop reason.Cut)
+    then (if place.kind == 44
+    then (if u16_at bytes (place.at + 2) / 8 == 0 then next_header bytes place 8 else Stop reason.LaterFragment)
+    else next_header bytes place ((slice_index bytes (place.at + 1) + 1) * 8))
+    else Stop reason.Cut)
     else behind_authentication bytes place
 
 -- where the walk of a layer goes from a header: behind IPv4's own header stand authentication headers alone (RFC 4302, section 3.1)

@@ -38,8 +38,8 @@ abbrev pub behind_switched : List ℕ → Place → Next
 behind_switched frame place =
     if nat_le (place.at + 5) (length frame)
     then (if slice_index frame (place.at + 2) % 2 == 0
-      then On (record { kind = place.kind; at = place.at + 4 })
-      else On (record { kind = kind_of_version (slice_index frame (place.at + 4)); at = place.at + 4 }))
+    then On (record { kind = place.kind; at = place.at + 4 })
+    else On (record { kind = kind_of_version (slice_index frame (place.at + 4)); at = place.at + 4 }))
     else Stop reason.Cut
 
 -- behind a tag of a virtual network (0x8100, 0x88a8), a session of PPP (0x8864, RFC 2516, section 4) or a label (0x8847, 0x8848,

@@ -45,7 +45,7 @@ abbrev pub log_place : List ℕ → Result Place Reason
 log_place frame =
     if nat_le (0 + 61) (length frame)
     then (if nat_lt (slice_index frame 0) 61 then Err reason.NotIp
-      else Ok (record { kind = kind_of_family (slice_index frame 1); at = (slice_index frame 0 + 3) / 4 * 4 }))
+    else Ok (record { kind = kind_of_family (slice_index frame 1); at = (slice_index frame 0 + 3) / 4 * 4 }))
     else Err reason.Cut
 
 -- what stands behind a link's header, and where: Ethernet has two addresses before its EtherType (IEEE 802.3, clause 3.2.6),

@@ -1,5 +1,5 @@
 -- The outermost IP packet of a frame: RFC 791, RFC 8200, and of what it carries the ports and the flags (RFC 9293, RFC 3168, RFC 768).
-use Rattle.std.specs.Prelude.{ℕ, ◌+◌, ◌*◌, ◌/◌, ◌%◌, ◌==◌, ◌||◌, Bool, not, List, length, take, drop, nat_le, nat_lt, min, Option, Some, None, Result, Ok, Err, if◌then◌else◌, slice_index}
+use Rattle.std.specs.Prelude.{ℕ, ◌+◌, ◌*◌, ◌/◌, ◌%◌, ◌==◌, ◌||◌, not, List, length, take, drop, nat_le, nat_lt, min, Result, Ok, Err, if◌then◌else◌, slice_index}
 use Rattle.std.specs.Option.{option_map_or}
 use Rattle.pfs_addr_values.specs.Protocols.{proto_of}
 use Rattle.pfs_addr_values.specs.declared.protocols.Proto.{Proto}
@@ -75,7 +75,7 @@ ipv4_in packet =
     else (if not (slice_index packet 0 / 16 == 4) || nat_lt (slice_index packet 0 % 16 * 4) 20 then Err reason.NotIp
     else (if u16_at packet 6 % 8192 == 0
     then and_then (found_at layer.Ip4 (take (own_length (length packet) 0 (u16_at packet 2)) packet) (record { kind = slice_index packet 9; at = slice_index packet 0 % 16 * 4 }))
-      (λ carried. Ok (record { source = v4_at packet 12; destination = v4_at packet 16; carried = carried }))
+    (λ carried. Ok (record { source = v4_at packet 12; destination = v4_at packet 16; carried = carried }))
     else Err reason.LaterFragment))
 
 -- the packet behind an IPv6 header, of 40 bytes (RFC 8200, section 3)
@@ -84,7 +84,7 @@ ipv6_in packet =
     if nat_lt (length packet) 40 then Err reason.Cut
     else (if slice_index packet 0 / 16 == 6
     then and_then (found_at layer.Ip6 (take (own_length (length packet) 40 (u16_at packet 4)) packet) (record { kind = slice_index packet 6; at = 40 }))
-      (λ carried. Ok (record { source = v6_at packet 8; destination = v6_at packet 24; carried = carried }))
+    (λ carried. Ok (record { source = v6_at packet 8; destination = v6_at packet 24; carried = carried }))
     else Err reason.NotIp)
 
 -- the packet of this EtherType that begins at a place
@@ -100,4 +100,4 @@ packet_in link frame = and_then (first_place link frame) (λ first. and_then (wa
 
 -- the outermost IP packet of a frame of this link type, or the one reason why there is none
 abbrev pub packet_of : ℕ → List ℕ → Result IpPacket Reason
-packet_of link_type frame = option_map_or (λ link. packet_in link frame) (Err reason.LinkType) (link_of link_type)
+packet_of link_type frame = option_map_or (λ link. packet_in link frame) (link_of link_type) (Err reason.LinkType)

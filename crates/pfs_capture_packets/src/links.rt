@@ -1,6 +1,6 @@
 // The headers of links.
 
-ghost use Rattle.std.specs.Prelude.{◌≡◌};
+ghost use Rattle.std.specs.Prelude.{◌≡◌, ◌+◌, ◌≤◌};
 ghost use Rattle.pfs_capture_packets.specs.Links.{first_place, framed, kind_of_family, link_of, loopback_place, log_place, raw_place};
 
 use crate::bytes::{holds, read_u16};

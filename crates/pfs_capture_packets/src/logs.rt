@@ -1,6 +1,6 @@
 // What the header of a log of packets says beside the packet.
 
-ghost use Rattle.std.specs.Prelude.{◌≡◌, ◌+◌, ◌≤◌, length};
+ghost use Rattle.std.specs.Prelude.{◌≡◌, ◌==◌, ◌<◌, ◌≤◌, IfSome, length, position};
 ghost use Rattle.pfs_capture_packets.specs.Logs.{dir_at, logged_of, name_at, text_length};
 
 use crate::bytes::holds;
@@ -50,5 +50,15 @@ fn text_length(field: &[u8]) -> usize
     ensures is { result ≡ text_length field.now }
     ensures within { result ≤ length field.now }
 {
-    field.iter().position(|byte| *byte == 0).unwrap_or(field.len())
+    match first_zero(field) {
+        Some(length) => length,
+        None => field.len(),
+    }
+}
+
+fn first_zero(field: &[u8]) -> Option<usize>
+    ensures is { result ≡ position (λ b. b == 0) field.now }
+    ensures within { IfSome result (λ n. n < length field.now) }
+{
+    field.iter().position(|byte| *byte == 0)
 }

@@ -3,5 +3,5 @@ use Rattle.std.proofs.Common.{◌≡◌, ◌-◌, length}
 use Rattle.pfs_capture_packets.specs.Walks.{walk_from}
 use Rattle.pfs_capture_packets.proofs.walks.walk.Given as goal
 
-abbrev pub invariant-loop-_turn : goal.invariant-loop-_turn
-invariant-loop-_turn l = walk_from (length l.bytes - l._turn) l.layer l.bytes l.place ≡ walk_from (length l.bytes) l.layer l.bytes l.fn.first
+abbrev pub invariant-loop-turn : goal.invariant-loop-turn
+invariant-loop-turn l = walk_from (length l.bytes - l._turn) l.layer l.bytes l.place ≡ walk_from (length l.bytes) l.layer l.bytes l.fn.first
