@@ -5,3 +5,4 @@ pub mod Known
 pub mod Frames
 pub mod Classic
 pub mod Blocks
+pub mod Forms

@@ -11,9 +11,9 @@ abbrev pub option_step : Order → List ℕ → Wanted → ℕ → Look
 option_step order body wanted at =
     if nat_le (at + 4) (length body)
     then (if u16_in order body at == 0 then Nowhere
-      else (if (u16_in order body at == wanted.code) && (u16_in order body (at + 2) == wanted.size) && nat_le (at + 4 + u16_in order body (at + 2)) (length body)
-      then Found (at + 4)
-      else On (at + 4 + (u16_in order body (at + 2) + 3) / 4 * 4)))
+    else (if (u16_in order body at == wanted.code) && (u16_in order body (at + 2) == wanted.size) && nat_le (at + 4 + u16_in order body (at + 2)) (length body)
+    then Found (at + 4)
+    else On (at + 4 + (u16_in order body (at + 2) + 3) / 4 * 4)))
     else Nowhere
 
 -- what follows where a look goes on, and what it has come to

@@ -11,6 +11,7 @@ use crate::orders::{Order, read_u32};
 pub fn record_frame(order: Order, link: u16, head: &[u8]) -> Result<Frame, FileFault>
     ensures is { result ≡ record_frame order link head.now }
     ensures few { IfOk result (λ f. f.count ≤ 262144) }
+    ensures link { IfOk result (λ f. f.link ≡ link) }
 {
     if head.len() < 16 {
         return Err(FileFault::Cut);

@@ -6,7 +6,7 @@ mod blocks;
 mod classic;
 mod faults;
 mod filling;
-
+mod forms;
 mod frames;
 mod interfaces;
 mod options;
@@ -14,7 +14,7 @@ mod orders;
 
 pub use blocks::Section;
 pub use faults::FileFault;
-
+pub use forms::{Form, read_item, read_start};
 pub use frames::{Frame, Item, Moment};
 pub use interfaces::Interface;
 pub use orders::Order;
