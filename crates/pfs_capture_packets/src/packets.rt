@@ -1,6 +1,7 @@
 // The packet that a frame holds, or why it is none that a trace tells.
 
-ghost use Rattle.std.specs.Prelude.{◌≡◌, ◌+◌, ◌≤◌, length};
+ghost use Rattle.std.specs.Prelude.{◌≡◌, ◌+◌, ◌≤◌, IfOk, length, true};
+ghost use Rattle.pfs_addr_values.specs.Addresses.{same_family};
 ghost use Rattle.pfs_capture_packets.specs.Packets.{carried_at, flags_in, found_at, ipv4_in, ipv6_in, own_length, packet_in, packet_of, v4_at, v6_at};
 
 use crate::bytes::{holds, read_u16};
@@ -51,7 +52,8 @@ pub struct IpPacket {
 /// definition gives it; a header whose length is too small to be one is `Reason::NotIp`. (RFC 791, section 3.1; RFC 8200,
 /// sections 3 and 4; RFC 9293, section 3.1; RFC 768)
 pub fn read_packet(link_type: u16, frame: &[u8]) -> Result<IpPacket, Reason>
-    ensures { result ≡ packet_of link_type frame.now }
+    ensures is { result ≡ packet_of link_type frame.now }
+    ensures family { IfOk result (λ p. same_family p.source p.destination ≡ true) }
 {
     match Link::from_type(link_type) {
         Some(link) => packet_in(link, frame),
@@ -60,7 +62,8 @@ pub fn read_packet(link_type: u16, frame: &[u8]) -> Result<IpPacket, Reason>
 }
 
 fn packet_in(link: Link, frame: &[u8]) -> Result<IpPacket, Reason>
-    ensures { result ≡ packet_in link frame.now }
+    ensures is { result ≡ packet_in link frame.now }
+    ensures family { IfOk result (λ p. same_family p.source p.destination ≡ true) }
 {
     let first = first_place(link, frame)?;
     let place = walk(Layer::Link, frame, first)?;
@@ -76,7 +79,8 @@ fn packet_in(link: Link, frame: &[u8]) -> Result<IpPacket, Reason>
 
 // The packet that begins with an IPv4 header.
 fn ipv4_in(packet: &[u8]) -> Result<IpPacket, Reason>
-    ensures { result ≡ ipv4_in packet.now }
+    ensures is { result ≡ ipv4_in packet.now }
+    ensures family { IfOk result (λ p. same_family p.source p.destination ≡ true) }
 {
     if packet.len() < 20 {
         return Err(Reason::Cut);
@@ -103,7 +107,8 @@ fn ipv4_in(packet: &[u8]) -> Result<IpPacket, Reason>
 
 // The packet that begins with an IPv6 header.
 fn ipv6_in(packet: &[u8]) -> Result<IpPacket, Reason>
-    ensures { result ≡ ipv6_in packet.now }
+    ensures is { result ≡ ipv6_in packet.now }
+    ensures family { IfOk result (λ p. same_family p.source p.destination ≡ true) }
 {
     if packet.len() < 40 {
         return Err(Reason::Cut);

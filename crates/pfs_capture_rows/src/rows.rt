@@ -1,7 +1,11 @@
 // The row of a packet.
 
-ghost use Rattle.std.specs.Prelude.{◌≡◌, ◌++◌, OnOk, decimal};
-ghost use Rattle.pfs_capture_rows.specs.Rows.{dir_text, end_text, flags_of_carried, from_port, port_text, proto_text, row_text, start_text, to_port};
+ghost use Rattle.std.specs.Prelude.{◌≡◌, ◌≤◌, ◌++◌, ℕ, Ok, Option, Some, OnOk, true, false, decimal};
+ghost use Rattle.pfs_addr_values.specs.Addresses.{addr_text, same_family};
+ghost use Rattle.pfs_addr.specs.Texts.{addr_of};
+ghost use Rattle.pfs_conf_values.specs.Configs.{Conf};
+ghost use Rattle.pfs_cli_formats.specs.Events.{event_at, falls};
+ghost use Rattle.pfs_capture_rows.specs.Rows.{dir_text, end_text, event_of, flags_of_carried, from_port, port_text, proto_text, row_fields, row_text, start_text, to_port};
 
 use crate::flag_letters::push_letters;
 use itoa::Buffer;
@@ -25,9 +29,15 @@ pub struct Row {
     pub packet: IpPacket,
 }
 
-/// Appends the row of a packet. `NoMemory` where memory was refused; a part of the row may stand there then.
+/// Appends the row of a packet whose ends are of one family, and that was seen by the second 4294967295. A replay reads it as that
+/// packet, where no later moment stands before it.
+///
+/// `NoMemory` where memory was refused; a part of the row may stand there then.
 pub fn push_row(out: &mut Vec<u8>, row: &Row) -> Result<(), NoMemory>
-    ensures { OnOk result (out.new.items ≡ out.old.items ++ row_text row.now) }
+    requires family { same_family row.now.packet.source row.now.packet.destination ≡ true }
+    requires second { row.now.second ≤ 4294967295 }
+    ensures text { OnOk result (out.new.items ≡ out.old.items ++ row_text row.now) }
+    ensures again { OnOk result ((conf : Conf) (number : ℕ) (last : Option ℕ) → falls last row.now.second ≡ false → event_at conf number last (row_fields row.now) ≡ Ok (event_of row.now)) }
 {
     push_start(out, row)?;
     push_end(out, row.packet.source, from_port(&row.packet.carried))?;
@@ -73,7 +83,8 @@ fn push_proto(out: &mut Vec<u8>, carried: &Carried) -> Result<(), NoMemory>
 
 // Appends the columns of an end, its port where it has one.
 fn push_end(out: &mut Vec<u8>, addr: Addr, port: Option<u16>) -> Result<(), NoMemory>
-    ensures { OnOk result (out.new.items ≡ out.old.items ++ end_text addr port) }
+    ensures text { OnOk result (out.new.items ≡ out.old.items ++ end_text addr port) }
+    ensures again { addr_of (addr_text addr) ≡ Some addr }
 {
     push_addr(out, addr)?;
     out.extend_from_slice(b",")?;

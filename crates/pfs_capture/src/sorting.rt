@@ -1,0 +1,68 @@
+// Which way a frame's packet goes.
+
+ghost use Rattle.std.specs.Prelude.{◌≡◌, IfOk, true};
+ghost use Rattle.pfs_addr_values.specs.Addresses.{same_family};
+ghost use Rattle.pfs_capture.specs.Sorting.{is_inside, sorted, way_between, way_of};
+
+use pfs_addr_values::{Addr, Dir, IfName, Prefix};
+use pfs_capture_packets::{IpPacket, Logged, Reason, read_log, read_packet};
+
+/// The packet of a frame, which way it goes, and on which interface.
+#[derive(Clone, Copy, Debug)]
+pub struct Found {
+    /// Whether it comes in or goes out, and the name of its interface.
+    pub way: Logged,
+    /// The packet.
+    pub packet: IpPacket,
+}
+
+// The packet of a frame of this link type with its way, or the one reason for which it is no record. A log of packets tells the way
+// itself; else what goes to an address inside comes in, and what goes away from one goes out, on the interface of this name.
+pub fn sort(
+    inside: &[Prefix],
+    ifname: IfName,
+    link_type: u16,
+    frame: &[u8],
+) -> Result<Found, Reason>
+    ensures is { result ≡ sorted inside.now ifname link_type frame.now }
+    ensures family { IfOk result (λ f. same_family f.packet.source f.packet.destination ≡ true) }
+{
+    let packet = read_packet(link_type, frame)?;
+    let way = way_of(inside, ifname, link_type, frame, &packet).ok_or(Reason::NeitherWay)?;
+    Ok(Found { way, packet })
+}
+
+fn way_of(
+    inside: &[Prefix],
+    ifname: IfName,
+    link_type: u16,
+    frame: &[u8],
+    packet: &IpPacket,
+) -> Option<Logged>
+    ensures { result ≡ way_of inside.now ifname link_type frame.now packet.now }
+{
+    if link_type == 117 {
+        return read_log(frame);
+    }
+    let dir = way_between(
+        is_inside(inside, packet.source),
+        is_inside(inside, packet.destination),
+    )?;
+    Some(Logged { dir, ifname })
+}
+
+fn way_between(from_inside: bool, to_inside: bool) -> Option<Dir>
+    ensures { result ≡ way_between from_inside to_inside }
+{
+    match (from_inside, to_inside) {
+        (false, true) => Some(Dir::In),
+        (true, false) => Some(Dir::Out),
+        _ => None,
+    }
+}
+
+fn is_inside(inside: &[Prefix], addr: Addr) -> bool
+    ensures { result ≡ is_inside inside.now addr }
+{
+    inside.iter().any(|prefix| prefix.contains(addr))
+}
