@@ -1,12 +1,14 @@
 -- The packet of a frame and its way, or why the frame is no record.
-use Rattle.std.specs.Prelude.{ℕ, ◌==◌, Bool, true, false, List, Option, Some, None, Result, Ok, if◌then◌else◌, ok_or, option_map}
+use Rattle.std.specs.Prelude.{ℕ, ◌≡◌, ◌==◌, Bool, true, false, List, Option, Some, None, Result, Ok, if◌then◌else◌, ok_or, option_map}
 use Rattle.std.specs.List.{list_any}
+use Rattle.pfs_addr_values.specs.Addresses.{same_family}
+use Rattle.pfs_addr_values.specs.Names.{is_name}
 use Rattle.pfs_addr_values.specs.Prefixes.{Network, covers}
 use Rattle.pfs_addr_values.specs.declared.addresses.Addr.{Addr}
 use Rattle.pfs_addr_values.specs.declared.packets.Dir.{Dir}
 use Rattle.pfs_addr_values.specs.declared.packets.Dir.TheVariants.{In, Out}
 use Rattle.pfs_capture_packets.specs.Logs.{logged_of}
-use Rattle.pfs_capture_packets.specs.Packets.{and_then, packet_of}
+use Rattle.pfs_capture_packets.specs.Packets.{IsCarried, and_then, packet_of}
 use Rattle.pfs_capture_packets.specs.declared.logs.Logged.{Logged}
 use Rattle.pfs_capture_packets.specs.declared.packets.IpPacket.{IpPacket}
 use Rattle.pfs_capture_packets.specs.declared.packets.Reason.{Reason}
@@ -33,3 +35,7 @@ way_of inside ifname link_type frame packet =
 abbrev pub sorted : List Network → List ℕ → ℕ → List ℕ → Result Found Reason
 sorted inside ifname link_type frame =
     and_then (packet_of link_type frame) (λ packet. and_then (ok_or (way_of inside ifname link_type frame packet) reason.NeitherWay) (λ way. Ok (record { way = way; packet = packet })))
+
+-- a packet whose ends are of one family, on an interface with a name, as a row tells it
+abbrev pub IsFound : Found → Type 0
+IsFound f = (same_family f.packet.source f.packet.destination ≡ true) × (is_name 15 f.way.ifname ≡ true) × IsCarried f.packet.carried

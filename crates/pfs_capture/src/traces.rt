@@ -3,8 +3,8 @@
 ghost use Rattle.std.specs.Prelude.{◌≡◌, ◌<◌, ◌≤◌, ◌^◌, ◌+◌, ◌++◌, IfErr, IfOk, OnOk, true};
 ghost use Rattle.pfs_capture.specs.Accounts.{AddsUp};
 ghost use Rattle.pfs_capture.specs.Traces.{Takes, frame_bytes, outcome_text, second_after, taken};
-ghost use Rattle.pfs_capture.specs.Sorting.{sorted};
-ghost use Rattle.pfs_addr_values.specs.Addresses.{same_family};
+ghost use Rattle.pfs_capture.specs.Sorting.{IsFound, sorted};
+ghost use Rattle.pfs_addr_values.specs.Names.{is_name};
 
 use crate::accounts::Account;
 use crate::faults::TraceStop;
@@ -41,6 +41,7 @@ pub fn write_trace<R: Read, W: Write>(
     out: &mut Sink<W>,
     account: &mut Account,
 ) -> Result<(), TraceStop>
+    requires { is_name 15 ifname ≡ true }
     ensures { AddsUp account.new }
 {
     *account = Account::new();
@@ -107,6 +108,7 @@ fn take_frame(
     requires few { tally.account.frames < 2 ^ 63 }
     requires sum { AddsUp tally.account }
     requires last { tally.last ≤ 4294967295 }
+    requires name { is_name 15 ifname ≡ true }
     ensures takes { Takes (taken inside.now ifname tally frame held.now) result line.new.items }
     ensures sum { IfOk result (λ t. AddsUp t.account) }
     ensures one { IfOk result (λ t. (t.account.frames ≡ tally.account.frames + 1) × (t.last ≤ 4294967295)) }
@@ -123,7 +125,7 @@ fn take_frame(
 
 // Writes the row of a frame's packet into the line, if it has one.
 fn write_outcome(outcome: Result<Found, Reason>, second: u64, line: &mut Vec<u8>) -> Result<(), TraceStop>
-    requires family { IfOk outcome (λ f. same_family f.packet.source f.packet.destination ≡ true) }
+    requires found { IfOk outcome IsFound }
     requires second { second ≤ 4294967295 }
     ensures text { OnOk result (line.new.items ≡ line.old.items ++ outcome_text second outcome) }
     ensures fails { IfErr result (λ f. f ≡ TraceStop.Memory) }
@@ -164,8 +166,9 @@ fn outcome_of(
     frame: Frame,
     held: &[u8],
 ) -> Result<Found, Reason>
+    requires { is_name 15 ifname ≡ true }
     ensures is { result ≡ sorted inside.now ifname frame.link (frame_bytes frame held.now) }
-    ensures family { IfOk result (λ f. same_family f.packet.source f.packet.destination ≡ true) }
+    ensures row { IfOk result IsFound }
 {
     let rest = &held[frame.from.min(held.len())..];
     sort(inside, ifname, frame.link, &rest[..frame.count.min(rest.len())])

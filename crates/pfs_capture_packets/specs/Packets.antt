@@ -1,5 +1,5 @@
 -- The outermost IP packet of a frame: RFC 791, RFC 8200, and of what it carries the ports and the flags (RFC 9293, RFC 3168, RFC 768).
-use Rattle.std.specs.Prelude.{ℕ, ◌+◌, ◌*◌, ◌/◌, ◌%◌, ◌==◌, ◌||◌, not, List, length, take, drop, nat_le, nat_lt, min, Result, Ok, Err, if◌then◌else◌, slice_index}
+use Rattle.std.specs.Prelude.{ℕ, ◌≢◌, ◌<◌, ◌≤◌, ◌+◌, ◌*◌, ◌/◌, ◌%◌, ◌==◌, ◌||◌, not, List, length, take, drop, nat_le, nat_lt, min, Result, Ok, Err, if◌then◌else◌, slice_index}
 use Rattle.std.specs.Option.{option_map_or}
 use Rattle.pfs_addr_values.specs.Protocols.{proto_of}
 use Rattle.pfs_addr_values.specs.declared.protocols.Proto.{Proto}
@@ -53,6 +53,12 @@ carried_by proto.Tcp packet at =
     if nat_le (at + 14) (length packet) then Ok (Tcp (u16_at packet at) (u16_at packet (at + 2)) (flags_in (slice_index packet (at + 13)))) else Err reason.Cut
 carried_by proto.Udp packet at = if nat_le (at + 4) (length packet) then Ok (Udp (u16_at packet at) (u16_at packet (at + 2))) else Err reason.Cut
 carried_by (proto.Other n) packet at = if nat_le (at + 0) (length packet) then Ok (Other n) else Err reason.Cut
+
+-- the numbers of what is carried are those of their fields, and another protocol is neither TCP nor UDP
+abbrev pub IsCarried : Carried → Type 0
+IsCarried (Tcp from to flags) = (from ≤ 65535) × (to ≤ 65535)
+IsCarried (Udp from to) = (from ≤ 65535) × (to ≤ 65535)
+IsCarried (Other n) = (n < 256) × (n ≢ 6) × (n ≢ 17)
 
 -- what is carried by the protocol of a place from there on
 abbrev pub carried_at : List ℕ → Place → Result Carried Reason

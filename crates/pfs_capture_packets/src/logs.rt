@@ -1,6 +1,7 @@
 // What the header of a log of packets says beside the packet.
 
-ghost use Rattle.std.specs.Prelude.{◌≡◌, ◌==◌, ◌<◌, ◌≤◌, IfSome, length, position};
+ghost use Rattle.std.specs.Prelude.{◌≡◌, ◌==◌, ◌<◌, ◌≤◌, IfSome, length, position, true};
+ghost use Rattle.pfs_addr_values.specs.Names.{is_name};
 ghost use Rattle.pfs_capture_packets.specs.Logs.{dir_at, logged_of, name_at, text_length};
 
 use crate::bytes::holds;
@@ -18,7 +19,8 @@ pub struct Logged {
 /// What the header of pflog(4) says of its packet, or `None` where the frame ends within it, where its direction is neither
 /// in nor out, and where the name of its interface is none that a trace can have.
 pub fn read_log(frame: &[u8]) -> Option<Logged>
-    ensures { result ≡ logged_of frame.now }
+    ensures is { result ≡ logged_of frame.now }
+    ensures name { IfSome result (λ l. is_name 15 l.ifname ≡ true) }
 {
     if !holds(frame, 0, 61) {
         return None;
@@ -40,7 +42,8 @@ fn dir_at(byte: u8) -> Option<Dir>
 
 // The name of an interface, in a field that zeros fill up.
 fn name_at(field: &[u8]) -> Option<IfName>
-    ensures { result ≡ name_at field.now }
+    ensures is { result ≡ name_at field.now }
+    ensures name { IfSome result (λ n. is_name 15 n ≡ true) }
 {
     parse_ifname(&field[..text_length(field)])
 }

@@ -2,7 +2,7 @@
 
 ghost use Rattle.std.specs.Prelude.{◌≡◌, ◌+◌, ◌≤◌, IfOk, length, true};
 ghost use Rattle.pfs_addr_values.specs.Addresses.{same_family};
-ghost use Rattle.pfs_capture_packets.specs.Packets.{carried_at, flags_in, found_at, ipv4_in, ipv6_in, own_length, packet_in, packet_of, v4_at, v6_at};
+ghost use Rattle.pfs_capture_packets.specs.Packets.{IsCarried, carried_at, flags_in, found_at, ipv4_in, ipv6_in, own_length, packet_in, packet_of, v4_at, v6_at};
 
 use crate::bytes::{holds, read_u16};
 use crate::links::{Link, first_place};
@@ -54,6 +54,7 @@ pub struct IpPacket {
 pub fn read_packet(link_type: u16, frame: &[u8]) -> Result<IpPacket, Reason>
     ensures is { result ≡ packet_of link_type frame.now }
     ensures family { IfOk result (λ p. same_family p.source p.destination ≡ true) }
+    ensures carried { IfOk result (λ p. IsCarried p.carried) }
 {
     match Link::from_type(link_type) {
         Some(link) => packet_in(link, frame),
@@ -64,6 +65,7 @@ pub fn read_packet(link_type: u16, frame: &[u8]) -> Result<IpPacket, Reason>
 fn packet_in(link: Link, frame: &[u8]) -> Result<IpPacket, Reason>
     ensures is { result ≡ packet_in link frame.now }
     ensures family { IfOk result (λ p. same_family p.source p.destination ≡ true) }
+    ensures carried { IfOk result (λ p. IsCarried p.carried) }
 {
     let first = first_place(link, frame)?;
     let place = walk(Layer::Link, frame, first)?;
@@ -81,6 +83,7 @@ fn packet_in(link: Link, frame: &[u8]) -> Result<IpPacket, Reason>
 fn ipv4_in(packet: &[u8]) -> Result<IpPacket, Reason>
     ensures is { result ≡ ipv4_in packet.now }
     ensures family { IfOk result (λ p. same_family p.source p.destination ≡ true) }
+    ensures carried { IfOk result (λ p. IsCarried p.carried) }
 {
     if packet.len() < 20 {
         return Err(Reason::Cut);
@@ -109,6 +112,7 @@ fn ipv4_in(packet: &[u8]) -> Result<IpPacket, Reason>
 fn ipv6_in(packet: &[u8]) -> Result<IpPacket, Reason>
     ensures is { result ≡ ipv6_in packet.now }
     ensures family { IfOk result (λ p. same_family p.source p.destination ≡ true) }
+    ensures carried { IfOk result (λ p. IsCarried p.carried) }
 {
     if packet.len() < 40 {
         return Err(Reason::Cut);
@@ -143,7 +147,8 @@ fn own_length(packet: &[u8], before: usize, told: u16) -> usize
 
 // What is carried behind the headers that follow the packet's own.
 fn found_at(layer: Layer, packet: &[u8], first: Place) -> Result<Carried, Reason>
-    ensures { result ≡ found_at layer packet.now first }
+    ensures is { result ≡ found_at layer packet.now first }
+    ensures carried { IfOk result IsCarried }
 {
     let place = walk(layer, packet, first)?;
     carried_at(packet, place)
@@ -151,7 +156,8 @@ fn found_at(layer: Layer, packet: &[u8], first: Place) -> Result<Carried, Reason
 
 // What is carried by the protocol of this place from there on.
 fn carried_at(packet: &[u8], place: Place) -> Result<Carried, Reason>
-    ensures { result ≡ carried_at packet.now place }
+    ensures is { result ≡ carried_at packet.now place }
+    ensures carried { IfOk result IsCarried }
 {
     let at = place.at;
     match Proto::from_number((place.kind % 256) as u8) {

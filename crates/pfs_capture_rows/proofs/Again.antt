@@ -15,6 +15,8 @@ use Rattle.pfs_addr.specs.Texts.{addr_of}
 use Rattle.pfs_addr.proofs.NumberLaws.{number_of-decimal}
 use Rattle.pfs_conf_values.specs.Configs.{Conf}
 use Rattle.pfs_cli_formats.specs.Events.{dir_of, event_at, falls, flags_for, number_to, port_for}
+use Rattle.csv.specs.Records.{field_at}
+use Rattle.pfs_capture_packets.specs.Packets.{IsCarried}
 use Rattle.pfs_capture_packets.specs.declared.packets.Carried.{Carried}
 use Rattle.pfs_capture_packets.specs.declared.packets.Carried.TheVariants.{Tcp, Udp, Other}
 use Rattle.pfs_capture_rows.specs.declared.rows.Row.{Row}
@@ -22,12 +24,6 @@ use Rattle.pfs_capture_rows.specs.FlagLetters.{letters_text}
 use Rattle.pfs_capture_rows.specs.Rows.{dir_name, event_of, flags_of_carried, from_port, port_text, proto_carried, proto_name, row_fields, to_port}
 use Rattle.pfs_capture_rows.proofs.Letters.{flags_again}
 use Rattle.pfs_capture_rows.proofs.Protocols.{proto_again, proto_known}
-
--- the numbers of what is carried are those of their fields
-abbrev pub IsCarried : Carried → Type 0
-IsCarried (Tcp from to flags) = (from ≤ 65535) × (to ≤ 65535)
-IsCarried (Udp from to) = (from ≤ 65535) × (to ≤ 65535)
-IsCarried (Other n) = (n < 256) × (n ≢ 6) × (n ≢ 17)
 
 number_again : (most n : ℕ) → n ≤ most → most < 10 ^ 10 → number_to most (decimal n) ≡ Some n
 number_again most n h small =
@@ -65,6 +61,7 @@ pub row_again : (row : Row) → same_family row.packet.source row.packet.destina
     → is_name 15 row.ifname ≡ true → IsCarried row.packet.carried
     → addr_of (addr_text row.packet.source) ≡ Some row.packet.source → addr_of (addr_text row.packet.destination) ≡ Some row.packet.destination
     → (conf : Conf) (number : ℕ) (last : Option ℕ) → falls last row.second ≡ false → event_at conf number last (row_fields row) ≡ Ok (event_of row)
+unfolding field_at
 row_again row same late name numbers from to conf number last later =
     let c = row.packet.carried in
     rw (number_again 4294967295 row.second late (omega arith), no_expiry row.dir, dir_again row.dir, name, protocol_again c numbers, from, from_again c numbers, to, same, to_again c numbers, letters_again c, later) refl

@@ -3,6 +3,8 @@
 ghost use Rattle.std.specs.Prelude.{◌≡◌, ◌≤◌, ◌++◌, ℕ, Ok, Option, Some, OnOk, true, false, decimal};
 ghost use Rattle.pfs_addr_values.specs.Addresses.{addr_text, same_family};
 ghost use Rattle.pfs_addr.specs.Texts.{addr_of};
+ghost use Rattle.pfs_addr_values.specs.Names.{is_name};
+ghost use Rattle.pfs_capture_packets.specs.Packets.{IsCarried};
 ghost use Rattle.pfs_conf_values.specs.Configs.{Conf};
 ghost use Rattle.pfs_cli_formats.specs.Events.{event_at, falls};
 ghost use Rattle.pfs_capture_rows.specs.Rows.{dir_text, end_text, event_of, flags_of_carried, from_port, port_text, proto_text, row_fields, row_text, start_text, to_port};
@@ -36,6 +38,8 @@ pub struct Row {
 pub fn push_row(out: &mut Vec<u8>, row: &Row) -> Result<(), NoMemory>
     requires family { same_family row.now.packet.source row.now.packet.destination ≡ true }
     requires second { row.now.second ≤ 4294967295 }
+    requires name { is_name 15 row.now.ifname ≡ true }
+    requires carried { IsCarried row.now.packet.carried }
     ensures text { OnOk result (out.new.items ≡ out.old.items ++ row_text row.now) }
     ensures again { OnOk result ((conf : Conf) (number : ℕ) (last : Option ℕ) → falls last row.now.second ≡ false → event_at conf number last (row_fields row.now) ≡ Ok (event_of row.now)) }
 {
