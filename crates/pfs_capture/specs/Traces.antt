@@ -34,10 +34,10 @@ abbrev pub outcome_text : ℕ → Result Found Reason → List ℕ
 outcome_text second (Ok found) = row_text (row_from second found)
 outcome_text second (Err r) = []
 
--- the account with a frame of which this came
-abbrev pub counted_by : Account → Result Found Reason → Account
-counted_by account (Ok found) = counted account None
-counted_by account (Err r) = counted account (Some r)
+-- why a frame is no record, if it is none
+abbrev pub reason_of : Result Found Reason → Option Reason
+reason_of (Ok found) = None
+reason_of (Err r) = Some r
 
 -- what follows from a second that a trace can tell
 abbrev pub at_second : {A : Type 0} → Result ℕ TraceStop → (ℕ → A) → Result A TraceStop
@@ -46,7 +46,7 @@ at_second (Err f) more = Err f
 
 -- what a frame in what was read makes of a tally, and its row
 abbrev pub taken_at : ℕ → Tally → Result Found Reason → Tally × List ℕ
-taken_at second tally outcome = (record { last = second; account = counted_by tally.account outcome }, outcome_text second outcome)
+taken_at second tally outcome = (record { last = second; account = counted tally.account (reason_of outcome) }, outcome_text second outcome)
 
 abbrev pub taken : List Network → List ℕ → Tally → Frame → List ℕ → Result (Tally × List ℕ) TraceStop
 taken inside ifname tally frame held = at_second (second_after tally.last frame.moment) (λ second. taken_at second tally (sorted inside ifname frame.link (frame_bytes frame held)))

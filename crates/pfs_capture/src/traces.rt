@@ -2,7 +2,7 @@
 
 ghost use Rattle.std.specs.Prelude.{◌≡◌, ◌<◌, ◌≤◌, ◌^◌, ◌+◌, ◌++◌, IfErr, IfOk, OnOk, true};
 ghost use Rattle.pfs_capture.specs.Accounts.{AddsUp};
-ghost use Rattle.pfs_capture.specs.Traces.{Takes, frame_bytes, outcome_text, second_after, taken};
+ghost use Rattle.pfs_capture.specs.Traces.{Takes, frame_bytes, outcome_text, reason_of, second_after, taken};
 ghost use Rattle.pfs_capture.specs.Sorting.{IsFound, sorted};
 ghost use Rattle.pfs_addr_values.specs.Names.{is_name};
 
@@ -116,18 +116,23 @@ fn take_frame(
     line.clear();
     let second = second_after(tally.last, frame.moment)?;
     let outcome = outcome_of(inside, ifname, frame, held);
-    write_outcome(outcome, second, line)?;
+    let reason = reason_of(&outcome);
+    write_outcome(&outcome, second, line)?;
     Ok(Tally {
         last: second,
-        account: tally.account.with(outcome.err()),
+        account: tally.account.with(reason),
     })
 }
 
 // Writes the row of a frame's packet into the line, if it has one.
-fn write_outcome(outcome: Result<Found, Reason>, second: u64, line: &mut Vec<u8>) -> Result<(), TraceStop>
-    requires found { IfOk outcome IsFound }
+fn write_outcome(
+    outcome: &Result<Found, Reason>,
+    second: u64,
+    line: &mut Vec<u8>,
+) -> Result<(), TraceStop>
+    requires found { IfOk outcome.now IsFound }
     requires second { second ≤ 4294967295 }
-    ensures text { OnOk result (line.new.items ≡ line.old.items ++ outcome_text second outcome) }
+    ensures text { OnOk result (line.new.items ≡ line.old.items ++ outcome_text second outcome.now) }
     ensures fails { IfErr result (λ f. f ≡ TraceStop.Memory) }
 {
     let Ok(found) = outcome else {
@@ -142,6 +147,16 @@ fn write_outcome(outcome: Result<Found, Reason>, second: u64, line: &mut Vec<u8>
     match push_row(line, &row) {
         Ok(()) => Ok(()),
         Err(_) => Err(TraceStop::Memory),
+    }
+}
+
+// Why a frame is no record, if it is none.
+fn reason_of(outcome: &Result<Found, Reason>) -> Option<Reason>
+    ensures { result ≡ reason_of outcome.now }
+{
+    match outcome {
+        Ok(_) => None,
+        Err(reason) => Some(*reason),
     }
 }
 

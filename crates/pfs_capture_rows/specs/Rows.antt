@@ -108,4 +108,4 @@ header_of row = record {
 
 -- what a replay has of a row: its packet, or of ICMP a record that it skips
 abbrev pub event_of : Row → Event
-event_of row = record { time = row.second; what = if is_icmp (proto_carried row.packet.carried) then what.Skip else what.Packet (header_of row) }
+event_of row = record { time = row.second; what = option_map_or what.Packet (if is_icmp (proto_carried row.packet.carried) then None else Some (header_of row)) what.Skip }
