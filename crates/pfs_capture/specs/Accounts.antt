@@ -1,0 +1,22 @@
+-- The account of a capture's frames. (own)
+use Rattle.std.specs.Prelude.{◌≡◌, ◌+◌, Option, Some, None}
+use Rattle.pfs_capture_packets.specs.declared.packets.Reason.{Reason}
+use Rattle.pfs_capture_packets.specs.declared.packets.Reason.TheVariants as reason
+use Rattle.pfs_capture.specs.declared.accounts.Account.{Account}
+
+-- each frame is a record, or is counted under exactly one reason
+abbrev pub AddsUp : Account → Type 0
+AddsUp a = a.frames ≡ a.records + a.link_types + a.not_ip + a.later_fragments + a.cut + a.neither_way
+
+-- the account of no frame
+abbrev pub no_frames : Account
+no_frames = record { frames = 0; records = 0; link_types = 0; not_ip = 0; later_fragments = 0; cut = 0; neither_way = 0 }
+
+-- one frame more, which is a record, or is none for a reason
+abbrev pub counted : Account → Option Reason → Account
+counted a None = record a { frames = a.frames + 1; records = a.records + 1 }
+counted a (Some reason.LinkType) = record a { frames = a.frames + 1; link_types = a.link_types + 1 }
+counted a (Some reason.NotIp) = record a { frames = a.frames + 1; not_ip = a.not_ip + 1 }
+counted a (Some reason.LaterFragment) = record a { frames = a.frames + 1; later_fragments = a.later_fragments + 1 }
+counted a (Some reason.Cut) = record a { frames = a.frames + 1; cut = a.cut + 1 }
+counted a (Some reason.NeitherWay) = record a { frames = a.frames + 1; neither_way = a.neither_way + 1 }

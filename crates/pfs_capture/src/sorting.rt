@@ -1,0 +1,79 @@
+// Which way a frame's packet goes.
+
+ghost use Rattle.std.specs.Prelude.{◌≡◌, IfOk, IfSome, true};
+ghost use Rattle.pfs_addr_values.specs.Names.{is_name, name_of};
+ghost use Rattle.pfs_capture.specs.Sorting.{IsFound, is_inside, sorted, way_between, way_of};
+
+use pfs_addr_values::{Addr, Dir, IfName, Prefix, parse_ifname};
+use pfs_capture_packets::{IpPacket, Logged, Reason, read_log, read_packet};
+
+/// The packet of a frame, which way it goes, and on which interface.
+#[derive(Clone, Copy, Debug)]
+pub struct Found {
+    /// Whether it comes in or goes out, and the name of its interface.
+    pub way: Logged,
+    /// The packet.
+    pub packet: IpPacket,
+}
+
+/// The name of an interface that this text is, 1 to 15 bytes of letters, digits, `_`, `-` and `.`; `None` for every other text.
+pub fn interface(text: &[u8]) -> Option<IfName>
+    ensures is { result ≡ name_of 15 text.now }
+    ensures name { IfSome result (λ n. is_name 15 n ≡ true) }
+{
+    parse_ifname(text)
+}
+
+// The packet of a frame of this link type with its way, or the one reason for which it is no record. A log of packets tells the way
+// itself; else what goes to an address inside comes in, and what goes away from one goes out, on the interface of this name.
+pub fn sort(
+    inside: &[Prefix],
+    ifname: IfName,
+    link_type: u16,
+    frame: &[u8],
+) -> Result<Found, Reason>
+    requires { is_name 15 ifname ≡ true }
+    ensures is { result ≡ sorted inside.now ifname link_type frame.now }
+    ensures row { IfOk result IsFound }
+{
+    let packet = read_packet(link_type, frame)?;
+    let way = way_of(inside, ifname, link_type, frame, &packet).ok_or(Reason::NeitherWay)?;
+    Ok(Found { way, packet })
+}
+
+fn way_of(
+    inside: &[Prefix],
+    ifname: IfName,
+    link_type: u16,
+    frame: &[u8],
+    packet: &IpPacket,
+) -> Option<Logged>
+    requires { is_name 15 ifname ≡ true }
+    ensures is { result ≡ way_of inside.now ifname link_type frame.now packet.now }
+    ensures name { IfSome result (λ l. is_name 15 l.ifname ≡ true) }
+{
+    if link_type == 117 {
+        return read_log(frame);
+    }
+    let dir = way_between(
+        is_inside(inside, packet.source),
+        is_inside(inside, packet.destination),
+    )?;
+    Some(Logged { dir, ifname })
+}
+
+fn way_between(from_inside: bool, to_inside: bool) -> Option<Dir>
+    ensures { result ≡ way_between from_inside to_inside }
+{
+    match (from_inside, to_inside) {
+        (false, true) => Some(Dir::In),
+        (true, false) => Some(Dir::Out),
+        _ => None,
+    }
+}
+
+fn is_inside(inside: &[Prefix], addr: Addr) -> bool
+    ensures { result ≡ is_inside inside.now addr }
+{
+    inside.iter().any(|prefix| prefix.contains(addr))
+}

@@ -1,0 +1,79 @@
+-- The blocks of a pcapng file (pcapng, sections 3.1, 4.1 to 4.4).
+use Rattle.std.specs.Prelude.{ℕ, ◌≡◌, Bool, true, false, ◌+◌, ◌-◌, ◌%◌, ◌==◌, ◌||◌, ◌++◌, not, List, [], ◌∷◌, length, take, nat_le, nat_lt, Result, Ok, Err, if◌then◌else◌, ok_or, slice_get}
+use Rattle.pfs_capture_files.specs.declared.orders.Order.{Order}
+use Rattle.pfs_capture_files.specs.declared.orders.Order.TheVariants.{Big, Little}
+use Rattle.pfs_capture_files.specs.declared.interfaces.Interface.{Interface}
+use Rattle.pfs_capture_files.specs.declared.blocks.BlockHead.{BlockHead}
+use Rattle.pfs_capture_files.specs.declared.frames.Item.{Item}
+use Rattle.pfs_capture_files.specs.declared.frames.Item.TheVariants as item
+use Rattle.pfs_capture_files.specs.declared.faults.FileFault.{FileFault}
+use Rattle.pfs_capture_files.specs.declared.faults.FileFault.TheVariants as fault
+use Rattle.pfs_capture_files.specs.Orders.{u16_in, u32_in}
+use Rattle.pfs_capture_files.specs.Known.{Known}
+use Rattle.pfs_capture_files.specs.Interfaces.{and_then, interface_of}
+use Rattle.pfs_capture_files.specs.Frames.{enhanced_frame, simple_frame}
+
+-- the byte order that a section's block tells (section 4.1)
+abbrev pub order_of_magic : ℕ → Result Order FileFault
+order_of_magic magic = if magic == 0x1a2b3c4d then Ok Big else (if magic == 0x4d3c2b1a then Ok Little else Err fault.Block)
+
+-- the byte order of a block, which a section's block begins with
+abbrev pub order_of_block : Order → ℕ → List ℕ → Result Order FileFault
+order_of_block order kind head = if kind == 0x0a0d0d0a then order_of_magic (u32_in Big head 8) else Ok order
+
+-- a block's kind and its length, a multiple of four, which counts the twelve bytes of kind and length, and the length once more at
+-- the end (section 3.1); at most 524,288 (own)
+abbrev pub sized_head : Order → List ℕ → Result BlockHead FileFault
+sized_head order head =
+    if nat_lt (u32_in order head 4) 12 || not (u32_in order head 4 % 4 == 0) then Err fault.Block
+    else (if nat_lt 524288 (u32_in order head 4) then Err fault.TooLong
+    else Ok (record { order = order; kind = u32_in order head 0; count = u32_in order head 4 - 12; third = u32_in order head 8; half = u16_in order head 8 }))
+
+-- how a block begins by its first twelve bytes
+abbrev pub block_head : Order → List ℕ → Result BlockHead FileFault
+block_head order head =
+    if nat_lt (length head) 12 then Err fault.Cut
+    else and_then (order_of_block order (u32_in order head 0) head) (λ own. sized_head own head)
+
+-- one interface more, of 1,024 at most (own)
+abbrev pub added : Known → Interface → Result (Known × Item) FileFault
+added known interface =
+    if nat_lt (length known.interfaces) 1024
+    then Ok (record known { interfaces = known.interfaces ++ interface ∷ [] }, item.Other)
+    else Err fault.Interfaces
+
+-- the interface of a number, from 0
+abbrev pub interface_at : Known → ℕ → Result Interface FileFault
+interface_at known number = ok_or (slice_get known.interfaces number) fault.Block
+
+-- what follows a block's first twelve bytes, without its last length
+abbrev pub body_of : List ℕ → List ℕ
+body_of rest = take (length rest - 4) rest
+
+-- what a block holds that changes nothing of its section: a frame in a simple packet block (3) or an enhanced one (6)
+abbrev pub held_in : Known → BlockHead → List ℕ → Result Item FileFault
+held_in known head rest =
+    if head.kind == 3
+    then and_then (interface_at known 0) (λ i. and_then (simple_frame i head.third (body_of rest)) (λ f. Ok (item.Frame f)))
+    else (if head.kind == 6
+    then and_then (interface_at known head.third) (λ i. and_then (enhanced_frame head.order i (body_of rest)) (λ f. Ok (item.Frame f)))
+    else Ok item.Other)
+
+-- what a block holds, and what is known after it: a section's block begins a section, without interfaces, and an interface's (1) adds
+-- one
+abbrev pub body_item : Known → BlockHead → List ℕ → Result (Known × Item) FileFault
+body_item known head rest =
+    if head.kind == 0x0a0d0d0a then Ok (record { order = head.order; interfaces = [] }, item.Other)
+    else (if head.kind == 1 then and_then (interface_of head.order head.half (body_of rest)) (λ i. added known i)
+    else and_then (held_in known head rest) (λ held. Ok (known, held)))
+
+-- a fault of what is around a file, and none of the file
+abbrev pub is_outside : FileFault → Bool
+is_outside fault.Read = true
+is_outside fault.Memory = true
+is_outside f = false
+
+-- what a call answers and leaves is what the definition gives, unless memory was refused
+abbrev pub Takes : Result (Known × Item) FileFault → Result Item FileFault → Known → Type 0
+Takes step (Ok held) after = step ≡ Ok (after, held)
+Takes step (Err f) after = is_outside f ≡ false → step ≡ Err f

@@ -1,0 +1,103 @@
+-- The two forms of capture files, item by item (pcap, sections 4 and 5; pcapng, sections 3.1 and 4.1).
+use Rattle.std.specs.Prelude.{ℕ, ◌≡◌, ◌/◌, ◌%◌, ◌==◌, ◌||◌, Bool, true, false, List, [], length, take, drop, nat_lt, Option, Some, Result, Ok, Err, if◌then◌else◌}
+use Rattle.pfs_capture_files.specs.declared.orders.Order.{Order}
+use Rattle.pfs_capture_files.specs.declared.orders.Order.TheVariants.{Big, Little}
+use Rattle.pfs_capture_files.specs.declared.blocks.BlockHead.{BlockHead}
+use Rattle.pfs_capture_files.specs.declared.frames.Frame.{Frame}
+use Rattle.pfs_capture_files.specs.declared.frames.Item.{Item}
+use Rattle.pfs_capture_files.specs.declared.frames.Item.TheVariants as item
+use Rattle.pfs_capture_files.specs.declared.forms.Form.{Form}
+use Rattle.pfs_capture_files.specs.declared.forms.Form.TheVariants as form
+use Rattle.pfs_capture_files.specs.declared.forms.Start.{Start}
+use Rattle.pfs_capture_files.specs.declared.forms.Start.TheVariants as start
+use Rattle.pfs_capture_files.specs.declared.faults.FileFault.{FileFault}
+use Rattle.pfs_capture_files.specs.declared.faults.FileFault.TheVariants as fault
+use Rattle.pfs_capture_files.specs.Orders.{u32_in}
+use Rattle.pfs_capture_files.specs.Known.{Known}
+use Rattle.pfs_capture_files.specs.Interfaces.{and_then}
+use Rattle.pfs_capture_files.specs.Classic.{record_frame}
+use Rattle.pfs_capture_files.specs.Blocks.{block_head, body_item, is_outside}
+
+-- what a file begins with: pcap in either byte order, of microseconds or of nanoseconds (pcap, section 4), a section's block (pcapng,
+-- section 4.1), or gzip's mark (RFC 1952, section 2.3.1)
+abbrev pub start_of_magic : ℕ → Result Start FileFault
+start_of_magic magic =
+    if (magic == 0xa1b2c3d4) || (magic == 0xa1b23c4d) then Ok (start.Classic Big)
+    else (if (magic == 0xd4c3b2a1) || (magic == 0x4d3cb2a1) then Ok (start.Classic Little)
+    else (if magic == 0x0a0d0d0a then Ok start.Blocks
+    else (if magic / 65536 == 0x1f8b then Err fault.Gzip else Err fault.NotCapture)))
+
+-- what a file is by its first twelve bytes
+abbrev pub what_begins : List ℕ → Result Start FileFault
+what_begins head =
+    if length head == 0 then Err fault.Empty
+    else (if nat_lt (length head) 12 then Err fault.NotCapture else start_of_magic (u32_in Big head 0))
+
+-- what one turn of reading finds: the form as it is known afterwards, the item, the bytes in which a frame stands, and what is left
+pub record Turn : Type 0 where
+  pub form : Form
+  pub item : Item
+  pub held : List ℕ
+  pub left : List ℕ
+
+-- a block whose first twelve bytes are read
+abbrev pub rest_turn : Known → BlockHead → List ℕ → Result Turn FileFault
+rest_turn known head xs =
+    if nat_lt (length (take head.count xs)) head.count then Err fault.Cut
+    else and_then (body_item known head (take head.count xs)) (λ r. Ok (record { form = form.Blocks r.0; item = r.1; held = take head.count xs; left = drop head.count xs }))
+
+-- a block of a pcapng file, which ends where no block begins
+abbrev pub block_turn : Known → List ℕ → Result Turn FileFault
+block_turn known xs =
+    if length (take 12 xs) == 0 then Ok (record { form = form.Blocks known; item = item.End; held = take 12 xs; left = drop 12 xs })
+    else and_then (block_head known.order (take 12 xs)) (λ head. rest_turn known head (drop 12 xs))
+
+-- a record of a pcap file whose header is read
+abbrev pub frame_turn : Order → Frame → List ℕ → Result Turn FileFault
+frame_turn order frame xs =
+    if nat_lt (length (take frame.count xs)) frame.count then Err fault.Cut
+    else Ok (record { form = form.Classic order frame.link; item = item.Frame frame; held = take frame.count xs; left = drop frame.count xs })
+
+-- a record of a pcap file, which ends where no record begins
+abbrev pub record_turn : Order → ℕ → List ℕ → Result Turn FileFault
+record_turn order link xs =
+    if length (take 16 xs) == 0 then Ok (record { form = form.Classic order link; item = item.End; held = take 16 xs; left = drop 16 xs })
+    else and_then (record_frame order link (take 16 xs)) (λ frame. frame_turn order frame (drop 16 xs))
+
+-- the next item of a capture
+abbrev pub turn_of : Form → List ℕ → Result Turn FileFault
+turn_of (form.Classic order link) xs = record_turn order link xs
+turn_of (form.Blocks known) xs = block_turn known xs
+
+-- a call answers and leaves what the turn finds, unless a read failed or memory was refused
+abbrev pub Reads : Result Turn FileFault → Result Item FileFault → Form → List ℕ → Option (List ℕ) → Type 0
+Reads turn (Ok found) after held left =
+    (ys : List ℕ) × (left ≡ Some ys) × (turn ≡ Ok (record { form = after; item = found; held = held; left = ys }))
+Reads turn (Err f) after held left = is_outside f ≡ false → turn ≡ Err f
+
+-- a pcap file's header ends with the link's type, in the lower half of its last number (pcap, section 4)
+abbrev pub classic_form : Order → List ℕ → Result Form FileFault
+classic_form order rest = if nat_lt (length rest) 12 then Err fault.Cut else Ok (form.Classic order (u32_in order rest 8 % 65536))
+
+-- how a pcap file begins behind its first twelve bytes, and what is left
+abbrev pub classic_start : Order → List ℕ → Result (Form × List ℕ) FileFault
+classic_start order xs = and_then (classic_form order (take 12 xs)) (λ f. Ok (f, drop 12 xs))
+
+-- how a pcapng file begins by its first twelve bytes and what follows, and what is left
+abbrev pub blocks_start : List ℕ → List ℕ → Result (Form × List ℕ) FileFault
+blocks_start first xs =
+    and_then (block_head Big first) (λ head. and_then (rest_turn (record { order = head.order; interfaces = [] }) head xs) (λ t. Ok (t.form, t.left)))
+
+-- how a file begins behind its first twelve bytes
+abbrev pub start_at : Start → List ℕ → Result (Form × List ℕ) FileFault
+start_at (start.Classic order) xs = classic_start order (drop 12 xs)
+start_at start.Blocks xs = blocks_start (take 12 xs) (drop 12 xs)
+
+-- how a capture begins: its form, and what is left
+abbrev pub start_of : List ℕ → Result (Form × List ℕ) FileFault
+start_of xs = and_then (what_begins (take 12 xs)) (λ s. start_at s xs)
+
+-- a call answers and leaves how a capture begins, unless a read failed or memory was refused
+abbrev pub Begins : Result (Form × List ℕ) FileFault → Result Form FileFault → Option (List ℕ) → Type 0
+Begins begin (Ok f) left = (ys : List ℕ) × (left ≡ Some ys) × (begin ≡ Ok (f, ys))
+Begins begin (Err f) left = is_outside f ≡ false → begin ≡ Err f

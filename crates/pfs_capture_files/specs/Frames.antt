@@ -1,0 +1,46 @@
+-- The frames of packet blocks, and their moments (pcapng, sections 4.3 and 4.4).
+use Rattle.std.specs.Prelude.{ℕ, ◌+◌, ◌*◌, ◌-◌, ◌/◌, ◌^◌, ◌==◌, List, length, max, min, nat_le, nat_lt, Result, Ok, Err, if◌then◌else◌}
+use Rattle.pfs_capture_files.specs.declared.orders.Order.{Order}
+use Rattle.pfs_capture_files.specs.declared.interfaces.Interface.{Interface}
+use Rattle.pfs_capture_files.specs.declared.frames.Frame.{Frame}
+use Rattle.pfs_capture_files.specs.declared.frames.Moment.{Moment}
+use Rattle.pfs_capture_files.specs.declared.frames.Moment.TheVariants.{At, Untold, Outside}
+use Rattle.pfs_capture_files.specs.declared.faults.FileFault.{FileFault}
+use Rattle.pfs_capture_files.specs.declared.faults.FileFault.TheVariants as fault
+use Rattle.pfs_capture_files.specs.Orders.{u32_in}
+
+-- the most bytes of a frame (own)
+abbrev pub most_of_frame : ℕ
+most_of_frame = 262144
+
+-- a second that a trace can tell, or none
+abbrev pub within_range : ℕ → Moment
+within_range second = if nat_le second 4294967295 then At second else Outside
+
+-- The second of a moment: whole seconds of the interface's units, and the interface's offset, a signed number of 64 bits.
+abbrev pub moment_of : Interface → ℕ → Moment
+moment_of interface units =
+    if nat_lt interface.offset 9223372036854775808
+    then within_range (units / max interface.units 1 + interface.offset)
+    else (if nat_lt (units / max interface.units 1) (18446744073709551616 - interface.offset) then Outside
+    else within_range (units / max interface.units 1 - (18446744073709551616 - interface.offset)))
+
+-- an enhanced packet block has behind its interface the upper and the lower half of its moment, how many bytes were kept, how many
+-- there were, and those that were kept
+abbrev pub enhanced_frame : Order → Interface → List ℕ → Result Frame FileFault
+enhanced_frame order interface body =
+    if nat_lt (length body) 16 then Err fault.Block
+    else (if nat_lt most_of_frame (u32_in order body 8) then Err fault.TooLong
+    else (if nat_lt (length body - 16) (u32_in order body 8) then Err fault.Block
+    else Ok (record { link = interface.link; moment = moment_of interface (u32_in order body 0 * 4294967296 + u32_in order body 4); from = 16; count = u32_in order body 8 })))
+
+-- how many bytes a simple packet block keeps of so many
+abbrev pub kept_of : Interface → ℕ → ℕ
+kept_of interface told = if interface.kept == 0 then told else min told interface.kept
+
+-- a simple packet block has behind the number of the frame's bytes those that were kept, and no moment
+abbrev pub simple_frame : Interface → ℕ → List ℕ → Result Frame FileFault
+simple_frame interface told body =
+    if nat_lt most_of_frame (kept_of interface told) then Err fault.TooLong
+    else (if nat_lt (length body) (kept_of interface told) then Err fault.Block
+    else Ok (record { link = interface.link; moment = Untold; from = 0; count = kept_of interface told }))

@@ -1,0 +1,34 @@
+-- The options of a block: a code, a length, and a value that is filled up to a word of four bytes (pcapng, section 3.5).
+use Rattle.std.specs.Prelude.{ℕ, zero, suc, ⊤, ◌≤◌, ◌+◌, ◌*◌, ◌/◌, ◌==◌, ◌&&◌, List, length, nat_le, Option, Some, None, if◌then◌else◌}
+use Rattle.pfs_capture_files.specs.declared.orders.Order.{Order}
+use Rattle.pfs_capture_files.specs.declared.options.Wanted.{Wanted}
+use Rattle.pfs_capture_files.specs.declared.options.Look.{Look}
+use Rattle.pfs_capture_files.specs.declared.options.Look.TheVariants.{On, Found, Nowhere}
+use Rattle.pfs_capture_files.specs.Orders.{u16_in}
+
+-- where a look goes from an option: the code 0 ends them
+abbrev pub option_step : Order → List ℕ → Wanted → ℕ → Look
+option_step order body wanted at =
+    if nat_le (at + 4) (length body)
+    then (if u16_in order body at == 0 then Nowhere
+    else (if (u16_in order body at == wanted.code) && (u16_in order body (at + 2) == wanted.size) && nat_le (at + 4 + u16_in order body (at + 2)) (length body)
+    then Found (at + 4)
+    else On (at + 4 + (u16_in order body (at + 2) + 3) / 4 * 4)))
+    else Nowhere
+
+-- what follows where a look goes on, and what it has come to
+abbrev pub at_look : Look → (ℕ → Option ℕ) → Option ℕ
+at_look (On next) on = on next
+at_look (Found value) on = Some value
+at_look Nowhere on = None
+
+-- where the value begins of the first option that is wanted, of at most so many
+unfoldable pub find_option : ℕ → Order → List ℕ → Wanted → ℕ → Option ℕ
+find_option zero order body wanted at = None
+find_option (suc n) order body wanted at = at_look (option_step order body wanted at) (λ next. find_option n order body wanted next)
+
+-- what is found is so long that its value fits
+abbrev pub FitsIn : ℕ → ℕ → Look → Type 0
+FitsIn most size (On next) = ⊤
+FitsIn most size (Found value) = value + size ≤ most
+FitsIn most size Nowhere = ⊤

@@ -1,0 +1,182 @@
+// The blocks of a pcapng file.
+
+ghost use Rattle.std.specs.Prelude.{◌≡◌, ◌-◌, ◌≤◌, [], IfOk, length};
+ghost use Rattle.pfs_capture_files.specs.Blocks.{Takes, added, block_head, body_item, held_in, interface_at, order_of_block, order_of_magic};
+
+use crate::faults::FileFault;
+use crate::frames::{Item, enhanced_frame, simple_frame};
+use crate::interfaces::{Interface, interface_of};
+use crate::orders::{Order, read_u16, read_u32};
+use std::alloc::Global;
+use std::marker::Model;
+
+/// The kind of a section's block, which reads the same in both byte orders.
+pub const SECTION: u32 = 0x0a0d_0d0a;
+
+/// The most interfaces of a section.
+const MOST_INTERFACES: usize = 1_024;
+
+/// What is known of the section that is read: its byte order, and its interfaces.
+#[derive(Debug, Drop)]
+pub struct Section {
+    order: Order,
+    interfaces: Vec<Interface>,
+}
+
+impl Model for Section {
+    ghost use Rattle.pfs_capture_files.specs.Known.{Known};
+
+    ghost Value = { Known };
+
+    ghost view = { λ s. record { order = s.order; interfaces = s.interfaces.items } };
+}
+
+/// How a block begins.
+#[derive(Clone, Copy, Debug, PartialEq, Eq)]
+pub struct BlockHead {
+    /// The byte order of its numbers.
+    pub order: Order,
+    /// Its kind.
+    pub kind: u32,
+    /// How many bytes of it follow its first twelve.
+    pub count: usize,
+    /// The third number of four bytes.
+    pub third: u32,
+    /// The first half of the third number.
+    pub half: u16,
+}
+
+// How a block begins by its first twelve bytes, in a section of this byte order.
+pub fn block_head(order: Order, head: &[u8]) -> Result<BlockHead, FileFault>
+    ensures is { result ≡ block_head order head.now }
+    ensures few { IfOk result (λ h. h.count ≤ 524288) }
+{
+    if head.len() < 12 {
+        return Err(FileFault::Cut);
+    }
+    let kind = read_u32(order, head, 0);
+    let order = order_of_block(order, kind, head)?;
+    let whole = read_u32(order, head, 4);
+    if whole < 12 || whole % 4 != 0 {
+        return Err(FileFault::Block);
+    }
+    if whole > 524_288 {
+        return Err(FileFault::TooLong);
+    }
+    Ok(BlockHead {
+        order,
+        kind,
+        count: whole as usize - 12,
+        third: read_u32(order, head, 8),
+        half: read_u16(order, head, 8),
+    })
+}
+
+// The byte order of a block of this kind: a section's own, and of a section's block what it begins with.
+fn order_of_block(order: Order, kind: u32, head: &[u8]) -> Result<Order, FileFault>
+    requires { 12 ≤ length head.now }
+    ensures { result ≡ order_of_block order kind head.now }
+{
+    if kind != SECTION {
+        return Ok(order);
+    }
+    order_of_magic(read_u32(Order::Big, head, 8))
+}
+
+fn order_of_magic(magic: u32) -> Result<Order, FileFault>
+    ensures { result ≡ order_of_magic magic }
+{
+    match magic {
+        0x1a2b_3c4d => Ok(Order::Big),
+        0x4d3c_2b1a => Ok(Order::Little),
+        _ => Err(FileFault::Block),
+    }
+}
+
+impl Section {
+    /// A section of this byte order without interfaces.
+    pub fn new(alloc: Global, order: Order) -> Section
+        ensures { result ≡ record { order = order; interfaces = [] } }
+    {
+        Section {
+            order,
+            interfaces: Vec::new(alloc),
+        }
+    }
+
+    /// The byte order of the section.
+    pub fn order(&self) -> Order
+        ensures { result ≡ self.now.order }
+    {
+        self.order
+    }
+
+    // What a block holds, by how it begins and what follows; what is known of the section changes as it says. At a fault anything
+    // may be known.
+    pub fn take(&mut self, head: BlockHead, rest: &[u8]) -> Result<Item, FileFault>
+        ensures { Takes (body_item self.old head rest.now) result self.new }
+    {
+        match head.kind {
+            SECTION => {
+                self.order = head.order;
+                self.interfaces.clear();
+                Ok(Item::Other)
+            }
+            1 => {
+                let interface = interface_of(head.order, head.half, &rest[..front(rest)])?;
+                self.add(interface)
+            }
+            _ => self.held(head, rest),
+        }
+    }
+
+    fn add(&mut self, interface: Interface) -> Result<Item, FileFault>
+        ensures { Takes (added self.old interface) result self.new }
+    {
+        if self.interfaces.len() >= MOST_INTERFACES {
+            return Err(FileFault::Interfaces);
+        }
+        match self.interfaces.push(interface) {
+            Ok(()) => Ok(Item::Other),
+            Err(_) => Err(FileFault::Memory),
+        }
+    }
+
+    // What a block holds that changes nothing of its section.
+    fn held(&self, head: BlockHead, rest: &[u8]) -> Result<Item, FileFault>
+        ensures { result ≡ held_in self.now head rest.now }
+    {
+        let body = &rest[..front(rest)];
+        match head.kind {
+            3 => {
+                let interface = self.interface(0)?;
+                let frame = simple_frame(&interface, head.third, body)?;
+                Ok(Item::Frame(frame))
+            }
+            6 => {
+                let interface = self.interface(head.third as usize)?;
+                let frame = enhanced_frame(head.order, &interface, body)?;
+                Ok(Item::Frame(frame))
+            }
+            _ => Ok(Item::Other),
+        }
+    }
+
+    // The interface of this number, from 0.
+    fn interface(&self, number: usize) -> Result<Interface, FileFault>
+        ensures { result ≡ interface_at self.now number }
+    {
+        match self.interfaces.get(number) {
+            Some(interface) => Ok(*interface),
+            None => Err(FileFault::Block),
+        }
+    }
+}
+
+// How many bytes stand in front of a block's last length.
+fn front(rest: &[u8]) -> usize
+    ensures is { result ≡ length rest.now - 4 }
+    ensures within { result ≤ length rest.now }
+{
+    rest.len().saturating_sub(4)
+}

@@ -1,0 +1,31 @@
+// A part of a file, read whole.
+
+ghost use Rattle.std.specs.Prelude.{◌≡◌, ◌⊎◌, ◌≤◌, ℕ, List, Some, IfErr, OnOk, drop, length, take};
+
+use crate::faults::FileFault;
+use std::io::Read;
+
+// Reads so many bytes into the buffer, in the place of what it held, or fewer where the file ends before.
+// `FileFault::Read` is answered where a read fails, `FileFault::Memory` where memory is refused.
+pub fn fill<R: Read>(reader: &mut R, buffer: &mut Vec<u8>, count: usize) -> Result<(), FileFault>
+    requires { count ≤ 524288 }
+    ensures bytes { OnOk result ((xs : List ℕ) → R.remaining reader.old ≡ Some xs → buffer.new.items ≡ take count xs) }
+    ensures rest { OnOk result ((xs : List ℕ) → R.remaining reader.old ≡ Some xs → R.remaining reader.new ≡ Some (drop count xs)) }
+    ensures fails { IfErr result (λ f. (f ≡ FileFault.Read) ⊎ (f ≡ FileFault.Memory)) }
+{
+    buffer.clear();
+    let mut chunk = [0; 2048];
+    'chunks: while buffer.len() < count {
+        let room = chunk.len().min(count - buffer.len());
+        match reader.read(&mut chunk[..room]) {
+            Ok(0) => return Ok(()),
+            Ok(n) => {
+                if buffer.extend_from_slice(&chunk[..n]).is_err() {
+                    return Err(FileFault::Memory);
+                }
+            }
+            Err(_) => return Err(FileFault::Read),
+        }
+    }
+    Ok(())
+}

@@ -1,0 +1,116 @@
+// The frames that items of a file hold, and their moments.
+
+ghost use Rattle.std.specs.Prelude.{◌≡◌, ◌+◌, ◌≤◌, length};
+ghost use Rattle.pfs_capture_files.specs.Frames.{enhanced_frame, moment_of, simple_frame, within_range};
+
+use crate::faults::FileFault;
+use crate::interfaces::Interface;
+use crate::orders::{Order, read_u32};
+
+/// The most bytes of a frame.
+pub const MOST_OF_FRAME: u32 = 262_144;
+
+/// The last second that a trace can tell.
+const LAST_SECOND: u64 = 4_294_967_295;
+
+/// When a frame was seen.
+#[derive(Clone, Copy, Debug, PartialEq, Eq)]
+pub enum Moment {
+    /// In this second since 1970, at most 4294967295.
+    At(u64),
+    /// Its block does not tell.
+    Untold,
+    /// In none from 0 to 4294967295.
+    Outside,
+}
+
+/// A frame, and where its bytes are in what was read last.
+#[derive(Clone, Copy, Debug, PartialEq, Eq)]
+pub struct Frame {
+    /// The type of its link.
+    pub link: u16,
+    /// When it was seen.
+    pub moment: Moment,
+    /// Where it begins in what was read last.
+    pub from: usize,
+    /// How many bytes it has.
+    pub count: usize,
+}
+
+/// What stands next in a file.
+#[derive(Clone, Copy, Debug, PartialEq, Eq)]
+pub enum Item {
+    /// Its end.
+    End,
+    /// A block that holds no frame.
+    Other,
+    /// A frame.
+    Frame(Frame),
+}
+
+// The frame of an enhanced packet block, of which this is what follows its interface, without its last length.
+pub fn enhanced_frame(order: Order, interface: &Interface, body: &[u8]) -> Result<Frame, FileFault>
+    ensures { result ≡ enhanced_frame order interface.now body.now }
+{
+    if body.len() < 16 {
+        return Err(FileFault::Block);
+    }
+    let count = read_u32(order, body, 8);
+    if count > MOST_OF_FRAME {
+        return Err(FileFault::TooLong);
+    }
+    let count = count as usize;
+    if count > body.len() - 16 {
+        return Err(FileFault::Block);
+    }
+    let high = u64::from(read_u32(order, body, 0));
+    let low = u64::from(read_u32(order, body, 4));
+    Ok(Frame {
+        link: interface.link,
+        moment: moment_of(interface, high * 4_294_967_296 + low),
+        from: 16,
+        count,
+    })
+}
+
+// The frame of a simple packet block, of which this is what follows the frame's own length, without the block's last length.
+pub fn simple_frame(interface: &Interface, told: u32, body: &[u8]) -> Result<Frame, FileFault>
+    ensures { result ≡ simple_frame interface.now told body.now }
+{
+    let kept = if interface.kept == 0 {
+        told
+    } else {
+        told.min(interface.kept)
+    };
+    if kept > MOST_OF_FRAME {
+        return Err(FileFault::TooLong);
+    }
+    let count = kept as usize;
+    if count > body.len() {
+        return Err(FileFault::Block);
+    }
+    Ok(Frame {
+        link: interface.link,
+        moment: Moment::Untold,
+        from: 0,
+        count,
+    })
+}
+
+// The second of a moment that is told in an interface's units.
+fn moment_of(interface: &Interface, units: u64) -> Moment
+    ensures { result ≡ moment_of interface.now units }
+{
+    let second = units / interface.units.max(1);
+    if interface.offset < 9_223_372_036_854_775_808 {
+        if second > LAST_SECOND || interface.offset > LAST_SECOND - second {
+            return Moment::Outside;
+        }
+        return Moment::At(second + interface.offset);
+    }
+    let back = u64::MAX - interface.offset + 1;
+    if second < back || second - back > LAST_SECOND {
+        return Moment::Outside;
+    }
+    Moment::At(second - back)
+}

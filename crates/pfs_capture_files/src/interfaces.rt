@@ -1,0 +1,75 @@
+// The interfaces of a section.
+
+ghost use Rattle.std.specs.Prelude.{◌≡◌, ◌+◌, ◌<◌, ◌≤◌, ◌^◌, length};
+ghost use Rattle.pfs_capture_files.specs.Interfaces.{interface_of, offset_of, units_of, units_told};
+
+use crate::faults::FileFault;
+use crate::options::{Wanted, find_option};
+use crate::orders::{Order, read_u32, read_u64};
+
+/// An interface of a section, as its block describes it.
+#[derive(Clone, Copy, Debug, PartialEq, Eq)]
+pub struct Interface {
+    /// The type of its link.
+    pub link: u16,
+    /// The most bytes of a frame that were kept, 0 for any number.
+    pub kept: u32,
+    /// How many units of its moments a second has.
+    pub units: u64,
+    /// How many seconds are to be added to its moments, modulo 2^64.
+    pub offset: u64,
+}
+
+// The interface of this link type that a block describes, of which this is what follows the link type, without its last length.
+pub fn interface_of(order: Order, link: u16, body: &[u8]) -> Result<Interface, FileFault>
+    ensures { result ≡ interface_of order link body.now }
+{
+    if body.len() < 4 {
+        return Err(FileFault::Block);
+    }
+    let units = units_told(order, body)?;
+    let kept = read_u32(order, body, 0);
+    let offset = offset_of(order, body);
+    Ok(Interface {
+        link,
+        kept,
+        units,
+        offset,
+    })
+}
+
+// How many units a second has: a million where no option tells it.
+fn units_told(order: Order, body: &[u8]) -> Result<u64, FileFault>
+    ensures { result ≡ units_told order body.now }
+{
+    let wanted = Wanted { code: 9, size: 1 };
+    match find_option(order, body, wanted, 4) {
+        Some(at) => units_of(body[at]),
+        None => Ok(1_000_000),
+    }
+}
+
+// How many units a second has by the byte that tells it.
+#[tactic(auto, using(crate::proofs::Powers::tens, crate::proofs::Powers::twos))]
+fn units_of(byte: u8) -> Result<u64, FileFault>
+    ensures { result ≡ units_of byte }
+{
+    if byte <= 19 {
+        return Ok(10u64.pow(u32::from(byte)));
+    }
+    if byte >= 128 && byte <= 191 {
+        return Ok(2u64.pow(u32::from(byte - 128)));
+    }
+    Err(FileFault::Resolution)
+}
+
+// How many seconds are to be added: none where no option tells it.
+fn offset_of(order: Order, body: &[u8]) -> u64
+    ensures { result ≡ offset_of order body.now }
+{
+    let wanted = Wanted { code: 14, size: 8 };
+    match find_option(order, body, wanted, 4) {
+        Some(at) => read_u64(order, body, at),
+        None => 0,
+    }
+}

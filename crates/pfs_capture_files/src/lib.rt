@@ -1,0 +1,20 @@
+//! The frames of a capture file, one after another: pcap and pcapng. A file is read through once, and no more than one block of it
+//! is held.
+#![tactic(auto)]
+
+mod blocks;
+mod classic;
+mod faults;
+mod filling;
+mod forms;
+mod frames;
+mod interfaces;
+mod options;
+mod orders;
+
+pub use blocks::Section;
+pub use faults::FileFault;
+pub use forms::{Form, read_item, read_start};
+pub use frames::{Frame, Item, Moment};
+pub use interfaces::Interface;
+pub use orders::Order;

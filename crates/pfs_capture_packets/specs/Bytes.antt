@@ -1,0 +1,10 @@
+-- Numbers in a list of bytes.
+use Rattle.std.specs.Prelude.{ℕ, ◌+◌, ◌*◌, List, take, drop, slice_index}
+
+-- the number of two bytes in network byte order, the higher one first (RFC 791, appendix B)
+abbrev pub u16_at : List ℕ → ℕ → ℕ
+u16_at bytes at = slice_index bytes at * 256 + slice_index bytes (at + 1)
+
+-- so many bytes from a place on
+abbrev pub part_at : List ℕ → ℕ → ℕ → List ℕ
+part_at bytes at count = take count (drop at bytes)

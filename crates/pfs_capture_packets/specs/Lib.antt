@@ -1,0 +1,7 @@
+pub mod Bytes
+pub mod Walks
+pub mod Labels
+pub mod Links
+pub mod Headers
+pub mod Packets
+pub mod Logs

@@ -1,0 +1,59 @@
+-- The headers of links, by the numbers that the list of link types of libpcap gives them.
+use Rattle.std.specs.Prelude.{ℕ, ◌+◌, ◌*◌, ◌/◌, ◌==◌, ◌||◌, ◌&&◌, List, length, nat_le, nat_lt, Option, Some, None, Result, Ok, Err, if◌then◌else◌, slice_index}
+use Rattle.pfs_capture_packets.specs.declared.links.Link.{Link}
+use Rattle.pfs_capture_packets.specs.declared.links.Link.TheVariants as link
+use Rattle.pfs_capture_packets.specs.declared.walks.Place.{Place}
+use Rattle.pfs_capture_packets.specs.declared.packets.Reason.{Reason}
+use Rattle.pfs_capture_packets.specs.declared.packets.Reason.TheVariants as reason
+use Rattle.pfs_capture_packets.specs.Bytes.{u16_at}
+use Rattle.pfs_capture_packets.specs.Labels.{kind_of_version}
+
+-- the link of a type: Ethernet, BSD's loopback, raw IP, Linux cooked of both versions, pflog
+abbrev pub link_of : ℕ → Option Link
+link_of n =
+    if n == 1 then Some link.Ethernet
+    else (if (n == 0) || (n == 108) then Some link.Loopback
+    else (if (n == 12) || (n == 14) || (n == 101) || (n == 228) || (n == 229) then Some link.Raw
+    else (if n == 113 then Some link.Cooked
+    else (if n == 276 then Some link.CookedAgain
+    else (if n == 117 then Some link.Log else None)))))
+
+-- the EtherType of packets of an address family, as the systems of BSD number them: IPv4 is 2, IPv6 24, 28 or 30; 0 for any other
+abbrev pub kind_of_family : ℕ → ℕ
+kind_of_family family = if family == 2 then 0x0800 else (if (family == 24) || (family == 28) || (family == 30) then 0x86dd else 0)
+
+-- behind a header of so many bytes, whose EtherType begins at this place
+abbrev pub framed : List ℕ → ℕ → ℕ → Result Place Reason
+framed frame size at = if nat_le (0 + size) (length frame) then Ok (record { kind = u16_at frame at; at = size }) else Err reason.Cut
+
+-- the family that four bytes hold in either byte order, 0 where it is past 255
+abbrev pub either_order : List ℕ → ℕ
+either_order frame =
+    if (slice_index frame 0 == 0) && (slice_index frame 1 == 0) && (slice_index frame 2 == 0) then slice_index frame 3
+    else (if (slice_index frame 1 == 0) && (slice_index frame 2 == 0) && (slice_index frame 3 == 0) then slice_index frame 0 else 0)
+
+-- LINKTYPE_NULL and LINKTYPE_LOOP: an address family
+abbrev pub loopback_place : List ℕ → Result Place Reason
+loopback_place frame = if nat_le (0 + 4) (length frame) then Ok (record { kind = kind_of_family (either_order frame); at = 4 }) else Err reason.Cut
+
+-- LINKTYPE_RAW, LINKTYPE_IPV4 and LINKTYPE_IPV6: no header
+abbrev pub raw_place : List ℕ → Result Place Reason
+raw_place frame = if length frame == 0 then Err reason.Cut else Ok (record { kind = kind_of_version (slice_index frame 0); at = 0 })
+
+-- LINKTYPE_PFLOG: its length without what it is filled up with to a word of four bytes, and an address family
+abbrev pub log_place : List ℕ → Result Place Reason
+log_place frame =
+    if nat_le (0 + 61) (length frame)
+    then (if nat_lt (slice_index frame 0) 61 then Err reason.NotIp
+    else Ok (record { kind = kind_of_family (slice_index frame 1); at = (slice_index frame 0 + 3) / 4 * 4 }))
+    else Err reason.Cut
+
+-- what stands behind a link's header, and where: Ethernet has two addresses before its EtherType (IEEE 802.3, clause 3.2.6),
+-- LINKTYPE_LINUX_SLL has its protocol last, LINKTYPE_LINUX_SLL2 first
+abbrev pub first_place : Link → List ℕ → Result Place Reason
+first_place link.Ethernet frame = framed frame 14 12
+first_place link.Cooked frame = framed frame 16 14
+first_place link.CookedAgain frame = framed frame 20 0
+first_place link.Loopback frame = loopback_place frame
+first_place link.Raw frame = raw_place frame
+first_place link.Log frame = log_place frame

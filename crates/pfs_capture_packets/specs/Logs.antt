@@ -1,0 +1,32 @@
+-- What the header of pflog(4) says of its packet: `struct pfloghdr` of OpenBSD's net/if_pflog.h, which other systems have up to its
+-- direction.
+use Rattle.std.specs.Prelude.{ℕ, ◌+◌, ◌==◌, List, length, take, nat_le, Option, Some, None, if◌then◌else◌, slice_index, position, unwrap_or}
+use Rattle.pfs_addr_values.specs.Names.{name_of}
+use Rattle.pfs_addr_values.specs.declared.packets.Dir.{Dir}
+use Rattle.pfs_addr_values.specs.declared.packets.Dir.TheVariants.{In, Out}
+use Rattle.pfs_capture_packets.specs.declared.logs.Logged.{Logged}
+use Rattle.pfs_capture_packets.specs.Bytes.{part_at}
+
+-- how many bytes a text has that ends before the first zero
+abbrev pub text_length : List ℕ → ℕ
+text_length field = unwrap_or (position (λ b. b == 0) field) (length field)
+
+-- the name of an interface, in a field that zeros fill up
+abbrev pub name_at : List ℕ → Option (List ℕ)
+name_at field = name_of 15 (take (text_length field) field)
+
+-- PF_IN is 1, PF_OUT is 2
+abbrev pub dir_at : ℕ → Option Dir
+dir_at byte = if byte == 1 then Some In else (if byte == 2 then Some Out else None)
+
+-- what follows from something that is there
+abbrev pub if_some : {A B : Type 0} → Option A → (A → Option B) → Option B
+if_some None more = None
+if_some (Some x) more = more x
+
+-- the direction is the byte 60, the interface's name the sixteen bytes from 4 on
+abbrev pub logged_of : List ℕ → Option Logged
+logged_of frame =
+    if nat_le (0 + 61) (length frame)
+    then if_some (dir_at (slice_index frame 60)) (λ dir. if_some (name_at (part_at frame 4 16)) (λ ifname. Some (record { dir = dir; ifname = ifname })))
+    else None

@@ -1,0 +1,67 @@
+// What stands behind a header of each layer.
+
+ghost use Rattle.std.specs.Prelude.{◌≡◌};
+ghost use Rattle.pfs_capture_packets.specs.Headers.{behind, behind_authentication, behind_extension};
+ghost use Rattle.pfs_capture_packets.specs.Labels.{behind_label};
+
+use crate::bytes::{holds, read_u16};
+use crate::labels::behind_label;
+use crate::packets::Reason;
+use crate::walks::{Layer, Next, Place};
+
+// Where the walk of a layer goes from a header.
+pub fn behind(layer: Layer, bytes: &[u8], place: Place) -> Next
+    ensures { result ≡ behind layer bytes.now place }
+{
+    match layer {
+        Layer::Link => behind_label(bytes, place),
+        Layer::Ip4 => behind_authentication(bytes, place),
+        Layer::Ip6 => behind_extension(bytes, place),
+    }
+}
+
+// Behind an authentication header, whose length counts words of four bytes less two.
+fn behind_authentication(bytes: &[u8], place: Place) -> Next
+    ensures { result ≡ behind_authentication bytes.now place }
+{
+    if place.kind != 51 {
+        return Next::Here;
+    }
+    if !holds(bytes, place.at, 8) {
+        return Next::Stop(Reason::Cut);
+    }
+    let kind = u16::from(bytes[place.at]);
+    let size = (usize::from(bytes[place.at + 1]) + 2) * 4;
+    Next::On(Place {
+        kind,
+        at: place.at + size,
+    })
+}
+
+// Behind an extension header, whose length counts words of eight bytes less one. Behind a fragment's header the rest stands
+// in the first fragment alone.
+fn behind_extension(bytes: &[u8], place: Place) -> Next
+    ensures { result ≡ behind_extension bytes.now place }
+{
+    if !matches!(place.kind, 0 | 43 | 44 | 60) {
+        return behind_authentication(bytes, place);
+    }
+    if !holds(bytes, place.at, 8) {
+        return Next::Stop(Reason::Cut);
+    }
+    let kind = u16::from(bytes[place.at]);
+    if place.kind == 44 {
+        if read_u16(bytes, place.at + 2) / 8 != 0 {
+            return Next::Stop(Reason::LaterFragment);
+        }
+        return Next::On(Place {
+            kind,
+            at: place.at + 8,
+        });
+    }
+    let size = (usize::from(bytes[place.at + 1]) + 1) * 8;
+    Next::On(Place {
+        kind,
+        at: place.at + size,
+    })
+}

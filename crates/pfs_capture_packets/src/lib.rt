@@ -1,0 +1,15 @@
+//! From a frame of a capture to the outermost IP packet in it. Nothing behind that packet's own header, its options and its
+//! ports is looked at. None of these calls takes memory.
+#![tactic(auto)]
+
+mod bytes;
+mod headers;
+mod labels;
+mod links;
+mod logs;
+mod packets;
+mod walks;
+
+pub use links::Link;
+pub use logs::{Logged, read_log};
+pub use packets::{Carried, IpPacket, Reason, read_packet};

@@ -1,0 +1,128 @@
+// The headers of links.
+
+ghost use Rattle.std.specs.Prelude.{◌≡◌, ◌+◌, ◌≤◌};
+ghost use Rattle.pfs_capture_packets.specs.Links.{first_place, framed, kind_of_family, link_of, loopback_place, log_place, raw_place};
+
+use crate::bytes::{holds, read_u16};
+use crate::labels::kind_of_version;
+use crate::packets::Reason;
+use crate::walks::Place;
+
+/// How the frames of a capture begin.
+#[derive(Clone, Copy, Debug, PartialEq, Eq)]
+pub enum Link {
+    /// An Ethernet header.
+    Ethernet,
+    /// An address family in four bytes, of either byte order: BSD's loopback.
+    Loopback,
+    /// Nothing: the packet is the frame.
+    Raw,
+    /// The header of a Linux cooked capture.
+    Cooked,
+    /// The header of a Linux cooked capture, version 2.
+    CookedAgain,
+    /// The header of pflog(4).
+    Log,
+}
+
+impl Link {
+    /// The link of this type, or `None` where the type is not read.
+    pub fn from_type(number: u16) -> Option<Link>
+        ensures { result ≡ link_of number }
+    {
+        match number {
+            1 => Some(Link::Ethernet),
+            0 | 108 => Some(Link::Loopback),
+            12 | 14 | 101 | 228 | 229 => Some(Link::Raw),
+            113 => Some(Link::Cooked),
+            276 => Some(Link::CookedAgain),
+            117 => Some(Link::Log),
+            _ => None,
+        }
+    }
+}
+
+// What stands behind a link's header, and where.
+pub fn first_place(link: Link, frame: &[u8]) -> Result<Place, Reason>
+    ensures { result ≡ first_place link frame.now }
+{
+    match link {
+        Link::Ethernet => framed(frame, 14, 12),
+        Link::Cooked => framed(frame, 16, 14),
+        Link::CookedAgain => framed(frame, 20, 0),
+        Link::Loopback => loopback_place(frame),
+        Link::Raw => raw_place(frame),
+        Link::Log => log_place(frame),
+    }
+}
+
+// Behind a header of so many bytes, which has an EtherType at this place.
+fn framed(frame: &[u8], size: usize, at: usize) -> Result<Place, Reason>
+    requires { at + 2 ≤ size }
+    ensures { result ≡ framed frame.now size at }
+{
+    if !holds(frame, 0, size) {
+        return Err(Reason::Cut);
+    }
+    Ok(Place {
+        kind: read_u16(frame, at),
+        at: size,
+    })
+}
+
+fn loopback_place(frame: &[u8]) -> Result<Place, Reason>
+    ensures { result ≡ loopback_place frame.now }
+{
+    if !holds(frame, 0, 4) {
+        return Err(Reason::Cut);
+    }
+    let family = if frame[0] == 0 && frame[1] == 0 && frame[2] == 0 {
+        frame[3]
+    } else if frame[1] == 0 && frame[2] == 0 && frame[3] == 0 {
+        frame[0]
+    } else {
+        0
+    };
+    Ok(Place {
+        kind: kind_of_family(family),
+        at: 4,
+    })
+}
+
+fn raw_place(frame: &[u8]) -> Result<Place, Reason>
+    ensures { result ≡ raw_place frame.now }
+{
+    if frame.is_empty() {
+        return Err(Reason::Cut);
+    }
+    Ok(Place {
+        kind: kind_of_version(frame[0]),
+        at: 0,
+    })
+}
+
+fn log_place(frame: &[u8]) -> Result<Place, Reason>
+    ensures { result ≡ log_place frame.now }
+{
+    if !holds(frame, 0, 61) {
+        return Err(Reason::Cut);
+    }
+    if frame[0] < 61 {
+        return Err(Reason::NotIp);
+    }
+    Ok(Place {
+        kind: kind_of_family(frame[1]),
+        at: (usize::from(frame[0]) + 3) / 4 * 4,
+    })
+}
+
+// The EtherType of packets of an address family, 0 where it has none.
+fn kind_of_family(family: u8) -> u16
+    ensures { result ≡ kind_of_family family }
+{
+    match family {
+        2 => 0x0800,
+        24 | 28 | 30 => 0x86dd,
+        _ => 0,
+    }
+}

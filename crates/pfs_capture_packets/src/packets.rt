@@ -1,0 +1,209 @@
+// The packet that a frame holds, or why it is none that a trace tells.
+
+ghost use Rattle.std.specs.Prelude.{◌≡◌, ◌+◌, ◌≤◌, IfOk, length, true};
+ghost use Rattle.pfs_addr_values.specs.Addresses.{same_family};
+ghost use Rattle.pfs_capture_packets.specs.Packets.{IsCarried, carried_at, flags_in, found_at, ipv4_in, ipv6_in, own_length, packet_in, packet_of, v4_at, v6_at};
+
+use crate::bytes::{holds, read_u16};
+use crate::links::{Link, first_place};
+use crate::walks::{Layer, Place, walk};
+use pfs_addr_values::{Addr, Flags, OtherProto, Proto};
+
+/// Why a frame is no record of a trace. Each frame that is none has exactly one reason.
+#[derive(Clone, Copy, Debug, PartialEq, Eq)]
+pub enum Reason {
+    /// The type of its link is not read.
+    LinkType,
+    /// By its headers it holds neither an IPv4 nor an IPv6 packet.
+    NotIp,
+    /// It holds a fragment that is not the first.
+    LaterFragment,
+    /// It ends before the ports of its packet, or before its headers do.
+    Cut,
+    /// Its packet neither comes in nor goes out.
+    NeitherWay,
+}
+
+/// What an IP packet carries.
+#[derive(Clone, Copy, Debug, PartialEq, Eq)]
+pub enum Carried {
+    /// TCP, with the ports of its source and its destination, and its flags.
+    Tcp(u16, u16, Flags),
+    /// UDP, with the ports of its source and its destination.
+    Udp(u16, u16),
+    /// Another protocol, by its number.
+    Other(OtherProto),
+}
+
+/// The outermost IP packet of a frame.
+#[derive(Clone, Copy, Debug, PartialEq, Eq)]
+pub struct IpPacket {
+    /// The address from which it comes.
+    pub source: Addr,
+    /// The address to which it goes, of the source's family.
+    pub destination: Addr,
+    /// What it carries.
+    pub carried: Carried,
+}
+
+/// The outermost IP packet of a frame of this link type, or the reason for which the frame is no record.
+///
+/// Nothing in a payload, a tunnel or an error of ICMP is looked at. Each reason but `Reason::NeitherWay` is answered where the
+/// definition gives it; a header whose length is too small to be one is `Reason::NotIp`. (RFC 791, section 3.1; RFC 8200,
+/// sections 3 and 4; RFC 9293, section 3.1; RFC 768)
+pub fn read_packet(link_type: u16, frame: &[u8]) -> Result<IpPacket, Reason>
+    ensures is { result ≡ packet_of link_type frame.now }
+    ensures family { IfOk result (λ p. same_family p.source p.destination ≡ true) }
+    ensures carried { IfOk result (λ p. IsCarried p.carried) }
+{
+    match Link::from_type(link_type) {
+        Some(link) => packet_in(link, frame),
+        None => Err(Reason::LinkType),
+    }
+}
+
+fn packet_in(link: Link, frame: &[u8]) -> Result<IpPacket, Reason>
+    ensures is { result ≡ packet_in link frame.now }
+    ensures family { IfOk result (λ p. same_family p.source p.destination ≡ true) }
+    ensures carried { IfOk result (λ p. IsCarried p.carried) }
+{
+    let first = first_place(link, frame)?;
+    let place = walk(Layer::Link, frame, first)?;
+    if !holds(frame, place.at, 0) {
+        return Err(Reason::Cut);
+    }
+    match place.kind {
+        0x0800 => ipv4_in(&frame[place.at..]),
+        0x86dd => ipv6_in(&frame[place.at..]),
+        _ => Err(Reason::NotIp),
+    }
+}
+
+// The packet that begins with an IPv4 header.
+fn ipv4_in(packet: &[u8]) -> Result<IpPacket, Reason>
+    ensures is { result ≡ ipv4_in packet.now }
+    ensures family { IfOk result (λ p. same_family p.source p.destination ≡ true) }
+    ensures carried { IfOk result (λ p. IsCarried p.carried) }
+{
+    if packet.len() < 20 {
+        return Err(Reason::Cut);
+    }
+    let header = usize::from(packet[0] % 16) * 4;
+    if packet[0] / 16 != 4 || header < 20 {
+        return Err(Reason::NotIp);
+    }
+    if read_u16(packet, 6) % 8192 != 0 {
+        return Err(Reason::LaterFragment);
+    }
+    let first = Place {
+        kind: u16::from(packet[9]),
+        at: header,
+    };
+    let end = own_length(packet, 0, read_u16(packet, 2));
+    let carried = found_at(Layer::Ip4, &packet[..end], first)?;
+    Ok(IpPacket {
+        source: v4_at(packet, 12),
+        destination: v4_at(packet, 16),
+        carried,
+    })
+}
+
+// The packet that begins with an IPv6 header.
+fn ipv6_in(packet: &[u8]) -> Result<IpPacket, Reason>
+    ensures is { result ≡ ipv6_in packet.now }
+    ensures family { IfOk result (λ p. same_family p.source p.destination ≡ true) }
+    ensures carried { IfOk result (λ p. IsCarried p.carried) }
+{
+    if packet.len() < 40 {
+        return Err(Reason::Cut);
+    }
+    if packet[0] / 16 != 6 {
+        return Err(Reason::NotIp);
+    }
+    let first = Place {
+        kind: u16::from(packet[6]),
+        at: 40,
+    };
+    let end = own_length(packet, 40, read_u16(packet, 4));
+    let carried = found_at(Layer::Ip6, &packet[..end], first)?;
+    Ok(IpPacket {
+        source: v6_at(packet, 8),
+        destination: v6_at(packet, 24),
+        carried,
+    })
+}
+
+// Where a packet ends that has so many bytes behind its first ones, within what was captured of it.
+fn own_length(packet: &[u8], before: usize, told: u16) -> usize
+    requires { before ≤ 40 }
+    ensures is { result ≡ own_length (length packet.now) before told }
+    ensures within { result ≤ length packet.now }
+{
+    if told == 0 {
+        return packet.len();
+    }
+    packet.len().min(before + usize::from(told))
+}
+
+// What is carried behind the headers that follow the packet's own.
+fn found_at(layer: Layer, packet: &[u8], first: Place) -> Result<Carried, Reason>
+    ensures is { result ≡ found_at layer packet.now first }
+    ensures carried { IfOk result IsCarried }
+{
+    let place = walk(layer, packet, first)?;
+    carried_at(packet, place)
+}
+
+// What is carried by the protocol of this place from there on.
+fn carried_at(packet: &[u8], place: Place) -> Result<Carried, Reason>
+    ensures is { result ≡ carried_at packet.now place }
+    ensures carried { IfOk result IsCarried }
+{
+    let at = place.at;
+    match Proto::from_number((place.kind % 256) as u8) {
+        Proto::Tcp if holds(packet, at, 14) => Ok(Carried::Tcp(
+            read_u16(packet, at),
+            read_u16(packet, at + 2),
+            flags_in(packet[at + 13]),
+        )),
+        Proto::Udp if holds(packet, at, 4) => {
+            Ok(Carried::Udp(read_u16(packet, at), read_u16(packet, at + 2)))
+        }
+        Proto::Other(other) if holds(packet, at, 0) => Ok(Carried::Other(other)),
+        _ => Err(Reason::Cut),
+    }
+}
+
+// The flags of a TCP header, from the byte that holds them.
+fn flags_in(byte: u8) -> Flags
+    ensures { result ≡ flags_in byte }
+{
+    Flags {
+        fin: byte % 2 == 1,
+        syn: byte / 2 % 2 == 1,
+        rst: byte / 4 % 2 == 1,
+        psh: byte / 8 % 2 == 1,
+        ack: byte / 16 % 2 == 1,
+        urg: byte / 32 % 2 == 1,
+        ece: byte / 64 % 2 == 1,
+        cwr: byte / 128 == 1,
+    }
+}
+
+fn v4_at(packet: &[u8], at: usize) -> Addr
+    requires { at + 4 ≤ length packet.now }
+    ensures { result ≡ v4_at packet.now at }
+{
+    let mut bytes = [0; 4];
+    bytes.copy_from_slice(&packet[at..at + 4]);
+    Addr::V4(bytes)
+}
+
+fn v6_at(packet: &[u8], at: usize) -> Addr
+    requires { at + 16 ≤ length packet.now }
+    ensures { result ≡ v6_at packet.now at }
+{
+    let mut bytes = [0; 16];
+    bytes.copy_from_slice(&packet[at..at + 16]);
+    Addr::V6(bytes)
+}

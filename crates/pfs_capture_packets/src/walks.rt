@@ -1,0 +1,54 @@
+// The walk from header to header.
+
+ghost use Rattle.std.specs.Prelude.{◌≡◌, length};
+ghost use Rattle.pfs_capture_packets.specs.Walks.{walk_from};
+ghost use Rattle.pfs_capture_packets.specs.Headers.{behind};
+
+use crate::headers::behind;
+use crate::packets::Reason;
+
+/// Which headers a walk passes over.
+#[derive(Clone, Copy, Debug)]
+pub enum Layer {
+    /// Tags and labels between a link's header and a packet.
+    Link,
+    /// Authentication headers behind an IPv4 header.
+    Ip4,
+    /// Extension headers behind an IPv6 header.
+    Ip6,
+}
+
+/// A header: what the one before it says that it is, and where it begins.
+#[derive(Clone, Copy, Debug)]
+pub struct Place {
+    /// An EtherType, or the number of a protocol.
+    pub kind: u16,
+    /// Where it begins, in bytes from the front.
+    pub at: usize,
+}
+
+/// Where a walk goes from a header.
+#[derive(Clone, Copy, Debug)]
+pub enum Next {
+    /// On to the header behind it.
+    On(Place),
+    /// Nowhere: this is what is looked for.
+    Here,
+    /// Nowhere: there is nothing to be found.
+    Stop(Reason),
+}
+
+// The header at which a walk ends.
+pub fn walk(layer: Layer, bytes: &[u8], first: Place) -> Result<Place, Reason>
+    ensures { result ≡ walk_from (length bytes.now) layer bytes.now first }
+{
+    let mut place = first;
+    for _turn in 0..bytes.len() {
+        match behind(layer, bytes, place) {
+            Next::On(next) => place = next,
+            Next::Here => return Ok(place),
+            Next::Stop(reason) => return Err(reason),
+        }
+    }
+    Err(Reason::NotIp)
+}

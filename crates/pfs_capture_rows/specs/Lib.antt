@@ -1,0 +1,2 @@
+pub mod FlagLetters
+pub mod Rows

@@ -1,0 +1,168 @@
+// The program: it opens the capture that its words name, writes the trace of it, tells the account of its frames on standard error,
+// and ends with the status of what stopped it.
+#![tactic(auto)]
+
+ghost use Rattle.std.specs.Prelude.{◌≡◌, true};
+ghost use Rattle.pfs_addr_values.specs.Names.{is_name};
+
+use clap::error::ErrorKind;
+use clap::{Arg, ArgAction, ArgMatches, Command, Error};
+use pfs_addr::parse_prefix;
+use pfs_addr_values::{IfName, Prefix};
+use pfs_capture::{Account, Sink, TraceStop, interface, status, write_trace};
+use std::alloc::{AllocError, Global};
+use std::env;
+use std::fs::File;
+use std::io::{self, BufReader, BufWriter, Read, Write};
+use std::process::ExitCode;
+
+fn main(rt: HostRuntime) -> ExitCode {
+    ExitCode::from(run(&rt))
+}
+
+fn run(rt: &HostRuntime) -> u8 {
+    let words = match words(rt) {
+        Ok(words) => words,
+        Err(error) => return wordless(rt, &error),
+    };
+    let Ok(names) = names(rt, &words) else {
+        return told(rt, &TraceStop::Memory, 0);
+    };
+    match matches(rt.alloc(), names.as_slice()) {
+        Ok(found) => traced(rt, &found),
+        Err(refusal) => refused(rt, &refusal),
+    }
+}
+
+/// The words of the command line, the program's name first.
+fn words(rt: &HostRuntime) -> io::Result<Vec<String>> {
+    let words = env::args(rt)?;
+    Ok(words.collect(rt.alloc())?)
+}
+
+fn names<'a>(rt: &HostRuntime, words: &'a [String]) -> Result<Vec<&'a str>, AllocError> {
+    words.iter().map(|word| word.as_str()).collect(rt.alloc())
+}
+
+fn matches<'a>(alloc: Global, words: &'a [&'a str]) -> Result<ArgMatches<'a>, Error> {
+    program(alloc)?.try_get_matches_from(words)
+}
+
+/// The command line of the program.
+fn program<'a>(alloc: Global) -> Result<Command<'a>, AllocError> {
+    let command = Command::new(alloc, "pfstrace")
+        .about(
+            "Writes a trace for pfsrc of a capture, pcap or pcapng, and tells on standard error what became of its frames.",
+        )
+        .after_help(
+            "Example: pfstrace --inside 192.0.2.0/24,2001:db8::/32 web.pcap > trace\nWithout a file it reads standard input. A log of pflog(4) tells its packets' ways itself and needs no --inside.\nStatus: 0 done, 1 a fault in the capture, 2 words that are not understood, 4 reading, writing or memory failed.",
+        )
+        .arg(inside(alloc))?;
+    command.arg(interface_name(alloc))?.arg(capture(alloc))
+}
+
+fn inside<'a>(alloc: Global) -> Arg<'a> {
+    Arg::new(alloc, "inside")
+        .long("inside")
+        .value_delimiter(',')
+        .action(ArgAction::Append)
+        .help("The networks behind the firewall, and its own addresses: a packet to them from elsewhere is in, one from them to elsewhere is out.")
+}
+
+fn interface_name<'a>(alloc: Global) -> Arg<'a> {
+    Arg::new(alloc, "interface")
+        .long("interface")
+        .action(ArgAction::Set)
+        .help("The interface of every record, em0 if it is not given.")
+}
+
+fn capture<'a>(alloc: Global) -> Arg<'a> {
+    Arg::new(alloc, "CAPTURE").help("A capture of tcpdump or of pflogd, or any other pcap or pcapng file.")
+}
+
+/// Writes the trace that the words ask for; the status.
+fn traced(rt: &HostRuntime, found: &ArgMatches<'_>) -> u8 {
+    let Some(ifname) = interface(found.get_str("interface").unwrap_or("em0").as_bytes()) else {
+        return mistaken(rt, "--interface: no name of an interface");
+    };
+    let mut inside = Vec::new(rt.alloc());
+    for text in found.get_strs("inside").unwrap_or(&[]) {
+        let Some(prefix) = parse_prefix(text.as_bytes()) else {
+            return mistaken(rt, "--inside: no address and no prefix");
+        };
+        if inside.push(prefix).is_err() {
+            return told(rt, &TraceStop::Memory, 0);
+        }
+    }
+    match found.get_str("CAPTURE") {
+        Some(name) => from_file(rt, &inside, ifname, name),
+        None => from(rt, &inside, ifname, &mut rt.reader()),
+    }
+}
+
+fn from_file(rt: &HostRuntime, inside: &[Prefix], ifname: IfName, name: &str) -> u8
+    requires { is_name 15 ifname ≡ true }
+{
+    let Ok(file) = File::open(rt, name) else {
+        let _ = eprintln!(rt; "read failed");
+        return 4;
+    };
+    match BufReader::new(rt.alloc(), file) {
+        Ok(mut file) => from(rt, inside, ifname, &mut file),
+        Err(_) => told(rt, &TraceStop::Memory, 0),
+    }
+}
+
+/// Writes the trace of what a reader gives, and tells the account of it; the status.
+fn from<R: Read>(rt: &HostRuntime, inside: &[Prefix], ifname: IfName, reader: &mut R) -> u8
+    requires { is_name 15 ifname ≡ true }
+{
+    let Ok(out) = BufWriter::new(rt.alloc(), io::writer(rt)) else {
+        return told(rt, &TraceStop::Memory, 0);
+    };
+    let mut out = Sink::new(out);
+    let mut account = Account::new();
+    let answer = write_trace(rt.alloc(), inside, ifname, reader, &mut out, &mut account);
+    // At a fault the rows before it are to be seen all the same.
+    let flushed = out.into_inner().flush();
+    let _ = eprintln!(rt; "{account}");
+    match answer {
+        Err(stop) => told(rt, &stop, account.frames),
+        Ok(()) if flushed.is_err() => told(rt, &TraceStop::Write, 0),
+        Ok(()) => 0,
+    }
+}
+
+/// Tells on standard error why the trace is not whole, behind so many frames; the status.
+fn told(rt: &HostRuntime, stop: &TraceStop, frames: u64) -> u8 {
+    let status = status(stop);
+    if status == 1 {
+        let _ = eprintln!(rt; "capture: behind frame {frames}: {stop}");
+    } else {
+        let _ = eprintln!(rt; "{stop}");
+    }
+    status
+}
+
+/// Tells a mistake in the words; the status.
+fn mistaken(rt: &HostRuntime, why: &str) -> u8 {
+    let _ = eprintln!(rt; "error: {why}");
+    2
+}
+
+/// Tells that the words could not be taken: one is not UTF-8, which is a mistake in the words, or memory was refused.
+fn wordless(rt: &HostRuntime, error: &io::Error) -> u8 {
+    if error.kind() == io::ErrorKind::InvalidData {
+        return mistaken(rt, "a word is not UTF-8");
+    }
+    told(rt, &TraceStop::Memory, 0)
+}
+
+/// Tells what `clap` says of the words: help on standard output with status 0, a mistake on standard error with status 2.
+fn refused(rt: &HostRuntime, refusal: &Error) -> u8 {
+    if refusal.kind() == ErrorKind::OutOfMemory {
+        return told(rt, &TraceStop::Memory, 0);
+    }
+    let _ = refusal.print(rt);
+    if refusal.use_stderr() { 2 } else { 0 }
+}
