@@ -3,6 +3,7 @@
 import argparse
 import contextlib
 import json
+import os
 from collections import Counter
 from collections.abc import Callable, Iterator, Sequence
 from dataclasses import asdict, dataclass, field
@@ -13,12 +14,15 @@ from . import comparing_texts
 from .connections import Key
 from .errors import Status, Trouble
 from .inputs import check_rules, regular
-from .measuring import Measure, add_asked, measure_of, most_held_at, replayed
+from .measuring import Measure, add_asked, measure_of, most_of, replayed
 from .outputs import whole_file
 from .progress import Progress
 from .records import Record, read_record
 from .replays import check_program, items_of, records_of, show_rules
 from .sides import Side, follow, side_of
+from .stepping import Steps, steps_of
+from .summaries import held_at
+from .timelines import Timeline, timeline_of
 from .words import file, number
 
 DESCRIPTION = """Replays one trace under several rulesets and tells how they differ: what became of the users, which limits were met, what is
@@ -72,6 +76,7 @@ class Comparison:
     measures: list[Measure]
     against: list[Against]
     moments: int
+    timelines: list[Timeline] = field(default_factory=list)
 
     def to_json(self) -> dict[str, Any]:
         """The numbers for machines (tools/README.md)."""
@@ -134,16 +139,19 @@ class Fates:
 class Pairs:
     """Counts, block by block, how the words of each side go with those of the first, and notes where they part."""
 
-    def __init__(self, sides: Sequence[Side], rules: Sequence[Sequence[str]], progress: Progress) -> None:
+    def __init__(self, sides: Sequence[Side], rules: Sequence[Sequence[str]], progress: Progress, steps: Sequence[Steps] = ()) -> None:
         self._sides = sides
         self._rules = rules
         self._progress = progress
+        self._steps = steps
         self.texts = [Counter[tuple[str, str]]() for _ in sides[1:]]
         self.partings: list[Parting | None] = [None for _ in sides[1:]]
 
     def take(self, row: int, lines: Sequence[str]) -> None:
         """Counts the block whose texts the sides hold."""
         self._progress.at(row + len(lines))
+        for steps, side in zip(self._steps, self._sides):
+            steps.take(side, lines)
         first = self._sides[0].texts
         for at, side in enumerate(self._sides[1:]):
             counts = Counter(zip(first, side.texts))
@@ -186,18 +194,23 @@ def compare(paths: Sequence[Path], trace: Path, arguments: argparse.Namespace) -
     with contextlib.ExitStack() as stack:
         stack.callback(progress.finish)
         reports = [stack.enter_context(replayed(it, trace)) for it in paths]
-        sides = [side_of(name, report, arguments.users, fates.ended(at)) for at, (name, report) in enumerate(zip(names, reports))]
-        pairs = Pairs(sides, rules, progress)
+        steps = [steps_of(trace) for _ in paths] if arguments.page else []
+        told = [steps[at].told if steps else None for at in range(len(paths))]
+        sides = [side_of(name, reports[at], arguments.users, fates.ended(at), told[at]) for at, name in enumerate(names)]
+        pairs = Pairs(sides, rules, progress, steps)
         follow(trace, sides, arguments.users, pairs.take)
     fates.finish()
-    ends = [measure_of(it).end for it in sides]
-    held = [most_held_at(path, trace, arguments.held, end) for path, end in zip(paths, ends)]
-    measures = [measure_of(side, most) for side, most in zip(sides, held)]
+    held = [held_at(it, trace, arguments.held, os.cpu_count() or 1) if arguments.held else [] for it in paths]
+    measures = [measure_of(side, most_of(moments, measure_of(side).end)) for side, moments in zip(sides, held)]
     against = [
         Against(pairs.texts[at], pairs.partings[at], fates.counts[at], fates.changed[at], _only(shown[0], shown[at + 1]))
         for at in range(len(paths) - 1)
     ]
-    return Comparison(trace.name, ",".join(map(str, arguments.users)), names, measures, against, arguments.held)
+    lines = [
+        timeline_of(it.steps, it.seconds, [(at.moment, at.states) for at in moments], it.first, any(one.connections for one in measures))
+        for it, moments in zip(steps, held)
+    ]
+    return Comparison(trace.name, ",".join(map(str, arguments.users)), names, measures, against, arguments.held, lines)
 
 
 def _only(one: Sequence[str], other: Sequence[str]) -> tuple[list[str], list[str]]:

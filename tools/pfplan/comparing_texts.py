@@ -8,9 +8,11 @@ from typing import TYPE_CHECKING
 
 from .connections import KINDS, MEANINGS
 from .figures import counted, share_text
-from .frames import answer, bullets, code, document, paragraph, section, soft, table
+from .frames import answer, bullets, code, document, gallery, paragraph, section, soft, table
 from .markup import Child, Markup, join, tag, visible
+from .pictures import PACKAGE, is_at_hand
 from .records import WORDS
+from .timelines import drawn_beside
 from .words_told import connection_text, letters, record_text, why
 
 if TYPE_CHECKING:
@@ -110,6 +112,7 @@ def page_of(found: Comparison) -> str:
     """The comparison as a page."""
     title = f"{len(found.names)} rulesets under {found.trace}"
     parts: list[Child] = [tag("h1", title), soft(subject_of(found)), answer_of(found), section("Side by side", table_of(found))]
+    parts.extend(pictures_parts(found))
     for name, against in zip(found.names[1:], found.against):
         parts.append(section(f"{found.names[0]} and {name}", *against_parts(found, name, against)))
     parts.append(tag("footer", "Made by pfplan, which is tested and not proved; the replays are those of the proved program pfsrc."))
@@ -142,6 +145,17 @@ def table_of(found: Comparison) -> Markup:
     """The table of the page; a column for each ruleset."""
     rows: list[list[Child]] = [[name_cell(name), *cells] for name, cells in rows_of(found)]
     return table(["", *found.names], rows, "t" + "n" * len(found.names))
+
+
+def pictures_parts(found: Comparison) -> Iterator[Child]:
+    """The rulesets over time, pictures of a kind on one scale; or which package draws them."""
+    if not found.timelines or not found.measures[0].records:
+        return
+    if not is_at_hand():
+        yield section("Over time", soft(f"No pictures: gnuplot is not here (Debian package {PACKAGE})."))
+        return
+    galleries = [gallery([it.figure(name) for it, name in zip(drawn, found.names)]) for drawn in drawn_beside(found.timelines).values()]
+    yield section("Over time", *galleries)
 
 
 def name_cell(name: str) -> Child:

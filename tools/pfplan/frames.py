@@ -51,14 +51,15 @@ td.name { min-width: 13em; } th.name { font-family: inherit; font-size: inherit;
 tr.told td { font-weight: 600; }
 @media (max-width: 620px) { .stack thead { display: none; } .stack tr { display: block; border-bottom: 1px solid var(--rule); padding: 6px 0; }
   .stack td { display: block; border: 0; padding: 0; text-align: left; white-space: normal; min-width: 0; }
-  .stack td::before { content: attr(data-head) " "; color: var(--soft); font: 0.85rem system-ui, sans-serif; } }
-.pictures { display: grid; grid-template-columns: repeat(auto-fill, minmax(min(100%, 300px), 1fr)); gap: 20px 28px; }
+  .stack td:empty { display: none; } .stack td::before { content: attr(data-head) " "; color: var(--soft); font: 0.85rem system-ui, sans-serif; } }
+.pictures + .pictures { margin-top: 24px; }
+.pictures { display: grid; grid-template-columns: repeat(auto-fill, minmax(min(100%, 300px), 1fr)); gap: 20px 28px; align-items: end; }
 .pictures.few { grid-template-columns: repeat(auto-fill, minmax(min(100%, 400px), 1fr)); }
 figure { margin: 0; min-width: 0; } figcaption { font-size: 0.9rem; margin-bottom: 2px; }
 .key { white-space: nowrap; margin-left: 10px; } .key::before { content: ""; display: inline-block; width: 0.7em; height: 0.7em;
   margin-right: 4px; background: currentColor; }
 footer { margin-top: 40px; border-top: 1px solid var(--rule); padding-top: 10px; font-size: 0.88rem; color: var(--soft); }
-@media print { body { font-size: 11pt; } main { max-width: none; padding: 0; } h2, figure, tr { break-inside: avoid; } h2 { break-after: avoid; }
+@media print { .pictures.few { grid-template-columns: 1fr 1fr; } body { font-size: 11pt; } main { max-width: none; padding: 0; } h2, figure, tr { break-inside: avoid; } h2 { break-after: avoid; }
   .wide { overflow: visible; } .answer, .area, .line, .key::before { print-color-adjust: exact; -webkit-print-color-adjust: exact; } }
 """
 
@@ -116,12 +117,12 @@ def code(text: str) -> Markup:
 def table(heads: Sequence[str], rows: Iterable[Sequence[Child]], kinds: str, told: frozenset[int] = frozenset()) -> Markup:
     """A table. A letter of `kinds` for each column: `n` a number, `s` short, `c` a name or a rule, `t` a text. Rows in `told` stand out.
 
-    On a narrow screen the cells of a table with texts stand below one another, each behind its head.
+    On a narrow screen the cells of a table with many columns, or with names, stand below one another, each behind its head.
     """
     classes = {"n": "number", "s": "short", "c": "name", "t": "text"}
     top = tag("tr", *(tag("th", head, class_=classes[kind]) for head, kind in zip(heads, kinds)))
     body = [row_of(row, heads, [classes[kind] for kind in kinds], number in told) for number, row in enumerate(rows)]
-    is_stacked = len(kinds) > 2 and bool(set(kinds) & set("ct"))
+    is_stacked = len(kinds) > 4 or "c" in kinds and len(kinds) > 2
     return tag("div", tag("table", tag("thead", top), tag("tbody", *body), class_="stack" if is_stacked else "grid"), class_="wide")
 
 
@@ -143,4 +144,4 @@ def figure(caption: Iterable[Child], picture: Markup) -> Markup:
 
 def gallery(figures: Sequence[Markup]) -> Markup:
     """Figures side by side, as many in a row as the page is wide enough for."""
-    return tag("div", *figures, class_="pictures few" if len(figures) <= 4 else "pictures")
+    return tag("div", *figures, class_="pictures few" if len(figures) in (1, 2, 4) else "pictures")

@@ -72,13 +72,13 @@ def of(arguments: argparse.Namespace) -> Machines:
 
 
 def check_parallel() -> None:
-    """Trouble with status 2 where GNU parallel, rsync or ssh is not installed: it says which Debian package has it."""
+    """Trouble with status 4 where GNU parallel, rsync or ssh is not installed: it says which Debian package has it."""
     for name, package in PACKAGES.items():
         if shutil.which(name) is None:
-            raise Trouble(f"--sshlogin: {name} is not here (Debian package {package})")
+            raise Trouble(f"--sshlogin: {name} is not here (Debian package {package})", Status.FAILED)
     told = subprocess.run(["parallel", "--version"], capture_output=True, text=True, check=False, stdin=subprocess.DEVNULL)
     if not told.stdout.startswith("GNU parallel"):
-        raise Trouble("--sshlogin: the command parallel is not that of GNU (Debian package parallel)")
+        raise Trouble("--sshlogin: the command parallel is not that of GNU (Debian package parallel)", Status.FAILED)
 
 
 class Runs:

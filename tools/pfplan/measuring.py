@@ -15,7 +15,7 @@ from .inputs import regular
 from .records import WORDS, End
 from .replays import stream_blocks
 from .sides import Side, follow, side_of, word_counts
-from .summaries import held_at
+from .summaries import Held, held_at
 from .words import Network, file, networks, number
 
 DESCRIPTION = """Replays a trace and prints a line of JSON: records by word, limits that were met and when, what became of the users'
@@ -108,11 +108,9 @@ def replayed(rules: Path, trace: Path) -> Iterator[Iterator[str]]:
         yield itertools.chain.from_iterable(blocks)
 
 
-def most_held_at(rules: Path, trace: Path, moments: int, end: End) -> int | None:
-    """The greatest number of states at so many moments and at the end; None for no moments."""
-    if moments == 0:
-        return None
-    return max([it.states for it in held_at(rules, trace, moments)] + [end.states])
+def most_of(held: Sequence[Held], end: End) -> int | None:
+    """The greatest number of states at some moments and at the end; None for no moments."""
+    return max([it.states for it in held] + [end.states]) if held else None
 
 
 def measure(rules: Path, trace: Path, users: Sequence[Network], moments: int) -> Measure:
@@ -125,8 +123,8 @@ def measure(rules: Path, trace: Path, users: Sequence[Network], moments: int) ->
         if trouble.status != Status.RULES:
             raise
         return Measure(refused=trouble.message.removeprefix(f"{rules}: "))
-    counted = measure_of(side)
-    return measure_of(side, most_held_at(rules, trace, moments, counted.end))
+    held = held_at(rules, trace, moments) if moments else []
+    return measure_of(side, most_of(held, measure_of(side).end))
 
 
 def add_words(parser: argparse.ArgumentParser) -> None:

@@ -7,8 +7,9 @@ from dataclasses import dataclass
 from pathlib import Path
 from typing import Protocol
 
+from . import timelines
 from .connections import KINDS, MEANINGS
-from .counting import Limit, Step
+from .counting import Limit
 from .errors import Status, Trouble, reason_of
 from .figures import counted, share_text
 from .frames import PICTURE_STYLE, answer, bullets, code, document, gallery, paragraph, section, soft, table
@@ -21,7 +22,7 @@ from .pictures import PACKAGE, is_at_hand, standalone
 from .replays import TOP
 from .sources import Source
 from .summaries import Summary
-from .timelines import FILES, Moment, Timeline, drawn_kinds
+from .timelines import FILES, Timeline, drawn_kinds
 
 PAGE = "report.html"
 DIFFERENCES = TOP / "docs" / "DIFFERENCES.md"
@@ -317,19 +318,6 @@ def names_in(names: Sequence[str]) -> list[Child]:
 
 def timeline_of(summary: Summary) -> Timeline:
     """The run over time, of a summary with a trace."""
-    first, seconds = summary.first_moment or 0, max(1, summary.step_seconds)
-    moments = tuple(moment_of(it, first, seconds) for it in summary.steps)
-    held = tuple((float(it.moment - first), float(it.states)) for it in summary.held)
-    end = float(len(summary.steps) * seconds)
-    return Timeline(moments, held, end, summary.users is not None and summary.users.connections > 0)
-
-
-def moment_of(step: Step, first: int, seconds: int) -> Moment:
-    """A step of the summary as numbers a second."""
-    dropped = sum(count for word, count in step.words.items() if word.startswith("drop:"))
-    outcomes = step.outcomes
-    lost = outcomes["killed"] + outcomes["cut"]
-    return Moment(
-        float(step.moment - first), step.words["new"] / seconds, dropped / seconds, step.killed / seconds,
-        (outcomes["served"] + outcomes["unanswered"]) / seconds, outcomes["refused"] / seconds, lost / seconds,
-    )  # fmt: skip
+    has_users = summary.users is not None and summary.users.connections > 0
+    held = [(it.moment, it.states) for it in summary.held]
+    return timelines.timeline_of(summary.steps, max(1, summary.step_seconds), held, summary.first_moment or 0, has_users)

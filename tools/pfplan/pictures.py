@@ -14,7 +14,7 @@ from dataclasses import dataclass
 from enum import Enum
 from typing import Iterator, Sequence
 
-from .errors import Trouble
+from .errors import Status, Trouble
 from .markup import Markup, join, tag
 
 PACKAGE = "gnuplot-nox"
@@ -97,7 +97,7 @@ def is_at_hand() -> bool:
 def draw(pictures: Sequence[Picture]) -> list[Markup]:
     """An SVG element for each picture, with classes in place of colours.
 
-    Trouble (status 3) where gnuplot is not there, fails, or takes longer than a minute for one.
+    Trouble with status 4 where gnuplot is not there, fails, or takes longer than a minute for one.
     """
     return [element_of(drawn_by_gnuplot(script_of(picture)), picture) for picture in pictures]
 
@@ -137,12 +137,12 @@ def drawn_by_gnuplot(script: str) -> str:
     try:
         made = subprocess.run(command, input=script, capture_output=True, encoding="utf-8", timeout=SECONDS_FOR_A_PICTURE, check=False)
     except FileNotFoundError:
-        raise Trouble(f"gnuplot is not here (Debian package {PACKAGE})", 3) from None
+        raise Trouble(f"gnuplot is not here (Debian package {PACKAGE})", Status.FAILED) from None
     except subprocess.TimeoutExpired:
-        raise Trouble(f"gnuplot drew nothing in {SECONDS_FOR_A_PICTURE} seconds", 3) from None
+        raise Trouble(f"gnuplot drew nothing in {SECONDS_FOR_A_PICTURE} seconds", Status.FAILED) from None
     if made.returncode != 0 or not made.stdout:
         reason = made.stderr.strip().splitlines()
-        raise Trouble(f"gnuplot failed{': ' + reason[-1].strip() if reason else ''}", 3)
+        raise Trouble(f"gnuplot failed{': ' + reason[-1].strip() if reason else ''}", Status.FAILED)
     return made.stdout
 
 
@@ -151,7 +151,7 @@ def element_of(drawn: str, picture: Picture) -> Markup:
     try:
         root = ElementTree.fromstring(drawn.encode("utf-8"))
     except ElementTree.ParseError as error:
-        raise Trouble(f"gnuplot wrote no SVG: {error}", 3) from None
+        raise Trouble(f"gnuplot wrote no SVG: {error}", Status.FAILED) from None
     box = f"0 0 {picture.width} {picture.height}"
     return tag("svg", *parts_of(root), xmlns="http://www.w3.org/2000/svg", viewBox=box, role="img", class_="picture")
 

@@ -38,9 +38,15 @@ class Side:
     met: dict[str, Met] = field(default_factory=dict)
 
 
-def side_of(name: str, report: Iterator[str], users: Sequence[Network], ended: Callable[[Key, int, str], None] | None = None) -> Side:
-    """A ruleset at the beginning of its report. `ended` is told of each connection of a user that is over: its first row and its outcome."""
-    return Side(name, report, Answers(name, None), Connections(users, _pass_over, ended))
+def side_of(
+    name: str,
+    report: Iterator[str],
+    users: Sequence[Network],
+    ended: Callable[[Key, int, str], None] | None = None,
+    told: Callable[[int, str], None] | None = None,
+) -> Side:
+    """A ruleset at the beginning of its report. `ended` and `told` hear of each connection of a user that is over, as Connections says."""
+    return Side(name, report, Answers(name, None), Connections(users, told or _pass_over, ended))
 
 
 def follow(trace: Path, sides: Sequence[Side], users: Sequence[Network], each: Callable[[int, Sequence[str]], None] | None = None) -> None:

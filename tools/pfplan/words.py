@@ -3,7 +3,6 @@
 import argparse
 import difflib
 import importlib
-import importlib.util
 import ipaddress
 import re
 from collections.abc import Callable, Sequence
@@ -62,24 +61,23 @@ class Parser(argparse.ArgumentParser):
         return parsed, rest
 
 
-def make_parser() -> Parser:
-    """The parser with the words of every command that is there."""
+def make_parser(asked: str) -> Parser:
+    """The parser with every command, and with the words of the one that is asked for: the code of no other is loaded."""
     parser = Parser(prog="pfplan", description="From a pf.conf and a capture, or an imagined flood, to an answer that one can look at.", epilog=ENDS)
     commands = parser.add_subparsers(dest="command", metavar="COMMAND", parser_class=Parser)
     for name, module, does in COMMANDS:
-        if importlib.util.find_spec(f"{__package__}.{module}") is None:
-            continue
-        code = importlib.import_module(f".{module}", __package__)
         words = commands.add_parser(name, help=does)
-        words.description = words.description or f"{does[0].upper()}{does[1:]}."
-        code.add_words(words)
-        words.set_defaults(run=code.run)
+        if name == asked:
+            code = importlib.import_module(f".{module}", __package__)
+            words.description = f"{does[0].upper()}{does[1:]}."
+            code.add_words(words)
+            words.set_defaults(run=code.run)
     return parser
 
 
 def parse(words: Sequence[str]) -> argparse.Namespace:
     """The words of the command line, read. Trouble with status 2 says which word is refused, and why."""
-    parser = make_parser()
+    parser = make_parser(words[0] if words else "")
     names = [name for name, _, _ in COMMANDS]
     if words and not words[0].startswith("-") and words[0] not in names:
         near = difflib.get_close_matches(words[0], names, 1)

@@ -9,6 +9,8 @@ from ..comparing import Fates, Pairs
 from ..errors import Trouble
 from ..progress import Progress
 from ..sides import Met, Picks, Side, common_text, follow, side_of
+from ..stepping import steps_of
+from ..summaries import summarize
 from ..words import network, networks
 from .support import STAND_IN, FolderCase, pfplan
 
@@ -72,6 +74,16 @@ class Following(FolderCase):
         self.assertEqual({it: sides[0].connections.outcomes[it] for it in users["outcomes"]}, users["outcomes"])
         self.assertEqual(sides[0].connections.without_beginning, users["without_beginning"])
         self.assertEqual((users["outcomes"]["killed"], users["outcomes"]["cut"]), (1, 1))
+
+    def test_steps_are_those_of_a_summary(self) -> None:
+        texts = ["new @1", "drop:max @1", "kill:max-src-conn @1 overload=added killed=3"] * 300
+        records = [user("S", 5 + at // 3, 1000 + at) for at in range(900)]
+        trace = self.trace(records)
+        steps = steps_of(trace)
+        side = side_of("r", iter(report(*texts)), USERS, None, steps.told)
+        follow(trace, [side], USERS, lambda row, lines: steps.take(side, lines))
+        summary = summarize(self.report(texts), trace, USERS)
+        self.assertEqual((steps.seconds, list(steps.steps)), (summary.step_seconds, summary.steps))
 
     def test_moments_of_limits(self) -> None:
         records = [user("S", moment, 1000 + moment) for moment in range(9)]

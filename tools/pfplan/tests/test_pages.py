@@ -192,7 +192,7 @@ class Pictures(unittest.TestCase):
 
     def test_script_has_numbers_and_words_of_ours_alone(self) -> None:
         line = pages.timeline_of(summary("system('x')"))
-        script = pictures.script_of(timelines.made_picture(line))
+        script = pictures.script_of(timelines.made_picture(line, 5.0))
         self.assertNotIn("system", script)
         self.assertIn("noenhanced", script)
         data = [it for it in script.splitlines() if it[:1].isdigit()]
