@@ -147,7 +147,7 @@ class Chooser:
         if not NAME.fullmatch(asked.name) or len(asked.name) > 15 or asked.name == "rdomain":
             return [Gap(part, beyond("a trace can't have an interface of that name"))]
         if asked.name not in self.machine.interfaces and not asked.name[-1].isdigit():
-            help_ = f"give --interface {asked.name}=IF{self._or_ifconfig()}"
+            help_ = f"give --interface {asked.name}=IF{self._or_ifconfig(asked.name)}"
             if asked.negated:
                 return [Gap(part, beyond(f"it asks for all interfaces outside of a group; {help_}"))]
             self.teller.tell(
@@ -230,10 +230,11 @@ class Chooser:
 
     def _no_address(self, host: Host, family: str) -> Gap:
         which = f"{host.text} for {family}" if family else host.text
-        return Gap(host.shown(), beyond(f"the address of {which} is not there; give it with --address {host.text}=PREFIX{self._or_ifconfig()}"))
+        help_ = f"give it with --address {host.text}=PREFIX{self._or_ifconfig(host.text)}"
+        return Gap(host.shown(), beyond(f"the address of {which} is not there; {help_}"))
 
-    def _or_ifconfig(self) -> str:
-        return "" if self.machine.interfaces else " or --ifconfig"
+    def _or_ifconfig(self, name: str) -> str:
+        return "" if self.machine.interfaces or "." in name else " or --ifconfig"
 
     def ports(self, ports: Sequence[Port], counts: bool) -> Options:
         """The choices of one side's ports: none, or one for each range."""

@@ -6,7 +6,7 @@ from dataclasses import replace
 from pathlib import Path
 
 from .cursor import Cursor
-from .filters import HEAD, MOST_SECONDS, MOST_STATES, TIMEOUTS, TIMEOUTS_FOR_NOTHING, FilterReader
+from .filters import AFTER_HOSTS, HEAD, MOST_SECONDS, MOST_STATES, TIMEOUTS, TIMEOUTS_FOR_NOTHING, FilterReader
 from .lexer import Kind, Lexer, Token, trouble
 from .named_files import NamedFiles, read_text
 from .syntax import Anchor, Antispoof, Host, HostKind, Load, Other, Parsed, Part, Place, Rule, Setting, Statement, StateOption, Table
@@ -147,7 +147,7 @@ class Parser:
     def _anchor(self, place: Place) -> Anchor:
         token = self.at.take()
         name = ""
-        if self.at.token.kind is Kind.QUOTED or self.at.token.kind is Kind.WORD and not self.at.is_word(*HEAD):
+        if self.at.token.kind is Kind.QUOTED or self.at.token.kind is Kind.WORD and not self.at.is_word(*HEAD, *AFTER_HOSTS):
             name = self.at.take().text
         read = self.filters.filter(has_log=False)
         text = self.at.text_since()
