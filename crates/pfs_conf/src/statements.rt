@@ -18,7 +18,8 @@ use pfs_conf_tokens::{Cursor, Key, ReadError, Refusal, Why};
 use pfs_conf_values::{Config, RulesHasher};
 use std::alloc::Global;
 
-/// Reads a text up to its end, which stays, and gives what it says. While it reads, it finds tables and entries by this hasher.
+/// Reads a text up to its end, which stays, and gives what it says. While it reads, it finds tables and entries by this
+/// hasher.
 #[tactic(auto, unfolding(crate::specs::Reading::text_at))]
 pub fn read_text(
     alloc: Global,
