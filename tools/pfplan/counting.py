@@ -16,6 +16,8 @@ from .words import Network
 
 STEPS = (1, 2, 5, 10, 15, 30, 60, 120, 300, 600, 900, 1800, 3600, 7200, 14400, 43200, 86400, 604800, 2592000, 31536000)
 MOST_STEPS = 120
+# Limits of a block whose last place is looked for one by one.
+FEW = 8
 # Texts of a report's lines that are remembered.
 KNOWN = 50_000
 # Names of interfaces that are kept of a trace.
@@ -88,7 +90,7 @@ class Answers:
         for text, count in counts.items():
             word, killed = self._known[text]
             self._count(word, text, count, killed)
-        self._count_limits(texts, first)
+        self._count_limits(texts, counts, first)
         if len(lines) > len(texts):
             self._take_end(lines[len(texts)])
             if len(lines) > len(texts) + 1:
@@ -164,19 +166,23 @@ class Answers:
             self.overloads[part[2].removeprefix("overload=")] += count
             limit.killed += killed * count
 
-    def _count_limits(self, texts: Sequence[str], first: int) -> None:
-        if not self.limits:
+    def _count_limits(self, texts: Sequence[str], counts: Iterable[str], first: int) -> None:
+        met = [it for it in counts if self._known[it][0] in self.limits]
+        if not met:
             return
-        rows = range(first, first + len(texts))
-        for text, row in dict(zip(texts, rows, strict=True)).items():
-            if limit := self.limits.get(self._known[text][0]):
-                limit.last_row = max(limit.last_row, row)
-        if all(it.first_row for it in self.limits.values()):
-            return
-        for text, row in dict(zip(reversed(texts), reversed(rows), strict=True)).items():
-            limit = self.limits.get(self._known[text][0])
-            if limit and (not limit.first_row or first <= limit.first_row and row < limit.first_row):
-                limit.first_row = row
+        # the last place of each: from the end for a few, by one walk for many
+        if len(met) < FEW:
+            backwards = texts[::-1]
+            last = {it: len(texts) - 1 - backwards.index(it) for it in met}
+        else:
+            places = dict(zip(texts, range(len(texts)), strict=True))
+            last = {it: places[it] for it in met}
+        for text in met:
+            limit = self.limits[self._known[text][0]]
+            limit.last_row = max(limit.last_row, first + last[text])
+            if not limit.first_row or limit.first_row >= first:
+                row = first + texts.index(text)
+                limit.first_row = min(limit.first_row or row, row)
 
     def _take_end(self, line: str) -> None:
         try:

@@ -104,7 +104,7 @@ class Traces:
         check_trace(self.path)
         is_begun = False
         for lines in line_blocks(self.path):
-            if any('"' in it for it in lines):
+            if '"' in "".join(lines):
                 at = next(i for i, it in enumerate(lines, self._line + 1) if '"' in it)
                 raise Trouble(f"{self.name}: line {at}: a quote, which pfplan does not read", Status.REFUSED)
             before = self._line
