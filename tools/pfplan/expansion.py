@@ -20,7 +20,8 @@ from .syntax import (
 )  # fmt: skip
 from .tables import TableMaker
 
-MOST_COMBINATIONS = 100_000  # of one rule; pfsrc takes 10,000 rules in all
+MOST_ITEMS = 10_000  # rules and anchors of a rules text of pfsrc
+MOST_COMBINATIONS = 100_000  # of one rule, some of which may be left out
 
 
 @dataclass(frozen=True)
@@ -159,6 +160,8 @@ class Expander:
         return {**self.chooser.tables.renamed, **scope.tables}
 
     def _item(self, place: Place, line: str) -> None:
+        if len(self.origins) == MOST_ITEMS:
+            raise refuse(place, f"the text stands for more than {MOST_ITEMS} rules and anchors, which pfsrc does not take")
         self.origins.append(place)
         self.lines.append(line)
 
@@ -210,7 +213,7 @@ class Expander:
         for axis in axes:
             size *= len(axis)
         if size > MOST_COMBINATIONS:
-            raise refuse(statement.place, f"its lists stand for {size} rules; pfsrc takes 10000 in all")
+            raise refuse(statement.place, f"its lists stand for {size} rules; pfsrc takes {MOST_ITEMS} in all")
         found: list[Combination] = []
         gaps: dict[Gap, None] = {}
         for chosen in itertools.product(*axes):

@@ -5,7 +5,7 @@ from collections.abc import Callable
 from dataclasses import replace
 from pathlib import Path
 
-from .cursor import Cursor
+from .cursor import DEEPEST_LIST, Cursor
 from .filters import AFTER_HOSTS, HEAD, MOST_SECONDS, MOST_STATES, TIMEOUTS, TIMEOUTS_FOR_NOTHING, FilterReader
 from .lexer import Kind, Lexer, Token, trouble
 from .named_files import NamedFiles, read_text
@@ -13,6 +13,7 @@ from .syntax import Anchor, Antispoof, Host, HostKind, Load, Other, Parsed, Part
 
 DEEPEST_FILE = 16  # files that include one another
 DEEPEST_ANCHOR = 64
+LONGEST_MACRO = 1 << 17  # characters
 LIMITS = ("states", "src-nodes", "tables", "table-entries", "frags")
 LIMITS_FOR_NOTHING = ("anchors", "pktdelay-pkts", "eth-anchors", "ktable-entries")
 OPTIMIZATIONS = ("default", "normal", "high-latency", "satellite", "aggressive", "conservative")
@@ -94,8 +95,11 @@ class Parser:
         values = [self.at.want_name("the value of the macro: quoted strings and words")]
         while self.at.is_name():
             values.append(self.at.take().text)
+        value = " ".join(values)
+        if len(value) > LONGEST_MACRO:
+            raise trouble(token, f"macro {token.shown()} has more than {LONGEST_MACRO} characters")
         if token.text not in self._fixed:
-            self._parsed.macros[token.text] = " ".join(values)
+            self._parsed.macros[token.text] = value
         self.at.want_line_end()
 
     def _no_statement(self, token: Token) -> None:
@@ -214,7 +218,7 @@ class Parser:
         files: list[str] = []
         while not self.at.is_end():
             if self.at.is_mark("{"):
-                entries.extend(self._entries())
+                entries.extend(self._entries(0))
             elif self.at.take_word("file"):
                 files.append(self.at.want_name("the name of a file"))
             else:
@@ -225,14 +229,16 @@ class Parser:
         self.at.take()
         return Table(place, text, name, tuple(dict.fromkeys(parts)), tuple(entries), tuple(files))
 
-    def _entries(self) -> list[Host]:
+    def _entries(self, depth: int) -> list[Host]:
+        if depth == DEEPEST_LIST:
+            raise trouble(self.at.token, f"lists stand in one another more than {DEEPEST_LIST} times")
         opened = self.at.take()
         found: list[Host] = []
         while not self.at.take_mark("}"):
             if self.at.token.kind is Kind.END:
                 raise trouble(opened, "'{' is not closed")
             if self.at.is_mark("{"):
-                found.extend(self._entries())
+                found.extend(self._entries(depth + 1))
             elif not self.at.take_mark(",") and self.at.token.kind is not Kind.LINE_END:
                 found.append(self.filters.address(self.at.take_mark("!")))
             else:

@@ -23,7 +23,7 @@ from .named_files import NamedFiles, read_text
 from .syntax import Place, Setting, Statement, Table
 from .tables import TableMaker
 
-MOST_ITEMS, MOST_BYTES = 10_000, 1_048_576  # of a rules text of pfsrc
+MOST_BYTES = 1_048_576  # of a rules text of pfsrc
 DESCRIPTION = """Makes a rules text for ./pfsrc of a pf.conf as it stands in /etc, with no OpenBSD at hand, or of what pfctl -nvf
 prints. Macros and lists are expanded as pfctl does. Standard error says what is left out, a line each:
   FILE: line N: left out: TEXT: can change an answer: WHY     or     .. : changes no answer: WHY
@@ -146,7 +146,6 @@ def _check_size(name: str, lines: list[str], ruleset: Ruleset, limits: dict[str,
     tables = len(set(re.findall(r"<([A-Za-z0-9_.-]+)>", ruleset.text)))
     entries = sum(it.count(",") + 1 for it in lines if it.startswith("table ") and "{" in it)
     for count, most, what in (
-        (len(ruleset.origins), MOST_ITEMS, f"rules and anchors; pfsrc takes {MOST_ITEMS}"),
         (len(ruleset.text), MOST_BYTES, f"bytes of rules text; pfsrc takes {MOST_BYTES}"),
         (tables, limits["tables"], f"tables; set limit tables is {limits['tables']}"),
         (entries, limits["table-entries"], f"entries of tables; set limit table-entries is {limits['table-entries']}"),

@@ -71,11 +71,22 @@ class Rulesets(unittest.TestCase):
         """More rules than pfsrc takes are refused, and so are lists that would never end."""
         ports = "{ " + " ".join(map(str, range(1, 102))) + " }"
         text = f"pass proto tcp from port {ports} to port {ports}\n"
-        with self.assertRaisesRegex(Trouble, "pf.conf: stands for 10201 rules and anchors; pfsrc takes 10000"):
+        with self.assertRaisesRegex(Trouble, "pf.conf: line 1: the text stands for more than 10000 rules and anchors, which pfsrc does not take"):
             text_of(text)
         hosts = "{ " + " ".join(f"10.0.0.{it}" for it in range(100)) + " }"
         with self.assertRaisesRegex(Trouble, "line 1: its lists stand for 102010000 rules"):
             text_of(f"pass proto tcp from {hosts} port {ports} to {hosts} port {ports}\n")
+
+    def test_no_end(self) -> None:
+        """Anchors of lists in anchors of lists, and macros of macros, come to an end."""
+        text = "".join(f'anchor "a{it}" on {{ em0 em1 em2 }} {{\n' for it in range(16)) + "pass\n" + "}\n" * 16
+        with self.assertRaisesRegex(Trouble, "more than 10000 rules and anchors"):
+            text_of(text)
+        text = 'a0 = "1 2 3 4 5 6 7 8"\n' + "".join(f"a{it + 1} = $a{it} $a{it}\n" for it in range(30))
+        with self.assertRaisesRegex(Trouble, "has more than 131072 characters"):
+            text_of(text)
+        with self.assertRaisesRegex(Trouble, "lists stand in one another more than 64 times"):
+            text_of("table <t> " + "{" * 5000 + "}" * 5000 + "\n")
 
     def test_deep(self) -> None:
         """Anchors inside 16 others are told; lists and files that are too deep are refused."""
