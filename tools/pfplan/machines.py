@@ -245,9 +245,9 @@ def _end(process: "subprocess.Popen[str]") -> None:
 
 
 def _trouble(told: str, status: int) -> Trouble:
-    """What a run that failed said: its last line, without the name of the command."""
-    lines = [it.strip() for it in told.splitlines() if it.strip()]
+    """What a run that failed said: its last line, without the name of the command; else what ssh, rsync or GNU parallel said first."""
+    lines = [it.strip() for it in told.splitlines() if it.strip() and not it.startswith("parallel: Warning: ")]
     own = [it for it in lines if it.startswith("pfplan measure: ")]
-    said = (own or lines or [f"a run ended with status {status} and said nothing"])[-1]
+    said = own[-1] if own else lines[0] if lines else f"a run ended with status {status} and said nothing"
     known = status if own and status in set(Status) else Status.FAILED
     return Trouble(said.removeprefix("pfplan measure: "), known)

@@ -44,6 +44,17 @@ class CommandLines(FolderCase):
         with mock.patch("shutil.which", return_value=None), self.assertRaisesRegex(Trouble, "Debian package parallel"):
             machines.check_parallel()
 
+    def test_what_a_run_said(self) -> None:
+        unreachable = "parallel: Warning: no cpus\nssh: connect to host one: Connection refused\nparallel: This job failed:\ntest -e trace\n"
+        rows = (
+            ("pfplan measure: /tmp/x: row 3: the moment falls\nparallel: This job failed:\nx\n", 1, "/tmp/x: row 3: the moment falls", 1),
+            (unreachable, 1, "ssh: connect to host one: Connection refused", 4),
+            ("", 255, "a run ended with status 255 and said nothing", 4),
+        )
+        for told, status, message, wanted in rows:
+            trouble = machines._trouble(told, status)
+            self.assertEqual((trouble.message, trouble.status), (message, wanted))
+
     def test_other_parallel(self) -> None:
         told = subprocess.CompletedProcess([], 1, stdout="parallel [OPTIONS] command -- arguments", stderr="")
         with mock.patch("shutil.which", return_value="/x"), mock.patch("subprocess.run", return_value=told):
