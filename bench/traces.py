@@ -161,6 +161,28 @@ def idle_store(held: int, seconds: int) -> Scenario:
     return Scenario("one record a second, idle", held, f"{UNSCALED}{LONG}pass in proto udp all\n", lines)
 
 
+def idle_days(held: int, hourly: int, days: int) -> Scenario:
+    """States with source nodes, of which so many leave in each hour, and a record at the end of some days."""
+    hour, hours = 3600, 24 * days
+    every = hour // hourly
+
+    def lines() -> Iterator[str]:
+        apart = max(held // (hourly * hours), 1)
+        for flow in range(held):
+            leaves = flow % apart == 0 and flow // apart < hourly * hours
+            to = 1000 + flow // apart if leaves else 53
+            yield f"0,in,em0,udp,{client(flow)},{port(flow)},{SERVER},{to},\n"
+        yield f"{hour * hours},in,em0,udp,{client(0)},{port(0)},{SERVER},54,\n"
+
+    leaving = "".join(
+        f"pass in proto udp to any port {1000 + turn} keep state (source-track rule, udp.first {every * (turn + 1) - every // 2})\n"
+        for turn in range(hourly * hours)
+    )
+    staying = f"pass in proto udp to any port 53 keep state (source-track rule, udp.first {10 * hour * hours})\n"
+    limits = f"set limit {{ states {2 * held}, src-nodes {2 * held} }}\n"
+    return Scenario(f"{days} idle days, {hourly} states leave each hour", held, f"{UNSCALED}{limits}block in proto udp to any port 54\n{leaving}{staying}", lines)
+
+
 def write_trace(scenario: Scenario, to: TextIO) -> int:
     """Writes the trace, and answers how many records it has."""
     to.write(HEADER)

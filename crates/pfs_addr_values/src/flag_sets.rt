@@ -1,7 +1,7 @@
 // Sets of TCP flags.
 
 /// A set of TCP flags, each by its letter. (pf.conf(5), PARAMETERS, "flags"; RFC 9293, section 3.1)
-#[derive(Debug, Clone, Copy, PartialEq, Eq, Default)]
+#[derive(Debug, Clone, Copy, PartialEq, Eq, Hash, Default)]
 pub struct Flags {
     /// `F`: the sender has no more to send.
     pub fin: bool,

@@ -12,7 +12,7 @@ use crate::protocols::Proto;
 use std::marker::Model;
 
 /// The way of a packet through an interface. (pf.conf(5), PARAMETERS, "in" and "out")
-#[derive(Debug, Clone, Copy, PartialEq, Eq)]
+#[derive(Debug, Clone, Copy, PartialEq, Eq, Hash)]
 pub enum Dir {
     /// It comes in.
     In,

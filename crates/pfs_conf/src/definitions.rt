@@ -9,7 +9,7 @@ ghost use Rattle.pfs_conf.specs.Giving.{Comes, IsAtDepth};
 
 use crate::progress::Progress;
 use pfs_addr_values::{Name, NoMemory};
-use pfs_conf_settings::{Draft, Parts, read_parts, read_settings};
+use pfs_conf_settings::{Draft, Parts, read_parts_with, read_settings};
 use pfs_conf_tokens::{Cursor, Key, ReadError, Refusal, Why};
 use pfs_conf_values::{Entries, TableDef, TableName};
 use std::alloc::Global;
@@ -34,7 +34,7 @@ pub fn table(alloc: Global, cursor: &mut Cursor, progress: &mut Progress) -> Res
     ensures value { Comes result cursor.new progress.new (definition_at progress.old cursor.old) }
 {
     let name = table_name(cursor, &progress.draft)?;
-    let parts = read_parts(alloc, cursor)?;
+    let parts = read_parts_with(alloc, progress.draft.hasher(), cursor)?;
     cursor.expect(Key::LineEnd)?;
     match define(alloc, progress, name, parts) {
         Ok(()) => Ok(()),

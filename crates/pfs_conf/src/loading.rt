@@ -15,7 +15,7 @@ use crate::kinds::Kind;
 use crate::statements::read_text;
 use crate::stopping::fault_of;
 use pfs_conf_tokens::Cursor;
-use pfs_conf_values::Config;
+use pfs_conf_values::{Config, RulesHasher};
 use std::alloc::Global;
 
 /// The configuration that a rules text says. (pf.conf(5); the subset, its limits and the load rules are own to this profile)
@@ -51,7 +51,8 @@ fn read(alloc: Global, text: &[u8]) -> Result<Config, LoadFault>
         });
     }
     let mut cursor = Cursor::new(text);
-    match read_text(alloc, &mut cursor) {
+    let hasher = RulesHasher::of_text(text);
+    match read_text(alloc, hasher, &mut cursor) {
         Ok(config) => Ok(config),
         Err(error) => Err(fault_of(error, &mut cursor)),
     }

@@ -5,6 +5,7 @@ ghost use Rattle.pfs_conf.specs.Statements.{nothing};
 
 use pfs_addr_values::NoMemory;
 use pfs_conf_settings::Draft;
+use pfs_conf_values::RulesHasher;
 use std::alloc::Global;
 use std::marker::Model;
 
@@ -54,12 +55,12 @@ pub struct Progress {
 }
 
 impl Progress {
-    /// Nothing is read.
-    pub fn new(alloc: Global) -> Progress
+    /// Nothing is read of the text that this hasher was fed with.
+    pub fn new(alloc: Global, hasher: RulesHasher) -> Progress
         ensures { result ≡ nothing }
     {
         Progress {
-            draft: Draft::new(alloc),
+            draft: Draft::with_hasher(alloc, hasher),
             depth: 0,
             lines: Lines {
                 lines: Vec::new(alloc),

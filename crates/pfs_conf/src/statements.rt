@@ -15,16 +15,20 @@ use crate::definitions::{set, table};
 use crate::progress::Progress;
 use crate::rules::rule;
 use pfs_conf_tokens::{Cursor, Key, ReadError, Refusal, Why};
-use pfs_conf_values::Config;
+use pfs_conf_values::{Config, RulesHasher};
 use std::alloc::Global;
 
-/// Reads a text up to its end, which stays, and gives what it says.
+/// Reads a text up to its end, which stays, and gives what it says. While it reads, it finds tables and entries by this hasher.
 #[tactic(auto, unfolding(crate::specs::Reading::text_at))]
-pub fn read_text(alloc: Global, cursor: &mut Cursor) -> Result<Config, ReadError>
+pub fn read_text(
+    alloc: Global,
+    hasher: RulesHasher,
+    cursor: &mut Cursor,
+) -> Result<Config, ReadError>
     requires { AreLexed cursor.old }
     ensures { GivesOrMemory result cursor.new (text_at cursor.old) }
 {
-    let progress = statements(alloc, cursor)?;
+    let progress = statements(alloc, hasher, cursor)?;
     if progress.depth > 0 {
         return Err(ReadError::Refused(Refusal::Stop(Why::Plain)));
     }
@@ -43,11 +47,15 @@ fn finish(progress: Progress) -> Config
     draft.finish()
 }
 
-fn statements(alloc: Global, cursor: &mut Cursor) -> Result<Progress, ReadError>
+fn statements(
+    alloc: Global,
+    hasher: RulesHasher,
+    cursor: &mut Cursor,
+) -> Result<Progress, ReadError>
     requires { AreLexed cursor.old }
     ensures { GivesOrMemory result cursor.new (statements_at cursor.old) }
 {
-    let mut progress = Progress::new(alloc);
+    let mut progress = Progress::new(alloc, hasher);
     while !cursor.is_at_end() {
         statement(alloc, cursor, &mut progress)?;
     }

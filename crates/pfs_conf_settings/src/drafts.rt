@@ -14,7 +14,7 @@ use crate::named_tables::NamedTables;
 use pfs_addr_values::NoMemory;
 use pfs_conf_values::{
     Action, Anchor, AnchorName, Config, Item, LimitName, Limits, Rule, RuleNo, RuleTimeouts,
-    TableDef, TableName, TableNo, TimeoutName, Timeouts, What, count_entries,
+    RulesHasher, TableDef, TableName, TableNo, TimeoutName, Timeouts, What, count_entries,
 };
 use std::alloc::Global;
 use std::marker::Model;
@@ -30,6 +30,7 @@ pub struct Draft {
     timeouts: RuleTimeouts,
     tables: NamedTables,
     items: Vec<Item>,
+    hasher: RulesHasher,
 }
 
 impl Model for Draft {
@@ -44,17 +45,30 @@ impl Model for Draft {
 }
 
 impl Draft {
-    /// The draft of a text of which nothing has been read: the default limits, no timeout set, no tables and items. It
-    /// takes no memory.
+    /// The draft of a text of which nothing has been read: the default limits, no timeout set, no tables and items. Its
+    /// hasher was fed with nothing; for a stranger's text take `with_hasher`. It takes no memory.
     pub fn new(alloc: Global) -> Draft
+        ensures { result ≡ empty_draft }
+    {
+        Draft::with_hasher(alloc, RulesHasher::of_text(&[]))
+    }
+
+    /// The same draft, whose tables are found by this hasher. It takes no memory.
+    pub fn with_hasher(alloc: Global, hasher: RulesHasher) -> Draft
         ensures { result ≡ empty_draft }
     {
         Draft {
             limits: Limits::DEFAULT,
             timeouts: RuleTimeouts::new(),
-            tables: NamedTables::new(alloc),
+            tables: NamedTables::new(alloc, hasher),
             items: Vec::new(alloc),
+            hasher,
         }
+    }
+
+    /// The hasher that the draft was made with.
+    pub fn hasher(&self) -> RulesHasher {
+        self.hasher
     }
 
     /// Sets a limit, 1 to 4294967295. A later value replaces an earlier one. (pf.conf(5), OPTIONS, "set limit")
@@ -211,6 +225,7 @@ impl Draft {
             timeouts,
             tables,
             items,
+            hasher: _,
         } = self;
         let tables = tables.into_tables();
         let timeouts = Timeouts::resolved(&timeouts, limits.states);

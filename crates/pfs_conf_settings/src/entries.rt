@@ -5,7 +5,7 @@ ghost use Rattle.pfs_conf_values.specs.Entries.{sign_of};
 
 use indexmap::IndexMap;
 use pfs_addr_values::{NoMemory, Prefix};
-use pfs_conf_values::Entries;
+use pfs_conf_values::{Entries, RulesHasher};
 use std::alloc::Global;
 use std::marker::Model;
 
@@ -15,7 +15,7 @@ use std::marker::Model;
 /// Clauses see a list of pairs. (pf.conf(5), TABLES)
 #[derive(Drop)]
 pub struct EntryDraft {
-    map: IndexMap<Prefix, bool>,
+    map: IndexMap<Prefix, bool, RulesHasher>,
 }
 
 impl Model for EntryDraft {
@@ -30,12 +30,12 @@ impl Model for EntryDraft {
 }
 
 impl EntryDraft {
-    /// No entries. It takes no memory.
-    pub fn new(alloc: Global) -> EntryDraft
+    /// No entries, which will be found by this hasher. It takes no memory.
+    pub fn new(alloc: Global, hasher: RulesHasher) -> EntryDraft
         ensures { result ≡ [] }
     {
         EntryDraft {
-            map: IndexMap::new(alloc),
+            map: IndexMap::with_hasher(alloc, hasher),
         }
     }
 

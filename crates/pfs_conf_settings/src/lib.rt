@@ -10,4 +10,4 @@ mod tables;
 
 pub use drafts::Draft;
 pub use settings::read_settings;
-pub use tables::{Parts, read_parts};
+pub use tables::{Parts, read_parts, read_parts_with};

@@ -10,14 +10,14 @@ ghost use Rattle.pfs_conf_settings.specs.Namings.{defining, is_defined_in, is_na
 
 use indexmap::IndexSet;
 use pfs_addr_values::NoMemory;
-use pfs_conf_values::{Entries, TableDef, TableName, TableNo};
+use pfs_conf_values::{Entries, RulesHasher, TableDef, TableName, TableNo};
 use std::alloc::Global;
 use std::marker::Model;
 
 /// The tables of a text that is being read, numbered by the first place that names them, and which of them are defined.
 #[derive(Debug, Drop)]
 pub struct NamedTables {
-    names: IndexSet<TableName>,
+    names: IndexSet<TableName, RulesHasher>,
     tables: Vec<TableDef>,
     defined: Vec<bool>,
 }
@@ -34,13 +34,13 @@ impl Model for NamedTables {
 }
 
 impl NamedTables {
-    /// No tables. It takes no memory.
-    pub fn new(alloc: Global) -> NamedTables
+    /// No tables, which will be found by this hasher. It takes no memory.
+    pub fn new(alloc: Global, hasher: RulesHasher) -> NamedTables
         ensures tables { result.tables ≡ [] }
         ensures defined { result.defined ≡ [] }
     {
         NamedTables {
-            names: IndexSet::new(alloc),
+            names: IndexSet::with_hasher(alloc, hasher),
             tables: Vec::new(alloc),
             defined: Vec::new(alloc),
         }

@@ -10,7 +10,7 @@ ghost use Rattle.pfs_conf_settings.specs.Extending.{Extends};
 use crate::entries::EntryDraft;
 use pfs_addr::parse_prefix;
 use pfs_conf_tokens::{Cursor, Key, ReadError, Refusal, Why, skip_lines};
-use pfs_conf_values::Entries;
+use pfs_conf_values::{Entries, RulesHasher};
 use std::alloc::Global;
 
 /// The parts of a table's definition that stand behind its name. (pf.conf(5), TABLES)
@@ -30,9 +30,21 @@ pub struct Parts {
 ///
 /// It refuses, with the cursor at that token, a part that stands already, what is no part, an entry that is no prefix, and
 /// an entry that stands already with the other sign. An entry that stands already with the same sign is held once. Line
-/// ends in the braces are ignored. It takes memory for the entries. (pf.conf(5), TABLES)
-#[tactic(auto, unfolding(crate::specs::Tables::parts_at))]
+/// ends in the braces are ignored. It takes memory for the entries. Its hasher was fed with nothing; for a stranger's text
+/// take `read_parts_with`. (pf.conf(5), TABLES)
 pub fn read_parts(alloc: Global, cursor: &mut Cursor) -> Result<Parts, ReadError>
+    ensures { GivesOrMemory result cursor.new (parts_at cursor.old) }
+{
+    read_parts_with(alloc, RulesHasher::of_text(&[]), cursor)
+}
+
+/// Reads the same parts. While it reads entries, it finds them by this hasher.
+#[tactic(auto, unfolding(crate::specs::Tables::parts_at))]
+pub fn read_parts_with(
+    alloc: Global,
+    hasher: RulesHasher,
+    cursor: &mut Cursor,
+) -> Result<Parts, ReadError>
     ensures { GivesOrMemory result cursor.new (parts_at cursor.old) }
 {
     let mut parts = Parts {
@@ -41,17 +53,22 @@ pub fn read_parts(alloc: Global, cursor: &mut Cursor) -> Result<Parts, ReadError
         counters: false,
         entries: None,
     };
-    match more_parts(alloc, cursor, &mut parts) {
+    match more_parts(alloc, hasher, cursor, &mut parts) {
         Ok(()) => Ok(parts),
         Err(error) => Err(error),
     }
 }
 
-fn more_parts(alloc: Global, cursor: &mut Cursor, parts: &mut Parts) -> Result<(), ReadError>
+fn more_parts(
+    alloc: Global,
+    hasher: RulesHasher,
+    cursor: &mut Cursor,
+    parts: &mut Parts,
+) -> Result<(), ReadError>
     ensures { Extends result cursor.new parts.new (up_to_all ends_line part_at parts.old cursor.old) }
 {
     'parts: while !cursor.is_at_line_end() {
-        if let Err(error) = part(alloc, cursor, parts) {
+        if let Err(error) = part(alloc, hasher, cursor, parts) {
             return Err(error);
         }
     }
@@ -59,7 +76,12 @@ fn more_parts(alloc: Global, cursor: &mut Cursor, parts: &mut Parts) -> Result<(
 }
 
 #[tactic(auto, unfolding(crate::specs::Tables::part_at))]
-fn part(alloc: Global, cursor: &mut Cursor, parts: &mut Parts) -> Result<(), ReadError>
+fn part(
+    alloc: Global,
+    hasher: RulesHasher,
+    cursor: &mut Cursor,
+    parts: &mut Parts,
+) -> Result<(), ReadError>
     ensures { Extends result cursor.new parts.new (part_at parts.old cursor.old) }
 {
     match cursor.key() {
@@ -80,7 +102,7 @@ fn part(alloc: Global, cursor: &mut Cursor, parts: &mut Parts) -> Result<(), Rea
         }
         Key::OpenBrace if parts.entries.is_none() => {
             cursor.advance();
-            list(alloc, cursor, parts)
+            list(alloc, hasher, cursor, parts)
         }
         Key::Persist | Key::Const | Key::Counters | Key::OpenBrace => Err(ReadError::Refused(
             Refusal::Stop(Why::Again),
@@ -89,10 +111,15 @@ fn part(alloc: Global, cursor: &mut Cursor, parts: &mut Parts) -> Result<(), Rea
     }
 }
 
-fn list(alloc: Global, cursor: &mut Cursor, parts: &mut Parts) -> Result<(), ReadError>
+fn list(
+    alloc: Global,
+    hasher: RulesHasher,
+    cursor: &mut Cursor,
+    parts: &mut Parts,
+) -> Result<(), ReadError>
     ensures { Extends result cursor.new parts.new (chain braced_entries_at (λ e. done (record parts.old { entries = Some e })) cursor.old) }
 {
-    match entries(alloc, cursor) {
+    match entries(alloc, hasher, cursor) {
         Ok(entries) => {
             parts.entries = Some(entries);
             Ok(())
@@ -101,10 +128,10 @@ fn list(alloc: Global, cursor: &mut Cursor, parts: &mut Parts) -> Result<(), Rea
     }
 }
 
-fn entries(alloc: Global, cursor: &mut Cursor) -> Result<Entries, ReadError>
+fn entries(alloc: Global, hasher: RulesHasher, cursor: &mut Cursor) -> Result<Entries, ReadError>
     ensures { GivesOrMemory result cursor.new (braced_entries_at cursor.old) }
 {
-    let entries = braced_entries(alloc, cursor)?;
+    let entries = braced_entries(alloc, hasher, cursor)?;
     match entries.finish(alloc) {
         Ok(entries) => Ok(entries),
         Err(_) => Err(ReadError::Memory),
@@ -113,11 +140,15 @@ fn entries(alloc: Global, cursor: &mut Cursor) -> Result<Entries, ReadError>
 
 /// The entries in braces, behind the opening one.
 #[tactic(auto, unfolding(crate::specs::Tables::braced_entries_at))]
-fn braced_entries(alloc: Global, cursor: &mut Cursor) -> Result<EntryDraft, ReadError>
+fn braced_entries(
+    alloc: Global,
+    hasher: RulesHasher,
+    cursor: &mut Cursor,
+) -> Result<EntryDraft, ReadError>
     ensures { GivesOrMemory result cursor.new (braced_entries_at cursor.old) }
 {
     skip_lines(cursor);
-    let mut entries = EntryDraft::new(alloc);
+    let mut entries = EntryDraft::new(alloc, hasher);
     match cursor.key() {
         Key::CloseBrace => cursor.advance(),
         _ => some_entries(cursor, &mut entries)?,

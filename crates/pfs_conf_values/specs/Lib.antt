@@ -2,6 +2,7 @@ pub mod Bounds
 pub mod Configs
 pub mod Depths
 pub mod Entries
+pub mod Hashing
 pub mod Invariants
 pub mod Limits
 pub mod LoadRules

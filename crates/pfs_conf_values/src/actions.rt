@@ -5,7 +5,7 @@ use crate::timeouts::RuleTimeouts;
 
 /// For whom a rule counts sources, or of whom it flushes states.
 /// (pf.conf(5), STATEFUL TRACKING OPTIONS, "source-track" and "flush")
-#[derive(Debug, Clone, Copy, PartialEq, Eq)]
+#[derive(Debug, Clone, Copy, PartialEq, Eq, Hash)]
 pub enum Scope {
     /// The rule's own states.
     Rule,
@@ -14,7 +14,7 @@ pub enum Scope {
 }
 
 /// `max-src-conn-rate N/S`: at most N handshakes in S seconds.
-#[derive(Debug, Clone, Copy, PartialEq, Eq)]
+#[derive(Debug, Clone, Copy, PartialEq, Eq, Hash)]
 pub struct Rate {
     /// Handshakes: 1 to 4294967.
     pub limit: u32,
@@ -23,7 +23,7 @@ pub struct Rate {
 }
 
 /// `overload <t>`, with what is flushed.
-#[derive(Debug, Clone, Copy, PartialEq, Eq)]
+#[derive(Debug, Clone, Copy, PartialEq, Eq, Hash)]
 pub struct Overload {
     /// The table to which the source is added.
     pub table: TableNo,
@@ -33,7 +33,7 @@ pub struct Overload {
 
 /// The options of `keep state`. Each maximum is 1 to 4294967295.
 /// (pf.conf(5), STATEFUL TRACKING OPTIONS)
-#[derive(Debug, Clone, Copy, PartialEq, Eq)]
+#[derive(Debug, Clone, Copy, PartialEq, Eq, Hash)]
 pub struct StateOptions {
     /// `max`: the states of the rule.
     pub max: Option<u32>,
@@ -54,7 +54,7 @@ pub struct StateOptions {
 }
 
 /// What a rule does with a packet that it decides. (pf.conf(5), PACKET FILTERING)
-#[derive(Debug, Clone, Copy, PartialEq, Eq)]
+#[derive(Debug, Clone, Copy, PartialEq, Eq, Hash)]
 pub enum Action {
     /// The packet is blocked.
     Block,

@@ -3,6 +3,7 @@
 ghost use Rattle.std.specs.Prelude.{◌≡◌, ◌<◌, ◌≤◌, ◌-◌, ◌^◌, IfOk, IfSome, IsSome, length, min, position, slice_get};
 ghost use Rattle.std.specs.Option.{option_copied};
 ghost use Rattle.pfs_conf_values.specs.Configs.{conf_of, entries_in, entry_count_of, has_name, is_const_table, limit_of, options_at, rate_seconds, retention_in, retention_of, rule_at, rule_timeout_of, scope_of, table_named, timeout_of};
+ghost use Rattle.pfs_conf_values.specs.Hashing.{after_conf};
 ghost use Rattle.pfs_conf_values.specs.Invariants.{IsConfig, IsTable};
 ghost use Rattle.pfs_conf_values.specs.LoadRules.{AreOptions, IsItem, IsRule};
 
@@ -10,9 +11,10 @@ use crate::actions::{Action, Rate, Scope, StateOptions};
 use crate::filters::TableNo;
 use crate::items::{Item, Rule, RuleNo, What};
 use crate::limits::{LimitName, Limits};
-use crate::tables::{TableDef, copy_tables};
+use crate::tables::{TableDef, copy_tables, feed_tables};
 use crate::timeouts::{TimeoutName, Timeouts};
 use pfs_addr_values::NoMemory;
+use std::hash::{DefaultHasher, Hash};
 use std::marker::Model;
 
 /// What an accepted rules text says: limits, timeouts, tables and items, with defaults filled in.
@@ -188,6 +190,16 @@ impl Config {
             return global;
         };
         retention_by(options, global)
+    }
+
+    // Feeds a hasher with all that the configuration says.
+    pub(crate) fn feed(&self, state: &mut DefaultHasher)
+        ensures { state.new ≡ after_conf state.old self.now }
+    {
+        self.limits.hash(state);
+        self.timeouts.hash(state);
+        feed_tables(&self.tables, state);
+        self.items.hash(state);
     }
 
     /// An equal configuration in memory of its own. `NoMemory` is answered where that memory is refused.

@@ -3,14 +3,14 @@
 use pfs_addr_values::{Dir, Flags, IfName, Name, Prefix, Proto};
 
 /// The number of a table, from 0: tables are numbered by the first place in the text that names them.
-#[derive(Debug, Clone, Copy, PartialEq, Eq)]
+#[derive(Debug, Clone, Copy, PartialEq, Eq, Hash)]
 pub struct TableNo(pub u32);
 
 /// The name of a table: 1 to 31 bytes. (pf.conf(5), TABLES)
 pub type TableName = Name<31>;
 
 /// An address family. (pf.conf(5), PARAMETERS, "inet" and "inet6")
-#[derive(Debug, Clone, Copy, PartialEq, Eq)]
+#[derive(Debug, Clone, Copy, PartialEq, Eq, Hash)]
 pub enum Family {
     /// `inet`: IPv4.
     Inet,
@@ -19,7 +19,7 @@ pub enum Family {
 }
 
 /// `on em0`, or `on ! em0`: the interface that a packet must, or must not, be on. (pf.conf(5), PARAMETERS, "on")
-#[derive(Debug, Clone, Copy, PartialEq, Eq)]
+#[derive(Debug, Clone, Copy, PartialEq, Eq, Hash)]
 pub struct Interface {
     /// The name that is written.
     pub name: IfName,
@@ -29,7 +29,7 @@ pub struct Interface {
 
 /// A host of a rule. `T` names a table: `TableNo` in a configuration, `TableName` in a statement that is being read.
 /// (pf.conf(5), PARAMETERS, "from .. to")
-#[derive(Debug, Clone, Copy, PartialEq, Eq)]
+#[derive(Debug, Clone, Copy, PartialEq, Eq, Hash)]
 pub enum Host<T> {
     /// `any`: every address.
     Any,
@@ -50,7 +50,7 @@ pub enum Host<T> {
 }
 
 /// The ports from `low` to `high`, both among them.
-#[derive(Debug, Clone, Copy, PartialEq, Eq)]
+#[derive(Debug, Clone, Copy, PartialEq, Eq, Hash)]
 pub struct Ports {
     /// The least port.
     pub low: u16,
@@ -59,7 +59,7 @@ pub struct Ports {
 }
 
 /// A host with its ports, as it stands behind `from` or `to`.
-#[derive(Debug, Clone, Copy, PartialEq, Eq)]
+#[derive(Debug, Clone, Copy, PartialEq, Eq, Hash)]
 pub struct Side<T> {
     /// The addresses.
     pub host: Host<T>,
@@ -68,7 +68,7 @@ pub struct Side<T> {
 }
 
 /// `flags a/b`, or `flags any`. It is tested on TCP packets alone. (pf.conf(5), PARAMETERS, "flags")
-#[derive(Debug, Clone, Copy, PartialEq, Eq)]
+#[derive(Debug, Clone, Copy, PartialEq, Eq, Hash)]
 pub enum FlagTest {
     /// Every set of flags.
     Any,
@@ -82,7 +82,7 @@ pub enum FlagTest {
 }
 
 /// What is asked of a packet: each part that is given has to hold.
-#[derive(Debug, Clone, Copy, PartialEq, Eq)]
+#[derive(Debug, Clone, Copy, PartialEq, Eq, Hash)]
 pub struct Filter {
     /// In or out.
     pub dir: Option<Dir>,

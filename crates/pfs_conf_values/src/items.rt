@@ -12,7 +12,7 @@ pub struct RuleNo(pub u32);
 pub type AnchorName = Name<63>;
 
 /// A `pass` or `block` rule. (pf.conf(5), PACKET FILTERING)
-#[derive(Debug, Clone, Copy, PartialEq, Eq)]
+#[derive(Debug, Clone, Copy, PartialEq, Eq, Hash)]
 pub struct Rule {
     /// Whether the rule ends the evaluation where it matches.
     pub quick: bool,
@@ -23,7 +23,7 @@ pub struct Rule {
 }
 
 /// The head of an anchor. Its body is the following items of greater depth. (pf.conf(5), ANCHORS)
-#[derive(Debug, Clone, Copy, PartialEq, Eq)]
+#[derive(Debug, Clone, Copy, PartialEq, Eq, Hash)]
 pub struct Anchor {
     /// Its name, if it has one. No two anchors of one body have the same.
     pub name: Option<AnchorName>,
@@ -34,7 +34,7 @@ pub struct Anchor {
 }
 
 /// A rule or an anchor.
-#[derive(Debug, Clone, Copy, PartialEq, Eq)]
+#[derive(Debug, Clone, Copy, PartialEq, Eq, Hash)]
 pub enum What {
     /// A rule.
     Rule(Rule),
@@ -43,7 +43,7 @@ pub enum What {
 }
 
 /// A rule or an anchor, and how many anchors are around it.
-#[derive(Debug, Clone, Copy, PartialEq, Eq)]
+#[derive(Debug, Clone, Copy, PartialEq, Eq, Hash)]
 pub struct Item {
     /// The number of anchors around it, 0 to 16.
     pub depth: u8,

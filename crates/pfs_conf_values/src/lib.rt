@@ -4,6 +4,7 @@
 mod actions;
 mod configs;
 mod filters;
+mod hashing;
 mod items;
 mod limits;
 mod tables;
@@ -12,6 +13,7 @@ mod timeouts;
 pub use actions::{Action, Overload, Rate, Scope, StateOptions};
 pub use configs::{Config, count_entries};
 pub use filters::{Family, Filter, FlagTest, Host, Interface, Ports, Side, TableName, TableNo};
+pub use hashing::RulesHasher;
 pub use items::{Anchor, AnchorName, Item, Rule, RuleNo, What};
 pub use limits::{LimitName, Limits};
 pub use tables::{Entries, TableDef};

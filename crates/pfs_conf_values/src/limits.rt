@@ -17,7 +17,7 @@ pub enum LimitName {
 }
 
 /// The four limits, each 1 to 4294967295.
-#[derive(Debug, Clone, Copy, PartialEq, Eq)]
+#[derive(Debug, Clone, Copy, PartialEq, Eq, Hash)]
 pub struct Limits {
     /// The states that are held at a time.
     pub states: u32,

@@ -4,10 +4,12 @@ ghost use Rattle.std.specs.Prelude.{◌≡◌, ◌<◌, ◌^◌, [], All, IfOk, 
 ghost use Rattle.std.specs.List.{IsDistinct};
 ghost use Rattle.pfs_addr_values.specs.Prefixes.{IsNetwork};
 ghost use Rattle.pfs_conf_values.specs.Entries.{AreEntries, TextEntry, same_network};
+ghost use Rattle.pfs_conf_values.specs.Hashing.{after_table, after_tables};
 
 use crate::filters::TableName;
 use pfs_addr_values::{NoMemory, Prefix};
 use std::alloc::Global;
+use std::hash::{DefaultHasher, Hash};
 use std::marker::Model;
 
 /// The entries of a table, in the order in which they stand first: prefixes, no two the same, each with whether a `!`
@@ -85,6 +87,15 @@ impl Entries {
 }
 
 impl TableDef {
+    // Feeds a hasher with the name, whether the table is `const`, and the entries.
+    fn feed(&self, state: &mut DefaultHasher)
+        ensures { state.new ≡ after_table state.old self.now }
+    {
+        self.name.hash(state);
+        self.is_const.hash(state);
+        self.entries.list.hash(state);
+    }
+
     /// The same table in memory of its own. `NoMemory` is answered where that memory is refused.
     pub fn copy(&self) -> Result<TableDef, NoMemory>
         ensures { IfOk result (λ t. t ≡ self.now) }
@@ -106,4 +117,14 @@ pub fn copy_tables(alloc: Global, tables: &[TableDef]) -> Result<Vec<TableDef>, 
         copies.push(table.copy()?)?;
     }
     Ok(copies)
+}
+
+// Feeds a hasher with how many tables there are, and with each.
+pub(crate) fn feed_tables(tables: &[TableDef], state: &mut DefaultHasher)
+    ensures { state.new ≡ after_tables state.old tables.now }
+{
+    tables.len().hash(state);
+    for table in tables {
+        table.feed(state);
+    }
 }

@@ -120,7 +120,7 @@ impl TimeoutName {
 
 /// The timeouts that a rule gives for its own states, or those that `set timeout` gives. Clauses see a list of 16, by the
 /// places of the names.
-#[derive(Debug, Clone, Copy, PartialEq, Eq)]
+#[derive(Debug, Clone, Copy, PartialEq, Eq, Hash)]
 pub struct RuleTimeouts {
     given: [Option<u32>; 16],
 }
@@ -180,7 +180,7 @@ impl RuleTimeouts {
 }
 
 /// The global timeouts. Clauses see a list of 16, by the places of the names.
-#[derive(Debug, Clone, Copy, PartialEq, Eq)]
+#[derive(Debug, Clone, Copy, PartialEq, Eq, Hash)]
 pub struct Timeouts {
     values: [u64; 16],
 }

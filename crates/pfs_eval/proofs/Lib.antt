@@ -1,6 +1,8 @@
+pub mod Bodies
 pub mod Bounds
 pub mod Cuts
 pub mod Deciding
+pub mod Distinct
 pub mod Expiring
 pub mod LinesMade
 pub mod Narrowest

@@ -3,24 +3,21 @@ use Rattle.std.proofs.Common.{◌≡◌, ℕ, ◌+◌, ◌<◌, ◌≤◌, suc, 
 use Rattle.std.proofs.lemmas.List.{get_or-replicate, length-set}
 use Rattle.std.proofs.lemmas.Option.{slice_get_read, slice_get_within}
 use Rattle.std.proofs.lemmas.Bool.Decides.{nat_tests}
-use Rattle.std.proofs.lemmas.Bool.{cond-true, cond-false}
+use Rattle.std.proofs.lemmas.Bool.{cases_order, cond-true, cond-false}
 use Rattle.pfs_conf_values.specs.declared.items.Item.{Item}
 use Rattle.pfs_eval.specs.declared.comparing.Parameter.{Parameter}
 use Rattle.pfs_eval.specs.declared.lines.Line.{Line}
 use Rattle.pfs_eval.specs.declared.skips.Skips.{Skips}
-use Rattle.pfs_eval.specs.Lines.{AreLines, EachLine, IsLine, back, stop_depth_of}
+use Rattle.pfs_eval.specs.Lines.{AreLinesFrom, EachLine, IsLine, back, stop_depth_of}
 use Rattle.pfs_eval.specs.Matching.{filter_of}
 use Rattle.pfs_eval.specs.Parameters.{IsSame}
-use Rattle.pfs_eval.specs.Skips.{AreSkipsOf, IsSkip, place_behind, body_length, more, one, skip_of}
+use Rattle.pfs_eval.specs.Skips.{AreSkipsOf, IsJoined, IsPassed, IsSkip, body_length, skip_of}
 use Rattle.pfs_eval.specs.Verdict.{enclosing, is_quick}
+use Rattle.pfs_eval.proofs.Bodies.{behind-within, deeper-inside, ends-behind, place_behind, some_at}
+use Rattle.pfs_eval.proofs.Skipping.{passed-same, same-sym}
 use Rattle.pfs_eval.proofs.Paths.{back-at, drop-at, some_same}
 
 -- ---- the item of a line
-
-some_at : {X : Type 0} (xs : List X) (p : ℕ) → p < length xs → (x : X) × (slice_get xs p ≡ Some x)
-some_at [] p h = absurd (omega (arith, h))
-some_at (x ∷ xs) zero h = (x, refl)
-some_at (x ∷ xs) (suc p) h = some_at xs p (omega (arith, h))
 
 -- the item of a line
 pub record IsItem (items : List Item) (p : ℕ) (line : Line) : Type 0 where
@@ -28,7 +25,7 @@ pub record IsItem (items : List Item) (p : ℕ) (line : Line) : Type 0 where
   pub at : slice_get items p ≡ Some item
   pub is : IsLine items p item line
 
-pub item_of : (items : List Item) (lines : List Line) (p : ℕ) (line : Line) → AreLines items lines
+pub item_of : {n : ℕ} (items : List Item) (lines : List Line) (p : ℕ) (line : Line) → AreLinesFrom n items lines
     → slice_get lines p ≡ Some line → IsItem items p line
 item_of items lines p line a there =
     let inside = slice_get_within lines p line there in
@@ -50,16 +47,16 @@ get-more (z ∷ xs) y x (suc p) h = by (get-more xs y x p h)
     by (inr k) = inr (omega (arith, k.0), k.1)
 
 get-set : {X : Type 0} (xs : List X) (y x : X) (p q : ℕ) → slice_get (set xs p y) q ≡ Some x
-    → (slice_get xs q ≡ Some x) ⊎ ((q ≡ p) × (x ≡ y))
-get-set [] y x p q h = inl h
+    → ((slice_get xs q ≡ Some x) × (q ≡ p → ⊥)) ⊎ ((q ≡ p) × (x ≡ y))
+get-set [] y x p q h = cc
 get-set (z ∷ xs) y x zero zero h = inr (refl, sym (some_same h))
-get-set (z ∷ xs) y x zero (suc q) h = inl h
-get-set (z ∷ xs) y x (suc p) zero h = inl h
+get-set (z ∷ xs) y x zero (suc q) h = inl (h, λ e. omega (arith, e))
+get-set (z ∷ xs) y x (suc p) zero h = inl (h, λ e. omega (arith, e))
 get-set (z ∷ xs) y x (suc p) (suc q) h = by (get-set xs y x p q h)
   where
-    by : (slice_get xs q ≡ Some x) ⊎ ((q ≡ p) × (x ≡ y))
-        → (slice_get (z ∷ xs) (suc q) ≡ Some x) ⊎ ((suc q ≡ suc p) × (x ≡ y))
-    by (inl k) = inl k
+    by : ((slice_get xs q ≡ Some x) × (q ≡ p → ⊥)) ⊎ ((q ≡ p) × (x ≡ y))
+        → ((slice_get (z ∷ xs) (suc q) ≡ Some x) × (suc q ≡ suc p → ⊥)) ⊎ ((suc q ≡ suc p) × (x ≡ y))
+    by (inl k) = inl (k.0, λ e. k.1 (omega (arith, e)))
     by (inr k) = inr (ap suc k.0, k.1)
 
 pub each-none : (items : List Item) (lines : List Line) → lines ≡ [] → EachLine items lines
@@ -79,31 +76,51 @@ each-more items lines new p i line e long at is each q j other here there = by (
     by (inl k) = each q j other here k
     by (inr k) = is_line items q p j i other line (k.0 ∙ long) k.1 here at is
 
-pub each-set : (items : List Item) (lines new : List Line) (p : ℕ) (line other : Line) (s : Skips) → EachLine items lines
-    → slice_get lines p ≡ Some line → AreSkipsOf items p s
-    → other ≡ record { asked = line.asked; skips = s; next = line.next; depth = line.depth; stop_depth = line.stop_depth; is_rule = line.is_rule }
-    → new ≡ set lines p other → EachLine items new
-each-set items lines new p line other s each old skips eo en q i found here there = by (get-set lines other found p q (rw en at there))
+-- a line with other skips
+abbrev pub with_skips : Line → Skips → Line
+with_skips line s = record { asked = line.asked; skips = s; next = line.next; depth = line.depth; stop_depth = line.stop_depth; is_rule = line.is_rule }
+
+each-set : (items : List Item) (lines : List Line) (p : ℕ) (line : Line) (s : Skips) → EachLine items lines
+    → slice_get lines p ≡ Some line → EachLine items (set lines p (with_skips line s))
+each-set items lines p line s each old q i found here there = by (get-set lines (with_skips line s) found p q there)
   where
-    by : (slice_get lines q ≡ Some found) ⊎ ((q ≡ p) × (found ≡ other)) → IsLine items q i found
-    by (inl k) = each q i found here k
+    by : ((slice_get lines q ≡ Some found) × (q ≡ p → ⊥)) ⊎ ((q ≡ p) × (found ≡ with_skips line s)) → IsLine items q i found
+    by (inl k) = each q i found here k.0
     by (inr k) =
         let at : slice_get items p ≡ Some i = ap (slice_get items) (sym k.0) ∙ here in
         let l = each p i line at old in
-        let made : IsLine items p i (record { asked = line.asked; skips = s; next = line.next; depth = line.depth; stop_depth = line.stop_depth; is_rule = line.is_rule })
-        = record { asked = l.asked; skips = skips i at; next = l.next; depth = l.depth; stop = l.stop; rule = l.rule } in
-        is_line items q p i i found _ k.0 (k.1 ∙ eo) here at made
+        let made : IsLine items p i (with_skips line s) = record { asked = l.asked; next = l.next; depth = l.depth; stop = l.stop; rule = l.rule } in
+        is_line items q p i i found _ k.0 k.1 here at made
 
--- a line whose skips are written anew
-pub lines-set : (items : List Item) (lines : List Line) (p : ℕ) (line : Line) (s : Skips) → AreLines items lines
-    → slice_get lines p ≡ Some line → AreSkipsOf items p s
-    → AreLines items (set lines p (record { asked = line.asked; skips = s; next = line.next; depth = line.depth; stop_depth = line.stop_depth; is_rule = line.is_rule }))
-lines-set items lines p line s a at skips = record {
-  long = length-set lines p _ ∙ a.long;
-  each = each-set items lines _ p line _ s a.each at skips refl refl;
-  few = a.few;
-  preorder = a.preorder;
-}
+skips-set : (items : List Item) (lines : List Line) (p : ℕ) (line : Line) (s : Skips) → AreLinesFrom (p + 1) items lines
+    → AreSkipsOf items p s → (q : ℕ) (found : Line) → p ≤ q → slice_get (set lines p (with_skips line s)) q ≡ Some found
+    → AreSkipsOf items q found.skips
+skips-set items lines p line s a skips q found l there = by (get-set lines (with_skips line s) found p q there)
+  where
+    ahead : (q ≡ p → ⊥) → p + 1 ≤ q
+    ahead ne = past (cases_order p q)
+      where
+        past : (p ≡ q) ⊎ ((p < q) ⊎ (q < p)) → p + 1 ≤ q
+        past (inl e) = absurd (ne (sym e))
+        past (inr (inl h)) = omega (arith, h)
+        past (inr (inr h)) = absurd (omega (arith, h, l))
+
+    by : ((slice_get lines q ≡ Some found) × (q ≡ p → ⊥)) ⊎ ((q ≡ p) × (found ≡ with_skips line s)) → AreSkipsOf items q found.skips
+    by (inl k) = a.skips q found (ahead k.1) k.0
+    by (inr k) = rw (k.0, k.1) skips
+
+-- a line whose skips are written anew, in front of those that have theirs
+pub lines-set : (items : List Item) (lines : List Line) (n p : ℕ) (line : Line) (s : Skips) → n ≡ p + 1 → AreLinesFrom n items lines
+    → slice_get lines p ≡ Some line → AreSkipsOf items p s → AreLinesFrom p items (set lines p (with_skips line s))
+lines-set items lines n p line s e a at skips =
+    let here : AreLinesFrom (p + 1) items lines = subst (λ m. AreLinesFrom m items lines) e a in
+    record {
+      long = length-set lines p _ ∙ a.long;
+      each = each-set items lines p line s a.each at;
+      skips = skips-set items lines p line s here skips;
+      few = a.few;
+      preorder = a.preorder;
+    }
 
 -- ---- the depths at which the evaluation ends
 
@@ -158,41 +175,84 @@ pub looked_up : {X : Type 0} (xs : List X) (p : ℕ) (x : X) → (true ≡ nat_l
     → slice_get xs p ≡ Some x
 looked_up xs p x h = let within : p < length xs = grind (arith, nat_tests, h.0) in slice_get_read xs _ p x refl within h.1
 
+pub none_past : {X : Type 0} (xs : List X) (p : ℕ) (x : X) → false ≡ nat_lt p (length xs) → slice_get xs p ≡ Some x → ⊥
+none_past xs p x h at = let within = slice_get_within xs p x at in grind (arith, nat_tests)
+
 -- behind the body of the item of a line
 behind_of : (items : List Item) (p q : ℕ) (i : Item) (line : Line) → IsLine items p i line
     → q ≡ p + 1 + body_length line.depth (drop (p + 1) items) → place_behind items p i ≡ q
 behind_of items p q i line l e = sym (e ∙ ap (λ d. p + 1 + body_length d (drop (p + 1) items)) l.depth)
 
--- an item skips its own body
-pub skips-own : (items : List Item) (p q : ℕ) (i : Item) (s : Skips) → q ≡ place_behind items p i
-    → ((k : Parameter) → skip_of s k ≡ q) → (k : Parameter) → IsSkip k items p i (skip_of s k)
-skips-own items p q i s e h k = subst (λ r. IsSkip k items p i r) (sym (h k ∙ e)) one
+-- an item goes on behind its body, where what stands there ends the body or asks another thing
+near : (items : List Item) (p q : ℕ) (i : Item) (k : Parameter) → slice_get items p ≡ Some i → place_behind items p i ≡ q
+    → ((j : Item) → slice_get items q ≡ Some j → IsPassed k i j → ⊥) → IsSkip k items p i q
+near items p q i k at e ends = record {
+  behind = omega (arith, e);
+  within = let w = behind-within items p i at in omega (arith, e, w);
+  passed = λ r j h l there. inl (deeper-inside items p r i j h (omega (arith, e, l)) there);
+  first = ends;
+}
 
-pub skips-alone : (items : List Item) (lines : List Line) (p q : ℕ) (line : Line) (s : Skips) → AreLines items lines
-    → slice_get lines p ≡ Some line → q ≡ p + 1 + body_length line.depth (drop (p + 1) items)
-    → ((k : Parameter) → skip_of s k ≡ q) → AreSkipsOf items p s
-skips-alone items lines p q line s a there e h i at k =
-    skips-own items p q i s (sym (behind_of items p q i line (a.each p i line at there) e)) h k
-
--- an item skips the next one of its body too, with its skip, where both ask the same
-pub skips-joined : (items : List Item) (lines : List Line) (p q : ℕ) (line next : Line) (s : Skips) → AreLines items lines
-    → slice_get lines p ≡ Some line → slice_get lines q ≡ Some next
-    → q ≡ p + 1 + body_length line.depth (drop (p + 1) items) → next.depth ≡ line.depth
-    → ((k : Parameter) → (skip_of s k ≡ q) ⊎ (IsSame k line.asked.filter next.asked.filter × (skip_of s k ≡ skip_of next.skips k)))
-    → AreSkipsOf items p s
-skips-joined items lines p q line next s a there then e d h i at k = by (h k)
+-- it goes on where the next item of its body does, where both ask the same
+far : (items : List Item) (p b q : ℕ) (i j : Item) (k : Parameter) → place_behind items p i ≡ b → slice_get items b ≡ Some j
+    → j.depth ≡ i.depth → IsSame k (filter_of i.what) (filter_of j.what) → IsSkip k items b j q → IsSkip k items p i q
+far items p b q i j k e there d same s = record {
+  behind = omega (arith, e, s.behind);
+  within = s.within;
+  passed = λ r x h l at. by r x h l at (cases_order r b);
+  first = λ x at on. s.first x at (passed-same k j i x (sym d) (same-sym k (filter_of i.what) (filter_of j.what) same) on);
+}
   where
-    by : (skip_of s k ≡ q) ⊎ (IsSame k line.asked.filter next.asked.filter × (skip_of s k ≡ skip_of next.skips k))
-        → IsSkip k items p i (skip_of s k)
-    by (inl near) = let l = a.each p i line at there in
-        subst (λ r. IsSkip k items p i r) (behind_of items p q i line l e ∙ sym near) one
-    by (inr far) =
-        let l = a.each p i line at there in
-        let j = item_of items lines q next a then in
-        let b = behind_of items p q i line l e in
-        let same : IsSame k (filter_of i.what) (filter_of j.item.what) = subst (λ f. IsSame k f (filter_of j.item.what)) l.asked
-        (subst (λ f. IsSame k line.asked.filter f) j.is.asked far.0) in
-        let rest : IsSkip k items (place_behind items p i) j.item (skip_of next.skips k) = subst (λ r. IsSkip k items r j.item (skip_of next.skips k))
-        (sym b) (j.is.skips k) in
-        subst (λ r. IsSkip k items p i r) (sym far.1)
-        (more (ap (slice_get items) b ∙ j.at) (sym j.is.depth ∙ d ∙ l.depth) same rest)
+    by : (r : ℕ) (x : Item) → p < r → r < q → slice_get items r ≡ Some x → (r ≡ b) ⊎ ((r < b) ⊎ (b < r)) → IsPassed k i x
+    by r x h l at (inl f) = subst (λ y. IsPassed k i y) (some_same (sym there ∙ ap (slice_get items) (sym f) ∙ at)) (inr (d, same))
+    by r x h l at (inr (inl f)) = inl (deeper-inside items p r i x h (omega (arith, e, f)) at)
+    by r x h l at (inr (inr f)) = passed-same k i j x d same (s.passed r x f l at)
+
+-- an item that no other follows in its body
+pub skips-alone : {n : ℕ} (items : List Item) (lines : List Line) (p q : ℕ) (line : Line) (s : Skips) → AreLinesFrom n items lines
+    → slice_get lines p ≡ Some line → q ≡ p + 1 + body_length line.depth (drop (p + 1) items)
+    → ((next : Line) → slice_get lines q ≡ Some next → next.depth ≡ line.depth → ⊥)
+    → ((k : Parameter) → skip_of s k ≡ q) → AreSkipsOf items p s
+skips-alone items lines p q line s a there e alone h i at k =
+    let l = a.each p i line at there in
+    let b = behind_of items p q i line l e in
+    subst (λ r. IsSkip k items p i r) (sym (h k)) (near items p q i k at b (λ j here on. ends j here on (ends-behind items p i j (ap (slice_get items) b ∙ here))))
+  where
+    ends : (j : Item) → slice_get items q ≡ Some j → IsPassed k i j → j.depth ≤ i.depth → ⊥
+    ends j here (inl deeper) low = omega (arith, deeper, low)
+    ends j here (inr h2) low =
+        let next = some_at lines q (omega (arith, a.long, slice_get_within items q j here)) in
+        let m = a.each q j next.0 here next.1 in
+        alone next.0 next.1 (m.depth ∙ h2.0 ∙ sym ((a.each p i line at there).depth))
+
+-- an item that another one follows
+pub skips-joined : {n : ℕ} (items : List Item) (lines : List Line) (p q : ℕ) (line next : Line) (s : Skips) → AreLinesFrom n items lines
+    → n ≤ q → slice_get lines p ≡ Some line → slice_get lines q ≡ Some next
+    → q ≡ p + 1 + body_length line.depth (drop (p + 1) items) → next.depth ≡ line.depth
+    → ((k : Parameter) → IsJoined k line.asked.filter next.asked.filter q (skip_of next.skips k) (skip_of s k))
+    → AreSkipsOf items p s
+skips-joined items lines p q line next s a ahead there then e d h i at k =
+    by (subst (λ f. IsJoined k f (filter_of j.item.what) q (skip_of next.skips k) (skip_of s k)) l.asked
+    (subst (λ f. IsJoined k line.asked.filter f q (skip_of next.skips k) (skip_of s k)) j.is.asked (h k)))
+  where
+    l : IsLine items p i line
+    l = a.each p i line at there
+
+    j : IsItem items q next
+    j = item_of items lines q next a then
+
+    b : place_behind items p i ≡ q
+    b = behind_of items p q i line l e
+
+    deep : j.item.depth ≡ i.depth
+    deep = sym j.is.depth ∙ d ∙ l.depth
+
+    other : (IsSame k (filter_of i.what) (filter_of j.item.what) → ⊥) → (x : Item) → slice_get items q ≡ Some x → IsPassed k i x → ⊥
+    other ne x here (inl deeper) = omega (arith, deeper, ends-behind items p i x (ap (slice_get items) b ∙ here))
+    other ne x here (inr on) = ne (subst (λ (y : Item). IsSame k (filter_of i.what) (filter_of y.what)) (some_same (sym here ∙ j.at)) on.1)
+
+    by : IsJoined k (filter_of i.what) (filter_of j.item.what) q (skip_of next.skips k) (skip_of s k) → IsSkip k items p i (skip_of s k)
+    by (inl same) =
+        subst (λ r. IsSkip k items p i r) (sym same.1)
+        (far items p q (skip_of next.skips k) i j.item k b j.at deep same.0 (a.skips q next ahead then j.item j.at k))
+    by (inr apart) = subst (λ r. IsSkip k items p i r) (sym apart.1) (near items p q i k at b (other apart.0))

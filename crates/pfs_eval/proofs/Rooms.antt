@@ -1,16 +1,16 @@
 -- One of all tables changes, by one entry more or by room for one: what their entries and counts are then.
-use Rattle.std.proofs.Common.{◌≡◌, ℕ, ◌+◌, ◌<◌, true, false, nat_le, List, [], ◌∷◌, ◌++◌, length, map, get_or, set, ap, sym, ◌∙◌, arith, length-append}
-use Rattle.std.specs.Prelude.{OnErr, Result, Ok, Err}
+use Rattle.std.proofs.Common.{◌≡◌, ℕ, ◌+◌, ◌<◌, ◌≤◌, ◌⊎◌, inl, inr, true, false, nat_le, nat_lt, List, [], ◌∷◌, ◌++◌, length, map, get_or, set, refl, ap, sym, subst, ◌∙◌, arith, length-append}
+use Rattle.std.specs.Prelude.{OnErr, Result, Ok, Err, slice_index}
 use Rattle.std.proofs.Math.Seq.{map-set_same}
-use Rattle.std.proofs.lemmas.List.{map-set, get_or-map, get_or-set_same, length-map}
+use Rattle.std.proofs.lemmas.List.{map-set, get_or-map, get_or-set_other, get_or-set_same, length-map}
 use Rattle.std.proofs.lemmas.List.Sums.{sum_by-set}
 use Rattle.std.proofs.lemmas.Option.{unwrap_or-slice_get}
 use Rattle.std.proofs.lemmas.Bool.Decides.{nat_tests}
-use Rattle.std.proofs.lemmas.Bool.{cond-false}
+use Rattle.std.proofs.lemmas.Bool.{cases_eq, cond-false}
 use Rattle.pfs_addr_values.specs.declared.addresses.Addr.{Addr}
 use Rattle.pfs_eval.specs.Entries.{Entry, holds_host}
 use Rattle.pfs_eval.specs.Holdings.{HeldEntries, Holdings, holdings}
-use Rattle.pfs_eval.specs.Tables.{entries_at, entry_count, added_to, has_room}
+use Rattle.pfs_eval.specs.Tables.{IsReady, OthersKept, entries_at, entry_count, added_to, has_room}
 use Rattle.pfs_eval.specs.declared.tables.Added.TheVariants.{New}
 
 -- the entries of the tables
@@ -63,6 +63,42 @@ room-set xs i t' h k =
     let at : get_or (room_of (set xs i t')) i 0 ≡ t'.spare = ap (λ ys. get_or ys i 0)
     (map-set (λ (s : HeldEntries). s.spare) xs i t') ∙ get_or-set_same (room_of xs) i t'.spare 0 (rw length-map h) in
     rw at (grind (arith, nat_tests))
+
+-- of the other tables the room stays
+room-other : (xs : List HeldEntries) (i u : ℕ) (t' : HeldEntries) → (u ≡ i → ⊥)
+    → slice_index (room_of (set xs i t')) u ≡ slice_index (room_of xs) u
+room-other xs i u t' ne =
+    ap (λ ys. get_or ys u 0) (map-set (λ (s : HeldEntries). s.spare) xs i t') ∙ get_or-set_other (room_of xs) i u t'.spare 0 ne
+
+ready-kept : (old new : Holdings) (u : ℕ) → slice_index new.room u ≡ slice_index old.room u → new.limit ≡ old.limit
+    → entry_count old.entries ≤ entry_count new.entries → IsReady old u → IsReady new u
+ready-kept old new u e l k (inl h) = inl (ap (nat_lt 0) e ∙ h)
+ready-kept old new u e l k (inr h) = inr (omega (arith, l, k, h))
+
+pub others-same : (i : ℕ) (h : Holdings) → OthersKept i h h
+others-same i h = record { room = λ u ne. refl; ready = λ u ne r. r }
+
+-- so it does where a table is replaced by one that has at least its entries
+pub others-kept : (xs : List HeldEntries) (i limit : ℕ) (t' : HeldEntries) (old : Holdings) → holdings xs limit ≡ old
+    → entry_count (entries_of xs) ≤ entry_count (entries_of (set xs i t')) → OthersKept i old (holdings (set xs i t') limit)
+others-kept xs i limit t' old e more = subst (λ (h : Holdings). OthersKept i h (holdings (set xs i t') limit)) e (record {
+  room = λ u ne. room-other xs i u t' ne;
+  ready = λ u ne r. ready-kept (holdings xs limit) (holdings (set xs i t') limit) u (room-other xs i u t' ne) refl more r;
+})
+
+-- no room is lost where a table is replaced by one with at least its room
+pub room-more : (xs : List HeldEntries) (i u : ℕ) (t t' : HeldEntries) → i < length xs → t ≡ get_or xs i t → t.spare ≤ t'.spare
+    → slice_index (room_of xs) u ≤ slice_index (room_of (set xs i t')) u
+room-more xs i u t t' h e more = by (cases_eq u i)
+  where
+    by : (u ≡ i) ⊎ (u ≡ i → ⊥) → slice_index (room_of xs) u ≤ slice_index (room_of (set xs i t')) u
+    by (inl f) =
+        let old : get_or (room_of xs) u 0 ≡ t.spare = ap (λ v. get_or (room_of xs) v 0) f ∙ get_or-map (λ (s : HeldEntries). s.spare) xs i t 0 h
+        ∙ sym (ap (λ (s : HeldEntries). s.spare) e) in
+        let new : get_or (room_of (set xs i t')) u 0 ≡ t'.spare = ap (λ v. get_or (room_of (set xs i t')) v 0) f
+        ∙ ap (λ ys. get_or ys i 0) (map-set (λ (s : HeldEntries). s.spare) xs i t') ∙ get_or-set_same (room_of xs) i t'.spare 0 (rw length-map h) in
+        omega (arith, old, new, more)
+    by (inr ne) = omega (arith, room-other xs i u t' ne)
 
 -- the table of a number is among those held
 pub within-held : (xs : List HeldEntries) (es : List (List Entry)) (i : ℕ) → entries_of xs ≡ es → i < length es → i < length xs

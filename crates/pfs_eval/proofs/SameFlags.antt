@@ -1,6 +1,6 @@
--- Two tests of flags that are told to be the same are equal.
-use Rattle.std.proofs.Common.{◌≡◌, Bool, true, false, ◌&&◌, refl, sym}
-use Rattle.std.specs.Bool.{OnTrue}
+-- Two tests of flags are told to be the same exactly where they are equal.
+use Rattle.std.proofs.Common.{◌≡◌, Bool, true, false, ◌&&◌, ◌↔◌, refl, ap, sym, ◌∙◌}
+use Rattle.std.specs.Bool.{IsTrue}
 use Rattle.std.proofs.Math.Bool.{beq}
 use Rattle.pfs_addr_values.specs.declared.flag_sets.Flags.{Flags}
 use Rattle.pfs_conf_values.specs.declared.filters.FlagTest.{FlagTest}
@@ -53,6 +53,16 @@ same_when Any (Exactly c d) h = cc
 same_when (Exactly a b) Any h = cc
 same_when (Exactly a b) (Exactly c d) h = let e = same_sets a c (first _ _ h) in let k = same_sets b d (rest _ _ h) in cc
 
-pub same_tests : (f g : FlagTest) (b : Bool) → b ≡ same_test f g → OnTrue b (f ≡ g)
-same_tests f g true e = same_when f g (sym e)
-same_tests f g false e = tt
+bit_itself : (a : Bool) → beq a a ≡ true
+bit_itself true = refl
+bit_itself false = refl
+
+set_itself : (f : Flags) → same_flags f f ≡ true
+set_itself f = rw (bit_itself f.fin, bit_itself f.syn, bit_itself f.rst, bit_itself f.psh, bit_itself f.ack, bit_itself f.urg, bit_itself f.ece, bit_itself f.cwr) refl
+
+test_itself : (f : FlagTest) → same_test f f ≡ true
+test_itself Any = refl
+test_itself (Exactly a b) = rw (set_itself a, set_itself b) refl
+
+pub same_tests : (f g : FlagTest) (b : Bool) → b ≡ same_test f g → IsTrue b ↔ (f ≡ g)
+same_tests f g b e = (λ t. same_when f g (sym e ∙ t), λ h. e ∙ ap (same_test f) (sym h) ∙ test_itself f)

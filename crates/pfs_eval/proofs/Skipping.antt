@@ -1,6 +1,6 @@
 -- A skip step passes over nothing that could match.
-use Rattle.std.proofs.Common.{◌≡◌, ℕ, ◌+◌, ◌<◌, ◌≤◌, Bool, false, ◌&&◌, List, [], ◌∷◌, length, filter, drop, slice_get, Option, Some, ap, sym, ◌∙◌, arith}
-use Rattle.std.proofs.lemmas.Bool.{cond-false}
+use Rattle.std.proofs.Common.{◌≡◌, ℕ, ◌+◌, ◌<◌, ◌≤◌, Bool, false, ◌&&◌, List, [], ◌∷◌, length, filter, drop, slice_get, Option, Some, ap, sym, subst, ◌∙◌, ◌⊎◌, inl, inr, suc, zero, arith}
+use Rattle.std.proofs.lemmas.Bool.{cases_order, cond-false}
 use Rattle.pfs_addr_values.specs.Packets.{Header}
 use Rattle.pfs_conf_values.specs.declared.filters.Filter.{Filter}
 use Rattle.pfs_conf_values.specs.declared.items.Item.{Item}
@@ -8,10 +8,11 @@ use Rattle.pfs_eval.specs.Entries.{Entry}
 use Rattle.pfs_eval.specs.Lines.{back}
 use Rattle.pfs_eval.specs.Matching.{dir_holds, family_holds, filter_of, flags_hold, host_holds, interface_holds, matches_item, ports_hold, proto_holds}
 use Rattle.pfs_eval.specs.Parameters.{IsSame, holds_at}
-use Rattle.pfs_eval.specs.Skips.{IsSkip, place_behind, more, one}
+use Rattle.pfs_eval.specs.Skips.{IsPassed, IsSkip}
 use Rattle.pfs_eval.specs.Verdict.{Place, is_hit}
 use Rattle.pfs_eval.specs.declared.comparing.Parameter.{Parameter}
 use Rattle.pfs_eval.specs.declared.comparing.Parameter.TheVariants as parameter
+use Rattle.pfs_eval.proofs.Bodies.{behind-within, deeper-inside, ends-behind, place_behind, some_at}
 use Rattle.pfs_eval.proofs.Paths.{place_at, rest_of, rest-jump}
 use Rattle.pfs_eval.proofs.Cuts.{walked, found_of, found-cons, walked-on}
 
@@ -95,15 +96,92 @@ fails tables packet parameter.SourcePort i e = no_first _ _ (no_first _ _ (no_fi
 fails tables packet parameter.DestinationPort i e = no_first _ _ (no_match _ _ e)
 fails tables packet parameter.Flags i e = no_match _ _ e
 
+-- ---- what is passed over
+
+pub same-sym : (k : Parameter) (f g : Filter) → IsSame k f g → IsSame k g f
+same-sym parameter.Interface f g e = sym e
+same-sym parameter.Direction f g e = sym e
+same-sym parameter.Family f g e = sym e
+same-sym parameter.Protocol f g e = sym e
+same-sym parameter.SourceHost f g e = sym e
+same-sym parameter.DestinationHost f g e = sym e
+same-sym parameter.SourcePort f g e = sym e
+same-sym parameter.DestinationPort f g e = sym e
+same-sym parameter.Flags f g e = sym e
+
+same-trans : (k : Parameter) (f g h : Filter) → IsSame k f g → IsSame k g h → IsSame k f h
+same-trans parameter.Interface f g h d e = d ∙ e
+same-trans parameter.Direction f g h d e = d ∙ e
+same-trans parameter.Family f g h d e = d ∙ e
+same-trans parameter.Protocol f g h d e = d ∙ e
+same-trans parameter.SourceHost f g h d e = d ∙ e
+same-trans parameter.DestinationHost f g h d e = d ∙ e
+same-trans parameter.SourcePort f g h d e = d ∙ e
+same-trans parameter.DestinationPort f g h d e = d ∙ e
+same-trans parameter.Flags f g h d e = d ∙ e
+
+-- two items of one body that ask the same pass over the same items
+pub passed-same : (k : Parameter) (i j x : Item) → j.depth ≡ i.depth → IsSame k (filter_of i.what) (filter_of j.what)
+    → IsPassed k j x → IsPassed k i x
+passed-same k i j x e s (inl deeper) = inl (omega (arith, e, deeper))
+passed-same k i j x e s (inr h) = inr (h.0 ∙ e, same-trans k (filter_of i.what) (filter_of j.what) (filter_of x.what) s h.1)
+
+-- the skip of an item is that of the next one of its body, where both ask the same
+skip_next : (k : Parameter) (items : List Item) (p b q : ℕ) (i j : Item) → IsSkip k items p i q → p < b → b < q
+    → j.depth ≡ i.depth → IsSame k (filter_of i.what) (filter_of j.what) → IsSkip k items b j q
+skip_next k items p b q i j s h l e same =
+    let back = same-sym k (filter_of i.what) (filter_of j.what) same in
+    record {
+      behind = l;
+      within = s.within;
+      passed = λ r x m n at. passed-same k j i x (sym e) back (s.passed r x (omega (arith, h, m)) n at);
+      first = λ x at on. s.first x at (passed-same k i j x e same on);
+    }
+
+-- a walk goes on at the skip, if it does from the next item of the body
+skip_step : (tables : List (List Entry)) (packet : Header) (k : Parameter) (items : List Item) (stop p q : ℕ) (i : Item)
+    → IsSkip k items p i q → slice_get items p ≡ Some i → stop ≤ i.depth
+    → holds_at tables packet k (filter_of i.what) ≡ false
+    → ((b : ℕ) (j : Item) → p < b → IsSkip k items b j q → slice_get items b ≡ Some j → stop ≤ j.depth
+    → holds_at tables packet k (filter_of j.what) ≡ false → MayGoOn (matches_item tables packet) items stop b q)
+    → MayGoOn (matches_item tables packet) items stop p q
+skip_step tables packet k items stop p q i s at d h rest = by (cases_order (place_behind items p i) q)
+  where
+    m : Item → Bool
+    m = matches_item tables packet
+
+    b : ℕ
+    b = place_behind items p i
+
+    own : MayGoOn m items stop p b
+    own = one_on m items stop p i at d (fails tables packet k i h)
+
+    on : (j : Item) → slice_get items b ≡ Some j → b < q → IsPassed k i j → MayGoOn m items stop p q
+    on j there l (inl deeper) = absurd (omega (arith, deeper, ends-behind items p i j there))
+    on j there l (inr h2) =
+        let again = sym (same-holds tables packet k (filter_of i.what) (filter_of j.what) h2.1) ∙ h in
+        both_on m items stop p b q own
+        (rest b j own.forward (skip_next k items p b q i j s own.forward l h2.0 h2.1) there (omega (arith, d, h2.0)) again)
+
+    by : (b ≡ q) ⊎ ((b < q) ⊎ (q < b)) → MayGoOn m items stop p q
+    by (inl e) = subst (λ r. MayGoOn m items stop p r) e own
+    by (inr (inl l)) =
+        let there = some_at items b (omega (arith, l, s.within)) in
+        on there.0 there.1 l (s.passed b there.0 own.forward l there.1)
+    by (inr (inr g)) =
+        let there = some_at items q (omega (arith, g, behind-within items p i at)) in
+        absurd (s.first there.0 there.1 (inl (deeper-inside items p q i there.0 s.behind g there.1)))
+
+skip_within : (n : ℕ) (tables : List (List Entry)) (packet : Header) (k : Parameter) (items : List Item) (stop p q : ℕ) (i : Item)
+    → q ≤ p + n → IsSkip k items p i q → slice_get items p ≡ Some i → stop ≤ i.depth
+    → holds_at tables packet k (filter_of i.what) ≡ false → MayGoOn (matches_item tables packet) items stop p q
+skip_within zero tables packet k items stop p q i few s at d h = absurd (omega (arith, few, s.behind))
+skip_within (suc n) tables packet k items stop p q i few s at d h =
+    skip_step tables packet k items stop p q i s at d h
+    (λ b j l t there e f. skip_within n tables packet k items stop b q j (omega (arith, few, l)) t there e f)
+
 -- a walk goes on at the skip of the parameter that an item fails on
 pub skip-on : (tables : List (List Entry)) (packet : Header) (k : Parameter) (items : List Item) (stop p q : ℕ) (i : Item)
     → IsSkip k items p i q → slice_get items p ≡ Some i → stop ≤ i.depth
     → holds_at tables packet k (filter_of i.what) ≡ false → MayGoOn (matches_item tables packet) items stop p q
-skip-on tables packet k items stop p q i one at d h = one_on (matches_item tables packet) items stop p i at d
-    (fails tables packet k i h)
-skip-on tables packet k items stop p q i (more {j = j} there e s r) at d h =
-    let m = matches_item tables packet in
-    let l : stop ≤ j.depth = omega (arith, e) in
-    let again = sym (same-holds tables packet k (filter_of i.what) (filter_of j.what) s) ∙ h in
-    both_on m items stop p (place_behind items p i) q (one_on m items stop p i at d (fails tables packet k i h))
-    (skip-on tables packet k items stop (place_behind items p i) q j r there l again)
+skip-on tables packet k items stop p q i s at d h = skip_within q tables packet k items stop p q i (omega arith) s at d h

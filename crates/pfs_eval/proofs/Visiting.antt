@@ -9,7 +9,7 @@ use Rattle.pfs_eval.specs.Entries.{Entry}
 use Rattle.pfs_eval.specs.Lines.{AreLines, IsLine, back, stop_depth_of, walk_after}
 use Rattle.pfs_eval.specs.Matching.{filter_holds, filter_of, matches_item}
 use Rattle.pfs_eval.specs.Parameters.{holds_at}
-use Rattle.pfs_eval.specs.Skips.{skip_of}
+use Rattle.pfs_eval.specs.Skips.{AreSkipsOf, skip_of}
 use Rattle.pfs_eval.specs.Verdict.{Place, is_quick, is_hit, cut, verdict}
 use Rattle.pfs_eval.specs.Visits.{visit_floor}
 use Rattle.pfs_eval.specs.declared.comparing.Parameter.{Parameter}
@@ -177,19 +177,20 @@ matching_item tables packet i e = e
 
 visit_by : (tables : List (List Entry)) (packet : Header) (items : List Item) (w : Walk) (i : Item) (line : Line)
     (failed : Option Parameter) (count first : ℕ) → slice_get items w.place ≡ Some i → IsLine items w.place i line
-    → w.stop_depth ≤ i.depth → Tells tables packet line failed → IsLeft (matches_item tables packet) items w count first
+    → w.stop_depth ≤ i.depth → AreSkipsOf items w.place line.skips → Tells tables packet line failed
+    → IsLeft (matches_item tables packet) items w count first
     → IsVisit (matches_item tables packet) items w (walk_after w line failed) (count + 1) first
-visit_by tables packet items w i line None count first at l d t h =
+visit_by tables packet items w i line None count first at l d s t h =
     let m = matches_item tables packet in
     let e = matching_item tables packet i (subst (λ f. filter_holds tables packet f ≡ true) l.asked t) in
     record {
       left = match_cases m items w i line count first at l d e h (is_rule i.what) (is_quick i.what) refl refl;
       forward = further items w i line l (slice_get_within items w.place i at) line.is_rule (is_rule i.what) (is_quick i.what) refl refl refl;
     }
-visit_by tables packet items w i line (Some k) count first at l d t h =
+visit_by tables packet items w i line (Some k) count first at l d s t h =
     let m = matches_item tables packet in
     let e = subst (λ f. holds_at tables packet k f ≡ false) l.asked t in
-    let on = skip-on tables packet k items w.stop_depth w.place (skip_of line.skips k) i (l.skips k) at d e in
+    let on = skip-on tables packet k items w.stop_depth w.place (skip_of line.skips k) i (s i at k) at d e in
     record { left = left-skip m items w (skip_of line.skips k) count first on h; forward = on.forward }
 
 pub visit : (tables : List (List Entry)) (packet : Header) (items : List Item) (lines : List Line) (w w' : Walk)
@@ -201,7 +202,7 @@ pub visit : (tables : List (List Entry)) (packet : Header) (items : List Item) (
 visit tables packet items lines w w' tested line failed count count' first a there at deep t ew ec h =
     let i = item_of items lines w.place line a at in
     let d : w.stop_depth ≤ line.depth = subst (λ (l : Line). w.stop_depth ≤ l.depth) (some_same (sym there ∙ at)) deep in
-    rw (ew, ec) (visit_by tables packet items w i.item line failed count first i.at i.is (omega (arith, d, i.is.depth)) t h)
+    rw (ew, ec) (visit_by tables packet items w i.item line failed count first i.at i.is (omega (arith, d, i.is.depth)) (a.skips w.place line (omega arith) at) t h)
 
 -- ---- the end
 

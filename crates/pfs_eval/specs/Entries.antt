@@ -1,16 +1,20 @@
 -- Entries of a table as it holds them, each with its mark, and the answer of the narrowest.
-use Rattle.std.specs.Prelude.{ℕ, Bool, false, not, ◌&&◌, ◌==◌, nat_le, if◌then◌else◌, Option, Some, None, List, [], ◌∷◌}
-use Rattle.std.specs.List.{list_any}
+use Rattle.std.specs.Prelude.{ℕ, Bool, false, not, ◌&&◌, ◌==◌, nat_le, if◌then◌else◌, Option, Some, None, List, [], ◌∷◌, map}
+use Rattle.std.specs.List.{IsDistinct, list_any}
 use Rattle.std.specs.Map.{lookup}
 use Rattle.pfs_addr_values.specs.declared.addresses.Addr.{Addr}
 use Rattle.pfs_addr_values.specs.Addresses.{width_of}
 use Rattle.pfs_addr_values.specs.Prefixes.{Network, covers}
-use Rattle.pfs_conf_values.specs.Entries.{TextEntry}
+use Rattle.pfs_conf_values.specs.Entries.{TextEntry, same_network}
 use Rattle.pfs_eval.specs.declared.entries.Mark.{Mark}
 
 -- an entry of a table: a prefix, and what is kept beside it
 abbrev pub Entry : Type 0
 Entry = Network × Mark
+
+-- no two entries of a table have the same prefix
+abbrev pub AreDistinct : List Entry → Type 0
+AreDistinct entries = IsDistinct same_network (map (λ (e : Entry). e.0) entries)
 
 -- the entry that a rules text says: it was added at no moment
 abbrev pub entry_of_text : TextEntry → Entry

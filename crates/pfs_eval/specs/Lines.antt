@@ -5,7 +5,7 @@ use Rattle.pfs_conf_values.specs.Order.{IsPreorder}
 use Rattle.pfs_conf_values.specs.declared.items.Item.{Item}
 use Rattle.pfs_conf_values.specs.declared.items.What.{What}
 use Rattle.pfs_eval.specs.Matching.{filter_of}
-use Rattle.pfs_eval.specs.Skips.{IsSkip, skip_of}
+use Rattle.pfs_eval.specs.Skips.{AreSkipsOf, skip_of}
 use Rattle.pfs_eval.specs.Verdict.{enclosing, is_quick}
 use Rattle.pfs_eval.specs.declared.comparing.Parameter.{Parameter}
 use Rattle.pfs_eval.specs.declared.lines.Line.{Line}
@@ -27,10 +27,9 @@ stop_depth_of (a ∷ outer) = if is_quick a.what then max (a.depth + 1) (stop_de
 abbrev pub next_place : List Item → ℕ → What → ℕ
 next_place items p what = if is_rule what && is_quick what then length items else p + 1
 
--- the line of the item i at p
+-- the line of the item i at p, but for its skips
 pub record IsLine (items : List Item) (p : ℕ) (i : Item) (line : Line) : Type 0 where
   pub asked : line.asked.filter ≡ filter_of i.what
-  pub skips : (k : Parameter) → IsSkip k items p i (skip_of line.skips k)
   pub next : line.next ≡ next_place items p i.what
   pub depth : line.depth ≡ i.depth
   pub stop : line.stop_depth ≡ stop_depth_of (enclosing i.depth (back p [] items))
@@ -40,12 +39,17 @@ pub record IsLine (items : List Item) (p : ℕ) (i : Item) (line : Line) : Type 
 abbrev pub EachLine : List Item → List Line → Type 0
 EachLine items lines = (p : ℕ) (i : Item) (line : Line) → slice_get items p ≡ Some i → slice_get lines p ≡ Some line → IsLine items p i line
 
--- the lines of the items of a configuration
-pub record AreLines (items : List Item) (lines : List Line) : Type 0 where
+-- the lines of the items of a configuration; those from a place on have their skips
+pub record AreLinesFrom (from : ℕ) (items : List Item) (lines : List Line) : Type 0 where
   pub long : length lines ≡ length items
   pub each : EachLine items lines
+  pub skips : (p : ℕ) (line : Line) → from ≤ p → slice_get lines p ≡ Some line → AreSkipsOf items p line.skips
   pub few : length items ≤ 10000
   pub preorder : IsPreorder 0 items
+
+-- all of them have
+abbrev pub AreLines : List Item → List Line → Type 0
+AreLines items lines = AreLinesFrom 0 items lines
 
 -- a walk behind a visit to a line, where a parameter failed, or none
 abbrev pub walk_after : Walk → Line → Option Parameter → Walk

@@ -1,9 +1,10 @@
--- Skip steps: where a walk may go on from an item that fails on a parameter.
-use Rattle.std.specs.Prelude.{◌≡◌, ℕ, ◌+◌, nat_lt, Some, List, drop, slice_get}
+-- Skip steps: where a walk goes on from an item that fails on a parameter.
+use Rattle.std.specs.Prelude.{◌≡◌, ◌<◌, ◌≤◌, ◌⊎◌, ℕ, nat_lt, Some, List, length, slice_get}
 use Rattle.std.specs.List.{prefix_len}
 use Rattle.pfs_conf_values.specs.declared.items.Item.{Item}
 use Rattle.pfs_eval.specs.Matching.{filter_of}
 use Rattle.pfs_eval.specs.Parameters.{IsSame}
+use Rattle.pfs_conf_values.specs.declared.filters.Filter.{Filter}
 use Rattle.pfs_eval.specs.declared.comparing.Parameter.{Parameter}
 use Rattle.pfs_eval.specs.declared.comparing.Parameter.TheVariants as parameter
 use Rattle.pfs_eval.specs.declared.skips.Skips.{Skips}
@@ -12,15 +13,24 @@ use Rattle.pfs_eval.specs.declared.skips.Skips.{Skips}
 abbrev pub body_length : ℕ → List Item → ℕ
 body_length depth items = prefix_len (λ (i : Item). nat_lt depth i.depth) items
 
--- the place behind the item at p and its body
-abbrev pub place_behind : List Item → ℕ → Item → ℕ
-place_behind items p i = p + 1 + body_length i.depth (drop (p + 1) items)
+-- a walk that leaves the item i for its parameter k passes over the item j behind it: j stands deeper, or it is of the same
+-- body and asks the same there
+abbrev pub IsPassed : Parameter → Item → Item → Type 0
+IsPassed k i j = (i.depth < j.depth) ⊎ ((j.depth ≡ i.depth) × IsSame k (filter_of i.what) (filter_of j.what))
 
--- q is reached from the item i at p over items of the same body, with their bodies, that ask the same at the parameter k
-pub data IsSkip (k : Parameter) (items : List Item) : ℕ → Item → ℕ → Type 0 where
-  one : {p : ℕ} {i : Item} → IsSkip k items p i (place_behind items p i)
-  more : {p q : ℕ} {i j : Item} → slice_get items (place_behind items p i) ≡ Some j → j.depth ≡ i.depth
-      → IsSame k (filter_of i.what) (filter_of j.what) → IsSkip k items (place_behind items p i) j q → IsSkip k items p i q
+-- q is where a walk goes on from the item i at p that fails on the parameter k: the first place behind p whose item is not
+-- passed over, or the end. So it is that of the next item of the same body that asks another thing there, or where the body
+-- ends (pf's skip steps)
+pub record IsSkip (k : Parameter) (items : List Item) (p : ℕ) (i : Item) (q : ℕ) : Type 0 where
+  pub behind : p < q
+  pub within : q ≤ length items
+  pub passed : (r : ℕ) (j : Item) → p < r → r < q → slice_get items r ≡ Some j → IsPassed k i j
+  pub first : (j : Item) → slice_get items q ≡ Some j → IsPassed k i j → ⊥
+
+-- the skip of an item, where the next one of its body stands at a place and goes on further: further where both ask the same
+-- at the parameter, else that place
+abbrev pub IsJoined : Parameter → Filter → Filter → ℕ → ℕ → ℕ → Type 0
+IsJoined k f g place further q = (IsSame k f g × (q ≡ further)) ⊎ ((IsSame k f g → ⊥) × (q ≡ place))
 
 -- the skip at a parameter
 abbrev pub skip_of : Skips → Parameter → ℕ

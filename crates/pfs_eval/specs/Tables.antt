@@ -1,5 +1,5 @@
 -- The answer of a table for an address, a host that is added, old entries that leave, and room for more.
-use Rattle.std.specs.Prelude.{ℕ, ◌+◌, Bool, false, not, nat_le, nat_lt, if◌then◌else◌, Some, List, [], ◌∷◌, ◌++◌, filter, length, map, unwrap_or, slice_get, slice_set, slice_index}
+use Rattle.std.specs.Prelude.{◌≡◌, ◌≤◌, ◌⊎◌, ℕ, ◌+◌, Bool, true, false, not, nat_le, nat_lt, if◌then◌else◌, Some, List, [], ◌∷◌, ◌++◌, filter, length, map, unwrap_or, slice_get, slice_set, slice_index}
 use Rattle.std.specs.List.{sum_by}
 use Rattle.pfs_addr_values.specs.declared.addresses.Addr.{Addr}
 use Rattle.pfs_addr_values.specs.Addresses.{width_of}
@@ -7,6 +7,7 @@ use Rattle.pfs_addr_values.specs.Prefixes.{network_of}
 use Rattle.pfs_conf_values.specs.Configs.{Conf}
 use Rattle.pfs_conf_values.specs.declared.tables.TableDef.{TableDef}
 use Rattle.pfs_eval.specs.Entries.{Entry, answer_of, entry_of_text, holds_host}
+use Rattle.pfs_eval.specs.Holdings.{Holdings}
 use Rattle.pfs_eval.specs.declared.entries.Mark.{Mark}
 use Rattle.pfs_eval.specs.declared.tables.Added.{Added}
 use Rattle.pfs_eval.specs.declared.tables.Added.TheVariants.{New, Held, Full}
@@ -76,3 +77,12 @@ expired_count tables t first now seconds = old_count first now seconds (entries_
 -- whether one more entry fits into a table without memory. room: how many fit into each
 abbrev pub has_room : List ℕ → ℕ → Bool
 has_room room t = nat_lt 0 (slice_index room t)
+
+-- a host that is added to a table needs no memory: it fits, or the entries are at their limit
+abbrev pub IsReady : Holdings → ℕ → Type 0
+IsReady h t = (has_room h.room t ≡ true) ⊎ (h.limit ≤ entry_count h.entries)
+
+-- of every other table the room is as it was, and one that was ready still is
+pub record OthersKept (t : ℕ) (old new : Holdings) : Type 0 where
+  pub room : (u : ℕ) → (u ≡ t → ⊥) → slice_index new.room u ≡ slice_index old.room u
+  pub ready : (u : ℕ) → (u ≡ t → ⊥) → IsReady old u → IsReady new u

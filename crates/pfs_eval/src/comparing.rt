@@ -1,7 +1,6 @@
 //! What an item asks of packets, and the one way to compare it with a packet, which is counted as a visit.
 
-ghost use Rattle.std.specs.Prelude.{◌≡◌, ◌+◌, ◌-◌, ◌<◌, ◌^◌, MatchOption, false, true};
-ghost use Rattle.std.specs.Bool.{OnTrue};
+ghost use Rattle.std.specs.Prelude.{◌≡◌, ◌+◌, ◌-◌, ◌<◌, ◌^◌, ◌↔◌, IsTrue, MatchOption, false, true};
 ghost use Rattle.pfs_eval.specs.Matching.{common_flags, dir_holds, family_holds, filter_holds, filter_of, flags_hold, host_holds, interface_holds, ports_hold, prefix_holds, proto_holds, same_flags, turned_if};
 ghost use Rattle.pfs_eval.specs.Parameters.{IsSame, holds_at, same_test};
 
@@ -63,7 +62,7 @@ impl Asked {
 
     /// Whether two items ask the same at a parameter: it is written the same in both, negation included.
     pub fn is_same(&self, other: &Asked, parameter: Parameter) -> bool
-        ensures { OnTrue result (IsSame parameter self.now.filter other.now.filter) }
+        ensures { IsTrue result ↔ IsSame parameter self.now.filter other.now.filter }
     {
         let (one, two) = (&self.filter, &other.filter);
         match parameter {

@@ -4,13 +4,13 @@ ghost use Rattle.std.specs.Prelude.{◌≡◌, All, ◌<◌, ◌≤◌, ◌++◌
 ghost use Rattle.pfs_addr_values.specs.Addresses.{width_of};
 ghost use Rattle.pfs_addr_values.specs.Prefixes.{IsNetwork, network_of};
 ghost use Rattle.pfs_eval.specs.Holdings.{AreKept};
-ghost use Rattle.pfs_eval.specs.Entries.{Entry, answer_of, entry_of_text, holds_host, holds_prefix, mark_at};
+ghost use Rattle.pfs_eval.specs.Entries.{AreDistinct, Entry, answer_of, entry_of_text, holds_host, holds_prefix, mark_at};
 ghost use Rattle.pfs_eval.specs.Tables.{is_old, old_count, young};
 
 use crate::lengths::Lengths;
 use indexmap::IndexMap;
 use pfs_addr_values::{Addr, Prefix};
-use pfs_conf_values::Entries;
+use pfs_conf_values::{Entries, RulesHasher};
 use std::alloc::{AllocError, Global};
 use std::marker::Model;
 
@@ -26,7 +26,7 @@ pub struct Mark {
 /// One table. Clauses see `Held`: its entries in order, and how many more fit without memory.
 #[derive(Drop)]
 pub struct Table {
-    map: IndexMap<Prefix, Mark>,
+    map: IndexMap<Prefix, Mark, RulesHasher>,
     /// The lengths that an entry has or had. Others are not looked up.
     lengths: Lengths,
 }
@@ -43,21 +43,21 @@ impl Model for Table {
 }
 
 impl Table {
-    /// No entries. It takes no memory.
-    pub fn new(alloc: Global) -> Table
+    /// No entries, which will be found by this hasher. It takes no memory.
+    pub fn new(alloc: Global, hasher: RulesHasher) -> Table
         ensures { result.entries ≡ [] }
     {
         Table {
-            map: IndexMap::new(alloc),
+            map: IndexMap::with_hasher(alloc, hasher),
             lengths: Lengths::none(),
         }
     }
 
-    /// The entries that a rules text says for a table, in their order.
-    pub fn of(alloc: Global, entries: &Entries) -> Result<Table, AllocError>
+    /// The entries that a rules text says for a table, in their order, found by this hasher.
+    pub fn of(alloc: Global, hasher: RulesHasher, entries: &Entries) -> Result<Table, AllocError>
         ensures { IfOk result (λ t. t.entries ≡ map entry_of_text entries.now) }
     {
-        let mut table = Table::new(alloc);
+        let mut table = Table::new(alloc, hasher);
         for place in 0..entries.len() {
             let (prefix, negated) = entries.at(place).unwrap();
             let mark = Mark {
@@ -107,6 +107,7 @@ impl Table {
         ensures ok { OnOk result (self.new.entries ≡ self.old.entries ++ (network_of addr bits, mark) ∷ []) }
         ensures err { OnErr result (self.new.entries ≡ self.old.entries) }
         ensures no_memory { 0 < self.old.spare → IsOk result }
+        ensures distinct { AreDistinct self.old.entries → AreDistinct self.new.entries }
     {
         self.map.insert(addr.prefix(bits), mark)?;
         self.lengths.note(addr, addr.width() - bits);
@@ -138,7 +139,7 @@ fn is_old(mark: Mark, first: u64, now: u64, seconds: u64) -> bool
 }
 
 /// The answer for an address: of its prefixes, from the longest on, the first that is an entry says.
-fn answer(map: &IndexMap<Prefix, Mark>, lengths: &Lengths, addr: Addr) -> bool
+fn answer(map: &IndexMap<Prefix, Mark, RulesHasher>, lengths: &Lengths, addr: Addr) -> bool
     requires { AreKept map.now.entries lengths.now }
     ensures { result ≡ answer_of map.now.entries addr }
 {
@@ -150,7 +151,11 @@ fn answer(map: &IndexMap<Prefix, Mark>, lengths: &Lengths, addr: Addr) -> bool
 }
 
 #[inline(always)]
-fn answer_by_lengths(map: &IndexMap<Prefix, Mark>, lengths: &Lengths, addr: Addr) -> bool
+fn answer_by_lengths(
+    map: &IndexMap<Prefix, Mark, RulesHasher>,
+    lengths: &Lengths,
+    addr: Addr,
+) -> bool
     requires { AreKept map.now.entries lengths.now }
     ensures { result ≡ answer_of map.now.entries addr }
 {
@@ -167,7 +172,7 @@ fn answer_by_lengths(map: &IndexMap<Prefix, Mark>, lengths: &Lengths, addr: Addr
 
 /// The mark of the entry that is the prefix of this address with so many bits, if there is one.
 #[inline(always)]
-fn mark_at(map: &IndexMap<Prefix, Mark>, addr: Addr, bits: u8) -> Option<Mark>
+fn mark_at(map: &IndexMap<Prefix, Mark, RulesHasher>, addr: Addr, bits: u8) -> Option<Mark>
     requires bits { bits ≤ width_of addr }
     requires networks { All (λ (x : Entry). IsNetwork x.0) map.now.entries }
     ensures { result ≡ mark_at map.now.entries addr bits }

@@ -3,7 +3,7 @@
 ghost use Rattle.std.specs.Prelude.{◌≡◌, ◌+◌, ◌<◌, ◌≤◌, ℕ, [], IfOk, Some, drop, if◌then◌else◌, length, max, nat_le, slice_get, slice_index};
 ghost use Rattle.pfs_conf_values.specs.Invariants.{IsConfig};
 ghost use Rattle.pfs_conf_values.specs.Depths.{is_rule};
-ghost use Rattle.pfs_eval.specs.Lines.{AreLines, IsLine, back, next_place, stop_depth_of};
+ghost use Rattle.pfs_eval.specs.Lines.{AreLines, AreLinesFrom, IsLine, back, next_place, stop_depth_of};
 ghost use Rattle.pfs_eval.specs.Skips.{AreSkipsOf, body_length};
 ghost use Rattle.pfs_eval.specs.Verdict.{enclosing, is_quick};
 
@@ -41,7 +41,7 @@ pub fn lines(alloc: Global, config: &Config) -> Result<Vec<Line>, AllocError>
 
 // The lines of a configuration's items, each of which skips its own body alone.
 fn short_lines(alloc: Global, config: &Config) -> Result<Vec<Line>, AllocError>
-    ensures { IfOk result (λ v. AreLines config.now.items v.items) }
+    ensures { IfOk result (λ v. AreLinesFrom (length config.now.items) config.now.items v.items) }
 {
     let count = config.item_count();
     let mut lines = Vec::with_capacity(alloc, count as usize)?;
@@ -76,7 +76,7 @@ fn short_line(config: &Config, place: u32, item: &Item, stop_depth: u8) -> Line
 
 // Lets each line skip as far as it may, from the last to the first.
 fn lengthen(config: &Config, lines: &mut [Line])
-    requires { AreLines config.now.items lines.old }
+    requires { AreLinesFrom (length config.now.items) config.now.items lines.old }
     ensures { AreLines config.now.items lines.new }
 {
     for place in (0..config.item_count()).rev() {
@@ -84,22 +84,23 @@ fn lengthen(config: &Config, lines: &mut [Line])
     }
 }
 
-// The skips of the item at a place, from those of the next item of its body.
+// The skips of the item at a place, from those of the items behind it.
 fn skips_at(config: &Config, lines: &[Line], place: u32) -> Skips
     requires place { place < length config.now.items }
-    requires lines { AreLines config.now.items lines.now }
+    requires lines { AreLinesFrom (place + 1) config.now.items lines.now }
     ensures { AreSkipsOf config.now.items place result }
 {
     let line = &lines[place as usize];
     let behind = body_end(config, place + 1, line.depth);
     match lines.get(behind as usize) {
-        Some(next) if next.depth == line.depth => Skips::joined(
-            &line.asked,
-            &next.asked,
-            behind,
-            &next.skips,
-        ),
-        _ => Skips::all_to(behind),
+        Some(next) => {
+            if next.depth == line.depth {
+                Skips::joined(&line.asked, &next.asked, behind, &next.skips)
+            } else {
+                Skips::all_to(behind)
+            }
+        }
+        None => Skips::all_to(behind),
     }
 }
 

@@ -1,7 +1,7 @@
 //! Skip steps: for each parameter, where a walk goes on from an item that fails on it.
 
-ghost use Rattle.std.specs.Prelude.{◌≡◌, ◌⊎◌};
-ghost use Rattle.pfs_eval.specs.Parameters.{IsSame};
+ghost use Rattle.std.specs.Prelude.{◌≡◌};
+ghost use Rattle.pfs_eval.specs.Skips.{IsJoined};
 ghost use Rattle.pfs_eval.specs.declared.comparing.Parameter.{Parameter};
 
 use crate::comparing::{Asked, Parameter};
@@ -67,10 +67,10 @@ impl Skips {
         }
     }
 
-    /// The skips of an item, from those of the next item of its body, which stands at `place`: further where both ask the
-    /// same.
+    /// The skips of an item, from those of the next item of its body, which stands at `place`: as far as these where both
+    /// ask the same, and to that place where they do not.
     pub fn joined(item: &Asked, next: &Asked, place: u32, further: &Skips) -> Skips
-        ensures { (k : Parameter) → (skip_of result k ≡ place) ⊎ (IsSame k item.now.filter next.now.filter × (skip_of result k ≡ skip_of further.now k)) }
+        ensures { (k : Parameter) → IsJoined k item.now.filter next.now.filter place (skip_of further.now k) (skip_of result k) }
     {
         Skips {
             interface: further.past(item, next, place, Parameter::Interface),
@@ -87,7 +87,7 @@ impl Skips {
 
     // The skip at one parameter of an item, where these are the skips of the next one, which stands at `place`.
     fn past(&self, item: &Asked, next: &Asked, place: u32, parameter: Parameter) -> u32
-        ensures { (result ≡ place) ⊎ (IsSame parameter item.now.filter next.now.filter × (result ≡ skip_of self.now parameter)) }
+        ensures { IsJoined parameter item.now.filter next.now.filter place (skip_of self.now parameter) result }
     {
         if item.is_same(next, parameter) {
             self.to(parameter)

@@ -1,12 +1,13 @@
 // All tables of a configuration, and the limit on their entries.
 
-ghost use Rattle.std.specs.Prelude.{◌≡◌, ◌<◌, ◌≤◌, ◌⊎◌, IfOk, IsOk, OnErr, OnOk, Some, length, nat_le, option_map, slice_get, true};
+ghost use Rattle.std.specs.Prelude.{◌≡◌, ◌<◌, ◌≤◌, ◌⊎◌, ℕ, All, IfOk, IsOk, OnErr, OnOk, Some, length, nat_le, option_map, slice_get, slice_index, true};
+ghost use Rattle.pfs_eval.specs.Entries.{AreDistinct};
 ghost use Rattle.pfs_conf_values.specs.Configs.{limit_of};
-ghost use Rattle.pfs_eval.specs.Tables.{added_to, config_entries, entries_after, entries_expired, entry_count, expired_count, has_room, table_answer};
+ghost use Rattle.pfs_eval.specs.Tables.{OthersKept, added_to, config_entries, entries_after, entries_expired, entry_count, expired_count, has_room, table_answer};
 
 use crate::entries::{Mark, Table};
 use pfs_addr_values::{Addr, NoMemory};
-use pfs_conf_values::{Config, Entries, LimitName, TableNo};
+use pfs_conf_values::{Config, Entries, LimitName, RulesHasher, TableNo};
 use std::alloc::Global;
 use std::marker::Model;
 
@@ -33,7 +34,8 @@ pub struct Tables {
 }
 
 impl Model for Tables {
-    ghost use Rattle.std.specs.Prelude.{◌≡◌, ◌<◌, ◌^◌};
+    ghost use Rattle.std.specs.Prelude.{◌≡◌, ◌<◌, ◌^◌, All};
+    ghost use Rattle.pfs_eval.specs.Entries.{AreDistinct};
     ghost use Rattle.pfs_eval.specs.Holdings.{Holdings, holdings};
     ghost use Rattle.pfs_eval.specs.Tables.{entry_count};
 
@@ -41,20 +43,22 @@ impl Model for Tables {
 
     ghost view = { λ t. holdings t.tables.items t.limit };
 
-    ghost invariant = { λ t. (t.count ≡ entry_count (holdings t.tables.items t.limit).entries) × (t.limit < 2 ^ 32) };
+    ghost invariant = { λ t. (t.count ≡ entry_count (holdings t.tables.items t.limit).entries) × (t.limit < 2 ^ 32) × All AreDistinct (holdings t.tables.items t.limit).entries };
 }
 
 #[tactic(auto, unfolding(crate::specs::Tables::table_answer))]
 impl Tables {
-    /// The tables of a configuration, with the entries that its text says. The error says that memory was refused.
+    /// The tables of a configuration, with the entries that its text says, found by a hasher that is begun with the
+    /// configuration. The error says that memory was refused.
     pub fn new(alloc: Global, config: &Config) -> Result<Tables, NoMemory>
         ensures entries { IfOk result (λ t. t.entries ≡ config_entries config.now) }
         ensures limit { IfOk result (λ t. t.limit ≡ limit_of config.now LimitName.TableEntries) }
     {
+        let hasher = RulesHasher::of_config(config);
         let count = config.table_count();
         let mut tables = Vec::with_capacity(alloc, count as usize)?;
         for number in 0..count {
-            tables.push(Table::of(alloc, entries_of(config, number))?)?;
+            tables.push(Table::of(alloc, hasher, entries_of(config, number))?)?;
         }
         Ok(Tables {
             tables,
@@ -76,9 +80,10 @@ impl Tables {
         }
     }
 
-    /// How many entries all tables have together. It takes no memory.
+    /// How many entries all tables have together. No two of one table have the same prefix. It takes no memory.
     pub fn entries(&self) -> u64
-        ensures { result ≡ entry_count self.now.entries }
+        ensures value { result ≡ entry_count self.now.entries }
+        ensures distinct { All AreDistinct self.now.entries }
     {
         self.count
     }
@@ -92,8 +97,9 @@ impl Tables {
     }
 
     /// Takes memory for one more entry of a table, where that does not fit already and the entries are not at their
-    /// limit; after `Ok` the next `add_host` to that table is no error, with no `expire` between: after one, a limit that
-    /// was met may be free again. No entry changes. The error says that the memory was refused.
+    /// limit; after `Ok` the next `add_host` to that table is no error, whatever is called on other tables between, but for
+    /// `expire`: after it, a limit that was met may be free again. No entry changes, and no other table's room. The error
+    /// says that the memory was refused.
     pub fn make_room(&mut self, table: TableNo) -> Result<(), NoMemory>
         requires { table.0 < length self.old.entries }
         ensures entries { self.new.entries ≡ self.old.entries }
@@ -101,6 +107,7 @@ impl Tables {
         ensures ok { OnOk result ((has_room self.new.room table.0 ≡ true) ⊎ (self.new.limit ≤ entry_count self.new.entries)) }
         ensures has_room { has_room self.old.room table.0 ≡ true → IsOk result }
         ensures at_limit { self.old.limit ≤ entry_count self.old.entries → IsOk result }
+        ensures others { OthersKept table.0 self.old self.new }
     {
         if self.is_full() {
             return Ok(());
@@ -112,7 +119,8 @@ impl Tables {
     /// Adds a single host of either family to a table at a moment, in seconds: not if the table has an entry for exactly
     /// that host, negated or not, and not if all tables together have as many entries as the limit allows. The error says
     /// that memory was refused; it comes only where the host is new and does not fit without memory. On an error, and
-    /// where the host is not new, nothing changes: a host that is held keeps its moment. (own to this profile)
+    /// where the host is not new, nothing changes: a host that is held keeps its moment. The room of other tables stays.
+    /// (own to this profile)
     pub fn add_host(&mut self, table: TableNo, host: Addr, now: u64) -> Result<Added, NoMemory>
         requires { table.0 < length self.old.entries }
         ensures answer { IfOk result (λ a. a ≡ added_to self.old.entries self.old.limit table.0 host) }
@@ -123,6 +131,7 @@ impl Tables {
         ensures limit { self.new.limit ≡ self.old.limit }
         ensures has_room { has_room self.old.room table.0 ≡ true → IsOk result }
         ensures at_limit { self.old.limit ≤ entry_count self.old.entries → IsOk result }
+        ensures others { OthersKept table.0 self.old self.new }
     {
         let place = table.0 as usize;
         if self.tables[place].holds(host) {
@@ -142,8 +151,8 @@ impl Tables {
 
     /// Takes out of a table the entries that were added `seconds` before `now`, or before that; for those that the rules
     /// text says, the moment `first` counts. It answers how many left. The others keep their order, and no other table
-    /// changes. It goes through the entries of that table alone, and takes no memory. (pfctl(8), "-T expire"; which
-    /// moments count is own to this profile)
+    /// changes. No room is lost. It goes through the entries of that table alone, and takes no memory. (pfctl(8),
+    /// "-T expire"; which moments count is own to this profile)
     pub fn expire(&mut self, table: TableNo, first: u64, now: u64, seconds: u64) -> u64
         requires table { table.0 < length self.old.entries }
         requires moments { first ≤ now }
@@ -151,6 +160,7 @@ impl Tables {
         ensures entries { self.new.entries ≡ entries_expired self.old.entries table.0 first now seconds }
         ensures tables { length self.new.entries ≡ length self.old.entries }
         ensures limit { self.new.limit ≡ self.old.limit }
+        ensures room { (t : ℕ) → slice_index self.old.room t ≤ slice_index self.new.room t }
     {
         let left = self.tables[table.0 as usize].expire(first, now, seconds);
         self.count -= left;

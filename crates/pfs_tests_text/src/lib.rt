@@ -35,6 +35,8 @@ mod configurations;
 #[cfg(test)]
 mod faults;
 #[cfg(test)]
+mod hashing;
+#[cfg(test)]
 mod packets;
 #[cfg(test)]
 mod parameters;
@@ -42,6 +44,8 @@ mod parameters;
 mod round_trips;
 #[cfg(test)]
 mod settings;
+#[cfg(test)]
+mod together;
 #[cfg(test)]
 mod tokens;
 #[cfg(test)]

@@ -8,5 +8,5 @@ pub loop-place-preserved : goal.loop-place-preserved
 loop-place-preserved c =
     let a = c.loop-place.invariant in
     let within : c.loop-place.place - 1 < length c.loop-place.lines = omega (arith, a.long, c.item_count-place.ensures.value) in
-    lines-set c.args.config.now.items c.loop-place.lines (c.loop-place.place - 1) _ c.skips_at.result a
+    lines-set c.args.config.now.items c.loop-place.lines c.loop-place.place (c.loop-place.place - 1) _ c.skips_at.result (omega arith) a
     (slice_get-get_or c.loop-place.lines (c.loop-place.place - 1) _ within) c.skips_at.ensures

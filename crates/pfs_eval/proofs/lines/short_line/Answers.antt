@@ -1,12 +1,10 @@
 -- The line of an item, part by part.
 use Rattle.std.proofs.Common.{refl}
-use Rattle.pfs_eval.proofs.LinesMade.{skips-own}
 use Rattle.pfs_eval.proofs.lines.short_line.Goals as goal
 
 pub returns : goal.returns
 returns c = record {
   asked = c.of.ensures;
-  skips = skips-own c.args.config.now.items c.args.place c.body_end.result c.args.item.now c.all_to.result c.body_end.ensures.value c.all_to.ensures;
   next = c.next_place-next.ensures;
   depth = refl;
   stop = c.requires.stop;

@@ -1,16 +1,19 @@
--- Answers of Tables::add_host: what becomes of a host (`answer`, `ok`), and on an error (`err`, `only_new`).
-use Rattle.std.proofs.Common.{◌+◌, ◌++◌, [], ◌∷◌, false, Some, ap, sym, ◌∙◌}
+-- Answers of Tables::add_host: what becomes of a host (`answer`, `ok`), on an error (`err`, `only_new`), and other tables (`others`).
+use Rattle.std.proofs.Common.{◌+◌, ◌++◌, [], ◌∷◌, false, Some, ap, sym, subst, ◌∙◌, arith}
+use Rattle.std.specs.Prelude.{All}
 use Rattle.pfs_addr_values.specs.Prefixes.{network_of}
+use Rattle.pfs_eval.specs.Entries.{AreDistinct}
 use Rattle.pfs_eval.specs.Holdings.{Holdings}
 use Rattle.pfs_eval.specs.Tables.{entry_count, host_entry, entries_after}
 use Rattle.pfs_eval.specs.declared.tables.Added.TheVariants.{New}
-use Rattle.pfs_eval.proofs.Rooms.{added-new, count-added, entries-added, entries-same, on_err, within-held}
+use Rattle.pfs_eval.proofs.Distinct.{distinct-at, distinct-set}
+use Rattle.pfs_eval.proofs.Rooms.{added-new, count-added, entries-added, entries-same, on_err, others-kept, within-held}
 use Rattle.pfs_eval.proofs.tables.Tables.add_host.Goals as goal
 
 pub invariant_of-self : goal.invariant_of-self
 invariant_of-self c =
     let same = entries-same c.self.inside.tables.items c.args.table.0 c.index_mut.result.now c.add.new.self c.index_mut.ensures.value c.in_err-add.ensures.err in
-    (c.self.invariant.0 ∙ ap entry_count (sym same), c.self.invariant.1)
+    (c.self.invariant.0 ∙ ap entry_count (sym same), c.self.invariant.1, subst (All AreDistinct) (sym same) c.self.invariant.2)
 
 pub returns-in_err-add-clause-err : goal.returns-in_err-add-clause-err
 returns-in_err-add-clause-err c =
@@ -32,6 +35,7 @@ invariant_of-self-2 c =
       ap (λ n. n + 1) c.self.invariant.0
           ∙ sym (count-added c.self.inside.tables.items c.args.table.0 c.index_mut.result.now c.add.new.self (host_entry c.args.host c.args.now) within c.index_mut.ensures.value added),
       c.self.invariant.1,
+      distinct-set c.self.inside.tables.items c.args.table.0 c.add.new.self (c.add.ensures.distinct (distinct-at c.self.inside.tables.items c.args.table.0 c.index_mut.result.now within c.index_mut.ensures.value c.self.invariant.2)) c.self.invariant.2,
     )
 
 pub returns-clause-answer : goal.returns-clause-answer
@@ -49,3 +53,16 @@ returns-clause-ok c =
     ∙ ap (λ n. c.index_mut.result.now.entries ++ (network_of c.args.host n, record { negated = false; moment = Some c.args.now }) ∷ []) c.width.ensures in
     entries-added c.self.inside.tables.items c.args.table.0 c.index_mut.result.now c.add.new.self (host_entry c.args.host c.args.now) within c.index_mut.ensures.value added
     ∙ ap (λ es. entries_after es c.args.table.0 c.args.host c.args.now New) view
+
+pub returns-in_err-add-clause-others : goal.returns-in_err-add-clause-others
+returns-in_err-add-clause-others c =
+    let same = entries-same c.self.inside.tables.items c.args.table.0 c.index_mut.result.now c.add.new.self c.index_mut.ensures.value c.in_err-add.ensures.err in
+    others-kept c.self.inside.tables.items c.args.table.0 c.self.inside.limit c.add.new.self c.args.self.now c.self.view_is (omega (arith, ap entry_count same))
+
+pub returns-clause-others : goal.returns-clause-others
+returns-clause-others c =
+    let within = within-held c.self.inside.tables.items c.args.self.now.entries c.args.table.0 (ap (λ (h : Holdings). h.entries) c.self.view_is) c.requires in
+    let added = c.in_ok-add.ensures.ok
+    ∙ ap (λ n. c.index_mut.result.now.entries ++ (network_of c.args.host n, record { negated = false; moment = Some c.args.now }) ∷ []) c.width.ensures in
+    let more = count-added c.self.inside.tables.items c.args.table.0 c.index_mut.result.now c.add.new.self (host_entry c.args.host c.args.now) within c.index_mut.ensures.value added in
+    others-kept c.self.inside.tables.items c.args.table.0 c.self.inside.limit c.add.new.self c.args.self.now c.self.view_is (omega (arith, more))

@@ -1,9 +1,11 @@
 -- Answers of Tables::new: one table more, and at the end the count of entries is the configuration's, and so is the limit.
-use Rattle.std.proofs.Common.{◌≡◌, ◌++◌, [], ◌∷◌, ap, sym, ◌∙◌, arith, map, take}
+use Rattle.std.proofs.Common.{◌≡◌, ◌++◌, [], ◌∷◌, ap, sym, subst, ◌∙◌, arith, map, take}
+use Rattle.std.specs.Prelude.{All}
 use Rattle.std.proofs.lemmas.List.{take_all}
 use Rattle.pfs_conf_values.specs.declared.tables.TableDef.{TableDef}
-use Rattle.pfs_eval.specs.Entries.{entry_of_text}
+use Rattle.pfs_eval.specs.Entries.{AreDistinct, entry_of_text}
 use Rattle.pfs_eval.specs.Tables.{config_entries, entry_count}
+use Rattle.pfs_eval.proofs.Distinct.{distinct-tables}
 use Rattle.pfs_eval.proofs.Rooms.{entries_of}
 use Rattle.pfs_eval.proofs.TextTables.{count-config, table-more, taken-more, text-entries}
 use Rattle.pfs_eval.proofs.tables.Tables.new.Goals as goal
@@ -27,6 +29,7 @@ invariant_of-result c =
       c.entry_count.ensures.value ∙ sym (count-config conf)
           ∙ ap entry_count (sym same),
       omega (arith, c.limit.ensures.value, c.limit.ensures.sound.limits.table_entries),
+      subst (All AreDistinct) (sym same) (distinct-tables conf.tables c.limit.ensures.sound.tables),
     )
 
 pub returns-clause-limit : goal.returns-clause-limit

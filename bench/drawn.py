@@ -1,0 +1,124 @@
+"""Drawn rulesets and traces: every limit with values of 1 to 5, several rules and scopes, sources of both families, short timeouts and short
+lives under load; floods, handshakes, endings, packets of held states and of none, entries that are taken out, and jumps of up to some hours.
+
+The same generator of numbers draws the same.
+"""
+import random
+from typing import List
+
+HEADER = "time,dir,if,proto,src,sport,dst,dport,flags\n"
+SOURCES = ["198.51.100.1", "198.51.100.2", "198.51.100.3", "2001:db8::1", "2001:db8::2"]
+LIMITS = ["states", "src-nodes", "table-entries"]
+TIMEOUTS = [
+    "tcp.first", "tcp.opening", "tcp.established", "tcp.closing", "tcp.finwait", "tcp.closed",
+    "udp.first", "udp.single", "udp.multiple", "other.first", "other.single", "other.multiple",
+]
+
+
+def few(draw: random.Random) -> int:
+    return draw.randint(1, 5)
+
+
+def drawn_settings(draw: random.Random, often: float) -> List[str]:
+    lines = [f"set limit {name} {few(draw)}" for name in LIMITS if draw.random() < often]
+    times = {"interval": few(draw), "src.track": draw.choice([0, 1, 5, 20])}
+    times.update({name: draw.choice([0, 1, 2, 5, 9, 30]) for name in TIMEOUTS if draw.random() < 0.6})
+    if draw.random() < 0.7:
+        start = draw.randint(0, 4)
+        times.update({"adaptive.start": start, "adaptive.end": draw.choice([0, start + few(draw)]) if start == 0 else start + few(draw)})
+    return [*lines, "set timeout { " + ", ".join(f"{name} {value}" for name, value in times.items()) + " }"]
+
+
+def drawn_options(draw: random.Random, is_tcp: bool, often: float) -> str:
+    """Options that the load rules accept together: connections are counted by rule, and so are retentions."""
+    scope = draw.choice(["", "source-track", "source-track rule", "source-track global"])
+    found = [scope] if scope else []
+    by_rule = scope in ("", "source-track rule")
+    found += [f"max {few(draw)}"] if draw.random() < often / 2 else []
+    found += [f"max-src-states {few(draw)}"] if draw.random() < often else []
+    if scope != "source-track global" and draw.random() < often:
+        found.append(f"max-src-nodes {few(draw)}")
+        by_rule = scope != "source-track"
+    if is_tcp and scope != "source-track global":
+        asked = [f"max-src-conn {draw.randint(1, 3)}"] if draw.random() < 0.7 else []
+        asked += [f"max-src-conn-rate {draw.randint(1, 4)}/{draw.choice([1, 5, 30])}"] if draw.random() < 0.5 else []
+        if asked and draw.random() < 0.7:
+            asked.append("overload <bad>" + draw.choice(["", " flush", " flush global"]))
+        found += asked
+        by_rule = by_rule and bool(asked)
+    if by_rule and scope == "source-track rule" and draw.random() < 0.3:
+        found.append(f"src.track {draw.choice([0, 3, 10])}")
+    found += [f"tcp.established {few(draw)}"] if is_tcp and draw.random() < 0.2 else []
+    if draw.random() < 0.2:
+        found.append(f"adaptive.start {few(draw)}, adaptive.end {5 + few(draw)}")
+    return " keep state (" + ", ".join(found) + ")" if found else ""
+
+
+def drawn_rules(draw: random.Random) -> str:
+    often = draw.choice([0.1, 0.3, 0.6])
+    lines = drawn_settings(draw, often)
+    lines.append(draw.choice(["table <bad> persist", f"table <bad> {{ {draw.choice(SOURCES)} }}"]))
+    if draw.random() < 0.5:
+        lines.append("block in quick from <bad>")
+    if draw.random() < 0.5:
+        lines.append("pass all" + drawn_options(draw, False, often))
+    for _ in range(draw.randint(1, 4)):
+        is_tcp = draw.random() < 0.65
+        way = draw.choice(["in ", "in ", ""]) + draw.choice(["", "", "", "inet ", "inet6 "])
+        parameters = "proto tcp" + draw.choice([" to any port 80", " flags any", ""]) if is_tcp else draw.choice(["proto udp", "proto 47", "all"])
+        state = " no state" if draw.random() < 0.05 else drawn_options(draw, is_tcp, often)
+        lines.append(f"pass {way}{parameters}{state}")
+    if draw.random() < 0.2:
+        lines.append(f"block in proto udp from {draw.choice(SOURCES)}")
+    return "\n".join(lines) + "\n"
+
+
+def drawn_step(draw: random.Random) -> int:
+    """How many seconds pass: mostly none or few, sometimes many."""
+    kind = draw.random()
+    if kind < 0.75:
+        return 0
+    return draw.randint(1, 3) if kind < 0.93 else draw.randint(4, 60) if kind < 0.99 else draw.randint(61, 20_000)
+
+
+def server(source: str) -> str:
+    return "2001:db8::53" if ":" in source else "192.0.2.1"
+
+
+def tcp(time: int, source: str, port: int, flags: str) -> str:
+    return f"{time},in,em0,tcp,{source},{port},{server(source)},80,{flags}"
+
+
+def answer(time: int, source: str, port: int, flags: str) -> str:
+    return f"{time},out,em0,tcp,{server(source)},80,{source},{port},{flags}"
+
+
+def drawn_records(draw: random.Random, time: int) -> List[str]:
+    """The records of one moment."""
+    source, port = draw.choice(SOURCES), draw.randint(1, 6)
+    kind = draw.random()
+    if kind < 0.45:
+        return [tcp(time, source, port, "S"), answer(time, source, port, "SA"), tcp(time, source, port, "A")]
+    if kind < 0.5:
+        return [tcp(time, draw.choice(SOURCES), draw.randint(1000, 60000), "S") for _ in range(draw.randint(2, 9))]
+    if kind < 0.6:
+        return [f"{time},in,em0,udp,{source},{port},{server(source)},53,"]
+    if kind < 0.65:
+        return [f"{time},out,em0,udp,{server(source)},53,{source},{port},"]
+    if kind < 0.7:
+        return [f"{time},in,em0,47,{source},,{server(source)},,"]
+    if kind < 0.9:
+        flags = draw.choice(["S", "SA", "A", "FA", "R", "PA", ""])
+        return [draw.choice([tcp, answer])(time, source, port, flags)]
+    if kind < 0.97:
+        return [f"{time},expire,bad,,,{draw.choice([0, 1, 5, 60, 1000])},,,"]
+    return [f"{time},in,em0,icmp,{source},,{server(source)},,"]
+
+
+def drawn_trace(draw: random.Random, records: int) -> str:
+    lines: List[str] = []
+    time = draw.randint(0, 1_000_000)
+    while len(lines) < records:
+        time += drawn_step(draw)
+        lines += drawn_records(draw, time)
+    return HEADER + "\n".join(lines[:records]) + "\n"
