@@ -6,12 +6,9 @@ use pfs_cli_streams::{Feed, Sink};
 use pfs_conf::load;
 use pfs_store::{IndexStore, PlainStore};
 use std::alloc::{AllocGlobal, Global};
-use std::hash::{BuildHasherDefault, FoldHasher};
 use std::io::{Read, Write};
 use std::process::Abort;
 use std::test::Fail;
-
-type Indexed = IndexStore<BuildHasherDefault<FoldHasher>>;
 
 /// How a replay ended, how many reads of its trace and how many writes failed, and its writer.
 pub type Ran<W> = (Result<(), ReplayFault>, u64, u64, W);
@@ -101,7 +98,7 @@ pub fn tell_over_stores(
     same!(rt; ended(told), outcome);
     same!(rt; out.into_inner().as_slice(), report);
     let config = load(alloc, rules)?;
-    let store = Indexed::new(alloc, &config)?;
+    let store = IndexStore::new(alloc, &config)?;
     let mut out = Sink::new(Vec::new(alloc));
     let told = write_report_over(alloc, config, store, trace, &mut out);
     same!(rt; ended(told), outcome);
