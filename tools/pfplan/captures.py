@@ -47,7 +47,7 @@ LAST = 4294967295
 # Names in frame.protocols of what stands between an IPv6 header and what it carries.
 _BETWEEN = ("ipv6.", "ah", "mipv6", "hip", "shim6")
 _NUMBERS = {"tcp": 6, "udp": 17, "icmpv6": 58, "ip": 4, "ipv6": 41, "gre": 47, "esp": 50, "sctp": 132, "dccp": 33, "ospf": 89, "pim": 103}
-_ENDED = {70: Status.NOT_BUILT}
+_ENDED = {4: Status.FAILED, 70: Status.NOT_BUILT}
 _NAMES = {6: "tcp", 17: "udp", 1: "icmp", 58: "icmp6"}
 
 
@@ -284,9 +284,9 @@ def make_trace(capture: Path, inside: Sequence[Network], trace: Path | None, *, 
     """Writes the trace of a capture, and answers the lines of the account. Trouble where the capture is refused; then nothing is written."""
     if str(capture) != "-":
         check_capture(capture)
-    if reader() == "tshark":
+    if reader() == "tshark" or told:
         return _by_tshark(capture, inside, trace, name, told, is_zero)
-    return _by_pfstrace(capture, inside, trace, name, told, is_zero)
+    return _by_pfstrace(capture, inside, trace, name, is_zero)
 
 
 def _by_tshark(capture: Path, inside: Sequence[Network], trace: Path | None, name: str | None, told: Path | None, is_zero: bool) -> list[str]:
@@ -300,18 +300,26 @@ def _by_tshark(capture: Path, inside: Sequence[Network], trace: Path | None, nam
     return list(maker.account.lines())
 
 
-def _by_pfstrace(capture: Path, inside: Sequence[Network], trace: Path | None, name: str | None, told: Path | None, is_zero: bool) -> list[str]:
-    words = [reader(), *(it for network in inside for it in ("--inside", str(network)))]
-    words += ["--interface", name] if name else []
+def _by_pfstrace(capture: Path, inside: Sequence[Network], trace: Path | None, name: str | None, is_zero: bool) -> list[str]:
+    _check_pfstrace(reader())
+    words = [reader(), *(["--inside", ",".join(map(str, inside))] if inside else []), *(["--interface", name] if name else [])]
+    # a name that begins with a hyphen is no option behind a folder's
+    words += [] if str(capture) == "-" else [f"./{capture}" if str(capture).startswith("-") else str(capture)]
     with contextlib.ExitStack() as stack:
-        # pfstrace writes what is told itself: beside its place, and under its name once all is well
-        beside = stack.enter_context(whole_file(told)) if told else None
-        words += ["--told", str(beside.name)] if beside else []
-        words += [] if str(capture) == "-" else ["--", str(capture)]
         out = stack.enter_context(whole_file(trace))
         lines, account = stack.enter_context(_running(words, str(capture)))
         out.writelines(from_zero(lines) if is_zero else lines)
     return account
+
+
+def _check_pfstrace(program: str) -> None:
+    """Has pfstrace built where it is not yet, which shows on standard error how far it is. Trouble with status 70 where that fails."""
+    try:
+        ended = subprocess.run([program, "--help"], stdin=subprocess.DEVNULL, stdout=subprocess.DEVNULL, check=False)
+    except OSError as error:
+        raise Trouble(f"{program}: can't be run: {reason_of(error)} (PFSTRACE names the program)", Status.NOT_BUILT) from None
+    if ended.returncode == Status.NOT_BUILT:
+        raise Trouble("", Status.NOT_BUILT)
 
 
 def from_zero(lines: Iterable[str]) -> Iterator[str]:

@@ -167,6 +167,17 @@ class Command(FolderCase):
         self.assertEqual(err, f"pfplan trace: {self.capture}: tshark: tshark: cut short in the middle of a packet\n")
         self.assertNotIn("trace", self.left())
 
+    def test_pfstrace(self) -> None:
+        script = self.folder / "pfstrace"
+        words = "--inside 192.0.2.0/24,2001:db8::/32 --interface vlan3"
+        said = f"time,dir\\n5,in\\n7,out\\n"
+        script.write_text(f"#!/bin/sh\ntest \"$1\" = --help && exit 0\necho 'trace: 2 packets' >&2\nprintf '{said}'\necho \"$*\" > words\n", encoding="utf-8")
+        script.chmod(0o755)
+        given = ("--inside", "192.0.2.0/24", "--inside", "2001:db8::/32", "--if", "vlan3", "--zero")
+        done = pfplan("trace", self.capture, *given, env={"PFSTRACE": str(script)}, cwd=self.folder)
+        self.assertEqual((done.status, done.out, done.err), (0, "time,dir\n0,in\n2,out\n", "trace: 2 packets\n"))
+        self.assertEqual((self.folder / "words").read_text("utf-8"), f"{words} {self.capture}\n")
+
     def test_no_tshark(self) -> None:
         env = {"PATH": str(self.folder), "PFSTRACE": "tshark"}
         done = pfplan("trace", self.capture, "--inside", "192.0.2.0/24", env=env)
