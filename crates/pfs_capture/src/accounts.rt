@@ -66,8 +66,16 @@ impl Account {
 impl fmt::Display for Account {
     fn fmt<W: fmt::Write>(&self, f: &mut fmt::Formatter<W>) -> fmt::Result {
         write!(f, "frames {}: records {}", self.frames, self.records)?;
-        write!(f, ", not IP {}, later fragments {}", self.not_ip, self.later_fragments)?;
-        write!(f, ", cut before their ports {}, neither in nor out {}", self.cut, self.neither_way)?;
+        write!(
+            f,
+            ", not IP {}, later fragments {}",
+            self.not_ip, self.later_fragments
+        )?;
+        write!(
+            f,
+            ", cut before their ports {}, neither in nor out {}",
+            self.cut, self.neither_way
+        )?;
         write!(f, ", of a link type that is not read {}", self.link_types)
     }
 }

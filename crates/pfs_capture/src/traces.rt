@@ -67,22 +67,14 @@ pub fn write_trace<R: Read, W: Write>(
     Err(TraceStop::TooMany)
 }
 
-fn start<R: Read>(
-    alloc: Global,
-    reader: &mut R,
-    held: &mut Vec<u8>,
-) -> Result<Form, TraceStop> {
+fn start<R: Read>(alloc: Global, reader: &mut R, held: &mut Vec<u8>) -> Result<Form, TraceStop> {
     match read_start(alloc, reader, held) {
         Ok(form) => Ok(form),
         Err(fault) => Err(TraceStop::File(fault)),
     }
 }
 
-fn next<R: Read>(
-    reader: &mut R,
-    held: &mut Vec<u8>,
-    form: &mut Form,
-) -> Result<Item, TraceStop> {
+fn next<R: Read>(reader: &mut R, held: &mut Vec<u8>, form: &mut Form) -> Result<Item, TraceStop> {
     match read_item(reader, held, form) {
         Ok(item) => Ok(item),
         Err(fault) => Err(TraceStop::File(fault)),
@@ -175,16 +167,16 @@ fn second_after(last: u64, moment: Moment) -> Result<u64, TraceStop>
 }
 
 // The packet of a frame in what was read, with its way, or why it is no record.
-fn outcome_of(
-    inside: &[Prefix],
-    ifname: IfName,
-    frame: Frame,
-    held: &[u8],
-) -> Result<Found, Reason>
+fn outcome_of(inside: &[Prefix], ifname: IfName, frame: Frame, held: &[u8]) -> Result<Found, Reason>
     requires { is_name 15 ifname ≡ true }
     ensures is { result ≡ sorted inside.now ifname frame.link (frame_bytes frame held.now) }
     ensures row { IfOk result IsFound }
 {
     let rest = &held[frame.from.min(held.len())..];
-    sort(inside, ifname, frame.link, &rest[..frame.count.min(rest.len())])
+    sort(
+        inside,
+        ifname,
+        frame.link,
+        &rest[..frame.count.min(rest.len())],
+    )
 }

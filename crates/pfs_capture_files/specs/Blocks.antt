@@ -1,5 +1,5 @@
 -- The blocks of a pcapng file (pcapng, sections 3.1, 4.1 to 4.4).
-use Rattle.std.specs.Prelude.{ℕ, ◌≡◌, Bool, true, false, ◌+◌, ◌-◌, ◌%◌, ◌==◌, ◌||◌, ◌++◌, not, List, [], ◌∷◌, length, take, nat_le, nat_lt, Result, Ok, Err, if◌then◌else◌, ok_or, slice_get}
+use Rattle.std.specs.Prelude.{ℕ, ◌≡◌, Bool, true, false, ◌-◌, ◌%◌, ◌==◌, ◌||◌, ◌++◌, not, List, [], ◌∷◌, length, take, nat_lt, Result, Ok, Err, if◌then◌else◌, ok_or, slice_get}
 use Rattle.pfs_capture_files.specs.declared.orders.Order.{Order}
 use Rattle.pfs_capture_files.specs.declared.orders.Order.TheVariants.{Big, Little}
 use Rattle.pfs_capture_files.specs.declared.interfaces.Interface.{Interface}

@@ -1,5 +1,5 @@
 -- The two forms of capture files, item by item (pcap, sections 4 and 5; pcapng, sections 3.1 and 4.1).
-use Rattle.std.specs.Prelude.{ℕ, ◌≡◌, ◌/◌, ◌%◌, ◌==◌, ◌||◌, Bool, true, false, List, [], length, take, drop, nat_lt, Option, Some, Result, Ok, Err, if◌then◌else◌}
+use Rattle.std.specs.Prelude.{ℕ, ◌≡◌, ◌/◌, ◌%◌, ◌==◌, ◌||◌, false, List, [], length, take, drop, nat_lt, Option, Some, Result, Ok, Err, if◌then◌else◌}
 use Rattle.pfs_capture_files.specs.declared.orders.Order.{Order}
 use Rattle.pfs_capture_files.specs.declared.orders.Order.TheVariants.{Big, Little}
 use Rattle.pfs_capture_files.specs.declared.blocks.BlockHead.{BlockHead}

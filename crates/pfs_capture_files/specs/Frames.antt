@@ -1,5 +1,5 @@
 -- The frames of packet blocks, and their moments (pcapng, sections 4.3 and 4.4).
-use Rattle.std.specs.Prelude.{ℕ, ◌+◌, ◌*◌, ◌-◌, ◌/◌, ◌^◌, ◌==◌, List, length, max, min, nat_le, nat_lt, Result, Ok, Err, if◌then◌else◌}
+use Rattle.std.specs.Prelude.{ℕ, ◌+◌, ◌*◌, ◌-◌, ◌/◌, ◌==◌, List, length, max, min, nat_le, nat_lt, Result, Ok, Err, if◌then◌else◌}
 use Rattle.pfs_capture_files.specs.declared.orders.Order.{Order}
 use Rattle.pfs_capture_files.specs.declared.interfaces.Interface.{Interface}
 use Rattle.pfs_capture_files.specs.declared.frames.Frame.{Frame}

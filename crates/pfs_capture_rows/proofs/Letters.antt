@@ -1,8 +1,8 @@
 -- The letters of flags are read as the same flags.
-use Rattle.std.proofs.Common.{◌≡◌, ℕ, Bool, true, false, suc, length, List, [], ◌∷◌, ◌++◌, Some, None, refl, sym, ap, ◌∙◌, arith, append-nil}
+use Rattle.std.proofs.Common.{◌≡◌, ℕ, Bool, true, false, List, [], ◌∷◌, ◌++◌, Some, None, refl, sym, ap, ◌∙◌, append-nil}
 use Rattle.std.specs.Prelude.{codes, ◌||◌, ◌==◌, if◌then◌else◌}
 use Rattle.std.specs.List.{list_all}
-use Rattle.std.proofs.lemmas.Bool.{cond-true, and_parts, and_from, ne_eqb}
+use Rattle.std.proofs.lemmas.Bool.{cond-true, and_parts, and_from}
 use Rattle.pfs_addr_values.specs.FlagSets.{flags_of, is_flag_letter, names_letter}
 use Rattle.pfs_addr_values.specs.declared.flag_sets.Flags.{Flags}
 use Rattle.pfs_capture_rows.specs.FlagLetters.{letter_text, letters_text}
@@ -70,4 +70,3 @@ flags_again f =
     cond-true (list_all is_flag_letter (letters_text f)) _ None (letters_all is_flag_letter f refl)
     ∙ ap (λ (x : Flags). Some x) (same_flags _ _ _ _ _ _ _ _ f (at 70 ∙ or_none f.fin) (at 83 ∙ or_none f.syn) (at 82 ∙ or_none f.rst) (at 80 ∙ or_none f.psh)
     (at 65 ∙ or_none f.ack) (at 85 ∙ or_none f.urg) (at 69 ∙ or_none f.ece) (at 87 ∙ or_none f.cwr))
-
