@@ -13,10 +13,10 @@ abbrev pub no_frames : Account
 no_frames = record { frames = 0; records = 0; link_types = 0; not_ip = 0; later_fragments = 0; cut = 0; neither_way = 0 }
 
 -- one frame more, which is a record, or is none for a reason
-abbrev pub counted : Account → Option Reason → Account
-counted a None = record a { frames = a.frames + 1; records = a.records + 1 }
-counted a (Some reason.LinkType) = record a { frames = a.frames + 1; link_types = a.link_types + 1 }
-counted a (Some reason.NotIp) = record a { frames = a.frames + 1; not_ip = a.not_ip + 1 }
-counted a (Some reason.LaterFragment) = record a { frames = a.frames + 1; later_fragments = a.later_fragments + 1 }
-counted a (Some reason.Cut) = record a { frames = a.frames + 1; cut = a.cut + 1 }
-counted a (Some reason.NeitherWay) = record a { frames = a.frames + 1; neither_way = a.neither_way + 1 }
+abbrev pub frame_counted : Account → Option Reason → Account
+frame_counted a None = record a { frames = a.frames + 1; records = a.records + 1 }
+frame_counted a (Some reason.LinkType) = record a { frames = a.frames + 1; link_types = a.link_types + 1 }
+frame_counted a (Some reason.NotIp) = record a { frames = a.frames + 1; not_ip = a.not_ip + 1 }
+frame_counted a (Some reason.LaterFragment) = record a { frames = a.frames + 1; later_fragments = a.later_fragments + 1 }
+frame_counted a (Some reason.Cut) = record a { frames = a.frames + 1; cut = a.cut + 1 }
+frame_counted a (Some reason.NeitherWay) = record a { frames = a.frames + 1; neither_way = a.neither_way + 1 }

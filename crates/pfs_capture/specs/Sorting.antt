@@ -8,7 +8,7 @@ use Rattle.pfs_addr_values.specs.declared.addresses.Addr.{Addr}
 use Rattle.pfs_addr_values.specs.declared.packets.Dir.{Dir}
 use Rattle.pfs_addr_values.specs.declared.packets.Dir.TheVariants.{In, Out}
 use Rattle.pfs_capture_packets.specs.Logs.{logged_of}
-use Rattle.pfs_capture_packets.specs.Packets.{IsCarried, and_then, packet_of}
+use Rattle.pfs_capture_packets.specs.Packets.{IsCarried, then_read, packet_of}
 use Rattle.pfs_capture_packets.specs.declared.logs.Logged.{Logged}
 use Rattle.pfs_capture_packets.specs.declared.packets.IpPacket.{IpPacket}
 use Rattle.pfs_capture_packets.specs.declared.packets.Reason.{Reason}
@@ -34,7 +34,7 @@ way_of inside ifname link_type frame packet =
 -- the packet of a frame and its way, or the one reason why it is no record
 abbrev pub sorted : List Network → List ℕ → ℕ → List ℕ → Result Found Reason
 sorted inside ifname link_type frame =
-    and_then (packet_of link_type frame) (λ packet. and_then (ok_or (way_of inside ifname link_type frame packet) reason.NeitherWay) (λ way. Ok (record { way = way; packet = packet })))
+    then_read (packet_of link_type frame) (λ packet. then_read (ok_or (way_of inside ifname link_type frame packet) reason.NeitherWay) (λ way. Ok (record { way = way; packet = packet })))
 
 -- a packet whose ends are of one family, on an interface with a name, as a row tells it
 abbrev pub IsFound : Found → Type 0

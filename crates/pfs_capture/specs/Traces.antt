@@ -5,9 +5,9 @@ use Rattle.pfs_capture_files.specs.declared.frames.Frame.{Frame}
 use Rattle.pfs_capture_files.specs.declared.frames.Moment.{Moment}
 use Rattle.pfs_capture_files.specs.declared.frames.Moment.TheVariants.{At, Untold, Outside}
 use Rattle.pfs_capture_packets.specs.declared.packets.Reason.{Reason}
-use Rattle.pfs_capture_rows.specs.Rows.{row_text}
+use Rattle.pfs_capture_rows.specs.Rows.{capture_row}
 use Rattle.pfs_capture_rows.specs.declared.rows.Row.{Row}
-use Rattle.pfs_capture.specs.Accounts.{counted}
+use Rattle.pfs_capture.specs.Accounts.{frame_counted}
 use Rattle.pfs_capture.specs.Sorting.{sorted}
 use Rattle.pfs_capture.specs.declared.accounts.Account.{Account}
 use Rattle.pfs_capture.specs.declared.faults.TraceStop.{TraceStop}
@@ -30,9 +30,9 @@ abbrev pub row_from : ℕ → Found → Row
 row_from second found = record { second = second; dir = found.way.dir; ifname = found.way.ifname; packet = found.packet }
 
 -- a frame's row, or nothing
-abbrev pub outcome_text : ℕ → Result Found Reason → List ℕ
-outcome_text second (Ok found) = row_text (row_from second found)
-outcome_text second (Err r) = []
+abbrev pub frame_text : ℕ → Result Found Reason → List ℕ
+frame_text second (Ok found) = capture_row (row_from second found)
+frame_text second (Err r) = []
 
 -- why a frame is no record, if it is none
 abbrev pub reason_of : Result Found Reason → Option Reason
@@ -46,12 +46,12 @@ at_second (Err f) more = Err f
 
 -- what a frame in what was read makes of a tally, and its row
 abbrev pub taken_at : ℕ → Tally → Result Found Reason → Tally × List ℕ
-taken_at second tally outcome = (record { last = second; account = counted tally.account (reason_of outcome) }, outcome_text second outcome)
+taken_at second tally outcome = (record { last = second; account = frame_counted tally.account (reason_of outcome) }, frame_text second outcome)
 
-abbrev pub taken : List Network → List ℕ → Tally → Frame → List ℕ → Result (Tally × List ℕ) TraceStop
-taken inside ifname tally frame held = at_second (second_after tally.last frame.moment) (λ second. taken_at second tally (sorted inside ifname frame.link (frame_bytes frame held)))
+abbrev pub frame_taken : List Network → List ℕ → Tally → Frame → List ℕ → Result (Tally × List ℕ) TraceStop
+frame_taken inside ifname tally frame held = at_second (second_after tally.last frame.moment) (λ second. taken_at second tally (sorted inside ifname frame.link (frame_bytes frame held)))
 
 -- a call answers and leaves what a frame makes, unless memory was refused
-abbrev pub Takes : Result (Tally × List ℕ) TraceStop → Result Tally TraceStop → List ℕ → Type 0
-Takes step (Ok tally) line = step ≡ Ok (tally, line)
-Takes step (Err f) line = (f ≡ stop.Memory) ⊎ (step ≡ Err f)
+abbrev pub TakesFrame : Result (Tally × List ℕ) TraceStop → Result Tally TraceStop → List ℕ → Type 0
+TakesFrame step (Ok tally) line = step ≡ Ok (tally, line)
+TakesFrame step (Err f) line = (f ≡ stop.Memory) ⊎ (step ≡ Err f)

@@ -1,7 +1,7 @@
 // How many frames there were, and what became of them.
 
 ghost use Rattle.std.specs.Prelude.{◌≡◌, ◌<◌, ◌^◌};
-ghost use Rattle.pfs_capture.specs.Accounts.{AddsUp, counted, no_frames};
+ghost use Rattle.pfs_capture.specs.Accounts.{AddsUp, frame_counted, no_frames};
 
 use pfs_capture_packets::Reason;
 use std::fmt;
@@ -46,7 +46,7 @@ impl Account {
     pub fn with(self, reason: Option<Reason>) -> Account
         requires few { self.frames < 2 ^ 63 }
         requires sum { AddsUp self }
-        ensures is { result ≡ counted self reason }
+        ensures is { result ≡ frame_counted self reason }
         ensures sum { AddsUp result }
     {
         let mut account = self;
@@ -66,8 +66,16 @@ impl Account {
 impl fmt::Display for Account {
     fn fmt<W: fmt::Write>(&self, f: &mut fmt::Formatter<W>) -> fmt::Result {
         write!(f, "frames {}: records {}", self.frames, self.records)?;
-        write!(f, ", not IP {}, later fragments {}", self.not_ip, self.later_fragments)?;
-        write!(f, ", cut before their ports {}, neither in nor out {}", self.cut, self.neither_way)?;
+        write!(
+            f,
+            ", not IP {}, later fragments {}",
+            self.not_ip, self.later_fragments
+        )?;
+        write!(
+            f,
+            ", cut before their ports {}, neither in nor out {}",
+            self.cut, self.neither_way
+        )?;
         write!(f, ", of a link type that is not read {}", self.link_types)
     }
 }

@@ -2,7 +2,7 @@
 
 ghost use Rattle.std.specs.Prelude.{◌≡◌, ◌<◌, ◌≤◌, ◌^◌, ◌+◌, ◌++◌, IfErr, IfOk, OnOk, true};
 ghost use Rattle.pfs_capture.specs.Accounts.{AddsUp};
-ghost use Rattle.pfs_capture.specs.Traces.{Takes, frame_bytes, outcome_text, reason_of, second_after, taken};
+ghost use Rattle.pfs_capture.specs.Traces.{TakesFrame, frame_bytes, frame_text, reason_of, second_after, frame_taken};
 ghost use Rattle.pfs_capture.specs.Sorting.{IsFound, sorted};
 ghost use Rattle.pfs_addr_values.specs.Names.{is_name};
 
@@ -67,22 +67,14 @@ pub fn write_trace<R: Read, W: Write>(
     Err(TraceStop::TooMany)
 }
 
-fn start<R: Read>(
-    alloc: Global,
-    reader: &mut R,
-    held: &mut Vec<u8>,
-) -> Result<Form, TraceStop> {
+fn start<R: Read>(alloc: Global, reader: &mut R, held: &mut Vec<u8>) -> Result<Form, TraceStop> {
     match read_start(alloc, reader, held) {
         Ok(form) => Ok(form),
         Err(fault) => Err(TraceStop::File(fault)),
     }
 }
 
-fn next<R: Read>(
-    reader: &mut R,
-    held: &mut Vec<u8>,
-    form: &mut Form,
-) -> Result<Item, TraceStop> {
+fn next<R: Read>(reader: &mut R, held: &mut Vec<u8>, form: &mut Form) -> Result<Item, TraceStop> {
     match read_item(reader, held, form) {
         Ok(item) => Ok(item),
         Err(fault) => Err(TraceStop::File(fault)),
@@ -109,7 +101,7 @@ fn take_frame(
     requires sum { AddsUp tally.account }
     requires last { tally.last ≤ 4294967295 }
     requires name { is_name 15 ifname ≡ true }
-    ensures takes { Takes (taken inside.now ifname tally frame held.now) result line.new.items }
+    ensures takes { TakesFrame (frame_taken inside.now ifname tally frame held.now) result line.new.items }
     ensures sum { IfOk result (λ t. AddsUp t.account) }
     ensures one { IfOk result (λ t. (t.account.frames ≡ tally.account.frames + 1) × (t.last ≤ 4294967295)) }
 {
@@ -132,7 +124,7 @@ fn write_outcome(
 ) -> Result<(), TraceStop>
     requires found { IfOk outcome.now IsFound }
     requires second { second ≤ 4294967295 }
-    ensures text { OnOk result (line.new.items ≡ line.old.items ++ outcome_text second outcome.now) }
+    ensures text { OnOk result (line.new.items ≡ line.old.items ++ frame_text second outcome.now) }
     ensures fails { IfErr result (λ f. f ≡ TraceStop.Memory) }
 {
     let Ok(found) = outcome else {
@@ -175,16 +167,16 @@ fn second_after(last: u64, moment: Moment) -> Result<u64, TraceStop>
 }
 
 // The packet of a frame in what was read, with its way, or why it is no record.
-fn outcome_of(
-    inside: &[Prefix],
-    ifname: IfName,
-    frame: Frame,
-    held: &[u8],
-) -> Result<Found, Reason>
+fn outcome_of(inside: &[Prefix], ifname: IfName, frame: Frame, held: &[u8]) -> Result<Found, Reason>
     requires { is_name 15 ifname ≡ true }
     ensures is { result ≡ sorted inside.now ifname frame.link (frame_bytes frame held.now) }
     ensures row { IfOk result IsFound }
 {
     let rest = &held[frame.from.min(held.len())..];
-    sort(inside, ifname, frame.link, &rest[..frame.count.min(rest.len())])
+    sort(
+        inside,
+        ifname,
+        frame.link,
+        &rest[..frame.count.min(rest.len())],
+    )
 }

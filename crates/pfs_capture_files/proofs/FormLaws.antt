@@ -1,11 +1,11 @@
 -- A record whose bytes are all there is the frame that its header tells.
-use Rattle.std.proofs.Common.{ℕ, ◌≡◌, ◌≤◌, List, length, take, drop, Ok, Err, sym, ap, ◌∙◌, arith, nat_lt, false}
+use Rattle.std.proofs.Common.{ℕ, ◌≡◌, ◌≤◌, List, length, take, drop, Ok, sym, ap, ◌∙◌, arith, nat_lt, false}
 use Rattle.std.proofs.lemmas.Bool.{cond-false, le-ltb}
 use Rattle.pfs_capture_files.specs.declared.orders.Order.{Order}
 use Rattle.pfs_capture_files.specs.declared.frames.Frame.{Frame}
 use Rattle.pfs_capture_files.specs.declared.frames.Item.TheVariants as item
 use Rattle.pfs_capture_files.specs.declared.forms.Form.TheVariants as form
-use Rattle.pfs_capture_files.specs.Forms.{Turn, frame_turn}
+use Rattle.pfs_capture_files.specs.Forms.{frame_turn}
 
 pub frame_whole : (order : Order) (frame : Frame) (xs held : List ℕ) → held ≡ take frame.count xs → frame.count ≤ length held
     → frame_turn order frame xs ≡ Ok (record { form = form.Classic order frame.link; item = item.Frame frame; held = held; left = drop frame.count xs })

@@ -1,5 +1,5 @@
 -- A look through options goes on, or ends, as its next option says.
-use Rattle.std.proofs.Common.{ℕ, ◌≡◌, ◌+◌, ◌-◌, ◌<◌, ◌≤◌, suc, List, Option, None, ap, arith, ◌∙◌}
+use Rattle.std.proofs.Common.{ℕ, ◌≡◌, ◌+◌, ◌-◌, ◌<◌, ◌≤◌, suc, List, None, ap, arith, ◌∙◌}
 use Rattle.pfs_capture_files.specs.declared.orders.Order.{Order}
 use Rattle.pfs_capture_files.specs.declared.options.Wanted.{Wanted}
 use Rattle.pfs_capture_files.specs.declared.options.Look.{Look}

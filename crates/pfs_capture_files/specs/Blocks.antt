@@ -1,5 +1,5 @@
 -- The blocks of a pcapng file (pcapng, sections 3.1, 4.1 to 4.4).
-use Rattle.std.specs.Prelude.{ℕ, ◌≡◌, Bool, true, false, ◌+◌, ◌-◌, ◌%◌, ◌==◌, ◌||◌, ◌++◌, not, List, [], ◌∷◌, length, take, nat_le, nat_lt, Result, Ok, Err, if◌then◌else◌, ok_or, slice_get}
+use Rattle.std.specs.Prelude.{ℕ, ◌≡◌, Bool, true, false, ◌-◌, ◌%◌, ◌==◌, ◌||◌, ◌++◌, not, List, [], ◌∷◌, length, take, nat_lt, Result, Ok, Err, if◌then◌else◌, ok_or, slice_get}
 use Rattle.pfs_capture_files.specs.declared.orders.Order.{Order}
 use Rattle.pfs_capture_files.specs.declared.orders.Order.TheVariants.{Big, Little}
 use Rattle.pfs_capture_files.specs.declared.interfaces.Interface.{Interface}
@@ -10,7 +10,7 @@ use Rattle.pfs_capture_files.specs.declared.faults.FileFault.{FileFault}
 use Rattle.pfs_capture_files.specs.declared.faults.FileFault.TheVariants as fault
 use Rattle.pfs_capture_files.specs.Orders.{u16_in, u32_in}
 use Rattle.pfs_capture_files.specs.Known.{Known}
-use Rattle.pfs_capture_files.specs.Interfaces.{and_then, interface_of}
+use Rattle.pfs_capture_files.specs.Interfaces.{then_known, interface_of}
 use Rattle.pfs_capture_files.specs.Frames.{enhanced_frame, simple_frame}
 
 -- the byte order that a section's block tells (section 4.1)
@@ -33,7 +33,7 @@ sized_head order head =
 abbrev pub block_head : Order → List ℕ → Result BlockHead FileFault
 block_head order head =
     if nat_lt (length head) 12 then Err fault.Cut
-    else and_then (order_of_block order (u32_in order head 0) head) (λ own. sized_head own head)
+    else then_known (order_of_block order (u32_in order head 0) head) (λ own. sized_head own head)
 
 -- one interface more, of 1,024 at most (own)
 abbrev pub added : Known → Interface → Result (Known × Item) FileFault
@@ -43,8 +43,8 @@ added known interface =
     else Err fault.Interfaces
 
 -- the interface of a number, from 0
-abbrev pub interface_at : Known → ℕ → Result Interface FileFault
-interface_at known number = ok_or (slice_get known.interfaces number) fault.Block
+abbrev pub described_at : Known → ℕ → Result Interface FileFault
+described_at known number = ok_or (slice_get known.interfaces number) fault.Block
 
 -- what follows a block's first twelve bytes, without its last length
 abbrev pub body_of : List ℕ → List ℕ
@@ -54,9 +54,9 @@ body_of rest = take (length rest - 4) rest
 abbrev pub held_in : Known → BlockHead → List ℕ → Result Item FileFault
 held_in known head rest =
     if head.kind == 3
-    then and_then (interface_at known 0) (λ i. and_then (simple_frame i head.third (body_of rest)) (λ f. Ok (item.Frame f)))
+    then then_known (described_at known 0) (λ i. then_known (simple_frame i head.third (body_of rest)) (λ f. Ok (item.Frame f)))
     else (if head.kind == 6
-    then and_then (interface_at known head.third) (λ i. and_then (enhanced_frame head.order i (body_of rest)) (λ f. Ok (item.Frame f)))
+    then then_known (described_at known head.third) (λ i. then_known (enhanced_frame head.order i (body_of rest)) (λ f. Ok (item.Frame f)))
     else Ok item.Other)
 
 -- what a block holds, and what is known after it: a section's block begins a section, without interfaces, and an interface's (1) adds
@@ -64,8 +64,8 @@ held_in known head rest =
 abbrev pub body_item : Known → BlockHead → List ℕ → Result (Known × Item) FileFault
 body_item known head rest =
     if head.kind == 0x0a0d0d0a then Ok (record { order = head.order; interfaces = [] }, item.Other)
-    else (if head.kind == 1 then and_then (interface_of head.order head.half (body_of rest)) (λ i. added known i)
-    else and_then (held_in known head rest) (λ held. Ok (known, held)))
+    else (if head.kind == 1 then then_known (interface_of head.order head.half (body_of rest)) (λ i. added known i)
+    else then_known (held_in known head rest) (λ held. Ok (known, held)))
 
 -- a fault of what is around a file, and none of the file
 abbrev pub is_outside : FileFault → Bool
@@ -74,6 +74,6 @@ is_outside fault.Memory = true
 is_outside f = false
 
 -- what a call answers and leaves is what the definition gives, unless memory was refused
-abbrev pub Takes : Result (Known × Item) FileFault → Result Item FileFault → Known → Type 0
-Takes step (Ok held) after = step ≡ Ok (after, held)
-Takes step (Err f) after = is_outside f ≡ false → step ≡ Err f
+abbrev pub TakesItem : Result (Known × Item) FileFault → Result Item FileFault → Known → Type 0
+TakesItem step (Ok held) after = step ≡ Ok (after, held)
+TakesItem step (Err f) after = is_outside f ≡ false → step ≡ Err f

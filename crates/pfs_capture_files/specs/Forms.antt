@@ -1,5 +1,5 @@
 -- The two forms of capture files, item by item (pcap, sections 4 and 5; pcapng, sections 3.1 and 4.1).
-use Rattle.std.specs.Prelude.{ℕ, ◌≡◌, ◌/◌, ◌%◌, ◌==◌, ◌||◌, Bool, true, false, List, [], length, take, drop, nat_lt, Option, Some, Result, Ok, Err, if◌then◌else◌}
+use Rattle.std.specs.Prelude.{ℕ, ◌≡◌, ◌/◌, ◌%◌, ◌==◌, ◌||◌, false, List, [], length, take, drop, nat_lt, Option, Some, Result, Ok, Err, if◌then◌else◌}
 use Rattle.pfs_capture_files.specs.declared.orders.Order.{Order}
 use Rattle.pfs_capture_files.specs.declared.orders.Order.TheVariants.{Big, Little}
 use Rattle.pfs_capture_files.specs.declared.blocks.BlockHead.{BlockHead}
@@ -14,7 +14,7 @@ use Rattle.pfs_capture_files.specs.declared.faults.FileFault.{FileFault}
 use Rattle.pfs_capture_files.specs.declared.faults.FileFault.TheVariants as fault
 use Rattle.pfs_capture_files.specs.Orders.{u32_in}
 use Rattle.pfs_capture_files.specs.Known.{Known}
-use Rattle.pfs_capture_files.specs.Interfaces.{and_then}
+use Rattle.pfs_capture_files.specs.Interfaces.{then_known}
 use Rattle.pfs_capture_files.specs.Classic.{record_frame}
 use Rattle.pfs_capture_files.specs.Blocks.{block_head, body_item, is_outside}
 
@@ -44,13 +44,13 @@ pub record Turn : Type 0 where
 abbrev pub rest_turn : Known → BlockHead → List ℕ → Result Turn FileFault
 rest_turn known head xs =
     if nat_lt (length (take head.count xs)) head.count then Err fault.Cut
-    else and_then (body_item known head (take head.count xs)) (λ r. Ok (record { form = form.Blocks r.0; item = r.1; held = take head.count xs; left = drop head.count xs }))
+    else then_known (body_item known head (take head.count xs)) (λ r. Ok (record { form = form.Blocks r.0; item = r.1; held = take head.count xs; left = drop head.count xs }))
 
 -- a block of a pcapng file, which ends where no block begins
 abbrev pub block_turn : Known → List ℕ → Result Turn FileFault
 block_turn known xs =
     if length (take 12 xs) == 0 then Ok (record { form = form.Blocks known; item = item.End; held = take 12 xs; left = drop 12 xs })
-    else and_then (block_head known.order (take 12 xs)) (λ head. rest_turn known head (drop 12 xs))
+    else then_known (block_head known.order (take 12 xs)) (λ head. rest_turn known head (drop 12 xs))
 
 -- a record of a pcap file whose header is read
 abbrev pub frame_turn : Order → Frame → List ℕ → Result Turn FileFault
@@ -62,7 +62,7 @@ frame_turn order frame xs =
 abbrev pub record_turn : Order → ℕ → List ℕ → Result Turn FileFault
 record_turn order link xs =
     if length (take 16 xs) == 0 then Ok (record { form = form.Classic order link; item = item.End; held = take 16 xs; left = drop 16 xs })
-    else and_then (record_frame order link (take 16 xs)) (λ frame. frame_turn order frame (drop 16 xs))
+    else then_known (record_frame order link (take 16 xs)) (λ frame. frame_turn order frame (drop 16 xs))
 
 -- the next item of a capture
 abbrev pub turn_of : Form → List ℕ → Result Turn FileFault
@@ -70,10 +70,10 @@ turn_of (form.Classic order link) xs = record_turn order link xs
 turn_of (form.Blocks known) xs = block_turn known xs
 
 -- a call answers and leaves what the turn finds, unless a read failed or memory was refused
-abbrev pub Reads : Result Turn FileFault → Result Item FileFault → Form → List ℕ → Option (List ℕ) → Type 0
-Reads turn (Ok found) after held left =
+abbrev pub ReadsItem : Result Turn FileFault → Result Item FileFault → Form → List ℕ → Option (List ℕ) → Type 0
+ReadsItem turn (Ok found) after held left =
     (ys : List ℕ) × (left ≡ Some ys) × (turn ≡ Ok (record { form = after; item = found; held = held; left = ys }))
-Reads turn (Err f) after held left = is_outside f ≡ false → turn ≡ Err f
+ReadsItem turn (Err f) after held left = is_outside f ≡ false → turn ≡ Err f
 
 -- a pcap file's header ends with the link's type, in the lower half of its last number (pcap, section 4)
 abbrev pub classic_form : Order → List ℕ → Result Form FileFault
@@ -81,12 +81,12 @@ classic_form order rest = if nat_lt (length rest) 12 then Err fault.Cut else Ok 
 
 -- how a pcap file begins behind its first twelve bytes, and what is left
 abbrev pub classic_start : Order → List ℕ → Result (Form × List ℕ) FileFault
-classic_start order xs = and_then (classic_form order (take 12 xs)) (λ f. Ok (f, drop 12 xs))
+classic_start order xs = then_known (classic_form order (take 12 xs)) (λ f. Ok (f, drop 12 xs))
 
 -- how a pcapng file begins by its first twelve bytes and what follows, and what is left
 abbrev pub blocks_start : List ℕ → List ℕ → Result (Form × List ℕ) FileFault
 blocks_start first xs =
-    and_then (block_head Big first) (λ head. and_then (rest_turn (record { order = head.order; interfaces = [] }) head xs) (λ t. Ok (t.form, t.left)))
+    then_known (block_head Big first) (λ head. then_known (rest_turn (record { order = head.order; interfaces = [] }) head xs) (λ t. Ok (t.form, t.left)))
 
 -- how a file begins behind its first twelve bytes
 abbrev pub start_at : Start → List ℕ → Result (Form × List ℕ) FileFault
@@ -95,7 +95,7 @@ start_at start.Blocks xs = blocks_start (take 12 xs) (drop 12 xs)
 
 -- how a capture begins: its form, and what is left
 abbrev pub start_of : List ℕ → Result (Form × List ℕ) FileFault
-start_of xs = and_then (what_begins (take 12 xs)) (λ s. start_at s xs)
+start_of xs = then_known (what_begins (take 12 xs)) (λ s. start_at s xs)
 
 -- a call answers and leaves how a capture begins, unless a read failed or memory was refused
 abbrev pub Begins : Result (Form × List ℕ) FileFault → Result Form FileFault → Option (List ℕ) → Type 0

@@ -1,5 +1,5 @@
 -- The frames of packet blocks, and their moments (pcapng, sections 4.3 and 4.4).
-use Rattle.std.specs.Prelude.{ℕ, ◌+◌, ◌*◌, ◌-◌, ◌/◌, ◌^◌, ◌==◌, List, length, max, min, nat_le, nat_lt, Result, Ok, Err, if◌then◌else◌}
+use Rattle.std.specs.Prelude.{ℕ, ◌+◌, ◌*◌, ◌-◌, ◌/◌, ◌==◌, List, length, max, min, nat_le, nat_lt, Result, Ok, Err, if◌then◌else◌}
 use Rattle.pfs_capture_files.specs.declared.orders.Order.{Order}
 use Rattle.pfs_capture_files.specs.declared.interfaces.Interface.{Interface}
 use Rattle.pfs_capture_files.specs.declared.frames.Frame.{Frame}
@@ -18,8 +18,8 @@ abbrev pub within_range : ℕ → Moment
 within_range second = if nat_le second 4294967295 then At second else Outside
 
 -- The second of a moment: whole seconds of the interface's units, and the interface's offset, a signed number of 64 bits.
-abbrev pub moment_of : Interface → ℕ → Moment
-moment_of interface units =
+abbrev pub frame_moment : Interface → ℕ → Moment
+frame_moment interface units =
     if nat_lt interface.offset 9223372036854775808
     then within_range (units / max interface.units 1 + interface.offset)
     else (if nat_lt (units / max interface.units 1) (18446744073709551616 - interface.offset) then Outside
@@ -32,7 +32,7 @@ enhanced_frame order interface body =
     if nat_lt (length body) 16 then Err fault.Block
     else (if nat_lt most_of_frame (u32_in order body 8) then Err fault.TooLong
     else (if nat_lt (length body - 16) (u32_in order body 8) then Err fault.Block
-    else Ok (record { link = interface.link; moment = moment_of interface (u32_in order body 0 * 4294967296 + u32_in order body 4); from = 16; count = u32_in order body 8 })))
+    else Ok (record { link = interface.link; moment = frame_moment interface (u32_in order body 0 * 4294967296 + u32_in order body 4); from = 16; count = u32_in order body 8 })))
 
 -- how many bytes a simple packet block keeps of so many
 abbrev pub kept_of : Interface → ℕ → ℕ

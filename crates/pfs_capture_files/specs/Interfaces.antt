@@ -1,5 +1,5 @@
 -- The interfaces of a section (pcapng, section 4.2).
-use Rattle.std.specs.Prelude.{ℕ, ◌+◌, ◌-◌, ◌^◌, ◌&&◌, List, length, nat_le, nat_lt, Option, Some, None, Result, Ok, Err, if◌then◌else◌, slice_index}
+use Rattle.std.specs.Prelude.{ℕ, ◌-◌, ◌^◌, ◌&&◌, List, length, nat_le, nat_lt, Result, Ok, Err, if◌then◌else◌, slice_index}
 use Rattle.std.specs.Option.{option_map_or}
 use Rattle.pfs_capture_files.specs.declared.orders.Order.{Order}
 use Rattle.pfs_capture_files.specs.declared.interfaces.Interface.{Interface}
@@ -9,9 +9,9 @@ use Rattle.pfs_capture_files.specs.Orders.{u32_in, u64_in}
 use Rattle.pfs_capture_files.specs.Options.{find_option}
 
 -- what follows from something that is read, or else the fault
-abbrev pub and_then : {A B : Type 0} → Result A FileFault → (A → Result B FileFault) → Result B FileFault
-and_then (Ok x) more = more x
-and_then (Err f) more = Err f
+abbrev pub then_known : {A B : Type 0} → Result A FileFault → (A → Result B FileFault) → Result B FileFault
+then_known (Ok x) more = more x
+then_known (Err f) more = Err f
 
 -- how many units a second has: a power of 10, or where the highest bit is set of 2 (if_tsresol)
 abbrev pub units_of : ℕ → Result ℕ FileFault
@@ -31,4 +31,4 @@ offset_of order body = option_map_or (λ at. u64_in order body at) (find_option 
 abbrev pub interface_of : Order → ℕ → List ℕ → Result Interface FileFault
 interface_of order link body =
     if nat_lt (length body) 4 then Err fault.Block
-    else and_then (units_told order body) (λ units. Ok (record { link = link; kept = u32_in order body 0; units = units; offset = offset_of order body }))
+    else then_known (units_told order body) (λ units. Ok (record { link = link; kept = u32_in order body 0; units = units; offset = offset_of order body }))

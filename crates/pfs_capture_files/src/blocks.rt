@@ -1,7 +1,7 @@
 // The blocks of a pcapng file.
 
 ghost use Rattle.std.specs.Prelude.{◌≡◌, ◌-◌, ◌≤◌, [], IfOk, length};
-ghost use Rattle.pfs_capture_files.specs.Blocks.{Takes, added, block_head, body_item, held_in, interface_at, order_of_block, order_of_magic};
+ghost use Rattle.pfs_capture_files.specs.Blocks.{TakesItem, added, block_head, body_item, held_in, described_at, order_of_block, order_of_magic};
 
 use crate::faults::FileFault;
 use crate::frames::{Item, enhanced_frame, simple_frame};
@@ -114,7 +114,7 @@ impl Section {
     // What a block holds, by how it begins and what follows; what is known of the section changes as it says. At a fault anything
     // may be known.
     pub fn take(&mut self, head: BlockHead, rest: &[u8]) -> Result<Item, FileFault>
-        ensures { Takes (body_item self.old head rest.now) result self.new }
+        ensures { TakesItem (body_item self.old head rest.now) result self.new }
     {
         match head.kind {
             SECTION => {
@@ -131,7 +131,7 @@ impl Section {
     }
 
     fn add(&mut self, interface: Interface) -> Result<Item, FileFault>
-        ensures { Takes (added self.old interface) result self.new }
+        ensures { TakesItem (added self.old interface) result self.new }
     {
         if self.interfaces.len() >= MOST_INTERFACES {
             return Err(FileFault::Interfaces);
@@ -164,7 +164,7 @@ impl Section {
 
     // The interface of this number, from 0.
     fn interface(&self, number: usize) -> Result<Interface, FileFault>
-        ensures { result ≡ interface_at self.now number }
+        ensures { result ≡ described_at self.now number }
     {
         match self.interfaces.get(number) {
             Some(interface) => Ok(*interface),

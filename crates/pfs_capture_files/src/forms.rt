@@ -2,7 +2,7 @@
 
 ghost use Rattle.std.specs.Prelude.{◌≡◌, ◌≤◌, ℕ, List, Some};
 ghost use Rattle.pfs_capture_files.specs.declared.forms.Form.TheVariants as form;
-ghost use Rattle.pfs_capture_files.specs.Forms.{Begins, Reads, block_turn, blocks_start, classic_form, classic_start, frame_turn, record_turn, rest_turn, start_of, start_of_magic, turn_of, what_begins};
+ghost use Rattle.pfs_capture_files.specs.Forms.{Begins, ReadsItem, block_turn, blocks_start, classic_form, classic_start, frame_turn, record_turn, rest_turn, start_of, start_of_magic, turn_of, what_begins};
 
 use crate::blocks::{BlockHead, SECTION, Section, block_head};
 use crate::classic::record_frame;
@@ -59,7 +59,7 @@ pub fn read_item<R: Read>(
     buffer: &mut Vec<u8>,
     form: &mut Form,
 ) -> Result<Item, FileFault>
-    ensures { (xs : List ℕ) → R.remaining reader.old ≡ Some xs → Reads (turn_of form.old xs) result form.new buffer.new.items (R.remaining reader.new) }
+    ensures { (xs : List ℕ) → R.remaining reader.old ≡ Some xs → ReadsItem (turn_of form.old xs) result form.new buffer.new.items (R.remaining reader.new) }
 {
     match form {
         Form::Classic(order, link) => next_record(reader, buffer, *order, *link),
@@ -134,7 +134,7 @@ fn next_record<R: Read>(
     order: Order,
     link: u16,
 ) -> Result<Item, FileFault>
-    ensures { (xs : List ℕ) → R.remaining reader.old ≡ Some xs → Reads (record_turn order link xs) result (form.Classic order link) buffer.new.items (R.remaining reader.new) }
+    ensures { (xs : List ℕ) → R.remaining reader.old ≡ Some xs → ReadsItem (record_turn order link xs) result (form.Classic order link) buffer.new.items (R.remaining reader.new) }
 {
     fill(reader, buffer, 16)?;
     if buffer.is_empty() {
@@ -152,7 +152,7 @@ fn read_frame<R: Read>(
     frame: Frame,
 ) -> Result<Item, FileFault>
     requires { frame.count ≤ 524288 }
-    ensures { (xs : List ℕ) → R.remaining reader.old ≡ Some xs → Reads (frame_turn order frame xs) result (form.Classic order frame.link) buffer.new.items (R.remaining reader.new) }
+    ensures { (xs : List ℕ) → R.remaining reader.old ≡ Some xs → ReadsItem (frame_turn order frame xs) result (form.Classic order frame.link) buffer.new.items (R.remaining reader.new) }
 {
     fill(reader, buffer, frame.count)?;
     if buffer.len() < frame.count {
@@ -167,7 +167,7 @@ fn next_block<R: Read>(
     buffer: &mut Vec<u8>,
     section: &mut Section,
 ) -> Result<Item, FileFault>
-    ensures { (xs : List ℕ) → R.remaining reader.old ≡ Some xs → Reads (block_turn section.old xs) result (form.Blocks section.new) buffer.new.items (R.remaining reader.new) }
+    ensures { (xs : List ℕ) → R.remaining reader.old ≡ Some xs → ReadsItem (block_turn section.old xs) result (form.Blocks section.new) buffer.new.items (R.remaining reader.new) }
 {
     fill(reader, buffer, 12)?;
     if buffer.is_empty() {
@@ -185,7 +185,7 @@ fn read_rest<R: Read>(
     head: BlockHead,
 ) -> Result<Item, FileFault>
     requires { head.count ≤ 524288 }
-    ensures { (xs : List ℕ) → R.remaining reader.old ≡ Some xs → Reads (rest_turn section.old head xs) result (form.Blocks section.new) buffer.new.items (R.remaining reader.new) }
+    ensures { (xs : List ℕ) → R.remaining reader.old ≡ Some xs → ReadsItem (rest_turn section.old head xs) result (form.Blocks section.new) buffer.new.items (R.remaining reader.new) }
 {
     fill(reader, buffer, head.count)?;
     if buffer.len() < head.count {

@@ -1,7 +1,7 @@
 // The frames that items of a file hold, and their moments.
 
 ghost use Rattle.std.specs.Prelude.{◌≡◌, ◌+◌, ◌≤◌, length};
-ghost use Rattle.pfs_capture_files.specs.Frames.{enhanced_frame, moment_of, simple_frame, within_range};
+ghost use Rattle.pfs_capture_files.specs.Frames.{enhanced_frame, frame_moment, simple_frame, within_range};
 
 use crate::faults::FileFault;
 use crate::interfaces::Interface;
@@ -99,7 +99,7 @@ pub fn simple_frame(interface: &Interface, told: u32, body: &[u8]) -> Result<Fra
 
 // The second of a moment that is told in an interface's units.
 fn moment_of(interface: &Interface, units: u64) -> Moment
-    ensures { result ≡ moment_of interface.now units }
+    ensures { result ≡ frame_moment interface.now units }
 {
     let second = units / interface.units.max(1);
     if interface.offset < 9_223_372_036_854_775_808 {

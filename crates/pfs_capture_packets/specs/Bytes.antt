@@ -6,5 +6,5 @@ abbrev pub u16_at : List ℕ → ℕ → ℕ
 u16_at bytes at = slice_index bytes at * 256 + slice_index bytes (at + 1)
 
 -- so many bytes from a place on
-abbrev pub part_at : List ℕ → ℕ → ℕ → List ℕ
-part_at bytes at count = take count (drop at bytes)
+abbrev pub octets_at : List ℕ → ℕ → ℕ → List ℕ
+octets_at bytes at count = take count (drop at bytes)

@@ -38,7 +38,7 @@ behind_extension bytes place =
     else behind_authentication bytes place
 
 -- where the walk of a layer goes from a header: behind IPv4's own header stand authentication headers alone (RFC 4302, section 3.1)
-abbrev pub behind : Layer → List ℕ → Place → Next
-behind layer.Link bytes place = behind_label bytes place
-behind layer.Ip4 bytes place = behind_authentication bytes place
-behind layer.Ip6 bytes place = behind_extension bytes place
+abbrev pub header_behind : Layer → List ℕ → Place → Next
+header_behind layer.Link bytes place = behind_label bytes place
+header_behind layer.Ip4 bytes place = behind_authentication bytes place
+header_behind layer.Ip6 bytes place = behind_extension bytes place

@@ -5,7 +5,7 @@ use Rattle.pfs_addr_values.specs.Names.{name_of}
 use Rattle.pfs_addr_values.specs.declared.packets.Dir.{Dir}
 use Rattle.pfs_addr_values.specs.declared.packets.Dir.TheVariants.{In, Out}
 use Rattle.pfs_capture_packets.specs.declared.logs.Logged.{Logged}
-use Rattle.pfs_capture_packets.specs.Bytes.{part_at}
+use Rattle.pfs_capture_packets.specs.Bytes.{octets_at}
 
 -- how many bytes a text has that ends before the first zero
 abbrev pub text_length : List ℕ → ℕ
@@ -16,8 +16,8 @@ abbrev pub name_at : List ℕ → Option (List ℕ)
 name_at field = name_of 15 (take (text_length field) field)
 
 -- PF_IN is 1, PF_OUT is 2
-abbrev pub dir_at : ℕ → Option Dir
-dir_at byte = if byte == 1 then Some In else (if byte == 2 then Some Out else None)
+abbrev pub logged_dir_at : ℕ → Option Dir
+logged_dir_at byte = if byte == 1 then Some In else (if byte == 2 then Some Out else None)
 
 -- what follows from something that is there
 abbrev pub if_some : {A B : Type 0} → Option A → (A → Option B) → Option B
@@ -28,5 +28,5 @@ if_some (Some x) more = more x
 abbrev pub logged_of : List ℕ → Option Logged
 logged_of frame =
     if nat_le (0 + 61) (length frame)
-    then if_some (dir_at (slice_index frame 60)) (λ dir. if_some (name_at (part_at frame 4 16)) (λ ifname. Some (record { dir = dir; ifname = ifname })))
+    then if_some (logged_dir_at (slice_index frame 60)) (λ dir. if_some (name_at (octets_at frame 4 16)) (λ ifname. Some (record { dir = dir; ifname = ifname })))
     else None

@@ -16,21 +16,21 @@ use Rattle.pfs_capture_packets.specs.declared.packets.Reason.TheVariants as reas
 use Rattle.pfs_capture_packets.specs.declared.packets.Carried.{Carried}
 use Rattle.pfs_capture_packets.specs.declared.packets.Carried.TheVariants.{Tcp, Udp, Other}
 use Rattle.pfs_capture_packets.specs.declared.packets.IpPacket.{IpPacket}
-use Rattle.pfs_capture_packets.specs.Bytes.{u16_at, part_at}
+use Rattle.pfs_capture_packets.specs.Bytes.{u16_at, octets_at}
 use Rattle.pfs_capture_packets.specs.Links.{first_place, link_of}
 use Rattle.pfs_capture_packets.specs.Walks.{walk_from}
 
 -- what follows from a part of a frame that is read, or else the reason why it is none
-abbrev pub and_then : {A B : Type 0} → Result A Reason → (A → Result B Reason) → Result B Reason
-and_then (Ok x) more = more x
-and_then (Err r) more = Err r
+abbrev pub then_read : {A B : Type 0} → Result A Reason → (A → Result B Reason) → Result B Reason
+then_read (Ok x) more = more x
+then_read (Err r) more = Err r
 
 -- the four bytes of an IPv4 address, and the sixteen of an IPv6 address
 abbrev pub v4_at : List ℕ → ℕ → Addr
-v4_at packet at = V4 (part_at packet at 4)
+v4_at packet at = V4 (octets_at packet at 4)
 
 abbrev pub v6_at : List ℕ → ℕ → Addr
-v6_at packet at = V6 (part_at packet at 16)
+v6_at packet at = V6 (octets_at packet at 16)
 
 -- the flags of a TCP header, from the lowest bit on: FIN, SYN, RST, PSH, ACK, URG (RFC 9293, section 3.1), ECE, CWR (RFC 3168,
 -- section 6.1)
@@ -66,7 +66,7 @@ carried_at packet place = carried_by (proto_of (place.kind % 256)) packet place.
 
 -- what is carried behind the headers that follow a packet's own
 abbrev pub found_at : Layer → List ℕ → Place → Result Carried Reason
-found_at which packet first = and_then (walk_from (length packet) which packet first) (λ place. carried_at packet place)
+found_at which packet first = then_read (walk_from (length packet) which packet first) (λ place. carried_at packet place)
 
 -- where a packet ends that tells so many bytes behind its first ones, of those that were captured: what a link fills up is none of
 -- it. Of 0 it tells no length, as where a network card cuts it, or where it is a jumbogram (RFC 2675, section 3).
@@ -80,7 +80,7 @@ ipv4_in packet =
     if nat_lt (length packet) 20 then Err reason.Cut
     else (if not (slice_index packet 0 / 16 == 4) || nat_lt (slice_index packet 0 % 16 * 4) 20 then Err reason.NotIp
     else (if u16_at packet 6 % 8192 == 0
-    then and_then (found_at layer.Ip4 (take (own_length (length packet) 0 (u16_at packet 2)) packet) (record { kind = slice_index packet 9; at = slice_index packet 0 % 16 * 4 }))
+    then then_read (found_at layer.Ip4 (take (own_length (length packet) 0 (u16_at packet 2)) packet) (record { kind = slice_index packet 9; at = slice_index packet 0 % 16 * 4 }))
     (λ carried. Ok (record { source = v4_at packet 12; destination = v4_at packet 16; carried = carried }))
     else Err reason.LaterFragment))
 
@@ -89,20 +89,20 @@ abbrev pub ipv6_in : List ℕ → Result IpPacket Reason
 ipv6_in packet =
     if nat_lt (length packet) 40 then Err reason.Cut
     else (if slice_index packet 0 / 16 == 6
-    then and_then (found_at layer.Ip6 (take (own_length (length packet) 40 (u16_at packet 4)) packet) (record { kind = slice_index packet 6; at = 40 }))
+    then then_read (found_at layer.Ip6 (take (own_length (length packet) 40 (u16_at packet 4)) packet) (record { kind = slice_index packet 6; at = 40 }))
     (λ carried. Ok (record { source = v6_at packet 8; destination = v6_at packet 24; carried = carried }))
     else Err reason.NotIp)
 
 -- the packet of this EtherType that begins at a place
-abbrev pub packet_at : List ℕ → Place → Result IpPacket Reason
-packet_at frame place =
+abbrev pub framed_packet_at : List ℕ → Place → Result IpPacket Reason
+framed_packet_at frame place =
     if nat_le (place.at + 0) (length frame)
     then (if place.kind == 0x0800 then ipv4_in (drop place.at frame) else (if place.kind == 0x86dd then ipv6_in (drop place.at frame) else Err reason.NotIp))
     else Err reason.Cut
 
 -- the packet in a frame of a link, behind the link's header and all tags and labels
 abbrev pub packet_in : Link → List ℕ → Result IpPacket Reason
-packet_in link frame = and_then (first_place link frame) (λ first. and_then (walk_from (length frame) layer.Link frame first) (λ place. packet_at frame place))
+packet_in link frame = then_read (first_place link frame) (λ first. then_read (walk_from (length frame) layer.Link frame first) (λ place. framed_packet_at frame place))
 
 -- the outermost IP packet of a frame of this link type, or the one reason why there is none
 abbrev pub packet_of : ℕ → List ℕ → Result IpPacket Reason

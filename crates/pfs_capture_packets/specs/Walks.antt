@@ -6,7 +6,7 @@ use Rattle.pfs_capture_packets.specs.declared.walks.Next.{Next}
 use Rattle.pfs_capture_packets.specs.declared.walks.Next.TheVariants.{On, Here, Stop}
 use Rattle.pfs_capture_packets.specs.declared.packets.Reason.{Reason}
 use Rattle.pfs_capture_packets.specs.declared.packets.Reason.TheVariants as reason
-use Rattle.pfs_capture_packets.specs.Headers.{behind}
+use Rattle.pfs_capture_packets.specs.Headers.{header_behind}
 
 -- what follows where a walk goes on, where it has come to, or why it stops
 abbrev pub at_next : {A : Type 0} → Next → (Place → A) → A → (Reason → A) → A
@@ -17,4 +17,4 @@ at_next (Stop r) on here stop = stop r
 -- the header at which a walk ends, of at most so many
 unfoldable pub walk_from : ℕ → Layer → List ℕ → Place → Result Place Reason
 walk_from zero layer bytes place = Err reason.NotIp
-walk_from (suc n) layer bytes place = at_next (behind layer bytes place) (λ next. walk_from n layer bytes next) (Ok place) Err
+walk_from (suc n) layer bytes place = at_next (header_behind layer bytes place) (λ next. walk_from n layer bytes next) (Ok place) Err

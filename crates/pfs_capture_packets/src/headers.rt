@@ -1,7 +1,7 @@
 // What stands behind a header of each layer.
 
 ghost use Rattle.std.specs.Prelude.{◌≡◌};
-ghost use Rattle.pfs_capture_packets.specs.Headers.{behind, behind_authentication, behind_extension};
+ghost use Rattle.pfs_capture_packets.specs.Headers.{header_behind, behind_authentication, behind_extension};
 ghost use Rattle.pfs_capture_packets.specs.Labels.{behind_label};
 
 use crate::bytes::{holds, read_u16};
@@ -11,7 +11,7 @@ use crate::walks::{Layer, Next, Place};
 
 // Where the walk of a layer goes from a header.
 pub fn behind(layer: Layer, bytes: &[u8], place: Place) -> Next
-    ensures { result ≡ behind layer bytes.now place }
+    ensures { result ≡ header_behind layer bytes.now place }
 {
     match layer {
         Layer::Link => behind_label(bytes, place),

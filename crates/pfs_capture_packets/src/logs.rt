@@ -2,7 +2,7 @@
 
 ghost use Rattle.std.specs.Prelude.{◌≡◌, ◌==◌, ◌<◌, ◌≤◌, IfSome, length, position, true};
 ghost use Rattle.pfs_addr_values.specs.Names.{is_name};
-ghost use Rattle.pfs_capture_packets.specs.Logs.{dir_at, logged_of, name_at, text_length};
+ghost use Rattle.pfs_capture_packets.specs.Logs.{logged_dir_at, logged_of, name_at, text_length};
 
 use crate::bytes::holds;
 use pfs_addr_values::{Dir, IfName, parse_ifname};
@@ -31,7 +31,7 @@ pub fn read_log(frame: &[u8]) -> Option<Logged>
 }
 
 fn dir_at(byte: u8) -> Option<Dir>
-    ensures { result ≡ dir_at byte }
+    ensures { result ≡ logged_dir_at byte }
 {
     match byte {
         1 => Some(Dir::In),

@@ -2,7 +2,7 @@
 
 ghost use Rattle.std.specs.Prelude.{◌≡◌, length};
 ghost use Rattle.pfs_capture_packets.specs.Walks.{walk_from};
-ghost use Rattle.pfs_capture_packets.specs.Headers.{behind};
+ghost use Rattle.pfs_capture_packets.specs.Headers.{header_behind};
 
 use crate::headers::behind;
 use crate::packets::Reason;

@@ -1,13 +1,11 @@
 -- The columns of a row are read as the packet of the row.
-use Rattle.std.proofs.Common.{◌≡◌, ◌≢◌, ◌≤◌, ◌<◌, ◌^◌, ℕ, Bool, true, false, List, Option, Some, None, Ok, refl, ap, ◌∙◌, arith}
-use Rattle.std.specs.Prelude.{codes, decimal, nat_le, if◌then◌else◌, unwrap_or}
+use Rattle.std.proofs.Common.{◌≡◌, ◌≤◌, ◌<◌, ◌^◌, ℕ, true, false, Option, Some, None, Ok, refl, ap, ◌∙◌, arith}
+use Rattle.std.specs.Prelude.{codes, decimal, nat_le, unwrap_or}
 use Rattle.std.specs.Str.{bytes_eq}
 use Rattle.std.proofs.lemmas.Bool.{cond-true, le-leb}
 use Rattle.std.proofs.lemmas.Map.Entries.{option_filter}
 use Rattle.pfs_addr_values.specs.Addresses.{addr_text, same_family}
-use Rattle.pfs_addr_values.specs.FlagSets.{flags_of}
 use Rattle.pfs_addr_values.specs.Names.{is_name}
-use Rattle.pfs_addr_values.specs.Numbers.{number_of}
 use Rattle.pfs_addr_values.specs.Protocols.{proto_in}
 use Rattle.pfs_addr_values.specs.declared.packets.Dir.{Dir}
 use Rattle.pfs_addr_values.specs.declared.packets.Dir.TheVariants.{In, Out}
@@ -20,7 +18,7 @@ use Rattle.pfs_capture_packets.specs.Packets.{IsCarried}
 use Rattle.pfs_capture_packets.specs.declared.packets.Carried.{Carried}
 use Rattle.pfs_capture_packets.specs.declared.packets.Carried.TheVariants.{Tcp, Udp, Other}
 use Rattle.pfs_capture_rows.specs.declared.rows.Row.{Row}
-use Rattle.pfs_capture_rows.specs.FlagLetters.{letters_text}
+use Rattle.pfs_capture_rows.specs.FlagLetters.{row_letters}
 use Rattle.pfs_capture_rows.specs.Rows.{dir_name, event_of, flags_of_carried, from_port, port_text, proto_carried, proto_name, row_fields, to_port}
 use Rattle.pfs_capture_rows.proofs.Letters.{flags_again}
 use Rattle.pfs_capture_rows.proofs.Protocols.{proto_again, proto_known}
@@ -52,7 +50,7 @@ to_again (Tcp from to flags) h = number_again 65535 to h.1 (omega arith)
 to_again (Udp from to) h = number_again 65535 to h.1 (omega arith)
 to_again (Other n) h = refl
 
-letters_again : (c : Carried) → flags_for (proto_carried c) (letters_text (flags_of_carried c)) ≡ Some (flags_of_carried c)
+letters_again : (c : Carried) → flags_for (proto_carried c) (row_letters (flags_of_carried c)) ≡ Some (flags_of_carried c)
 letters_again (Tcp from to flags) = flags_again flags
 letters_again (Udp from to) = refl
 letters_again (Other n) = refl

@@ -16,18 +16,18 @@ use Rattle.pfs_engine_machine.specs.declared.events.What.TheVariants as what
 use Rattle.pfs_capture_packets.specs.declared.packets.Carried.{Carried}
 use Rattle.pfs_capture_packets.specs.declared.packets.Carried.TheVariants.{Tcp, Udp, Other}
 use Rattle.pfs_capture_rows.specs.declared.rows.Row.{Row}
-use Rattle.pfs_capture_rows.specs.FlagLetters.{letters_text}
+use Rattle.pfs_capture_rows.specs.FlagLetters.{row_letters}
 
 -- whether a packet comes in or goes out, with the commas around it
-abbrev pub dir_text : Dir → List ℕ
-dir_text In = codes ",in,"
-dir_text Out = codes ",out,"
+abbrev pub row_dir : Dir → List ℕ
+row_dir In = codes ",in,"
+row_dir Out = codes ",out,"
 
 -- the protocol, with the commas around it
-abbrev pub proto_text : Carried → List ℕ
-proto_text (Tcp from to flags) = codes ",tcp,"
-proto_text (Udp from to) = codes ",udp,"
-proto_text (Other n) = codes "," ++ (decimal n ++ codes ",")
+abbrev pub row_proto : Carried → List ℕ
+row_proto (Tcp from to flags) = codes ",tcp,"
+row_proto (Udp from to) = codes ",udp,"
+row_proto (Other n) = codes "," ++ (decimal n ++ codes ",")
 
 -- the ports, which TCP and UDP have
 abbrev pub from_port : Carried → Option ℕ
@@ -55,20 +55,20 @@ abbrev pub port_text : Option ℕ → List ℕ
 port_text port = option_map_or (λ n. decimal n) port []
 
 -- an end, and the comma behind it
-abbrev pub end_text : Addr → Option ℕ → List ℕ
-end_text addr port = addr_text addr ++ (codes "," ++ (port_text port ++ codes ","))
+abbrev pub row_end : Addr → Option ℕ → List ℕ
+row_end addr port = addr_text addr ++ (codes "," ++ (port_text port ++ codes ","))
 
 -- the columns in front of the ends
 abbrev pub start_text : Row → List ℕ
-start_text row = decimal row.second ++ (dir_text row.dir ++ (row.ifname ++ proto_text row.packet.carried))
+start_text row = decimal row.second ++ (row_dir row.dir ++ (row.ifname ++ row_proto row.packet.carried))
 
 -- the row of a packet, up to the end of its line
-abbrev pub row_text : Row → List ℕ
-row_text row =
+abbrev pub capture_row : Row → List ℕ
+capture_row row =
     start_text row
-    ++ (end_text row.packet.source (from_port row.packet.carried)
-    ++ (end_text row.packet.destination (to_port row.packet.carried)
-    ++ (letters_text (flags_of_carried row.packet.carried) ++ codes "\n")))
+    ++ (row_end row.packet.source (from_port row.packet.carried)
+    ++ (row_end row.packet.destination (to_port row.packet.carried)
+    ++ (row_letters (flags_of_carried row.packet.carried) ++ codes "\n")))
 
 -- ---- what a replay reads
 
@@ -87,7 +87,7 @@ row_fields row =
     decimal row.second ∷ dir_name row.dir ∷ row.ifname ∷ proto_name row.packet.carried
     ∷ addr_text row.packet.source ∷ port_text (from_port row.packet.carried)
     ∷ addr_text row.packet.destination ∷ port_text (to_port row.packet.carried)
-    ∷ letters_text (flags_of_carried row.packet.carried) ∷ []
+    ∷ row_letters (flags_of_carried row.packet.carried) ∷ []
 
 -- the protocol of what is carried
 abbrev pub proto_carried : Carried → Proto

@@ -1,13 +1,13 @@
 // The letters of TCP flags.
 
 ghost use Rattle.std.specs.Prelude.{◌≡◌, ◌++◌, OnOk};
-ghost use Rattle.pfs_capture_rows.specs.FlagLetters.{letter_text, letters_text};
+ghost use Rattle.pfs_capture_rows.specs.FlagLetters.{row_letter, row_letters};
 
 use pfs_addr_values::{Flags, NoMemory};
 
 // Appends the letters of flags, in the order FSRPAUEW. `NoMemory` where memory was refused; some of them may stand there then.
 pub fn push_letters(out: &mut Vec<u8>, flags: Flags) -> Result<(), NoMemory>
-    ensures { OnOk result (out.new.items ≡ out.old.items ++ letters_text flags) }
+    ensures { OnOk result (out.new.items ≡ out.old.items ++ row_letters flags) }
 {
     push_letter(out, flags.fin, b"F")?;
     push_letter(out, flags.syn, b"S")?;
@@ -20,7 +20,7 @@ pub fn push_letters(out: &mut Vec<u8>, flags: Flags) -> Result<(), NoMemory>
 }
 
 fn push_letter(out: &mut Vec<u8>, is_set: bool, letter: &[u8]) -> Result<(), NoMemory>
-    ensures { OnOk result (out.new.items ≡ out.old.items ++ letter_text is_set letter.now) }
+    ensures { OnOk result (out.new.items ≡ out.old.items ++ row_letter is_set letter.now) }
 {
     if is_set {
         out.extend_from_slice(letter)?;

@@ -7,7 +7,7 @@ ghost use Rattle.pfs_addr_values.specs.Names.{is_name};
 ghost use Rattle.pfs_capture_packets.specs.Packets.{IsCarried};
 ghost use Rattle.pfs_conf_values.specs.Configs.{Conf};
 ghost use Rattle.pfs_cli_formats.specs.Events.{event_at, falls};
-ghost use Rattle.pfs_capture_rows.specs.Rows.{dir_text, end_text, event_of, flags_of_carried, from_port, port_text, proto_text, row_fields, row_text, start_text, to_port};
+ghost use Rattle.pfs_capture_rows.specs.Rows.{row_dir, row_end, event_of, flags_of_carried, from_port, port_text, row_proto, row_fields, capture_row, start_text, to_port};
 
 use crate::flag_letters::push_letters;
 use itoa::Buffer;
@@ -40,7 +40,7 @@ pub fn push_row(out: &mut Vec<u8>, row: &Row) -> Result<(), NoMemory>
     requires second { row.now.second ≤ 4294967295 }
     requires name { is_name 15 row.now.ifname ≡ true }
     requires carried { IsCarried row.now.packet.carried }
-    ensures text { OnOk result (out.new.items ≡ out.old.items ++ row_text row.now) }
+    ensures text { OnOk result (out.new.items ≡ out.old.items ++ capture_row row.now) }
     ensures again { OnOk result ((conf : Conf) (number : ℕ) (last : Option ℕ) → falls last row.now.second ≡ false → event_at conf number last (row_fields row.now) ≡ Ok (event_of row.now)) }
 {
     push_start(out, row)?;
@@ -62,7 +62,7 @@ fn push_start(out: &mut Vec<u8>, row: &Row) -> Result<(), NoMemory>
 }
 
 fn dir_word(dir: Dir) -> &'static str
-    ensures { result.now ≡ dir_text dir }
+    ensures { result.now ≡ row_dir dir }
 {
     match dir {
         Dir::In => ",in,",
@@ -71,7 +71,7 @@ fn dir_word(dir: Dir) -> &'static str
 }
 
 fn push_proto(out: &mut Vec<u8>, carried: &Carried) -> Result<(), NoMemory>
-    ensures { OnOk result (out.new.items ≡ out.old.items ++ proto_text carried.now) }
+    ensures { OnOk result (out.new.items ≡ out.old.items ++ row_proto carried.now) }
 {
     match *carried {
         Carried::Tcp(_, _, _) => out.extend_from_slice(b",tcp,")?,
@@ -87,7 +87,7 @@ fn push_proto(out: &mut Vec<u8>, carried: &Carried) -> Result<(), NoMemory>
 
 // Appends the columns of an end, its port where it has one.
 fn push_end(out: &mut Vec<u8>, addr: Addr, port: Option<u16>) -> Result<(), NoMemory>
-    ensures text { OnOk result (out.new.items ≡ out.old.items ++ end_text addr port) }
+    ensures text { OnOk result (out.new.items ≡ out.old.items ++ row_end addr port) }
     ensures again { addr_of (addr_text addr) ≡ Some addr }
 {
     push_addr(out, addr)?;

@@ -66,7 +66,9 @@ fn inside<'a>(alloc: Global) -> Arg<'a> {
         .long("inside")
         .value_delimiter(',')
         .action(ArgAction::Append)
-        .help("The networks behind the firewall, and its own addresses: a packet to them from elsewhere is in, one from them to elsewhere is out.")
+        .help(
+            "The networks behind the firewall, and its own addresses: a packet to them from elsewhere is in, one from them to elsewhere is out.",
+        )
 }
 
 fn interface_name<'a>(alloc: Global) -> Arg<'a> {
@@ -77,7 +79,9 @@ fn interface_name<'a>(alloc: Global) -> Arg<'a> {
 }
 
 fn capture<'a>(alloc: Global) -> Arg<'a> {
-    Arg::new(alloc, "CAPTURE").help("A capture of tcpdump or of pflogd, or any other pcap or pcapng file.")
+    Arg::new(alloc, "CAPTURE").help(
+        "A capture of tcpdump or of pflogd, or any other pcap or pcapng file.",
+    )
 }
 
 /// Writes the trace that the words ask for; the status.
