@@ -34,11 +34,7 @@ pub fn plain(alloc: Global, first: &[u8], rules: &[u8]) -> Result<Engine<PlainSt
 }
 
 /// An engine over a store by indexes.
-pub fn indexed(
-    alloc: Global,
-    first: &[u8],
-    rules: &[u8],
-) -> Result<Engine<IndexStore>, Fail> {
+pub fn indexed(alloc: Global, first: &[u8], rules: &[u8]) -> Result<Engine<IndexStore>, Fail> {
     let config = configured(alloc, first, rules)?;
     let store = IndexStore::new(alloc, &config)?;
     Ok(Engine::new(alloc, config, store)?)
