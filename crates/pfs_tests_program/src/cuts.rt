@@ -46,14 +46,19 @@ fn records_left(records: &[u8]) -> (usize, bool) {
     (commas / 8, is_begun)
 }
 
-// The replay of a trace that is cut behind so many bytes.
+// The first so many bytes, or all.
+fn front(bytes: &[u8], count: usize) -> &[u8] {
+    &bytes[..count.min(bytes.len())]
+}
+
+// The replay of a trace that is cut behind so many bytes. A header without its line feed is whole.
 fn tell_cut(rt: &(impl Abort + AllocGlobal), trace: &[u8], cut: usize) -> Result<(), Fail> {
-    let left = &trace[..cut];
-    if cut + 1 < HEADER.len() {
+    let left = front(trace, cut);
+    if cut < 43 {
         tell(rt, RULES, left, Err(ReplayFault::Columns(0)), b"");
         return Ok(());
     }
-    let (whole, is_begun) = records_left(&trace[HEADER.len().min(cut)..cut]);
+    let (whole, is_begun) = records_left(&left[HEADER.len().min(left.len())..]);
     let mut report = String::new(rt.alloc());
     for line in LINES.iter().take(whole) {
         report.push_str(line)?;
@@ -83,37 +88,25 @@ fn refused(line: u64, kind: Kind) -> Result<u32, LoadFault> {
     Err(LoadFault { line, kind })
 }
 
-// What the text is read as when it is cut behind a byte, up to this one: how many rules there are, or the fault.
-fn fronts() -> [(usize, Result<u32, LoadFault>); 14] {
-    [
-        (0, Ok(0)),
-        (4, refused(1, Kind::Syntax)),
-        (8, refused(1, Kind::Unsupported)),
-        (17, refused(1, Kind::Syntax)),
-        (19, Ok(0)),
-        (22, refused(2, Kind::Syntax)),
-        (24, Ok(1)),
-        (25, refused(2, Kind::Syntax)),
-        (27, Ok(1)),
-        (33, refused(2, Kind::Syntax)),
-        (35, refused(2, Kind::Unsupported)),
-        (37, Ok(1)),
-        (39, refused(2, Kind::Syntax)),
-        (41, Ok(1)),
-    ]
+// What the text is read as when it is cut behind so many bytes: how many rules there are, or the fault.
+fn read_as(cut: usize) -> Result<u32, LoadFault> {
+    match cut {
+        0 | 18 | 19 => Ok(0),
+        1..=4 | 9..=17 => refused(1, Kind::Syntax),
+        5..=8 => refused(1, Kind::Unsupported),
+        20..=22 | 25 | 28..=33 | 38 | 39 => refused(2, Kind::Syntax),
+        34 | 35 => refused(2, Kind::Unsupported),
+        _ => Ok(1),
+    }
 }
 
 #[test]
 fn rules_are_cut_behind_each_byte(rt: HostRuntime) {
-    let mut next = 0;
-    for (last, wanted) in &fronts() {
-        for cut in next..=*last {
-            let told = load(rt.alloc(), &TEXT[..cut.min(TEXT.len())]);
-            same!(rt; told.map(|config| config.item_count()), *wanted, cut);
-        }
-        next = *last + 1;
+    for cut in 0..42 {
+        let told = load(rt.alloc(), front(TEXT, cut));
+        same!(rt; told.map(|config| config.item_count()), read_as(cut), cut);
     }
-    same!(rt; next, TEXT.len() + 1);
+    same!(rt; TEXT.len(), 41);
 }
 
 // Such spaces, checked: what is written, and how it ends.
@@ -135,18 +128,12 @@ fn checked(
 fn inputs_are_malformed(rt: HostRuntime) -> Result<(), Fail> {
     let trace = trace_of(rt.alloc(), RECORDS)?;
     let two = b"1 new @0\n2 new @0\n".as_slice();
-    let short = trace.len() - 2;
-    tell(
-        &rt,
-        RULES,
-        &trace[..short],
-        Err(ReplayFault::Columns(3)),
-        two,
-    );
+    let short = front(&trace, 177);
+    tell(&rt, RULES, short, Err(ReplayFault::Columns(3)), two);
     let whole = b"1 new @0\n2 new @0\n3 drop:states @0\nend rows=3 states=2 nodes=0 entries=0\n";
-    tell(&rt, RULES, &trace[..short + 1], Ok(()), whole);
+    tell(&rt, RULES, front(&trace, 178), Ok(()), whole);
     let two_and_end = b"1 new @0\n2 new @0\nend rows=2 states=2 nodes=0 entries=0\n";
-    tell(&rt, RULES, &trace[..trace.len() - 45], Ok(()), two_and_end);
+    tell(&rt, RULES, front(&trace, 134), Ok(()), two_and_end);
     tell(&rt, RULES, b"time,dir", Err(ReplayFault::Columns(0)), b"");
     tell_joined(
         &rt,
