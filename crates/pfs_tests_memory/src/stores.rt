@@ -1,7 +1,6 @@
 // Both kinds of store: new ones, and states that are admitted, refused and taken away.
 
 ghost use Rattle.std.specs.Prelude.{◌≡◌};
-ghost use Rattle.pfs_store_contract.specs.Worlds.{IsUpToNow};
 
 use crate::packets::{A1, A2, Sent, packet};
 use pfs_addr_values::{Addr, FlowKey, Meter, NoMemory, Packet};
@@ -73,8 +72,7 @@ pub fn tell_plain(rt: &HostRuntime) -> Result<(), Stop> {
         make_plain(rt, text)?;
     }
     fill_plain(rt)?;
-    fill_plain_again(rt)?;
-    touch_plain(rt)
+    fill_plain_again(rt)
 }
 
 fn make_plain(rt: &HostRuntime, text: &[u8]) -> Result<(), Stop> {
@@ -97,20 +95,13 @@ fn fill_plain_again(rt: &HostRuntime) -> Result<(), Stop> {
     fill_again(rt, &mut store, &config)
 }
 
-fn touch_plain(rt: &HostRuntime) -> Result<(), Stop> {
-    let config = load(rt.alloc(), LIMITED)?;
-    let mut store = PlainStore::new(rt.alloc(), &config)?;
-    touch(rt, &mut store, &config)
-}
-
 /// Indexed stores.
 pub fn tell_indexed(rt: &HostRuntime) -> Result<(), Stop> {
     for text in &[EVERYTHING, NODES, LIMITED] {
         make_indexed(rt, text)?;
     }
     fill_indexed(rt)?;
-    fill_indexed_again(rt)?;
-    touch_indexed(rt)
+    fill_indexed_again(rt)
 }
 
 fn make_indexed(rt: &HostRuntime, text: &[u8]) -> Result<(), Stop> {
@@ -131,12 +122,6 @@ fn fill_indexed_again(rt: &HostRuntime) -> Result<(), Stop> {
     let config = load(rt.alloc(), UNTRACKED)?;
     let mut store = IndexStore::new(rt.alloc(), &config)?;
     fill_again(rt, &mut store, &config)
-}
-
-fn touch_indexed(rt: &HostRuntime) -> Result<(), Stop> {
-    let config = load(rt.alloc(), LIMITED)?;
-    let mut store = IndexStore::new(rt.alloc(), &config)?;
-    touch(rt, &mut store, &config)
 }
 
 fn new_plain(rt: &HostRuntime, config: &Config) -> Result<bool, Stop> {
@@ -305,41 +290,5 @@ fn purge<S: Store>(rt: &HostRuntime, store: &mut S) -> Result<(), Stop> {
     }
     end(rt)?;
     plain(rt, counts(store) == (0, 0, 14))?;
-    Ok(())
-}
-
-// A state is made, and then has a packet, which takes no memory.
-fn touch<S: Store>(rt: &HostRuntime, store: &mut S, config: &Config) -> Result<(), Stop>
-    requires made_for { S.config store.old ≡ config.now }
-    requires order { IsUpToNow 5 (S.world store.old) }
-{
-    let packet = packet(Sent::Udp, A1, 1)?;
-    make(store, config, &packet)?;
-    let Some(number) = store.find(&FlowKey::of(&packet)) else {
-        return Err(Stop::Input);
-    };
-    let before = counts(store);
-    let mut meter = Meter::new();
-    begin_free(rt, "touch")?;
-    let touched = store.touch(number, &packet, 5, &mut meter);
-    end(rt)?;
-    let is_right = (touched.rule, touched.source, touched.completed) == (RuleNo(0), A1, false);
-    plain(rt, is_right && counts(store) == before)?;
-    Ok(())
-}
-
-// The packet makes a state of the first rule.
-fn make<S: Store>(store: &mut S, config: &Config, packet: &Packet) -> Result<(), Stop>
-    requires made_for { S.config store.old ≡ config.now }
-    requires order { IsUpToNow 5 (S.world store.old) }
-    ensures order { IsUpToNow 5 (S.world store.new) }
-{
-    if store.find(&FlowKey::of(packet)).is_some()
-        || config.options(RuleNo(0)).is_none()
-        || store.made() >= 1_000_000_000
-    {
-        return Err(Stop::Input);
-    }
-    let _ = store.admit(packet, RuleNo(0), 5)?;
     Ok(())
 }

@@ -64,7 +64,7 @@ fn tell_cut(rt: &(impl Abort + AllocGlobal), trace: &[u8], cut: usize) -> Result
         report.push_str(line)?;
     }
     if is_begun {
-        let fault = ReplayFault::Columns(whole as u64 + 1);
+        let fault = ReplayFault::Columns((whole as u64).wrapping_add(1));
         tell(rt, RULES, left, Err(fault), report.as_bytes());
         return Ok(());
     }
