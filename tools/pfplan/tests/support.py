@@ -1,6 +1,7 @@
 """What tests share: calls of ./pfplan, a folder of their own, and records and reports that are drawn by hand."""
 
 import os
+import signal
 import subprocess
 import sys
 import tempfile
@@ -13,6 +14,11 @@ from ..inputs import HEADER
 from ..replays import TOP
 
 STAND_IN = Path(__file__).resolve().parent / "stand_in.py"
+
+
+def heed_interrupts() -> None:
+    """For a program that a test interrupts: where the tests run in the background, an interrupt would be ignored."""
+    signal.signal(signal.SIGINT, signal.SIG_DFL)
 
 
 @dataclass(frozen=True)

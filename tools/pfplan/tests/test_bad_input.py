@@ -11,7 +11,7 @@ from pathlib import Path
 from ..errors import Status
 from ..inputs import HEADER
 from ..replays import TOP
-from .support import STAND_IN, FolderCase, pfplan
+from .support import STAND_IN, FolderCase, heed_interrupts, pfplan
 
 RECORD = "0,in,em0,udp,203.0.113.1,1000,192.0.2.1,53,"
 STATUSES = {int(it) for it in Status}
@@ -181,7 +181,8 @@ class BadInput(FolderCase):
     def interrupt(self, number: int, program: Path, *words: object) -> None:
         """Runs a command, interrupts it, and sees that nothing is left that looks whole."""
         given = [sys.executable, str(TOP / "pfplan"), *map(str, words)]
-        process = subprocess.Popen(given, stderr=subprocess.PIPE, stdout=subprocess.PIPE, text=True, env=os.environ | {"PFSRC": str(program)})
+        around = os.environ | {"PFSRC": str(program)}
+        process = subprocess.Popen(given, stderr=subprocess.PIPE, stdout=subprocess.PIPE, text=True, env=around, preexec_fn=heed_interrupts)
         time.sleep(2)
         process.send_signal(number)
         out, err = process.communicate(timeout=30)

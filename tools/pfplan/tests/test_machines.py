@@ -16,7 +16,7 @@ from .. import machines
 from ..errors import Trouble
 from ..machines import Machines, Runs
 from ..replays import TOP
-from .support import STAND_IN, FolderCase, pfplan
+from .support import STAND_IN, FolderCase, heed_interrupts, pfplan
 
 ENV = {"PFSRC": str(STAND_IN)}
 RECORDS = [f"{at},in,em0,tcp,198.51.100.{at + 1},1000,192.0.2.1,80,S" for at in range(20)]
@@ -77,7 +77,7 @@ class RunsHere(FolderCase):
         files = [str(self.write("rules", rules)), str(self.trace(RECORDS))]
         command = [sys.executable, str(TOP / "pfplan"), "size", *files, "--users", "198.51.100.0/24", "--held", "0", *map(str, words)]
         around = os.environ | ENV | {"TMPDIR": str(self.folder)}
-        return subprocess.Popen(command, stdout=subprocess.PIPE, stderr=subprocess.PIPE, text=True, env=around, start_new_session=True)
+        return subprocess.Popen(command, stdout=subprocess.PIPE, stderr=subprocess.PIPE, text=True, env=around, start_new_session=True, preexec_fn=heed_interrupts)
 
     def test_size(self) -> None:
         process = self.size("--vary", "states=1..40", "--json", "--jobs", "3", "--grid", "3")
