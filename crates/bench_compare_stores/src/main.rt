@@ -9,7 +9,7 @@ ghost use Rattle.pfs_engine_machine.specs.Runs.{MayExpire};
 use csv::{ByteRecord, Reader, ReaderBuilder};
 use pfs_cli_formats::{EndLine, TraceFault, has_columns, push_end, push_row, read_event};
 use pfs_conf::{Config, LoadFault, TableNo, load};
-use pfs_engine::{Engine, Event, Outcome, What};
+use pfs_engine::{Arrival, Engine, Event, Outcome};
 use pfs_store::{IndexStore, PlainStore, Store};
 use std::alloc::Global;
 use std::env;
@@ -200,9 +200,9 @@ fn take<S: Store>(engine: &mut Engine<S>, event: &Event) -> Result<Outcome, Stop
     }
     engine.advance(event.time);
     match &event.what {
-        What::Packet(packet) => engine.packet(packet).map_err(|_| Stop::Memory),
-        What::Skip => Ok(Outcome::Skip),
-        What::Expire { table, seconds } => {
+        Arrival::Packet(packet) => engine.packet(packet).map_err(|_| Stop::Memory),
+        Arrival::Skip => Ok(Outcome::Skip),
+        Arrival::Expire { table, seconds } => {
             if !may_expire(engine.config(), *table) {
                 return Err(Stop::Event);
             }

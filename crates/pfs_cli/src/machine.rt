@@ -6,7 +6,7 @@ ghost use Rattle.pfs_engine_machine.specs.Machine.{step};
 ghost use Rattle.pfs_engine_machine.specs.Runs.{MayCome};
 
 use pfs_addr_values::NoMemory;
-use pfs_engine::{Engine, Event, Outcome, What};
+use pfs_engine::{Arrival, Engine, Event, Outcome};
 use pfs_store_contract::Store;
 
 /// Takes one event, at its moment: the purges due are done, and then what comes. After `NoMemory` the purges are done, and
@@ -22,8 +22,8 @@ pub(crate) fn take<H: Store>(engine: &mut Engine<H>, event: &Event) -> Result<Ou
 {
     engine.advance(event.time);
     match &event.what {
-        What::Packet(packet) => engine.packet(packet),
-        What::Skip => Ok(Outcome::Skip),
-        What::Expire { table, seconds } => Ok(Outcome::Expire(engine.expire(*table, *seconds))),
+        Arrival::Packet(packet) => engine.packet(packet),
+        Arrival::Skip => Ok(Outcome::Skip),
+        Arrival::Expire { table, seconds } => Ok(Outcome::Expire(engine.expire(*table, *seconds))),
     }
 }

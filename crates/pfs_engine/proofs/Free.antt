@@ -19,7 +19,7 @@ use Rattle.pfs_engine_machine.specs.Runs.{IsRefusedIn}
 use Rattle.pfs_engine_machine.specs.declared.events.Event.{Event}
 use Rattle.pfs_engine_machine.specs.declared.events.Outcome.{Outcome}
 use Rattle.pfs_engine_machine.specs.declared.events.Outcome.TheVariants as outcome
-use Rattle.pfs_engine_machine.specs.declared.events.What.TheVariants as what
+use Rattle.pfs_engine_machine.specs.declared.events.Arrival.TheVariants as arrival
 use Rattle.pfs_engine.specs.Packets.{NeedsNone, NeedsNoneAt, NeedsNoneBy}
 
 free_limit : (conf : Conf) (m : Held) (p : Header) (now rule : ℕ) (limit : Option Limit) → IsFree conf p (by_limit conf m p now rule limit).0 → IsSome limit
@@ -53,7 +53,7 @@ needs_none conf m p now free = free_state conf m p now (state_with (key_of p) m.
 
 -- ---- memory that was refused was needed
 
-pub refused_in : {E : Type 0} (conf : Conf) (m at new : Machine) (e : Event) (p : Header) (r : Result Outcome E) → e.what ≡ what.Packet p
+pub refused_in : {E : Type 0} (conf : Conf) (m at new : Machine) (e : Event) (p : Header) (r : Result Outcome E) → e.what ≡ arrival.Packet p
     → at ≡ advanced conf m e.time → OnErr r (new ≡ at) → (IsFree conf p (answered conf at.held p (moment_of at.last)).0 → IsOk r)
     → OnErr r ((q : Header) × IsRefusedIn conf m e q new)
 refused_in conf m at new e p (Ok o) comes is same free = tt

@@ -23,7 +23,7 @@ use crate::purges::purge_due;
 use crate::works::Work;
 use pfs_addr_values::{Meter, NoMemory, Packet};
 use pfs_conf_values::{Config, LimitName, TableNo};
-use pfs_engine_machine::{Event, Outcome, What};
+use pfs_engine_machine::{Arrival, Event, Outcome};
 use pfs_eval::{Book, Tables};
 use pfs_store_contract::Store;
 use std::alloc::Global;
@@ -299,9 +299,9 @@ impl<S: Store> Engine<S> {
     {
         self.advance(event.time);
         match &event.what {
-            What::Packet(packet) => self.packet(packet),
-            What::Skip => Ok(Outcome::Skip),
-            What::Expire { table, seconds } => Ok(Outcome::Expire(self.expire(*table, *seconds))),
+            Arrival::Packet(packet) => self.packet(packet),
+            Arrival::Skip => Ok(Outcome::Skip),
+            Arrival::Expire { table, seconds } => Ok(Outcome::Expire(self.expire(*table, *seconds))),
         }
     }
 }

@@ -32,7 +32,7 @@ use Rattle.pfs_engine_machine.specs.Rates.{history_score}
 use Rattle.pfs_engine_machine.specs.declared.events.Event.{Event}
 use Rattle.pfs_engine_machine.specs.declared.events.Outcome.{Outcome}
 use Rattle.pfs_engine_machine.specs.declared.events.Outcome.TheVariants as outcome
-use Rattle.pfs_engine_machine.specs.declared.events.What.TheVariants.{Expire, Packet, Skip}
+use Rattle.pfs_engine_machine.specs.declared.events.Arrival.TheVariants.{Expire, Packet, Skip}
 
 -- ---- configurations: limits of states and nodes, the timeouts that differ, tables and items
 

@@ -26,8 +26,8 @@ use Rattle.pfs_store_contract.specs.declared.records.State.{State}
 use Rattle.pfs_engine_machine.specs.declared.events.Event.{Event}
 use Rattle.pfs_engine_machine.specs.declared.events.Outcome.{Outcome}
 use Rattle.pfs_engine_machine.specs.declared.events.Outcome.TheVariants as outcome
-use Rattle.pfs_engine_machine.specs.declared.events.What.{What}
-use Rattle.pfs_engine_machine.specs.declared.events.What.TheVariants as what
+use Rattle.pfs_engine_machine.specs.declared.events.Arrival.{Arrival}
+use Rattle.pfs_engine_machine.specs.declared.events.Arrival.TheVariants as arrival
 
 -- what is held: the states and source nodes, and the entries of each table
 pub record Held : Type 0 where
@@ -148,10 +148,10 @@ expired h first now table seconds =
     (outcome.Expire (expired_count h.tables table first now seconds), held_of h.world (entries_expired h.tables table first now seconds))
 
 -- what comes
-abbrev pub handled : Conf → Held → ℕ → ℕ → What → Outcome × Held
-handled conf h first now what.Skip = (outcome.Skip, h)
-handled conf h first now (what.Packet p) = answered conf h p now
-handled conf h first now (what.Expire table seconds) = expired h first now table.0 seconds
+abbrev pub handled : Conf → Held → ℕ → ℕ → Arrival → Outcome × Held
+handled conf h first now arrival.Skip = (outcome.Skip, h)
+handled conf h first now (arrival.Packet p) = answered conf h p now
+handled conf h first now (arrival.Expire table seconds) = expired h first now table.0 seconds
 
 -- what it leaves is held
 abbrev pub leaving : Machine → Outcome × Held → Outcome × Machine

@@ -14,8 +14,8 @@ use Rattle.pfs_engine_machine.specs.Rates.{handshake_at, history_score}
 use Rattle.pfs_engine_machine.specs.declared.events.Event.{Event}
 use Rattle.pfs_engine_machine.specs.declared.events.Outcome.{Outcome}
 use Rattle.pfs_engine_machine.specs.declared.events.Outcome.TheVariants as outcome
-use Rattle.pfs_engine_machine.specs.declared.events.What.{What}
-use Rattle.pfs_engine_machine.specs.declared.events.What.TheVariants as what
+use Rattle.pfs_engine_machine.specs.declared.events.Arrival.{Arrival}
+use Rattle.pfs_engine_machine.specs.declared.events.Arrival.TheVariants as arrival
 
 -- in the run of these events one comes after others and completes the handshake of this state, whose rule has this rate
 pub record IsHandshake (conf : Conf) (events before : List Event) (e : Event) (s : State) (rate : Rate) : Type 0 where
@@ -24,10 +24,10 @@ pub record IsHandshake (conf : Conf) (events before : List Event) (e : Event) (s
   pub rated : (options_of conf s.rule.0).max_src_conn_rate ≡ Some rate
 
 -- the score that is compared with the limit where a packet completes the handshake of a state: that of its node, with this handshake
-abbrev pub score_compared : Conf → World → ℕ → What → State → Score
-score_compared conf w now what.Skip s = zero_score
-score_compared conf w now (what.Packet p) s = score_in s.source (touched conf w s p now).nodes (node_scope_of conf s.rule.0)
-score_compared conf w now (what.Expire table seconds) s = zero_score
+abbrev pub score_compared : Conf → World → ℕ → Arrival → State → Score
+score_compared conf w now arrival.Skip s = zero_score
+score_compared conf w now (arrival.Packet p) s = score_in s.source (touched conf w s p now).nodes (node_scope_of conf s.rule.0)
+score_compared conf w now (arrival.Expire table seconds) s = zero_score
 
 -- at each handshake of a rule with a rate, that score is the one of the whole history of its source's handshakes
 abbrev pub ScoreIsRemembered : Conf → List Event → Type 0

@@ -7,7 +7,7 @@ use pfs_store_contract::Limit;
 
 /// What comes at a moment.
 #[derive(Clone, Copy, Debug, PartialEq, Eq)]
-pub enum What {
+pub enum Arrival {
     /// A packet.
     Packet(Packet),
     /// A record that no state is made of: ICMP or ICMPv6, of which a trace does not tell enough.
@@ -27,7 +27,7 @@ pub struct Event {
     /// The moment, in whole seconds: 0 to 4294967295.
     pub time: u64,
     /// What comes.
-    pub what: What,
+    pub what: Arrival,
 }
 
 /// What the machine did with an event. (pf.conf(5), STATEFUL FILTERING and STATEFUL TRACKING OPTIONS)

@@ -5,7 +5,7 @@ use crate::packets::{A1, A2, ACK, SYN, SYN_ACK, Sent, packet};
 use crate::scripts::{Came, Case, Script};
 use pfs_addr_values::Addr;
 use pfs_conf::RuleNo;
-use pfs_engine::{Added, Engine, Event, Limit, Outcome, What, Work};
+use pfs_engine::{Added, Arrival, Engine, Event, Limit, Outcome, Work};
 use pfs_store_contract::Store;
 use std::process::Abort;
 use std::test::Fail;
@@ -402,7 +402,7 @@ fn look<S: Store>(
 ) -> Result<(), Fail> {
     pass_time(rt, engine, event.time);
     same!(rt; engine.work().looks <= of_time, true, event);
-    if let What::Packet(packet) = &event.what {
+    if let Arrival::Packet(packet) = &event.what {
         same!(rt; take(rt, engine, packet)?, outcome, event);
         same!(rt; engine.work().looks <= of_packet, true, event);
     }

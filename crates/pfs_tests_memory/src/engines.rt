@@ -7,7 +7,7 @@ ghost use Rattle.pfs_engine_machine.specs.Runs.{AreAllowed, IsInOrder, MayCome, 
 use crate::packets::{A1, A2, Sent, packet};
 use pfs_addr_values::{Addr, NoMemory, Packet};
 use pfs_conf::{Config, RuleNo, TableNo, load};
-use pfs_engine::{Added, Engine, Event, Limit, Outcome, What};
+use pfs_engine::{Added, Arrival, Engine, Event, Limit, Outcome};
 use pfs_store::{IndexStore, PlainStore, Store};
 use pfs_tests_telling::{
     CONNECTIONS, FULL, NODES, OVERLOAD, Stop, answered, begin, begin_free, end, plain, refused,
@@ -328,7 +328,7 @@ fn event_of(row: &Row) -> Result<Event, Stop> {
     let packet = packet(sent, source, port)?;
     Ok(Event {
         time,
-        what: What::Packet(packet),
+        what: Arrival::Packet(packet),
     })
 }
 
@@ -406,11 +406,11 @@ fn may_expire(config: &Config, table: TableNo) -> bool
     table.0 < config.table_count() && !config.is_const(table)
 }
 
-fn may_come(config: &Config, what: &What) -> bool
+fn may_come(config: &Config, what: &Arrival) -> bool
     ensures { result ≡ true → MayCome config.now what.now }
 {
     match what {
-        What::Expire { table, .. } => may_expire(config, *table),
+        Arrival::Expire { table, .. } => may_expire(config, *table),
         _ => true,
     }
 }
