@@ -1,6 +1,6 @@
 -- The moment of the machine is that of its last event, and what a record says of its own moment.
 use Rattle.std.proofs.Common.{◌≡◌, ◌<◌, ◌≤◌, ℕ, List, Bool, true, false, Option, Some, None, refl, sym, ap, ◌∙◌, arith, subst}
-use Rattle.std.specs.Prelude.{Result, Ok, Err, IfOk, codes, cond, not, ◌^◌, ◌==◌, if◌then◌else◌, length, nat_le, nat_lt, ok_or, option_map, slice_get}
+use Rattle.std.specs.Prelude.{Result, Ok, Err, codes, cond, not, ◌^◌, ◌==◌, if◌then◌else◌, length, nat_le, nat_lt, ok_or, option_map, slice_get}
 use Rattle.std.specs.Option.{ForSome, option_map_or}
 use Rattle.std.proofs.lemmas.Map.Entries.{option_filter}
 use Rattle.std.specs.List.{position_or_len}
@@ -10,12 +10,9 @@ use Rattle.pfs_addr_values.specs.Numbers.{number_of}
 use Rattle.pfs_addr_values.specs.Packets.{Header}
 use Rattle.pfs_conf_values.specs.Configs.{Conf, has_name, is_const_table, table_named}
 use Rattle.pfs_conf_values.specs.declared.filters.TableNo.{TableNo}
-use Rattle.pfs_engine_machine.specs.Kept.{moment_of}
-use Rattle.pfs_engine_machine.specs.Machine.{Machine, handled, advanced, answered, expired, first_by, leaving, step}
+use Rattle.pfs_engine_machine.specs.Machine.{Machine, step}
 use Rattle.pfs_engine_machine.specs.Runs.{MayCome, MayExpire}
 use Rattle.pfs_engine_machine.specs.declared.events.Event.{Event}
-use Rattle.pfs_engine_machine.specs.declared.events.Outcome.{Outcome}
-use Rattle.pfs_engine_machine.specs.declared.events.Outcome.TheVariants as outcome
 use Rattle.pfs_engine_machine.specs.declared.events.Arrival.{Arrival}
 use Rattle.pfs_engine_machine.specs.declared.events.Arrival.TheVariants as arrival
 use Rattle.pfs_cli_formats.specs.declared.faults.TraceFault.{TraceFault}
@@ -159,37 +156,3 @@ event-read conf row last fields e q = by_length (length fields == 9) q
         → IsEvent conf last e
     by_length true h = by_time (number_to 4294967295 (column_of fields 1)) refl h
     by_length false h = cc
-
--- ---- one event is its moment, and then what comes
-
--- what comes of an event, by what it is
-abbrev stepped : Conf → Machine → ℕ → Arrival → Outcome × Machine
-stepped conf m now w = leaving (advanced conf m now) (handled conf (advanced conf m now).held (first_by m.first now) now w)
-
-pub step-skip : (conf : Conf) (m new : Machine) (e : Event) → new ≡ advanced conf m e.time → e.what ≡ arrival.Skip → (outcome.Skip, new) ≡ step conf m e
-unfolding step
-step-skip conf m new e is comes = ap (λ (a : Machine). (outcome.Skip, a)) is ∙ ap (stepped conf m e.time) (sym comes)
-
--- a machine is what it holds and its moments
-rebuilt : (m now : Machine) → m.first ≡ now.first → m.last ≡ now.last → m ≡ record { held = m.held; first = now.first; last = now.last }
-rebuilt m now first last =
-    ap (λ (l : Option ℕ). let a : Machine = record { held = m.held; first = m.first; last = l } in a) last
-    ∙ ap (λ (f : Option ℕ). let a : Machine = record { held = m.held; first = f; last = now.last } in a) first
-
-pub step-packet : {E : Type 0} (conf after : Conf) (m now new : Machine) (e : Event) (p : Header) (r : Result Outcome E) → after ≡ conf → now ≡ advanced conf m e.time → e.what ≡ arrival.Packet p
-    → new.first ≡ now.first → new.last ≡ now.last → IfOk r (λ o. (o, new.held) ≡ answered after now.held p (moment_of now.last)) → IfOk r (λ o. (o, new) ≡ step conf m e)
-unfolding step
-step-packet conf after m now new e p (Err f) same is comes first last h = tt
-step-packet conf after m now new e p (Ok o) same is comes first last h =
-    let answer : (o, new.held) ≡ answered conf (advanced conf m e.time).held p e.time = rw (same, is) at h in
-    ap (λ (a : Machine). (o, a)) (rebuilt new (advanced conf m e.time) (first ∙ ap (λ (a : Machine). a.first) is) (last ∙ ap (λ (a : Machine). a.last) is))
-    ∙ (ap (leaving (advanced conf m e.time)) answer ∙ ap (stepped conf m e.time) (sym comes))
-
-pub step-expire : (conf : Conf) (m now new : Machine) (e : Event) (table : TableNo) (seconds left : ℕ) → now ≡ advanced conf m e.time → e.what ≡ arrival.Expire table seconds
-    → new.first ≡ now.first → new.last ≡ now.last
-    → (outcome.Expire left, new.held) ≡ expired now.held (moment_of now.first) (moment_of now.last) table.0 seconds → (outcome.Expire left, new) ≡ step conf m e
-unfolding step
-step-expire conf m now new e table seconds left is comes first last h =
-    let gone : (outcome.Expire left, new.held) ≡ expired (advanced conf m e.time).held (first_by m.first e.time) e.time table.0 seconds = rw is at h in
-    ap (λ (a : Machine). (outcome.Expire left, a)) (rebuilt new (advanced conf m e.time) (first ∙ ap (λ (a : Machine). a.first) is) (last ∙ ap (λ (a : Machine). a.last) is))
-    ∙ (ap (leaving (advanced conf m e.time)) gone ∙ ap (stepped conf m e.time) (sym comes))

@@ -28,7 +28,7 @@ use Rattle.pfs_track.specs.declared.scores.Score.{Score}
 use Rattle.pfs_engine_machine.proofs.Counts.{any-push, count-filter_le, count-push}
 use Rattle.pfs_engine_machine.proofs.Scopes.{same_scope_self, same_scope_true}
 use Rattle.pfs_engine_machine.specs.Kept.{moment_of, own_scope}
-use Rattle.pfs_engine_machine.specs.Machine.{Held, Machine, handled, advanced, answered, killed, by_state, by_handshake, due, first_by, held_of, purged, start, step, machine_after, outcomes_of}
+use Rattle.pfs_engine_machine.specs.Machine.{Held, Machine, handled, advanced, answered, by_exceeded, by_state, by_handshake, due, exceeded_of, first_by, held_of, purged, start, step, machine_after, outcomes_of}
 use Rattle.pfs_engine_machine.specs.Rates.{Handshake, completed_by, folded, handshake_at, handshake_by, handshakes, history_score, is_from, moments_of, with_handshake}
 use Rattle.pfs_engine_machine.specs.Runs.{IsInOrder}
 use Rattle.pfs_engine_machine.specs.declared.events.Event.{Event}
@@ -301,8 +301,9 @@ score-in conf x now history w p s i found act_done r =
 
 -- the outcome tells whether the score is over the limit
 rate-hit : (conf : Conf) (h : Held) (s : State) (now : ℕ) (conn rate : Bool)
-    → rate_hit (if conn || rate then killed conf h s.number s.rule s.source now conn rate else (outcome.State s.rule, h)).0 ≡ rate
-rate-hit conf h s now true rate = refl
+    → rate_hit (by_exceeded conf h s.number s.rule s.source now (exceeded_of conn rate)).0 ≡ rate
+rate-hit conf h s now true true = refl
+rate-hit conf h s now true false = refl
 rate-hit conf h s now false true = refl
 rate-hit conf h s now false false = refl
 

@@ -30,6 +30,17 @@ pub struct Event {
     pub what: Arrival,
 }
 
+/// Which limits on connections a completed handshake exceeded. (pf.conf(5), STATEFUL TRACKING OPTIONS)
+#[derive(Clone, Copy, Debug, PartialEq, Eq)]
+pub enum Exceeded {
+    /// `max-src-conn` alone.
+    Connections,
+    /// `max-src-conn-rate` alone.
+    Rate,
+    /// Both.
+    Both,
+}
+
 /// What the machine did with an event. (pf.conf(5), STATEFUL FILTERING and STATEFUL TRACKING OPTIONS)
 #[derive(Clone, Copy, Debug, PartialEq, Eq)]
 pub enum Outcome {
@@ -47,10 +58,8 @@ pub enum Outcome {
     Kill {
         /// The rule of the state.
         rule: RuleNo,
-        /// Whether `max-src-conn` was exceeded.
-        conn: bool,
-        /// Whether `max-src-conn-rate` was exceeded.
-        rate: bool,
+        /// The limits that were exceeded.
+        exceeded: Exceeded,
         /// What became of the source in the rule's overload table; none where the rule has none.
         overload: Option<Added>,
         /// How many states were killed.

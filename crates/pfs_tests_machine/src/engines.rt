@@ -58,6 +58,8 @@ pub fn tell(rt: &(impl Abort + AllocGlobal), first: &[u8], case: &Case) -> Resul
     ends(rt, plain(alloc, first, case.rules)?, &script, case)?;
     ends(rt, tallied(alloc, first, case.rules)?, &script, case)?;
     ends(rt, indexed(alloc, first, case.rules)?, &script, case)?;
+    steps(rt, plain(alloc, first, case.rules)?, &script, case)?;
+    steps(rt, indexed(alloc, first, case.rules)?, &script, case)?;
     runs(rt, plain(alloc, first, case.rules)?, &script, case)?;
     runs(rt, indexed(alloc, first, case.rules)?, &script, case)
 }
@@ -124,6 +126,24 @@ fn ends<S: Store + Drop>(
         };
         same!(rt; told, *outcome, (case.shows, event));
         assert!(rt; !matches!(told, Outcome::Drop(..)) || held(&engine) == before);
+    }
+    check_end(rt, &engine, script, case);
+    Ok(())
+}
+
+// Each event by one call, and what is held after them
+fn steps<S: Store + Drop>(
+    rt: &impl Abort,
+    engine: Engine<S>,
+    script: &Script,
+    case: &Case,
+) -> Result<(), Fail> {
+    let mut engine = engine;
+    for (event, outcome) in script.events.iter().zip(&script.outcomes) {
+        assert!(rt; is_in_time(engine.last(), event.time));
+        assert!(rt; engine.taken() < 1_000_000_000);
+        assert!(rt; may_come(engine.config(), &event.what));
+        same!(rt; engine.step(event)?, *outcome, (case.shows, event));
     }
     check_end(rt, &engine, script, case);
     Ok(())

@@ -7,7 +7,7 @@ ghost use Rattle.pfs_engine_machine.specs.Runs.{AreAllowed, IsInOrder, MayCome, 
 use crate::packets::{A1, A2, Sent, packet};
 use pfs_addr_values::{Addr, NoMemory, Packet};
 use pfs_conf::{Config, RuleNo, TableNo, load};
-use pfs_engine::{Added, Arrival, Engine, Event, Limit, Outcome};
+use pfs_engine::{Added, Arrival, Engine, Event, Exceeded, Limit, Outcome};
 use pfs_store::{IndexStore, PlainStore, Store};
 use pfs_tests_telling::{
     CONNECTIONS, FULL, NODES, OVERLOAD, Stop, answered, begin, begin_free, end, plain, refused,
@@ -60,8 +60,7 @@ const CASES: &[Case] = &[
                 1001,
                 Outcome::Kill {
                     rule: RuleNo(2),
-                    conn: true,
-                    rate: false,
+                    exceeded: Exceeded::Connections,
                     overload: Some(Added::New),
                     killed: 2,
                 },
@@ -86,8 +85,7 @@ const CASES: &[Case] = &[
                 1001,
                 Outcome::Kill {
                     rule: RuleNo(0),
-                    conn: true,
-                    rate: false,
+                    exceeded: Exceeded::Connections,
                     overload: Some(Added::Full),
                     killed: 1,
                 },
@@ -116,8 +114,7 @@ const CASES: &[Case] = &[
                 1001,
                 Outcome::Kill {
                     rule: RuleNo(1),
-                    conn: true,
-                    rate: false,
+                    exceeded: Exceeded::Connections,
                     overload: None,
                     killed: 1,
                 },
