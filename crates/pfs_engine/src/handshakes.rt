@@ -1,6 +1,6 @@
 //! A packet of a held state: what its handshake hits, the overload table, and the states that are killed.
 
-ghost use Rattle.std.specs.Prelude.{◌≡◌, ◌≤◌, ◌<◌, ◌+◌, ◌^◌, true, false, None, Some, filter, length, option_map, IfOk, IsOk, OnErr, OnOk};
+ghost use Rattle.std.specs.Prelude.{◌≡◌, ◌≤◌, ◌<◌, ◌^◌, true, false, None, Some, filter, length, option_map, IfOk, IsOk, OnErr, OnOk};
 ghost use Rattle.std.specs.Option.{ForSome, option_copied};
 ghost use Rattle.pfs_addr_values.specs.Keys.{key_of};
 ghost use Rattle.pfs_conf_values.specs.Configs.{Conf, limit_of, options_at, options_of};

@@ -1,5 +1,5 @@
 -- Every act of a run leaves the score of a source's node with the future of its history's, so that the two laws of rates hold.
-use Rattle.std.proofs.Common.{◌≡◌, ℕ, suc, zero, ◌+◌, ◌-◌, ◌*◌, ◌<◌, ◌≤◌, Bool, true, false, nat_lt, ◌&&◌, ◌||◌, cond, if◌then◌else◌, ◌==◌, List, [], ◌∷◌, ◌++◌, filter, map, take, Option, Some, None, refl, ap, ◌∙◌, sym, subst, arith}
+use Rattle.std.proofs.Common.{◌≡◌, ℕ, suc, zero, ◌+◌, ◌-◌, ◌*◌, ◌<◌, ◌≤◌, Bool, true, false, nat_lt, ◌&&◌, ◌||◌, cond, ◌==◌, List, [], ◌∷◌, ◌++◌, filter, map, take, Option, Some, None, refl, ap, ◌∙◌, sym, subst, arith}
 use Rattle.std.specs.Option.{ForSome}
 use Rattle.std.specs.List.{range_with_len}
 use Rattle.std.specs.Prelude.{length, option_map, slice_get}
@@ -32,7 +32,6 @@ use Rattle.pfs_engine_machine.specs.Machine.{Held, Machine, handled, advanced, a
 use Rattle.pfs_engine_machine.specs.Rates.{Handshake, completed_by, folded, handshake_at, handshake_by, handshakes, history_score, is_from, moments_of, with_handshake}
 use Rattle.pfs_engine_machine.specs.Runs.{IsInOrder}
 use Rattle.pfs_engine_machine.specs.declared.events.Event.{Event}
-use Rattle.pfs_engine_machine.specs.declared.events.Outcome.TheVariants as outcome
 use Rattle.pfs_engine_machine.specs.declared.events.Arrival.{Arrival}
 use Rattle.pfs_engine_machine.specs.declared.events.Arrival.TheVariants as arrival
 use Rattle.pfs_engine_machine.proofs.PacketChanges.{Changes, answered_has}
