@@ -365,7 +365,10 @@ fn step<S: Store>(
     end(rt)?;
     let is_there = engine.last() == Some(event.time);
     match answer {
-        Ok(outcome) => plain(rt, is_there && outcome == row.4 && engine.taken() == taken + 1),
+        Ok(outcome) => plain(
+            rt,
+            is_there && outcome == row.4 && engine.taken() == taken + 1,
+        ),
         Err(_) => refused(rt, is_there && engine.taken() == taken),
     }
 }
