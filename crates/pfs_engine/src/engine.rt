@@ -279,9 +279,9 @@ impl<S: Store> Engine<S> {
         match &event.what {
             Arrival::Packet(packet) => self.packet(packet),
             Arrival::Skip => Ok(Outcome::Skip),
-            Arrival::Expire { table, seconds } => Ok(Outcome::Expire(self.expire(
-                *table, *seconds,
-            ))),
+            Arrival::Expire { table, seconds } => {
+                Ok(Outcome::Expire(self.expire(*table, *seconds)))
+            }
         }
     }
 
