@@ -4,12 +4,12 @@
 
 ghost use Rattle.std.specs.Prelude.{◌≡◌, ◌<◌, ◌≤◌, ◌^◌, true};
 ghost use Rattle.std.specs.Option.{ForSome};
-ghost use Rattle.pfs_engine_machine.specs.Runs.{MayExpire};
+ghost use Rattle.pfs_engine_machine.specs.Runs.{MayCome, MayExpire};
 
 use csv::{ByteRecord, Reader, ReaderBuilder};
 use pfs_cli_formats::{EndLine, TraceFault, has_columns, push_end, push_row, read_event};
 use pfs_conf::{Config, LoadFault, TableNo, load};
-use pfs_engine::{Engine, Event, Outcome, What};
+use pfs_engine::{Arrival, Engine, Event, Outcome};
 use pfs_store::{IndexStore, PlainStore, Store};
 use std::alloc::Global;
 use std::env;
@@ -198,17 +198,10 @@ fn take<S: Store>(engine: &mut Engine<S>, event: &Event) -> Result<Outcome, Stop
     if !is_in_time(engine.last(), event.time) || engine.taken() >= 1_000_000_000 {
         return Err(Stop::Event);
     }
-    engine.advance(event.time);
-    match &event.what {
-        What::Packet(packet) => engine.packet(packet).map_err(|_| Stop::Memory),
-        What::Skip => Ok(Outcome::Skip),
-        What::Expire { table, seconds } => {
-            if !may_expire(engine.config(), *table) {
-                return Err(Stop::Event);
-            }
-            Ok(Outcome::Expire(engine.expire(*table, *seconds)))
-        }
+    if !may_come(engine.config(), &event.what) {
+        return Err(Stop::Event);
     }
+    engine.step(event).map_err(|_| Stop::Memory)
 }
 
 // How many states, source nodes and entries are held, and how many packets were taken.
@@ -237,6 +230,15 @@ fn is_in_time(last: Option<u64>, time: u64) -> bool
     match last {
         Some(last) => last <= time && time <= 4294967295,
         None => time <= 4294967295,
+    }
+}
+
+fn may_come(config: &Config, what: &Arrival) -> bool
+    ensures { result ≡ true → MayCome config.now what.now }
+{
+    match what {
+        Arrival::Expire { table, .. } => may_expire(config, *table),
+        _ => true,
     }
 }
 

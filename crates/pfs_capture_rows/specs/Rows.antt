@@ -12,7 +12,7 @@ use Rattle.pfs_addr_values.specs.Protocols.{is_icmp}
 use Rattle.pfs_addr_values.specs.declared.protocols.Proto.{Proto}
 use Rattle.pfs_addr_values.specs.declared.protocols.Proto.TheVariants as proto
 use Rattle.pfs_engine_machine.specs.declared.events.Event.{Event}
-use Rattle.pfs_engine_machine.specs.declared.events.What.TheVariants as what
+use Rattle.pfs_engine_machine.specs.declared.events.Arrival.TheVariants as arrival
 use Rattle.pfs_capture_packets.specs.declared.packets.Carried.{Carried}
 use Rattle.pfs_capture_packets.specs.declared.packets.Carried.TheVariants.{Tcp, Udp, Other}
 use Rattle.pfs_capture_rows.specs.declared.rows.Row.{Row}
@@ -108,4 +108,4 @@ header_of row = record {
 
 -- what a replay has of a row: its packet, or of ICMP a record that it skips
 abbrev pub event_of : Row → Event
-event_of row = record { time = row.second; what = option_map_or what.Packet (if is_icmp (proto_carried row.packet.carried) then None else Some (header_of row)) what.Skip }
+event_of row = record { time = row.second; what = option_map_or arrival.Packet (if is_icmp (proto_carried row.packet.carried) then None else Some (header_of row)) arrival.Skip }

@@ -5,7 +5,6 @@
 mod checks;
 mod faults;
 mod joined;
-mod machine;
 mod performing;
 mod records;
 mod replays;

@@ -15,7 +15,6 @@ ghost use Rattle.pfs_cli.specs.Turns.{Tells, WritesLine, TakesEvent, TakesRecord
 ghost use Rattle.pfs_cli_formats.specs.Reading.{records_of, records_left};
 ghost use Rattle.pfs_cli_formats.specs.Traces.{events_of, events_from};
 
-use crate::machine::take;
 use csv::{ByteRecord, Reader, ReaderBuilder};
 use pfs_cli_formats::{EndLine, TraceFault, has_columns, push_end, push_row, read_event};
 use pfs_cli_streams::{Sink, write_whole};
@@ -111,7 +110,7 @@ fn take_event<H: Store, W: Write>(
         × TakesEvent engine.old.config row engine.old.machine event.now t result engine.new.machine }
     ensures fails { result ≡ Err (Stop.Write) → 0 < failures_of out.new }
 {
-    match take(engine, event) {
+    match engine.step(event) {
         Ok(outcome) => write_row(row, &outcome, line, out),
         Err(_) => Err(Stop::Memory),
     }

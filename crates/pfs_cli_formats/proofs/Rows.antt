@@ -13,7 +13,7 @@ said (outcome.Pass None) = refl
 said (outcome.Pass (Some r)) = refl
 said (outcome.Block r) = refl
 said (outcome.Drop r l) = simp append_assoc
-said (outcome.Kill r conn rate overload killed) = simp append_assoc
+said (outcome.Kill r limits overload killed) = simp append_assoc
 said outcome.Skip = refl
 said (outcome.Expire removed) = refl
 

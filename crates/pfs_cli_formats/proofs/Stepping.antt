@@ -1,6 +1,6 @@
 -- The moment of the machine is that of its last event, and what a record says of its own moment.
-use Rattle.std.proofs.Common.{◌≡◌, ◌<◌, ◌≤◌, ℕ, List, Bool, true, false, Option, Some, None, refl, sym, ap, ◌∙◌, arith, subst}
-use Rattle.std.specs.Prelude.{Result, Ok, Err, IfOk, codes, cond, not, ◌^◌, ◌==◌, if◌then◌else◌, length, nat_le, nat_lt, ok_or, option_map, slice_get}
+use Rattle.std.proofs.Common.{◌≡◌, ◌<◌, ◌≤◌, ℕ, List, Bool, true, false, Option, Some, None, refl, sym, ap, arith, subst}
+use Rattle.std.specs.Prelude.{Result, Ok, Err, codes, cond, not, ◌^◌, ◌==◌, if◌then◌else◌, length, nat_le, nat_lt, ok_or, option_map, slice_get}
 use Rattle.std.specs.Option.{ForSome, option_map_or}
 use Rattle.std.proofs.lemmas.Map.Entries.{option_filter}
 use Rattle.std.specs.List.{position_or_len}
@@ -10,14 +10,11 @@ use Rattle.pfs_addr_values.specs.Numbers.{number_of}
 use Rattle.pfs_addr_values.specs.Packets.{Header}
 use Rattle.pfs_conf_values.specs.Configs.{Conf, has_name, is_const_table, table_named}
 use Rattle.pfs_conf_values.specs.declared.filters.TableNo.{TableNo}
-use Rattle.pfs_engine_machine.specs.Kept.{moment_of}
-use Rattle.pfs_engine_machine.specs.Machine.{Machine, handled, advanced, answered, expired, first_by, leaving, step}
+use Rattle.pfs_engine_machine.specs.Machine.{Machine, step}
 use Rattle.pfs_engine_machine.specs.Runs.{MayCome, MayExpire}
 use Rattle.pfs_engine_machine.specs.declared.events.Event.{Event}
-use Rattle.pfs_engine_machine.specs.declared.events.Outcome.{Outcome}
-use Rattle.pfs_engine_machine.specs.declared.events.Outcome.TheVariants as outcome
-use Rattle.pfs_engine_machine.specs.declared.events.What.{What}
-use Rattle.pfs_engine_machine.specs.declared.events.What.TheVariants as what
+use Rattle.pfs_engine_machine.specs.declared.events.Arrival.{Arrival}
+use Rattle.pfs_engine_machine.specs.declared.events.Arrival.TheVariants as arrival
 use Rattle.pfs_cli_formats.specs.declared.faults.TraceFault.{TraceFault}
 use Rattle.pfs_cli_formats.specs.declared.faults.TraceFault.TheVariants as fault
 use Rattle.pfs_cli_formats.specs.Events.{changing, column_of, number_to, falls, at_moment, packet_at, expiry_at, event_at, in_column, and_then}
@@ -70,18 +67,18 @@ changing-may conf (Some u) t known e = by (is_const_table (slice_get conf.tables
         subst (λ (x : TableNo). MayExpire conf x.0) same (record { known = known u refl; changes = test })
 
 -- what comes of an expiry may come
-expire-may : (conf : Conf) (seconds : ℕ) (name : List ℕ) (w : What)
-    → option_map (λ t. what.Expire t seconds) (changing conf (table_named conf name)) ≡ Some w → MayCome conf w
+expire-may : (conf : Conf) (seconds : ℕ) (name : List ℕ) (w : Arrival)
+    → option_map (λ t. arrival.Expire t seconds) (changing conf (table_named conf name)) ≡ Some w → MayCome conf w
 expire-may conf seconds name w e = by (changing conf (table_named conf name)) refl e
   where
-    by : (o : Option TableNo) → changing conf (table_named conf name) ≡ o → option_map (λ t. what.Expire t seconds) o ≡ Some w → MayCome conf w
+    by : (o : Option TableNo) → changing conf (table_named conf name) ≡ o → option_map (λ t. arrival.Expire t seconds) o ≡ Some w → MayCome conf w
     by None at h = cc
     by (Some t) at h =
-        let same : what.Expire t seconds ≡ w = cc in
+        let same : arrival.Expire t seconds ≡ w = cc in
         subst (MayCome conf) same (changing-may conf (table_named conf name) t (named-known conf name) at)
 
 -- a packet, and a record that is skipped, may come
-arrived-may : (conf : Conf) (packet : Option Header) → MayCome conf (option_map_or what.Packet packet what.Skip)
+arrived-may : (conf : Conf) (packet : Option Header) → MayCome conf (option_map_or arrival.Packet packet arrival.Skip)
 arrived-may conf None = tt
 arrived-may conf (Some p) = tt
 
@@ -91,11 +88,11 @@ record IsRead (conf : Conf) (last : Option ℕ) (time : ℕ) (e : Event) : Type 
   moment : e.time ≡ time
   may : MayCome conf e.what
 
-moment-read : (conf : Conf) (row : ℕ) (last : Option ℕ) (time : ℕ) (o : Option What) (e : Event) → ((w : What) → o ≡ Some w → MayCome conf w)
+moment-read : (conf : Conf) (row : ℕ) (last : Option ℕ) (time : ℕ) (o : Option Arrival) (e : Event) → ((w : Arrival) → o ≡ Some w → MayCome conf w)
     → at_moment row last time o ≡ Ok e → IsRead conf last time e
 moment-read conf row last time o e may q = by (falls last time) refl q
   where
-    made : falls last time ≡ false → (w : Option What) → o ≡ w
+    made : falls last time ≡ false → (w : Option Arrival) → o ≡ w
         → and_then (ok_or w (fault.Table row)) (λ comes. Ok (record { time = time; what = comes })) ≡ Ok e → IsRead conf last time e
     made test None at h = cc
     made test (Some w) at h =
@@ -113,19 +110,19 @@ moment-read conf row last time o e may q = by (falls last time) refl q
 arrival-read : (conf : Conf) (row : ℕ) (last : Option ℕ) (time : ℕ) (fields : List (List ℕ)) (e : Event) → arrival_at row last time fields ≡ Ok e → IsRead conf last time e
 arrival-read conf row last time fields e q = by (packet_at row fields) q
   where
-    by : (r : Result (Option Header) TraceFault) → and_then r (λ packet. at_moment row last time (Some (option_map_or what.Packet packet what.Skip))) ≡ Ok e → IsRead conf last time e
+    by : (r : Result (Option Header) TraceFault) → and_then r (λ packet. at_moment row last time (Some (option_map_or arrival.Packet packet arrival.Skip))) ≡ Ok e → IsRead conf last time e
     by (Err f) h = cc
     by (Ok o) h =
-        let comes : What = option_map_or what.Packet o what.Skip in
+        let comes : Arrival = option_map_or arrival.Packet o arrival.Skip in
         moment-read conf row last time (Some comes) e (λ w same. let is : comes ≡ w = cc in subst (MayCome conf) is (arrived-may conf o)) h
 
 leaving-read : (conf : Conf) (row : ℕ) (last : Option ℕ) (time : ℕ) (fields : List (List ℕ)) (e : Event) → leaving_at conf row last time fields ≡ Ok e → IsRead conf last time e
 leaving-read conf row last time fields e q = by (expiry_at row fields) q
   where
     by : (r : Result (List ℕ × ℕ) TraceFault)
-        → and_then r (λ read. at_moment row last time (option_map (λ t. what.Expire t read.1) (changing conf (table_named conf read.0)))) ≡ Ok e → IsRead conf last time e
+        → and_then r (λ read. at_moment row last time (option_map (λ t. arrival.Expire t read.1) (changing conf (table_named conf read.0)))) ≡ Ok e → IsRead conf last time e
     by (Err f) h = cc
-    by (Ok x) h = moment-read conf row last time (option_map (λ t. what.Expire t x.1) (changing conf (table_named conf x.0))) e (expire-may conf x.1 x.0) h
+    by (Ok x) h = moment-read conf row last time (option_map (λ t. arrival.Expire t x.1) (changing conf (table_named conf x.0))) e (expire-may conf x.1 x.0) h
 
 -- the event of a record: its moment is not before the last one, and is small, and it may come
 pub record IsEvent (conf : Conf) (last : Option ℕ) (e : Event) : Type 0 where
@@ -159,37 +156,3 @@ event-read conf row last fields e q = by_length (length fields == 9) q
         → IsEvent conf last e
     by_length true h = by_time (number_to 4294967295 (column_of fields 1)) refl h
     by_length false h = cc
-
--- ---- one event is its moment, and then what comes
-
--- what comes of an event, by what it is
-abbrev stepped : Conf → Machine → ℕ → What → Outcome × Machine
-stepped conf m now w = leaving (advanced conf m now) (handled conf (advanced conf m now).held (first_by m.first now) now w)
-
-pub step-skip : (conf : Conf) (m new : Machine) (e : Event) → new ≡ advanced conf m e.time → e.what ≡ what.Skip → (outcome.Skip, new) ≡ step conf m e
-unfolding step
-step-skip conf m new e is comes = ap (λ (a : Machine). (outcome.Skip, a)) is ∙ ap (stepped conf m e.time) (sym comes)
-
--- a machine is what it holds and its moments
-rebuilt : (m now : Machine) → m.first ≡ now.first → m.last ≡ now.last → m ≡ record { held = m.held; first = now.first; last = now.last }
-rebuilt m now first last =
-    ap (λ (l : Option ℕ). let a : Machine = record { held = m.held; first = m.first; last = l } in a) last
-    ∙ ap (λ (f : Option ℕ). let a : Machine = record { held = m.held; first = f; last = now.last } in a) first
-
-pub step-packet : {E : Type 0} (conf after : Conf) (m now new : Machine) (e : Event) (p : Header) (r : Result Outcome E) → after ≡ conf → now ≡ advanced conf m e.time → e.what ≡ what.Packet p
-    → new.first ≡ now.first → new.last ≡ now.last → IfOk r (λ o. (o, new.held) ≡ answered after now.held p (moment_of now.last)) → IfOk r (λ o. (o, new) ≡ step conf m e)
-unfolding step
-step-packet conf after m now new e p (Err f) same is comes first last h = tt
-step-packet conf after m now new e p (Ok o) same is comes first last h =
-    let answer : (o, new.held) ≡ answered conf (advanced conf m e.time).held p e.time = rw (same, is) at h in
-    ap (λ (a : Machine). (o, a)) (rebuilt new (advanced conf m e.time) (first ∙ ap (λ (a : Machine). a.first) is) (last ∙ ap (λ (a : Machine). a.last) is))
-    ∙ (ap (leaving (advanced conf m e.time)) answer ∙ ap (stepped conf m e.time) (sym comes))
-
-pub step-expire : (conf : Conf) (m now new : Machine) (e : Event) (table : TableNo) (seconds left : ℕ) → now ≡ advanced conf m e.time → e.what ≡ what.Expire table seconds
-    → new.first ≡ now.first → new.last ≡ now.last
-    → (outcome.Expire left, new.held) ≡ expired now.held (moment_of now.first) (moment_of now.last) table.0 seconds → (outcome.Expire left, new) ≡ step conf m e
-unfolding step
-step-expire conf m now new e table seconds left is comes first last h =
-    let gone : (outcome.Expire left, new.held) ≡ expired (advanced conf m e.time).held (first_by m.first e.time) e.time table.0 seconds = rw is at h in
-    ap (λ (a : Machine). (outcome.Expire left, a)) (rebuilt new (advanced conf m e.time) (first ∙ ap (λ (a : Machine). a.first) is) (last ∙ ap (λ (a : Machine). a.last) is))
-    ∙ (ap (leaving (advanced conf m e.time)) gone ∙ ap (stepped conf m e.time) (sym comes))

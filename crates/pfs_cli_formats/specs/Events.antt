@@ -20,8 +20,8 @@ use Rattle.pfs_addr_values.specs.declared.protocols.Proto.{Proto}
 use Rattle.pfs_addr_values.specs.declared.protocols.Proto.TheVariants.{Tcp}
 use Rattle.pfs_conf_values.specs.Configs.{Conf, is_const_table, table_named}
 use Rattle.pfs_conf_values.specs.declared.filters.TableNo.{TableNo}
-use Rattle.pfs_engine_machine.specs.declared.events.What.{What}
-use Rattle.pfs_engine_machine.specs.declared.events.What.TheVariants as what
+use Rattle.pfs_engine_machine.specs.declared.events.Arrival.{Arrival}
+use Rattle.pfs_engine_machine.specs.declared.events.Arrival.TheVariants as arrival
 use Rattle.pfs_engine_machine.specs.declared.events.Event.{Event}
 use Rattle.pfs_cli_formats.specs.declared.faults.TraceFault.{TraceFault}
 use Rattle.pfs_cli_formats.specs.declared.faults.TraceFault.TheVariants as fault
@@ -109,7 +109,7 @@ abbrev pub changing : Conf → Option TableNo → Option TableNo
 changing conf table = option_filter (λ t. not (is_const_table (slice_get conf.tables t.0))) table
 
 -- what comes at a moment, unless the moment is before the last one, or the table of a record is none that may change
-abbrev pub at_moment : ℕ → Option ℕ → ℕ → Option What → Result Event TraceFault
+abbrev pub at_moment : ℕ → Option ℕ → ℕ → Option Arrival → Result Event TraceFault
 at_moment row last time comes =
     if falls last time then Err (fault.TimeFell row) else and_then (ok_or comes (fault.Table row)) (λ w. Ok (record { time = time; what = w }))
 
@@ -120,6 +120,6 @@ event_at conf row last fields =
     if length fields == 9
     then in_column row 1 (number_to 4294967295 (column_of fields 1)) (λ time.
     if bytes_eq (column_of fields 2) (codes "expire")
-    then and_then (expiry_at row fields) (λ read. at_moment row last time (option_map (λ t. what.Expire t read.1) (changing conf (table_named conf read.0))))
-    else and_then (packet_at row fields) (λ packet. at_moment row last time (Some (option_map_or what.Packet packet what.Skip))))
+    then and_then (expiry_at row fields) (λ read. at_moment row last time (option_map (λ t. arrival.Expire t read.1) (changing conf (table_named conf read.0))))
+    else and_then (packet_at row fields) (λ packet. at_moment row last time (Some (option_map_or arrival.Packet packet arrival.Skip))))
     else Err (fault.Columns row)

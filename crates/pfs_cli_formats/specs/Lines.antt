@@ -1,10 +1,12 @@
 -- The lines of a report: `ROW WORD @RULE`, and `end rows=R states=S nodes=N entries=E`. (own)
-use Rattle.std.specs.Prelude.{◌++◌, ℕ, Bool, true, false, List, codes, Option, Some, None}
+use Rattle.std.specs.Prelude.{◌++◌, ℕ, List, codes, Option, Some, None}
 use Rattle.std.specs.Fmt.{decimal}
 use Rattle.pfs_conf_values.specs.declared.items.RuleNo.{RuleNo}
 use Rattle.pfs_store_contract.specs.declared.records.Limit.{Limit}
 use Rattle.pfs_store_contract.specs.declared.records.Limit.TheVariants as limit
 use Rattle.pfs_engine_machine.specs.Sources.{Addition, by_addition}
+use Rattle.pfs_engine_machine.specs.declared.events.Exceeded.{Exceeded}
+use Rattle.pfs_engine_machine.specs.declared.events.Exceeded.TheVariants as exceeded
 use Rattle.pfs_engine_machine.specs.declared.events.Outcome.{Outcome}
 use Rattle.pfs_engine_machine.specs.declared.events.Outcome.TheVariants as outcome
 
@@ -16,11 +18,11 @@ limit_word limit.SrcNodes = codes "drop:src-nodes"
 limit_word limit.MaxSrcStates = codes "drop:max-src-states"
 limit_word limit.States = codes "drop:states"
 
--- killed states are told by the limits that were met: `max-src-conn`, `max-src-conn-rate` or both
-abbrev pub kill_word : Bool → Bool → List ℕ
-kill_word true true = codes "kill:max-src-conn+max-src-conn-rate"
-kill_word true false = codes "kill:max-src-conn"
-kill_word false rate = codes "kill:max-src-conn-rate"
+-- killed states are told by the limits that were exceeded: `max-src-conn`, `max-src-conn-rate` or both
+abbrev pub kill_word : Exceeded → List ℕ
+kill_word exceeded.Connections = codes "kill:max-src-conn"
+kill_word exceeded.Rate = codes "kill:max-src-conn-rate"
+kill_word exceeded.Both = codes "kill:max-src-conn+max-src-conn-rate"
 
 -- a rule is written by its number
 abbrev pub mark_text : Option RuleNo → List ℕ
@@ -39,8 +41,8 @@ outcome_text (outcome.New r) = codes "new " ++ mark_text (Some r)
 outcome_text (outcome.Pass r) = codes "pass " ++ mark_text r
 outcome_text (outcome.Block r) = codes "block " ++ mark_text (Some r)
 outcome_text (outcome.Drop r l) = limit_word l ++ (codes " " ++ mark_text (Some r))
-outcome_text (outcome.Kill r conn rate overload killed) =
-    kill_word conn rate ++ (codes " " ++ (mark_text (Some r) ++ (codes " overload=" ++ (overload_word overload ++ (codes " killed=" ++ decimal killed)))))
+outcome_text (outcome.Kill r limits overload killed) =
+    kill_word limits ++ (codes " " ++ (mark_text (Some r) ++ (codes " overload=" ++ (overload_word overload ++ (codes " killed=" ++ decimal killed)))))
 outcome_text outcome.Skip = codes "skip -"
 outcome_text (outcome.Expire removed) = codes "expire - removed=" ++ decimal removed
 

@@ -10,7 +10,7 @@ use Rattle.pfs_addr_values.specs.Addresses.{same_family}
 use Rattle.pfs_addr_values.specs.declared.addresses.Addr.{Addr}
 use Rattle.pfs_conf_values.specs.Configs.{Conf, table_named}
 use Rattle.pfs_engine_machine.specs.declared.events.Event.{Event}
-use Rattle.pfs_engine_machine.specs.declared.events.What.TheVariants as what
+use Rattle.pfs_engine_machine.specs.declared.events.Arrival.TheVariants as arrival
 use Rattle.pfs_cli_formats.specs.declared.faults.TraceFault.{TraceFault}
 use Rattle.pfs_cli_formats.specs.Traces.{Fields}
 use Rattle.pfs_cli_formats.specs.Events.{and_then, at_moment, changing, column_of, expiry_at, packet_at}
@@ -29,12 +29,12 @@ beside other addr = option_filter (same_family other) addr
 
 -- the event of a record that tells of a packet
 abbrev pub arrival_at : ℕ → Option ℕ → ℕ → List (List ℕ) → Result Event TraceFault
-arrival_at row last time fields = and_then (packet_at row fields) (λ packet. at_moment row last time (Some (option_map_or what.Packet packet what.Skip)))
+arrival_at row last time fields = and_then (packet_at row fields) (λ packet. at_moment row last time (Some (option_map_or arrival.Packet packet arrival.Skip)))
 
 -- the event of a record by which entries leave a table
 abbrev pub leaving_at : Conf → ℕ → Option ℕ → ℕ → List (List ℕ) → Result Event TraceFault
 leaving_at conf row last time fields =
-    and_then (expiry_at row fields) (λ read. at_moment row last time (option_map (λ t. what.Expire t read.1) (changing conf (table_named conf read.0))))
+    and_then (expiry_at row fields) (λ read. at_moment row last time (option_map (λ t. arrival.Expire t read.1) (changing conf (table_named conf read.0))))
 
 -- a record has nine fields, the names of the columns
 abbrev pub has_names : List (List ℕ) → Bool

@@ -13,7 +13,7 @@ word_of (outcome.New r) = codes "new"
 word_of (outcome.Pass r) = codes "pass"
 word_of (outcome.Block r) = codes "block"
 word_of (outcome.Drop r l) = limit_word l
-word_of (outcome.Kill r conn rate overload killed) = kill_word conn rate
+word_of (outcome.Kill r limits overload killed) = kill_word limits
 word_of outcome.Skip = codes "skip"
 word_of (outcome.Expire removed) = codes "expire"
 
@@ -24,13 +24,13 @@ rule_by (outcome.New r) = Some r
 rule_by (outcome.Pass r) = r
 rule_by (outcome.Block r) = Some r
 rule_by (outcome.Drop r l) = Some r
-rule_by (outcome.Kill r conn rate overload killed) = Some r
+rule_by (outcome.Kill r limits overload killed) = Some r
 rule_by outcome.Skip = None
 rule_by (outcome.Expire removed) = None
 
 -- a line of killed states goes on with the overload and how many were killed, one of entries that expired with how many left
 abbrev pub note_text : Outcome → List ℕ
-note_text (outcome.Kill r conn rate overload killed) = codes " overload=" ++ (overload_word overload ++ (codes " killed=" ++ decimal killed))
+note_text (outcome.Kill r limits overload killed) = codes " overload=" ++ (overload_word overload ++ (codes " killed=" ++ decimal killed))
 note_text (outcome.Expire removed) = codes " removed=" ++ decimal removed
 note_text _ = []
 

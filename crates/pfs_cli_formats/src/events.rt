@@ -13,7 +13,7 @@ use csv::ByteRecord;
 use pfs_addr::{parse_addr, parse_flags, parse_number, parse_proto};
 use pfs_addr_values::{Addr, Dir, Endpoint, Flags, Packet, Proto, parse_ifname};
 use pfs_conf_values::{Config, TableName, TableNo};
-use pfs_engine_machine::{Event, What};
+use pfs_engine_machine::{Arrival, Event};
 
 /// Whether a record is the header that a trace begins with. It takes no memory.
 pub fn has_columns(fields: &ByteRecord) -> bool
@@ -76,7 +76,7 @@ fn read_leaving(
         return Err(TraceFault::TimeFell(row));
     }
     let table = find_table(config, &name).ok_or(TraceFault::Table(row))?;
-    let what = What::Expire { table, seconds };
+    let what = Arrival::Expire { table, seconds };
     Ok(Event { time, what })
 }
 
@@ -132,7 +132,7 @@ fn read_packet(
         return Err(TraceFault::TimeFell(row));
     }
     if is_skipped(&proto) {
-        let what = What::Skip;
+        let what = Arrival::Skip;
         return Ok(Event { time, what });
     }
     let source = Endpoint {
@@ -145,7 +145,7 @@ fn read_packet(
     };
     Ok(Event {
         time,
-        what: What::Packet(Packet::new(dir, ifname, proto, source, destination, flags)),
+        what: Arrival::Packet(Packet::new(dir, ifname, proto, source, destination, flags)),
     })
 }
 

@@ -6,7 +6,7 @@ ghost use Rattle.pfs_cli_formats.specs.Words.{lead_of, note_text, number_text, r
 
 use itoa::Buffer;
 use pfs_conf_values::RuleNo;
-use pfs_engine_machine::{Added, Limit, Outcome};
+use pfs_engine_machine::{Added, Exceeded, Limit, Outcome};
 use std::alloc::AllocError;
 
 /// The last line of a report: how many records there were, and what is held after them.
@@ -131,12 +131,17 @@ fn lead(outcome: &Outcome) -> &'static str
         Outcome::Drop(_, Limit::MaxSrcStates) => " drop:max-src-states @",
         Outcome::Drop(_, Limit::States) => " drop:states @",
         Outcome::Kill {
-            conn: true,
-            rate: true,
+            exceeded: Exceeded::Connections,
+            ..
+        } => " kill:max-src-conn @",
+        Outcome::Kill {
+            exceeded: Exceeded::Rate,
+            ..
+        } => " kill:max-src-conn-rate @",
+        Outcome::Kill {
+            exceeded: Exceeded::Both,
             ..
         } => " kill:max-src-conn+max-src-conn-rate @",
-        Outcome::Kill { conn: true, .. } => " kill:max-src-conn @",
-        Outcome::Kill { .. } => " kill:max-src-conn-rate @",
         Outcome::Skip => " skip -",
         Outcome::Expire(_) => " expire -",
     }

@@ -1,5 +1,5 @@
 -- A packet whose outcome needs no memory is found to need none before it is answered.
-use Rattle.std.proofs.Common.{◌≡◌, ◌∙◌, ℕ, Bool, true, false, ◌&&◌, ◌||◌, if◌then◌else◌, Option, Some, None, IsSome, Result, Ok, Err, IsOk, OnErr, ap, refl, subst, sym}
+use Rattle.std.proofs.Common.{◌≡◌, ◌∙◌, ℕ, if◌then◌else◌, Option, Some, None, IsSome, Result, Ok, Err, IsOk, OnErr, ap, refl, subst, sym}
 use Rattle.std.proofs.lemmas.Bool.{false≢true}
 use Rattle.pfs_addr_values.specs.Keys.{key_of}
 use Rattle.pfs_addr_values.specs.Packets.{Header}
@@ -12,14 +12,14 @@ use Rattle.pfs_store_contract.specs.Touching.{completes_at, touched}
 use Rattle.pfs_store_contract.specs.Worlds.{World, state_with}
 use Rattle.pfs_store_contract.specs.declared.records.Limit.{Limit}
 use Rattle.pfs_store_contract.specs.declared.records.State.{State}
-use Rattle.pfs_engine_machine.specs.Machine.{Held, Machine, advanced, answered, by_action, by_limit, by_rule, by_state, decided, held_of, killed}
+use Rattle.pfs_engine_machine.specs.Machine.{Held, Machine, advanced, answered, by_action, by_exceeded, by_limit, by_rule, by_state, decided, exceeded_of, held_of}
 use Rattle.pfs_engine_machine.specs.Kept.{moment_of}
 use Rattle.pfs_engine_machine.specs.Refusals.{IsFree, IsFreeOf}
 use Rattle.pfs_engine_machine.specs.Runs.{IsRefusedIn}
 use Rattle.pfs_engine_machine.specs.declared.events.Event.{Event}
+use Rattle.pfs_engine_machine.specs.declared.events.Exceeded.{Exceeded}
 use Rattle.pfs_engine_machine.specs.declared.events.Outcome.{Outcome}
-use Rattle.pfs_engine_machine.specs.declared.events.Outcome.TheVariants as outcome
-use Rattle.pfs_engine_machine.specs.declared.events.What.TheVariants as what
+use Rattle.pfs_engine_machine.specs.declared.events.Arrival.TheVariants as arrival
 use Rattle.pfs_engine.specs.Packets.{NeedsNone, NeedsNoneAt, NeedsNoneBy}
 
 free_limit : (conf : Conf) (m : Held) (p : Header) (now rule : ℕ) (limit : Option Limit) → IsFree conf p (by_limit conf m p now rule limit).0 → IsSome limit
@@ -38,22 +38,22 @@ free_rule conf m p now (Some rule) free = free_action conf m p now rule (rule_of
 
 free_state : (conf : Conf) (m : Held) (p : Header) (now : ℕ) (found : Option State) → IsFree conf p (by_state conf m p now found).0 → NeedsNone conf m p found
 free_state conf m p now None free = free_rule conf m p now (decided conf m p) free
-free_state conf m p now (Some s) free = by (completes_at p s && (hits_connections conf after s || hits_rate conf after s)) free
+free_state conf m p now (Some s) free = by (if completes_at p s then exceeded_of (hits_connections conf after s) (hits_rate conf after s) else None) free
   where
     after : World
     after = touched conf m.world s p now
 
-    by : (hit : Bool) → IsFree conf p (if hit then killed conf (held_of after m.tables) s.number s.rule s.source now (hits_connections conf after s) (hits_rate conf after s) else (outcome.State s.rule, held_of after m.tables)).0
+    by : (limits : Option Exceeded) → IsFree conf p (by_exceeded conf (held_of after m.tables) s.number s.rule s.source now limits).0
         → IsFreeOf conf p s.rule
-    by true of = of
-    by false of = of
+    by (Some e) of = of
+    by None of = of
 
 pub needs_none : (conf : Conf) (m : Held) (p : Header) (now : ℕ) → IsFree conf p (answered conf m p now).0 → NeedsNone conf m p (state_with (key_of p) m.world)
 needs_none conf m p now free = free_state conf m p now (state_with (key_of p) m.world) free
 
 -- ---- memory that was refused was needed
 
-pub refused_in : {E : Type 0} (conf : Conf) (m at new : Machine) (e : Event) (p : Header) (r : Result Outcome E) → e.what ≡ what.Packet p
+pub refused_in : {E : Type 0} (conf : Conf) (m at new : Machine) (e : Event) (p : Header) (r : Result Outcome E) → e.what ≡ arrival.Packet p
     → at ≡ advanced conf m e.time → OnErr r (new ≡ at) → (IsFree conf p (answered conf at.held p (moment_of at.last)).0 → IsOk r)
     → OnErr r ((q : Header) × IsRefusedIn conf m e q new)
 refused_in conf m at new e p (Ok o) comes is same free = tt

@@ -1,5 +1,5 @@
 -- What an engine makes of a packet, by what its store tells of it, and which packets need no memory before they are answered.
-use Rattle.std.specs.Prelude.{ℕ, ◌&&◌, ◌||◌, if◌then◌else◌, Option, Some, None, IsSome}
+use Rattle.std.specs.Prelude.{ℕ, if◌then◌else◌, Option, Some, None, IsSome}
 use Rattle.pfs_addr_values.specs.Packets.{Header}
 use Rattle.pfs_conf_values.specs.Configs.{Conf, options_of, rule_of}
 use Rattle.pfs_conf_values.specs.declared.actions.Action.{Action}
@@ -9,18 +9,16 @@ use Rattle.pfs_store_contract.specs.Counts.{exceeded}
 use Rattle.pfs_store_contract.specs.Handshakes.{over_rate}
 use Rattle.pfs_store_contract.specs.declared.records.State.{State}
 use Rattle.pfs_store_contract.specs.declared.records.Touched.{Touched}
-use Rattle.pfs_engine_machine.specs.Machine.{Held, decided, killed}
+use Rattle.pfs_engine_machine.specs.Machine.{Held, by_exceeded, decided, exceeded_of}
 use Rattle.pfs_engine_machine.specs.Refusals.{IsFreeOf}
 use Rattle.pfs_engine_machine.specs.declared.events.Outcome.{Outcome}
-use Rattle.pfs_engine_machine.specs.declared.events.Outcome.TheVariants as outcome
 
 -- a packet touched the state of this number
 abbrev pub by_touch : Conf → Held → ℕ → ℕ → Touched → Outcome × Held
 by_touch conf h number now t =
     let o = options_of conf t.rule.0 in
-    let conn = exceeded o.max_src_conn t.connections in
-    let rate = over_rate o.max_src_conn_rate t.score.value in
-    if t.completed && (conn || rate) then killed conf h number t.rule t.source now conn rate else (outcome.State t.rule, h)
+    let limits = exceeded_of (exceeded o.max_src_conn t.connections) (over_rate o.max_src_conn_rate t.score.value) in
+    by_exceeded conf h number t.rule t.source now (if t.completed then limits else None)
 
 -- a rule makes no state, or the state is refused
 abbrev pub NeedsNoneAt : Conf → Held → Header → ℕ → Action → Type 0

@@ -1,6 +1,6 @@
 //! The engine: a machine over any store, with the rules made ready.
 
-ghost use Rattle.std.specs.Prelude.{◌≡◌, ◌+◌, ◌*◌, ◌<◌, ◌≤◌, ◌^◌, ◌++◌, true, false, length, None, Some, Ok, IfOk, IsOk, IsSome, OnErr, OnOk, unwrap_or};
+ghost use Rattle.std.specs.Prelude.{◌≡◌, ◌+◌, ◌*◌, ◌<◌, ◌≤◌, ◌^◌, ◌++◌, true, false, length, None, Some, Ok, IfOk, IsOk, IsSome, OnErr, OnOk};
 ghost use Rattle.std.specs.Option.{ForSome};
 ghost use Rattle.pfs_addr_values.specs.Keys.{key_of};
 ghost use Rattle.pfs_addr_values.specs.Packets.{Header};
@@ -23,7 +23,7 @@ use crate::purges::purge_due;
 use crate::works::Work;
 use pfs_addr_values::{Meter, NoMemory, Packet};
 use pfs_conf_values::{Config, LimitName, TableNo};
-use pfs_engine_machine::{Event, Outcome, What};
+use pfs_engine_machine::{Arrival, Event, Outcome};
 use pfs_eval::{Book, Tables};
 use pfs_store_contract::Store;
 use std::alloc::Global;
@@ -73,6 +73,7 @@ impl<S: Store + Drop> Engine<S> {
         ensures limits { IfOk result (λ e. IsWithinLimits e.config e.machine.held) }
         ensures work { IfOk result (λ e. e.work ≡ record { visits = 0; looks = 0; slices = 0; most_states = 0; most_nodes = 0 }) }
     {
+        // It tells that the configuration keeps the load rules.
         let _limit = config.limit(LimitName::States);
         let book = Book::new(alloc, &config)?;
         let tables = Tables::new(alloc, &config)?;
@@ -252,6 +253,38 @@ impl<S: Store> Engine<S> {
         self.tables.expire(table, first, now, seconds)
     }
 
+    /// Takes one event: lets time pass to its moment, in seconds, which is not before the last one, and then takes what comes.
+    /// Fewer than 1,000,000,000 packets were taken before, and entries are taken out of a table of the configuration's that is
+    /// not `const`. The outcome is what `packet` answers, `Skip`, or `Expire` with how many entries `expire` took out.
+    ///
+    /// `NoMemory` where memory was refused to a packet that needs it: for a new state, or for the entry of an overload table.
+    /// Then the purges due are done, the engine stands at the event's moment, and nothing else has changed. A skip, and entries
+    /// that leave, take no memory. (pf.conf(5), STATEFUL FILTERING and STATEFUL TRACKING OPTIONS; pfctl(8), "-T expire")
+    #[tactic(auto, unfolding(pfs_engine_machine::specs::Machine::step))]
+    pub fn step(&mut self, event: &Event) -> Result<Outcome, NoMemory>
+        requires order { ForSome self.old.machine.last (λ m. m ≤ event.now.time) }
+        requires moment { event.now.time < 2 ^ 32 }
+        requires room { self.old.taken < 1000000000 }
+        requires table { MayCome self.old.config event.now.what }
+        ensures ok { IfOk result (λ o. (o, self.new.machine) ≡ step self.old.config self.old.machine event.now) }
+        ensures err { OnErr result ((packet : Header) × IsRefusedIn self.old.config self.old.machine event.now packet self.new.machine) }
+        ensures limits { IsWithinLimits self.new.config self.new.machine.held }
+        ensures config { self.new.config ≡ self.old.config }
+        ensures taken { OnOk result (self.new.taken ≡ self.old.taken + taken_by event.now.what) }
+        ensures not_taken { OnErr result (self.new.taken ≡ self.old.taken) }
+        ensures few { self.new.taken ≤ self.old.taken + 1 }
+        ensures last { self.new.machine.last ≡ Some event.now.time }
+    {
+        self.advance(event.time);
+        match &event.what {
+            Arrival::Packet(packet) => self.packet(packet),
+            Arrival::Skip => Ok(Outcome::Skip),
+            Arrival::Expire { table, seconds } => {
+                Ok(Outcome::Expire(self.expire(*table, *seconds)))
+            }
+        }
+    }
+
     /// Takes events in turn, and appends the outcome of each. Moments do not fall, from the last one on, all events
     /// together fit into the 1,000,000,000 packets, and entries are taken out of no table that is `const`. `NoMemory` where memory was refused at an event: the outcomes are
     /// those of the events before it. If it was refused for the outcome, the engine stands where these leave it; if in the
@@ -273,36 +306,12 @@ impl<S: Store> Engine<S> {
             if outcomes.reserve(1).is_err() {
                 return Err(NoMemory);
             }
-            match self.event(event) {
+            match self.step(event) {
                 Ok(outcome) => outcomes.push_reserved(outcome),
                 Err(refused) => return Err(refused),
             }
         }
         Ok(())
-    }
-
-    // One event.
-    #[tactic(auto, unfolding(pfs_engine_machine::specs::Machine::step))]
-    fn event(&mut self, event: &Event) -> Result<Outcome, NoMemory>
-        requires order { ForSome self.old.machine.last (λ m. m ≤ event.now.time) }
-        requires moment { event.now.time < 2 ^ 32 }
-        requires room { self.old.taken < 1000000000 }
-        requires table { MayCome self.old.config event.now.what }
-        ensures ok { IfOk result (λ o. (o, self.new.machine) ≡ step self.old.config self.old.machine event.now) }
-        ensures err { OnErr result ((packet : Header) × IsRefusedIn self.old.config self.old.machine event.now packet self.new.machine) }
-        ensures limits { IsWithinLimits self.new.config self.new.machine.held }
-        ensures config { self.new.config ≡ self.old.config }
-        ensures taken { OnOk result (self.new.taken ≡ self.old.taken + taken_by event.now.what) }
-        ensures not_taken { OnErr result (self.new.taken ≡ self.old.taken) }
-        ensures few { self.new.taken ≤ self.old.taken + 1 }
-        ensures last { self.new.machine.last ≡ Some event.now.time }
-    {
-        self.advance(event.time);
-        match &event.what {
-            What::Packet(packet) => self.packet(packet),
-            What::Skip => Ok(Outcome::Skip),
-            What::Expire { table, seconds } => Ok(Outcome::Expire(self.expire(*table, *seconds))),
-        }
     }
 }
 

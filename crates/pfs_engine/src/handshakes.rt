@@ -1,6 +1,6 @@
 //! A packet of a held state: what its handshake hits, the overload table, and the states that are killed.
 
-ghost use Rattle.std.specs.Prelude.{◌≡◌, ◌≤◌, ◌<◌, ◌+◌, ◌^◌, true, false, None, Some, filter, length, option_map, IfOk, IsOk, OnErr, OnOk};
+ghost use Rattle.std.specs.Prelude.{◌≡◌, ◌≤◌, ◌<◌, ◌^◌, true, false, None, Some, filter, length, option_map, IfOk, IsOk, OnErr, OnOk};
 ghost use Rattle.std.specs.Option.{ForSome, option_copied};
 ghost use Rattle.pfs_addr_values.specs.Keys.{key_of};
 ghost use Rattle.pfs_conf_values.specs.Configs.{Conf, limit_of, options_at, options_of};
@@ -13,7 +13,7 @@ ghost use Rattle.pfs_store_contract.specs.Leaving.{without};
 ghost use Rattle.pfs_store_contract.specs.Worlds.{holds_number, state_with};
 ghost use Rattle.pfs_engine_machine.specs.Kept.{IsKept};
 ghost use Rattle.pfs_engine_machine.specs.Looks.{AreLooks, AreLooksOfKill, states_beside};
-ghost use Rattle.pfs_engine_machine.specs.Machine.{added_by, by_state, held_of, tables_by};
+ghost use Rattle.pfs_engine_machine.specs.Machine.{added_by, by_state, exceeded_of, held_of, tables_by};
 ghost use Rattle.pfs_store_contract.specs.declared.records.State.{State};
 ghost use Rattle.pfs_engine_machine.specs.Refusals.{IsFreeOf, is_tcp};
 ghost use Rattle.pfs_engine.specs.Packets.{by_touch};
@@ -21,7 +21,7 @@ ghost use Rattle.pfs_engine.specs.Rooms.{HasRoomFor, rule_overload};
 
 use pfs_addr_values::{Addr, FlowKey, Meter, NoMemory, Packet, Proto};
 use pfs_conf_values::{Config, LimitName, Overload, Rate, RuleNo, Scope, StateOptions};
-use pfs_engine_machine::Outcome;
+use pfs_engine_machine::{Exceeded, Outcome};
 use pfs_eval::{Added, Tables};
 use pfs_store_contract::{StateNo, Store, Touched};
 use pfs_track::Score;
@@ -135,11 +135,9 @@ fn complete_handshake<S: Store>(
     let Some(options) = options(config, touched.rule) else {
         return Outcome::State(touched.rule);
     };
-    let conn = exceeds(options.max_src_conn, touched.connections);
-    let rate = is_over(options.max_src_conn_rate, touched.score);
-    if !conn && !rate {
+    let Some(exceeded) = exceeded_limits(options, touched) else {
         return Outcome::State(touched.rule);
-    }
+    };
     let added = add_source(tables, options.overload, touched.source, now);
     let killed = kill_with(
         store,
@@ -151,10 +149,25 @@ fn complete_handshake<S: Store>(
     );
     Outcome::Kill {
         rule: touched.rule,
-        conn,
-        rate,
+        exceeded,
         overload: added,
         killed,
+    }
+}
+
+// The limits of a rule that a completed handshake exceeds, if it exceeds one.
+fn exceeded_limits(options: &StateOptions, touched: &Touched) -> Option<Exceeded>
+    requires { ForSome options.now.max_src_conn_rate IsRate }
+    ensures { result
+        ≡ exceeded_of (exceeded options.now.max_src_conn touched.now.connections) (over_rate options.now.max_src_conn_rate touched.now.score.value) }
+{
+    let conn = exceeds(options.max_src_conn, touched.connections);
+    let rate = is_over(options.max_src_conn_rate, touched.score);
+    match (conn, rate) {
+        (true, true) => Some(Exceeded::Both),
+        (true, false) => Some(Exceeded::Connections),
+        (false, true) => Some(Exceeded::Rate),
+        (false, false) => None,
     }
 }
 

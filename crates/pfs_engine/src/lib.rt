@@ -10,7 +10,7 @@ mod watches;
 mod works;
 
 pub use engine::Engine;
-pub use pfs_engine_machine::{Event, Outcome, What};
+pub use pfs_engine_machine::{Arrival, Event, Exceeded, Outcome};
 pub use pfs_eval::Added;
 pub use pfs_store_contract::Limit;
 pub use works::Work;

@@ -1,5 +1,5 @@
 -- What may come of a packet: it is one of a held state, or passes, or is blocked, or its state is refused, or made.
-use Rattle.std.proofs.Common.{◌≡◌, ◌&&◌, ◌||◌, ℕ, Bool, true, false, if◌then◌else◌, Option, None, Some, IsSome, Result, Ok, Err, IfOk, ap, refl, sym, ◌∙◌, unwrap_or}
+use Rattle.std.proofs.Common.{◌≡◌, ℕ, Bool, true, false, if◌then◌else◌, Option, None, Some, IsSome, Result, Ok, Err, IfOk, ap, refl, sym, ◌∙◌, unwrap_or}
 use Rattle.std.proofs.lemmas.Bool.{false≢true}
 use Rattle.std.specs.Option.{option_and_then}
 use Rattle.pfs_addr_values.specs.Keys.{key_of}
@@ -20,8 +20,9 @@ use Rattle.pfs_store_contract.specs.Worlds.{state_with}
 use Rattle.pfs_store_contract.specs.declared.records.Limit.{Limit}
 use Rattle.pfs_store_contract.specs.declared.records.State.{State}
 use Rattle.pfs_engine_machine.specs.Kept.{IsKept, IsWithinShared}
-use Rattle.pfs_engine_machine.specs.Machine.{Held, answered, by_action, killed, by_limit, by_rule, by_state, by_handshake, decided, held_of}
+use Rattle.pfs_engine_machine.specs.Machine.{Held, answered, by_action, by_exceeded, by_limit, by_rule, by_state, by_handshake, decided, exceeded_of, held_of}
 use Rattle.pfs_engine_machine.specs.Refusals.{IsDropped}
+use Rattle.pfs_engine_machine.specs.declared.events.Exceeded.{Exceeded}
 use Rattle.pfs_engine_machine.specs.declared.events.Outcome.{Outcome}
 use Rattle.pfs_engine_machine.specs.declared.events.Outcome.TheVariants as outcome
 use Rattle.pfs_engine_machine.proofs.KeptAdmission.{shared_admitted}
@@ -76,16 +77,16 @@ is_of_held (outcome.New r) = false
 is_of_held (outcome.Pass r) = false
 is_of_held (outcome.Block r) = false
 is_of_held (outcome.Drop r l) = false
-is_of_held (outcome.Kill r c h o k) = true
+is_of_held (outcome.Kill r e o k) = true
 is_of_held outcome.Skip = false
 is_of_held (outcome.Expire n) = false
 
 handshake_held : (conf : Conf) (m : Held) (s : State) (now : ℕ) (completes : Bool) → is_of_held (by_handshake conf m s now completes).0 ≡ true
-handshake_held conf m s now completes = by (completes && (hits_connections conf m.world s || hits_rate conf m.world s))
+handshake_held conf m s now completes = by (if completes then exceeded_of (hits_connections conf m.world s) (hits_rate conf m.world s) else None)
   where
-    by : (hit : Bool) → is_of_held (if hit then killed conf m s.number s.rule s.source now (hits_connections conf m.world s) (hits_rate conf m.world s) else (outcome.State s.rule, m)).0 ≡ true
-    by true = refl
-    by false = refl
+    by : (limits : Option Exceeded) → is_of_held (by_exceeded conf m s.number s.rule s.source now limits).0 ≡ true
+    by (Some e) = refl
+    by None = refl
 
 state_held : (conf : Conf) (m : Held) (p : Header) (now : ℕ) (s : State) → is_of_held (by_state conf m p now (Some s)).0 ≡ true
 state_held conf m p now s = handshake_held conf (held_of (touched conf m.world s p now) m.tables) s now (completes_at p s)

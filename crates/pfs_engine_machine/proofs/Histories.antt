@@ -1,5 +1,5 @@
 -- Every act of a run leaves the score of a source's node with the future of its history's, so that the two laws of rates hold.
-use Rattle.std.proofs.Common.{◌≡◌, ℕ, suc, zero, ◌+◌, ◌-◌, ◌*◌, ◌<◌, ◌≤◌, Bool, true, false, nat_lt, ◌&&◌, ◌||◌, cond, if◌then◌else◌, ◌==◌, List, [], ◌∷◌, ◌++◌, filter, map, take, Option, Some, None, refl, ap, ◌∙◌, sym, subst, arith}
+use Rattle.std.proofs.Common.{◌≡◌, ℕ, suc, zero, ◌+◌, ◌-◌, ◌*◌, ◌<◌, ◌≤◌, Bool, true, false, nat_lt, ◌&&◌, ◌||◌, cond, ◌==◌, List, [], ◌∷◌, ◌++◌, filter, map, take, Option, Some, None, refl, ap, ◌∙◌, sym, subst, arith}
 use Rattle.std.specs.Option.{ForSome}
 use Rattle.std.specs.List.{range_with_len}
 use Rattle.std.specs.Prelude.{length, option_map, slice_get}
@@ -28,13 +28,12 @@ use Rattle.pfs_track.specs.declared.scores.Score.{Score}
 use Rattle.pfs_engine_machine.proofs.Counts.{any-push, count-filter_le, count-push}
 use Rattle.pfs_engine_machine.proofs.Scopes.{same_scope_self, same_scope_true}
 use Rattle.pfs_engine_machine.specs.Kept.{moment_of, own_scope}
-use Rattle.pfs_engine_machine.specs.Machine.{Held, Machine, handled, advanced, answered, killed, by_state, by_handshake, due, first_by, held_of, purged, start, step, machine_after, outcomes_of}
+use Rattle.pfs_engine_machine.specs.Machine.{Held, Machine, handled, advanced, answered, by_exceeded, by_state, by_handshake, due, exceeded_of, first_by, held_of, purged, start, step, machine_after, outcomes_of}
 use Rattle.pfs_engine_machine.specs.Rates.{Handshake, completed_by, folded, handshake_at, handshake_by, handshakes, history_score, is_from, moments_of, with_handshake}
 use Rattle.pfs_engine_machine.specs.Runs.{IsInOrder}
 use Rattle.pfs_engine_machine.specs.declared.events.Event.{Event}
-use Rattle.pfs_engine_machine.specs.declared.events.Outcome.TheVariants as outcome
-use Rattle.pfs_engine_machine.specs.declared.events.What.{What}
-use Rattle.pfs_engine_machine.specs.declared.events.What.TheVariants as what
+use Rattle.pfs_engine_machine.specs.declared.events.Arrival.{Arrival}
+use Rattle.pfs_engine_machine.specs.declared.events.Arrival.TheVariants as arrival
 use Rattle.pfs_engine_machine.proofs.PacketChanges.{Changes, answered_has}
 use Rattle.pfs_engine_machine.proofs.Hearing.{IsRated, RemembersIn, found-count, heard, is_of, long, rated, scope-rated, score-this, scored-in, states-touched}
 use Rattle.pfs_engine_machine.proofs.Lists.{both, each-of, each-push}
@@ -204,12 +203,12 @@ due-in conf rule source x history i w (Some last) now h r =
 
 -- ---- an event
 
-acted-in : (conf : Conf) (rule : ℕ) (source : Addr) (x : Rate) (first now : ℕ) (history : Score) (h : Held) → IsRated conf rule x → (what : What)
+acted-in : (conf : Conf) (rule : ℕ) (source : Addr) (x : Rate) (first now : ℕ) (history : Score) (h : Held) → IsRated conf rule x → (what : Arrival)
     → RemembersIn conf rule source x.seconds now history h.world
     → RemembersIn conf rule source x.seconds now (heard rule source x.seconds history now (handshake_by h.world what)) (handled conf h first now what).1.world
-acted-in conf rule source x first now history h i what.Skip r = r
-acted-in conf rule source x first now history h i (what.Expire table seconds) r = r
-acted-in conf rule source x first now history h i (what.Packet p) r =
+acted-in conf rule source x first now history h i arrival.Skip r = r
+acted-in conf rule source x first now history h i (arrival.Expire table seconds) r = r
+acted-in conf rule source x first now history h i (arrival.Packet p) r =
     answered_has conf h p now (RemembersIn conf rule source x.seconds now (heard rule source x.seconds history now (completed_by p (state_with (key_of p) h.world))))
     (packet-in conf rule source x now history h.world p i r)
 
@@ -301,8 +300,9 @@ score-in conf x now history w p s i found act_done r =
 
 -- the outcome tells whether the score is over the limit
 rate-hit : (conf : Conf) (h : Held) (s : State) (now : ℕ) (conn rate : Bool)
-    → rate_hit (if conn || rate then killed conf h s.number s.rule s.source now conn rate else (outcome.State s.rule, h)).0 ≡ rate
-rate-hit conf h s now true rate = refl
+    → rate_hit (by_exceeded conf h s.number s.rule s.source now (exceeded_of conn rate)).0 ≡ rate
+rate-hit conf h s now true true = refl
+rate-hit conf h s now true false = refl
 rate-hit conf h s now false true = refl
 rate-hit conf h s now false false = refl
 
@@ -317,18 +317,18 @@ hit-in conf x now h p s i e =
     ∙ rate-hit conf v s now (hits_connections conf v.world s) (hits_rate conf v.world s)
     ∙ ap (λ (r : Option Rate). over_rate r score.value) i.is
 
-score-at : (conf : Conf) (x : Rate) (now : ℕ) (history : Score) (w : World) (what : What) (s : State) → IsRated conf s.rule.0 x → handshake_by w what ≡ Some s
+score-at : (conf : Conf) (x : Rate) (now : ℕ) (history : Score) (w : World) (what : Arrival) (s : State) → IsRated conf s.rule.0 x → handshake_by w what ≡ Some s
     → RemembersIn conf s.rule.0 s.source x.seconds now history w → score_compared conf w now what s ≡ score_after x.seconds history now
-score-at conf x now history w what.Skip s i e r = cc
-score-at conf x now history w (what.Expire table seconds) s i e r = cc
-score-at conf x now history w (what.Packet p) s i e r =
+score-at conf x now history w arrival.Skip s i e r = cc
+score-at conf x now history w (arrival.Expire table seconds) s i e r = cc
+score-at conf x now history w (arrival.Packet p) s i e r =
     let q = completed-is p (state_with (key_of p) w) s e in score-in conf x now history w p s i q.0 q.1 r
 
-hit-at : (conf : Conf) (x : Rate) (first now : ℕ) (h : Held) (what : What) (s : State) → IsRated conf s.rule.0 x → handshake_by h.world what ≡ Some s
+hit-at : (conf : Conf) (x : Rate) (first now : ℕ) (h : Held) (what : Arrival) (s : State) → IsRated conf s.rule.0 x → handshake_by h.world what ≡ Some s
     → rate_hit (handled conf h first now what).0 ≡ nat_lt (1000 * x.limit) (score_compared conf h.world now what s).value
-hit-at conf x first now h what.Skip s i e = cc
-hit-at conf x first now h (what.Expire table seconds) s i e = cc
-hit-at conf x first now h (what.Packet p) s i e = hit-in conf x now h p s i e
+hit-at conf x first now h arrival.Skip s i e = cc
+hit-at conf x first now h (arrival.Expire table seconds) s i e = cc
+hit-at conf x first now h (arrival.Packet p) s i e = hit-in conf x now h p s i e
 
 pub score-is-remembered : (conf : Conf) (events : List Event) → IsConfig conf → IsInOrder None events → ScoreIsRemembered conf events
 score-is-remembered conf events sound order before e s rate is =

@@ -1,5 +1,5 @@
 -- A packet of a held state keeps what a machine keeps: it is within `max-src-conn`, or states are killed for it.
-use Rattle.std.proofs.Common.{◌≡◌, ◌≤◌, ◌&&◌, ◌||◌, ◌==◌, eq-eqb, ◌⊎◌, inl, inr, ℕ, Bool, true, false, if◌then◌else◌, Option, None, Some, List, All, filter, length, map, refl, ap, sym, ◌∙◌, arith}
+use Rattle.std.proofs.Common.{◌≡◌, ◌≤◌, ◌==◌, eq-eqb, ◌⊎◌, inl, inr, ℕ, Bool, true, false, if◌then◌else◌, Option, None, Some, List, All, filter, length, map, refl, ap, sym, ◌∙◌, arith}
 use Rattle.std.proofs.lemmas.List.{length-map}
 use Rattle.std.proofs.lemmas.List.Elements.{All-filter, All-map, All-weaker}
 use Rattle.pfs_addr_values.proofs.SameLaws.{same_key_true}
@@ -25,9 +25,10 @@ use Rattle.pfs_store_contract.specs.declared.records.Node.{Node}
 use Rattle.pfs_store_contract.specs.declared.records.NodeScope.{NodeScope}
 use Rattle.pfs_store_contract.specs.declared.records.State.{State}
 use Rattle.pfs_engine_machine.specs.Kept.{HasNode, IsKept, IsPhaseOf, IsWithin, Rise, TracksAlone, own_scope}
-use Rattle.pfs_engine_machine.specs.Machine.{Held, killed, by_state, held_of, tables_by}
+use Rattle.pfs_engine_machine.specs.Machine.{Held, by_exceeded, by_state, exceeded_of, held_of, killed, tables_by}
 use Rattle.pfs_engine_machine.specs.Refusals.{is_tcp}
-use Rattle.pfs_engine_machine.specs.declared.events.Outcome.TheVariants as outcome
+use Rattle.pfs_engine_machine.specs.declared.events.Exceeded.{Exceeded}
+use Rattle.pfs_engine_machine.specs.declared.events.Exceeded.TheVariants as exceeded
 use Rattle.pfs_engine_machine.proofs.Additions.{entries_after-size, entries_after-within}
 use Rattle.pfs_engine_machine.proofs.Alike.{AreAlike, idled_all-alike, nodes_touched-alike}
 use Rattle.pfs_engine_machine.proofs.Changes.{find-all, find-any, find-passes}
@@ -204,9 +205,9 @@ few_killed : (conf : Conf) (m : Held) (p : Header) (now : ℕ) (s : State) (flus
 few_killed conf m p now s flush found k rule source tracks =
     within_less (options_of conf rule).max_src_conn _ _ (connections-killed conf m.world p now s flush (own_scope rule) source (alone_of conf m p now s found k)) (k.limits.source_connections rule source tracks)
 
-pub kept_killed : (conf : Conf) (m : Held) (p : Header) (now : ℕ) (s : State) (conn rate : Bool) → state_with (key_of p) m.world ≡ Some s
-    → IsKept conf m now → IsKept conf (killed conf (held_of (touched conf m.world s p now) m.tables) s.number s.rule s.source now conn rate).1 now
-kept_killed conf m p now s conn rate found k =
+pub kept_killed : (conf : Conf) (m : Held) (p : Header) (now : ℕ) (s : State) (limits : Exceeded) → state_with (key_of p) m.world ≡ Some s
+    → IsKept conf m now → IsKept conf (killed conf (held_of (touched conf m.world s p now) m.tables) s.number s.rule s.source now limits).1 now
+kept_killed conf m p now s limits found k =
     let overload = (options_of conf s.rule.0).overload in
     let stays = stays_at_kill (flush_of overload) s.number s.rule s.source in
     let first = held_of (touched conf m.world s p now) m.tables in
@@ -220,10 +221,11 @@ kept_killed conf m p now s conn rate found k =
 kept_by_handshake : (conf : Conf) (m : Held) (p : Header) (now : ℕ) (s : State) (conn rate : Bool) → state_with (key_of p) m.world ≡ Some s
     → IsKept conf m now → conn ≡ hits_connections conf (touched conf m.world s p now) s
     → (completes : Bool) → completes_at p s ≡ completes
-    → IsKept conf (if completes && (conn || rate) then killed conf (held_of (touched conf m.world s p now) m.tables) s.number s.rule s.source now conn rate else (outcome.State s.rule, held_of (touched conf m.world s p now) m.tables)).1 now
+    → IsKept conf (by_exceeded conf (held_of (touched conf m.world s p now) m.tables) s.number s.rule s.source now (if completes then exceeded_of conn rate else None)).1 now
 kept_by_handshake conf m p now s conn rate found k is false done = kept_touched conf m p now s found (inl done) k
-kept_by_handshake conf m p now s true rate found k is true done = kept_killed conf m p now s true rate found k
-kept_by_handshake conf m p now s false true found k is true done = kept_killed conf m p now s false true found k
+kept_by_handshake conf m p now s true true found k is true done = kept_killed conf m p now s exceeded.Both found k
+kept_by_handshake conf m p now s true false found k is true done = kept_killed conf m p now s exceeded.Connections found k
+kept_by_handshake conf m p now s false true found k is true done = kept_killed conf m p now s exceeded.Rate found k
 kept_by_handshake conf m p now s false false found k is true done = kept_touched conf m p now s found (inr (sym is)) k
 
 pub kept_held : (conf : Conf) (m : Held) (p : Header) (now : ℕ) (s : State) → state_with (key_of p) m.world ≡ Some s
@@ -234,14 +236,14 @@ kept_held conf m p now s found k =
 
 -- no state is made
 pub made_held : (conf : Conf) (m : Held) (p : Header) (now : ℕ) (s : State) → (by_state conf m p now (Some s)).1.world.made ≡ m.world.made
-made_held conf m p now s = by (completes_at p s && (hits_connections conf after s || hits_rate conf after s))
+made_held conf m p now s = by (if completes_at p s then exceeded_of (hits_connections conf after s) (hits_rate conf after s) else None)
   where
     after : World
     after = touched conf m.world s p now
 
-    by : (hit : Bool) → (if hit then killed conf (held_of after m.tables) s.number s.rule s.source now (hits_connections conf after s) (hits_rate conf after s) else (outcome.State s.rule, held_of after m.tables)).1.world.made ≡ m.world.made
-    by true = refl
-    by false = refl
+    by : (limits : Option Exceeded) → (by_exceeded conf (held_of after m.tables) s.number s.rule s.source now limits).1.world.made ≡ m.world.made
+    by (Some e) = refl
+    by None = refl
 
 -- ---- of a state that is held
 

@@ -1,5 +1,5 @@
 -- What a packet may do to what is held: nothing, make a state, renew one, and kill some.
-use Rattle.std.proofs.Common.{◌≡◌, ◌∙◌, ◌&&◌, ◌||◌, ℕ, Bool, true, false, if◌then◌else◌, Option, Some, None, refl, subst, sym}
+use Rattle.std.proofs.Common.{◌≡◌, ◌∙◌, ℕ, Bool, if◌then◌else◌, Option, Some, None, refl, subst, sym}
 use Rattle.pfs_addr_values.specs.Keys.{key_of}
 use Rattle.pfs_addr_values.specs.Packets.{Header}
 use Rattle.pfs_conf_values.specs.Configs.{Conf, options_of}
@@ -11,9 +11,9 @@ use Rattle.pfs_store_contract.specs.Touching.{completes_at, touched}
 use Rattle.pfs_store_contract.specs.Worlds.{World, state_with}
 use Rattle.pfs_store_contract.specs.declared.records.State.{State}
 use Rattle.pfs_engine_machine.proofs.Answering as answering
-use Rattle.pfs_engine_machine.specs.Machine.{Held, answered, killed, by_state, by_handshake, held_of}
+use Rattle.pfs_engine_machine.specs.Machine.{Held, answered, by_exceeded, by_handshake, by_state, exceeded_of, held_of}
+use Rattle.pfs_engine_machine.specs.declared.events.Exceeded.{Exceeded}
 use Rattle.pfs_engine_machine.specs.declared.events.Outcome.{Outcome}
-use Rattle.pfs_engine_machine.specs.declared.events.Outcome.TheVariants as outcome
 
 -- a fact of what a packet leaves, from what it may do
 pub record Changes (conf : Conf) (w : World) (p : Header) (now : ℕ) (Q : World → Type 0) : Type 0 where
@@ -24,11 +24,11 @@ pub record Changes (conf : Conf) (w : World) (p : Header) (now : ℕ) (Q : World
 
 handshake_has : (conf : Conf) (h : Held) (s : State) (now : ℕ) (completes : Bool) (Q : World → Type 0)
     → ((v : World) (stays : State → Bool) → Q v → Q (without conf v stays now)) → Q h.world → Q (by_handshake conf h s now completes).1.world
-handshake_has conf h s now completes Q kills k = by (completes && (hits_connections conf h.world s || hits_rate conf h.world s))
+handshake_has conf h s now completes Q kills k = by (if completes then exceeded_of (hits_connections conf h.world s) (hits_rate conf h.world s) else None)
   where
-    by : (hit : Bool) → Q (if hit then killed conf h s.number s.rule s.source now (hits_connections conf h.world s) (hits_rate conf h.world s) else (outcome.State s.rule, h)).1.world
-    by true = kills h.world (stays_at_kill (flush_of (options_of conf s.rule.0).overload) s.number s.rule s.source) k
-    by false = k
+    by : (limits : Option Exceeded) → Q (by_exceeded conf h s.number s.rule s.source now limits).1.world
+    by (Some e) = kills h.world (stays_at_kill (flush_of (options_of conf s.rule.0).overload) s.number s.rule s.source) k
+    by None = k
 
 pub answered_has : (conf : Conf) (h : Held) (p : Header) (now : ℕ) (Q : World → Type 0) → Changes conf h.world p now Q → Q (answered conf h p now).1.world
 answered_has conf h p now Q c = go (state_with (key_of p) h.world) refl

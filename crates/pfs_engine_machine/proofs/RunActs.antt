@@ -4,8 +4,8 @@ use Rattle.pfs_conf_values.specs.Configs.{Conf}
 use Rattle.pfs_store_contract.specs.Purging.{purge}
 use Rattle.pfs_engine_machine.specs.Machine.{Held, Machine, handled, advanced, due, first_by, held_of, purged, step, machine_after}
 use Rattle.pfs_engine_machine.specs.declared.events.Event.{Event}
-use Rattle.pfs_engine_machine.specs.declared.events.What.{What}
-use Rattle.pfs_engine_machine.specs.declared.events.What.TheVariants as what
+use Rattle.pfs_engine_machine.specs.declared.events.Arrival.{Arrival}
+use Rattle.pfs_engine_machine.specs.declared.events.Arrival.TheVariants as arrival
 use Rattle.pfs_engine_machine.specs.Acts.{RunAct, Purge, acts_from, arrivals, act_done, acts_done}
 
 pub done_all-append : (conf : Conf) (h : Held) (xs ys : List RunAct) → acts_done conf h (xs ++ ys) ≡ acts_done conf (acts_done conf h xs) ys
@@ -17,11 +17,11 @@ purges-done : (conf : Conf) (h : Held) (ss : List ℕ) (rest : List RunAct)
 purges-done conf h [] rest = refl
 purges-done conf h (s ∷ ss) rest = purges-done conf (held_of (purge conf h.world s) h.tables) ss rest
 
-arrivals-done : (conf : Conf) (h : Held) (first now : ℕ) (what : What) (rest : List RunAct)
+arrivals-done : (conf : Conf) (h : Held) (first now : ℕ) (what : Arrival) (rest : List RunAct)
     → acts_done conf h (arrivals first now what ++ rest) ≡ acts_done conf (handled conf h first now what).1 rest
-arrivals-done conf h first now what.Skip rest = refl
-arrivals-done conf h first now (what.Packet p) rest = refl
-arrivals-done conf h first now (what.Expire table seconds) rest = refl
+arrivals-done conf h first now arrival.Skip rest = refl
+arrivals-done conf h first now (arrival.Packet p) rest = refl
+arrivals-done conf h first now (arrival.Expire table seconds) rest = refl
 
 pub acts-done : (conf : Conf) (m : Machine) (es : List Event) → (machine_after conf m es).held ≡ acts_done conf m.held (acts_from m.first m.last es)
 unfolding machine_after step

@@ -9,8 +9,8 @@ use Rattle.pfs_engine_machine.specs.Kept.{IsKept, IsWithinLimits, moment_of}
 use Rattle.pfs_engine_machine.specs.Machine.{Held, due, first_by, start}
 use Rattle.pfs_engine_machine.specs.Runs.{IsInOrder}
 use Rattle.pfs_engine_machine.specs.declared.events.Event.{Event}
-use Rattle.pfs_engine_machine.specs.declared.events.What.{What}
-use Rattle.pfs_engine_machine.specs.declared.events.What.TheVariants as what
+use Rattle.pfs_engine_machine.specs.declared.events.Arrival.{Arrival}
+use Rattle.pfs_engine_machine.specs.declared.events.Arrival.TheVariants as arrival
 use Rattle.pfs_engine_machine.specs.Acts.{RunAct, Arrive, Expire, Purge, StaysWithinLimits, acts_from, arrivals, act_done, acts_done}
 
 -- the moments of the packets among these acts do not fall, from this one on
@@ -36,10 +36,10 @@ ordered-purges : (now : ℕ) (ss : List ℕ) (rest : List RunAct) → AreOrdered
 ordered-purges now [] rest o = o
 ordered-purges now (s ∷ ss) rest o = ordered-purges now ss rest o
 
-ordered-arrivals : (first now : ℕ) (what : What) (rest : List RunAct) → AreOrdered now rest → AreOrdered now (arrivals first now what ++ rest)
-ordered-arrivals first now what.Skip rest o = o
-ordered-arrivals first now (what.Packet p) rest o = (omega arith, o)
-ordered-arrivals first now (what.Expire table seconds) rest o = o
+ordered-arrivals : (first now : ℕ) (what : Arrival) (rest : List RunAct) → AreOrdered now rest → AreOrdered now (arrivals first now what ++ rest)
+ordered-arrivals first now arrival.Skip rest o = o
+ordered-arrivals first now (arrival.Packet p) rest o = (omega arith, o)
+ordered-arrivals first now (arrival.Expire table seconds) rest o = o
 
 acts-ordered : (first last : Option ℕ) (es : List Event) → IsInOrder last es → AreOrdered (moment_of last) (acts_from first last es)
 acts-ordered first last [] o = tt

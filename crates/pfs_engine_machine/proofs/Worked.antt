@@ -30,9 +30,10 @@ use Rattle.pfs_store_contract.specs.declared.records.Limit.TheVariants as limit
 use Rattle.pfs_engine_machine.specs.Machine.{Machine, entries_held, nodes_held, start, states_held, step, machine_after, outcomes_of}
 use Rattle.pfs_engine_machine.specs.Rates.{history_score}
 use Rattle.pfs_engine_machine.specs.declared.events.Event.{Event}
+use Rattle.pfs_engine_machine.specs.declared.events.Exceeded.TheVariants as exceeded
 use Rattle.pfs_engine_machine.specs.declared.events.Outcome.{Outcome}
 use Rattle.pfs_engine_machine.specs.declared.events.Outcome.TheVariants as outcome
-use Rattle.pfs_engine_machine.specs.declared.events.What.TheVariants.{Expire, Packet, Skip}
+use Rattle.pfs_engine_machine.specs.declared.events.Arrival.TheVariants.{Expire, Packet, Skip}
 
 -- ---- configurations: limits of states and nodes, the timeouts that differ, tables and items
 
@@ -159,7 +160,7 @@ guarded_outcomes killed =
     ∷ of_state 2
     ∷ made 2
     ∷ of_state 2
-    ∷ outcome.Kill (number 2) true false (Some added.New) killed
+    ∷ outcome.Kill (number 2) exceeded.Connections (Some added.New) killed
     ∷ outcome.Block (number 0)
     ∷ []
 
@@ -185,7 +186,7 @@ again now = handshake 0 1 1 ++ (reset 0 1 1 ∷ handshake now 1 2)
 abbrev before_again : List Outcome
 before_again = made 0 ∷ of_state 0 ∷ of_state 0 ∷ of_state 0 ∷ made 0 ∷ of_state 0 ∷ []
 
-again_soon : run_of (rated 1 4) (again 3) ≡ (before_again ++ outcome.Kill (number 0) false true None 1 ∷ [], (0, 1, 0))
+again_soon : run_of (rated 1 4) (again 3) ≡ (before_again ++ outcome.Kill (number 0) exceeded.Rate None 1 ∷ [], (0, 1, 0))
 unfolding outcomes_of machine_after step verdict matches_item table_answer
 again_soon = refl
 
@@ -297,7 +298,7 @@ expiring =
     (rule false (of_proto Tcp) (action.Keep (record no_options { scope = Some scope.Rule; max_src_conn = Some 1; overload = Some (record { table = record { 0 = 0 }; flush = None }) })) ∷ [])
 
 abbrev killed_as : Added → Outcome
-killed_as a = outcome.Kill (number 0) true false (Some a) 1
+killed_as a = outcome.Kill (number 0) exceeded.Connections (Some a) 1
 
 entries_expire : run_of expiring
     (nothing 100

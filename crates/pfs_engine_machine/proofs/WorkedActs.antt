@@ -2,16 +2,16 @@
 use Rattle.std.proofs.Common.{◌≡◌, ℕ, List, [], ◌∷◌, None, refl}
 use Rattle.pfs_addr_values.specs.Packets.{Header}
 use Rattle.pfs_engine_machine.specs.declared.events.Event.{Event}
-use Rattle.pfs_engine_machine.specs.declared.events.What.{What}
-use Rattle.pfs_engine_machine.specs.declared.events.What.TheVariants as what
+use Rattle.pfs_engine_machine.specs.declared.events.Arrival.{Arrival}
+use Rattle.pfs_engine_machine.specs.declared.events.Arrival.TheVariants as arrival
 use Rattle.pfs_engine_machine.specs.Acts.{Arrive, Purge, acts_of, purges}
 
-abbrev event : ℕ → What → Event
+abbrev event : ℕ → Arrival → Event
 event time comes = record { time = time; what = comes }
 
 -- a packet at 7, a record that is no packet at 9, and a packet at 10
 abbrev three : Header → Header → List Event
-three p q = event 7 (what.Packet p) ∷ event 9 what.Skip ∷ event 10 (what.Packet q) ∷ []
+three p q = event 7 (arrival.Packet p) ∷ event 9 arrival.Skip ∷ event 10 (arrival.Packet q) ∷ []
 
 taken_apart : (p q : Header) → acts_of None (three p q) ≡ Arrive 7 p ∷ Purge 8 ∷ Purge 9 ∷ Purge 10 ∷ Arrive 10 q ∷ []
 taken_apart p q = refl

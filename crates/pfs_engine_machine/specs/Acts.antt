@@ -6,8 +6,8 @@ use Rattle.pfs_store_contract.specs.Purging.{purge}
 use Rattle.pfs_engine_machine.specs.Kept.{IsWithinLimits}
 use Rattle.pfs_engine_machine.specs.Machine.{Held, answered, due, expired, first_by, held_of, start}
 use Rattle.pfs_engine_machine.specs.declared.events.Event.{Event}
-use Rattle.pfs_engine_machine.specs.declared.events.What.{What}
-use Rattle.pfs_engine_machine.specs.declared.events.What.TheVariants as what
+use Rattle.pfs_engine_machine.specs.declared.events.Arrival.{Arrival}
+use Rattle.pfs_engine_machine.specs.declared.events.Arrival.TheVariants as arrival
 
 -- the purge of a second, a packet that arrives at a moment, or old entries that leave a table, in a run that began at the first
 -- of these moments, at the second, by its number and these seconds
@@ -16,10 +16,10 @@ pub data RunAct : Type 0 where
   Arrive : ℕ → Header → RunAct
   Expire : ℕ → ℕ → ℕ → ℕ → RunAct
 
-abbrev pub arrivals : ℕ → ℕ → What → List RunAct
-arrivals first now what.Skip = []
-arrivals first now (what.Packet p) = Arrive now p ∷ []
-arrivals first now (what.Expire table seconds) = Expire first now table.0 seconds ∷ []
+abbrev pub arrivals : ℕ → ℕ → Arrival → List RunAct
+arrivals first now arrival.Skip = []
+arrivals first now (arrival.Packet p) = Arrive now p ∷ []
+arrivals first now (arrival.Expire table seconds) = Expire first now table.0 seconds ∷ []
 
 -- what these events make a run do, from its first moment and its last one on: before each event the purges due
 abbrev pub acts_from : Option ℕ → Option ℕ → List Event → List RunAct

@@ -23,7 +23,7 @@ AreLooksOfKill (Some flush) killed of_source looks = (1 + killed ≤ looks) × (
 -- by what came of the packet: none where no state has its key, one for the state that has it
 abbrev pub AreLooks : Conf → ℕ → Outcome → ℕ → Type 0
 AreLooks conf of_source (outcome.State rule) looks = looks ≡ 1
-AreLooks conf of_source (outcome.Kill rule conn rate overload killed) looks =
+AreLooks conf of_source (outcome.Kill rule limits overload killed) looks =
     AreLooksOfKill (flush_of (options_of conf rule.0).overload) killed of_source looks
 AreLooks conf of_source (outcome.New rule) looks = looks ≡ 0
 AreLooks conf of_source (outcome.Pass rule) looks = looks ≡ 0

@@ -1,5 +1,5 @@
 -- The machine: what is held, what one event does to it, and a run of events. (pf.conf(5), STATEFUL FILTERING and STATEFUL TRACKING OPTIONS)
-use Rattle.std.specs.Prelude.{ℕ, ◌+◌, ◌-◌, ◌&&◌, ◌||◌, Bool, if◌then◌else◌, Option, Some, None, List, [], ◌∷◌, length, filter, unwrap_or}
+use Rattle.std.specs.Prelude.{ℕ, ◌+◌, ◌-◌, Bool, true, false, if◌then◌else◌, Option, Some, None, List, [], ◌∷◌, length, filter, unwrap_or}
 use Rattle.std.specs.List.{range_with_len}
 use Rattle.pfs_addr_values.specs.Keys.{key_of}
 use Rattle.pfs_addr_values.specs.Packets.{Header}
@@ -24,10 +24,12 @@ use Rattle.pfs_store_contract.specs.Worlds.{World, empty_world, state_with}
 use Rattle.pfs_store_contract.specs.declared.records.Limit.{Limit}
 use Rattle.pfs_store_contract.specs.declared.records.State.{State}
 use Rattle.pfs_engine_machine.specs.declared.events.Event.{Event}
+use Rattle.pfs_engine_machine.specs.declared.events.Exceeded.{Exceeded}
+use Rattle.pfs_engine_machine.specs.declared.events.Exceeded.TheVariants as exceeded
 use Rattle.pfs_engine_machine.specs.declared.events.Outcome.{Outcome}
 use Rattle.pfs_engine_machine.specs.declared.events.Outcome.TheVariants as outcome
-use Rattle.pfs_engine_machine.specs.declared.events.What.{What}
-use Rattle.pfs_engine_machine.specs.declared.events.What.TheVariants as what
+use Rattle.pfs_engine_machine.specs.declared.events.Arrival.{Arrival}
+use Rattle.pfs_engine_machine.specs.declared.events.Arrival.TheVariants as arrival
 
 -- what is held: the states and source nodes, and the entries of each table
 pub record Held : Type 0 where
@@ -93,20 +95,31 @@ tables_by conf tables source now None = tables
 tables_by conf tables source now (Some v) = entries_after tables v.table.0 source now (added_to tables (limit_of conf limit_name.TableEntries) v.table.0 source)
 
 -- the state of this number, rule and source is killed, with those that its rule flushes
-abbrev pub killed : Conf → Held → ℕ → RuleNo → Addr → ℕ → Bool → Bool → Outcome × Held
-killed conf h number rule source now conn rate =
+abbrev pub killed : Conf → Held → ℕ → RuleNo → Addr → ℕ → Exceeded → Outcome × Held
+killed conf h number rule source now limits =
     let overload = (options_of conf rule.0).overload in
     let flush = flush_of overload in (
-      outcome.Kill rule conn rate (added_by conf h.tables source overload) (length (filter (goes_with flush number rule source) h.world.states)),
+      outcome.Kill rule limits (added_by conf h.tables source overload) (length (filter (goes_with flush number rule source) h.world.states)),
       held_of (without conf h.world (stays_at_kill flush number rule source) now) (tables_by conf h.tables source now overload),
     )
 
--- a packet of this state completes its handshake and hits a limit on connections, or not
+-- the limits that it exceeds, by whether `max-src-conn` is exceeded and whether `max-src-conn-rate` is; none where neither is
+abbrev pub exceeded_of : Bool → Bool → Option Exceeded
+exceeded_of true true = Some exceeded.Both
+exceeded_of true false = Some exceeded.Connections
+exceeded_of false true = Some exceeded.Rate
+exceeded_of false false = None
+
+-- a packet of the state of this number, rule and source exceeds these limits, or none
+abbrev pub by_exceeded : Conf → Held → ℕ → RuleNo → Addr → ℕ → Option Exceeded → Outcome × Held
+by_exceeded conf h number rule source now (Some limits) = killed conf h number rule source now limits
+by_exceeded conf h number rule source now None = (outcome.State rule, h)
+
+-- a packet of this state completes its handshake, or not
 abbrev pub by_handshake : Conf → Held → State → ℕ → Bool → Outcome × Held
 by_handshake conf h s now completes =
-    let conn = hits_connections conf h.world s in
-    let rate = hits_rate conf h.world s in
-    if completes && (conn || rate) then killed conf h s.number s.rule s.source now conn rate else (outcome.State s.rule, h)
+    let limits = exceeded_of (hits_connections conf h.world s) (hits_rate conf h.world s) in
+    by_exceeded conf h s.number s.rule s.source now (if completes then limits else None)
 
 -- ---- one packet
 
@@ -148,10 +161,10 @@ expired h first now table seconds =
     (outcome.Expire (expired_count h.tables table first now seconds), held_of h.world (entries_expired h.tables table first now seconds))
 
 -- what comes
-abbrev pub handled : Conf → Held → ℕ → ℕ → What → Outcome × Held
-handled conf h first now what.Skip = (outcome.Skip, h)
-handled conf h first now (what.Packet p) = answered conf h p now
-handled conf h first now (what.Expire table seconds) = expired h first now table.0 seconds
+abbrev pub handled : Conf → Held → ℕ → ℕ → Arrival → Outcome × Held
+handled conf h first now arrival.Skip = (outcome.Skip, h)
+handled conf h first now (arrival.Packet p) = answered conf h p now
+handled conf h first now (arrival.Expire table seconds) = expired h first now table.0 seconds
 
 -- what it leaves is held
 abbrev pub leaving : Machine → Outcome × Held → Outcome × Machine

@@ -12,8 +12,8 @@ use Rattle.pfs_store_contract.specs.declared.records.State.{State}
 use Rattle.pfs_track.specs.Scores.{score_after, zero_score}
 use Rattle.pfs_track.specs.declared.scores.Score.{Score}
 use Rattle.pfs_engine_machine.specs.declared.events.Event.{Event}
-use Rattle.pfs_engine_machine.specs.declared.events.What.{What}
-use Rattle.pfs_engine_machine.specs.declared.events.What.TheVariants as what
+use Rattle.pfs_engine_machine.specs.declared.events.Arrival.{Arrival}
+use Rattle.pfs_engine_machine.specs.declared.events.Arrival.TheVariants as arrival
 use Rattle.pfs_engine_machine.specs.Machine.{Machine, advanced, start, step}
 
 -- a handshake of a state: its rule, its source, and when it completed
@@ -27,10 +27,10 @@ abbrev pub completed_by : Header → Option State → Option State
 completed_by p None = None
 completed_by p (Some s) = if completes_at p s then Some s else None
 
-abbrev pub handshake_by : World → What → Option State
-handshake_by w what.Skip = None
-handshake_by w (what.Packet p) = completed_by p (state_with (key_of p) w)
-handshake_by w (what.Expire table seconds) = None
+abbrev pub handshake_by : World → Arrival → Option State
+handshake_by w arrival.Skip = None
+handshake_by w (arrival.Packet p) = completed_by p (state_with (key_of p) w)
+handshake_by w (arrival.Expire table seconds) = None
 
 -- the state whose handshake an event completes
 abbrev pub handshake_at : Conf → Machine → Event → Option State

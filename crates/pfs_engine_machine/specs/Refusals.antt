@@ -34,5 +34,5 @@ IsFreeOf conf p rule = (is_tcp p.proto ≡ false) ⊎ ((options_of conf rule.0).
 abbrev pub IsFree : Conf → Header → Outcome → Type 0
 IsFree conf p (outcome.New rule) = ⊥
 IsFree conf p (outcome.State rule) = IsFreeOf conf p rule
-IsFree conf p (outcome.Kill rule conn rate overload killed) = IsFreeOf conf p rule
+IsFree conf p (outcome.Kill rule limits overload killed) = IsFreeOf conf p rule
 IsFree conf p _ = Unit {0}

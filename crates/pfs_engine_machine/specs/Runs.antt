@@ -5,8 +5,8 @@ use Rattle.pfs_addr_values.specs.Packets.{Header}
 use Rattle.pfs_conf_values.specs.Configs.{Conf, is_const_table}
 use Rattle.pfs_engine_machine.specs.declared.events.Event.{Event}
 use Rattle.pfs_engine_machine.specs.declared.events.Outcome.{Outcome}
-use Rattle.pfs_engine_machine.specs.declared.events.What.{What}
-use Rattle.pfs_engine_machine.specs.declared.events.What.TheVariants as what
+use Rattle.pfs_engine_machine.specs.declared.events.Arrival.{Arrival}
+use Rattle.pfs_engine_machine.specs.declared.events.Arrival.TheVariants as arrival
 use Rattle.pfs_engine_machine.specs.Machine.{Machine, advanced, answered, machine_after, outcomes_of}
 use Rattle.pfs_engine_machine.specs.Refusals.{IsFree}
 
@@ -18,15 +18,15 @@ pub record MayExpire (conf : Conf) (table : ℕ) : Type 0 where
   pub changes : is_const_table (slice_get conf.tables table) ≡ false
 
 -- entries are taken out of such tables alone
-abbrev pub MayCome : Conf → What → Type 0
-MayCome conf (what.Expire table seconds) = MayExpire conf table.0
+abbrev pub MayCome : Conf → Arrival → Type 0
+MayCome conf (arrival.Expire table seconds) = MayExpire conf table.0
 MayCome conf _ = Unit {0}
 
 -- an event counts as one packet, or none
-abbrev pub taken_by : What → ℕ
-taken_by (what.Packet p) = 1
-taken_by what.Skip = 0
-taken_by (what.Expire table seconds) = 0
+abbrev pub taken_by : Arrival → ℕ
+taken_by (arrival.Packet p) = 1
+taken_by arrival.Skip = 0
+taken_by (arrival.Expire table seconds) = 0
 
 -- how many of these events are packets
 unfoldable pub packets_in : List Event → ℕ
@@ -47,7 +47,7 @@ AreAllowed conf (e ∷ es) = MayCome conf e.what × AreAllowed conf es
 
 -- memory was refused in the packet of this event, which needs memory there: the machine is at the event's moment
 pub record IsRefusedIn (conf : Conf) (m : Machine) (e : Event) (p : Header) (new : Machine) : Type 0 where
-  pub comes : e.what ≡ what.Packet p
+  pub comes : e.what ≡ arrival.Packet p
   pub needs : IsFree conf p (answered conf new.held p e.time).0 → ⊥
   pub moment : new ≡ advanced conf m e.time
 

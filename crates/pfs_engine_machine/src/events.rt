@@ -7,7 +7,7 @@ use pfs_store_contract::Limit;
 
 /// What comes at a moment.
 #[derive(Clone, Copy, Debug, PartialEq, Eq)]
-pub enum What {
+pub enum Arrival {
     /// A packet.
     Packet(Packet),
     /// A record that no state is made of: ICMP or ICMPv6, of which a trace does not tell enough.
@@ -27,7 +27,18 @@ pub struct Event {
     /// The moment, in whole seconds: 0 to 4294967295.
     pub time: u64,
     /// What comes.
-    pub what: What,
+    pub what: Arrival,
+}
+
+/// Which limits on connections a completed handshake exceeded. (pf.conf(5), STATEFUL TRACKING OPTIONS)
+#[derive(Clone, Copy, Debug, PartialEq, Eq)]
+pub enum Exceeded {
+    /// `max-src-conn` alone.
+    Connections,
+    /// `max-src-conn-rate` alone.
+    Rate,
+    /// Both.
+    Both,
 }
 
 /// What the machine did with an event. (pf.conf(5), STATEFUL FILTERING and STATEFUL TRACKING OPTIONS)
@@ -47,10 +58,8 @@ pub enum Outcome {
     Kill {
         /// The rule of the state.
         rule: RuleNo,
-        /// Whether `max-src-conn` was exceeded.
-        conn: bool,
-        /// Whether `max-src-conn-rate` was exceeded.
-        rate: bool,
+        /// The limits that were exceeded.
+        exceeded: Exceeded,
         /// What became of the source in the rule's overload table; none where the rule has none.
         overload: Option<Added>,
         /// How many states were killed.

@@ -6,7 +6,7 @@ mod events;
 mod rates;
 mod staying;
 
-pub use events::{Event, Outcome, What};
+pub use events::{Arrival, Event, Exceeded, Outcome};
 pub use pfs_eval::Added;
 pub use pfs_store_contract::Limit;
 pub use rates::rate_memory;

@@ -5,7 +5,7 @@ use crate::packets::A1;
 use crate::scripts::{Came, Case};
 use pfs_addr_values::Addr;
 use pfs_conf::RuleNo;
-use pfs_engine::{Added, Outcome};
+use pfs_engine::{Added, Exceeded, Outcome};
 use std::test::Fail;
 
 const STATE: Outcome = Outcome::State(RuleNo(0));
@@ -15,8 +15,7 @@ const BAD: Addr = Addr::V4([203, 0, 113, 9]);
 // The connections are past `max-src-conn`
 const CONN: Outcome = Outcome::Kill {
     rule: RuleNo(0),
-    conn: true,
-    rate: false,
+    exceeded: Exceeded::Connections,
     overload: None,
     killed: 1,
 };
@@ -24,16 +23,14 @@ const CONN: Outcome = Outcome::Kill {
 // The rate is past `max-src-conn-rate`
 const RATE: Outcome = Outcome::Kill {
     rule: RuleNo(0),
-    conn: false,
-    rate: true,
+    exceeded: Exceeded::Rate,
     overload: None,
     killed: 1,
 };
 
 const BOTH: Outcome = Outcome::Kill {
     rule: RuleNo(0),
-    conn: true,
-    rate: true,
+    exceeded: Exceeded::Both,
     overload: None,
     killed: 1,
 };
@@ -41,16 +38,14 @@ const BOTH: Outcome = Outcome::Kill {
 // The source is not added, since the tables are full, or since it is held
 const FULL: Outcome = Outcome::Kill {
     rule: RuleNo(0),
-    conn: true,
-    rate: false,
+    exceeded: Exceeded::Connections,
     overload: Some(Added::Full),
     killed: 1,
 };
 
 const HELD: Outcome = Outcome::Kill {
     rule: RuleNo(0),
-    conn: true,
-    rate: false,
+    exceeded: Exceeded::Connections,
     overload: Some(Added::Held),
     killed: 1,
 };
@@ -58,24 +53,21 @@ const HELD: Outcome = Outcome::Kill {
 // The source is added, and its state leaves alone, with those of the rule, or with all
 const ADDED: Outcome = Outcome::Kill {
     rule: RuleNo(2),
-    conn: true,
-    rate: false,
+    exceeded: Exceeded::Connections,
     overload: Some(Added::New),
     killed: 1,
 };
 
 const FLUSHED: Outcome = Outcome::Kill {
     rule: RuleNo(2),
-    conn: true,
-    rate: false,
+    exceeded: Exceeded::Connections,
     overload: Some(Added::New),
     killed: 2,
 };
 
 const FLUSHED_GLOBALLY: Outcome = Outcome::Kill {
     rule: RuleNo(2),
-    conn: true,
-    rate: false,
+    exceeded: Exceeded::Connections,
     overload: Some(Added::New),
     killed: 3,
 };
@@ -295,16 +287,14 @@ const EXPIRED: &[Case] = &[
 
 const AGAIN_ADDED: Outcome = Outcome::Kill {
     rule: RuleNo(1),
-    conn: true,
-    rate: false,
+    exceeded: Exceeded::Connections,
     overload: Some(Added::New),
     killed: 1,
 };
 
 const AGAIN_HELD: Outcome = Outcome::Kill {
     rule: RuleNo(1),
-    conn: true,
-    rate: false,
+    exceeded: Exceeded::Connections,
     overload: Some(Added::Held),
     killed: 1,
 };

@@ -8,7 +8,7 @@ use crate::scripts::{Case, Script};
 use crate::tallied::Tallied;
 use pfs_addr_values::Packet;
 use pfs_conf::{Config, TableNo, load};
-use pfs_engine::{Engine, Event, Outcome, What};
+use pfs_engine::{Arrival, Engine, Event, Outcome};
 use pfs_store::IndexStore;
 use pfs_store_contract::Store;
 use pfs_store_plain::PlainStore;
@@ -58,6 +58,8 @@ pub fn tell(rt: &(impl Abort + AllocGlobal), first: &[u8], case: &Case) -> Resul
     ends(rt, plain(alloc, first, case.rules)?, &script, case)?;
     ends(rt, tallied(alloc, first, case.rules)?, &script, case)?;
     ends(rt, indexed(alloc, first, case.rules)?, &script, case)?;
+    steps(rt, plain(alloc, first, case.rules)?, &script, case)?;
+    steps(rt, indexed(alloc, first, case.rules)?, &script, case)?;
     runs(rt, plain(alloc, first, case.rules)?, &script, case)?;
     runs(rt, indexed(alloc, first, case.rules)?, &script, case)
 }
@@ -118,12 +120,30 @@ fn ends<S: Store + Drop>(
         pass_time(rt, &mut engine, event.time);
         let before = held(&engine);
         let told = match &event.what {
-            What::Packet(packet) => take(rt, &mut engine, packet)?,
-            What::Skip => Outcome::Skip,
-            What::Expire { table, seconds } => expire(rt, &mut engine, *table, *seconds),
+            Arrival::Packet(packet) => take(rt, &mut engine, packet)?,
+            Arrival::Skip => Outcome::Skip,
+            Arrival::Expire { table, seconds } => expire(rt, &mut engine, *table, *seconds),
         };
         same!(rt; told, *outcome, (case.shows, event));
         assert!(rt; !matches!(told, Outcome::Drop(..)) || held(&engine) == before);
+    }
+    check_end(rt, &engine, script, case);
+    Ok(())
+}
+
+// Each event by one call, and what is held after them
+fn steps<S: Store + Drop>(
+    rt: &impl Abort,
+    engine: Engine<S>,
+    script: &Script,
+    case: &Case,
+) -> Result<(), Fail> {
+    let mut engine = engine;
+    for (event, outcome) in script.events.iter().zip(&script.outcomes) {
+        assert!(rt; is_in_time(engine.last(), event.time));
+        assert!(rt; engine.taken() < 1_000_000_000);
+        assert!(rt; may_come(engine.config(), &event.what));
+        same!(rt; engine.step(event)?, *outcome, (case.shows, event));
     }
     check_end(rt, &engine, script, case);
     Ok(())
@@ -189,11 +209,11 @@ fn may_expire(config: &Config, table: TableNo) -> bool
     table.0 < config.table_count() && !config.is_const(table)
 }
 
-fn may_come(config: &Config, what: &What) -> bool
+fn may_come(config: &Config, what: &Arrival) -> bool
     ensures { result ≡ true → MayCome config.now what.now }
 {
     match what {
-        What::Expire { table, .. } => may_expire(config, *table),
+        Arrival::Expire { table, .. } => may_expire(config, *table),
         _ => true,
     }
 }

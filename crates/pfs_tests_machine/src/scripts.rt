@@ -3,7 +3,7 @@
 use crate::packets::{ACK, FIN_ACK, RST, SYN, SYN_ACK, Sent, packet};
 use pfs_addr_values::Addr;
 use pfs_conf::{RuleNo, TableNo};
-use pfs_engine::{Event, Outcome, What};
+use pfs_engine::{Arrival, Event, Outcome};
 use std::alloc::Global;
 use std::test::Fail;
 
@@ -70,25 +70,25 @@ impl Script {
             Came::Ack => Sent::Tcp(80, ACK),
             Came::Fin => Sent::Tcp(80, FIN_ACK),
             Came::Reset => Sent::Tcp(80, RST),
-            Came::Nothing => return self.put(time, What::Skip, outcome),
+            Came::Nothing => return self.put(time, Arrival::Skip, outcome),
             Came::Expire(seconds) => {
                 let table = TableNo(0);
-                return self.put(time, What::Expire { table, seconds }, outcome);
+                return self.put(time, Arrival::Expire { table, seconds }, outcome);
             }
             Came::Shake(rule) => {
                 let syn = packet(&Sent::Tcp(80, SYN), source, port)?;
-                self.put(time, What::Packet(syn), Outcome::New(RuleNo(rule)))?;
+                self.put(time, Arrival::Packet(syn), Outcome::New(RuleNo(rule)))?;
                 let answer = packet(&Sent::Answer(SYN_ACK), source, port)?;
-                self.put(time, What::Packet(answer), Outcome::State(RuleNo(rule)))?;
+                self.put(time, Arrival::Packet(answer), Outcome::State(RuleNo(rule)))?;
                 Sent::Tcp(80, ACK)
             }
         };
         let packet = packet(&sent, source, port)?;
-        self.put(time, What::Packet(packet), outcome)
+        self.put(time, Arrival::Packet(packet), outcome)
     }
 
-    fn put(&mut self, time: u64, what: What, outcome: Outcome) -> Result<(), Fail> {
-        if let What::Packet(_) = what {
+    fn put(&mut self, time: u64, what: Arrival, outcome: Outcome) -> Result<(), Fail> {
+        if let Arrival::Packet(_) = what {
             self.packets = self.packets.saturating_add(1);
         }
         self.events.push(Event { time, what })?;

@@ -5,7 +5,7 @@ use crate::packets::{A1, A2, ACK, SYN, SYN_ACK, Sent, packet};
 use crate::scripts::{Came, Case, Script};
 use pfs_addr_values::Addr;
 use pfs_conf::RuleNo;
-use pfs_engine::{Added, Engine, Event, Limit, Outcome, What, Work};
+use pfs_engine::{Added, Arrival, Engine, Event, Exceeded, Limit, Outcome, Work};
 use pfs_store_contract::Store;
 use std::process::Abort;
 use std::test::Fail;
@@ -165,8 +165,7 @@ const KILLED: &[Row] = &[
 
 const ALONE: Outcome = Outcome::Kill {
     rule: RuleNo(0),
-    conn: true,
-    rate: false,
+    exceeded: Exceeded::Connections,
     overload: None,
     killed: 1,
 };
@@ -204,8 +203,7 @@ const FLUSHED: &[Row] = &[
 
 const ALL: Outcome = Outcome::Kill {
     rule: RuleNo(2),
-    conn: true,
-    rate: false,
+    exceeded: Exceeded::Connections,
     overload: Some(Added::New),
     killed: 3,
 };
@@ -386,8 +384,7 @@ const REFUSED: Outcome = Outcome::Drop(RuleNo(0), Limit::States);
 
 const OF_THE_RULE: Outcome = Outcome::Kill {
     rule: RuleNo(2),
-    conn: true,
-    rate: false,
+    exceeded: Exceeded::Connections,
     overload: Some(Added::New),
     killed: 2,
 };
@@ -402,7 +399,7 @@ fn look<S: Store>(
 ) -> Result<(), Fail> {
     pass_time(rt, engine, event.time);
     same!(rt; engine.work().looks <= of_time, true, event);
-    if let What::Packet(packet) = &event.what {
+    if let Arrival::Packet(packet) = &event.what {
         same!(rt; take(rt, engine, packet)?, outcome, event);
         same!(rt; engine.work().looks <= of_packet, true, event);
     }

@@ -7,7 +7,7 @@ ghost use Rattle.pfs_engine_machine.specs.Runs.{AreAllowed, IsInOrder, MayCome, 
 use crate::packets::{A1, A2, Sent, packet};
 use pfs_addr_values::{Addr, NoMemory, Packet};
 use pfs_conf::{Config, RuleNo, TableNo, load};
-use pfs_engine::{Added, Engine, Event, Limit, Outcome, What};
+use pfs_engine::{Added, Arrival, Engine, Event, Exceeded, Limit, Outcome};
 use pfs_store::{IndexStore, PlainStore, Store};
 use pfs_tests_telling::{
     CONNECTIONS, FULL, NODES, OVERLOAD, Stop, answered, begin, begin_free, end, plain, refused,
@@ -60,8 +60,7 @@ const CASES: &[Case] = &[
                 1001,
                 Outcome::Kill {
                     rule: RuleNo(2),
-                    conn: true,
-                    rate: false,
+                    exceeded: Exceeded::Connections,
                     overload: Some(Added::New),
                     killed: 2,
                 },
@@ -86,8 +85,7 @@ const CASES: &[Case] = &[
                 1001,
                 Outcome::Kill {
                     rule: RuleNo(0),
-                    conn: true,
-                    rate: false,
+                    exceeded: Exceeded::Connections,
                     overload: Some(Added::Full),
                     killed: 1,
                 },
@@ -116,8 +114,7 @@ const CASES: &[Case] = &[
                 1001,
                 Outcome::Kill {
                     rule: RuleNo(1),
-                    conn: true,
-                    rate: false,
+                    exceeded: Exceeded::Connections,
                     overload: None,
                     killed: 1,
                 },
@@ -133,6 +130,7 @@ pub fn tell_plain(rt: &HostRuntime) -> Result<(), Stop> {
     for case in CASES {
         make_plain(rt, case)?;
         walk_plain(rt, case)?;
+        step_plain(rt, case)?;
         run_plain(rt, case)?;
     }
     Ok(())
@@ -150,6 +148,11 @@ fn walk_plain(rt: &HostRuntime, case: &Case) -> Result<(), Stop> {
     walk(rt, &mut engine, case)
 }
 
+fn step_plain(rt: &HostRuntime, case: &Case) -> Result<(), Stop> {
+    let mut engine = plain_engine(rt, case)?;
+    step_each(rt, &mut engine, case)
+}
+
 fn run_plain(rt: &HostRuntime, case: &Case) -> Result<(), Stop> {
     let mut engine = plain_engine(rt, case)?;
     run_all(rt, &mut engine, case)
@@ -160,6 +163,7 @@ pub fn tell_indexed(rt: &HostRuntime) -> Result<(), Stop> {
     for case in CASES {
         make_indexed(rt, case)?;
         walk_indexed(rt, case)?;
+        step_indexed(rt, case)?;
         run_indexed(rt, case)?;
     }
     Ok(())
@@ -175,6 +179,11 @@ fn make_indexed(rt: &HostRuntime, case: &Case) -> Result<(), Stop> {
 fn walk_indexed(rt: &HostRuntime, case: &Case) -> Result<(), Stop> {
     let mut engine = indexed_engine(rt, case)?;
     walk(rt, &mut engine, case)
+}
+
+fn step_indexed(rt: &HostRuntime, case: &Case) -> Result<(), Stop> {
+    let mut engine = indexed_engine(rt, case)?;
+    step_each(rt, &mut engine, case)
 }
 
 fn run_indexed(rt: &HostRuntime, case: &Case) -> Result<(), Stop> {
@@ -323,12 +332,63 @@ fn begin_packet(rt: &HostRuntime, case: &Case, row: &Row) -> Result<(), Stop> {
     }
 }
 
+// The packets by one call each, with the time up to them; once more where memory was refused.
+fn step_each<S: Store>(rt: &HostRuntime, engine: &mut Engine<S>, case: &Case) -> Result<(), Stop> {
+    for row in case.rows {
+        if !step(rt, engine, case, row)? {
+            step(rt, engine, case, row)?;
+        }
+    }
+    begin_free(rt, "what is held")?;
+    let is_right = is_end(engine, case);
+    end(rt)?;
+    plain(rt, is_right)?;
+    Ok(())
+}
+
+fn step<S: Store>(
+    rt: &HostRuntime,
+    engine: &mut Engine<S>,
+    case: &Case,
+    row: &Row,
+) -> Result<bool, Stop> {
+    let event = event_of(row)?;
+    let taken = engine.taken();
+    if !is_in_time(engine.last(), event.time) || taken >= 1_000_000_000 {
+        return Err(Stop::Input);
+    }
+    if !may_come(engine.config(), &event.what) {
+        return Err(Stop::Input);
+    }
+    begin_step(rt, case, row)?;
+    let answer = engine.step(&event);
+    end(rt)?;
+    let is_there = engine.last() == Some(event.time);
+    match answer {
+        Ok(outcome) => plain(
+            rt,
+            is_there && outcome == row.4 && engine.taken() == taken + 1,
+        ),
+        Err(_) => refused(rt, is_there && engine.taken() == taken),
+    }
+}
+
+fn begin_step(rt: &HostRuntime, case: &Case, row: &Row) -> Result<(), Stop> {
+    match row.4 {
+        Outcome::New(_) => begin(rt, "step that makes a state"),
+        Outcome::State(_) | Outcome::Kill { .. } if case.has_overload => {
+            begin(rt, "step of a rule with overload")
+        }
+        _ => begin_free(rt, "step"),
+    }
+}
+
 fn event_of(row: &Row) -> Result<Event, Stop> {
     let (time, sent, source, port, _) = *row;
     let packet = packet(sent, source, port)?;
     Ok(Event {
         time,
-        what: What::Packet(packet),
+        what: Arrival::Packet(packet),
     })
 }
 
@@ -406,11 +466,11 @@ fn may_expire(config: &Config, table: TableNo) -> bool
     table.0 < config.table_count() && !config.is_const(table)
 }
 
-fn may_come(config: &Config, what: &What) -> bool
+fn may_come(config: &Config, what: &Arrival) -> bool
     ensures { result ≡ true → MayCome config.now what.now }
 {
     match what {
-        What::Expire { table, .. } => may_expire(config, *table),
+        Arrival::Expire { table, .. } => may_expire(config, *table),
         _ => true,
     }
 }

@@ -5,8 +5,8 @@ use Rattle.pfs_engine.specs.Rooms.{HasRoomFor}
 use Rattle.pfs_engine_machine.proofs.OptionLaws.{options_there, some_of}
 use Rattle.pfs_engine.proofs.handshakes.complete_handshake.Goals as goal
 
-pub is_over-rate-requires : goal.is_over-rate-requires
-is_over-rate-requires g c = some_of _ _ (c.in-Some.ensures.kept _ refl).max_src_conn_rate
+pub exceeded_limits-requires : goal.exceeded_limits-requires
+exceeded_limits-requires g c = some_of _ _ (c.in-Some.ensures.kept _ refl).max_src_conn_rate
 
 pub add_source-added-requires : goal.add_source-added-requires
 add_source-added-requires g c =

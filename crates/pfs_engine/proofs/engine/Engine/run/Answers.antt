@@ -72,18 +72,18 @@ loop-event-preserved g c =
     let within : at < length es = omega arith in
     let stepped = rw (i.config, c.event-item.is) at k.ok in
     record {
-      outcomes = c.push_reserved.ensures.items ∙ (ap (λ (os : List Outcome). os ++ c.in-Ok.outcome ∷ []) c.reserve.ensures.items ∙ outcomes_next conf first c.loop-event.self.machine c.event.new.self.machine c.args.outcomes.now.items c.loop-event.outcomes.items c.in-Ok.outcome es at _ within stepped i.machine i.outcomes);
+      outcomes = c.push_reserved.ensures.items ∙ (ap (λ (os : List Outcome). os ++ c.in-Ok.outcome ∷ []) c.reserve.ensures.items ∙ outcomes_next conf first c.loop-event.self.machine c.step.new.self.machine c.args.outcomes.now.items c.loop-event.outcomes.items c.in-Ok.outcome es at _ within stepped i.machine i.outcomes);
       machine = machine_next conf first c.loop-event.self.machine _ c.in-Ok.outcome es at _ within stepped i.machine;
-      config = c.event.ensures.config ∙ i.config;
-      limits = c.event.ensures.limits;
+      config = c.step.ensures.config ∙ i.config;
+      limits = c.step.ensures.limits;
       allowed = allowed_next conf es at c.event-item.result within i.allowed;
-      order = rw (c.event.ensures.last, c.event-item.is) (order_next c.loop-event.self.machine.last es at _ within i.order);
-      taken = taken_next c.args.self.now.taken c.loop-event.self.taken c.event.new.self.taken es at _ within i.taken (rw c.event-item.is at k.taken);
-      room = omega (arith, length-drop at es, length-drop (at + 1) es, i.room, c.event.ensures.few);
+      order = rw (c.step.ensures.last, c.event-item.is) (order_next c.loop-event.self.machine.last es at _ within i.order);
+      taken = taken_next c.args.self.now.taken c.loop-event.self.taken c.step.new.self.taken es at _ within i.taken (rw c.event-item.is at k.taken);
+      room = omega (arith, length-drop at es, length-drop (at + 1) es, i.room, c.step.ensures.few);
     }
 
-pub event-requires-clause-table : goal.event-requires-clause-table
-event-requires-clause-table g c =
+pub step-requires-clause-table : goal.step-requires-clause-table
+step-requires-clause-table g c =
     let i = c.loop-event.invariant in
     let at = c.loop-event.event-index in
     let es = c.args.events.now in

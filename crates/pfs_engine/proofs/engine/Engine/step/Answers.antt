@@ -1,11 +1,11 @@
--- Answers of Engine::event: memory is refused only where the packet needs it, and never at a skip (`err`).
+-- Answers of Engine::step: memory is refused only where the packet needs it, and never at a skip (`err`).
 use Rattle.std.proofs.Common.{IsOk, subst}
 use Rattle.pfs_conf_values.specs.Configs.{Conf}
 use Rattle.pfs_engine_machine.specs.Kept.{moment_of}
 use Rattle.pfs_engine_machine.specs.Machine.{answered}
 use Rattle.pfs_engine_machine.specs.Refusals.{IsFree}
 use Rattle.pfs_engine.proofs.Free.{refused_in}
-use Rattle.pfs_engine.proofs.engine.Engine.event.Goals as goal
+use Rattle.pfs_engine.proofs.engine.Engine.step.Goals as goal
 
 pub returns-in-Packet-clause-err : goal.returns-in-Packet-clause-err
 returns-in-Packet-clause-err g c =
