@@ -20,8 +20,8 @@ use Rattle.pfs_conf_values.specs.LoadRules.{IsItem, IsItemAt}
 use Rattle.pfs_conf_values.specs.declared.items.Anchor.{Anchor}
 use Rattle.pfs_conf_values.specs.declared.items.Item.{Item}
 use Rattle.pfs_conf_values.specs.declared.items.Rule.{Rule}
-use Rattle.pfs_conf_values.specs.declared.items.What.{What}
-use Rattle.pfs_conf_values.specs.declared.items.What.TheVariants as what
+use Rattle.pfs_conf_values.specs.declared.items.ItemKind.{ItemKind}
+use Rattle.pfs_conf_values.specs.declared.items.ItemKind.TheVariants as what
 use Rattle.pfs_conf_values.specs.declared.limits.Limits.{Limits}
 use Rattle.pfs_conf_values.specs.declared.tables.TableDef.{TableDef}
 use Rattle.pfs_conf.specs.Grammar.{StatementOf, anchor, close, rule, table}
@@ -141,10 +141,10 @@ item_line limits timeouts tables before i line lines more t names h few fresh = 
     d : Drafted
     d = drafted limits timeouts tables before
 
-    item : ℕ → What → Item
+    item : ℕ → ItemKind → Item
     item depth w = record { depth = depth; what = w }
 
-    go : (depth : ℕ) (w : What) → IsItemAt (length tables) depth w → repeats_name (item depth w) before ≡ false
+    go : (depth : ℕ) (w : ItemKind) → IsItemAt (length tables) depth w → repeats_name (item depth w) before ≡ false
         → (ls : List ℕ) × StatementOf (reached d depth lines) (tokens 0 false line (what_text tables w ++ more))
         (reached (drafted limits timeouts tables (before ++ item depth w ∷ [])) (next_depth (item depth w)) ls) (tokens 0 false (suc line) more)
     go depth (what.Rule r) k f =

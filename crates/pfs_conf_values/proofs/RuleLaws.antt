@@ -17,8 +17,8 @@ use Rattle.pfs_conf_values.specs.declared.actions.Scope.{Scope}
 use Rattle.pfs_conf_values.specs.declared.actions.Scope.TheVariants as scope
 use Rattle.pfs_conf_values.specs.declared.items.Item.{Item}
 use Rattle.pfs_conf_values.specs.declared.items.Rule.{Rule}
-use Rattle.pfs_conf_values.specs.declared.items.What.{What}
-use Rattle.pfs_conf_values.specs.declared.items.What.TheVariants as what
+use Rattle.pfs_conf_values.specs.declared.items.ItemKind.{ItemKind}
+use Rattle.pfs_conf_values.specs.declared.items.ItemKind.TheVariants as what
 
 -- of no timeouts none is given, at any place
 pub no_timeouts-None : (place : ℕ) → slice_index_or no_timeouts place None ≡ None
@@ -60,7 +60,7 @@ item-IsItem conf sound n i h =
 pub rule_at-IsRule : (conf : Conf) → IsConfig conf → (n : ℕ) (r : Rule) → rule_at conf n ≡ Some r → IsRule (length conf.tables) r
 rule_at-IsRule conf sound n r h = by (slice_get conf.items n) refl
   where
-    in_item : (i : Item) (w : What) → IsItemAt (length conf.tables) i.depth w → rule_in w ≡ Some r → IsRule (length conf.tables) r
+    in_item : (i : Item) (w : ItemKind) → IsItemAt (length conf.tables) i.depth w → rule_in w ≡ Some r → IsRule (length conf.tables) r
     in_item i (what.Rule s) k e = subst (IsRule (length conf.tables)) (let same : s ≡ r = cc in same) k.1
     in_item i (what.Anchor a) k e = absurd cc
 
@@ -111,6 +111,6 @@ rated-scope conf sound n h =
 pub items-shallow : (conf : Conf) → IsConfig conf → All (λ (i : Item). i.depth ≤ 16) conf.items
 items-shallow conf sound = All-weaker (IsItem (length conf.tables)) (λ (i : Item). i.depth ≤ 16) (λ i. by i.what i.depth) conf.items sound.items
   where
-    by : (w : What) (depth : ℕ) → IsItemAt (length conf.tables) depth w → depth ≤ 16
+    by : (w : ItemKind) (depth : ℕ) → IsItemAt (length conf.tables) depth w → depth ≤ 16
     by (what.Rule r) depth k = k.0
     by (what.Anchor a) depth k = omega arith
