@@ -8,6 +8,9 @@ use crate::keys::Key;
 use crate::pieces::Token;
 use crate::words::key_of;
 
+/// The most bytes of a rules text. (own to this profile)
+pub const TEXT_LIMIT: usize = 1_048_576;
+
 /// What bytes that stand together may be: a word, a comment, or the inside of a quoted string.
 #[derive(Clone, Copy, Debug, PartialEq, Eq)]
 pub enum Run {

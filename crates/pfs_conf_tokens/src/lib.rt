@@ -11,6 +11,7 @@ mod words;
 
 pub use cursors::Cursor;
 pub use keys::Key;
+pub use lexer::TEXT_LIMIT;
 pub use numbers::{digits, number, skip_lines, split_at_byte};
 pub use refusals::{LoadRule, ReadError, Refusal, Why};
 pub use words::key_of;
