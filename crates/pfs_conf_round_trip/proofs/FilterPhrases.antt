@@ -44,11 +44,11 @@ use Rattle.pfs_conf_filters.specs.Reading.{all_hosts, given_hosts, interface, ma
 use Rattle.pfs_conf_filters.specs.Values.{is_plain_word, exactly, flag_test, flag_test_by, flag_test_of, flags_around, in_plain_word, in_word, interface_name, may_name_interface, ports_of, table_name}
 use Rattle.pfs_conf_filters.specs.declared.phrases.Statement.{Statement}
 use Rattle.pfs_conf_filters.specs.declared.phrases.Statement.TheVariants as statement
-use Rattle.pfs_conf_show.specs.Filters.{dir_text, family_text, flags_text, host_text, hosts_text, is_every_side, letters_text, on_text, ports_text, proto_text, quick_text, range_text, side_text}
+use Rattle.pfs_conf_show.specs.Filters.{dir_text, family_text, flags_text, host_text, hosts_text, is_every_side, on_text, ports_text, proto_text, quick_text, range_text, side_text}
 use Rattle.pfs_conf_show.specs.Pieces.{not_text, prefix_text}
 use Rattle.pfs_conf_show.specs.Tables.{angled, name_in}
 use Rattle.pfs_conf_round_trip.proofs.Said.{host_said, hosts_said, parameters_said, side_said, table_said}
-use Rattle.pfs_conf_round_trip.proofs.Letters.{flags_again, letters_all, letters_some}
+use Rattle.pfs_addr.proofs.LetterTexts.{flags_again, letters_all, letters_some}
 use Rattle.pfs_conf_round_trip.proofs.Names.{is_other, key_of_word, may_name, name_again, name_text, not_any}
 use Rattle.pfs_conf_round_trip.proofs.Numbers.{no_word, ports_again, ports_word, proto_again, proto_known}
 use Rattle.pfs_conf_round_trip.proofs.PrefixWords.{prefix_again, prefix_plain, prefix_word}
