@@ -1,4 +1,4 @@
-// Sets of TCP flags in texts.
+//! Sets of TCP flags in texts.
 
 ghost use Rattle.std.specs.Prelude.{◌≡◌, ◌++◌, OnOk, Some};
 ghost use Rattle.pfs_addr_values.specs.FlagSets.{flags_of, is_flag_letter, letter_text, letters_text};

@@ -1,5 +1,5 @@
-// Addresses, prefixes, protocols, ports, flags, names, packets and the keys of states: the small values that every
-// other crate compares, and the meter that counts work. None of these calls takes memory.
+//! Addresses, prefixes, protocols, ports, flags, names, packets and the keys of states: the small values that every
+//! other crate compares, and the meter that counts work. None of these calls takes memory.
 #![tactic(auto)]
 
 mod addresses;

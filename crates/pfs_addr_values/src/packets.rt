@@ -1,4 +1,4 @@
-// Packets, as the rules and the states look at them, and the keys by which states are found.
+//! Packets, as the rules and the states look at them, and the keys by which states are found.
 
 ghost use Rattle.std.specs.Prelude.{◌≡◌, false};
 ghost use Rattle.std.specs.Str.{bytes_eq};

@@ -1,4 +1,4 @@
-// `flags`, and the sets of flags that it asks for.
+//! `flags`, and the sets of flags that it asks for.
 
 ghost use Rattle.std.specs.Prelude.{◌≡◌, ◌==◌, length};
 ghost use Rattle.pfs_conf_tokens.specs.Giving.{Gives};
@@ -31,7 +31,7 @@ pub fn read_flags(cursor: &mut Cursor) -> Result<FlagTest, Refusal>
     take_value(cursor, Why::Plain, test)
 }
 
-/// The test that a word says: a/b asks that of the flags b exactly a are set.
+// The test that a word says: a/b asks that of the flags b exactly a are set.
 #[tactic(auto, unfolding(crate::specs::Values::flag_test_of))]
 fn parse_flag_test(text: &[u8]) -> Option<FlagTest>
     ensures { result ≡ flag_test_of text.now }

@@ -1,4 +1,4 @@
-// Words that say a value: names of interfaces and tables.
+//! Words that say a value: names of interfaces and tables.
 
 ghost use Rattle.std.specs.Prelude.{◌≡◌, Option};
 ghost use Rattle.pfs_conf_tokens.specs.Tokens.{head};

@@ -1,5 +1,5 @@
-// Readers of a state clause and its options: each reads a value at the cursor, which then stands behind it, or at the
-// token that goes on no statement.
+//! Readers of a state clause and its options: each reads a value at the cursor, which then stands behind it, or at the
+//! token that goes on no statement.
 
 ghost use Rattle.std.specs.Prelude.{◌≡◌, ◌<◌, ◌≤◌, IfOk, IfSome, MatchBool, Ok, Err, Some};
 ghost use Rattle.pfs_conf_tokens.specs.Reading.{closes_parens, act, chain, done, once, take, until_all, next_of, list_all, number_at};

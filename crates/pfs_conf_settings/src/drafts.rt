@@ -1,4 +1,4 @@
-// What the statements of a rules text say that have been read so far.
+//! What the statements of a rules text say that have been read so far.
 
 ghost use Rattle.std.specs.Prelude.{◌≡◌, ◌<◌, ◌≤◌, ◌+◌, ◌++◌, [], ◌∷◌, IfOk, IfSome, None, OnErr, OnOk, false, true, length, position};
 ghost use Rattle.std.specs.Option.{option_map};

@@ -1,4 +1,4 @@
-// The entries of a table that is being read, found by their prefixes.
+//! The entries of a table that is being read, found by their prefixes.
 
 ghost use Rattle.std.specs.Prelude.{◌≡◌, ◌++◌, [], ◌∷◌, IfOk, None, OnErr, OnOk, slice_get};
 ghost use Rattle.pfs_conf_values.specs.Entries.{sign_of};

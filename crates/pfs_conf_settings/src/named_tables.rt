@@ -1,4 +1,4 @@
-// The tables that a text has named so far, found by their names and by their numbers.
+//! The tables that a text has named so far, found by their names and by their numbers.
 
 ghost use Rattle.std.specs.Prelude.{◌≡◌, ◌<◌, ◌≤◌, [], All, IfOk, OnOk, OnErr, false, length, true};
 ghost use Rattle.std.specs.List.{IsDistinct};

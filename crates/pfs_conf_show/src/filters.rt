@@ -1,4 +1,4 @@
-// The parameters of rules and anchors.
+//! The parameters of rules and anchors.
 
 ghost use Rattle.std.specs.Prelude.{◌≡◌, ◌++◌, OnOk};
 ghost use Rattle.pfs_conf_show.specs.Filters.{dir_text, family_text, flags_text, host_text, hosts_text, is_every_side, on_text, parameters_text, ports_text, proto_text, quick_text, range_text, side_text};

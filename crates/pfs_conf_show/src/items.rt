@@ -1,4 +1,4 @@
-// The lines of rules and anchors, and the whole text.
+//! The lines of rules and anchors, and the whole text.
 
 ghost use Rattle.std.specs.Prelude.{◌≡◌, ◌≤◌, ◌-◌, ◌++◌, IfOk, OnOk};
 ghost use Rattle.pfs_conf_values.specs.Order.{next_depth};

@@ -1,4 +1,4 @@
-// The tokens of a rules text and a cursor over them, on which the readers of statements are built.
+//! The tokens of a rules text and a cursor over them, on which the readers of statements are built.
 #![tactic(auto)]
 
 mod cursors;

@@ -1,4 +1,4 @@
-// What a rules text says, and how it is read.
+//! What a rules text says, and how it is read.
 
 ghost use Rattle.std.specs.Prelude.{◌≡◌, ◌<◌, ◌≤◌, ◌-◌, ◌^◌, IfOk, IfSome, IsSome, length, min, position, slice_get};
 ghost use Rattle.std.specs.Option.{option_copied};

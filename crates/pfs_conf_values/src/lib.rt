@@ -1,4 +1,4 @@
-// The configuration that a rules text says: limits, timeouts, tables, and the tree of rules and anchors.
+//! The configuration that a rules text says: limits, timeouts, tables, and the tree of rules and anchors.
 #![tactic(auto)]
 
 mod actions;
