@@ -10,7 +10,7 @@ use Rattle.pfs_conf_tokens.specs.Keys.{is_word_key}
 use Rattle.pfs_conf_tokens.specs.Words.{key_of_text}
 use Rattle.pfs_conf_tokens.specs.Numbers.{split_around}
 use Rattle.pfs_conf_tokens.specs.Grammar.{Word, Perhaps, absent, present, Until, ends, goes, NextOf, plain, comma}
-use Rattle.pfs_conf_tokens.proofs.WordKeys.{key_of-Any, key_of-Rdomain}
+use Rattle.pfs_conf_tokens.proofs.WordKeys.{key_of_Any, key_of_Rdomain}
 use Rattle.pfs_addr_values.specs.Names.{is_name, name_of}
 use Rattle.pfs_addr_values.specs.Numbers.{number_of}
 use Rattle.pfs_conf_tokens.specs.Numbers as text_numbers
@@ -81,7 +81,7 @@ other_word t text k l may not_k e = choose (bytes_eq t.text text) refl
 interface_good : (t : Tok) (b : Bool) → IsLexed t → IfSome (interface_name t) (λ n. IsInterface (record { name = n; negated = b }))
 interface_good t b l = if_some (may_name_interface t.key) (name_of 15 t.text) None (λ n. IsInterface (record { name = n; negated = b }))
     (λ may. if_some (is_name 15 t.text) (Some t.text) None (λ n. IsInterface (record { name = n; negated = b }))
-    (λ good. record { name = good; not_any = other_word t (codes "any") key.Any l may refl key_of-Any; not_rdomain = other_word t (codes "rdomain") key.Rdomain l may refl key_of-Rdomain })
+    (λ good. record { name = good; not_any = other_word t (codes "any") key.Any l may refl key_of_Any; not_rdomain = other_word t (codes "rdomain") key.Rdomain l may refl key_of_Rdomain })
     (λ e. tt))
     (λ e. tt)
 

@@ -10,7 +10,7 @@ use Rattle.pfs_conf_tokens.specs.Lexis.{tokens}
 use Rattle.pfs_conf_tokens.specs.Tokens.{Tok, head, token}
 use Rattle.pfs_conf_tokens.specs.Words.{key_of_text}
 use Rattle.pfs_conf_tokens.proofs.ShownLaws.{end_then}
-use Rattle.pfs_conf_tokens.proofs.WordKeys.{key_of-Table}
+use Rattle.pfs_conf_tokens.proofs.WordKeys.{key_of_Table}
 use Rattle.pfs_conf_values.specs.Configs.{table_names}
 use Rattle.pfs_conf_values.specs.Invariants.{IsTable}
 use Rattle.pfs_conf_values.specs.Order.{AreNamedOnce, IsPreorder, next_depth, repeats_name}
@@ -80,7 +80,7 @@ table_reads d t line lines more h new =
     let Q : TableDef → Type 0 = λ z. StatementOf (reached d 0 lines) (tokens 0 false line (codes "table " ++ (angled t.name ++ parts))) (reached (with_table z d) 0 lines) (tokens 0 false (suc line) more) in
     subst P (sym (table_parts (codes "table ") (angled t.name) (const_text t.is_const) body (codes "\n") more))
     (subst Q (table_again t.name t.is_const t.entries)
-    (table t.name (parts_said t.is_const t.entries) refl (word_space false line (codes "table") (angled t.name ++ parts) refl key_of-Table) (
+    (table t.name (parts_said t.is_const t.entries) refl (word_space false line (codes "table") (angled t.name ++ parts) refl key_of_Table) (
       record {
         inner = at line (t.name ++ 62 ∷ parts);
         behind = at line (62 ∷ parts);
