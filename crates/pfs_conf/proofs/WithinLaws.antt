@@ -32,7 +32,8 @@ use Rattle.pfs_conf_values.specs.declared.filters.Side.{Side}
 use Rattle.pfs_conf_filters.specs.declared.phrases.Hosts.{Hosts}
 use Rattle.pfs_conf_filters.specs.declared.phrases.Parameters.{Parameters}
 use Rattle.pfs_conf_filters.specs.declared.phrases.Statement.{Statement}
-use Rattle.pfs_conf_filters.specs.Values.{in_word, is_plain_word, in_plain_word, may_name_interface, interface_name, port_numbered, port_by, port_of, one_port, port_range, ports_around, ports_of, exactly, flags_around, flag_test_of, flag_test_by, flag_test}
+use Rattle.pfs_conf_filters.specs.Values.{is_plain_word, in_plain_word, may_name_interface, interface_name, port_numbered, port_by, port_of, one_port, port_range, ports_around, ports_of, exactly, flags_around, flag_test_of, flag_test_by, flag_test}
+use Rattle.pfs_conf_tokens.specs.Values.{in_word}
 use Rattle.pfs_conf_filters.specs.Grammar.{Says, Behind, NegationOf, affirmed, negated, OnOf, on, HostOf, any, prefix, table, PortsOf, plainly, equals, SideOf, hosted, ported, HostsOf, every, sides, ParametersOf, FlagsOf, DirOf, inward, outward, LogItemOf, all, matches, user, to, bare, listed, LogOf, silent, logs, QuickOf, slow, quick, MarksOf, log_first, quick_first, of_anchor}
 use Rattle.pfs_conf_filters.specs.Sides.{side_not_given, source_of, destination_of}
 use Rattle.pfs_addr_values.specs.declared.packets.Dir.{Dir}

@@ -7,9 +7,8 @@ ghost use Rattle.pfs_conf_filters.specs.Reading.{place_at, host_at, side_host_at
 use crate::heads::head;
 use crate::phrases::{Hosts, Parameters, Statement};
 use crate::services::ports_part;
-use crate::words::{table_name, take_value};
 use pfs_addr::parse_prefix;
-use pfs_conf_tokens::{Cursor, Key, Refusal, Why};
+use pfs_conf_tokens::{Cursor, Key, Refusal, Why, table_name, take_value};
 use pfs_conf_values::{Host, Side, TableName};
 
 /// Reads the parameters of a rule, behind its action, or of an anchor, behind its name, up to its hosts:

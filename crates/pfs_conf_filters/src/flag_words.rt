@@ -5,10 +5,9 @@ ghost use Rattle.pfs_conf_tokens.specs.Giving.{Gives};
 ghost use Rattle.pfs_conf_filters.specs.Values.{flag_test_of, exactly};
 ghost use Rattle.pfs_conf_filters.specs.Reading.{flags_at};
 
-use crate::words::take_value;
 use pfs_addr::parse_flags;
 use pfs_addr_values::Flags;
-use pfs_conf_tokens::{Cursor, Key, Refusal, Why, split_at_byte};
+use pfs_conf_tokens::{Cursor, Key, Refusal, Why, split_at_byte, take_value};
 use pfs_conf_values::FlagTest;
 
 /// Reads `flags any`, or `flags a/b` as one word: letters of `FSRPAUEW` in any order, of which a may be empty and b not.

@@ -7,10 +7,9 @@ ghost use Rattle.pfs_conf_tokens.specs.Numbers.{number_written};
 ghost use Rattle.pfs_conf_filters.specs.Values.{port_of, port_by, port_numbered, one_port, port_range, ports_of};
 ghost use Rattle.pfs_conf_filters.specs.Reading.{proto_at, proto_part_at, ports_at, ports_part_at};
 
-use crate::words::take_value;
 use pfs_addr::parse_proto;
 use pfs_addr_values::Proto;
-use pfs_conf_tokens::{Cursor, Key, Refusal, Why, digits, key_of, split_at_byte};
+use pfs_conf_tokens::{Cursor, Key, Refusal, Why, digits, key_of, split_at_byte, take_value};
 use pfs_conf_values::Ports;
 
 /// `proto PROTO`, if it stands there.

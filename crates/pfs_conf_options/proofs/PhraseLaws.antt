@@ -5,7 +5,7 @@
 use Rattle.std.proofs.Common.{◌≡◌, ℕ, ◌≤◌, Bool, true, false, cond, List, [], ◌∷◌, Option, Some, None, Result, Ok, refl, sym, ap, subst, ◌∙◌, leb, ◌&&◌, slice_index_or, slice_set}
 use Rattle.std.proofs.lemmas.Bool.{and_parts, leb-true, le-leb}
 use Rattle.pfs_conf_tokens.specs.Tokens.{Tok, head}
-use Rattle.pfs_conf_tokens.specs.Reading.{rest, closes_parens, Refused, Reader, Act, take, stay, refuse, act, done, chain, once, number_at}
+use Rattle.pfs_conf_tokens.specs.Reading.{rest, closes_parens, Refused, Reader, Act, take, stay, act, done, chain, once, number_at}
 use Rattle.pfs_conf_tokens.specs.declared.keys.Key.{Key}
 use Rattle.pfs_conf_tokens.specs.declared.keys.Key.TheVariants as key
 use Rattle.pfs_conf_tokens.specs.declared.refusals.Why.TheVariants as why
@@ -27,7 +27,8 @@ use Rattle.pfs_conf_options.specs.declared.clauses.StateClause.{StateClause}
 use Rattle.pfs_conf_options.specs.declared.clauses.StateClause.TheVariants as clause
 use Rattle.pfs_conf_options.specs.Options.{none_given, rule_place}
 use Rattle.pfs_conf_options.specs.Grammar.{TrackOf, bare, rule, global, IsRateText, RateOf, TableOf, FlushOf, nothing, own, all, OverloadOf, OptionOf, max, source_track, max_src_nodes, max_src_states, max_src_conn, max_src_conn_rate, overload, sloppy, floating, no_sync, timeout, KeptOf, plainly, listed, StateOf, no, keep}
-use Rattle.pfs_conf_options.specs.Reading.{track_by, track_at, count_in, counted, rate_with, rate_parts, rate_of, rate_found, rate_by, rate_at, name_found, table_name_at, name_closed_by, name_closed, table_by, table_at, flushed_by, flush_by, flush_at, overload_text_at, mark_once, timeout_by, mark_by, connection_by, option_by, option_at, state_options_at, kept_by, kept_at, kept_clause, behind_state, state_word, state_by, state_at}
+use Rattle.pfs_conf_options.specs.Reading.{track_by, track_at, count_in, counted, rate_with, rate_parts, rate_of, rate_found, rate_by, rate_at, name_closed_by, name_closed, table_by, table_at, flushed_by, flush_by, flush_at, overload_text_at, mark_once, timeout_by, mark_by, connection_by, option_by, option_at, state_options_at, kept_by, kept_at, kept_clause, behind_state, state_word, state_by, state_at}
+use Rattle.pfs_conf_tokens.specs.Values.{table_name_at, valued}
 use Rattle.pfs_conf_options.proofs.OptionLaws.{option_shrinks}
 
 -- ---- readers of one part and then a value that holds it
@@ -147,7 +148,7 @@ unfolding table_name_at
 table_name_is [] name left e = absurd cc
 table_name_is (t ∷ ts) name left e = choose (is_word_key t.key) refl (name_of 31 t.text) refl e
   where
-    choose : (b : Bool) → is_word_key t.key ≡ b → (o : Option (List ℕ)) → name_of 31 t.text ≡ o → act (cond b (name_found o) (refuse why.Plain)) (t ∷ ts) ≡ Ok (name, left) → WordOf (name_of 31) (t ∷ ts) name left
+    choose : (b : Bool) → is_word_key t.key ≡ b → (o : Option (List ℕ)) → name_of 31 t.text ≡ o → act (valued why.Plain (cond b o None)) (t ∷ ts) ≡ Ok (name, left) → WordOf (name_of 31) (t ∷ ts) name left
     choose true g None e h = absurd cc
     choose true g (Some x) e h = let p = ok_parts x name ts left h in (t, ap (λ z. t ∷ z) p.1, g, e ∙ ap (λ z. Some z) p.0)
     choose false g o e h = absurd cc

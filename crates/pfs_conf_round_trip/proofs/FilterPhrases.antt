@@ -41,7 +41,8 @@ use Rattle.pfs_conf_values.specs.declared.filters.TableNo.{TableNo}
 use Rattle.pfs_conf_values.specs.declared.tables.TableDef.{TableDef}
 use Rattle.pfs_conf_filters.specs.Grammar.{Behind, DirOf, FamilyOf, FlagsOf, HostOf, HostsOf, MarksOf, OnOf, ParametersOf, PortsOf, QuickOf, Says, SideOf, inward, outward, slow, quick, silent, log_first, of_anchor, affirmed, negated, on, inet, inet6, any, prefix, table, plainly, hosted, every, sides}
 use Rattle.pfs_conf_filters.specs.Reading.{all_hosts, given_hosts, interface, marked}
-use Rattle.pfs_conf_filters.specs.Values.{is_plain_word, exactly, flag_test, flag_test_by, flag_test_of, flags_around, in_plain_word, in_word, interface_name, may_name_interface, ports_of, table_name}
+use Rattle.pfs_conf_filters.specs.Values.{is_plain_word, exactly, flag_test, flag_test_by, flag_test_of, flags_around, in_plain_word, interface_name, may_name_interface, ports_of}
+use Rattle.pfs_conf_tokens.specs.Values.{in_word, table_name}
 use Rattle.pfs_conf_filters.specs.declared.phrases.Statement.{Statement}
 use Rattle.pfs_conf_filters.specs.declared.phrases.Statement.TheVariants as statement
 use Rattle.pfs_conf_show.specs.Filters.{dir_text, family_text, flags_text, host_text, hosts_text, is_every_side, on_text, ports_text, proto_text, quick_text, range_text, side_text}

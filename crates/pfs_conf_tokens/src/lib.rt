@@ -7,6 +7,7 @@ mod lexer;
 mod numbers;
 mod pieces;
 mod refusals;
+mod values;
 mod words;
 
 pub use cursors::Cursor;
@@ -14,4 +15,5 @@ pub use keys::Key;
 pub use lexer::TEXT_LIMIT;
 pub use numbers::{digits, number, skip_lines, split_at_byte};
 pub use refusals::{LoadRule, ReadError, Refusal, Why};
+pub use values::{table_name, take_value};
 pub use words::key_of;
