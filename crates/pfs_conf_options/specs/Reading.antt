@@ -5,6 +5,7 @@ use Rattle.pfs_conf_tokens.specs.declared.keys.Key.TheVariants as key
 use Rattle.pfs_conf_tokens.specs.declared.refusals.Why.TheVariants as why
 use Rattle.pfs_conf_tokens.specs.Reading.{closes_parens, Reader, Act, take, stay, refuse, on_front, done, chain, once, list_all, number_at}
 use Rattle.pfs_conf_tokens.specs.Numbers.{number_written, split_around}
+use Rattle.pfs_conf_tokens.specs.Values.{table_name_at}
 use Rattle.pfs_conf_values.specs.Bounds.{greatest_timeout}
 use Rattle.pfs_conf_values.specs.declared.actions.Rate.{Rate}
 use Rattle.pfs_conf_values.specs.declared.actions.Scope.{Scope}
