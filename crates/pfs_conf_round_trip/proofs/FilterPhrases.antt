@@ -15,7 +15,7 @@ use Rattle.pfs_conf_tokens.specs.Tokens.{Tok, token}
 use Rattle.pfs_conf_tokens.specs.Words.{key_of_text}
 use Rattle.pfs_conf_tokens.proofs.ShownLaws.{breaks, decimal_text, is_word_text, mark_then, split_around_append, word_then}
 use Rattle.pfs_conf_tokens.proofs.WordKeys.{key_of_All, key_of_Any, key_of_Flags, key_of_From, key_of_In, key_of_Inet, key_of_Inet6, key_of_On, key_of_Out, key_of_Port, key_of_Proto, key_of_Quick, key_of_To}
-use Rattle.pfs_addr_values.specs.FlagSets.{flags_of}
+use Rattle.pfs_addr_values.specs.FlagSets.{flags_of, letters_text}
 use Rattle.pfs_addr_values.specs.Names.{is_name, name_of}
 use Rattle.pfs_addr_values.specs.Prefixes.{IsNetwork, Network}
 use Rattle.pfs_addr_values.specs.Protocols.{proto_in}
