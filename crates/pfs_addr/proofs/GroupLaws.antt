@@ -50,9 +50,9 @@ segments_back (s ∷ xs) =
     let whole : s / 256 * 256 + s % 256 ≡ s = omega arith in
     λ i. whole i ∷ segments_back xs i
 
-length-octets : (xs : List ℕ) → length (octets_of xs) ≡ 2 * length xs
-length-octets [] = refl
-length-octets (s ∷ xs) = omega (arith, length-octets xs)
+length_octets : (xs : List ℕ) → length (octets_of xs) ≡ 2 * length xs
+length_octets [] = refl
+length_octets (s ∷ xs) = omega (arith, length_octets xs)
 
 octets_small : (xs : List ℕ) → All IsSegment xs → All IsByte (octets_of xs)
 octets_small [] h = All-nil IsByte
@@ -64,15 +64,15 @@ octets_small (s ∷ xs) h =
 
 -- eight groups of sixteen bits are an address
 octets_are : (xs : List ℕ) → length xs ≡ 8 → All IsSegment xs → IsAddr (V6 (octets_of xs))
-octets_are xs eight small = (omega (arith, length-octets xs), octets_small xs small)
+octets_are xs eight small = (omega (arith, length_octets xs), octets_small xs small)
 
 bytes_back : (bytes : List ℕ) → IsAddr (V6 bytes) → octets_of (segments_of bytes) ≡ bytes
 bytes_back bytes h = octets_back 8 bytes h.0 h.1
 
-length-segments : (n : ℕ) (xs : List ℕ) → length xs ≡ 2 * n → length (segments_of xs) ≡ n
-length-segments n [] even = omega arith
-length-segments n (a ∷ []) even = absurd (omega arith)
-length-segments n (a ∷ b ∷ xs) even = omega (arith, length-segments (n - 1) xs (omega arith))
+length_segments : (n : ℕ) (xs : List ℕ) → length xs ≡ 2 * n → length (segments_of xs) ≡ n
+length_segments n [] even = omega arith
+length_segments n (a ∷ []) even = absurd (omega arith)
+length_segments n (a ∷ b ∷ xs) even = omega (arith, length_segments (n - 1) xs (omega arith))
 
 segments_small : (xs : List ℕ) → All IsByte xs → AllSegments (segments_of xs)
 segments_small [] h k = omega arith
@@ -149,8 +149,8 @@ groups_good ipv4 lead text (s ∷ segments) plain (inr h) =
       small = subst (All IsSegment) (sym value) (dotted_small last octets dotted);
     }
 
-All-both : (xs ys : List ℕ) → All IsSegment xs → All IsSegment ys → All IsSegment (xs ++ ys)
-All-both xs ys h k = All-append IsSegment xs ys h k
+All_both : (xs ys : List ℕ) → All IsSegment xs → All IsSegment ys → All IsSegment (xs ++ ys)
+All_both xs ys h k = All-append IsSegment xs ys h k
 
 zeros_small : (n : ℕ) → All IsSegment (replicate n 0)
 zeros_small zero = All-nil IsSegment
@@ -163,7 +163,7 @@ colon_hex_good text segments (inr h) =
     let tail = groups_good true [] h.tail_text h.tail refl h.tail_groups in
     record {
       slashless = ap (list_all is_no_slash) h.spelled ∙ both is_no_slash (h.head_text ++ 58 ∷ 58 ∷ []) h.tail_text (both is_no_slash h.head_text (58 ∷ 58 ∷ []) head.slashless refl) tail.slashless;
-      small = subst (All IsSegment) (sym h.value) (All-both (h.head ++ replicate (8 - length h.head - length h.tail) 0) h.tail (All-both h.head (replicate (8 - length h.head - length h.tail) 0) head.small (zeros_small (8 - length h.head - length h.tail))) tail.small);
+      small = subst (All IsSegment) (sym h.value) (All_both (h.head ++ replicate (8 - length h.head - length h.tail) 0) h.tail (All_both h.head (replicate (8 - length h.head - length h.tail) 0) head.small (zeros_small (8 - length h.head - length h.tail))) tail.small);
     }
 
 colon_hex_eight : (text segments : List ℕ) → IsColonHex text segments → length segments ≡ 8
@@ -212,9 +212,9 @@ groups_whole text segments e =
     let text_is : text ≡ front = split ∙ (ap (λ r. front ++ r) none ∙ append-nil front) in
     subst (λ t. IsColonHex t segments) (sym text_is) (subst (λ x. IsColonHex front x) same spelled)
 
-pub groups_of-text : (text bytes : List ℕ) → IsAddr (V6 bytes) → IsAddrText text (V6 bytes) → groups_of text ≡ Some (V6 bytes)
+pub groups_of_text : (text bytes : List ℕ) → IsAddr (V6 bytes) → IsAddrText text (V6 bytes) → groups_of text ≡ Some (V6 bytes)
 unfolding groups_of
-groups_of-text text bytes h k =
+groups_of_text text bytes h k =
     cond-true (list_all is_no_dot text) _ None k.1
     ∙ (ap (λ o. option_map (λ xs. V6 (octets_of xs)) o) (whole_groups text (segments_of bytes) k.0)
     ∙ ap (λ (bs : List ℕ). Some (V6 bs)) (bytes_back bytes h))
@@ -251,7 +251,7 @@ no_dots (x ∷ xs) h =
 pub short_text : (bytes : List ℕ) → IsAddr (V6 bytes) → IsAddrText (addr_text (V6 bytes)) (V6 bytes)
 short_text bytes h =
     let fits = segments_small bytes h.1 in
-    (IsColonHex-hex_groups_text (segments_of bytes) (length-segments 8 bytes h.0) fits, no_dots _ (All-hex_groups_text (segments_of bytes) fits))
+    (IsColonHex-hex_groups_text (segments_of bytes) (length_segments 8 bytes h.0) fits, no_dots _ (All-hex_groups_text (segments_of bytes) fits))
 
 -- ---- a reader that looks for a dot first, and then for groups
 

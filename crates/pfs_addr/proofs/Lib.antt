@@ -3,6 +3,7 @@ mod ByteLaws
 pub mod GroupLaws
 mod HexLaws
 pub mod LetterLaws
+pub mod LetterTexts
 pub mod NumberLaws
 pub mod OctetLaws
 pub mod PieceLaws

@@ -6,7 +6,7 @@ use Rattle.std.proofs.lemmas.Bool.Decides.{nat_tests}
 use Rattle.std.proofs.lemmas.List.Splits.{join_with_byte-slice_split}
 use Rattle.pfs_addr.proofs.NumberLaws.{decimal_digits, decimal_of_number, decimal_bare, number_of-decimal}
 use Rattle.pfs_addr.proofs.ByteLaws.{is_addr_byte, dotted_bytes}
-use Rattle.pfs_addr.proofs.GroupLaws.{colon_hex_colon, groups_of-text, groups_of_parts, groups_slashless, short_text}
+use Rattle.pfs_addr.proofs.GroupLaws.{colon_hex_colon, groups_of_text, groups_of_parts, groups_slashless, short_text}
 use Rattle.std.proofs.lemmas.Option.{same_Some}
 use Rattle.std.specs.Net.Addr.{segments_of}
 use Rattle.pfs_addr_values.specs.Numbers.{is_digit, number_of}
@@ -52,8 +52,8 @@ pub decimal_lacks : (c n : ℕ) → c < 48 → n < 2 ^ 64 → lacks c (decimal n
 decimal_lacks c n low h = digits_lack c (decimal n) low (decimal_digits n h)
 
 -- the decimal text of a number is read without a zero in front
-pub bare_number-decimal : (most n : ℕ) → n ≤ most → n < 10 ^ 10 → bare_number most (decimal n) ≡ Some n
-bare_number-decimal most n low h =
+pub bare_number_decimal : (most n : ℕ) → n ≤ most → n < 10 ^ 10 → bare_number most (decimal n) ≡ Some n
+bare_number_decimal most n low h =
     let wide : n < 2 ^ 64 = omega arith in
     let within : nat_le n most ≡ true = grind (arith, nat_tests) in
     let bare : (nat_eq (get_or (decimal n) 0 0) 48 && nat_lt 1 (length (decimal n))) ≡ false = go wide (nat_eq (get_or (decimal n) 0 0) 48) refl in
@@ -68,7 +68,7 @@ bare_number-decimal most n low h =
 
 -- a byte is read from its decimal text
 byte_read : (n : ℕ) → n < 256 → bare_number 255 (decimal n) ≡ Some n
-byte_read n h = bare_number-decimal 255 n (omega arith) (omega arith)
+byte_read n h = bare_number_decimal 255 n (omega arith) (omega arith)
 
 byte_lacks : (n : ℕ) → n < 256 → lacks 46 (decimal n) ≡ true
 byte_lacks n h = decimal_lacks 46 n (omega arith) (omega arith)
@@ -90,8 +90,8 @@ dotted_read (a ∷ b ∷ c ∷ d ∷ []) h =
     ∙ ap (λ o. four_bytes (Some a) (Some b) (Some c) o) (byte_read d (at 3 (omega arith))))))
 dotted_read _ h = absurd (omega arith)
 
-pub quad_of-text : (text bytes : List ℕ) → IsAddr (V4 bytes) → text ≡ dotted bytes → quad_of text ≡ Some (V4 bytes)
-quad_of-text text bytes h e = ap quad_of e ∙ dotted_read bytes h
+pub quad_of_text : (text bytes : List ℕ) → IsAddr (V4 bytes) → text ≡ dotted bytes → quad_of text ≡ Some (V4 bytes)
+quad_of_text text bytes h e = ap quad_of e ∙ dotted_read bytes h
 
 -- what is read without a zero in front is the decimal text of its number
 pub record IsBare (most : ℕ) (text : List ℕ) (n : ℕ) : Type 0 where
@@ -192,12 +192,12 @@ dotted_no_colon : (bytes : List ℕ) → IsAddr (V4 bytes) → list_any (λ b. n
 dotted_no_colon bytes h = digit_no_colon (dotted bytes) (dotted_bytes bytes h.1)
 
 -- a text of an address is read as that address
-pub addr_of-text : (text : List ℕ) (a : Addr) → IsAddr a → IsAddrText text a → addr_of text ≡ Some a
+pub addr_of_text : (text : List ℕ) (a : Addr) → IsAddr a → IsAddrText text a → addr_of text ≡ Some a
 unfolding addr_of
-addr_of-text text (V4 bytes) h k =
-    cond-false (list_any (λ b. nat_eq b 58) text) _ _ (ap (list_any (λ b. nat_eq b 58)) k ∙ dotted_no_colon bytes h) ∙ quad_of-text text bytes h k
-addr_of-text text (V6 bytes) h k =
-    cond-true (list_any (λ b. nat_eq b 58) text) _ _ (colon_hex_colon text (segments_of bytes) k.0) ∙ groups_of-text text bytes h k
+addr_of_text text (V4 bytes) h k =
+    cond-false (list_any (λ b. nat_eq b 58) text) _ _ (ap (list_any (λ b. nat_eq b 58)) k ∙ dotted_no_colon bytes h) ∙ quad_of_text text bytes h k
+addr_of_text text (V6 bytes) h k =
+    cond-true (list_any (λ b. nat_eq b 58) text) _ _ (colon_hex_colon text (segments_of bytes) k.0) ∙ groups_of_text text bytes h k
 
 -- an address that is read is one, and the text is one of its texts
 pub addr_of_parts : (text : List ℕ) (a : Addr) → addr_of text ≡ Some a → IsAddr a × IsAddrText text a
@@ -218,23 +218,23 @@ addr_text_of (V4 bytes) h = refl
 addr_text_of (V6 bytes) h = short_text bytes h
 
 -- so it is read as that address
-pub addr_of-addr_text : (a : Addr) → IsAddr a → addr_of (addr_text a) ≡ Some a
-addr_of-addr_text a h = addr_of-text (addr_text a) a h (addr_text_of a h)
+pub addr_of_addr_text : (a : Addr) → IsAddr a → addr_of (addr_text a) ≡ Some a
+addr_of_addr_text a h = addr_of_text (addr_text a) a h (addr_text_of a h)
 
 -- the same of an address by its bytes
 pub read_again : (a : Addr) → length (bytes_of a) ≡ width_of a / 8 → ((k : ℕ) → get_or (bytes_of a) k 0 < 256) → addr_of (addr_text a) ≡ Some a
-read_again (V4 bytes) len small = addr_of-addr_text (V4 bytes) (len, All-from_get_or (λ b. b < 256) bytes 0 (λ k h. small k))
-read_again (V6 bytes) len small = addr_of-addr_text (V6 bytes) (len, All-from_get_or (λ b. b < 256) bytes 0 (λ k h. small k))
+read_again (V4 bytes) len small = addr_of_addr_text (V4 bytes) (len, All-from_get_or (λ b. b < 256) bytes 0 (λ k h. small k))
+read_again (V6 bytes) len small = addr_of_addr_text (V6 bytes) (len, All-from_get_or (λ b. b < 256) bytes 0 (λ k h. small k))
 
 -- a text is that of one address
 pub one_addr : (text : List ℕ) (a b : Addr) → IsAddr a → IsAddr b → IsAddrText text a → IsAddrText text b → a ≡ b
-one_addr text a b h k s t = same_Some a b (sym (addr_of-text text a h s) ∙ addr_of-text text b k t)
+one_addr text a b h k s t = same_Some a b (sym (addr_of_text text a h s) ∙ addr_of_text text b k t)
 
 -- a reader of one family after the other finds the address of a text
 pub quad_first : (text : List ℕ) (a : Addr) → Some a ≡ quad_of text → Some a ≡ addr_of text
 quad_first text a e =
     let (bytes, is, fine, spelled) = quad_of_parts text a (sym e) in
-    sym (addr_of-text text (V4 bytes) fine spelled ∙ ap (λ (x : Addr). Some x) (sym is))
+    sym (addr_of_text text (V4 bytes) fine spelled ∙ ap (λ (x : Addr). Some x) (sym is))
 
 pub groups_then : (text : List ℕ) (r : Option Addr) → None ≡ quad_of text → r ≡ groups_of text → r ≡ addr_of text
 unfolding addr_of
@@ -284,15 +284,15 @@ short_width (V4 bytes) n h = omega arith
 short_width (V6 bytes) n h = omega arith
 
 -- the text of a prefix is read as that prefix
-pub prefix_of-text : (text : List ℕ) (p : Network) → PrefixText text p → prefix_of text ≡ Some p
+pub prefix_of_text : (text : List ℕ) (p : Network) → PrefixText text p → prefix_of text ≡ Some p
 unfolding prefix_of
-prefix_of-text text p t = elim t.spelled [ inl w ↦ alone_read w.0 w.1 | inr w ↦ slashed_read w ]
+prefix_of_text text p t = elim t.spelled [ inl w ↦ alone_read w.0 w.1 | inr w ↦ slashed_read w ]
   where
     alone_read : text ≡ t.before → p.bits ≡ width_of t.addr → slashed (slice_split (λ b. nat_eq b 47) text) ≡ Some p
     alone_read e w =
         ap (λ x. slashed (slice_split (λ b. nat_eq b 47) x)) e
         ∙ (ap slashed (split_piece 47 t.before (addr_text_lacks t.before t.addr t.is_addr t.address))
-        ∙ (ap alone (addr_of-text t.before t.addr t.is_addr t.address)
+        ∙ (ap alone (addr_of_text t.before t.addr t.is_addr t.address)
         ∙ (ap (λ n. Some (network_of t.addr n)) (sym w) ∙ ap (λ (x : Network). Some x) (sym t.of))))
 
     slashed_read : text ≡ t.before ++ 47 ∷ decimal p.bits → slashed (slice_split (λ b. nat_eq b 47) text) ≡ Some p
@@ -301,8 +301,8 @@ prefix_of-text text p t = elim t.spelled [ inl w ↦ alone_read w.0 w.1 | inr w 
         ap (λ x. slashed (slice_split (λ b. nat_eq b 47) x)) e
         ∙ (ap slashed (split_more 47 t.before (decimal p.bits) (addr_text_lacks t.before t.addr t.is_addr t.address)
         ∙ ap (λ y. t.before ∷ y) (split_piece 47 (decimal p.bits) (decimal_lacks 47 p.bits (omega arith) (omega arith))))
-        ∙ (ap (λ o. cut_at o (decimal p.bits)) (addr_of-text t.before t.addr t.is_addr t.address)
-        ∙ (ap (with_length t.addr) (bare_number-decimal (width_of t.addr) p.bits t.short small)
+        ∙ (ap (λ o. cut_at o (decimal p.bits)) (addr_of_text t.before t.addr t.is_addr t.address)
+        ∙ (ap (with_length t.addr) (bare_number_decimal (width_of t.addr) p.bits t.short small)
         ∙ ap (λ (x : Network). Some x) (sym t.of))))
 
 -- a prefix that is read is one, and the text is its text
@@ -348,7 +348,7 @@ prefix_of_parts text p h = go (slice_split (λ b. nat_eq b 47) text) (join_with_
 
 pub prefix_value : (text : List ℕ) (r : Option Network) → IfSome r (λ p. PrefixText text p)
     → ((p : Network) → PrefixText text p → r ≡ Some p) → r ≡ prefix_of text
-prefix_value text (Some p) reads only = sym (prefix_of-text text p reads)
+prefix_value text (Some p) reads only = sym (prefix_of_text text p reads)
 prefix_value text None reads only = go (prefix_of text) refl
   where
     go : (o : Option Network) → prefix_of text ≡ o → None ≡ o

@@ -1,4 +1,4 @@
-// Addresses in texts.
+//! Addresses in texts.
 
 ghost use Rattle.std.specs.Prelude.{◌≡◌, ◌≤◌, ◌<◌, ◌+◌, ◌++◌, [], ◌∷◌, Some, IfSome, MatchOption, OnOk, true, false, OnErr, decimal, flat_map, length, nat_lt, vec_len, ◌*◌};
 ghost use Rattle.std.specs.Vec.{vec_capacity};

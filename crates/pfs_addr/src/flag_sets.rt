@@ -1,10 +1,10 @@
-// Sets of TCP flags in texts.
+//! Sets of TCP flags in texts.
 
-ghost use Rattle.std.specs.Prelude.{◌≡◌};
-ghost use Rattle.pfs_addr_values.specs.FlagSets.{flags_of, is_flag_letter};
+ghost use Rattle.std.specs.Prelude.{◌≡◌, ◌++◌, OnOk, Some};
+ghost use Rattle.pfs_addr_values.specs.FlagSets.{flags_of, is_flag_letter, letter_text, letters_text};
 ghost use Rattle.pfs_addr.specs.LetterSteps.{with_letter};
 
-use pfs_addr_values::Flags;
+use pfs_addr_values::{Flags, NoMemory};
 
 /// The flags that this text names: letters of `FSRPAUEW` in any order, each as often as one likes, possibly none. `None`
 /// for a text with any other byte. It takes no memory.
@@ -41,4 +41,31 @@ fn is_letter(b: u8) -> bool
     ensures { result ≡ is_flag_letter b }
 {
     matches!(b, b'F' | b'S' | b'R' | b'P' | b'A' | b'U' | b'E' | b'W')
+}
+
+/// Appends the letters of flags, in the order `FSRPAUEW`, which `parse_flags` reads as them.
+///
+/// `NoMemory` where memory was refused; some of the letters may stand there then.
+#[tactic(auto, using(crate::proofs::LetterTexts::flags_again))]
+pub fn push_flags(out: &mut Vec<u8>, flags: Flags) -> Result<(), NoMemory>
+    ensures ok { OnOk result (out.new.items ≡ out.old.items ++ letters_text flags) }
+    ensures again { flags_of (letters_text flags) ≡ Some flags }
+{
+    push_letter(out, flags.fin, b"F")?;
+    push_letter(out, flags.syn, b"S")?;
+    push_letter(out, flags.rst, b"R")?;
+    push_letter(out, flags.psh, b"P")?;
+    push_letter(out, flags.ack, b"A")?;
+    push_letter(out, flags.urg, b"U")?;
+    push_letter(out, flags.ece, b"E")?;
+    push_letter(out, flags.cwr, b"W")
+}
+
+fn push_letter(out: &mut Vec<u8>, is_set: bool, letter: &[u8]) -> Result<(), NoMemory>
+    ensures { OnOk result (out.new.items ≡ out.old.items ++ letter_text is_set letter.now) }
+{
+    if is_set {
+        out.extend_from_slice(letter)?;
+    }
+    Ok(())
 }

@@ -1,5 +1,6 @@
 //! Addresses, prefixes, protocols, ports, flags, names, packets and the keys of states, with the texts of those that have one: how each is
-//! read, and how an address is written. The values are those of `pfs_addr_values`, handed on. Of all calls `push_addr` alone takes memory.
+//! read, and how addresses and flags are written. The values are those of `pfs_addr_values`, handed on. Of all calls `push_addr` and
+//! `push_flags` alone take memory.
 #![tactic(auto)]
 
 mod addresses;
@@ -9,7 +10,7 @@ mod prefixes;
 mod protocols;
 
 pub use addresses::{parse_addr, push_addr};
-pub use flag_sets::parse_flags;
+pub use flag_sets::{parse_flags, push_flags};
 pub use numbers::parse_number;
 pub use pfs_addr_values::{
     Addr, Dir, Endpoint, Flags, FlowKey, IfName, Meter, Name, NoMemory, OtherProto, Packet, Prefix,

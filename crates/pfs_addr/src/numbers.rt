@@ -1,4 +1,4 @@
-// Decimal numbers in texts.
+//! Decimal numbers in texts.
 
 ghost use Rattle.std.specs.Prelude.{◌≡◌, ◌≤◌, Some, None, if◌then◌else◌, length};
 ghost use Rattle.std.specs.List.{list_all};

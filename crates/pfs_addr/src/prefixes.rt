@@ -1,4 +1,4 @@
-// Prefixes in texts.
+//! Prefixes in texts.
 
 ghost use Rattle.std.specs.Prelude.{◌≡◌, ◌<◌, ◌∷◌, ◌++◌, ◌==◌, true, IfSome, MatchOption, Some, length, position};
 ghost use Rattle.std.specs.List.{list_all};

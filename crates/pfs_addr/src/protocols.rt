@@ -1,4 +1,4 @@
-// Protocols in texts.
+//! Protocols in texts.
 
 ghost use Rattle.std.specs.Prelude.{◌≡◌, ◌<◌};
 ghost use Rattle.pfs_addr_values.specs.Protocols.{proto_in, proto_numbered};

@@ -5,9 +5,9 @@ use Rattle.std.proofs.lemmas.List.{drop-replicate}
 use Rattle.pfs_addr_values.specs.Names.{is_name, IsPadded}
 
 -- a name copied to the front of zeros is kept as a name is
-pub padded-of : (most : ℕ) (text front : List ℕ) → front ≡ text → is_name most text ≡ true
+pub padded_of : (most : ℕ) (text front : List ℕ) → front ≡ text → is_name most text ≡ true
     → IsPadded most (front ++ drop (length text) (replicate most 0)) (length text)
-padded-of most text front same name =
+padded_of most text front same name =
     let seen : take (length text) (front ++ drop (length text) (replicate most 0)) ≡ text =
     ap (λ xs. take (length text) (xs ++ drop (length text) (replicate most 0))) same ∙ take-append_seam text _ in
     record {

@@ -1,5 +1,5 @@
--- Sets of TCP flags, by the letters FSRPAUEW that a text names.
-use Rattle.std.specs.Prelude.{ℕ, List, Bool, Option, Some, None, if◌then◌else◌, ◌==◌, ◌||◌}
+-- Sets of TCP flags, by the letters FSRPAUEW: the set that a text names, and the text of a set.
+use Rattle.std.specs.Prelude.{ℕ, List, [], ◌++◌, Bool, true, false, Option, Some, None, if◌then◌else◌, ◌==◌, ◌||◌, codes}
 use Rattle.std.specs.List.{list_all, list_any}
 use Rattle.pfs_addr_values.specs.declared.flag_sets.Flags.{Flags}
 
@@ -26,3 +26,15 @@ flags_of text =
       cwr = names_letter 87 text;
     })
     else None
+
+-- the letter of a flag that is set
+abbrev pub letter_text : Bool → List ℕ → List ℕ
+letter_text true letter = letter
+letter_text false letter = []
+
+-- the letters of flags, in the order FSRPAUEW
+abbrev pub letters_text : Flags → List ℕ
+letters_text f =
+    letter_text f.fin (codes "F") ++ (letter_text f.syn (codes "S") ++ (letter_text f.rst (codes "R")
+    ++ (letter_text f.psh (codes "P") ++ (letter_text f.ack (codes "A") ++ (letter_text f.urg (codes "U")
+    ++ (letter_text f.ece (codes "E") ++ letter_text f.cwr (codes "W")))))))

@@ -5,6 +5,11 @@ use Rattle.pfs_addr_values.specs.declared.protocols.Proto.{Proto}
 use Rattle.pfs_addr_values.specs.declared.flag_sets.Flags.{Flags}
 use Rattle.pfs_addr_values.specs.declared.packets.Dir.{Dir}
 use Rattle.pfs_addr_values.specs.declared.packets.Endpoint.{Endpoint}
+use Rattle.pfs_addr_values.specs.declared.packets.TheConstants.{RUN_LIMIT}
+
+-- a run has at most 1,000,000,000 packets (own)
+abbrev pub run_limit : ℕ
+run_limit = RUN_LIMIT
 
 -- what a packet tells: its direction, the name of its interface, its protocol, its two ends and its flags
 pub record Header : Type 0 where

@@ -1,4 +1,4 @@
-// Addresses of both families.
+//! Addresses of both families.
 
 ghost use Rattle.std.specs.Prelude.{◌≡◌, ◌<◌, [], ◌∷◌, true, false};
 ghost use Rattle.pfs_addr_values.specs.Addresses.{bytes_of, is_ipv6, same_family, width_of};

@@ -1,4 +1,4 @@
-// Sets of TCP flags.
+//! Sets of TCP flags.
 
 /// A set of TCP flags, each by its letter. (pf.conf(5), PARAMETERS, "flags"; RFC 9293, section 3.1)
 #[derive(Debug, Clone, Copy, PartialEq, Eq, Hash, Default)]

@@ -1,5 +1,5 @@
-// Addresses, prefixes, protocols, ports, flags, names, packets and the keys of states: the small values that every
-// other crate compares, and the meter that counts work. None of these calls takes memory.
+//! Addresses, prefixes, protocols, ports, flags, names, packets and the keys of states: the small values that every
+//! other crate compares, and the meter that counts work. None of these calls takes memory.
 #![tactic(auto)]
 
 mod addresses;
@@ -16,6 +16,6 @@ pub use flag_sets::Flags;
 pub use memory::NoMemory;
 pub use meters::Meter;
 pub use names::{IfName, Name, parse_ifname};
-pub use packets::{Dir, Endpoint, FlowKey, Packet};
+pub use packets::{Dir, Endpoint, FlowKey, Packet, RUN_LIMIT};
 pub use prefixes::Prefix;
 pub use protocols::{OtherProto, Proto};

@@ -1,4 +1,4 @@
-// The one error of calls that can only fail for want of memory.
+//! The one error of calls that can only fail for want of memory.
 
 ghost use Rattle.std.specs.Prelude.{◌≡◌};
 

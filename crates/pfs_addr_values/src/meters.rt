@@ -1,4 +1,4 @@
-// The meter that counts work: rules visited, and records looked at.
+//! The meter that counts work: rules visited, and records looked at.
 
 ghost use Rattle.std.specs.Prelude.{◌≡◌, ◌+◌, ◌-◌, ◌<◌, ◌^◌};
 

@@ -1,4 +1,4 @@
-// Names of interfaces, tables and anchors, held in place.
+//! Names of interfaces, tables and anchors, held in place.
 
 ghost use Rattle.std.specs.Prelude.{◌≡◌, ◌≢◌, true};
 ghost use Rattle.std.specs.Bool.{OnTrue};

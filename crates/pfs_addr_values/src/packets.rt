@@ -1,4 +1,4 @@
-// Packets, as the rules and the states look at them, and the keys by which states are found.
+//! Packets, as the rules and the states look at them, and the keys by which states are found.
 
 ghost use Rattle.std.specs.Prelude.{◌≡◌, false};
 ghost use Rattle.std.specs.Str.{bytes_eq};
@@ -10,6 +10,10 @@ use crate::flag_sets::Flags;
 use crate::names::IfName;
 use crate::protocols::Proto;
 use std::marker::Model;
+
+/// The most packets of a run. So a run makes at most so many states, and its trace has at most so many records. (own to this
+/// profile)
+pub const RUN_LIMIT: u64 = 1_000_000_000;
 
 /// The way of a packet through an interface. (pf.conf(5), PARAMETERS, "in" and "out")
 #[derive(Debug, Clone, Copy, PartialEq, Eq, Hash)]

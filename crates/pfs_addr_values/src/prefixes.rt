@@ -1,4 +1,4 @@
-// Prefixes: the first bits of an address, and the addresses that share them.
+//! Prefixes: the first bits of an address, and the addresses that share them.
 
 ghost use Rattle.std.specs.Prelude.{◌≡◌, ◌≤◌, ◌<◌, ◌==◌};
 ghost use Rattle.pfs_addr_values.specs.Addresses.{IsAddr, width_of};

@@ -1,4 +1,4 @@
-// Protocols by number.
+//! Protocols by number.
 
 ghost use Rattle.std.specs.Prelude.{◌≡◌};
 ghost use Rattle.pfs_addr_values.specs.Protocols.{proto_of, number_of_proto, has_ports, is_icmp};

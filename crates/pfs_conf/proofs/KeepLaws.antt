@@ -15,7 +15,7 @@ use Rattle.pfs_conf_values.specs.declared.filters.Host.{Host}
 use Rattle.pfs_conf_values.specs.declared.filters.Host.TheVariants as host
 use Rattle.pfs_conf_values.specs.declared.filters.Side.{Side}
 use Rattle.pfs_conf_values.specs.declared.filters.TableNo.{TableNo}
-use Rattle.pfs_conf_settings.proofs.NamingLaws.{naming-IsPlaced}
+use Rattle.pfs_conf_settings.proofs.NamingLaws.{naming_IsPlaced}
 use Rattle.pfs_conf_filters.specs.declared.phrases.Hosts.{Hosts}
 use Rattle.pfs_conf_filters.specs.declared.phrases.Parameters.{Parameters}
 use Rattle.pfs_conf_filters.specs.declared.phrases.Verb.{Verb}
@@ -73,14 +73,14 @@ number_within place tables h = omega arith
 host_known : (tables : ℕ) (h : Host (List ℕ)) (d : Drafted) → IsHost IsTableName h → length (name_host h d).tables ≤ tables → IsHost (IsTableNo tables) (number_host h d)
 host_known tables host.Any d k more = tt
 host_known tables (host.Prefix p b) d k more = k
-host_known tables (host.Table n b) d k more = let within = (naming-IsPlaced n (tables_of d)).within in number_within (place_in n d.tables) tables (omega arith)
+host_known tables (host.Table n b) d k more = let within = (naming_IsPlaced n (tables_of d)).within in number_within (place_in n d.tables) tables (omega arith)
 
 side_known : (tables : ℕ) (s : Side (List ℕ)) (d : Drafted) → IsSide IsTableName s → length (name_host s.host d).tables ≤ tables → IsSide (IsTableNo tables) (number_side s d)
 side_known tables s d k more = record { host = host_known tables s.host d k.host more; ports = k.ports }
 
 overload_known : (v : Option OverloadText) (d : Drafted) → IfSome (number_overload v d) (IsTableNo (length (name_overload v d).tables))
 overload_known None d = tt
-overload_known (Some v) d = number_within (place_in v.table d.tables) (length (name_overload (Some v) d).tables) (naming-IsPlaced v.table (tables_of d)).within
+overload_known (Some v) d = number_within (place_in v.table d.tables) (length (name_overload (Some v) d).tables) (naming_IsPlaced v.table (tables_of d)).within
 
 filter_kept : (tables : ℕ) (p : Parameters) (f : FlagTest) (d : Drafted) → AreParameters p → IsFlagTest f → lacks_proto p ≡ false → length (name_hosts p.hosts d).tables ≤ tables → IsFilter tables (filter_said p f d)
 filter_kept tables p f d k flags lacks more =

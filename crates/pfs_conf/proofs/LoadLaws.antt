@@ -3,7 +3,7 @@ use Rattle.std.proofs.Common.{◌≡◌, ◌≤◌, ℕ, false, List, ◌∷◌,
 use Rattle.std.specs.Prelude.{IfOk, IfErr, MatchResult}
 use Rattle.pfs_conf_tokens.specs.Tokens.{Tok, head}
 use Rattle.pfs_conf_tokens.specs.Reading.{ends_text, Refused, stop, broken, up_to_all}
-use Rattle.pfs_conf_tokens.specs.Lexis.{tokens_of}
+use Rattle.pfs_conf_tokens.specs.Lexis.{text_limit, tokens_of}
 use Rattle.pfs_conf_tokens.specs.Giving.{refused, GivesOrMemory}
 use Rattle.pfs_conf_tokens.specs.declared.refusals.LoadRule.{LoadRule}
 use Rattle.pfs_conf_tokens.specs.declared.refusals.Why.{Why}
@@ -25,7 +25,7 @@ use Rattle.pfs_conf.specs.Faults.{Statements, none, before, Breaks, at_rule, at_
 use Rattle.pfs_conf.specs.Giving.{Comes}
 use Rattle.pfs_conf.specs.Statements.{nothing}
 use Rattle.pfs_conf.specs.Reading.{statement_at, statements_at, text_at}
-use Rattle.pfs_conf.specs.Reads.{Reads, most_bytes}
+use Rattle.pfs_conf.specs.Reads.{Reads}
 use Rattle.pfs_conf.specs.Answers.{IsTold}
 use Rattle.pfs_conf.specs.Faults as faults
 use Rattle.pfs_conf.specs.Loads.{IsFaultRead, long, memory, breaks, stops, IsLoad}
@@ -63,7 +63,7 @@ pub not_some : {A : Type 0} (o : Option A) → ((x : A) → o ≡ Some x → ⊥
 not_some None h = refl
 not_some (Some x) h = absurd (h x refl)
 
-pub fault_read : (text : List ℕ) (ts left : List Tok) (e : ReadError) → length text ≤ most_bytes → ts ≡ tokens_of text → GivesOrMemory {X = Conf} (Err e) left (text_at ts) → IsFaultRead text (fault_told e left)
+pub fault_read : (text : List ℕ) (ts left : List Tok) (e : ReadError) → length text ≤ text_limit → ts ≡ tokens_of text → GivesOrMemory {X = Conf} (Err e) left (text_at ts) → IsFaultRead text (fault_told e left)
 fault_read text ts left error.Memory s t h = memory s refl
 fault_read text ts left (error.Refused (refusal.Stop w)) s t h = stops s (ap text_at (sym t) ∙ h) refl
 fault_read text ts left (error.Refused (refusal.Broken rule line)) s t h = breaks s (ap text_at (sym t) ∙ h) refl
@@ -85,7 +85,7 @@ breaks_told {ts = ts} {b = b} (at_anchor {p = p} {mid = mid} a s q e) =
     breaks_at ts p mid b (head mid).line s (rw (word_head q.word).0 refl) (anchor_statement p q.word (Err (broken b (head mid).line)) (anchor_told (head mid).line p b q e))
 breaks_told {ts = ts} {b = b} {n = n} (at_end {p = p} {left = left} u z e) = text_told ts p left b n (statements_read u) z e
 
-told_fault : (text : List ℕ) (e : LoadFault) (b : LoadRule) (n : ℕ) → length text ≤ most_bytes → text_at (tokens_of text) ≡ Err (broken b n) → IsFaultRead text e → (e ≡ fault n (kind_of_rule b)) ⊎ (e ≡ no_memory)
+told_fault : (text : List ℕ) (e : LoadFault) (b : LoadRule) (n : ℕ) → length text ≤ text_limit → text_at (tokens_of text) ≡ Err (broken b n) → IsFaultRead text e → (e ≡ fault n (kind_of_rule b)) ⊎ (e ≡ no_memory)
 told_fault text e b n s h (long l k) = absurd (omega arith)
 told_fault text e b n s h (memory l k) = inr k
 told_fault text e b n s h (breaks {rule = rule} {line = line} l g k) =
@@ -95,7 +95,7 @@ told_fault text e b n s h (breaks {rule = rule} {line = line} l g k) =
     inl (k ∙ (ap (λ (z : ℕ). fault z (kind_of_rule rule)) m ∙ ap (λ (z : LoadRule). fault n (kind_of_rule z)) r))
 told_fault text e b n s h (stops l g k) = let same = sym g ∙ h in absurd cc
 
-pub told_broken : (text : List ℕ) (r : Result Conf LoadFault) (b : LoadRule) (n : ℕ) → IsLoad r text → length text ≤ most_bytes → Breaks (tokens_of text) b n → IsTold r (fault n (kind_of_rule b))
+pub told_broken : (text : List ℕ) (r : Result Conf LoadFault) (b : LoadRule) (n : ℕ) → IsLoad r text → length text ≤ text_limit → Breaks (tokens_of text) b n → IsTold r (fault n (kind_of_rule b))
 told_broken text (Ok c) b n h s k = let same = sym h.reads ∙ breaks_told k in absurd cc
 told_broken text (Err e) b n h s k = told_fault text e b n s (breaks_told k) h
 

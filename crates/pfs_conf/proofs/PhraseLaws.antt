@@ -13,7 +13,7 @@ use Rattle.pfs_conf_tokens.specs.Grammar.{Word, Perhaps, absent, present, Until,
 use Rattle.pfs_conf_tokens.specs.Giving.{Gives}
 use Rattle.pfs_conf_tokens.proofs.Laws.{chain_ok, ok_parts, not_refused}
 use Rattle.pfs_conf_tokens.proofs.ReaderLaws.{line_end_key, ends_text_key, word_is, ended_is, perhaps_is, until_is, up_to_is}
-use Rattle.pfs_conf_tokens.proofs.WordKeys.{key_of-Anchor}
+use Rattle.pfs_conf_tokens.proofs.WordKeys.{key_of_Anchor}
 use Rattle.pfs_addr_values.specs.Names.{is_name, name_of}
 use Rattle.pfs_conf_values.specs.Configs.{Conf}
 use Rattle.pfs_conf_settings.specs.Drafts.{Drafted, finished, is_defined}
@@ -232,7 +232,7 @@ anchor_word ts = (front_word, refl, refl)
 pub anchor_text_within : (p : Progress) (ts left : List Tok) (r : Result AnchorText Refusal) → AreLexed ts → Gives r left (anchor_text_at p ts) → IfOk r IsAnchorText
 anchor_text_within p ts left (Ok a) l e =
     let q = anchor_text_is p (front_word ∷ ts) ts (anchor_word ts) a left e in
-    record { name = name_within q.name; parameters = parameters_within q.parameters (name_lexed q.name (word_lexed q.word (more (λ h. sym key_of-Anchor) l))); flags = flags_part_within q.flags }
+    record { name = name_within q.name; parameters = parameters_within q.parameters (name_lexed q.name (word_lexed q.word (more (λ h. sym key_of_Anchor) l))); flags = flags_part_within q.flags }
 anchor_text_within p ts left (Err x) l e = tt
 
 pub anchor_text_new : (p : Progress) (ts left : List Tok) (r : Result AnchorText Refusal) → Gives r left (anchor_text_at p ts) → IfOk r (λ a. repeats_by p.depth a.name p.draft.items ≡ false)

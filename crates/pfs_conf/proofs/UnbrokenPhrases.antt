@@ -7,7 +7,6 @@ use Rattle.pfs_conf_tokens.specs.declared.refusals.Why.{Why}
 use Rattle.pfs_conf_tokens.specs.declared.refusals.Why.TheVariants as why
 use Rattle.pfs_conf_tokens.specs.Keys.{is_word_key, ends_line}
 use Rattle.pfs_conf_tokens.specs.Reading.{closes_parens, closes_braces, Reader, Act, refuse, on_front, done, chain, skipping, number_at}
-use Rattle.pfs_addr_values.specs.Names.{name_of}
 use Rattle.pfs_addr_values.specs.Prefixes.{Network}
 use Rattle.pfs_addr_values.specs.Protocols.{proto_in}
 use Rattle.pfs_addr.specs.Texts.{prefix_of}
@@ -26,11 +25,11 @@ use Rattle.pfs_conf_values.specs.declared.timeouts.TimeoutName.{TimeoutName}
 use Rattle.pfs_conf_filters.specs.declared.phrases.Statement.{Statement}
 use Rattle.pfs_conf_filters.specs.declared.phrases.Statement.TheVariants as statement
 use Rattle.pfs_conf_filters.specs.declared.phrases.Verb.TheVariants as verb
-use Rattle.pfs_conf_filters.specs.Values.{in_word, in_plain_word, interface_name, table_name, ports_of, flag_test}
-use Rattle.pfs_conf_filters.specs.Reading.{valued, value_at, behind, clause, part, begins_dir, begins_on, begins_family, begins_proto, begins_from, begins_to, begins_port, begins_flags, interface_at, host_table_at, policy_by, policy_at, verb_by, verb_at, dir_by, dir_at, log_item_by, log_item_at, log_list_by, log_list_at, log_by, log_at, quick_by, quick_at, marked, marks_by, marks_at, negation_by, negation_at, interface, on_at, on_part_at, family_by, family_part_at, proto_at, proto_part_at, head_at, close_by, close_at, place_by, place_at, host_by, host_at, equals_by, equals_at, ports_at, ports_part_at, side_host_by, side_host_at, side, side_at, from_part_at, to_part_at, all_hosts, given_hosts, hosts_by, hosts_at, parameters_at, flags_at}
+use Rattle.pfs_conf_filters.specs.Values.{in_plain_word, interface_name, ports_of, flag_test}
+use Rattle.pfs_conf_filters.specs.Reading.{behind, clause, part, begins_dir, begins_on, begins_family, begins_proto, begins_from, begins_to, begins_port, begins_flags, interface_at, policy_by, policy_at, verb_by, verb_at, dir_by, dir_at, log_item_by, log_item_at, log_list_by, log_list_at, log_by, log_at, quick_by, quick_at, marked, marks_by, marks_at, negation_by, negation_at, interface, on_at, on_part_at, family_by, family_part_at, proto_at, proto_part_at, head_at, close_by, close_at, place_by, place_at, host_by, host_at, equals_by, equals_at, ports_at, ports_part_at, side_host_by, side_host_at, side, side_at, from_part_at, to_part_at, all_hosts, given_hosts, hosts_by, hosts_at, parameters_at, flags_at}
 use Rattle.pfs_conf_options.specs.Options.{none_given, rule_place}
-use Rattle.pfs_conf_options.specs.Reading as option_reading
-use Rattle.pfs_conf_options.specs.Reading.{track_by, track_at, rate_of, rate_found, rate_by, rate_at, name_found, table_name_by, name_closed_by, name_closed, table_by, table_at, flushed_by, flush_by, flush_at, overload_text_at, mark_once, timeout_by, mark_by, connection_by, option_by, option_at, state_options_at, kept_by, kept_at, kept_clause, behind_state, state_word, state_by, state_at}
+use Rattle.pfs_conf_options.specs.Reading.{track_by, track_at, rate_of, rate_found, rate_by, rate_at, name_closed_by, name_closed, table_by, table_at, flushed_by, flush_by, flush_at, overload_text_at, mark_once, timeout_by, mark_by, connection_by, option_by, option_at, state_options_at, kept_by, kept_at, kept_clause, behind_state, state_word, state_by, state_at}
+use Rattle.pfs_conf_tokens.specs.Values.{in_word, table_name, table_name_at, value_at, valued}
 use Rattle.pfs_conf_options.specs.declared.clauses.Track.TheVariants as track
 use Rattle.pfs_conf_options.specs.declared.clauses.Options.{Options}
 use Rattle.pfs_conf_options.specs.declared.clauses.StateClause.{StateClause}
@@ -66,8 +65,8 @@ unbroken_interface_name : Unbroken interface_at
 unfolding interface_at
 unbroken_interface_name = unbroken_value why.Plain interface_name
 
-unbroken_table_name : Unbroken host_table_at
-unfolding host_table_at
+unbroken_table_name : Unbroken table_name_at
+unfolding table_name_at
 unbroken_table_name = unbroken_value why.Plain table_name
 
 policy_acts : (k : Key) → UnbrokenAct (policy_by k)
@@ -199,7 +198,7 @@ unbroken_prefix : (b : Bool) → Unbroken {A = Host (List ℕ)} (chain (value_at
 unbroken_prefix b = unbroken_chain (value_at why.Host (in_plain_word prefix_of)) (λ p. done (host.Prefix p b)) (unbroken_value why.Host (in_plain_word prefix_of)) (λ p. unbroken_done (host.Prefix p b))
 
 place_acts : (b : Bool) (k : Key) → UnbrokenAct (place_by b k)
-place_acts b key.OpenAngle = unbroken_chain host_table_at _ unbroken_table_name (λ n. unbroken_chain close_at _ unbroken_close (λ u. unbroken_done (host.Table n b)))
+place_acts b key.OpenAngle = unbroken_chain table_name_at _ unbroken_table_name (λ n. unbroken_chain close_at _ unbroken_close (λ u. unbroken_done (host.Table n b)))
 place_acts b _ = unbroken_prefix b
 
 unbroken_place : (b : Bool) → Unbroken (place_at b)
@@ -295,14 +294,6 @@ unbroken_rate : Unbroken rate_at
 unfolding rate_at
 unbroken_rate = unbroken_front (λ t. rate_by t.text t.key) (λ t. rate_acts t.text t.key)
 
-name_acts : (o : Option (List ℕ)) → UnbrokenAct (name_found o)
-name_acts None = tt
-name_acts (Some name) = unbroken_done name
-
-unbroken_option_table_name : Unbroken option_reading.table_name_at
-unfolding option_reading.table_name_at
-unbroken_option_table_name = unbroken_front (λ t. table_name_by t.text t.key) (λ t. unbroken_if (is_word_key t.key) (name_found (name_of 31 t.text)) (refuse why.Plain) (name_acts (name_of 31 t.text)) tt)
-
 closed_acts : (name : List ℕ) (k : Key) → UnbrokenAct (name_closed_by name k)
 closed_acts name key.CloseAngle = unbroken_done name
 closed_acts name _ = tt
@@ -311,7 +302,7 @@ unbroken_closed : (name : List ℕ) → Unbroken (name_closed name)
 unbroken_closed name = unbroken_front (λ t. name_closed_by name t.key) (λ t. closed_acts name t.key)
 
 table_acts : (k : Key) → UnbrokenAct (table_by k)
-table_acts key.OpenAngle = unbroken_chain option_reading.table_name_at name_closed unbroken_option_table_name unbroken_closed
+table_acts key.OpenAngle = unbroken_chain table_name_at name_closed unbroken_table_name unbroken_closed
 table_acts _ = tt
 
 unbroken_option_table : Unbroken table_at

@@ -10,7 +10,7 @@ use Rattle.pfs_conf_tokens.specs.Keys.{is_word_key}
 use Rattle.pfs_conf_tokens.specs.Words.{key_of_text}
 use Rattle.pfs_conf_tokens.specs.Numbers.{split_around}
 use Rattle.pfs_conf_tokens.specs.Grammar.{Word, Perhaps, absent, present, Until, ends, goes, NextOf, plain, comma}
-use Rattle.pfs_conf_tokens.proofs.WordKeys.{key_of-Any, key_of-Rdomain}
+use Rattle.pfs_conf_tokens.proofs.WordKeys.{key_of_Any, key_of_Rdomain}
 use Rattle.pfs_addr_values.specs.Names.{is_name, name_of}
 use Rattle.pfs_addr_values.specs.Numbers.{number_of}
 use Rattle.pfs_conf_tokens.specs.Numbers as text_numbers
@@ -32,7 +32,8 @@ use Rattle.pfs_conf_values.specs.declared.filters.Side.{Side}
 use Rattle.pfs_conf_filters.specs.declared.phrases.Hosts.{Hosts}
 use Rattle.pfs_conf_filters.specs.declared.phrases.Parameters.{Parameters}
 use Rattle.pfs_conf_filters.specs.declared.phrases.Statement.{Statement}
-use Rattle.pfs_conf_filters.specs.Values.{in_word, is_plain_word, in_plain_word, may_name_interface, interface_name, port_numbered, port_by, port_of, one_port, port_range, ports_around, ports_of, exactly, flags_around, flag_test_of, flag_test_by, flag_test}
+use Rattle.pfs_conf_filters.specs.Values.{is_plain_word, in_plain_word, may_name_interface, interface_name, port_numbered, port_by, port_of, one_port, port_range, ports_around, ports_of, exactly, flags_around, flag_test_of, flag_test_by, flag_test}
+use Rattle.pfs_conf_tokens.specs.Values.{in_word}
 use Rattle.pfs_conf_filters.specs.Grammar.{Says, Behind, NegationOf, affirmed, negated, OnOf, on, HostOf, any, prefix, table, PortsOf, plainly, equals, SideOf, hosted, ported, HostsOf, every, sides, ParametersOf, FlagsOf, DirOf, inward, outward, LogItemOf, all, matches, user, to, bare, listed, LogOf, silent, logs, QuickOf, slow, quick, MarksOf, log_first, quick_first, of_anchor}
 use Rattle.pfs_conf_filters.specs.Sides.{side_not_given, source_of, destination_of}
 use Rattle.pfs_addr_values.specs.declared.packets.Dir.{Dir}
@@ -81,7 +82,7 @@ other_word t text k l may not_k e = choose (bytes_eq t.text text) refl
 interface_good : (t : Tok) (b : Bool) → IsLexed t → IfSome (interface_name t) (λ n. IsInterface (record { name = n; negated = b }))
 interface_good t b l = if_some (may_name_interface t.key) (name_of 15 t.text) None (λ n. IsInterface (record { name = n; negated = b }))
     (λ may. if_some (is_name 15 t.text) (Some t.text) None (λ n. IsInterface (record { name = n; negated = b }))
-    (λ good. record { name = good; not_any = other_word t (codes "any") key.Any l may refl key_of-Any; not_rdomain = other_word t (codes "rdomain") key.Rdomain l may refl key_of-Rdomain })
+    (λ good. record { name = good; not_any = other_word t (codes "any") key.Any l may refl key_of_Any; not_rdomain = other_word t (codes "rdomain") key.Rdomain l may refl key_of_Rdomain })
     (λ e. tt))
     (λ e. tt)
 

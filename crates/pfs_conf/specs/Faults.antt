@@ -4,7 +4,7 @@ use Rattle.pfs_conf_tokens.specs.Tokens.{Tok, head}
 use Rattle.pfs_conf_tokens.specs.Grammar.{UpTo}
 use Rattle.pfs_conf_tokens.specs.declared.keys.Key.TheVariants as key
 use Rattle.pfs_conf_tokens.specs.declared.refusals.LoadRule.{LoadRule}
-use Rattle.pfs_conf_tokens.specs.Lexis.{tokens_of}
+use Rattle.pfs_conf_tokens.specs.Lexis.{text_limit, tokens_of}
 use Rattle.pfs_conf.specs.declared.phrases.RuleText.{RuleText}
 use Rattle.pfs_conf.specs.declared.phrases.AnchorText.{AnchorText}
 use Rattle.pfs_conf.specs.declared.progress.Progress.{Progress}
@@ -13,7 +13,7 @@ use Rattle.pfs_conf.specs.Grammar.{RuleOf, AnchorOf, StatementOf}
 use Rattle.pfs_conf.specs.declared.faults.LoadFault.{LoadFault}
 use Rattle.pfs_conf.specs.Kinds.{fault, too_long, no_memory, kind_of_rule, IsKindAt}
 use Rattle.pfs_conf.specs.Places.{IsBegun}
-use Rattle.pfs_conf.specs.Reads.{most_bytes, Reads}
+use Rattle.pfs_conf.specs.Reads.{Reads}
 use Rattle.pfs_conf_values.specs.Configs.{Conf}
 
 -- statements one behind another, as far as these tokens are left
@@ -49,6 +49,6 @@ pub record StopsAt (text : List ℕ) (t : Tok) (behind : List Tok) : Type 0 wher
 -- of that token
 pub data IsFault (text : List ℕ) (e : LoadFault) : Type 0 where
   memory : e ≡ no_memory → IsFault text e
-  long : most_bytes < length text → e ≡ too_long → IsFault text e
-  breaks : {rule : LoadRule} {line : ℕ} → length text ≤ most_bytes → Breaks (tokens_of text) rule line → e ≡ fault line (kind_of_rule rule) → IsFault text e
-  stops : (t : Tok) (behind : List Tok) → length text ≤ most_bytes → StopsAt text t behind → e.line ≡ t.line → IsKindAt t e.kind → IsFault text e
+  long : text_limit < length text → e ≡ too_long → IsFault text e
+  breaks : {rule : LoadRule} {line : ℕ} → length text ≤ text_limit → Breaks (tokens_of text) rule line → e ≡ fault line (kind_of_rule rule) → IsFault text e
+  stops : (t : Tok) (behind : List Tok) → length text ≤ text_limit → StopsAt text t behind → e.line ≡ t.line → IsKindAt t e.kind → IsFault text e

@@ -33,7 +33,7 @@ pub fn table(alloc: Global, cursor: &mut Cursor, progress: &mut Progress) -> Res
     ensures order { IsAtDepth progress.new }
     ensures value { Comes result cursor.new progress.new (definition_at progress.old cursor.old) }
 {
-    let name = table_name(cursor, &progress.draft)?;
+    let name = new_name(cursor, &progress.draft)?;
     let parts = read_parts_with(alloc, progress.draft.hasher(), cursor)?;
     cursor.expect(Key::LineEnd)?;
     match define(alloc, progress, name, parts) {
@@ -42,8 +42,8 @@ pub fn table(alloc: Global, cursor: &mut Cursor, progress: &mut Progress) -> Res
     }
 }
 
-/// A name in angle brackets, of a table that is not defined yet.
-fn table_name(cursor: &mut Cursor, draft: &Draft) -> Result<TableName, Refusal>
+// A name in angle brackets, of a table that is not defined yet.
+fn new_name(cursor: &mut Cursor, draft: &Draft) -> Result<TableName, Refusal>
     ensures value { Gives result cursor.new (new_name_at draft.now cursor.old) }
     ensures within { IfOk result (λ name. is_name 31 name ≡ true) }
 {
@@ -69,7 +69,7 @@ fn read_name(cursor: &mut Cursor, draft: &Draft) -> Result<TableName, Refusal>
     Ok(name)
 }
 
-/// Defines a table. `persist` and `counters` have no effect.
+// Defines a table. `persist` and `counters` have no effect.
 fn define(
     alloc: Global,
     progress: &mut Progress,

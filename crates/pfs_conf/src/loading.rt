@@ -1,20 +1,20 @@
 //! A configuration from a rules text.
 
 ghost use Rattle.std.specs.Prelude.{◌≡◌, ◌<◌, ◌≤◌, ℕ, length, IfOk, IfErr, MatchResult};
-ghost use Rattle.pfs_conf_tokens.specs.Lexis.{tokens_of};
+ghost use Rattle.pfs_conf_tokens.specs.Lexis.{text_limit, tokens_of};
 ghost use Rattle.pfs_conf_tokens.specs.declared.refusals.LoadRule.{LoadRule};
 ghost use Rattle.pfs_conf_values.specs.Configs.{Conf};
 ghost use Rattle.pfs_conf.specs.Kinds.{fault, kind_of_rule, no_memory};
 ghost use Rattle.pfs_conf.specs.Faults.{Breaks, IsFault};
 ghost use Rattle.pfs_conf.specs.Loads.{IsLoad};
-ghost use Rattle.pfs_conf.specs.Reads.{Reads, most_bytes};
+ghost use Rattle.pfs_conf.specs.Reads.{Reads};
 ghost use Rattle.pfs_conf.specs.Answers.{IsTold, IsTooLong};
 
 use crate::faults::LoadFault;
 use crate::kinds::Kind;
 use crate::statements::read_text;
 use crate::stopping::fault_of;
-use pfs_conf_tokens::Cursor;
+use pfs_conf_tokens::{Cursor, TEXT_LIMIT};
 use pfs_conf_values::{Config, RulesHasher};
 use std::alloc::Global;
 
@@ -32,9 +32,9 @@ pub fn load(alloc: Global, text: &[u8]) -> Result<Config, LoadFault>
     // What the text reads as is answered, unless memory runs out.
     ensures only { (c : Conf) → Reads text.now c → MatchResult result (λ d. d ≡ c) (λ e. e ≡ no_memory) }
     // A text that is too long is told so, and nothing else of it.
-    ensures long { most_bytes < length text.now → IsTooLong result }
+    ensures long { text_limit < length text.now → IsTooLong result }
     // The load rule that is the first to be broken is told, unless memory runs out.
-    ensures broken { (r : LoadRule) (n : ℕ) → length text.now ≤ most_bytes → Breaks (tokens_of text.now) r n → IsTold result (fault n (kind_of_rule r)) }
+    ensures broken { (r : LoadRule) (n : ℕ) → length text.now ≤ text_limit → Breaks (tokens_of text.now) r n → IsTold result (fault n (kind_of_rule r)) }
     // And whatever is told is so. Where no accepted text goes on, it is the line of a token before which all is read.
     ensures fault { IfErr result (λ e. IsFault text.now e) }
 {
@@ -44,7 +44,7 @@ pub fn load(alloc: Global, text: &[u8]) -> Result<Config, LoadFault>
 fn read(alloc: Global, text: &[u8]) -> Result<Config, LoadFault>
     ensures { IsLoad result text.now }
 {
-    if text.len() > 1_048_576 {
+    if text.len() > TEXT_LIMIT {
         return Err(LoadFault {
             line: 0,
             kind: Kind::TooLong,

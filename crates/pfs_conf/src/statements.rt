@@ -39,7 +39,7 @@ pub fn read_text(
     Ok(finish(progress))
 }
 
-/// What a text says that ends here.
+// What a text says that ends here.
 fn finish(progress: Progress) -> Config
     requires { text_breaks progress ≡ None }
     ensures { result ≡ finished progress.draft }
@@ -63,7 +63,7 @@ fn statements(
     Ok(progress)
 }
 
-/// Reads a statement. A blank line says nothing; `set` and `table` stand outside of anchors.
+// Reads a statement. A blank line says nothing; `set` and `table` stand outside of anchors.
 #[tactic(auto, unfolding(crate::specs::Reading::statement_at))]
 fn statement(alloc: Global, cursor: &mut Cursor, progress: &mut Progress) -> Result<(), ReadError>
     requires lexed { AreLexed cursor.old }
@@ -101,7 +101,7 @@ fn statement(alloc: Global, cursor: &mut Cursor, progress: &mut Progress) -> Res
     }
 }
 
-/// The line end behind the brace that closes an anchor.
+// The line end behind the brace that closes an anchor.
 fn close(cursor: &mut Cursor, progress: &mut Progress) -> Result<(), ReadError>
     requires open { 1 ≤ progress.old.depth }
     ensures { Comes result cursor.new progress.new (ended (anchor_closed progress.old) cursor.old) }

@@ -30,8 +30,8 @@ pub fn fault_of(error: ReadError, cursor: &mut Cursor) -> LoadFault
     }
 }
 
-/// The kind of a fault at the token in front, where this was wanted: the first of `Duplicate`, `Number`, `Unsupported` and
-/// `Syntax` that applies. (own to this profile)
+// The kind of a fault at the token in front, where this was wanted: the first of `Duplicate`, `Number`, `Unsupported` and
+// `Syntax` that applies. (own to this profile)
 fn kind_of(why: Why, cursor: &mut Cursor) -> Kind
     ensures { result ≡ kind_of why cursor.old }
 {

@@ -1,17 +1,17 @@
 -- Each reader of parameters looks no further than the token in front of what it leaves, and goes over tokens of one line.
 --
 -- A crate above imports them as `use Rattle.pfs_conf_filters.proofs.OnlineLaws.{online_verb, ..}`.
-use Rattle.std.proofs.Common.{◌≡◌, ℕ, Bool, true, false, cond, List, Option, Some, None, refl}
+use Rattle.std.proofs.Common.{◌≡◌, ℕ, Bool, true, false, List, Option, Some, refl}
 use borrow.Author.Tests.{clash}
 use Rattle.pfs_conf_tokens.specs.Tokens.{Tok}
-use Rattle.pfs_conf_tokens.specs.Keys.{in_line, is_word_key}
+use Rattle.pfs_conf_tokens.specs.Keys.{in_line}
 use Rattle.pfs_conf_tokens.specs.Reading.{closes_parens, Reader, on_front, done, chain, next_of}
 use Rattle.pfs_conf_tokens.specs.declared.keys.Key.{Key}
 use Rattle.pfs_conf_tokens.specs.declared.keys.Key.TheVariants as key
 use Rattle.pfs_conf_tokens.specs.declared.refusals.Why.{Why}
 use Rattle.pfs_conf_tokens.specs.declared.refusals.Why.TheVariants as why
 use Rattle.pfs_conf_tokens.proofs.Laws.{Online, OnlineAct, Taking, Shrinks, inside, online_done, online_chain, online_front, online_taking, online_perhaps, front_shrinks, chain_shrinks, chain_shrinks_behind}
-use Rattle.pfs_conf_tokens.proofs.ReaderLaws.{word_in_line, closes_parens_in_line, online_list, next_shrinks}
+use Rattle.pfs_conf_tokens.proofs.ReaderLaws.{closes_parens_in_line, online_list, next_shrinks}
 use Rattle.pfs_addr_values.specs.declared.packets.Dir.TheVariants as dir
 use Rattle.pfs_conf_values.specs.declared.filters.Family.TheVariants as family
 use Rattle.pfs_conf_values.specs.declared.filters.FlagTest.{FlagTest}
@@ -21,18 +21,12 @@ use Rattle.pfs_conf_filters.specs.declared.phrases.Statement.{Statement}
 use Rattle.pfs_conf_filters.specs.declared.phrases.Statement.TheVariants as statement
 use Rattle.pfs_addr.specs.Texts.{prefix_of}
 use Rattle.pfs_addr_values.specs.Protocols.{proto_in}
-use Rattle.pfs_conf_filters.specs.Values.{in_word, is_plain_word, in_plain_word, may_name_interface, interface_name, table_name, ports_of, flag_test_by, flag_test}
-use Rattle.pfs_conf_filters.specs.Reading.{valued, value_at, behind, clause, part, begins_dir, begins_on, begins_family, begins_proto, begins_from, begins_to, begins_port, begins_flags, interface_at, host_table_at, policy_by, policy_at, verb_by, verb_at, dir_by, dir_at, log_item_by, log_item_at, log_list_by, log_list_at, log_by, log_at, quick_by, quick_at, marked, marks_by, marks_at, negation_by, negation_at, interface, on_at, on_part_at, family_by, family_part_at, proto_at, proto_part_at, head_at, close_by, close_at, place_by, place_at, host_by, host_at, equals_by, equals_at, ports_at, ports_part_at, side_host_by, side_host_at, side, side_at, from_part_at, to_part_at, all_hosts, given_hosts, hosts_by, hosts_at, parameters_at, flags_at}
+use Rattle.pfs_conf_filters.specs.Values.{is_plain_word, in_plain_word, may_name_interface, interface_name, ports_of, flag_test_by, flag_test}
+use Rattle.pfs_conf_filters.specs.Reading.{behind, clause, part, begins_dir, begins_on, begins_family, begins_proto, begins_from, begins_to, begins_port, begins_flags, interface_at, policy_by, policy_at, verb_by, verb_at, dir_by, dir_at, log_item_by, log_item_at, log_list_by, log_list_at, log_by, log_at, quick_by, quick_at, marked, marks_by, marks_at, negation_by, negation_at, interface, on_at, on_part_at, family_by, family_part_at, proto_at, proto_part_at, head_at, close_by, close_at, place_by, place_at, host_by, host_at, equals_by, equals_at, ports_at, ports_part_at, side_host_by, side_host_at, side, side_at, from_part_at, to_part_at, all_hosts, given_hosts, hosts_by, hosts_at, parameters_at, flags_at}
+use Rattle.pfs_conf_tokens.specs.Values.{in_word, table_name_at, value_at}
+use Rattle.pfs_conf_tokens.proofs.ValueLaws.{passed, in_word_in_line, online_value, value_shrinks, online_table_name}
 
 -- ---- words that say a value
-
--- a test that lets a value through holds
-pub passed : {A : Type 0} (b : Bool) (o : Option A) (x : A) → cond b o None ≡ Some x → b ≡ true
-passed true o x e = refl
-passed false o x e = absurd cc
-
-pub in_word_in_line : {A : Type 0} (value : List ℕ → Option A) (t : Tok) (x : A) → in_word value t ≡ Some x → in_line t.key ≡ true
-in_word_in_line value t x e = word_in_line t.key (passed (is_word_key t.key) (value t.text) x e)
 
 plain_in_line : (k : Key) → is_plain_word k ≡ true → in_line k ≡ true
 plain_in_line key.LineEnd e = absurd cc
@@ -54,16 +48,6 @@ pub flags_in_line : (text : List ℕ) (k : Key) (x : FlagTest) → flag_test_by 
 flags_in_line text key.LineEnd x e = absurd cc
 flags_in_line text key.End x e = absurd cc
 flags_in_line text _ x e = refl
-
-valued_taking : {A : Type 0} (w : Why) (k : Key) (o : Option A) → ((x : A) → o ≡ Some x → in_line k ≡ true) → Taking inside k (valued w o)
-valued_taking w k None h = tt
-valued_taking w k (Some x) h = (h x refl, online_done x)
-
-pub online_value : {A : Type 0} (w : Why) (value : Tok → Option A) → ((t : Tok) (x : A) → value t ≡ Some x → in_line t.key ≡ true) → Online inside (value_at w value)
-online_value w value h = online_taking (λ t. valued w (value t)) (λ t. valued_taking w t.key (value t) (h t))
-
-pub value_shrinks : {A : Type 0} (w : Why) (value : Tok → Option A) → ((t : Tok) (x : A) → value t ≡ Some x → in_line t.key ≡ true) → Shrinks (value_at w value)
-value_shrinks w value h = front_shrinks inside (λ t. valued w (value t)) (λ t. valued_taking w t.key (value t) (h t))
 
 -- ---- parts that a word begins
 
@@ -109,10 +93,6 @@ flags_word_in_line _ e = absurd (clash e)
 pub online_interface_name : Online inside interface_at
 unfolding interface_at
 online_interface_name = online_value why.Plain interface_name interface_in_line
-
-pub online_table_name : Online inside host_table_at
-unfolding host_table_at
-online_table_name = online_value why.Plain table_name (in_word_in_line _)
 
 -- ---- the action
 
@@ -256,7 +236,7 @@ unfolding close_at
 online_close = online_taking (λ t. close_by t.key) (λ t. close_taking t.key)
 
 place_taking : (b : Bool) (k : Key) → Taking inside k (place_by b k)
-place_taking b key.OpenAngle = (refl, online_chain host_table_at _ online_table_name (λ n. online_chain close_at _ online_close (λ u. online_done (host.Table n b))))
+place_taking b key.OpenAngle = (refl, online_chain table_name_at _ online_table_name (λ n. online_chain close_at _ online_close (λ u. online_done (host.Table n b))))
 place_taking b _ = (
   online_chain (value_at why.Host (in_plain_word prefix_of)) (λ p. done (host.Prefix p b)) (online_value why.Host (in_plain_word prefix_of) (in_plain_word_in_line prefix_of)) (λ p. online_done (host.Prefix p b)),
   chain_shrinks inside (value_at why.Host (in_plain_word prefix_of)) (λ p. done (host.Prefix p b)) (value_shrinks why.Host (in_plain_word prefix_of) (in_plain_word_in_line prefix_of)) (λ p. online_done (host.Prefix p b)),

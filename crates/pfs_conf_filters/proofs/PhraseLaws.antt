@@ -34,10 +34,12 @@ use Rattle.pfs_conf_filters.specs.declared.phrases.Marks.{Marks}
 use Rattle.pfs_conf_filters.specs.declared.phrases.Head.{Head}
 use Rattle.pfs_conf_filters.specs.declared.phrases.Hosts.{Hosts}
 use Rattle.pfs_conf_filters.specs.declared.phrases.Parameters.{Parameters}
-use Rattle.pfs_conf_filters.specs.Values.{in_word, in_plain_word, interface_name, table_name, ports_of, flag_test}
-use Rattle.pfs_conf_filters.specs.Reading.{valued, value_at, behind, clause, part, begins_dir, begins_on, begins_family, begins_proto, begins_from, begins_to, begins_port, begins_flags, interface_at, host_table_at, policy_by, policy_at, verb_by, verb_at, dir_by, dir_at, log_item_by, log_item_at, log_list_by, log_list_at, log_by, log_at, quick_by, quick_at, marked, marks_by, marks_at, negation_by, negation_at, interface, on_at, on_part_at, family_by, family_part_at, proto_at, proto_part_at, head_at, close_by, close_at, place_by, place_at, host_by, host_at, equals_by, equals_at, ports_at, ports_part_at, side_host_by, side_host_at, side, side_at, from_part_at, to_part_at, all_hosts, given_hosts, hosts_by, hosts_at, parameters_at, flags_at}
+use Rattle.pfs_conf_filters.specs.Values.{in_plain_word, interface_name, ports_of, flag_test}
+use Rattle.pfs_conf_filters.specs.Reading.{behind, clause, part, begins_dir, begins_on, begins_family, begins_proto, begins_from, begins_to, begins_port, begins_flags, interface_at, policy_by, policy_at, verb_by, verb_at, dir_by, dir_at, log_item_by, log_item_at, log_list_by, log_list_at, log_by, log_at, quick_by, quick_at, marked, marks_by, marks_at, negation_by, negation_at, interface, on_at, on_part_at, family_by, family_part_at, proto_at, proto_part_at, head_at, close_by, close_at, place_by, place_at, host_by, host_at, equals_by, equals_at, ports_at, ports_part_at, side_host_by, side_host_at, side, side_at, from_part_at, to_part_at, all_hosts, given_hosts, hosts_by, hosts_at, parameters_at, flags_at}
 use Rattle.pfs_conf_filters.specs.Grammar.{Says, Behind, PolicyOf, none, drop, return, return_rst, return_icmp, return_icmp6, VerbOf, pass, block, DirOf, inward, outward, LogItemOf, all, matches, user, to, LogListOf, bare, listed, LogOf, silent, logs, QuickOf, slow, quick, MarksOf, log_first, quick_first, of_anchor, NegationOf, affirmed, negated, OnOf, on, FamilyOf, inet, inet6, HeadOf, HostOf, any, prefix, table, PortsOf, plainly, equals, SideOf, hosted, ported, HostsOf, every, sides, ParametersOf, FlagsOf}
-use Rattle.pfs_conf_filters.proofs.OnlineLaws.{in_word_in_line, in_plain_word_in_line, interface_in_line, flags_in_line}
+use Rattle.pfs_conf_filters.proofs.OnlineLaws.{in_plain_word_in_line, interface_in_line, flags_in_line}
+use Rattle.pfs_conf_tokens.proofs.ValueLaws.{in_word_in_line}
+use Rattle.pfs_conf_tokens.specs.Values.{in_word, table_name, table_name_at, value_at, valued}
 
 -- ---- forms
 
@@ -116,8 +118,8 @@ interface_name_is : (ts : List Tok) (x : List ℕ) (left : List Tok) → interfa
 unfolding interface_at
 interface_name_is ts x left e = value_is why.Plain interface_name interface_in_line ts x left e
 
-table_name_is : (ts : List Tok) (x : List ℕ) (left : List Tok) → host_table_at ts ≡ Ok (x, left) → Says table_name ts x left
-unfolding host_table_at
+table_name_is : (ts : List Tok) (x : List ℕ) (left : List Tok) → table_name_at ts ≡ Ok (x, left) → Says table_name ts x left
+unfolding table_name_at
 table_name_is ts x left e = value_is why.Plain table_name (in_word_in_line _) ts x left e
 
 -- ---- the action
@@ -322,7 +324,7 @@ place_is whole b ts n x left e = by_key (head ts).key refl e
 
     by_key : (k : Key) → (head ts).key ≡ k → act (place_by b k) ts ≡ Ok (x, left) → HostOf whole x left
     by_key key.OpenAngle g h =
-        let c = chain_ok host_table_at (λ n. chain close_at (λ u. done (host.Table n b))) (rest ts) x left h in
+        let c = chain_ok table_name_at (λ n. chain close_at (λ u. done (host.Table n b))) (rest ts) x left h in
         let d = chain_ok close_at (λ u. done (host.Table c.0 b)) c.1 x left c.3 in
         moved HostOf whole (ok_parts (host.Table c.0 b) x d.1 left d.3) (table n (word_is key.OpenAngle ts g (λ q. cc)) (table_name_is (rest ts) c.0 c.1 c.2) (close_is c.1 d.0 d.1 d.2))
     by_key _ g h = a_prefix h

@@ -30,10 +30,12 @@ use Rattle.pfs_conf_filters.specs.declared.phrases.Marks.{Marks}
 use Rattle.pfs_conf_filters.specs.declared.phrases.Head.{Head}
 use Rattle.pfs_conf_filters.specs.declared.phrases.Hosts.{Hosts}
 use Rattle.pfs_conf_filters.specs.declared.phrases.Parameters.{Parameters}
-use Rattle.pfs_conf_filters.specs.Values.{in_word, is_plain_word, in_plain_word, may_name_interface, interface_name, table_name, ports_of, flag_test}
-use Rattle.pfs_conf_filters.specs.Reading.{value_at, clause, part, begins_dir, begins_on, begins_family, begins_proto, begins_from, begins_to, begins_port, begins_flags, interface_at, host_table_at, policy_by, policy_at, verb_at, dir_by, dir_at, log_item_at, log_list_by, log_list_at, log_by, log_at, quick_by, quick_at, marked, rule_marks_by, marks_at, negation_by, negation_at, on_at, on_part_at, family_by, family_part_at, proto_at, proto_part_at, head_at, close_at, place_by, place_at, host_by, host_at, equals_by, equals_at, ports_at, ports_part_at, side_host_by, side_host_at, side_at, from_part_at, to_part_at, given_hosts, hosts_by, hosts_at, parameters_at, flags_at}
+use Rattle.pfs_conf_filters.specs.Values.{is_plain_word, in_plain_word, may_name_interface, interface_name, ports_of, flag_test}
+use Rattle.pfs_conf_filters.specs.Reading.{clause, part, begins_dir, begins_on, begins_family, begins_proto, begins_from, begins_to, begins_port, begins_flags, interface_at, policy_by, policy_at, verb_at, dir_by, dir_at, log_item_at, log_list_by, log_list_at, log_by, log_at, quick_by, quick_at, marked, rule_marks_by, marks_at, negation_by, negation_at, on_at, on_part_at, family_by, family_part_at, proto_at, proto_part_at, head_at, close_at, place_by, place_at, host_by, host_at, equals_by, equals_at, ports_at, ports_part_at, side_host_by, side_host_at, side_at, from_part_at, to_part_at, given_hosts, hosts_by, hosts_at, parameters_at, flags_at}
 use Rattle.pfs_conf_filters.specs.Grammar.{Says, Behind, PolicyOf, none, drop, return, return_rst, return_icmp, return_icmp6, VerbOf, pass, block, DirOf, inward, outward, LogItemOf, all, matches, user, to, LogListOf, bare, listed, LogOf, silent, logs, QuickOf, slow, quick, MarksOf, log_first, quick_first, of_anchor, NegationOf, affirmed, negated, OnOf, on, FamilyOf, inet, inet6, HeadOf, HostOf, any, prefix, table, PortsOf, plainly, equals, SideOf, hosted, ported, HostsOf, every, sides, ParametersOf, FlagsOf}
-use Rattle.pfs_conf_filters.proofs.OnlineLaws.{passed, log_item_shrinks}
+use Rattle.pfs_conf_filters.proofs.OnlineLaws.{log_item_shrinks}
+use Rattle.pfs_conf_tokens.proofs.ValueLaws.{passed}
+use Rattle.pfs_conf_tokens.specs.Values.{in_word, table_name, table_name_at, value_at}
 
 -- ---- what may stand behind
 
@@ -158,8 +160,8 @@ interface_name_reads : {ts : List Tok} {x : List ℕ} {left : List Tok} → Says
 unfolding interface_at
 interface_name_reads s = value_reads why.Plain interface_name s
 
-table_name_reads : {ts : List Tok} {x : List ℕ} {left : List Tok} → Says table_name ts x left → host_table_at ts ≡ Ok (x, left)
-unfolding host_table_at
+table_name_reads : {ts : List Tok} {x : List ℕ} {left : List Tok} → Says table_name ts x left → table_name_at ts ≡ Ok (x, left)
+unfolding table_name_at
 table_name_reads s = value_reads why.Plain table_name s
 
 -- ---- the action

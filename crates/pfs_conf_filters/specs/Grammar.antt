@@ -26,7 +26,8 @@ use Rattle.pfs_conf_filters.specs.declared.phrases.Hosts.{Hosts}
 use Rattle.pfs_conf_filters.specs.declared.phrases.Parameters.{Parameters}
 use Rattle.pfs_addr.specs.Texts.{prefix_of}
 use Rattle.pfs_addr_values.specs.Protocols.{proto_in}
-use Rattle.pfs_conf_filters.specs.Values.{in_word, in_plain_word, interface_name, table_name, ports_of, flag_test}
+use Rattle.pfs_conf_filters.specs.Values.{in_plain_word, interface_name, ports_of, flag_test}
+use Rattle.pfs_conf_tokens.specs.Values.{in_word, table_name}
 
 -- a token that says a value
 abbrev pub Says : {A : Type 0} → (Tok → Option A) → List Tok → A → List Tok → Type 0

@@ -1,7 +1,6 @@
 -- Reading the parameters from left to right: one definition for each reader of the code, made of the parts of pfs_conf_tokens
 -- alone, so that each looks no further than the token in front of what it leaves. (own)
-use Rattle.std.specs.Prelude.{ℕ, Bool, true, false, List, Option, Some, None}
-use Rattle.pfs_conf_tokens.specs.Tokens.{Tok}
+use Rattle.std.specs.Prelude.{ℕ, Bool, true, false, List, Option, None}
 use Rattle.pfs_conf_tokens.specs.Reading.{closes_parens, Reader, Act, take, stay, refuse, on_front, done, chain, perhaps, list_all}
 use Rattle.pfs_conf_tokens.specs.declared.keys.Key.{Key}
 use Rattle.pfs_conf_tokens.specs.declared.keys.Key.TheVariants as key
@@ -28,15 +27,8 @@ use Rattle.pfs_conf_filters.specs.declared.phrases.Hosts.{Hosts}
 use Rattle.pfs_conf_filters.specs.declared.phrases.Parameters.{Parameters}
 use Rattle.pfs_addr.specs.Texts.{prefix_of}
 use Rattle.pfs_addr_values.specs.Protocols.{proto_in}
-use Rattle.pfs_conf_filters.specs.Values.{in_word, in_plain_word, interface_name, table_name, ports_of, flag_test}
-
--- a word that says a value is taken; where another token stands, this was wanted
-abbrev pub valued : {A : Type 0} → Why → Option A → Act A
-valued w None = refuse w
-valued w (Some x) = take (done x)
-
-abbrev pub value_at : {A : Type 0} → Why → (Tok → Option A) → Reader A
-value_at w value ts = on_front (λ t. valued w (value t)) ts
+use Rattle.pfs_conf_filters.specs.Values.{in_plain_word, interface_name, ports_of, flag_test}
+use Rattle.pfs_conf_tokens.specs.Values.{in_word, table_name_at, value_at}
 
 -- a part that one word begins, and what stands behind the word
 abbrev pub behind : {A : Type 0} → Bool → Reader A → Act A
@@ -90,9 +82,6 @@ begins_flags _ = false
 
 unfoldable pub interface_at : Reader (List ℕ)
 interface_at ts = value_at why.Plain interface_name ts
-
-unfoldable pub host_table_at : Reader (List ℕ)
-host_table_at ts = value_at why.Plain table_name ts
 
 -- ---- the action
 
@@ -223,7 +212,7 @@ close_at ts = on_front (λ t. close_by t.key) ts
 
 -- a table or a prefix, behind its `!` if it has one
 abbrev pub place_by : Bool → Key → Act (Host (List ℕ))
-place_by b key.OpenAngle = take (chain host_table_at (λ n. chain close_at (λ u. done (host.Table n b))))
+place_by b key.OpenAngle = take (chain table_name_at (λ n. chain close_at (λ u. done (host.Table n b))))
 place_by b _ = stay (chain (value_at why.Host (in_plain_word prefix_of)) (λ p. done (host.Prefix p b)))
 
 unfoldable pub place_at : Bool → Reader (Host (List ℕ))

@@ -13,11 +13,7 @@ use Rattle.pfs_conf_values.specs.declared.filters.Ports.{Ports}
 use Rattle.pfs_conf_values.specs.declared.filters.FlagTest.{FlagTest}
 use Rattle.pfs_conf_values.specs.declared.filters.FlagTest.TheVariants as test
 
--- what a token says to those who ask for a word: a quoted string, a mark and an end say nothing
-abbrev pub in_word : {A : Type 0} → (List ℕ → Option A) → Tok → Option A
-in_word value t = if is_word_key t.key then value t.text else None
-
--- the same to those who ask for a word that is none of the grammar's own, as an address is
+-- what a token says to those who ask for a word that is none of the grammar's own, as an address is
 abbrev pub is_plain_word : Key → Bool
 is_plain_word key.Number = true
 is_plain_word key.Name = true
@@ -35,10 +31,6 @@ may_name_interface k = is_word_key k
 -- the name of an interface, of 1 to 15 bytes
 abbrev pub interface_name : Tok → Option (List ℕ)
 interface_name t = if may_name_interface t.key then name_of 15 t.text else None
-
--- the name of a table, of 1 to 31 bytes
-abbrev pub table_name : Tok → Option (List ℕ)
-table_name t = in_word (name_of 31) t
 
 -- ports are at most 65535
 abbrev pub port_numbered : Option ℕ → Option ℕ

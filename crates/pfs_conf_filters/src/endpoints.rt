@@ -1,4 +1,4 @@
-// Hosts and their ports, and the parameters as a whole.
+//! Hosts and their ports, and the parameters as a whole.
 
 ghost use Rattle.std.specs.Prelude.{◌≡◌};
 ghost use Rattle.pfs_conf_tokens.specs.Giving.{Gives};
@@ -7,9 +7,8 @@ ghost use Rattle.pfs_conf_filters.specs.Reading.{place_at, host_at, side_host_at
 use crate::heads::head;
 use crate::phrases::{Hosts, Parameters, Statement};
 use crate::services::ports_part;
-use crate::words::{table_name, take_value};
 use pfs_addr::parse_prefix;
-use pfs_conf_tokens::{Cursor, Key, Refusal, Why};
+use pfs_conf_tokens::{Cursor, Key, Refusal, Why, table_name, take_value};
 use pfs_conf_values::{Host, Side, TableName};
 
 /// Reads the parameters of a rule, behind its action, or of an anchor, behind its name, up to its hosts:
@@ -28,7 +27,7 @@ pub fn read_parameters(cursor: &mut Cursor, statement: Statement) -> Result<Para
     Ok(Parameters { head, hosts })
 }
 
-/// `all`, or `from` and `to` with what stands behind them, each of which may lack.
+// `all`, or `from` and `to` with what stands behind them, each of which may lack.
 #[tactic(auto, unfolding(crate::specs::Reading::hosts_at))]
 fn hosts(cursor: &mut Cursor) -> Result<Hosts, Refusal>
     ensures { Gives result cursor.new (hosts_at cursor.old) }
@@ -71,7 +70,7 @@ fn to_part(cursor: &mut Cursor) -> Result<Option<Side<TableName>>, Refusal>
     }
 }
 
-/// A host with or without ports, or ports alone.
+// A host with or without ports, or ports alone.
 #[tactic(auto, unfolding(crate::specs::Reading::side_at))]
 fn side(cursor: &mut Cursor) -> Result<Side<TableName>, Refusal>
     ensures { Gives result cursor.new (side_at cursor.old) }
@@ -91,7 +90,7 @@ fn side_host(cursor: &mut Cursor) -> Result<Host<TableName>, Refusal>
     }
 }
 
-/// `any`, or a prefix or a table with or without `!`.
+// `any`, or a prefix or a table with or without `!`.
 #[tactic(auto, unfolding(crate::specs::Reading::host_at, crate::specs::Reading::negation_at))]
 fn host(cursor: &mut Cursor) -> Result<Host<TableName>, Refusal>
     ensures { Gives result cursor.new (host_at cursor.old) }

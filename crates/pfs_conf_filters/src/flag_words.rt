@@ -1,14 +1,13 @@
-// `flags`, and the sets of flags that it asks for.
+//! `flags`, and the sets of flags that it asks for.
 
 ghost use Rattle.std.specs.Prelude.{◌≡◌, ◌==◌, length};
 ghost use Rattle.pfs_conf_tokens.specs.Giving.{Gives};
 ghost use Rattle.pfs_conf_filters.specs.Values.{flag_test_of, exactly};
 ghost use Rattle.pfs_conf_filters.specs.Reading.{flags_at};
 
-use crate::words::take_value;
 use pfs_addr::parse_flags;
 use pfs_addr_values::Flags;
-use pfs_conf_tokens::{Cursor, Key, Refusal, Why, split_at_byte};
+use pfs_conf_tokens::{Cursor, Key, Refusal, Why, split_at_byte, take_value};
 use pfs_conf_values::FlagTest;
 
 /// Reads `flags any`, or `flags a/b` as one word: letters of `FSRPAUEW` in any order, of which a may be empty and b not.
@@ -31,7 +30,7 @@ pub fn read_flags(cursor: &mut Cursor) -> Result<FlagTest, Refusal>
     take_value(cursor, Why::Plain, test)
 }
 
-/// The test that a word says: a/b asks that of the flags b exactly a are set.
+// The test that a word says: a/b asks that of the flags b exactly a are set.
 #[tactic(auto, unfolding(crate::specs::Values::flag_test_of))]
 fn parse_flag_test(text: &[u8]) -> Option<FlagTest>
     ensures { result ≡ flag_test_of text.now }

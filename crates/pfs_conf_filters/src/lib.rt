@@ -1,4 +1,4 @@
-// The parts of a statement that say which packets a rule, or the rules of an anchor, are asked about.
+//! The parts of a statement that say which packets a rule, or the rules of an anchor, are asked about.
 #![tactic(auto)]
 
 mod endpoints;

@@ -1,4 +1,4 @@
-// What is read of a statement, as it is written: tables by their names, and each part with whether it is given.
+//! What is read of a statement, as it is written: tables by their names, and each part with whether it is given.
 
 use pfs_addr_values::{Dir, Proto};
 use pfs_conf_values::{Family, Interface, Side, TableName};

@@ -1,4 +1,4 @@
-// What is asked of parameters that have been read.
+//! What is asked of parameters that have been read.
 
 ghost use Rattle.std.specs.Prelude.{◌≡◌};
 ghost use Rattle.pfs_conf_filters.specs.Sides.{source_of, destination_of, gives_ports, lacks_proto};

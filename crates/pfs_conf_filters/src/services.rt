@@ -1,4 +1,4 @@
-// Protocols and ports.
+//! Protocols and ports.
 
 ghost use Rattle.std.specs.Prelude.{◌≡◌, ◌<◌};
 ghost use Rattle.pfs_conf_tokens.specs.Giving.{Gives};
@@ -7,10 +7,9 @@ ghost use Rattle.pfs_conf_tokens.specs.Numbers.{number_written};
 ghost use Rattle.pfs_conf_filters.specs.Values.{port_of, port_by, port_numbered, one_port, port_range, ports_of};
 ghost use Rattle.pfs_conf_filters.specs.Reading.{proto_at, proto_part_at, ports_at, ports_part_at};
 
-use crate::words::take_value;
 use pfs_addr::parse_proto;
 use pfs_addr_values::Proto;
-use pfs_conf_tokens::{Cursor, Key, Refusal, Why, digits, key_of, split_at_byte};
+use pfs_conf_tokens::{Cursor, Key, Refusal, Why, digits, key_of, split_at_byte, take_value};
 use pfs_conf_values::Ports;
 
 /// `proto PROTO`, if it stands there.
@@ -60,7 +59,7 @@ fn ports(cursor: &mut Cursor) -> Result<Ports, Refusal>
     take_value(cursor, Why::Service, ports)
 }
 
-/// The ports that a word says: P, or P:Q for those from P to Q.
+// The ports that a word says: P, or P:Q for those from P to Q.
 #[tactic(auto, unfolding(crate::specs::Values::ports_of))]
 fn parse_ports(text: &[u8]) -> Option<Ports>
     ensures { result ≡ ports_of text.now }
@@ -92,7 +91,7 @@ fn port_range(low: Option<u16>, high: Option<u16>) -> Option<Ports>
     }
 }
 
-/// The port that a word, or an end of one, says. (services(5), of which this profile knows six names)
+// The port that a word, or an end of one, says. (services(5), of which this profile knows six names)
 #[tactic(auto, unfolding(crate::specs::Values::port_of))]
 fn parse_port(text: &[u8]) -> Option<u16>
     ensures { result ≡ port_of text.now }

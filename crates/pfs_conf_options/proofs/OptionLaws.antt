@@ -1,15 +1,15 @@
 -- The readers of a state clause look no further than the token in front of what they leave.
-use Rattle.std.proofs.Common.{◌≡◌, ℕ, ◌<◌, Bool, true, false, cond, List, Option, Some, None, Result, refl, subst, slice_index_or, slice_set, nat_lt}
+use Rattle.std.proofs.Common.{◌≡◌, ℕ, ◌<◌, Bool, true, false, List, Option, Some, None, Result, refl, subst, slice_index_or, slice_set, nat_lt}
 use Rattle.std.proofs.lemmas.Bool.{ltb-true}
 use Rattle.pfs_conf_tokens.specs.Tokens.{Tok}
 use Rattle.pfs_conf_tokens.specs.declared.keys.Key.{Key}
 use Rattle.pfs_conf_tokens.specs.declared.keys.Key.TheVariants as key
 use Rattle.pfs_conf_tokens.specs.declared.refusals.Why.TheVariants as why
-use Rattle.pfs_conf_tokens.specs.Keys.{timeout_place, is_word_key}
-use Rattle.pfs_conf_tokens.specs.Reading.{closes_parens, Refused, Act, refuse, done, number_at, next_of}
+use Rattle.pfs_conf_tokens.specs.Keys.{timeout_place}
+use Rattle.pfs_conf_tokens.specs.Reading.{closes_parens, Refused, Act, done, number_at, next_of}
 use Rattle.pfs_conf_tokens.proofs.Laws.{Taking, OnlineAct, Online, inside, online_done, online_chain, online_front, online_taking, once_taking, front_shrinks, Shrinks}
-use Rattle.pfs_conf_tokens.proofs.ReaderLaws.{closes_parens_in_line, online_number, online_list, next_shrinks, timeout_in_line, word_in_line}
-use Rattle.pfs_addr_values.specs.Names.{name_of}
+use Rattle.pfs_conf_tokens.proofs.ValueLaws.{online_table_name}
+use Rattle.pfs_conf_tokens.proofs.ReaderLaws.{closes_parens_in_line, online_number, online_list, next_shrinks, timeout_in_line}
 use Rattle.pfs_conf_values.specs.declared.actions.Scope.TheVariants as scope
 use Rattle.pfs_conf_values.specs.declared.actions.Rate.{Rate}
 use Rattle.pfs_conf_options.specs.declared.clauses.Track.TheVariants as track
@@ -18,7 +18,8 @@ use Rattle.pfs_conf_options.specs.declared.clauses.StateClause.{StateClause}
 use Rattle.pfs_conf_options.specs.declared.clauses.StateClause.TheVariants as clause
 use Rattle.pfs_conf_options.specs.Options.{none_given, rule_place}
 use Rattle.pfs_conf_values.specs.Bounds.{greatest_timeout}
-use Rattle.pfs_conf_options.specs.Reading.{track_by, track_at, rate_of, rate_found, rate_by, rate_at, name_found, table_name_by, table_name_at, name_closed_by, name_closed, table_by, table_at, flushed_by, flush_by, flush_at, overload_text_at, mark_once, timeout_by, mark_by, connection_by, option_by, option_at, state_options_at, kept_by, kept_at, kept_clause, behind_state, state_word, state_by, state_at}
+use Rattle.pfs_conf_options.specs.Reading.{track_by, track_at, rate_of, rate_found, rate_by, rate_at, name_closed_by, name_closed, table_by, table_at, flushed_by, flush_by, flush_at, overload_text_at, mark_once, timeout_by, mark_by, connection_by, option_by, option_at, state_options_at, kept_by, kept_at, kept_clause, behind_state, state_word, state_by, state_at}
+use Rattle.pfs_conf_tokens.specs.Values.{table_name_at}
 
 -- ---- what stands behind an option's word
 
@@ -42,18 +43,6 @@ rate_taking text _ = tt
 pub online_rate : Online inside rate_at
 unfolding rate_at
 online_rate = online_taking (λ t. rate_by t.text t.key) (λ t. rate_taking t.text t.key)
-
-table_name_taking : (text : List ℕ) (k : Key) → Taking inside k (table_name_by text k)
-table_name_taking text k = choose (is_word_key k) refl (name_of 31 text)
-  where
-    choose : (b : Bool) → is_word_key k ≡ b → (o : Option (List ℕ)) → Taking inside k (cond b (name_found o) (refuse why.Plain))
-    choose true e None = tt
-    choose true e (Some name) = (word_in_line k e, online_done name)
-    choose false e o = tt
-
-pub online_table_name : Online inside table_name_at
-unfolding table_name_at
-online_table_name = online_taking (λ t. table_name_by t.text t.key) (λ t. table_name_taking t.text t.key)
 
 closed_taking : (name : List ℕ) (k : Key) → Taking inside k (name_closed_by name k)
 closed_taking name key.CloseAngle = (refl, online_done name)

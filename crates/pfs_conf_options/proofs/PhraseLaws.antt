@@ -5,7 +5,7 @@
 use Rattle.std.proofs.Common.{◌≡◌, ℕ, ◌≤◌, Bool, true, false, cond, List, [], ◌∷◌, Option, Some, None, Result, Ok, refl, sym, ap, subst, ◌∙◌, leb, ◌&&◌, slice_index_or, slice_set}
 use Rattle.std.proofs.lemmas.Bool.{and_parts, leb-true, le-leb}
 use Rattle.pfs_conf_tokens.specs.Tokens.{Tok, head}
-use Rattle.pfs_conf_tokens.specs.Reading.{rest, closes_parens, Refused, Reader, Act, take, stay, refuse, act, done, chain, once, number_at}
+use Rattle.pfs_conf_tokens.specs.Reading.{rest, closes_parens, Refused, Reader, Act, take, stay, act, done, chain, once, number_at}
 use Rattle.pfs_conf_tokens.specs.declared.keys.Key.{Key}
 use Rattle.pfs_conf_tokens.specs.declared.keys.Key.TheVariants as key
 use Rattle.pfs_conf_tokens.specs.declared.refusals.Why.TheVariants as why
@@ -27,7 +27,8 @@ use Rattle.pfs_conf_options.specs.declared.clauses.StateClause.{StateClause}
 use Rattle.pfs_conf_options.specs.declared.clauses.StateClause.TheVariants as clause
 use Rattle.pfs_conf_options.specs.Options.{none_given, rule_place}
 use Rattle.pfs_conf_options.specs.Grammar.{TrackOf, bare, rule, global, IsRateText, RateOf, TableOf, FlushOf, nothing, own, all, OverloadOf, OptionOf, max, source_track, max_src_nodes, max_src_states, max_src_conn, max_src_conn_rate, overload, sloppy, floating, no_sync, timeout, KeptOf, plainly, listed, StateOf, no, keep}
-use Rattle.pfs_conf_options.specs.Reading.{track_by, track_at, count_in, counted, rate_with, rate_parts, rate_of, rate_found, rate_by, rate_at, name_found, table_name_at, name_closed_by, name_closed, table_by, table_at, flushed_by, flush_by, flush_at, overload_text_at, mark_once, timeout_by, mark_by, connection_by, option_by, option_at, state_options_at, kept_by, kept_at, kept_clause, behind_state, state_word, state_by, state_at}
+use Rattle.pfs_conf_options.specs.Reading.{track_by, track_at, count_in, counted, rate_with, rate_parts, rate_of, rate_found, rate_by, rate_at, name_closed_by, name_closed, table_by, table_at, flushed_by, flush_by, flush_at, overload_text_at, mark_once, timeout_by, mark_by, connection_by, option_by, option_at, state_options_at, kept_by, kept_at, kept_clause, behind_state, state_word, state_by, state_at}
+use Rattle.pfs_conf_tokens.specs.Values.{table_name_at, valued}
 use Rattle.pfs_conf_options.proofs.OptionLaws.{option_shrinks}
 
 -- ---- readers of one part and then a value that holds it
@@ -147,7 +148,7 @@ unfolding table_name_at
 table_name_is [] name left e = absurd cc
 table_name_is (t ∷ ts) name left e = choose (is_word_key t.key) refl (name_of 31 t.text) refl e
   where
-    choose : (b : Bool) → is_word_key t.key ≡ b → (o : Option (List ℕ)) → name_of 31 t.text ≡ o → act (cond b (name_found o) (refuse why.Plain)) (t ∷ ts) ≡ Ok (name, left) → WordOf (name_of 31) (t ∷ ts) name left
+    choose : (b : Bool) → is_word_key t.key ≡ b → (o : Option (List ℕ)) → name_of 31 t.text ≡ o → act (valued why.Plain (cond b o None)) (t ∷ ts) ≡ Ok (name, left) → WordOf (name_of 31) (t ∷ ts) name left
     choose true g None e h = absurd cc
     choose true g (Some x) e h = let p = ok_parts x name ts left h in (t, ap (λ z. t ∷ z) p.1, g, e ∙ ap (λ z. Some z) p.0)
     choose false g o e h = absurd cc
@@ -260,10 +261,10 @@ mark_is o ts p left key.NoSync g h =
 mark_is o ts p left k g h = timeout_is o ts p left k g (rule_place k) refl h
 
 -- an option's value behind its word
-valued : {A : Type 0} (o : Options) (had : Option A) (f : Reader A) (P : List Tok → A → List Tok → Type 0) → ((ts : List Tok) (x : A) (left : List Tok) → f ts ≡ Ok (x, left) → P ts x left)
+option_value_is : {A : Type 0} (o : Options) (had : Option A) (f : Reader A) (P : List Tok → A → List Tok → Type 0) → ((ts : List Tok) (x : A) (left : List Tok) → f ts ≡ Ok (x, left) → P ts x left)
     → (put : A → Options) (ts : List Tok) (p : Options) (left : List Tok) → act (once had (take (chain f (λ x. done (put x))))) ts ≡ Ok (p, left)
     → (had ≡ None) × ((x : A) × P (rest ts) x left × (put x ≡ p))
-valued o had f P is put ts p left h =
+option_value_is o had f P is put ts p left h =
     let q = once_ok had (take (chain f (λ x. done (put x)))) ts p left h in
     (q.0, read_then f P is put (rest ts) p left q.1)
 
@@ -272,13 +273,13 @@ Counted = Number 1 4294967295
 
 connection_is : (o : Options) (ts : List Tok) (p : Options) (left : List Tok) (k : Key) → (head ts).key ≡ k → act (connection_by k o) ts ≡ Ok (p, left) → OptionOf o ts p left
 connection_is o ts p left key.MaxSrcConn g h =
-    let q = valued o o.max_src_conn (number_at 1 4294967295) Counted (number_is 1 4294967295) (λ n. record o { max_src_conn = Some n }) ts p left h in
+    let q = option_value_is o o.max_src_conn (number_at 1 4294967295) Counted (number_is 1 4294967295) (λ n. record o { max_src_conn = Some n }) ts p left h in
     subst (λ (z : Options). OptionOf o ts z left) q.1.2 (max_src_conn q.1.0 (word_is key.MaxSrcConn ts g (λ r. cc)) q.0 q.1.1)
 connection_is o ts p left key.MaxSrcConnRate g h =
-    let q = valued o o.max_src_conn_rate rate_at RateOf rate_is (λ r. record o { max_src_conn_rate = Some r }) ts p left h in
+    let q = option_value_is o o.max_src_conn_rate rate_at RateOf rate_is (λ r. record o { max_src_conn_rate = Some r }) ts p left h in
     subst (λ (z : Options). OptionOf o ts z left) q.1.2 (max_src_conn_rate q.1.0 (word_is key.MaxSrcConnRate ts g (λ r. cc)) q.0 q.1.1)
 connection_is o ts p left key.Overload g h =
-    let q = valued o o.overload overload_text_at OverloadOf overload_is (λ v. record o { overload = Some v }) ts p left h in
+    let q = option_value_is o o.overload overload_text_at OverloadOf overload_is (λ v. record o { overload = Some v }) ts p left h in
     subst (λ (z : Options). OptionOf o ts z left) q.1.2 (overload q.1.0 (word_is key.Overload ts g (λ r. cc)) q.0 q.1.1)
 connection_is o ts p left k g h = mark_is o ts p left k g h
 
@@ -288,16 +289,16 @@ option_is o ts p left e = by_key (head ts).key refl e
   where
     by_key : (k : Key) → (head ts).key ≡ k → act (option_by k o) ts ≡ Ok (p, left) → OptionOf o ts p left
     by_key key.Max g h =
-        let q = valued o o.max (number_at 1 4294967295) Counted (number_is 1 4294967295) (λ n. record o { max = Some n }) ts p left h in
+        let q = option_value_is o o.max (number_at 1 4294967295) Counted (number_is 1 4294967295) (λ n. record o { max = Some n }) ts p left h in
         subst (λ (z : Options). OptionOf o ts z left) q.1.2 (max q.1.0 (word_is key.Max ts g (λ r. cc)) q.0 q.1.1)
     by_key key.SourceTrack g h =
-        let q = valued o o.track track_at TrackOf track_is (λ s. record o { track = Some s }) ts p left h in
+        let q = option_value_is o o.track track_at TrackOf track_is (λ s. record o { track = Some s }) ts p left h in
         subst (λ (z : Options). OptionOf o ts z left) q.1.2 (source_track q.1.0 (word_is key.SourceTrack ts g (λ r. cc)) q.0 q.1.1)
     by_key key.MaxSrcNodes g h =
-        let q = valued o o.max_src_nodes (number_at 1 4294967295) Counted (number_is 1 4294967295) (λ n. record o { max_src_nodes = Some n }) ts p left h in
+        let q = option_value_is o o.max_src_nodes (number_at 1 4294967295) Counted (number_is 1 4294967295) (λ n. record o { max_src_nodes = Some n }) ts p left h in
         subst (λ (z : Options). OptionOf o ts z left) q.1.2 (max_src_nodes q.1.0 (word_is key.MaxSrcNodes ts g (λ r. cc)) q.0 q.1.1)
     by_key key.MaxSrcStates g h =
-        let q = valued o o.max_src_states (number_at 1 4294967295) Counted (number_is 1 4294967295) (λ n. record o { max_src_states = Some n }) ts p left h in
+        let q = option_value_is o o.max_src_states (number_at 1 4294967295) Counted (number_is 1 4294967295) (λ n. record o { max_src_states = Some n }) ts p left h in
         subst (λ (z : Options). OptionOf o ts z left) q.1.2 (max_src_states q.1.0 (word_is key.MaxSrcStates ts g (λ r. cc)) q.0 q.1.1)
     by_key k g h = connection_is o ts p left k g h
 

@@ -3,10 +3,9 @@ use Rattle.std.specs.Prelude.{ℕ, Bool, true, false, List, Option, Some, None, 
 use Rattle.pfs_conf_tokens.specs.declared.keys.Key.{Key}
 use Rattle.pfs_conf_tokens.specs.declared.keys.Key.TheVariants as key
 use Rattle.pfs_conf_tokens.specs.declared.refusals.Why.TheVariants as why
-use Rattle.pfs_conf_tokens.specs.Keys.{is_word_key}
 use Rattle.pfs_conf_tokens.specs.Reading.{closes_parens, Reader, Act, take, stay, refuse, on_front, done, chain, once, list_all, number_at}
 use Rattle.pfs_conf_tokens.specs.Numbers.{number_written, split_around}
-use Rattle.pfs_addr_values.specs.Names.{name_of}
+use Rattle.pfs_conf_tokens.specs.Values.{table_name_at}
 use Rattle.pfs_conf_values.specs.Bounds.{greatest_timeout}
 use Rattle.pfs_conf_values.specs.declared.actions.Rate.{Rate}
 use Rattle.pfs_conf_values.specs.declared.actions.Scope.{Scope}
@@ -65,18 +64,7 @@ rate_by text _ = refuse why.Number
 unfoldable pub rate_at : Reader Rate
 rate_at ts = on_front (λ t. rate_by t.text t.key) ts
 
--- the name of a table, 1 to 31 bytes, in angle brackets
-abbrev pub name_found : Option (List ℕ) → Act (List ℕ)
-name_found None = refuse why.Plain
-name_found (Some name) = take (done name)
-
-abbrev pub table_name_by : List ℕ → Key → Act (List ℕ)
-table_name_by text k = if is_word_key k then name_found (name_of 31 text) else refuse why.Plain
-
-unfoldable pub table_name_at : Reader (List ℕ)
-table_name_at ts = on_front (λ t. table_name_by t.text t.key) ts
-
--- behind the name, the closing bracket
+-- the name of a table in angle brackets: behind the name, the closing bracket
 abbrev pub name_closed_by : List ℕ → Key → Act (List ℕ)
 name_closed_by name key.CloseAngle = take (done name)
 name_closed_by name _ = refuse why.Plain

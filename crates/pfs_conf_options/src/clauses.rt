@@ -1,4 +1,4 @@
-// What a state clause says, as it is written: tables by their names, and no scope but the one that is stated.
+//! What a state clause says, as it is written: tables by their names, and no scope but the one that is stated.
 
 use pfs_conf_values::{Rate, RuleTimeouts, Scope, TableName};
 

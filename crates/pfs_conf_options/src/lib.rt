@@ -1,4 +1,4 @@
-// The state clause of a rule: `no state`, or `keep state` with its options; and which load rules its options break.
+//! The state clause of a rule: `no state`, or `keep state` with its options; and which load rules its options break.
 #![tactic(auto)]
 
 mod clauses;

@@ -1,5 +1,5 @@
-// Readers of a state clause and its options: each reads a value at the cursor, which then stands behind it, or at the
-// token that goes on no statement.
+//! Readers of a state clause and its options: each reads a value at the cursor, which then stands behind it, or at the
+//! token that goes on no statement.
 
 ghost use Rattle.std.specs.Prelude.{◌≡◌, ◌<◌, ◌≤◌, IfOk, IfSome, MatchBool, Ok, Err, Some};
 ghost use Rattle.pfs_conf_tokens.specs.Reading.{closes_parens, act, chain, done, once, take, until_all, next_of, list_all, number_at};
@@ -7,10 +7,10 @@ ghost use Rattle.pfs_conf_tokens.specs.Giving.{Gives};
 ghost use Rattle.pfs_conf_options.specs.Options.{rule_place, options_given};
 ghost use Rattle.pfs_conf_options.specs.Bounds.{AreRead};
 ghost use Rattle.pfs_conf_values.specs.Bounds.{greatest_timeout};
-ghost use Rattle.pfs_conf_options.specs.Reading.{track_at, counted, rate_of, rate_at, table_name_at, table_at, flush_at, overload_text_at, state_mark_at, timeout_at, connection_at, option_at, state_options_at, kept_at, state_at};
+ghost use Rattle.pfs_conf_options.specs.Reading.{track_at, counted, rate_of, rate_at, table_at, flush_at, overload_text_at, state_mark_at, timeout_at, connection_at, option_at, state_options_at, kept_at, state_at};
 
 use crate::clauses::{Options, OverloadText, StateClause, Track};
-use pfs_conf_tokens::{Cursor, Key, Refusal, Why, digits, number, split_at_byte};
+use pfs_conf_tokens::{Cursor, Key, Refusal, Why, digits, number, split_at_byte, table_name};
 use pfs_conf_values::{Rate, Scope, TableName};
 
 /// Reads the state clause of a rule, at its `no` or `keep`:
@@ -414,20 +414,4 @@ fn table(cursor: &mut Cursor) -> Result<TableName, Refusal>
     let name = table_name(cursor)?;
     cursor.expect(Key::CloseAngle)?;
     Ok(name)
-}
-
-#[tactic(auto, unfolding(crate::specs::Reading::table_name_at))]
-fn table_name(cursor: &mut Cursor) -> Result<TableName, Refusal>
-    ensures { Gives result cursor.new (table_name_at cursor.old) }
-{
-    if !cursor.key().is_word() {
-        return Err(Refusal::Stop(Why::Plain));
-    }
-    match TableName::parse(cursor.text()) {
-        Some(name) => {
-            cursor.advance();
-            Ok(name)
-        }
-        None => Err(Refusal::Stop(Why::Plain)),
-    }
 }

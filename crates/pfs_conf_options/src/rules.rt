@@ -1,5 +1,5 @@
-// What options mean together: the scope of the rule's source nodes, the load rules that they break, and the options of a
-// configuration.
+//! What options mean together: the scope of the rule's source nodes, the load rules that they break, and the options of a
+//! configuration.
 
 ghost use Rattle.std.specs.Prelude.{◌≡◌};
 ghost use Rattle.pfs_conf_options.specs.Options.{options_given, scope_of_options, has_overload_alone, has_global_connections, has_global_retention, has_broken_rule_pair, has_connection_limit, overload_to, resolved};

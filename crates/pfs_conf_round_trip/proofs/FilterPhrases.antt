@@ -13,9 +13,9 @@ use Rattle.pfs_conf_tokens.specs.Keys.{is_word_key}
 use Rattle.pfs_conf_tokens.specs.Lexis.{is_word_byte, tokens}
 use Rattle.pfs_conf_tokens.specs.Tokens.{Tok, token}
 use Rattle.pfs_conf_tokens.specs.Words.{key_of_text}
-use Rattle.pfs_conf_tokens.proofs.ShownLaws.{breaks, decimal_text, is_word_text, mark_then, split_around-append, word_then}
-use Rattle.pfs_conf_tokens.proofs.WordKeys.{key_of-All, key_of-Any, key_of-Flags, key_of-From, key_of-In, key_of-Inet, key_of-Inet6, key_of-On, key_of-Out, key_of-Port, key_of-Proto, key_of-Quick, key_of-To}
-use Rattle.pfs_addr_values.specs.FlagSets.{flags_of}
+use Rattle.pfs_conf_tokens.proofs.ShownLaws.{breaks, decimal_text, is_word_text, mark_then, split_around_append, word_then}
+use Rattle.pfs_conf_tokens.proofs.WordKeys.{key_of_All, key_of_Any, key_of_Flags, key_of_From, key_of_In, key_of_Inet, key_of_Inet6, key_of_On, key_of_Out, key_of_Port, key_of_Proto, key_of_Quick, key_of_To}
+use Rattle.pfs_addr_values.specs.FlagSets.{flags_of, letters_text}
 use Rattle.pfs_addr_values.specs.Names.{is_name, name_of}
 use Rattle.pfs_addr_values.specs.Prefixes.{IsNetwork, Network}
 use Rattle.pfs_addr_values.specs.Protocols.{proto_in}
@@ -41,18 +41,19 @@ use Rattle.pfs_conf_values.specs.declared.filters.TableNo.{TableNo}
 use Rattle.pfs_conf_values.specs.declared.tables.TableDef.{TableDef}
 use Rattle.pfs_conf_filters.specs.Grammar.{Behind, DirOf, FamilyOf, FlagsOf, HostOf, HostsOf, MarksOf, OnOf, ParametersOf, PortsOf, QuickOf, Says, SideOf, inward, outward, slow, quick, silent, log_first, of_anchor, affirmed, negated, on, inet, inet6, any, prefix, table, plainly, hosted, every, sides}
 use Rattle.pfs_conf_filters.specs.Reading.{all_hosts, given_hosts, interface, marked}
-use Rattle.pfs_conf_filters.specs.Values.{is_plain_word, exactly, flag_test, flag_test_by, flag_test_of, flags_around, in_plain_word, in_word, interface_name, may_name_interface, ports_of, table_name}
+use Rattle.pfs_conf_filters.specs.Values.{is_plain_word, exactly, flag_test, flag_test_by, flag_test_of, flags_around, in_plain_word, interface_name, may_name_interface, ports_of}
+use Rattle.pfs_conf_tokens.specs.Values.{in_word, table_name}
 use Rattle.pfs_conf_filters.specs.declared.phrases.Statement.{Statement}
 use Rattle.pfs_conf_filters.specs.declared.phrases.Statement.TheVariants as statement
-use Rattle.pfs_conf_show.specs.Filters.{dir_text, family_text, flags_text, host_text, hosts_text, is_every_side, letters_text, on_text, ports_text, proto_text, quick_text, range_text, side_text}
+use Rattle.pfs_conf_show.specs.Filters.{dir_text, family_text, flags_text, host_text, hosts_text, is_every_side, on_text, ports_text, proto_text, quick_text, range_text, side_text}
 use Rattle.pfs_conf_show.specs.Pieces.{not_text, prefix_text}
 use Rattle.pfs_conf_show.specs.Tables.{angled, name_in}
 use Rattle.pfs_conf_round_trip.proofs.Said.{host_said, hosts_said, parameters_said, side_said, table_said}
-use Rattle.pfs_conf_round_trip.proofs.Letters.{flags_again, letters_all, letters_some}
+use Rattle.pfs_addr.proofs.LetterTexts.{flags_again, letters_all, letters_some}
 use Rattle.pfs_conf_round_trip.proofs.Names.{is_other, key_of_word, may_name, name_again, name_text, not_any}
 use Rattle.pfs_conf_round_trip.proofs.Numbers.{no_word, ports_again, ports_word, proto_again, proto_known}
 use Rattle.pfs_conf_round_trip.proofs.PrefixWords.{prefix_again, prefix_plain, prefix_word}
-use Rattle.pfs_conf_round_trip.proofs.Pieces.{all-append, at, mark, text-append, word, word_between}
+use Rattle.pfs_conf_round_trip.proofs.Pieces.{all_append, at, mark, text_append, word, word_between}
 
 -- a word that says a value
 says : {A : Type 0} (value : Tok → Option A) (line : ℕ) (w more : List ℕ) (x : A) → is_word_text w ≡ true → breaks more ≡ true → value (token line (key_of_text w) w) ≡ Some x
@@ -63,12 +64,12 @@ says value line w more x h b e = (token line (key_of_text w) w, word_then true l
 
 pub dir_reads : (d : Option Dir) (line : ℕ) (more : List ℕ) → breaks more ≡ true → Perhaps DirOf (at line (dir_text d ++ more)) d (at line more)
 dir_reads None line more b = absent
-dir_reads (Some dir.In) line more b = present (inward (word line (codes "in") more refl b key_of-In))
-dir_reads (Some dir.Out) line more b = present (outward (word line (codes "out") more refl b key_of-Out))
+dir_reads (Some dir.In) line more b = present (inward (word line (codes "in") more refl b key_of_In))
+dir_reads (Some dir.Out) line more b = present (outward (word line (codes "out") more refl b key_of_Out))
 
 pub quick_reads : (q : Bool) (line : ℕ) (more : List ℕ) → breaks more ≡ true → QuickOf (at line (quick_text q ++ more)) q (at line more)
 quick_reads false line more b = slow
-quick_reads true line more b = quick (word line (codes "quick") more refl b key_of-Quick)
+quick_reads true line more b = quick (word line (codes "quick") more refl b key_of_Quick)
 
 pub marks_read : (s : Statement) (q : Bool) (line : ℕ) (more : List ℕ) → breaks more ≡ true → MarksOf s (at line (quick_text q ++ more)) (marked false q) (at line more)
 marks_read statement.Rule q line more b = log_first silent (quick_reads q line more b)
@@ -90,14 +91,14 @@ on_reads None line more h b = absent
 on_reads (Some i) line more h b =
     present (
       at line ((not_text i.negated ++ i.name) ++ more),
-      word_between line (codes "on") ((not_text i.negated ++ i.name) ++ more) refl key_of-On,
+      word_between line (codes "on") ((not_text i.negated ++ i.name) ++ more) refl key_of_On,
       on_behind i.name i.negated line more h.name h.not_any h.not_rdomain b,
     )
 
 pub family_reads : (f : Option Family) (line : ℕ) (more : List ℕ) → breaks more ≡ true → Perhaps FamilyOf (at line (family_text f ++ more)) f (at line more)
 family_reads None line more b = absent
-family_reads (Some family.Inet) line more b = present (inet (word line (codes "inet") more refl b key_of-Inet))
-family_reads (Some family.Inet6) line more b = present (inet6 (word line (codes "inet6") more refl b key_of-Inet6))
+family_reads (Some family.Inet) line more b = present (inet (word line (codes "inet") more refl b key_of_Inet))
+family_reads (Some family.Inet6) line more b = present (inet6 (word line (codes "inet6") more refl b key_of_Inet6))
 
 word_says : {A : Type 0} (value : List ℕ → Option A) (line : ℕ) (w more : List ℕ) (x : A) → is_word_text w ≡ true → breaks more ≡ true → value w ≡ Some x
     → Says (in_word value) (at line (w ++ more)) x (at line more)
@@ -105,7 +106,7 @@ word_says value line w more x h b e = says (in_word value) line w more x h b (co
 
 proto_behind : {A : Type 0} (P : List Tok → A → List Tok → Type 0) (x : A) (line : ℕ) (w more : List ℕ) → P (at line (w ++ more)) x (at line more)
     → Behind key.Proto P (at line (32 ∷ 112 ∷ 114 ∷ 111 ∷ 116 ∷ 111 ∷ 32 ∷ (w ++ more))) x (at line more)
-proto_behind P x line w more p = (at line (w ++ more), word_between line (codes "proto") (w ++ more) refl key_of-Proto, p)
+proto_behind P x line w more p = (at line (w ++ more), word_between line (codes "proto") (w ++ more) refl key_of_Proto, p)
 
 pub proto_reads : (p : Option Proto) (line : ℕ) (more : List ℕ) → IfSome p IsProto → breaks more ≡ true → Perhaps (Behind key.Proto (Says (in_word proto_in))) (at line (proto_text p ++ more)) p (at line more)
 proto_reads None line more h b = absent
@@ -159,7 +160,7 @@ table_reads n false line more h = table affirmed (angle_opens true line n more) 
 
 pub host_reads : (tables : List TableDef) (h : Host TableNo) (line : ℕ) (more : List ℕ) → All IsTable tables → IsHost (IsTableNo (length tables)) h → breaks more ≡ true
     → HostOf (at line (host_text tables h ++ more)) (host_said tables h) (at line more)
-host_reads tables host.Any line more t h b = any (token line (key_of_text (codes "any")) (codes "any"), word_then true line (codes "any") more refl b, key_of-Any)
+host_reads tables host.Any line more t h b = any (token line (key_of_text (codes "any")) (codes "any"), word_then true line (codes "any") more refl b, key_of_Any)
 host_reads tables (host.Prefix p negation) line more t h b = prefix_reads p negation line more h b
 host_reads tables (host.Table n negation) line more t h b = table_reads (table_said tables n) negation line more (table_named tables n t h)
 
@@ -167,7 +168,7 @@ pub ports_read : (p : Option Ports) (line : ℕ) (more : List ℕ) → IfSome p 
 ports_read None line more h b = absent
 ports_read (Some p) line more h b =
     let w = decimal p.low ++ range_text p in
-    present (at line (w ++ more), word_between line (codes "port") (w ++ more) refl key_of-Port, plainly (word_says ports_of line w more p (ports_word p h) b (ports_again p h)))
+    present (at line (w ++ more), word_between line (codes "port") (w ++ more) refl key_of_Port, plainly (word_says ports_of line w more p (ports_word p h) b (ports_again p h)))
 
 ports_break : (p : Option Ports) (more : List ℕ) → breaks more ≡ true → breaks (ports_text p ++ more) ≡ true
 ports_break None more b = b
@@ -195,12 +196,12 @@ hosts_read tables from to line more t h g b = go (is_every_side from && is_every
         let behind = codes " to " ++ (second ++ more) in
         let P : List ℕ → Type 0 = λ z. HostsOf (at line (codes " from " ++ z)) (given_hosts (Some (side_said tables from)) (Some (side_said tables to))) (at line more) in
         subst P (sym (append_assoc first (codes " to " ++ second) more))
-        (sides (present (at line (first ++ behind), word_between line (codes "from") (first ++ behind) refl key_of-From, side_reads tables from line behind t h refl))
-        (present (at line (second ++ more), word_between line (codes "to") (second ++ more) refl key_of-To, side_reads tables to line more t g b)))
+        (sides (present (at line (first ++ behind), word_between line (codes "from") (first ++ behind) refl key_of_From, side_reads tables from line behind t h refl))
+        (present (at line (second ++ more), word_between line (codes "to") (second ++ more) refl key_of_To, side_reads tables to line more t g b)))
 
     go : (c : Bool) → HostsOf (at line ((if c then codes " all" else codes " from " ++ (first ++ (codes " to " ++ second))) ++ more))
         (if c then all_hosts else given_hosts (Some (side_said tables from)) (Some (side_said tables to))) (at line more)
-    go true = every (word line (codes "all") more refl b key_of-All)
+    go true = every (word line (codes "all") more refl b key_of_All)
     go false = both
 
 -- ---- flags
@@ -217,16 +218,16 @@ pair_word set among = go (letters_text set) (letter_word set)
   where
     go : (w : List ℕ) → list_all is_word_byte w ≡ true → is_word_text (w ++ 47 ∷ letters_text among) ≡ true
     go [] h = letter_word among
-    go (b ∷ w) h = text-append (b ∷ w) (47 ∷ letters_text among) h (letter_word among)
+    go (b ∷ w) h = text_append (b ∷ w) (47 ∷ letters_text among) h (letter_word among)
 
 pair_not_any : (set among : Flags) → bytes_eq (pair_text set among) (codes "any") ≡ false
 pair_not_any set among =
-    no_word 97 (codes "ny") (pair_text set among) (all-append (λ b. not (b == 97)) (letters_text set) (47 ∷ letters_text among) (letters_all (λ b. not (b == 97)) set refl) (letters_all (λ b. not (b == 97)) among refl))
+    no_word 97 (codes "ny") (pair_text set among) (all_append (λ b. not (b == 97)) (letters_text set) (47 ∷ letters_text among) (letters_all (λ b. not (b == 97)) set refl) (letters_all (λ b. not (b == 97)) among refl))
 
 pair_again : (set among : Flags) → has_a_flag among ≡ true → flag_test_of (pair_text set among) ≡ Some (flag_test.Exactly set among)
 unfolding flag_test_of
 pair_again set among h =
-    ap flags_around (split_around-append 47 (letters_text set) (letters_text among) (letters_all (λ b. not (b == 47)) set refl))
+    ap flags_around (split_around_append 47 (letters_text set) (letters_text among) (letters_all (λ b. not (b == 47)) set refl))
     ∙ (cond-false (length (letters_text among) == 0) None (exactly (flags_of (letters_text set)) (flags_of (letters_text among))) (letters_some among h)
     ∙ (ap (λ (o : Option Flags). exactly o (flags_of (letters_text among))) (flags_again set) ∙ ap (exactly (Some set)) (flags_again among)))
 
@@ -240,14 +241,14 @@ pair_says set among h =
     by_other w (key_of_text w) (not_any w (pair_not_any set among)) (key_of_word w) ∙ pair_again set among h
 
 any_says : flag_test_by (codes "any") (key_of_text (codes "any")) ≡ Some flag_test.Any
-any_says = ap (flag_test_by (codes "any")) key_of-Any
+any_says = ap (flag_test_by (codes "any")) key_of_Any
 
 pub flags_read : (f : FlagTest) (line : ℕ) (more : List ℕ) → IsFlagTest f → breaks more ≡ true → FlagsOf (at line (flags_text f ++ more)) f (at line more)
 flags_read flag_test.Any line more h b =
-    (at line (codes "any" ++ more), word_between line (codes "flags") (codes "any" ++ more) refl key_of-Flags, says flag_test line (codes "any") more flag_test.Any refl b any_says)
+    (at line (codes "any" ++ more), word_between line (codes "flags") (codes "any" ++ more) refl key_of_Flags, says flag_test line (codes "any") more flag_test.Any refl b any_says)
 flags_read (flag_test.Exactly set among) line more h b =
     let w = pair_text set among in
-    (at line (w ++ more), word_between line (codes "flags") (w ++ more) refl key_of-Flags, says flag_test line w more (flag_test.Exactly set among) (pair_word set among) b (pair_says set among h))
+    (at line (w ++ more), word_between line (codes "flags") (w ++ more) refl key_of_Flags, says flag_test line w more (flag_test.Exactly set among) (pair_word set among) b (pair_says set among h))
 
 -- ---- all parameters
 

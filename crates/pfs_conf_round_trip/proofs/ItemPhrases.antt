@@ -6,7 +6,7 @@ use Rattle.pfs_conf_tokens.specs.Grammar.{Until, ends, goes, present}
 use Rattle.pfs_conf_tokens.specs.Lexis.{tokens}
 use Rattle.pfs_conf_tokens.specs.Tokens.{token}
 use Rattle.pfs_conf_tokens.proofs.ShownLaws.{breaks, quoted_then, space_then}
-use Rattle.pfs_conf_tokens.proofs.WordKeys.{key_of-Anchor, key_of-Block, key_of-Pass}
+use Rattle.pfs_conf_tokens.proofs.WordKeys.{key_of_Anchor, key_of_Block, key_of_Pass}
 use Rattle.pfs_addr_values.specs.Names.{is_name}
 use Rattle.pfs_conf_values.specs.Invariants.{IsTable}
 use Rattle.pfs_conf_values.specs.LoadRules.{IsAction, IsAnchor, IsFlagTest, IsRule}
@@ -36,9 +36,9 @@ use Rattle.pfs_conf_round_trip.proofs.Pieces.{at, line_end, mark_behind, word_fi
 -- ---- rules
 
 verb_reads : (a : Action) (line : ℕ) (more : List ℕ) → breaks more ≡ true → VerbOf (tokens 0 false line (verb_text a ++ more)) (verb_said a) (at line more)
-verb_reads action.Block line more b = block (word_first false line (codes "block") more refl b key_of-Block) none
-verb_reads action.Pass line more b = pass (word_first false line (codes "pass") more refl b key_of-Pass)
-verb_reads (action.Keep o) line more b = pass (word_first false line (codes "pass") more refl b key_of-Pass)
+verb_reads action.Block line more b = block (word_first false line (codes "block") more refl b key_of_Block) none
+verb_reads action.Pass line more b = pass (word_first false line (codes "pass") more refl b key_of_Pass)
+verb_reads (action.Keep o) line more b = pass (word_first false line (codes "pass") more refl b key_of_Pass)
 
 state_break : (tables : List TableDef) (a : Action) (more : List ℕ) → breaks (state_text tables a ++ 10 ∷ more) ≡ true
 state_break tables action.Block more = refl
@@ -118,7 +118,7 @@ anchor_reads tables p a line more t h fresh =
       behind_name = at line parameters;
       behind_parameters = at line behind;
       brace = at line brace;
-      word = word_first false line (codes "anchor") (name_text a.name ++ parameters) refl (name_break a.name parameters (head_break tables a.quick f behind)) key_of-Anchor;
+      word = word_first false line (codes "anchor") (name_text a.name ++ parameters) refl (name_break a.name parameters (head_break tables a.quick f behind)) key_of_Anchor;
       name = name_reads p a.name line parameters h.name fresh;
       parameters = head_reads statement.Anchor tables a.quick f line behind t h.filter (flags_break f.flags brace);
       flags = present (flags_read f.flags line brace h.filter.flags refl);

@@ -1,7 +1,6 @@
 mod Said
 mod Pieces
 mod Names
-mod Letters
 mod Numbers
 mod PrefixWords
 mod FilterPhrases

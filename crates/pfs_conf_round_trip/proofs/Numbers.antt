@@ -9,7 +9,7 @@ use Rattle.pfs_conf_tokens.specs.declared.keys.Key.TheVariants as key
 use Rattle.pfs_conf_tokens.specs.Lexis.{is_word_byte}
 use Rattle.pfs_conf_tokens.specs.Numbers.{parts_around, split_around}
 use Rattle.pfs_conf_tokens.specs.Words.{key_of_text}
-use Rattle.pfs_conf_tokens.proofs.ShownLaws.{decimal_text, is_word_text, key_of-decimal, number_of-decimal, split_around-append}
+use Rattle.pfs_conf_tokens.proofs.ShownLaws.{decimal_text, is_word_text, key_of_decimal, number_of-decimal, split_around_append}
 use Rattle.pfs_addr_values.specs.Numbers.{is_digit}
 use Rattle.pfs_addr_values.specs.Protocols.{proto_in, proto_numbered, proto_of}
 use Rattle.pfs_addr_values.specs.declared.protocols.Proto.{Proto}
@@ -19,7 +19,7 @@ use Rattle.pfs_conf_values.specs.LoadRules.{ArePorts}
 use Rattle.pfs_conf_values.specs.declared.filters.Ports.{Ports}
 use Rattle.pfs_conf_filters.specs.Values.{one_port, port_by, port_of, port_numbered, port_range, ports_around, ports_of}
 use Rattle.pfs_conf_show.specs.Filters.{range_text}
-use Rattle.pfs_conf_round_trip.proofs.Pieces.{decimal_all, text-append}
+use Rattle.pfs_conf_round_trip.proofs.Pieces.{decimal_all, text_append}
 
 -- ---- digits and other bytes
 
@@ -53,14 +53,14 @@ prefix_whole p (b ∷ w) h =
     cond-true (p b) (1 + prefix_len p w) 0 q.0 ∙ omega (arith, rest)
 
 -- a word is not split at a byte that does not stand in it
-pub split_around-none : (byte : ℕ) (w : List ℕ) → list_all (λ b. not (b == byte)) w ≡ true → split_around byte w ≡ None
+pub split_around_none : (byte : ℕ) (w : List ℕ) → list_all (λ b. not (b == byte)) w ≡ true → split_around byte w ≡ None
 unfolding split_around
-split_around-none byte w h =
+split_around_none byte w h =
     let whole : prefix_len (λ b. not (b == byte)) w ≡ length w = prefix_whole (λ b. not (b == byte)) w h in
     ap (parts_around w) (cond-false (nat_lt (prefix_len (λ b. not (b == byte)) w) (length w)) _ _ (le-ltb (prefix_len (λ b. not (b == byte)) w) (length w) (omega (arith, whole))))
 
 pub key_of_number : (n : ℕ) → n < 2 ^ 64 → key_of_text (decimal n) ≡ key.Number
-key_of_number n h = ap key_of_text (sym (append-nil (decimal n))) ∙ key_of-decimal n [] h
+key_of_number n h = ap key_of_text (sym (append-nil (decimal n))) ∙ key_of_decimal n [] h
 
 -- ---- ports
 
@@ -72,7 +72,7 @@ range_all p h = go (p.low == p.high)
     go false = decimal_all p.high h
 
 pub ports_word : (p : Ports) → ArePorts p → is_word_text (decimal p.low ++ range_text p) ≡ true
-ports_word p h = text-append (decimal p.low) (range_text p) (decimal_text p.low (omega (arith, h.0, h.1))) (range_all p (omega (arith, h.1)))
+ports_word p h = text_append (decimal p.low) (range_text p) (decimal_text p.low (omega (arith, h.0, h.1))) (range_all p (omega (arith, h.1)))
 
 port_again : (n : ℕ) → n < 65536 → port_of (decimal n) ≡ Some n
 unfolding port_of
@@ -96,12 +96,12 @@ ports_again p h = go (p.low == p.high) refl
 
     one : p.low ≡ p.high → ports_around (decimal p.low) (split_around 58 (decimal p.low)) ≡ Some p
     one e =
-        ap (ports_around (decimal p.low)) (split_around-none 58 (decimal p.low) avoids)
+        ap (ports_around (decimal p.low)) (split_around_none 58 (decimal p.low) avoids)
         ∙ (ap one_port (port_again p.low low) ∙ ap (λ (x : Ports). Some x) (same e))
 
     two : ports_around (decimal p.low ++ 58 ∷ decimal p.high) (split_around 58 (decimal p.low ++ 58 ∷ decimal p.high)) ≡ Some p
     two =
-        ap (ports_around (decimal p.low ++ 58 ∷ decimal p.high)) (split_around-append 58 (decimal p.low) (decimal p.high) avoids)
+        ap (ports_around (decimal p.low ++ 58 ∷ decimal p.high)) (split_around_append 58 (decimal p.low) (decimal p.high) avoids)
         ∙ (ap (λ (o : Option ℕ). port_range o (port_of (decimal p.high))) (port_again p.low low)
         ∙ (ap (port_range (Some p.low)) (port_again p.high h.1)
         ∙ cond-true (nat_le p.low p.high) _ None (le-leb p.low p.high h.0)))

@@ -8,8 +8,8 @@ use Rattle.pfs_conf_tokens.specs.declared.keys.Key.TheVariants as key
 use Rattle.pfs_conf_tokens.specs.Grammar.{Number}
 use Rattle.pfs_conf_tokens.specs.Tokens.{token}
 use Rattle.pfs_conf_tokens.specs.Words.{key_of_text}
-use Rattle.pfs_conf_tokens.proofs.ShownLaws.{breaks, decimal_text, is_word_text, key_of-decimal, number_of-decimal, split_around-append, word_then}
-use Rattle.pfs_conf_tokens.proofs.WordKeys.{key_of-Flush, key_of-Global, key_of-Keep, key_of-Max, key_of-MaxSrcConn, key_of-MaxSrcConnRate, key_of-MaxSrcNodes, key_of-MaxSrcStates, key_of-No, key_of-Overload, key_of-Rule, key_of-SourceTrack, key_of-State, key_of-TcpFirst, key_of-TcpOpening, key_of-TcpEstablished, key_of-TcpClosing, key_of-TcpFinwait, key_of-TcpClosed, key_of-UdpFirst, key_of-UdpSingle, key_of-UdpMultiple, key_of-OtherFirst, key_of-OtherSingle, key_of-OtherMultiple, key_of-SrcTrack, key_of-AdaptiveStart, key_of-AdaptiveEnd}
+use Rattle.pfs_conf_tokens.proofs.ShownLaws.{breaks, decimal_text, is_word_text, key_of_decimal, number_of-decimal, split_around_append, word_then}
+use Rattle.pfs_conf_tokens.proofs.WordKeys.{key_of_Flush, key_of_Global, key_of_Keep, key_of_Max, key_of_MaxSrcConn, key_of_MaxSrcConnRate, key_of_MaxSrcNodes, key_of_MaxSrcStates, key_of_No, key_of_Overload, key_of_Rule, key_of_SourceTrack, key_of_State, key_of_TcpFirst, key_of_TcpOpening, key_of_TcpEstablished, key_of_TcpClosing, key_of_TcpFinwait, key_of_TcpClosed, key_of_UdpFirst, key_of_UdpSingle, key_of_UdpMultiple, key_of_OtherFirst, key_of_OtherSingle, key_of_OtherMultiple, key_of_SrcTrack, key_of_AdaptiveStart, key_of_AdaptiveEnd}
 use Rattle.pfs_addr_values.specs.Names.{is_name}
 use Rattle.pfs_addr.proofs.PieceLaws.{decimal_lacks}
 use Rattle.pfs_conf_values.specs.Invariants.{IsTable}
@@ -36,7 +36,7 @@ use Rattle.pfs_conf_round_trip.proofs.Said.{options_said, overload_said, table_s
 use Rattle.pfs_conf_round_trip.proofs.FilterPhrases.{angle_closes, angle_names, angle_opens, table_named}
 use Rattle.pfs_conf_round_trip.proofs.Lists.{Chain, Closing, both, bracketed_more, done, listed_again, next}
 use Rattle.pfs_conf_round_trip.proofs.Names.{key_of_word, name_again}
-use Rattle.pfs_conf_round_trip.proofs.Pieces.{at, decimal_all, mark, mark_behind, number, text-append, word, word_between, word_first, word_number, word_space}
+use Rattle.pfs_conf_round_trip.proofs.Pieces.{at, decimal_all, mark, mark_behind, number, text_append, word, word_between, word_first, word_number, word_space}
 
 -- what may stand behind an option
 abbrev Fits : ℕ → List ℕ → Type 0
@@ -56,23 +56,23 @@ count_number line n more h b = number true line 1 4294967295 n more h.0 h.1 (ome
 track_reads : (s : Scope) (line : ℕ) (more : List ℕ) → breaks more ≡ true → (o : Options) → o.track ≡ None
     → OptionOf o (at line (scope_text s ++ more)) (record o { track = Some (track_said s) }) (at line more)
 track_reads scope.Rule line more b o fresh =
-    source_track track.Rule (word_space true line (codes "source-track") (codes "rule" ++ more) refl key_of-SourceTrack) fresh (rule (word_first true line (codes "rule") more refl b key_of-Rule))
+    source_track track.Rule (word_space true line (codes "source-track") (codes "rule" ++ more) refl key_of_SourceTrack) fresh (rule (word_first true line (codes "rule") more refl b key_of_Rule))
 track_reads scope.Global line more b o fresh =
-    source_track track.Global (word_space true line (codes "source-track") (codes "global" ++ more) refl key_of-SourceTrack) fresh (global (word_first true line (codes "global") more refl b key_of-Global))
+    source_track track.Global (word_space true line (codes "source-track") (codes "global" ++ more) refl key_of_SourceTrack) fresh (global (word_first true line (codes "global") more refl b key_of_Global))
 
 rate_says : (r : Rate) (line : ℕ) (more : List ℕ) → IsRate r → breaks more ≡ true → RateOf (at line ((decimal r.limit ++ 47 ∷ decimal r.seconds) ++ more)) r (at line more)
 rate_says r line more h b =
     let limit_small : r.limit < 2 ^ 64 = omega (arith, h.1) in
     let seconds_small : r.seconds < 2 ^ 64 = omega (arith, h.3) in
     let w = decimal r.limit ++ 47 ∷ decimal r.seconds in
-    let is_text : is_word_text w ≡ true = text-append (decimal r.limit) (47 ∷ decimal r.seconds) (decimal_text r.limit limit_small) (decimal_all r.seconds seconds_small) in (
+    let is_text : is_word_text w ≡ true = text_append (decimal r.limit) (47 ∷ decimal r.seconds) (decimal_text r.limit limit_small) (decimal_all r.seconds seconds_small) in (
       token line (key_of_text w) w,
       word_then true line w more is_text b,
-      key_of-decimal r.limit (47 ∷ decimal r.seconds) limit_small,
+      key_of_decimal r.limit (47 ∷ decimal r.seconds) limit_small,
       record {
         before = decimal r.limit;
         behind = decimal r.seconds;
-        slash = split_around-append 47 (decimal r.limit) (decimal r.seconds) (decimal_lacks 47 r.limit (omega arith) limit_small);
+        slash = split_around_append 47 (decimal r.limit) (decimal r.seconds) (decimal_lacks 47 r.limit (omega arith) limit_small);
         limit = number_of-decimal r.limit (omega (arith, h.1));
         seconds = number_of-decimal r.seconds (omega (arith, h.3));
         bounds = h;
@@ -81,8 +81,8 @@ rate_says r line more h b =
 
 flush_reads : (f : Option Scope) (line : ℕ) (more : List ℕ) → breaks more ≡ true → FlushOf (at line (flush_text f ++ more)) f (at line more)
 flush_reads None line more b = nothing
-flush_reads (Some scope.Rule) line more b = own (word line (codes "flush") more refl b key_of-Flush)
-flush_reads (Some scope.Global) line more b = all (word_between line (codes "flush") (codes "global" ++ more) refl key_of-Flush) (word_first true line (codes "global") more refl b key_of-Global)
+flush_reads (Some scope.Rule) line more b = own (word line (codes "flush") more refl b key_of_Flush)
+flush_reads (Some scope.Global) line more b = all (word_between line (codes "flush") (codes "global" ++ more) refl key_of_Flush) (word_first true line (codes "global") more refl b key_of_Global)
 
 overload_reads : (tables : List TableDef) (v : Overload) (line : ℕ) (more : List ℕ) → All IsTable tables → IsTableNo (length tables) v.table → breaks more ≡ true
     → OverloadOf (at line ((table_ref tables v.table ++ flush_text v.flush) ++ more)) (overload_said tables v) (at line more)
@@ -123,7 +123,7 @@ with_parts m t n s c r v timeouts = record {
 
 give_max : (m : Option ℕ) → IfSome m IsCount → OptionChain (given (worded (codes "max")) m) none_given (with_parts m None None None None None None no_timeouts)
 give_max None h = done
-give_max (Some n) h = next (λ line more b. max n (word_number line (codes "max") n more refl key_of-Max) refl (count_number line n more h b)) done
+give_max (Some n) h = next (λ line more b. max n (word_number line (codes "max") n more refl key_of_Max) refl (count_number line n more h b)) done
 
 give_track : (m : Option ℕ) (s : Option Scope)
     → OptionChain (given scope_text s) (with_parts m None None None None None None no_timeouts) (with_parts m (option_map track_said s) None None None None None no_timeouts)
@@ -133,30 +133,30 @@ give_track m (Some s) = next (λ line more b. track_reads s line more b (with_pa
 give_nodes : (m : Option ℕ) (t : Option Track) (c : Option ℕ) → IfSome c IsCount
     → OptionChain (given (worded (codes "max-src-nodes")) c) (with_parts m t None None None None None no_timeouts) (with_parts m t c None None None None no_timeouts)
 give_nodes m t None h = done
-give_nodes m t (Some n) h = next (λ line more b. max_src_nodes n (word_number line (codes "max-src-nodes") n more refl key_of-MaxSrcNodes) refl (count_number line n more h b)) done
+give_nodes m t (Some n) h = next (λ line more b. max_src_nodes n (word_number line (codes "max-src-nodes") n more refl key_of_MaxSrcNodes) refl (count_number line n more h b)) done
 
 give_states : (m : Option ℕ) (t : Option Track) (n c : Option ℕ) → IfSome c IsCount
     → OptionChain (given (worded (codes "max-src-states")) c) (with_parts m t n None None None None no_timeouts) (with_parts m t n c None None None no_timeouts)
 give_states m t k None h = done
-give_states m t k (Some n) h = next (λ line more b. max_src_states n (word_number line (codes "max-src-states") n more refl key_of-MaxSrcStates) refl (count_number line n more h b)) done
+give_states m t k (Some n) h = next (λ line more b. max_src_states n (word_number line (codes "max-src-states") n more refl key_of_MaxSrcStates) refl (count_number line n more h b)) done
 
 give_conn : (m : Option ℕ) (t : Option Track) (n s c : Option ℕ) → IfSome c IsCount
     → OptionChain (given (worded (codes "max-src-conn")) c) (with_parts m t n s None None None no_timeouts) (with_parts m t n s c None None no_timeouts)
 give_conn m t k s None h = done
-give_conn m t k s (Some n) h = next (λ line more b. max_src_conn n (word_number line (codes "max-src-conn") n more refl key_of-MaxSrcConn) refl (count_number line n more h b)) done
+give_conn m t k s (Some n) h = next (λ line more b. max_src_conn n (word_number line (codes "max-src-conn") n more refl key_of_MaxSrcConn) refl (count_number line n more h b)) done
 
 give_rate : (m : Option ℕ) (t : Option Track) (n s c : Option ℕ) (r : Option Rate) → IfSome r IsRate
     → OptionChain (given rate_text r) (with_parts m t n s c None None no_timeouts) (with_parts m t n s c r None no_timeouts)
 give_rate m t n s c None h = done
 give_rate m t n s c (Some r) h =
-    next (λ line more b. max_src_conn_rate r (word_space true line (codes "max-src-conn-rate") ((decimal r.limit ++ 47 ∷ decimal r.seconds) ++ more) refl key_of-MaxSrcConnRate) refl (rate_says r line more h b)) done
+    next (λ line more b. max_src_conn_rate r (word_space true line (codes "max-src-conn-rate") ((decimal r.limit ++ 47 ∷ decimal r.seconds) ++ more) refl key_of_MaxSrcConnRate) refl (rate_says r line more h b)) done
 
 give_overload : (tables : List TableDef) (m : Option ℕ) (t : Option Track) (n s c : Option ℕ) (r : Option Rate) (v : Option Overload) → All IsTable tables
     → IfSome v (λ x. IsTableNo (length tables) x.table)
     → OptionChain (given (overload_text tables) v) (with_parts m t n s c r None no_timeouts) (with_parts m t n s c r (option_map (overload_said tables) v) no_timeouts)
 give_overload tables m t n s c r None g h = done
 give_overload tables m t n s c r (Some v) g h =
-    next (λ line more b. overload (overload_said tables v) (word_space true line (codes "overload") ((table_ref tables v.table ++ flush_text v.flush) ++ more) refl key_of-Overload) refl
+    next (λ line more b. overload (overload_said tables v) (word_space true line (codes "overload") ((table_ref tables v.table ++ flush_text v.flush) ++ more) refl key_of_Overload) refl
     (overload_reads tables v line more g h b)) done
 
 -- a timeout of the rule
@@ -182,22 +182,22 @@ give_timeouts : (m : Option ℕ) (t : Option Track) (n s c : Option ℕ) (r : Op
     → ((place : ℕ) → IfSome (slice_index_or ts place None) (IsTimeout place)) → slice_index_or ts 13 None ≡ None
     → OptionChain (flat_map (rule_timeout_text ts) timeout_names) (with_parts m t n s c r v no_timeouts) (with_parts m t n s c r v ts)
 give_timeouts m t n s c r v (t0 ∷ t1 ∷ t2 ∷ t3 ∷ t4 ∷ t5 ∷ t6 ∷ t7 ∷ t8 ∷ t9 ∷ t10 ∷ t11 ∷ t12 ∷ t13 ∷ t14 ∷ t15 ∷ []) size h no_interval =
-    (both (give_timeout (codes "tcp.first") key.TcpFirst 0 _ t0 refl key_of-TcpFirst refl refl refl (omega arith) (h 0))
-    (both (give_timeout (codes "tcp.opening") key.TcpOpening 1 _ t1 refl key_of-TcpOpening refl refl refl (omega arith) (h 1))
-    (both (give_timeout (codes "tcp.established") key.TcpEstablished 2 _ t2 refl key_of-TcpEstablished refl refl refl (omega arith) (h 2))
-    (both (give_timeout (codes "tcp.closing") key.TcpClosing 3 _ t3 refl key_of-TcpClosing refl refl refl (omega arith) (h 3))
-    (both (give_timeout (codes "tcp.finwait") key.TcpFinwait 4 _ t4 refl key_of-TcpFinwait refl refl refl (omega arith) (h 4))
-    (both (give_timeout (codes "tcp.closed") key.TcpClosed 5 _ t5 refl key_of-TcpClosed refl refl refl (omega arith) (h 5))
-    (both (give_timeout (codes "udp.first") key.UdpFirst 6 _ t6 refl key_of-UdpFirst refl refl refl (omega arith) (h 6))
-    (both (give_timeout (codes "udp.single") key.UdpSingle 7 _ t7 refl key_of-UdpSingle refl refl refl (omega arith) (h 7))
-    (both (give_timeout (codes "udp.multiple") key.UdpMultiple 8 _ t8 refl key_of-UdpMultiple refl refl refl (omega arith) (h 8))
-    (both (give_timeout (codes "other.first") key.OtherFirst 9 _ t9 refl key_of-OtherFirst refl refl refl (omega arith) (h 9))
-    (both (give_timeout (codes "other.single") key.OtherSingle 10 _ t10 refl key_of-OtherSingle refl refl refl (omega arith) (h 10))
-    (both (give_timeout (codes "other.multiple") key.OtherMultiple 11 _ t11 refl key_of-OtherMultiple refl refl refl (omega arith) (h 11))
-    (both (give_timeout (codes "src.track") key.SrcTrack 12 _ t12 refl key_of-SrcTrack refl refl refl (omega arith) (h 12))
+    (both (give_timeout (codes "tcp.first") key.TcpFirst 0 _ t0 refl key_of_TcpFirst refl refl refl (omega arith) (h 0))
+    (both (give_timeout (codes "tcp.opening") key.TcpOpening 1 _ t1 refl key_of_TcpOpening refl refl refl (omega arith) (h 1))
+    (both (give_timeout (codes "tcp.established") key.TcpEstablished 2 _ t2 refl key_of_TcpEstablished refl refl refl (omega arith) (h 2))
+    (both (give_timeout (codes "tcp.closing") key.TcpClosing 3 _ t3 refl key_of_TcpClosing refl refl refl (omega arith) (h 3))
+    (both (give_timeout (codes "tcp.finwait") key.TcpFinwait 4 _ t4 refl key_of_TcpFinwait refl refl refl (omega arith) (h 4))
+    (both (give_timeout (codes "tcp.closed") key.TcpClosed 5 _ t5 refl key_of_TcpClosed refl refl refl (omega arith) (h 5))
+    (both (give_timeout (codes "udp.first") key.UdpFirst 6 _ t6 refl key_of_UdpFirst refl refl refl (omega arith) (h 6))
+    (both (give_timeout (codes "udp.single") key.UdpSingle 7 _ t7 refl key_of_UdpSingle refl refl refl (omega arith) (h 7))
+    (both (give_timeout (codes "udp.multiple") key.UdpMultiple 8 _ t8 refl key_of_UdpMultiple refl refl refl (omega arith) (h 8))
+    (both (give_timeout (codes "other.first") key.OtherFirst 9 _ t9 refl key_of_OtherFirst refl refl refl (omega arith) (h 9))
+    (both (give_timeout (codes "other.single") key.OtherSingle 10 _ t10 refl key_of_OtherSingle refl refl refl (omega arith) (h 10))
+    (both (give_timeout (codes "other.multiple") key.OtherMultiple 11 _ t11 refl key_of_OtherMultiple refl refl refl (omega arith) (h 11))
+    (both (give_timeout (codes "src.track") key.SrcTrack 12 _ t12 refl key_of_SrcTrack refl refl refl (omega arith) (h 12))
     (both (give_interval _ t13 refl no_interval)
-    (both (give_timeout (codes "adaptive.start") key.AdaptiveStart 14 _ t14 refl key_of-AdaptiveStart refl refl refl (omega arith) (h 14))
-    (both (give_timeout (codes "adaptive.end") key.AdaptiveEnd 15 _ t15 refl key_of-AdaptiveEnd refl refl refl (omega arith) (h 15))
+    (both (give_timeout (codes "adaptive.start") key.AdaptiveStart 14 _ t14 refl key_of_AdaptiveStart refl refl refl (omega arith) (h 14))
+    (both (give_timeout (codes "adaptive.end") key.AdaptiveEnd 15 _ t15 refl key_of_AdaptiveEnd refl refl refl (omega arith) (h 15))
     done))))))))))))))))
 give_timeouts m t n s c r v _ size h no_interval = absurd (omega arith)
 
@@ -229,13 +229,13 @@ options_break (x ∷ xs) more b = refl
 -- ` no state`
 pub no_state_reads : (line : ℕ) (more : List ℕ) → breaks more ≡ true → StateOf (at line (codes " no state" ++ more)) clause.No (at line more)
 no_state_reads line more b =
-    no (word_between line (codes "no") (codes "state" ++ more) refl key_of-No) (word_first true line (codes "state") more refl b key_of-State)
+    no (word_between line (codes "no") (codes "state" ++ more) refl key_of_No) (word_first true line (codes "state") more refl b key_of_State)
 
 -- ` keep state` with the options that are given
 pub keep_state_reads : (tables : List TableDef) (o : StateOptions) (line : ℕ) (more : List ℕ) → All IsTable tables → AreOptions (length tables) o → breaks more ≡ true
     → StateOf (at line (codes " keep state" ++ (options_text tables o ++ more))) (clause.Keep (options_said tables o)) (at line more)
 keep_state_reads tables o line more g h b =
     let left = options_text tables o ++ more in
-    keep (word_between line (codes "keep") (codes "state" ++ left) refl key_of-Keep)
-    (word_first true line (codes "state") left refl (options_break (option_texts tables o) more b) key_of-State)
+    keep (word_between line (codes "keep") (codes "state" ++ left) refl key_of_Keep)
+    (word_first true line (codes "state") left refl (options_break (option_texts tables o) more b) key_of_State)
     (kept_by (option_texts tables o) (options_said tables o) line more (options_chain tables o g h))

@@ -10,7 +10,7 @@ use Rattle.pfs_conf_tokens.specs.Grammar.{Word, Number}
 use Rattle.pfs_conf_tokens.specs.Lexis.{is_mark, is_word_byte, mark_key, tokens}
 use Rattle.pfs_conf_tokens.specs.Tokens.{Tok, token}
 use Rattle.pfs_conf_tokens.specs.Words.{key_of_text}
-use Rattle.pfs_conf_tokens.proofs.ShownLaws.{breaks, decimal_text, is_word_text, key_of-decimal, line_then, mark_then, number_of-decimal, space_then, word_then}
+use Rattle.pfs_conf_tokens.proofs.ShownLaws.{breaks, decimal_text, is_word_text, key_of_decimal, line_then, mark_then, number_of-decimal, space_then, word_then}
 
 -- the tokens of a text behind others of its line
 abbrev pub at : ℕ → List ℕ → List Tok
@@ -76,15 +76,15 @@ text_all (b ∷ w) h = h
 pub decimal_all : (n : ℕ) → n < 2 ^ 64 → list_all is_word_byte (decimal n) ≡ true
 decimal_all n h = text_all (decimal n) (decimal_text n h)
 
-pub all-append : (p : ℕ → Bool) (v w : List ℕ) → list_all p v ≡ true → list_all p w ≡ true → list_all p (v ++ w) ≡ true
-all-append p v w h g = list_all-append p v w ∙ and_from (list_all p v) (list_all p w) h g
+pub all_append : (p : ℕ → Bool) (v w : List ℕ) → list_all p v ≡ true → list_all p w ≡ true → list_all p (v ++ w) ≡ true
+all_append p v w h g = list_all-append p v w ∙ and_from (list_all p v) (list_all p w) h g
 
 -- a word with more bytes behind it is a word
-pub text-append : (v w : List ℕ) → is_word_text v ≡ true → list_all is_word_byte w ≡ true → is_word_text (v ++ w) ≡ true
-text-append [] w h g = absurd cc
-text-append (b ∷ v) w h g =
+pub text_append : (v w : List ℕ) → is_word_text v ≡ true → list_all is_word_byte w ≡ true → is_word_text (v ++ w) ≡ true
+text_append [] w h g = absurd cc
+text_append (b ∷ v) w h g =
     let p = and_parts (is_word_byte b) (list_all is_word_byte v) h in
-    and_from (is_word_byte b) (list_all is_word_byte (v ++ w)) p.0 (all-append is_word_byte v w p.1 g)
+    and_from (is_word_byte b) (list_all is_word_byte (v ++ w)) p.0 (all_append is_word_byte v w p.1 g)
 
 -- ---- numbers
 
@@ -92,5 +92,5 @@ text-append (b ∷ v) w h g =
 pub number : (busy : Bool) (line low high n : ℕ) (more : List ℕ) → low ≤ n → n ≤ high → n < 10 ^ 10 → breaks more ≡ true → Number low high (tokens 0 busy line (decimal n ++ more)) n (at line more)
 number busy line low high n more l h lt b =
     let small : n < 2 ^ 64 = omega arith in
-    let k : key_of_text (decimal n) ≡ key.Number = ap key_of_text (sym (append-nil (decimal n))) ∙ key_of-decimal n [] small in
+    let k : key_of_text (decimal n) ≡ key.Number = ap key_of_text (sym (append-nil (decimal n))) ∙ key_of_decimal n [] small in
     (token line (key_of_text (decimal n)) (decimal n), word_then busy line (decimal n) more (decimal_text n small) b, k, number_of-decimal n lt, l, h)

@@ -13,18 +13,18 @@ use Rattle.std.proofs.lemmas.List.Elements.{All-get_or, All-head, All-tail}
 use Rattle.pfs_conf_tokens.specs.declared.keys.Key.{Key}
 use Rattle.pfs_conf_tokens.specs.Lexis.{is_word_byte}
 use Rattle.pfs_conf_tokens.specs.Words.{key_of_text, statement_words, option_words, named_words, foreign_words}
-use Rattle.pfs_conf_tokens.proofs.ShownLaws.{decimal_text, is_word_text, key_of-decimal}
+use Rattle.pfs_conf_tokens.proofs.ShownLaws.{decimal_text, is_word_text, key_of_decimal}
 use Rattle.pfs_addr_values.specs.Addresses.{IsAddr, addr_text, width_of}
 use Rattle.pfs_addr_values.specs.Prefixes.{IsNetwork, Network}
 use Rattle.pfs_addr.specs.Texts.{prefix_of}
 use Rattle.pfs_addr_values.specs.declared.addresses.Addr.{Addr}
 use Rattle.pfs_addr_values.specs.declared.addresses.Addr.TheVariants.{V4, V6}
 use Rattle.pfs_addr.proofs.GroupLaws.{colon_hex_colon}
-use Rattle.pfs_addr.proofs.PieceLaws.{addr_text_of, prefix_of-text}
+use Rattle.pfs_addr.proofs.PieceLaws.{addr_text_of, prefix_of_text}
 use Rattle.pfs_conf_filters.specs.Values.{is_plain_word}
 use Rattle.pfs_conf_show.specs.Pieces.{bits_text, prefix_text}
 use Rattle.pfs_conf_round_trip.proofs.Names.{key_passes, passes}
-use Rattle.pfs_conf_round_trip.proofs.Pieces.{all-append, decimal_all, text-append}
+use Rattle.pfs_conf_round_trip.proofs.Pieces.{all_append, decimal_all, text_append}
 
 -- ---- words with a colon are none of the grammar's own
 
@@ -84,8 +84,8 @@ dot_all w h = h
 -- a number in front
 numbered : (n : ℕ) (v : List ℕ) → n < 2 ^ 64 → list_all is_word_byte v ≡ true → IsAddrWord (decimal n ++ v)
 numbered n v h g = record {
-  text = text-append (decimal n) v (decimal_text n h) g;
-  plain = λ w. ap is_plain_word (ap key_of_text (append_assoc (decimal n) v w) ∙ key_of-decimal n (v ++ w) h);
+  text = text_append (decimal n) v (decimal_text n h) g;
+  plain = λ w. ap is_plain_word (ap key_of_text (append_assoc (decimal n) v w) ∙ key_of_decimal n (v ++ w) h);
 }
 
 -- hexadecimal digits and colons are bytes of words
@@ -115,8 +115,8 @@ addr_word (V4 (a ∷ b ∷ c ∷ d ∷ [])) h =
     let at : (i : ℕ) → i < 4 → get_or (a ∷ b ∷ c ∷ d ∷ []) i 0 < 256 = λ i lt. All-get_or (λ x. x < 256) (a ∷ b ∷ c ∷ d ∷ []) i 0 lt h.1 in
     let wide : (n : ℕ) → n < 256 → n < 2 ^ 64 = λ n lt. omega arith in
     numbered a (46 ∷ (decimal b ++ 46 ∷ (decimal c ++ 46 ∷ decimal d))) (wide a (at 0 (omega arith)))
-    (all-append is_word_byte (decimal b) (46 ∷ (decimal c ++ 46 ∷ decimal d)) (decimal_all b (wide b (at 1 (omega arith))))
-    (dot_all (decimal c ++ 46 ∷ decimal d) (all-append is_word_byte (decimal c) (46 ∷ decimal d) (decimal_all c (wide c (at 2 (omega arith))))
+    (all_append is_word_byte (decimal b) (46 ∷ (decimal c ++ 46 ∷ decimal d)) (decimal_all b (wide b (at 1 (omega arith))))
+    (dot_all (decimal c ++ 46 ∷ decimal d) (all_append is_word_byte (decimal c) (46 ∷ decimal d) (decimal_all c (wide c (at 2 (omega arith))))
     (dot_all (decimal d) (decimal_all d (wide d (at 3 (omega arith))))))))
 addr_word (V4 _) h = absurd (omega arith)
 addr_word (V6 bytes) h =
@@ -141,7 +141,7 @@ bits_small (V4 bytes) n h = omega arith
 bits_small (V6 bytes) n h = omega arith
 
 pub prefix_word : (p : Network) → IsNetwork p → is_word_text (prefix_text p) ≡ true
-prefix_word p h = text-append (addr_text p.addr) (bits_text p) (addr_word p.addr h.addr).text (bits_all p (bits_small p.addr p.bits h.short))
+prefix_word p h = text_append (addr_text p.addr) (bits_text p) (addr_word p.addr h.addr).text (bits_all p (bits_small p.addr p.bits h.short))
 
 -- and they are none of the grammar's own words
 pub prefix_plain : (p : Network) → IsNetwork p → is_plain_word (key_of_text (prefix_text p)) ≡ true
@@ -149,7 +149,7 @@ prefix_plain p h = (addr_word p.addr h.addr).plain (bits_text p)
 
 -- the text of a prefix is read as that prefix
 pub prefix_again : (p : Network) → IsNetwork p → prefix_of (prefix_text p) ≡ Some p
-prefix_again p h = prefix_of-text (prefix_text p) p (record {
+prefix_again p h = prefix_of_text (prefix_text p) p (record {
   addr = p.addr;
   is_addr = h.addr;
   short = h.short;

@@ -10,7 +10,7 @@ use Rattle.pfs_conf_tokens.specs.Lexis.{tokens}
 use Rattle.pfs_conf_tokens.specs.Tokens.{Tok, token}
 use Rattle.pfs_conf_tokens.specs.Words.{key_of_text}
 use Rattle.pfs_conf_tokens.proofs.ShownLaws.{breaks, is_word_text, mark_then, space_then}
-use Rattle.pfs_conf_tokens.proofs.WordKeys.{key_of-Limit, key_of-Set, key_of-SrcNodes, key_of-States, key_of-TableEntries, key_of-Tables, key_of-Timeout, key_of-TcpFirst, key_of-TcpOpening, key_of-TcpEstablished, key_of-TcpClosing, key_of-TcpFinwait, key_of-TcpClosed, key_of-UdpFirst, key_of-UdpSingle, key_of-UdpMultiple, key_of-OtherFirst, key_of-OtherSingle, key_of-OtherMultiple, key_of-SrcTrack, key_of-Interval, key_of-AdaptiveStart, key_of-AdaptiveEnd}
+use Rattle.pfs_conf_tokens.proofs.WordKeys.{key_of_Limit, key_of_Set, key_of_SrcNodes, key_of_States, key_of_TableEntries, key_of_Tables, key_of_Timeout, key_of_TcpFirst, key_of_TcpOpening, key_of_TcpEstablished, key_of_TcpClosing, key_of_TcpFinwait, key_of_TcpClosed, key_of_UdpFirst, key_of_UdpSingle, key_of_UdpMultiple, key_of_OtherFirst, key_of_OtherSingle, key_of_OtherMultiple, key_of_SrcTrack, key_of_Interval, key_of_AdaptiveStart, key_of_AdaptiveEnd}
 use Rattle.pfs_conf_values.specs.Invariants.{AreLimits}
 use Rattle.pfs_conf_settings.specs.Drafts.{Drafted, with_limit, with_timeout}
 use Rattle.pfs_conf_values.specs.LoadRules.{IsCount}
@@ -65,20 +65,20 @@ count_reads line n more h b = value_reads line 1 4294967295 n more h.0 h.1 (omeg
 
 give_states : (d : Drafted) (n : ℕ) → IsCount n → (line : ℕ) (more : List ℕ) → Lined line more → (AmongLines (LimitOf true)) d (at line (worded (codes "states") n ++ more)) (with_limit limit_name.States n d) (at line more)
 give_states d n h line more f =
-    record { mid = at line more; item = states (skip_word (word_number line (codes "states") n more refl key_of-States) refl) (count_reads line n more h f.0); behind = sym f.1 }
+    record { mid = at line more; item = states (skip_word (word_number line (codes "states") n more refl key_of_States) refl) (count_reads line n more h f.0); behind = sym f.1 }
 
 give_src_nodes : (d : Drafted) (n : ℕ) → IsCount n → (line : ℕ) (more : List ℕ) → Lined line more → (AmongLines (LimitOf true)) d (at line (worded (codes "src-nodes") n ++ more)) (with_limit limit_name.SrcNodes n d) (at line more)
 give_src_nodes d n h line more f =
-    record { mid = at line more; item = src_nodes (skip_word (word_number line (codes "src-nodes") n more refl key_of-SrcNodes) refl) (count_reads line n more h f.0); behind = sym f.1 }
+    record { mid = at line more; item = src_nodes (skip_word (word_number line (codes "src-nodes") n more refl key_of_SrcNodes) refl) (count_reads line n more h f.0); behind = sym f.1 }
 
 give_tables : (d : Drafted) (n : ℕ) → IsCount n → (line : ℕ) (more : List ℕ) → Lined line more → (AmongLines (LimitOf true)) d (at line (worded (codes "tables") n ++ more)) (with_limit limit_name.Tables n d) (at line more)
 give_tables d n h line more f =
-    record { mid = at line more; item = tables (skip_word (word_number line (codes "tables") n more refl key_of-Tables) refl) (count_reads line n more h f.0); behind = sym f.1 }
+    record { mid = at line more; item = tables (skip_word (word_number line (codes "tables") n more refl key_of_Tables) refl) (count_reads line n more h f.0); behind = sym f.1 }
 
 give_table_entries : (d : Drafted) (n : ℕ) → IsCount n → (line : ℕ) (more : List ℕ) → Lined line more
     → (AmongLines (LimitOf true)) d (at line (worded (codes "table-entries") n ++ more)) (with_limit limit_name.TableEntries n d) (at line more)
 give_table_entries d n h line more f =
-    record { mid = at line more; item = table_entries (skip_word (word_number line (codes "table-entries") n more refl key_of-TableEntries) refl) (count_reads line n more h f.0); behind = sym f.1 }
+    record { mid = at line more; item = table_entries (skip_word (word_number line (codes "table-entries") n more refl key_of_TableEntries) refl) (count_reads line n more h f.0); behind = sym f.1 }
 
 limits_chain : (d : Drafted) (l : Limits) → AreLimits l → Chain (AmongLines (LimitOf true)) Lined (limit_texts l) d (record d { limits = l })
 limits_chain d l h =
@@ -112,8 +112,8 @@ limits_line d l line more h =
     subst P (sym (ended_text x xs more ∙ bracketed_more (codes " { ") (codes " }") x xs (10 ∷ more))) (record {
       behind_set = _;
       before_end = at line (10 ∷ more);
-      set = word_space false line (codes "set") _ refl key_of-Set;
-      setting = limits (word_first true line (codes "limit") _ refl refl key_of-Limit) (mark_between line 123 _ refl)
+      set = word_space false line (codes "set") _ refl key_of_Set;
+      setting = limits (word_first true line (codes "limit") _ refl refl key_of_Limit) (mark_between line 123 _ refl)
           (listed_again (AmongLines (LimitOf true)) Lined key.CloseBrace (codes " { ") (codes " }") (braces (AmongLines (LimitOf true))) x xs d (record d { limits = l }) line (10 ∷ more) (limits_chain d l h));
       ended = line_end true line more;
     })
@@ -122,22 +122,22 @@ limits_line d l line more h =
 
 -- the word of a timeout names it
 word_key : (n : TimeoutName) → timeout_named (key_of_text (timeout_word n)) ≡ Some n
-word_key name.TcpFirst = ap timeout_named key_of-TcpFirst
-word_key name.TcpOpening = ap timeout_named key_of-TcpOpening
-word_key name.TcpEstablished = ap timeout_named key_of-TcpEstablished
-word_key name.TcpClosing = ap timeout_named key_of-TcpClosing
-word_key name.TcpFinwait = ap timeout_named key_of-TcpFinwait
-word_key name.TcpClosed = ap timeout_named key_of-TcpClosed
-word_key name.UdpFirst = ap timeout_named key_of-UdpFirst
-word_key name.UdpSingle = ap timeout_named key_of-UdpSingle
-word_key name.UdpMultiple = ap timeout_named key_of-UdpMultiple
-word_key name.OtherFirst = ap timeout_named key_of-OtherFirst
-word_key name.OtherSingle = ap timeout_named key_of-OtherSingle
-word_key name.OtherMultiple = ap timeout_named key_of-OtherMultiple
-word_key name.SrcTrack = ap timeout_named key_of-SrcTrack
-word_key name.Interval = ap timeout_named key_of-Interval
-word_key name.AdaptiveStart = ap timeout_named key_of-AdaptiveStart
-word_key name.AdaptiveEnd = ap timeout_named key_of-AdaptiveEnd
+word_key name.TcpFirst = ap timeout_named key_of_TcpFirst
+word_key name.TcpOpening = ap timeout_named key_of_TcpOpening
+word_key name.TcpEstablished = ap timeout_named key_of_TcpEstablished
+word_key name.TcpClosing = ap timeout_named key_of_TcpClosing
+word_key name.TcpFinwait = ap timeout_named key_of_TcpFinwait
+word_key name.TcpClosed = ap timeout_named key_of_TcpClosed
+word_key name.UdpFirst = ap timeout_named key_of_UdpFirst
+word_key name.UdpSingle = ap timeout_named key_of_UdpSingle
+word_key name.UdpMultiple = ap timeout_named key_of_UdpMultiple
+word_key name.OtherFirst = ap timeout_named key_of_OtherFirst
+word_key name.OtherSingle = ap timeout_named key_of_OtherSingle
+word_key name.OtherMultiple = ap timeout_named key_of_OtherMultiple
+word_key name.SrcTrack = ap timeout_named key_of_SrcTrack
+word_key name.Interval = ap timeout_named key_of_Interval
+word_key name.AdaptiveStart = ap timeout_named key_of_AdaptiveStart
+word_key name.AdaptiveEnd = ap timeout_named key_of_AdaptiveEnd
 
 word_is : (n : TimeoutName) → is_word_text (timeout_word n) ≡ true
 word_is name.TcpFirst = refl
@@ -217,8 +217,8 @@ timeouts_line d ts line more h = go (map (timeout_text ts) timeout_names) refl (
         subst P (sym (ended_text x xs more ∙ bracketed_more (codes " { ") (codes " }") x xs (10 ∷ more))) (record {
           behind_set = _;
           before_end = at line (10 ∷ more);
-          set = word_space false line (codes "set") _ refl key_of-Set;
-          setting = timeouts (word_first true line (codes "timeout") _ refl refl key_of-Timeout) (mark_between line 123 _ refl)
+          set = word_space false line (codes "set") _ refl key_of_Set;
+          setting = timeouts (word_first true line (codes "timeout") _ refl refl key_of_Timeout) (mark_between line 123 _ refl)
               (listed_again (AmongLines (TimeOf true)) Lined key.CloseBrace (codes " { ") (codes " }") (braces (AmongLines (TimeOf true))) x xs d e line (10 ∷ more) p);
           ended = line_end true line more;
         })

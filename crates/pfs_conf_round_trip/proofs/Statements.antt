@@ -10,7 +10,7 @@ use Rattle.pfs_conf_tokens.specs.Lexis.{tokens}
 use Rattle.pfs_conf_tokens.specs.Tokens.{Tok, head, token}
 use Rattle.pfs_conf_tokens.specs.Words.{key_of_text}
 use Rattle.pfs_conf_tokens.proofs.ShownLaws.{end_then}
-use Rattle.pfs_conf_tokens.proofs.WordKeys.{key_of-Table}
+use Rattle.pfs_conf_tokens.proofs.WordKeys.{key_of_Table}
 use Rattle.pfs_conf_values.specs.Configs.{table_names}
 use Rattle.pfs_conf_values.specs.Invariants.{IsTable}
 use Rattle.pfs_conf_values.specs.Order.{AreNamedOnce, IsPreorder, next_depth, repeats_name}
@@ -20,8 +20,8 @@ use Rattle.pfs_conf_values.specs.LoadRules.{IsItem, IsItemAt}
 use Rattle.pfs_conf_values.specs.declared.items.Anchor.{Anchor}
 use Rattle.pfs_conf_values.specs.declared.items.Item.{Item}
 use Rattle.pfs_conf_values.specs.declared.items.Rule.{Rule}
-use Rattle.pfs_conf_values.specs.declared.items.What.{What}
-use Rattle.pfs_conf_values.specs.declared.items.What.TheVariants as what
+use Rattle.pfs_conf_values.specs.declared.items.ItemKind.{ItemKind}
+use Rattle.pfs_conf_values.specs.declared.items.ItemKind.TheVariants as what
 use Rattle.pfs_conf_values.specs.declared.limits.Limits.{Limits}
 use Rattle.pfs_conf_values.specs.declared.tables.TableDef.{TableDef}
 use Rattle.pfs_conf.specs.Grammar.{StatementOf, anchor, close, rule, table}
@@ -80,7 +80,7 @@ table_reads d t line lines more h new =
     let Q : TableDef → Type 0 = λ z. StatementOf (reached d 0 lines) (tokens 0 false line (codes "table " ++ (angled t.name ++ parts))) (reached (with_table z d) 0 lines) (tokens 0 false (suc line) more) in
     subst P (sym (table_parts (codes "table ") (angled t.name) (const_text t.is_const) body (codes "\n") more))
     (subst Q (table_again t.name t.is_const t.entries)
-    (table t.name (parts_said t.is_const t.entries) refl (word_space false line (codes "table") (angled t.name ++ parts) refl key_of-Table) (
+    (table t.name (parts_said t.is_const t.entries) refl (word_space false line (codes "table") (angled t.name ++ parts) refl key_of_Table) (
       record {
         inner = at line (t.name ++ 62 ∷ parts);
         behind = at line (62 ∷ parts);
@@ -141,10 +141,10 @@ item_line limits timeouts tables before i line lines more t names h few fresh = 
     d : Drafted
     d = drafted limits timeouts tables before
 
-    item : ℕ → What → Item
+    item : ℕ → ItemKind → Item
     item depth w = record { depth = depth; what = w }
 
-    go : (depth : ℕ) (w : What) → IsItemAt (length tables) depth w → repeats_name (item depth w) before ≡ false
+    go : (depth : ℕ) (w : ItemKind) → IsItemAt (length tables) depth w → repeats_name (item depth w) before ≡ false
         → (ls : List ℕ) × StatementOf (reached d depth lines) (tokens 0 false line (what_text tables w ++ more))
         (reached (drafted limits timeouts tables (before ++ item depth w ∷ [])) (next_depth (item depth w)) ls) (tokens 0 false (suc line) more)
     go depth (what.Rule r) k f =

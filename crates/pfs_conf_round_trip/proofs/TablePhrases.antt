@@ -16,7 +16,7 @@ use Rattle.pfs_conf_tokens.specs.Keys.{ends_line}
 use Rattle.pfs_conf_tokens.specs.Tokens.{Tok, head, token}
 use Rattle.pfs_conf_tokens.specs.Words.{key_of_text}
 use Rattle.pfs_conf_tokens.proofs.ShownLaws.{breaks, line_then, mark_then, word_then}
-use Rattle.pfs_conf_tokens.proofs.WordKeys.{key_of-Const}
+use Rattle.pfs_conf_tokens.proofs.WordKeys.{key_of_Const}
 use Rattle.pfs_addr_values.specs.Prefixes.{IsNetwork, Network}
 use Rattle.pfs_addr_values.specs.declared.addresses.Addr.{Addr}
 use Rattle.pfs_addr_values.specs.declared.addresses.Addr.TheVariants.{V4, V6}
@@ -158,4 +158,4 @@ pub parts_read : (c : Bool) (es : List TextEntry) (line : ℕ) (more : List ℕ)
     → PartsOf (at line (const_text c ++ (bracketed (codes " { ") (codes " }") (map entry_text es) ++ 10 ∷ more))) (parts_said c es) (at line (10 ∷ more))
 parts_read false es line more h d = entries_parts false es line more h d
 parts_read true es line more h d =
-    steps (constant (word line (codes "const") (bracketed (codes " { ") (codes " }") (map entry_text es) ++ 10 ∷ more) refl (parts_break es more) key_of-Const) refl) (entries_parts true es line more h d)
+    steps (constant (word line (codes "const") (bracketed (codes " { ") (codes " }") (map entry_text es) ++ 10 ∷ more) refl (parts_break es more) key_of_Const) refl) (entries_parts true es line more h d)

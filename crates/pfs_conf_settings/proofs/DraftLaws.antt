@@ -9,23 +9,23 @@ use Rattle.pfs_conf_values.specs.LoadRules.{IsItem}
 use Rattle.pfs_conf_settings.specs.Namings.{Named}
 use Rattle.pfs_conf_values.specs.declared.items.Item.{Item}
 use Rattle.pfs_conf_settings.proofs.MoreTables.{items-more}
-use Rattle.pfs_conf_settings.proofs.OrderLaws.{AreNamedOnce-push, IsPreorder-push}
+use Rattle.pfs_conf_settings.proofs.OrderLaws.{AreNamedOnce_push, IsPreorder_push}
 
 -- an item that keeps the load rules leaves a draft
-pub IsDraft-with_item : (d : Drafted) (i : Item) → IsDraft d → length d.items < 10000 → i.depth ≤ depth_after 0 d.items → IsItem (length d.tables) i
+pub IsDraft_with_item : (d : Drafted) (i : Item) → IsDraft d → length d.items < 10000 → i.depth ≤ depth_after 0 d.items → IsItem (length d.tables) i
     → repeats_name i d.items ≡ false → IsDraft (with_item i d)
-IsDraft-with_item d i k few order item fresh = record {
+IsDraft_with_item d i k few order item fresh = record {
   limits = k.limits;
   timeouts = k.timeouts;
   items = All-push (IsItem (length d.tables)) d.items i k.items item;
   few_items = omega (arith, length-append d.items (i ∷ []));
-  preorder = IsPreorder-push 0 d.items i k.preorder order;
-  anchors = AreNamedOnce-push [] d.items i k.anchors fresh;
+  preorder = IsPreorder_push 0 d.items i k.preorder order;
+  anchors = AreNamedOnce_push [] d.items i k.anchors fresh;
 }
 
 -- and so do more tables
-pub IsDraft-with_tables : (d : Drafted) (n : Named) → IsDraft d → length d.tables ≤ length n.tables → IsDraft (with_tables n d)
-IsDraft-with_tables d n k more = record {
+pub IsDraft_with_tables : (d : Drafted) (n : Named) → IsDraft d → length d.tables ≤ length n.tables → IsDraft (with_tables n d)
+IsDraft_with_tables d n k more = record {
   limits = k.limits;
   timeouts = k.timeouts;
   items = items-more (length d.tables) (length n.tables) more d.items k.items;
@@ -39,9 +39,9 @@ abbrev pub with_items : List Item → Drafted → Drafted
 with_items items d = record { limits = d.limits; timeouts = d.timeouts; tables = d.tables; defined = d.defined; items = items }
 
 -- so the items behind a push leave a draft, whether it was refused or not
-pub IsDraft-pushed : {E : Type 0} (d e : Drafted) (i : Item) (after : List Item) (r : Result (Unit {0}) E) → d ≡ e → IsDraft d
+pub IsDraft_pushed : {E : Type 0} (d e : Drafted) (i : Item) (after : List Item) (r : Result (Unit {0}) E) → d ≡ e → IsDraft d
     → length e.items < 10000 → i.depth ≤ depth_after 0 e.items → IsItem (length e.tables) i → repeats_name i e.items ≡ false
     → OnOk r (after ≡ d.items ++ i ∷ []) → OnErr r (after ≡ d.items) → IsDraft (with_items after d)
-IsDraft-pushed d e i after (Ok x) same k few order item fresh put kept =
-    subst (λ items. IsDraft (with_items items d)) (sym put) (IsDraft-with_item d i k (rw same few) (rw same order) (rw same item) (rw same fresh))
-IsDraft-pushed d e i after (Err x) same k few order item fresh put kept = subst (λ items. IsDraft (with_items items d)) (sym kept) k
+IsDraft_pushed d e i after (Ok x) same k few order item fresh put kept =
+    subst (λ items. IsDraft (with_items items d)) (sym put) (IsDraft_with_item d i k (rw same few) (rw same order) (rw same item) (rw same fresh))
+IsDraft_pushed d e i after (Err x) same k few order item fresh put kept = subst (λ items. IsDraft (with_items items d)) (sym kept) k

@@ -11,13 +11,13 @@ abbrev network : Addr → ℕ → Network
 network a n = record { addr = a; bits = n }
 
 -- a test that is `same_network` at addresses of each family is it at all
-pub same-networks : (eq : Network → Network → Bool)
+pub same_networks : (eq : Network → Network → Bool)
     → ((a b : List ℕ) (m n : ℕ) → eq (network (V4 a) m) (network (V4 b) n) ≡ same_network (network (V4 a) m) (network (V4 b) n))
     → ((a b : List ℕ) (m n : ℕ) → eq (network (V4 a) m) (network (V6 b) n) ≡ same_network (network (V4 a) m) (network (V6 b) n))
     → ((a b : List ℕ) (m n : ℕ) → eq (network (V6 a) m) (network (V4 b) n) ≡ same_network (network (V6 a) m) (network (V4 b) n))
     → ((a b : List ℕ) (m n : ℕ) → eq (network (V6 a) m) (network (V6 b) n) ≡ same_network (network (V6 a) m) (network (V6 b) n))
     → (p q : Network) → eq p q ≡ same_network p q
-same-networks eq four four_six six_four six p q = by p.addr q.addr
+same_networks eq four four_six six_four six p q = by p.addr q.addr
   where
     by : (a b : Addr) → eq (network a p.bits) (network b q.bits) ≡ same_network (network a p.bits) (network b q.bits)
     by (V4 a) (V4 b) = four a b p.bits q.bits
@@ -26,10 +26,10 @@ same-networks eq four four_six six_four six p q = by p.addr q.addr
     by (V6 a) (V6 b) = six a b p.bits q.bits
 
 -- an entry whose prefix is new goes last
-pub put-last : (eq : Network → Network → Bool) (p : Network) (negated : Bool) (es : List TextEntry) → ((a b : Network) → eq a b ≡ same_network a b)
+pub put_last : (eq : Network → Network → Bool) (p : Network) (negated : Bool) (es : List TextEntry) → ((a b : Network) → eq a b ≡ same_network a b)
     → sign_of es p ≡ None → insert_entry eq es p negated ≡ es ++ (p, negated) ∷ []
-put-last eq p negated [] same h = refl
-put-last eq p negated (e ∷ es) same h = go (same_network p e.0) refl (put-last eq p negated es same)
+put_last eq p negated [] same h = refl
+put_last eq p negated (e ∷ es) same h = go (same_network p e.0) refl (put_last eq p negated es same)
   where
     go : (b : Bool) → same_network p e.0 ≡ b → (sign_of es p ≡ None → insert_entry eq es p negated ≡ es ++ (p, negated) ∷ [])
         → insert_entry eq (e ∷ es) p negated ≡ (e ∷ es) ++ (p, negated) ∷ []

@@ -16,8 +16,8 @@ use Rattle.pfs_conf_values.specs.declared.timeouts.TimeoutName.{TimeoutName}
 use Rattle.pfs_conf_values.specs.declared.timeouts.TimeoutName.TheVariants as timeout
 
 -- no item is found where none passes
-none-passes : (p : Item → Bool) (items : List Item) → position p items ≡ None → list_any p items ≡ false
-none-passes p items h = go (list_any p items) refl
+none_passes : (p : Item → Bool) (items : List Item) → position p items ≡ None → list_any p items ≡ false
+none_passes p items h = go (list_any p items) refl
   where
     within : (items : List Item) → list_any p items ≡ true → position_or_len p items < length items
     within [] h = absurd (false≢true h)
@@ -35,66 +35,66 @@ none-passes p items h = go (list_any p items) refl
     go true e = absurd (let some = sym (cond-true (nat_lt (position_or_len p items) (length items)) _ _ (lt-ltb _ _ (within items e))) ∙ h in cc)
 
 -- a timeout that is set, or a default, is within what can be given
-resolved-most : (place default : ℕ) (given : Option ℕ) → IfSome given (IsTimeout place) → default ≤ greatest_timeout place → unwrap_or given default ≤ greatest_timeout place
-resolved-most place default None h le = le
-resolved-most place default (Some n) h le = h.1
+resolved_most : (place default : ℕ) (given : Option ℕ) → IfSome given (IsTimeout place) → default ≤ greatest_timeout place → unwrap_or given default ≤ greatest_timeout place
+resolved_most place default None h le = le
+resolved_most place default (Some n) h le = h.1
 
-resolved-least : (place default : ℕ) (given : Option ℕ) → IfSome given (IsTimeout place) → least_timeout place ≤ default → least_timeout place ≤ unwrap_or given default
-resolved-least place default None h le = le
-resolved-least place default (Some n) h le = h.0
+resolved_least : (place default : ℕ) (given : Option ℕ) → IfSome given (IsTimeout place) → least_timeout place ≤ default → least_timeout place ≤ unwrap_or given default
+resolved_least place default None h le = le
+resolved_least place default (Some n) h le = h.0
 
 seconds : (d : Drafted) → IsDraft d → (name : TimeoutName) → is_seconds name ≡ true → timeout_of (finished d) name ≤ 2147483647
-seconds d k timeout.TcpFirst s = resolved-most 0 120 _ (k.timeouts 0) (omega arith)
-seconds d k timeout.TcpOpening s = resolved-most 1 30 _ (k.timeouts 1) (omega arith)
-seconds d k timeout.TcpEstablished s = resolved-most 2 86400 _ (k.timeouts 2) (omega arith)
-seconds d k timeout.TcpClosing s = resolved-most 3 900 _ (k.timeouts 3) (omega arith)
-seconds d k timeout.TcpFinwait s = resolved-most 4 45 _ (k.timeouts 4) (omega arith)
-seconds d k timeout.TcpClosed s = resolved-most 5 90 _ (k.timeouts 5) (omega arith)
-seconds d k timeout.UdpFirst s = resolved-most 6 60 _ (k.timeouts 6) (omega arith)
-seconds d k timeout.UdpSingle s = resolved-most 7 30 _ (k.timeouts 7) (omega arith)
-seconds d k timeout.UdpMultiple s = resolved-most 8 60 _ (k.timeouts 8) (omega arith)
-seconds d k timeout.OtherFirst s = resolved-most 9 60 _ (k.timeouts 9) (omega arith)
-seconds d k timeout.OtherSingle s = resolved-most 10 30 _ (k.timeouts 10) (omega arith)
-seconds d k timeout.OtherMultiple s = resolved-most 11 60 _ (k.timeouts 11) (omega arith)
-seconds d k timeout.SrcTrack s = resolved-most 12 0 _ (k.timeouts 12) (omega arith)
-seconds d k timeout.Interval s = resolved-most 13 10 _ (k.timeouts 13) (omega arith)
+seconds d k timeout.TcpFirst s = resolved_most 0 120 _ (k.timeouts 0) (omega arith)
+seconds d k timeout.TcpOpening s = resolved_most 1 30 _ (k.timeouts 1) (omega arith)
+seconds d k timeout.TcpEstablished s = resolved_most 2 86400 _ (k.timeouts 2) (omega arith)
+seconds d k timeout.TcpClosing s = resolved_most 3 900 _ (k.timeouts 3) (omega arith)
+seconds d k timeout.TcpFinwait s = resolved_most 4 45 _ (k.timeouts 4) (omega arith)
+seconds d k timeout.TcpClosed s = resolved_most 5 90 _ (k.timeouts 5) (omega arith)
+seconds d k timeout.UdpFirst s = resolved_most 6 60 _ (k.timeouts 6) (omega arith)
+seconds d k timeout.UdpSingle s = resolved_most 7 30 _ (k.timeouts 7) (omega arith)
+seconds d k timeout.UdpMultiple s = resolved_most 8 60 _ (k.timeouts 8) (omega arith)
+seconds d k timeout.OtherFirst s = resolved_most 9 60 _ (k.timeouts 9) (omega arith)
+seconds d k timeout.OtherSingle s = resolved_most 10 30 _ (k.timeouts 10) (omega arith)
+seconds d k timeout.OtherMultiple s = resolved_most 11 60 _ (k.timeouts 11) (omega arith)
+seconds d k timeout.SrcTrack s = resolved_most 12 0 _ (k.timeouts 12) (omega arith)
+seconds d k timeout.Interval s = resolved_most 13 10 _ (k.timeouts 13) (omega arith)
 seconds d k timeout.AdaptiveStart s = absurd (false≢true s)
 seconds d k timeout.AdaptiveEnd s = absurd (false≢true s)
 
-or-true : (b : Bool) → (b || true) ≡ true
-or-true true = refl
-or-true false = refl
+or_true : (b : Bool) → (b || true) ≡ true
+or_true true = refl
+or_true false = refl
 
 -- the default pair is one
-default-adaptive : (states : ℕ) → 1 ≤ states → is_adaptive (6 * states / 10) (12 * states / 10) ≡ true
-default-adaptive states h =
+default_adaptive : (states : ℕ) → 1 ≤ states → is_adaptive (6 * states / 10) (12 * states / 10) ≡ true
+default_adaptive states h =
     let less = lt-ltb (6 * states / 10) (12 * states / 10) (omega arith) in
-    ap (λ b. ((6 * states / 10 == 0) && (12 * states / 10 == 0)) || b) less ∙ or-true _
+    ap (λ b. ((6 * states / 10 == 0) && (12 * states / 10 == 0)) || b) less ∙ or_true _
 
 -- a pair that is not broken
 adaptive : (states : ℕ) (start end : Option ℕ) → 1 ≤ states → broken_pair start end ≡ false
     → is_adaptive (unwrap_or start (6 * states / 10)) (unwrap_or end (12 * states / 10)) ≡ true
-adaptive states None None h whole = default-adaptive states h
+adaptive states None None h whole = default_adaptive states h
 adaptive states (Some s) (Some e) h whole = not-false _ whole
 adaptive states None (Some e) h whole = absurd (false≢true (sym whole))
 adaptive states (Some s) None h whole = absurd (false≢true (sym whole))
 
-adaptive-end : (states : ℕ) (end : Option ℕ) → states ≤ 4294967295 → IfSome end (IsTimeout 15) → unwrap_or end (12 * states / 10) < 2 ^ 33
-adaptive-end states None h k = omega arith
-adaptive-end states (Some n) h k = omega arith
+adaptive_end_is : (states : ℕ) (end : Option ℕ) → states ≤ 4294967295 → IfSome end (IsTimeout 15) → unwrap_or end (12 * states / 10) < 2 ^ 33
+adaptive_end_is states None h k = omega arith
+adaptive_end_is states (Some n) h k = omega arith
 
 -- a draft that keeps the rules of the whole text is a configuration
-pub IsConfig-finished : (d : Drafted) → IsDraft d → All IsTable d.tables → IsDistinct bytes_eq (table_names d.tables)
+pub IsConfig_finished : (d : Drafted) → IsDraft d → All IsTable d.tables → IsDistinct bytes_eq (table_names d.tables)
     → has_broken_pair d ≡ false → const_overload d ≡ None → has_too_many_tables d ≡ false → has_too_many_entries d ≡ false → IsConfig (finished d)
-IsConfig-finished d k tables names pair overloads few entries = record {
+IsConfig_finished d k tables names pair overloads few entries = record {
   limits = k.limits;
   size = refl;
   seconds = seconds d k;
-  interval = resolved-least 13 10 _ (k.timeouts 13) (omega arith);
+  interval = resolved_least 13 10 _ (k.timeouts 13) (omega arith);
   adaptive =
       adaptive d.limits.states (slice_index_or d.timeouts (place_of timeout.AdaptiveStart) None)
       (slice_index_or d.timeouts (place_of timeout.AdaptiveEnd) None) k.limits.states.0 pair;
-  adaptive_end = adaptive-end d.limits.states _ k.limits.states.1 (k.timeouts 15);
+  adaptive_end = adaptive_end_is d.limits.states _ k.limits.states.1 (k.timeouts 15);
   tables = tables;
   names = names;
   few_tables = ltb-false _ _ few;
@@ -103,5 +103,5 @@ IsConfig-finished d k tables names pair overloads few entries = record {
   few_items = k.few_items;
   preorder = k.preorder;
   anchors = k.anchors;
-  overloads = none-passes (overloads_const d.tables) d.items overloads;
+  overloads = none_passes (overloads_const d.tables) d.items overloads;
 }

@@ -12,8 +12,8 @@ use Rattle.pfs_conf_values.specs.declared.filters.Host.TheVariants as host
 use Rattle.pfs_conf_values.specs.declared.filters.Side.{Side}
 use Rattle.pfs_conf_values.specs.declared.filters.TableNo.{TableNo}
 use Rattle.pfs_conf_values.specs.declared.items.Item.{Item}
-use Rattle.pfs_conf_values.specs.declared.items.What.{What}
-use Rattle.pfs_conf_values.specs.declared.items.What.TheVariants as what
+use Rattle.pfs_conf_values.specs.declared.items.ItemKind.{ItemKind}
+use Rattle.pfs_conf_values.specs.declared.items.ItemKind.TheVariants as what
 
 -- Where there are more tables, what names one of the first still does.
 module _ (m n : ℕ) (more : m ≤ n) where
@@ -62,7 +62,7 @@ module _ (m n : ℕ) (more : m ≤ n) where
   action-more action.Pass k = k
   action-more (action.Keep o) k = options-more o k
 
-  pub what-more : (depth : ℕ) (w : What) → IsItemAt m depth w → IsItemAt n depth w
+  pub what-more : (depth : ℕ) (w : ItemKind) → IsItemAt m depth w → IsItemAt n depth w
   what-more depth (what.Rule r) k = (k.0, record { filter = filter-more r.filter k.1.filter; action = action-more r.action k.1.action })
   what-more depth (what.Anchor a) k = (k.0, record { filter = filter-more a.filter k.1.filter; name = k.1.name })
 

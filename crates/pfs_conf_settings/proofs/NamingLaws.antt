@@ -16,27 +16,27 @@ use Rattle.pfs_conf_settings.specs.Namings.{Named, is_named, naming, place_in, u
 use Rattle.pfs_conf_values.specs.declared.tables.TableDef.{TableDef}
 
 -- a table without entries
-pub undefined_table-IsTable : (name : List ℕ) → is_name 31 name ≡ true → IsTable (undefined_table name)
+pub undefined_table_IsTable : (name : List ℕ) → is_name 31 name ≡ true → IsTable (undefined_table name)
 unfolding IsDistinct
-undefined_table-IsTable name h = record { name = h; networks = λ k d l. absurd (omega arith); distinct = tt }
+undefined_table_IsTable name h = record { name = h; networks = λ k d l. absurd (omega arith); distinct = tt }
 
 -- a table of a new name behind the others
-pub IsNaming-push : (keys : List (List ℕ)) (tables : List TableDef) (defined : List Bool) (name : List ℕ)
+pub IsNaming_push : (keys : List (List ℕ)) (tables : List TableDef) (defined : List Bool) (name : List ℕ)
     → IsNaming keys tables defined → is_named name tables ≡ false → is_name 31 name ≡ true
     → IsNaming (insert_key bytes_eq keys name) (tables ++ undefined_table name ∷ []) (defined ++ false ∷ [])
-IsNaming-push keys tables defined name k fresh good = record {
+IsNaming_push keys tables defined name k fresh good = record {
   names =
       cond-false (list_any (bytes_eq name) keys) _ _ (ap (λ ks. list_any (bytes_eq name) ks) k.names ∙ fresh)
       ∙ ap (λ ks. ks ++ name ∷ []) k.names ∙ sym (map_push (λ (t : TableDef). t.name) tables (undefined_table name));
   sizes = let s = k.sizes in omega (arith, length-append defined (false ∷ []), length-append tables (undefined_table name ∷ []));
-  each = All-push IsTable tables (undefined_table name) k.each (undefined_table-IsTable name good);
+  each = All-push IsTable tables (undefined_table name) k.each (undefined_table_IsTable name good);
 }
 
 -- where a name is among others, its first place is one of it
-place-found : (name : List ℕ) (ks : List (List ℕ)) → list_any (bytes_eq name) ks ≡ true
+place_found : (name : List ℕ) (ks : List (List ℕ)) → list_any (bytes_eq name) ks ≡ true
     → (position_or_len (bytes_eq name) ks < length ks) × (get_or ks (position_or_len (bytes_eq name) ks) [] ≡ name)
-place-found name [] h = absurd (false≢true h)
-place-found name (k ∷ ks) h = go (bytes_eq name k) refl (place-found name ks)
+place_found name [] h = absurd (false≢true h)
+place_found name (k ∷ ks) h = go (bytes_eq name k) refl (place_found name ks)
   where
     Is : ℕ → Type 0
     Is n = (n < length (k ∷ ks)) × (get_or (k ∷ ks) n [] ≡ name)
@@ -54,9 +54,9 @@ place-found name (k ∷ ks) h = go (bytes_eq name k) refl (place-found name ks)
         subst (λ n. (n < length (k ∷ ks)) × (get_or (k ∷ ks) n [] ≡ name)) at (omega arith, found.1)
 
 -- else it is behind them
-place-fresh : (name : List ℕ) (ks : List (List ℕ)) → list_any (bytes_eq name) ks ≡ false → position_or_len (bytes_eq name) ks ≡ length ks
-place-fresh name [] h = refl
-place-fresh name (k ∷ ks) h = go (bytes_eq name k) refl (place-fresh name ks)
+place_fresh : (name : List ℕ) (ks : List (List ℕ)) → list_any (bytes_eq name) ks ≡ false → position_or_len (bytes_eq name) ks ≡ length ks
+place_fresh name [] h = refl
+place_fresh name (k ∷ ks) h = go (bytes_eq name k) refl (place_fresh name ks)
   where
     go : (b : Bool) → bytes_eq name k ≡ b → (list_any (bytes_eq name) ks ≡ false → position_or_len (bytes_eq name) ks ≡ length ks)
         → position_or_len (bytes_eq name) (k ∷ ks) ≡ length (k ∷ ks)
@@ -66,37 +66,37 @@ place-fresh name (k ∷ ks) h = go (bytes_eq name k) refl (place-fresh name ks)
         cond-true (not (bytes_eq name k)) (1 + position_or_len (bytes_eq name) ks) 0 (ap not e) ∙ (omega arith)
 
 -- a name that no key is, is not found
-pub fresh-None : (name : List ℕ) (ks : List (List ℕ)) → position (bytes_eq name) ks ≡ None → list_any (bytes_eq name) ks ≡ false
-fresh-None name ks h = go (list_any (bytes_eq name) ks) refl
+pub fresh_None : (name : List ℕ) (ks : List (List ℕ)) → position (bytes_eq name) ks ≡ None → list_any (bytes_eq name) ks ≡ false
+fresh_None name ks h = go (list_any (bytes_eq name) ks) refl
   where
     go : (b : Bool) → list_any (bytes_eq name) ks ≡ b → list_any (bytes_eq name) ks ≡ false
     go false e = e
     go true e =
-        let found = place-found name ks e in
+        let found = place_found name ks e in
         absurd (let some = sym (cond-true (nat_lt (position_or_len (bytes_eq name) ks) (length ks)) _ _ (lt-ltb _ _ found.0)) ∙ h in cc)
 
 -- the number of a new name
-pub place_in-fresh : (name : List ℕ) (tables : List TableDef) → is_named name tables ≡ false → place_in name tables ≡ length tables
-place_in-fresh name tables h = place-fresh name (table_names tables) h ∙ length-map tables (λ (t : TableDef). t.name)
+pub place_in_fresh : (name : List ℕ) (tables : List TableDef) → is_named name tables ≡ false → place_in name tables ≡ length tables
+place_in_fresh name tables h = place_fresh name (table_names tables) h ∙ length-map tables (λ (t : TableDef). t.name)
 
 -- once a name is used, its number is that of a table of this name
 pub record IsPlaced (name : List ℕ) (number : ℕ) (tables : List TableDef) : Type 0 where
   pub within : number < length tables
   pub named : get_or (table_names tables) number [] ≡ name
 
-pub naming-IsPlaced : (name : List ℕ) (n : Named) → IsPlaced name (place_in name n.tables) (naming name n).tables
-naming-IsPlaced name n = go (is_named name n.tables) refl
+pub naming_IsPlaced : (name : List ℕ) (n : Named) → IsPlaced name (place_in name n.tables) (naming name n).tables
+naming_IsPlaced name n = go (is_named name n.tables) refl
   where
     Placed : Named → Type 0
     Placed m = IsPlaced name (place_in name n.tables) m.tables
 
     go : (b : Bool) → is_named name n.tables ≡ b → IsPlaced name (place_in name n.tables) (naming name n).tables
     go true e =
-        let found = place-found name (table_names n.tables) e in
+        let found = place_found name (table_names n.tables) e in
         subst (λ (m : Named). IsPlaced name (place_in name n.tables) m.tables) (sym (cond-true (is_named name n.tables) n _ e))
         (record { within = omega (arith, found.0, length-map n.tables (λ (t : TableDef). t.name)); named = found.1 })
     go false e =
-        let at = place_in-fresh name n.tables e in
+        let at = place_in_fresh name n.tables e in
         subst (λ (m : Named). IsPlaced name (place_in name n.tables) m.tables) (sym (cond-false (is_named name n.tables) n _ e))
         (record {
           within = omega (arith, at, length-append n.tables (undefined_table name ∷ []));
@@ -106,9 +106,9 @@ naming-IsPlaced name n = go (is_named name n.tables) refl
         })
 
 -- a table takes the place of one of its name
-pub IsNaming-set : (keys : List (List ℕ)) (tables : List TableDef) (defined : List Bool) (number : ℕ) (t : TableDef)
+pub IsNaming_set : (keys : List (List ℕ)) (tables : List TableDef) (defined : List Bool) (number : ℕ) (t : TableDef)
     → IsNaming keys tables defined → IsTable t → IsPlaced t.name number tables → IsNaming keys (set tables number t) (set defined number true)
-IsNaming-set keys tables defined number t k good placed = record {
+IsNaming_set keys tables defined number t k good placed = record {
   names =
       k.names
       ∙ sym (map-set (λ (x : TableDef). x.name) tables number t

@@ -1,4 +1,4 @@
-// What the statements of a rules text say that have been read so far.
+//! What the statements of a rules text say that have been read so far.
 
 ghost use Rattle.std.specs.Prelude.{◌≡◌, ◌<◌, ◌≤◌, ◌+◌, ◌++◌, [], ◌∷◌, IfOk, IfSome, None, OnErr, OnOk, false, true, length, position};
 ghost use Rattle.std.specs.Option.{option_map};
@@ -13,8 +13,8 @@ ghost use Rattle.pfs_conf_values.specs.Timeouts.{place_of};
 use crate::named_tables::NamedTables;
 use pfs_addr_values::NoMemory;
 use pfs_conf_values::{
-    Action, Anchor, AnchorName, Config, Item, LimitName, Limits, Rule, RuleNo, RuleTimeouts,
-    RulesHasher, TableDef, TableName, TableNo, TimeoutName, Timeouts, What, count_entries,
+    Action, Anchor, AnchorName, Config, Item, ItemKind, LimitName, Limits, Rule, RuleNo,
+    RuleTimeouts, RulesHasher, TableDef, TableName, TableNo, TimeoutName, Timeouts, count_entries,
 };
 use std::alloc::Global;
 use std::marker::Model;
@@ -140,13 +140,13 @@ impl Draft {
         requires order { depth ≤ depth_after 0 self.old.items }
         requires shallow { depth ≤ 16 }
         requires rule { IsRule (length self.old.tables) rule }
-        ensures ok { OnOk result (self.new ≡ with_item (record { depth = depth; what = What.Rule rule }) self.old) }
+        ensures ok { OnOk result (self.new ≡ with_item (record { depth = depth; what = ItemKind.Rule rule }) self.old) }
         ensures depth { OnOk result (depth_after 0 self.new.items ≡ depth) }
         ensures err { OnErr result (self.new ≡ self.old) }
     {
         self.push(Item {
             depth,
-            what: What::Rule(rule),
+            what: ItemKind::Rule(rule),
         })
     }
 
@@ -158,13 +158,13 @@ impl Draft {
         requires shallow { depth ≤ 15 }
         requires anchor { IsAnchor (length self.old.tables) anchor }
         requires name { repeats_by depth anchor.name self.old.items ≡ false }
-        ensures ok { OnOk result (self.new ≡ with_item (record { depth = depth; what = What.Anchor anchor }) self.old) }
+        ensures ok { OnOk result (self.new ≡ with_item (record { depth = depth; what = ItemKind.Anchor anchor }) self.old) }
         ensures depth { OnOk result (depth_after 0 self.new.items ≡ depth + 1) }
         ensures err { OnErr result (self.new ≡ self.old) }
     {
         self.push(Item {
             depth,
-            what: What::Anchor(anchor),
+            what: ItemKind::Anchor(anchor),
         })
     }
 
@@ -247,8 +247,8 @@ fn is_anchor_named(item: &Item, depth: u8, name: &AnchorName) -> bool
     ensures { result ≡ is_anchor_named depth name.now item.now }
 {
     match &item.what {
-        What::Rule(_) => false,
-        What::Anchor(anchor) => item.depth == depth && anchor.name == Some(*name),
+        ItemKind::Rule(_) => false,
+        ItemKind::Anchor(anchor) => item.depth == depth && anchor.name == Some(*name),
     }
 }
 
@@ -270,7 +270,7 @@ fn const_overload(tables: &[TableDef], items: &[Item]) -> Option<usize>
 fn overloads_const(tables: &[TableDef], item: &Item) -> bool
     ensures { result ≡ overloads_const tables.now item.now }
 {
-    let What::Rule(rule) = &item.what else {
+    let ItemKind::Rule(rule) = &item.what else {
         return false;
     };
     let Action::Keep(options) = &rule.action else {

@@ -1,4 +1,4 @@
-// The entries of a table that is being read, found by their prefixes.
+//! The entries of a table that is being read, found by their prefixes.
 
 ghost use Rattle.std.specs.Prelude.{◌≡◌, ◌++◌, [], ◌∷◌, IfOk, None, OnErr, OnOk, slice_get};
 ghost use Rattle.pfs_conf_values.specs.Entries.{sign_of};
@@ -53,7 +53,7 @@ impl EntryDraft {
         ensures ok { OnOk result (self.new ≡ self.old ++ (prefix, negated) ∷ []) }
         ensures err { OnErr result (self.new ≡ self.old) }
     {
-        // That its bits past its length are zero is known of every prefix, and told here.
+        // This call tells the proof that the bits past its length are zero.
         let _bits = prefix.bits();
         self.map.insert(prefix, negated)?;
         Ok(())

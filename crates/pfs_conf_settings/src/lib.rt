@@ -1,5 +1,5 @@
-// The statements that set limits and timeouts, the parts of a table's definition, and the draft that all statements of a
-// rules text are put into.
+//! The statements that set limits and timeouts, the parts of a table's definition, and the draft that all statements of a
+//! rules text are put into.
 #![tactic(auto)]
 
 mod drafts;

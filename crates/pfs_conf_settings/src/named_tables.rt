@@ -1,4 +1,4 @@
-// The tables that a text has named so far, found by their names and by their numbers.
+//! The tables that a text has named so far, found by their names and by their numbers.
 
 ghost use Rattle.std.specs.Prelude.{◌≡◌, ◌<◌, ◌≤◌, [], All, IfOk, OnOk, OnErr, false, length, true};
 ghost use Rattle.std.specs.List.{IsDistinct};
@@ -120,7 +120,7 @@ impl NamedTables {
         ensures ok { OnOk result (self.new ≡ defining table self.old) }
         ensures err { OnErr result (self.new ≡ self.old) }
     {
-        // That its entries are those of a table is known, and told here.
+        // This call tells the proof that its entries are prefixes, no two the same.
         let _count = table.entries.len();
         let place = self.place_of(table.name)?;
         self.tables[place] = table;
@@ -134,7 +134,7 @@ impl NamedTables {
         ensures each { All IsTable self.tables }
         ensures names { IsDistinct bytes_eq (table_names self.tables) }
     {
-        // That no two names are the same is known of the set, and told here.
+        // This call tells the proof that no two names are the same.
         let _count = self.names.len();
         let NamedTables {
             names: _,

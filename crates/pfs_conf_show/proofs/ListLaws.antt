@@ -7,10 +7,10 @@ use Rattle.std.proofs.lemmas.Grind.{flat_map-append}
 use Rattle.std.proofs.lemmas.List.{take_more, map-append}
 use Rattle.pfs_conf_show.specs.Pieces.{begun_after, going_on, separator, worded}
 
-pub going_on-append : (opening : List ℕ) (begun : Bool) (xs ys : List (List ℕ))
+pub going_on_append : (opening : List ℕ) (begun : Bool) (xs ys : List (List ℕ))
     → going_on opening begun (xs ++ ys) ≡ going_on opening begun xs ++ going_on opening (begun_after begun xs) ys
-going_on-append opening begun [] ys = refl
-going_on-append opening begun (x ∷ xs) ys = rw (going_on-append opening true xs ys) (rest xs)
+going_on_append opening begun [] ys = refl
+going_on_append opening begun (x ∷ xs) ys = rw (going_on_append opening true xs ys) (rest xs)
   where
     true_after : (zs : List (List ℕ)) → begun_after true zs ≡ true
     true_after [] = refl
@@ -19,19 +19,19 @@ going_on-append opening begun (x ∷ xs) ys = rw (going_on-append opening true x
     rest : (zs : List (List ℕ)) → separator opening begun ++ (x ++ (going_on opening true zs ++ going_on opening (begun_after true zs) ys)) ≡ (separator opening begun ++ (x ++ going_on opening true zs)) ++ going_on opening true ys
     rest zs = rw (true_after zs) (simp append_assoc)
 
-pub begun_after-append : (begun : Bool) (xs ys : List (List ℕ)) → begun_after begun (xs ++ ys) ≡ begun_after (begun_after begun xs) ys
-begun_after-append begun [] ys = refl
-begun_after-append begun (x ∷ xs) [] = refl
-begun_after-append begun (x ∷ xs) (y ∷ ys) = refl
+pub begun_after_append : (begun : Bool) (xs ys : List (List ℕ)) → begun_after begun (xs ++ ys) ≡ begun_after (begun_after begun xs) ys
+begun_after_append begun [] ys = refl
+begun_after_append begun (x ∷ xs) [] = refl
+begun_after_append begun (x ∷ xs) (y ∷ ys) = refl
 
 -- one more item
-pub going_on-push : (opening : List ℕ) (begun : Bool) (xs : List (List ℕ)) (x : List ℕ)
+pub going_on_push : (opening : List ℕ) (begun : Bool) (xs : List (List ℕ)) (x : List ℕ)
     → going_on opening begun (xs ++ x ∷ []) ≡ going_on opening begun xs ++ (separator opening (begun_after begun xs) ++ x)
-going_on-push opening begun xs x = going_on-append opening begun xs (x ∷ []) ∙ ap (λ (z : List ℕ). going_on opening begun xs ++ (separator opening (begun_after begun xs) ++ z)) (append-nil x)
+going_on_push opening begun xs x = going_on_append opening begun xs (x ∷ []) ∙ ap (λ (z : List ℕ). going_on opening begun xs ++ (separator opening (begun_after begun xs) ++ z)) (append-nil x)
 
-pub begun_after-push : (begun : Bool) (xs : List (List ℕ)) (x : List ℕ) → begun_after begun (xs ++ x ∷ []) ≡ true
-begun_after-push begun [] x = refl
-begun_after-push begun (y ∷ xs) x = refl
+pub begun_after_push : (begun : Bool) (xs : List (List ℕ)) (x : List ℕ) → begun_after begun (xs ++ x ∷ []) ≡ true
+begun_after_push begun [] x = refl
+begun_after_push begun (y ∷ xs) x = refl
 
 -- ---- what is written one behind the other
 
@@ -43,10 +43,10 @@ pub goes_on : (opening : List ℕ) (begun now : Bool) (xs ys : List (List ℕ)) 
     → o2 ≡ o1 ++ going_on opening now ys → o2 ≡ o ++ going_on opening begun (xs ++ ys)
 goes_on opening begun now xs ys o o1 o2 e h f =
     behind o (going_on opening begun xs) (going_on opening (begun_after begun xs) ys) e (f ∙ ap (λ (z : Bool). o1 ++ going_on opening z ys) h)
-    ∙ ap (λ (z : List ℕ). o ++ z) (sym (going_on-append opening begun xs ys))
+    ∙ ap (λ (z : List ℕ). o ++ z) (sym (going_on_append opening begun xs ys))
 
 pub begun_then : (begun now : Bool) (xs ys : List (List ℕ)) {last : Bool} → now ≡ begun_after begun xs → last ≡ begun_after now ys → last ≡ begun_after begun (xs ++ ys)
-begun_then begun now xs ys h e = e ∙ (ap (λ (z : Bool). begun_after z ys) h ∙ sym (begun_after-append begun xs ys))
+begun_then begun now xs ys h e = e ∙ (ap (λ (z : Bool). begun_after z ys) h ∙ sym (begun_after_append begun xs ys))
 
 -- ---- loops over a list
 
@@ -61,10 +61,10 @@ list_step opening f xs i d old o1 o2 b x h e g k l =
     let done = map f (take i xs) in
     let one : o2 ≡ o1 ++ (separator opening (begun_after false done) ++ f (get_or xs i d)) = l ∙ (ap (λ (z : Bool). o1 ++ (separator opening z ++ x)) g ∙ ap (λ (z : List ℕ). o1 ++ (separator opening (begun_after false done) ++ z)) k) in
     behind old (going_on opening false done) (separator opening (begun_after false done) ++ f (get_or xs i d)) e one
-    ∙ ap (λ (z : List ℕ). old ++ z) (sym (going_on-push opening false done (f (get_or xs i d))) ∙ ap (going_on opening false) (sym (map_more f xs i d h)))
+    ∙ ap (λ (z : List ℕ). old ++ z) (sym (going_on_push opening false done (f (get_or xs i d))) ∙ ap (going_on opening false) (sym (map_more f xs i d h)))
 
 pub begun_step : {X : Type 0} (f : X → List ℕ) (xs : List X) (i : ℕ) (d : X) → i < length xs → true ≡ begun_after false (map f (take (i + 1) xs))
-begun_step f xs i d h = sym (ap (begun_after false) (map_more f xs i d h) ∙ begun_after-push false (map f (take i xs)) (f (get_or xs i d)))
+begun_step f xs i d h = sym (ap (begun_after false) (map_more f xs i d h) ∙ begun_after_push false (map f (take i xs)) (f (get_or xs i d)))
 
 -- the items of one element more have been written
 flat_more : {X : Type 0} (f : X → List (List ℕ)) (xs : List X) (i : ℕ) (d : X) → i < length xs → flat_map f (take (i + 1) xs) ≡ flat_map f (take i xs) ++ f (get_or xs i d)

@@ -1,6 +1,6 @@
 -- The parameters of rules and anchors. (pf.conf(5), PARAMETERS; their order and form are own)
 use Rattle.std.specs.Prelude.{ℕ, Bool, true, false, if◌then◌else◌, ◌==◌, ◌&&◌, List, [], ◌++◌, Option, Some, None, codes, decimal}
-use Rattle.pfs_addr_values.specs.declared.flag_sets.Flags.{Flags}
+use Rattle.pfs_addr_values.specs.FlagSets.{letters_text}
 use Rattle.pfs_addr_values.specs.declared.packets.Dir.{Dir}
 use Rattle.pfs_addr_values.specs.declared.packets.Dir.TheVariants as dir
 use Rattle.pfs_addr_values.specs.declared.protocols.Proto.{Proto}
@@ -85,17 +85,6 @@ hosts_text tables from to =
     else codes " from " ++ (side_text tables from ++ (codes " to " ++ side_text tables to))
 
 -- ---- flags
-
-abbrev pub letter_text : Bool → List ℕ → List ℕ
-letter_text true letter = letter
-letter_text false letter = []
-
--- the letters of flags, in the order FSRPAUEW
-abbrev pub letters_text : Flags → List ℕ
-letters_text f =
-    letter_text f.fin (codes "F") ++ (letter_text f.syn (codes "S") ++ (letter_text f.rst (codes "R")
-    ++ (letter_text f.psh (codes "P") ++ (letter_text f.ack (codes "A") ++ (letter_text f.urg (codes "U")
-    ++ (letter_text f.ece (codes "E") ++ letter_text f.cwr (codes "W")))))))
 
 -- `flags any`, or `flags a/b`
 abbrev pub flags_text : FlagTest → List ℕ

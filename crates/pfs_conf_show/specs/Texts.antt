@@ -9,8 +9,8 @@ use Rattle.pfs_conf_values.specs.declared.actions.Action.TheVariants as action
 use Rattle.pfs_conf_values.specs.declared.items.Anchor.{Anchor}
 use Rattle.pfs_conf_values.specs.declared.items.Item.{Item}
 use Rattle.pfs_conf_values.specs.declared.items.Rule.{Rule}
-use Rattle.pfs_conf_values.specs.declared.items.What.{What}
-use Rattle.pfs_conf_values.specs.declared.items.What.TheVariants as what
+use Rattle.pfs_conf_values.specs.declared.items.ItemKind.{ItemKind}
+use Rattle.pfs_conf_values.specs.declared.items.ItemKind.TheVariants as what
 use Rattle.pfs_conf_values.specs.declared.tables.TableDef.{TableDef}
 use Rattle.pfs_conf_show.specs.Filters.{parameters_text}
 use Rattle.pfs_conf_show.specs.Options.{state_text}
@@ -34,7 +34,7 @@ name_text (Some name) = codes " \"" ++ (name ++ codes "\"")
 abbrev pub anchor_text : List TableDef → Anchor → List ℕ
 anchor_text tables a = codes "anchor" ++ (name_text a.name ++ (parameters_text tables a.quick a.filter ++ codes " {\n"))
 
-abbrev pub what_text : List TableDef → What → List ℕ
+abbrev pub what_text : List TableDef → ItemKind → List ℕ
 what_text tables (what.Rule r) = rule_text tables r
 what_text tables (what.Anchor a) = anchor_text tables a
 

@@ -1,11 +1,12 @@
-// The parameters of rules and anchors.
+//! The parameters of rules and anchors.
 
 ghost use Rattle.std.specs.Prelude.{◌≡◌, ◌++◌, OnOk};
-ghost use Rattle.pfs_conf_show.specs.Filters.{dir_text, family_text, flags_text, host_text, hosts_text, is_every_side, letter_text, letters_text, on_text, parameters_text, ports_text, proto_text, quick_text, range_text, side_text};
+ghost use Rattle.pfs_conf_show.specs.Filters.{dir_text, family_text, flags_text, host_text, hosts_text, is_every_side, on_text, parameters_text, ports_text, proto_text, quick_text, range_text, side_text};
 
 use crate::pieces::{push_not, push_number, push_prefix};
 use crate::tables::push_table_ref;
-use pfs_addr_values::{Dir, Flags, NoMemory, Proto};
+use pfs_addr::push_flags;
+use pfs_addr_values::{Dir, NoMemory, Proto};
 use pfs_conf_values::{Config, Family, Filter, FlagTest, Host, Interface, Ports, Side, TableNo};
 
 pub fn push_parameters(
@@ -22,7 +23,7 @@ pub fn push_parameters(
     push_family(out, filter.family)?;
     push_proto(out, filter.proto)?;
     push_hosts(out, config, &filter.from, &filter.to)?;
-    push_flags(out, filter.flags)
+    push_flag_test(out, filter.flags)
 }
 
 fn push_dir(out: &mut Vec<u8>, dir: Option<Dir>) -> Result<(), NoMemory>
@@ -154,7 +155,7 @@ fn push_range_end(out: &mut Vec<u8>, ports: Ports) -> Result<(), NoMemory>
     Ok(())
 }
 
-fn push_flags(out: &mut Vec<u8>, flags: FlagTest) -> Result<(), NoMemory>
+fn push_flag_test(out: &mut Vec<u8>, flags: FlagTest) -> Result<(), NoMemory>
     ensures { OnOk result (out.new.items ≡ out.old.items ++ flags_text flags) }
 {
     match flags {
@@ -164,31 +165,9 @@ fn push_flags(out: &mut Vec<u8>, flags: FlagTest) -> Result<(), NoMemory>
         }
         FlagTest::Exactly { set, among } => {
             out.extend_from_slice(b" flags ")?;
-            push_letters(out, set)?;
+            push_flags(out, set)?;
             out.extend_from_slice(b"/")?;
-            push_letters(out, among)
+            push_flags(out, among)
         }
     }
-}
-
-fn push_letters(out: &mut Vec<u8>, flags: Flags) -> Result<(), NoMemory>
-    ensures { OnOk result (out.new.items ≡ out.old.items ++ letters_text flags) }
-{
-    push_letter(out, flags.fin, b"F")?;
-    push_letter(out, flags.syn, b"S")?;
-    push_letter(out, flags.rst, b"R")?;
-    push_letter(out, flags.psh, b"P")?;
-    push_letter(out, flags.ack, b"A")?;
-    push_letter(out, flags.urg, b"U")?;
-    push_letter(out, flags.ece, b"E")?;
-    push_letter(out, flags.cwr, b"W")
-}
-
-fn push_letter(out: &mut Vec<u8>, is_set: bool, letter: &[u8]) -> Result<(), NoMemory>
-    ensures { OnOk result (out.new.items ≡ out.old.items ++ letter_text is_set letter.now) }
-{
-    if is_set {
-        out.extend_from_slice(letter)?;
-    }
-    Ok(())
 }

@@ -1,4 +1,4 @@
-// The lines of rules and anchors, and the whole text.
+//! The lines of rules and anchors, and the whole text.
 
 ghost use Rattle.std.specs.Prelude.{◌≡◌, ◌≤◌, ◌-◌, ◌++◌, IfOk, OnOk};
 ghost use Rattle.pfs_conf_values.specs.Order.{next_depth};
@@ -9,7 +9,7 @@ use crate::options::push_state;
 use crate::settings::{push_limits, push_timeouts};
 use crate::tables::push_tables;
 use pfs_addr_values::NoMemory;
-use pfs_conf_values::{Action, Anchor, AnchorName, Config, Item, Rule, What};
+use pfs_conf_values::{Action, Anchor, AnchorName, Config, Item, ItemKind, Rule};
 use std::alloc::Global;
 
 /// The canonical text of a configuration: `set limit` with all limits, `set timeout` with all timeouts as resolved, a line
@@ -53,8 +53,8 @@ fn push_item(out: &mut Vec<u8>, config: &Config, depth: u8, item: &Item) -> Resu
     push_braces(out, depth.saturating_sub(item.depth))?;
     push_what(out, config, &item.what)?;
     match item.what {
-        What::Rule(_) => Ok(item.depth),
-        What::Anchor(_) => Ok(item.depth + 1),
+        ItemKind::Rule(_) => Ok(item.depth),
+        ItemKind::Anchor(_) => Ok(item.depth + 1),
     }
 }
 
@@ -67,12 +67,12 @@ fn push_braces(out: &mut Vec<u8>, count: u8) -> Result<(), NoMemory>
     Ok(())
 }
 
-fn push_what(out: &mut Vec<u8>, config: &Config, what: &What) -> Result<(), NoMemory>
+fn push_what(out: &mut Vec<u8>, config: &Config, what: &ItemKind) -> Result<(), NoMemory>
     ensures { OnOk result (out.new.items ≡ out.old.items ++ what_text config.now.tables what.now) }
 {
     match what {
-        What::Rule(rule) => push_rule(out, config, rule),
-        What::Anchor(anchor) => push_anchor(out, config, anchor),
+        ItemKind::Rule(rule) => push_rule(out, config, rule),
+        ItemKind::Anchor(anchor) => push_anchor(out, config, anchor),
     }
 }
 

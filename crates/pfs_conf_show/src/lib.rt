@@ -1,4 +1,4 @@
-// The canonical text of a configuration: one text for each, that reads as the same configuration again.
+//! The canonical text of a configuration: one text for each, that reads as the same configuration again.
 #![tactic(auto)]
 
 mod filters;

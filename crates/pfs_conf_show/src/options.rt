@@ -1,4 +1,4 @@
-// The state clauses of rules.
+//! The state clauses of rules.
 
 ghost use Rattle.std.specs.Prelude.{◌≡◌, ◌++◌, IfOk, OnOk, codes, decimal};
 ghost use Rattle.std.specs.List.{flat_map};

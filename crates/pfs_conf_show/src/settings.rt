@@ -1,4 +1,4 @@
-// The lines of `set limit` and `set timeout`.
+//! The lines of `set limit` and `set timeout`.
 
 ghost use Rattle.std.specs.Prelude.{◌≡◌, ◌++◌, OnOk, codes, false, map};
 ghost use Rattle.pfs_conf_values.specs.Timeouts.{timeout_names};
@@ -29,7 +29,7 @@ pub const TIMEOUT_NAMES: [TimeoutName; 16] = [
     TimeoutName::AdaptiveEnd,
 ];
 
-// The word of a timeout.
+/// The word of a timeout.
 pub fn timeout_word(name: TimeoutName) -> &'static [u8]
     ensures { result.now ≡ timeout_word name }
 {

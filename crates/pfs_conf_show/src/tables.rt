@@ -1,4 +1,4 @@
-// The lines of tables.
+//! The lines of tables.
 
 ghost use Rattle.std.specs.Prelude.{◌≡◌, ◌++◌, IfOk, OnOk, codes, false, map};
 ghost use Rattle.std.specs.List.{flat_map};
@@ -33,7 +33,7 @@ fn push_table(out: &mut Vec<u8>, table: &TableDef) -> Result<(), NoMemory>
     Ok(())
 }
 
-// A table by its name, where its number is known.
+/// A table by its name, where its number is known.
 pub fn push_table_ref(out: &mut Vec<u8>, config: &Config, table: TableNo) -> Result<(), NoMemory>
     ensures { OnOk result (out.new.items ≡ out.old.items ++ table_ref config.now.tables table) }
 {

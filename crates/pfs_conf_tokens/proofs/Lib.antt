@@ -3,5 +3,6 @@ pub mod LineLaws
 pub mod NumberLaws
 pub mod Laws
 pub mod ReaderLaws
+pub mod ValueLaws
 pub mod ShownLaws
 pub mod WordKeys

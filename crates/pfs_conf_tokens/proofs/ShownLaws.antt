@@ -102,9 +102,9 @@ word_then busy line [] more h e = absurd cc
 word_then busy line (b ∷ w) more h e = let p = and_parts (is_word_byte b) (list_all is_word_byte w) h in word_from busy line b w more p.0 p.1 e
 
 -- two words' bytes in a row are a word's
-pub word_text-append : (v w : List ℕ) → is_word_text v ≡ true → is_word_text w ≡ true → is_word_text (v ++ w) ≡ true
-word_text-append [] w h g = absurd cc
-word_text-append (b ∷ v) w h g =
+pub word_text_append : (v w : List ℕ) → is_word_text v ≡ true → is_word_text w ≡ true → is_word_text (v ++ w) ≡ true
+word_text_append [] w h g = absurd cc
+word_text_append (b ∷ v) w h g =
     let p = and_parts (is_word_byte b) (list_all is_word_byte v) h in
     and_from (is_word_byte b) (list_all is_word_byte (v ++ w)) p.0 (list_all-append is_word_byte v w ∙ and_from (list_all is_word_byte v) (list_all is_word_byte w) p.1 (word_text_all w g))
   where
@@ -154,8 +154,8 @@ pub decimal_text : (n : ℕ) → n < 2 ^ 64 → is_word_text (decimal n) ≡ tru
 decimal_text n lt = digits_text (decimal n) (digits_decimal own n lt) (decimal_nonempty n lt)
 
 -- a word that begins with a written number has the key of numbers
-pub key_of-decimal : (n : ℕ) (more : List ℕ) → n < 2 ^ 64 → key_of_text (decimal n ++ more) ≡ key.Number
-key_of-decimal n more lt = digits_key (decimal n) more (digits_decimal own n lt) (decimal_nonempty n lt)
+pub key_of_decimal : (n : ℕ) (more : List ℕ) → n < 2 ^ 64 → key_of_text (decimal n ++ more) ≡ key.Number
+key_of_decimal n more lt = digits_key (decimal n) more (digits_decimal own n lt) (decimal_nonempty n lt)
 
 -- what is written of a number is read as it
 pub number_of-decimal : (n : ℕ) → n < 10 ^ 10 → number_written (decimal n) ≡ Some n
@@ -171,7 +171,7 @@ number_of-decimal n lt =
 pub number_then : (busy : Bool) (line n : ℕ) (more : List ℕ) → n < 2 ^ 64 → breaks more ≡ true
     → tokens 0 busy line (decimal n ++ more) ≡ token line key.Number (decimal n) ∷ tokens 0 true line more
 number_then busy line n more lt e =
-    let k : key_of_text (decimal n) ≡ key.Number = ap key_of_text (sym (append-nil (decimal n))) ∙ key_of-decimal n [] lt in
+    let k : key_of_text (decimal n) ≡ key.Number = ap key_of_text (sym (append-nil (decimal n))) ∙ key_of_decimal n [] lt in
     word_then busy line (decimal n) more (decimal_text n lt) e ∙ ap (λ (z : Key). token line z (decimal n) ∷ tokens 0 true line more) k
 
 -- ---- the parts of a word
@@ -184,9 +184,9 @@ prefix_before byte (b ∷ front) behind e =
     cond-true (not (b == byte)) _ _ p.0 ∙ omega (arith, h)
 
 -- two parts with the byte between them that stands not in the first are split there
-pub split_around-append : (byte : ℕ) (front behind : List ℕ) → list_all (λ b. not (b == byte)) front ≡ true → split_around byte (front ++ byte ∷ behind) ≡ Some (front, behind)
+pub split_around_append : (byte : ℕ) (front behind : List ℕ) → list_all (λ b. not (b == byte)) front ≡ true → split_around byte (front ++ byte ∷ behind) ≡ Some (front, behind)
 unfolding split_around
-split_around-append byte front behind e =
+split_around_append byte front behind e =
     let text = front ++ byte ∷ behind in
     let at : prefix_len (λ b. not (b == byte)) text ≡ length front = prefix_before byte front behind e in
     let long : length text ≡ length front + suc (length behind) = length-append front (byte ∷ behind) in

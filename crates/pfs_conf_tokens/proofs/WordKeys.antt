@@ -7,346 +7,346 @@ use Rattle.std.specs.Prelude.{codes}
 use Rattle.pfs_conf_tokens.specs.declared.keys.Key.TheVariants as key
 use Rattle.pfs_conf_tokens.specs.Words.{key_of_text}
 
-pub key_of-Set : key_of_text (codes "set") ≡ key.Set
+pub key_of_Set : key_of_text (codes "set") ≡ key.Set
 unfolding key_of_text
-key_of-Set = refl
+key_of_Set = refl
 
-pub key_of-Limit : key_of_text (codes "limit") ≡ key.Limit
+pub key_of_Limit : key_of_text (codes "limit") ≡ key.Limit
 unfolding key_of_text
-key_of-Limit = refl
+key_of_Limit = refl
 
-pub key_of-Timeout : key_of_text (codes "timeout") ≡ key.Timeout
+pub key_of_Timeout : key_of_text (codes "timeout") ≡ key.Timeout
 unfolding key_of_text
-key_of-Timeout = refl
+key_of_Timeout = refl
 
-pub key_of-States : key_of_text (codes "states") ≡ key.States
+pub key_of_States : key_of_text (codes "states") ≡ key.States
 unfolding key_of_text
-key_of-States = refl
+key_of_States = refl
 
-pub key_of-SrcNodes : key_of_text (codes "src-nodes") ≡ key.SrcNodes
+pub key_of_SrcNodes : key_of_text (codes "src-nodes") ≡ key.SrcNodes
 unfolding key_of_text
-key_of-SrcNodes = refl
+key_of_SrcNodes = refl
 
-pub key_of-Tables : key_of_text (codes "tables") ≡ key.Tables
+pub key_of_Tables : key_of_text (codes "tables") ≡ key.Tables
 unfolding key_of_text
-key_of-Tables = refl
+key_of_Tables = refl
 
-pub key_of-TableEntries : key_of_text (codes "table-entries") ≡ key.TableEntries
+pub key_of_TableEntries : key_of_text (codes "table-entries") ≡ key.TableEntries
 unfolding key_of_text
-key_of-TableEntries = refl
+key_of_TableEntries = refl
 
-pub key_of-Frags : key_of_text (codes "frags") ≡ key.Frags
+pub key_of_Frags : key_of_text (codes "frags") ≡ key.Frags
 unfolding key_of_text
-key_of-Frags = refl
+key_of_Frags = refl
 
-pub key_of-Table : key_of_text (codes "table") ≡ key.Table
+pub key_of_Table : key_of_text (codes "table") ≡ key.Table
 unfolding key_of_text
-key_of-Table = refl
+key_of_Table = refl
 
-pub key_of-Persist : key_of_text (codes "persist") ≡ key.Persist
+pub key_of_Persist : key_of_text (codes "persist") ≡ key.Persist
 unfolding key_of_text
-key_of-Persist = refl
+key_of_Persist = refl
 
-pub key_of-Const : key_of_text (codes "const") ≡ key.Const
+pub key_of_Const : key_of_text (codes "const") ≡ key.Const
 unfolding key_of_text
-key_of-Const = refl
+key_of_Const = refl
 
-pub key_of-Counters : key_of_text (codes "counters") ≡ key.Counters
+pub key_of_Counters : key_of_text (codes "counters") ≡ key.Counters
 unfolding key_of_text
-key_of-Counters = refl
+key_of_Counters = refl
 
-pub key_of-Pass : key_of_text (codes "pass") ≡ key.Pass
+pub key_of_Pass : key_of_text (codes "pass") ≡ key.Pass
 unfolding key_of_text
-key_of-Pass = refl
+key_of_Pass = refl
 
-pub key_of-Block : key_of_text (codes "block") ≡ key.Block
+pub key_of_Block : key_of_text (codes "block") ≡ key.Block
 unfolding key_of_text
-key_of-Block = refl
+key_of_Block = refl
 
-pub key_of-Drop : key_of_text (codes "drop") ≡ key.Drop
+pub key_of_Drop : key_of_text (codes "drop") ≡ key.Drop
 unfolding key_of_text
-key_of-Drop = refl
+key_of_Drop = refl
 
-pub key_of-Return : key_of_text (codes "return") ≡ key.Return
+pub key_of_Return : key_of_text (codes "return") ≡ key.Return
 unfolding key_of_text
-key_of-Return = refl
+key_of_Return = refl
 
-pub key_of-ReturnRst : key_of_text (codes "return-rst") ≡ key.ReturnRst
+pub key_of_ReturnRst : key_of_text (codes "return-rst") ≡ key.ReturnRst
 unfolding key_of_text
-key_of-ReturnRst = refl
+key_of_ReturnRst = refl
 
-pub key_of-ReturnIcmp : key_of_text (codes "return-icmp") ≡ key.ReturnIcmp
+pub key_of_ReturnIcmp : key_of_text (codes "return-icmp") ≡ key.ReturnIcmp
 unfolding key_of_text
-key_of-ReturnIcmp = refl
+key_of_ReturnIcmp = refl
 
-pub key_of-ReturnIcmp6 : key_of_text (codes "return-icmp6") ≡ key.ReturnIcmp6
+pub key_of_ReturnIcmp6 : key_of_text (codes "return-icmp6") ≡ key.ReturnIcmp6
 unfolding key_of_text
-key_of-ReturnIcmp6 = refl
+key_of_ReturnIcmp6 = refl
 
-pub key_of-In : key_of_text (codes "in") ≡ key.In
+pub key_of_In : key_of_text (codes "in") ≡ key.In
 unfolding key_of_text
-key_of-In = refl
+key_of_In = refl
 
-pub key_of-Out : key_of_text (codes "out") ≡ key.Out
+pub key_of_Out : key_of_text (codes "out") ≡ key.Out
 unfolding key_of_text
-key_of-Out = refl
+key_of_Out = refl
 
-pub key_of-Anchor : key_of_text (codes "anchor") ≡ key.Anchor
+pub key_of_Anchor : key_of_text (codes "anchor") ≡ key.Anchor
 unfolding key_of_text
-key_of-Anchor = refl
+key_of_Anchor = refl
 
-pub key_of-Inet6 : key_of_text (codes "inet6") ≡ key.Inet6
+pub key_of_Inet6 : key_of_text (codes "inet6") ≡ key.Inet6
 unfolding key_of_text
-key_of-Inet6 = refl
+key_of_Inet6 = refl
 
-pub key_of-Log : key_of_text (codes "log") ≡ key.Log
+pub key_of_Log : key_of_text (codes "log") ≡ key.Log
 unfolding key_of_text
-key_of-Log = refl
+key_of_Log = refl
 
-pub key_of-All : key_of_text (codes "all") ≡ key.All
+pub key_of_All : key_of_text (codes "all") ≡ key.All
 unfolding key_of_text
-key_of-All = refl
+key_of_All = refl
 
-pub key_of-Matches : key_of_text (codes "matches") ≡ key.Matches
+pub key_of_Matches : key_of_text (codes "matches") ≡ key.Matches
 unfolding key_of_text
-key_of-Matches = refl
+key_of_Matches = refl
 
-pub key_of-User : key_of_text (codes "user") ≡ key.User
+pub key_of_User : key_of_text (codes "user") ≡ key.User
 unfolding key_of_text
-key_of-User = refl
+key_of_User = refl
 
-pub key_of-To : key_of_text (codes "to") ≡ key.To
+pub key_of_To : key_of_text (codes "to") ≡ key.To
 unfolding key_of_text
-key_of-To = refl
+key_of_To = refl
 
-pub key_of-Quick : key_of_text (codes "quick") ≡ key.Quick
+pub key_of_Quick : key_of_text (codes "quick") ≡ key.Quick
 unfolding key_of_text
-key_of-Quick = refl
+key_of_Quick = refl
 
-pub key_of-On : key_of_text (codes "on") ≡ key.On
+pub key_of_On : key_of_text (codes "on") ≡ key.On
 unfolding key_of_text
-key_of-On = refl
+key_of_On = refl
 
-pub key_of-Inet : key_of_text (codes "inet") ≡ key.Inet
+pub key_of_Inet : key_of_text (codes "inet") ≡ key.Inet
 unfolding key_of_text
-key_of-Inet = refl
+key_of_Inet = refl
 
-pub key_of-Proto : key_of_text (codes "proto") ≡ key.Proto
+pub key_of_Proto : key_of_text (codes "proto") ≡ key.Proto
 unfolding key_of_text
-key_of-Proto = refl
+key_of_Proto = refl
 
-pub key_of-From : key_of_text (codes "from") ≡ key.From
+pub key_of_From : key_of_text (codes "from") ≡ key.From
 unfolding key_of_text
-key_of-From = refl
+key_of_From = refl
 
-pub key_of-Port : key_of_text (codes "port") ≡ key.Port
+pub key_of_Port : key_of_text (codes "port") ≡ key.Port
 unfolding key_of_text
-key_of-Port = refl
+key_of_Port = refl
 
-pub key_of-Any : key_of_text (codes "any") ≡ key.Any
+pub key_of_Any : key_of_text (codes "any") ≡ key.Any
 unfolding key_of_text
-key_of-Any = refl
+key_of_Any = refl
 
-pub key_of-Flags : key_of_text (codes "flags") ≡ key.Flags
+pub key_of_Flags : key_of_text (codes "flags") ≡ key.Flags
 unfolding key_of_text
-key_of-Flags = refl
+key_of_Flags = refl
 
-pub key_of-No : key_of_text (codes "no") ≡ key.No
+pub key_of_No : key_of_text (codes "no") ≡ key.No
 unfolding key_of_text
-key_of-No = refl
+key_of_No = refl
 
-pub key_of-State : key_of_text (codes "state") ≡ key.State
+pub key_of_State : key_of_text (codes "state") ≡ key.State
 unfolding key_of_text
-key_of-State = refl
+key_of_State = refl
 
-pub key_of-Keep : key_of_text (codes "keep") ≡ key.Keep
+pub key_of_Keep : key_of_text (codes "keep") ≡ key.Keep
 unfolding key_of_text
-key_of-Keep = refl
+key_of_Keep = refl
 
-pub key_of-Max : key_of_text (codes "max") ≡ key.Max
+pub key_of_Max : key_of_text (codes "max") ≡ key.Max
 unfolding key_of_text
-key_of-Max = refl
+key_of_Max = refl
 
-pub key_of-SourceTrack : key_of_text (codes "source-track") ≡ key.SourceTrack
+pub key_of_SourceTrack : key_of_text (codes "source-track") ≡ key.SourceTrack
 unfolding key_of_text
-key_of-SourceTrack = refl
+key_of_SourceTrack = refl
 
-pub key_of-Rule : key_of_text (codes "rule") ≡ key.Rule
+pub key_of_Rule : key_of_text (codes "rule") ≡ key.Rule
 unfolding key_of_text
-key_of-Rule = refl
+key_of_Rule = refl
 
-pub key_of-Global : key_of_text (codes "global") ≡ key.Global
+pub key_of_Global : key_of_text (codes "global") ≡ key.Global
 unfolding key_of_text
-key_of-Global = refl
+key_of_Global = refl
 
-pub key_of-MaxSrcNodes : key_of_text (codes "max-src-nodes") ≡ key.MaxSrcNodes
+pub key_of_MaxSrcNodes : key_of_text (codes "max-src-nodes") ≡ key.MaxSrcNodes
 unfolding key_of_text
-key_of-MaxSrcNodes = refl
+key_of_MaxSrcNodes = refl
 
-pub key_of-MaxSrcStates : key_of_text (codes "max-src-states") ≡ key.MaxSrcStates
+pub key_of_MaxSrcStates : key_of_text (codes "max-src-states") ≡ key.MaxSrcStates
 unfolding key_of_text
-key_of-MaxSrcStates = refl
+key_of_MaxSrcStates = refl
 
-pub key_of-MaxSrcConn : key_of_text (codes "max-src-conn") ≡ key.MaxSrcConn
+pub key_of_MaxSrcConn : key_of_text (codes "max-src-conn") ≡ key.MaxSrcConn
 unfolding key_of_text
-key_of-MaxSrcConn = refl
+key_of_MaxSrcConn = refl
 
-pub key_of-MaxSrcConnRate : key_of_text (codes "max-src-conn-rate") ≡ key.MaxSrcConnRate
+pub key_of_MaxSrcConnRate : key_of_text (codes "max-src-conn-rate") ≡ key.MaxSrcConnRate
 unfolding key_of_text
-key_of-MaxSrcConnRate = refl
+key_of_MaxSrcConnRate = refl
 
-pub key_of-Overload : key_of_text (codes "overload") ≡ key.Overload
+pub key_of_Overload : key_of_text (codes "overload") ≡ key.Overload
 unfolding key_of_text
-key_of-Overload = refl
+key_of_Overload = refl
 
-pub key_of-Flush : key_of_text (codes "flush") ≡ key.Flush
+pub key_of_Flush : key_of_text (codes "flush") ≡ key.Flush
 unfolding key_of_text
-key_of-Flush = refl
+key_of_Flush = refl
 
-pub key_of-Sloppy : key_of_text (codes "sloppy") ≡ key.Sloppy
+pub key_of_Sloppy : key_of_text (codes "sloppy") ≡ key.Sloppy
 unfolding key_of_text
-key_of-Sloppy = refl
+key_of_Sloppy = refl
 
-pub key_of-Floating : key_of_text (codes "floating") ≡ key.Floating
+pub key_of_Floating : key_of_text (codes "floating") ≡ key.Floating
 unfolding key_of_text
-key_of-Floating = refl
+key_of_Floating = refl
 
-pub key_of-NoSync : key_of_text (codes "no-sync") ≡ key.NoSync
+pub key_of_NoSync : key_of_text (codes "no-sync") ≡ key.NoSync
 unfolding key_of_text
-key_of-NoSync = refl
+key_of_NoSync = refl
 
-pub key_of-Frag : key_of_text (codes "frag") ≡ key.Frag
+pub key_of_Frag : key_of_text (codes "frag") ≡ key.Frag
 unfolding key_of_text
-key_of-Frag = refl
+key_of_Frag = refl
 
-pub key_of-TcpTsdiff : key_of_text (codes "tcp.tsdiff") ≡ key.TcpTsdiff
+pub key_of_TcpTsdiff : key_of_text (codes "tcp.tsdiff") ≡ key.TcpTsdiff
 unfolding key_of_text
-key_of-TcpTsdiff = refl
+key_of_TcpTsdiff = refl
 
-pub key_of-IcmpFirst : key_of_text (codes "icmp.first") ≡ key.IcmpFirst
+pub key_of_IcmpFirst : key_of_text (codes "icmp.first") ≡ key.IcmpFirst
 unfolding key_of_text
-key_of-IcmpFirst = refl
+key_of_IcmpFirst = refl
 
-pub key_of-IcmpError : key_of_text (codes "icmp.error") ≡ key.IcmpError
+pub key_of_IcmpError : key_of_text (codes "icmp.error") ≡ key.IcmpError
 unfolding key_of_text
-key_of-IcmpError = refl
+key_of_IcmpError = refl
 
-pub key_of-TcpFirst : key_of_text (codes "tcp.first") ≡ key.TcpFirst
+pub key_of_TcpFirst : key_of_text (codes "tcp.first") ≡ key.TcpFirst
 unfolding key_of_text
-key_of-TcpFirst = refl
+key_of_TcpFirst = refl
 
-pub key_of-TcpOpening : key_of_text (codes "tcp.opening") ≡ key.TcpOpening
+pub key_of_TcpOpening : key_of_text (codes "tcp.opening") ≡ key.TcpOpening
 unfolding key_of_text
-key_of-TcpOpening = refl
+key_of_TcpOpening = refl
 
-pub key_of-TcpEstablished : key_of_text (codes "tcp.established") ≡ key.TcpEstablished
+pub key_of_TcpEstablished : key_of_text (codes "tcp.established") ≡ key.TcpEstablished
 unfolding key_of_text
-key_of-TcpEstablished = refl
+key_of_TcpEstablished = refl
 
-pub key_of-TcpClosing : key_of_text (codes "tcp.closing") ≡ key.TcpClosing
+pub key_of_TcpClosing : key_of_text (codes "tcp.closing") ≡ key.TcpClosing
 unfolding key_of_text
-key_of-TcpClosing = refl
+key_of_TcpClosing = refl
 
-pub key_of-TcpFinwait : key_of_text (codes "tcp.finwait") ≡ key.TcpFinwait
+pub key_of_TcpFinwait : key_of_text (codes "tcp.finwait") ≡ key.TcpFinwait
 unfolding key_of_text
-key_of-TcpFinwait = refl
+key_of_TcpFinwait = refl
 
-pub key_of-TcpClosed : key_of_text (codes "tcp.closed") ≡ key.TcpClosed
+pub key_of_TcpClosed : key_of_text (codes "tcp.closed") ≡ key.TcpClosed
 unfolding key_of_text
-key_of-TcpClosed = refl
+key_of_TcpClosed = refl
 
-pub key_of-UdpFirst : key_of_text (codes "udp.first") ≡ key.UdpFirst
+pub key_of_UdpFirst : key_of_text (codes "udp.first") ≡ key.UdpFirst
 unfolding key_of_text
-key_of-UdpFirst = refl
+key_of_UdpFirst = refl
 
-pub key_of-UdpSingle : key_of_text (codes "udp.single") ≡ key.UdpSingle
+pub key_of_UdpSingle : key_of_text (codes "udp.single") ≡ key.UdpSingle
 unfolding key_of_text
-key_of-UdpSingle = refl
+key_of_UdpSingle = refl
 
-pub key_of-UdpMultiple : key_of_text (codes "udp.multiple") ≡ key.UdpMultiple
+pub key_of_UdpMultiple : key_of_text (codes "udp.multiple") ≡ key.UdpMultiple
 unfolding key_of_text
-key_of-UdpMultiple = refl
+key_of_UdpMultiple = refl
 
-pub key_of-OtherFirst : key_of_text (codes "other.first") ≡ key.OtherFirst
+pub key_of_OtherFirst : key_of_text (codes "other.first") ≡ key.OtherFirst
 unfolding key_of_text
-key_of-OtherFirst = refl
+key_of_OtherFirst = refl
 
-pub key_of-OtherSingle : key_of_text (codes "other.single") ≡ key.OtherSingle
+pub key_of_OtherSingle : key_of_text (codes "other.single") ≡ key.OtherSingle
 unfolding key_of_text
-key_of-OtherSingle = refl
+key_of_OtherSingle = refl
 
-pub key_of-OtherMultiple : key_of_text (codes "other.multiple") ≡ key.OtherMultiple
+pub key_of_OtherMultiple : key_of_text (codes "other.multiple") ≡ key.OtherMultiple
 unfolding key_of_text
-key_of-OtherMultiple = refl
+key_of_OtherMultiple = refl
 
-pub key_of-SrcTrack : key_of_text (codes "src.track") ≡ key.SrcTrack
+pub key_of_SrcTrack : key_of_text (codes "src.track") ≡ key.SrcTrack
 unfolding key_of_text
-key_of-SrcTrack = refl
+key_of_SrcTrack = refl
 
-pub key_of-Interval : key_of_text (codes "interval") ≡ key.Interval
+pub key_of_Interval : key_of_text (codes "interval") ≡ key.Interval
 unfolding key_of_text
-key_of-Interval = refl
+key_of_Interval = refl
 
-pub key_of-AdaptiveStart : key_of_text (codes "adaptive.start") ≡ key.AdaptiveStart
+pub key_of_AdaptiveStart : key_of_text (codes "adaptive.start") ≡ key.AdaptiveStart
 unfolding key_of_text
-key_of-AdaptiveStart = refl
+key_of_AdaptiveStart = refl
 
-pub key_of-AdaptiveEnd : key_of_text (codes "adaptive.end") ≡ key.AdaptiveEnd
+pub key_of_AdaptiveEnd : key_of_text (codes "adaptive.end") ≡ key.AdaptiveEnd
 unfolding key_of_text
-key_of-AdaptiveEnd = refl
+key_of_AdaptiveEnd = refl
 
-pub key_of-Rdomain : key_of_text (codes "rdomain") ≡ key.Rdomain
+pub key_of_Rdomain : key_of_text (codes "rdomain") ≡ key.Rdomain
 unfolding key_of_text
-key_of-Rdomain = refl
+key_of_Rdomain = refl
 
-pub key_of-Tcp : key_of_text (codes "tcp") ≡ key.Tcp
+pub key_of_Tcp : key_of_text (codes "tcp") ≡ key.Tcp
 unfolding key_of_text
-key_of-Tcp = refl
+key_of_Tcp = refl
 
-pub key_of-Udp : key_of_text (codes "udp") ≡ key.Udp
+pub key_of_Udp : key_of_text (codes "udp") ≡ key.Udp
 unfolding key_of_text
-key_of-Udp = refl
+key_of_Udp = refl
 
-pub key_of-Icmp : key_of_text (codes "icmp") ≡ key.Icmp
+pub key_of_Icmp : key_of_text (codes "icmp") ≡ key.Icmp
 unfolding key_of_text
-key_of-Icmp = refl
+key_of_Icmp = refl
 
-pub key_of-Icmp6 : key_of_text (codes "icmp6") ≡ key.Icmp6
+pub key_of_Icmp6 : key_of_text (codes "icmp6") ≡ key.Icmp6
 unfolding key_of_text
-key_of-Icmp6 = refl
+key_of_Icmp6 = refl
 
-pub key_of-Esp : key_of_text (codes "esp") ≡ key.Esp
+pub key_of_Esp : key_of_text (codes "esp") ≡ key.Esp
 unfolding key_of_text
-key_of-Esp = refl
+key_of_Esp = refl
 
-pub key_of-Ah : key_of_text (codes "ah") ≡ key.Ah
+pub key_of_Ah : key_of_text (codes "ah") ≡ key.Ah
 unfolding key_of_text
-key_of-Ah = refl
+key_of_Ah = refl
 
-pub key_of-Gre : key_of_text (codes "gre") ≡ key.Gre
+pub key_of_Gre : key_of_text (codes "gre") ≡ key.Gre
 unfolding key_of_text
-key_of-Gre = refl
+key_of_Gre = refl
 
-pub key_of-Ssh : key_of_text (codes "ssh") ≡ key.Ssh
+pub key_of_Ssh : key_of_text (codes "ssh") ≡ key.Ssh
 unfolding key_of_text
-key_of-Ssh = refl
+key_of_Ssh = refl
 
-pub key_of-Smtp : key_of_text (codes "smtp") ≡ key.Smtp
+pub key_of_Smtp : key_of_text (codes "smtp") ≡ key.Smtp
 unfolding key_of_text
-key_of-Smtp = refl
+key_of_Smtp = refl
 
-pub key_of-Domain : key_of_text (codes "domain") ≡ key.Domain
+pub key_of_Domain : key_of_text (codes "domain") ≡ key.Domain
 unfolding key_of_text
-key_of-Domain = refl
+key_of_Domain = refl
 
-pub key_of-Www : key_of_text (codes "www") ≡ key.Www
+pub key_of_Www : key_of_text (codes "www") ≡ key.Www
 unfolding key_of_text
-key_of-Www = refl
+key_of_Www = refl
 
-pub key_of-Http : key_of_text (codes "http") ≡ key.Http
+pub key_of_Http : key_of_text (codes "http") ≡ key.Http
 unfolding key_of_text
-key_of-Http = refl
+key_of_Http = refl
 
-pub key_of-Https : key_of_text (codes "https") ≡ key.Https
+pub key_of_Https : key_of_text (codes "https") ≡ key.Https
 unfolding key_of_text
-key_of-Https = refl
+key_of_Https = refl

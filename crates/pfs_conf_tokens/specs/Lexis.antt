@@ -4,8 +4,13 @@ use Rattle.pfs_conf_tokens.specs.declared.keys.Key.{Key}
 use Rattle.pfs_conf_tokens.specs.declared.keys.Key.TheVariants as key
 use Rattle.pfs_conf_tokens.specs.declared.lexer.Run.{Run}
 use Rattle.pfs_conf_tokens.specs.declared.lexer.Run.TheVariants as run
+use Rattle.pfs_conf_tokens.specs.declared.lexer.TheConstants.{TEXT_LIMIT}
 use Rattle.pfs_conf_tokens.specs.Tokens.{Tok, token}
 use Rattle.pfs_conf_tokens.specs.Words.{key_of_text}
+
+-- a rules text has at most 1,048,576 bytes (own)
+abbrev pub text_limit : ℕ
+text_limit = TEXT_LIMIT
 
 -- space, tab and carriage return separate tokens
 abbrev pub is_space : ℕ → Bool

@@ -5,5 +5,6 @@ pub mod Lexis
 pub mod Scanning
 pub mod Numbers
 pub mod Reading
+pub mod Values
 pub mod Giving
 pub mod Grammar

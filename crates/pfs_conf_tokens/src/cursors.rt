@@ -1,4 +1,4 @@
-// A place in a rules text: the tokens from there on.
+//! A place in a rules text: the tokens from there on.
 
 ghost use Rattle.std.specs.Prelude.{◌≡◌, ◌<◌, ◌^◌, length, MatchBool, OnOk, IfErr};
 ghost use Rattle.pfs_conf_tokens.specs.Tokens.{head};

@@ -1,4 +1,4 @@
-// The kinds of token: a key for each word of the grammar and for each mark.
+//! The kinds of token: a key for each word of the grammar and for each mark.
 
 /// What a token of a rules text is. (pf.conf(5), GRAMMAR)
 ///

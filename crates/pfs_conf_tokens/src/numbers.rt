@@ -1,4 +1,4 @@
-// Numbers, and what stands between the parts of a statement.
+//! Numbers, and what stands between the parts of a statement.
 
 ghost use Rattle.std.specs.Prelude.{◌≡◌, ◌<◌, ◌==◌, length, position, IfSome, MatchOption, Some, None};
 ghost use Rattle.pfs_conf_tokens.specs.Numbers.{number_written, split_around};

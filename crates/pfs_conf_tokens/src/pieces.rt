@@ -1,4 +1,4 @@
-// A token of a rules text.
+//! A token of a rules text.
 
 ghost use Rattle.std.specs.Prelude.{◌≡◌};
 

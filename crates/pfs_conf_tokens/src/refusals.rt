@@ -1,4 +1,4 @@
-// Why a text is refused: what was wanted at the token where reading stops, or the load rule that a statement breaks.
+//! Why a text is refused: what was wanted at the token where reading stops, or the load rule that a statement breaks.
 
 use std::alloc::{AllocError, AllocFailed};
 

@@ -17,12 +17,12 @@ use Rattle.pfs_conf_values.specs.declared.actions.Scope.{Scope}
 use Rattle.pfs_conf_values.specs.declared.actions.Scope.TheVariants as scope
 use Rattle.pfs_conf_values.specs.declared.items.Item.{Item}
 use Rattle.pfs_conf_values.specs.declared.items.Rule.{Rule}
-use Rattle.pfs_conf_values.specs.declared.items.What.{What}
-use Rattle.pfs_conf_values.specs.declared.items.What.TheVariants as what
+use Rattle.pfs_conf_values.specs.declared.items.ItemKind.{ItemKind}
+use Rattle.pfs_conf_values.specs.declared.items.ItemKind.TheVariants as what
 
 -- of no timeouts none is given, at any place
-pub no_timeouts-None : (place : ℕ) → slice_index_or no_timeouts place None ≡ None
-no_timeouts-None place = by (cases_lt place 16)
+pub no_timeouts_None : (place : ℕ) → slice_index_or no_timeouts place None ≡ None
+no_timeouts_None place = by (cases_lt place 16)
   where
     by : ((place < 16) ⊎ (16 ≤ place)) → slice_index_or no_timeouts place None ≡ None
     by w = elim w as (λ u. slice_index_or no_timeouts place None ≡ None) [
@@ -31,8 +31,8 @@ no_timeouts-None place = by (cases_lt place 16)
     ]
 
 -- no options keep the load rules
-pub no_options-AreOptions : (tables : ℕ) → AreOptions tables no_options
-no_options-AreOptions tables = record {
+pub no_options_AreOptions : (tables : ℕ) → AreOptions tables no_options
+no_options_AreOptions tables = record {
   max = tt;
   max_src_nodes = tt;
   max_src_states = tt;
@@ -45,29 +45,29 @@ no_options-AreOptions tables = record {
   rule_retention = refl;
   adaptive = refl;
   no_interval = refl;
-  timeouts = λ place. subst (λ o. IfSome o (IsTimeout place)) (sym (no_timeouts-None place)) tt;
+  timeouts = λ place. subst (λ o. IfSome o (IsTimeout place)) (sym (no_timeouts_None place)) tt;
   size = refl;
 }
 
 -- an item of a configuration keeps the load rules
-pub item-IsItem : (conf : Conf) → IsConfig conf → (n : ℕ) (i : Item) → slice_get conf.items n ≡ Some i → IsItem (length conf.tables) i
-item-IsItem conf sound n i h =
+pub item_IsItem : (conf : Conf) → IsConfig conf → (n : ℕ) (i : Item) → slice_get conf.items n ≡ Some i → IsItem (length conf.tables) i
+item_IsItem conf sound n i h =
     let within = slice_get_within conf.items n i h in
     let at : get_or conf.items n i ≡ i = let some = sym (slice_get-get_or conf.items n i within) ∙ h in cc in
     subst (IsItem (length conf.tables)) at (sound.items n i within)
 
 -- a rule of a configuration keeps the load rules
-pub rule_at-IsRule : (conf : Conf) → IsConfig conf → (n : ℕ) (r : Rule) → rule_at conf n ≡ Some r → IsRule (length conf.tables) r
-rule_at-IsRule conf sound n r h = by (slice_get conf.items n) refl
+pub rule_at_IsRule : (conf : Conf) → IsConfig conf → (n : ℕ) (r : Rule) → rule_at conf n ≡ Some r → IsRule (length conf.tables) r
+rule_at_IsRule conf sound n r h = by (slice_get conf.items n) refl
   where
-    in_item : (i : Item) (w : What) → IsItemAt (length conf.tables) i.depth w → rule_in w ≡ Some r → IsRule (length conf.tables) r
+    in_item : (i : Item) (w : ItemKind) → IsItemAt (length conf.tables) i.depth w → rule_in w ≡ Some r → IsRule (length conf.tables) r
     in_item i (what.Rule s) k e = subst (IsRule (length conf.tables)) (let same : s ≡ r = cc in same) k.1
     in_item i (what.Anchor a) k e = absurd cc
 
     by : (o : Option Item) → slice_get conf.items n ≡ o → IsRule (length conf.tables) r
     by None e = absurd (let none = sym (ap (option_and_then (λ (i : Item). rule_in i.what)) e) ∙ h in cc)
     by (Some i) e =
-        in_item i i.what (item-IsItem conf sound n i e) (sym (ap (option_and_then (λ (i : Item). rule_in i.what)) e) ∙ h)
+        in_item i i.what (item_IsItem conf sound n i e) (sym (ap (option_and_then (λ (i : Item). rule_in i.what)) e) ∙ h)
 
 -- the options of any number keep the load rules
 pub options_of-AreOptions : (conf : Conf) → IsConfig conf → (n : ℕ) → AreOptions (length conf.tables) (options_of conf n)
@@ -77,28 +77,28 @@ options_of-AreOptions conf sound n = by (rule_at conf n) refl
     Kept o = AreOptions (length conf.tables) (unwrap_or (option_and_then (λ (r : Rule). options_in r.action) o) no_options)
 
     in_action : (a : Action) → IsAction (length conf.tables) a → AreOptions (length conf.tables) (unwrap_or (options_in a) no_options)
-    in_action action.Block k = no_options-AreOptions (length conf.tables)
-    in_action action.Pass k = no_options-AreOptions (length conf.tables)
+    in_action action.Block k = no_options_AreOptions (length conf.tables)
+    in_action action.Pass k = no_options_AreOptions (length conf.tables)
     in_action (action.Keep o) k = k
 
     by : (o : Option Rule) → rule_at conf n ≡ o → AreOptions (length conf.tables) (options_of conf n)
     by None e =
         subst (λ o. AreOptions (length conf.tables) (unwrap_or (option_and_then (λ (r : Rule). options_in r.action) o) no_options)) (sym e)
-        (no_options-AreOptions (length conf.tables))
+        (no_options_AreOptions (length conf.tables))
     by (Some r) e =
         subst (λ o. AreOptions (length conf.tables) (unwrap_or (option_and_then (λ (r : Rule). options_in r.action) o) no_options)) (sym e)
-        (in_action r.action (rule_at-IsRule conf sound n r e).action)
+        (in_action r.action (rule_at_IsRule conf sound n r e).action)
 
-or-true : (b : Bool) → (b || true) ≡ true
-or-true true = refl
-or-true false = refl
+or_true : (b : Bool) → (b || true) ≡ true
+or_true true = refl
+or_true false = refl
 
 rated : (s : Option Scope) (sources connections rate : Bool) → rate ≡ true → (is_none s && (sources || (connections || rate))) ≡ false
     → (is_global s && (connections || rate)) ≡ false → s ≡ Some scope.Rule
 rated None sources connections rate e tracked own =
-    absurd (false≢true (sym tracked ∙ ap (λ b. sources || (connections || b)) e ∙ ap (λ b. sources || b) (or-true connections) ∙ or-true sources))
+    absurd (false≢true (sym tracked ∙ ap (λ b. sources || (connections || b)) e ∙ ap (λ b. sources || b) (or_true connections) ∙ or_true sources))
 rated (Some scope.Rule) sources connections rate e tracked own = refl
-rated (Some scope.Global) sources connections rate e tracked own = absurd (false≢true (sym own ∙ ap (λ b. connections || b) e ∙ or-true connections))
+rated (Some scope.Global) sources connections rate e tracked own = absurd (false≢true (sym own ∙ ap (λ b. connections || b) e ∙ or_true connections))
 
 -- a rule with a rate tracks the sources of its own states
 pub rated-scope : (conf : Conf) → IsConfig conf → (n : ℕ) → IsSome (options_of conf n).max_src_conn_rate → scope_of conf n ≡ Some scope.Rule
@@ -108,9 +108,9 @@ rated-scope conf sound n h =
     rated o.scope (is_some o.max_src_nodes || is_some o.max_src_states) (is_some o.max_src_conn) (is_some o.max_src_conn_rate) h k.tracked k.rule_connections
 
 -- no item of a configuration is inside more than 16 anchors
-pub items-shallow : (conf : Conf) → IsConfig conf → All (λ (i : Item). i.depth ≤ 16) conf.items
-items-shallow conf sound = All-weaker (IsItem (length conf.tables)) (λ (i : Item). i.depth ≤ 16) (λ i. by i.what i.depth) conf.items sound.items
+pub items_shallow : (conf : Conf) → IsConfig conf → All (λ (i : Item). i.depth ≤ 16) conf.items
+items_shallow conf sound = All-weaker (IsItem (length conf.tables)) (λ (i : Item). i.depth ≤ 16) (λ i. by i.what i.depth) conf.items sound.items
   where
-    by : (w : What) (depth : ℕ) → IsItemAt (length conf.tables) depth w → depth ≤ 16
+    by : (w : ItemKind) (depth : ℕ) → IsItemAt (length conf.tables) depth w → depth ≤ 16
     by (what.Rule r) depth k = k.0
     by (what.Anchor a) depth k = omega arith

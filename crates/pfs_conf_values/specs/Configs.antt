@@ -19,8 +19,8 @@ use Rattle.pfs_conf_values.specs.declared.filters.Side.{Side}
 use Rattle.pfs_conf_values.specs.declared.filters.TableNo.{TableNo}
 use Rattle.pfs_conf_values.specs.declared.items.Item.{Item}
 use Rattle.pfs_conf_values.specs.declared.items.Rule.{Rule}
-use Rattle.pfs_conf_values.specs.declared.items.What.{What}
-use Rattle.pfs_conf_values.specs.declared.items.What.TheVariants as what
+use Rattle.pfs_conf_values.specs.declared.items.ItemKind.{ItemKind}
+use Rattle.pfs_conf_values.specs.declared.items.ItemKind.TheVariants as what
 use Rattle.pfs_conf_values.specs.declared.limits.LimitName.{LimitName}
 use Rattle.pfs_conf_values.specs.declared.limits.Limits.{Limits}
 use Rattle.pfs_conf_values.specs.declared.tables.TableDef.{TableDef}
@@ -49,7 +49,7 @@ abbrev pub timeout_of : Conf → TimeoutName → ℕ
 timeout_of conf name = slice_index conf.timeouts (place_of name)
 
 -- the rule that an item is, if it is one
-abbrev pub rule_in : What → Option Rule
+abbrev pub rule_in : ItemKind → Option Rule
 rule_in (what.Rule r) = Some r
 rule_in (what.Anchor a) = None
 

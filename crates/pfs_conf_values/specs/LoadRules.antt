@@ -24,8 +24,8 @@ use Rattle.pfs_conf_values.specs.declared.filters.TableNo.{TableNo}
 use Rattle.pfs_conf_values.specs.declared.items.Anchor.{Anchor}
 use Rattle.pfs_conf_values.specs.declared.items.Item.{Item}
 use Rattle.pfs_conf_values.specs.declared.items.Rule.{Rule}
-use Rattle.pfs_conf_values.specs.declared.items.What.{What}
-use Rattle.pfs_conf_values.specs.declared.items.What.TheVariants as what
+use Rattle.pfs_conf_values.specs.declared.items.ItemKind.{ItemKind}
+use Rattle.pfs_conf_values.specs.declared.items.ItemKind.TheVariants as what
 
 -- ---- numbers
 
@@ -156,7 +156,7 @@ pub record IsAnchor (tables : ℕ) (a : Anchor) : Type 0 where
   pub name : IfSome a.name (λ name. is_name 63 name ≡ true)
 
 -- an item inside so many anchors: a rule inside at most 16, an anchor inside at most 15
-abbrev pub IsItemAt : ℕ → ℕ → What → Type 0
+abbrev pub IsItemAt : ℕ → ℕ → ItemKind → Type 0
 IsItemAt tables depth (what.Rule r) = (depth ≤ 16) × IsRule tables r
 IsItemAt tables depth (what.Anchor a) = (depth ≤ 15) × IsAnchor tables a
 

@@ -3,11 +3,11 @@ use Rattle.std.specs.Prelude.{ℕ, ◌==◌, ◌&&◌, nat_le, Bool, false, Opti
 use Rattle.std.specs.List.{list_any}
 use Rattle.std.specs.Str.{bytes_eq}
 use Rattle.pfs_conf_values.specs.declared.items.Item.{Item}
-use Rattle.pfs_conf_values.specs.declared.items.What.{What}
-use Rattle.pfs_conf_values.specs.declared.items.What.TheVariants.{Rule, Anchor}
+use Rattle.pfs_conf_values.specs.declared.items.ItemKind.{ItemKind}
+use Rattle.pfs_conf_values.specs.declared.items.ItemKind.TheVariants.{Rule, Anchor}
 
 -- the name of an anchor, if it has one
-abbrev pub name_of_item : What → Option (List ℕ)
+abbrev pub name_of_item : ItemKind → Option (List ℕ)
 name_of_item (Rule r) = None
 name_of_item (Anchor a) = a.name
 

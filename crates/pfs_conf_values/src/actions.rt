@@ -1,4 +1,4 @@
-// What a rule does with a packet, and how it keeps and limits states.
+//! What a rule does with a packet, and how it keeps and limits states.
 
 use crate::filters::TableNo;
 use crate::timeouts::RuleTimeouts;

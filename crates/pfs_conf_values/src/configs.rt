@@ -1,4 +1,4 @@
-// What a rules text says, and how it is read.
+//! What a rules text says, and how it is read.
 
 ghost use Rattle.std.specs.Prelude.{◌≡◌, ◌<◌, ◌≤◌, ◌-◌, ◌^◌, IfOk, IfSome, IsSome, length, min, position, slice_get};
 ghost use Rattle.std.specs.Option.{option_copied};
@@ -9,7 +9,7 @@ ghost use Rattle.pfs_conf_values.specs.LoadRules.{AreOptions, IsItem, IsRule};
 
 use crate::actions::{Action, Rate, Scope, StateOptions};
 use crate::filters::TableNo;
-use crate::items::{Item, Rule, RuleNo, What};
+use crate::items::{Item, ItemKind, Rule, RuleNo};
 use crate::limits::{LimitName, Limits};
 use crate::tables::{TableDef, copy_tables, feed_tables};
 use crate::timeouts::{TimeoutName, Timeouts};
@@ -87,8 +87,8 @@ impl Config {
         ensures kept { IfSome (option_copied result) (IsRule (length self.now.tables)) }
     {
         match &self.item(number.0)?.what {
-            What::Rule(rule) => Some(rule),
-            What::Anchor(_) => None,
+            ItemKind::Rule(rule) => Some(rule),
+            ItemKind::Anchor(_) => None,
         }
     }
 

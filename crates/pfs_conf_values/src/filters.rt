@@ -1,4 +1,4 @@
-// What a rule or an anchor asks of a packet.
+//! What a rule or an anchor asks of a packet.
 
 use pfs_addr_values::{Dir, Flags, IfName, Name, Prefix, Proto};
 

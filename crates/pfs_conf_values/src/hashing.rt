@@ -1,4 +1,4 @@
-// How indexes hash: with SipHash, begun with what a sender of packets does not know.
+//! How indexes hash: with SipHash, begun with what a sender of packets does not know.
 
 ghost use Rattle.std.specs.Prelude.{◌≡◌};
 ghost use Rattle.std.specs.Hash.DefaultHasher as sip;

@@ -1,4 +1,4 @@
-// Rules and anchors, in the order in which they stand in the text.
+//! Rules and anchors, in the order in which they stand in the text.
 
 use crate::actions::Action;
 use crate::filters::Filter;
@@ -35,7 +35,7 @@ pub struct Anchor {
 
 /// A rule or an anchor.
 #[derive(Debug, Clone, Copy, PartialEq, Eq, Hash)]
-pub enum What {
+pub enum ItemKind {
     /// A rule.
     Rule(Rule),
     /// An anchor.
@@ -48,5 +48,5 @@ pub struct Item {
     /// The number of anchors around it, 0 to 16.
     pub depth: u8,
     /// What it is.
-    pub what: What,
+    pub what: ItemKind,
 }

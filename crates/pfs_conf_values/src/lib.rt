@@ -1,4 +1,4 @@
-// The configuration that a rules text says: limits, timeouts, tables, and the tree of rules and anchors.
+//! The configuration that a rules text says: limits, timeouts, tables, and the tree of rules and anchors.
 #![tactic(auto)]
 
 mod actions;
@@ -14,7 +14,7 @@ pub use actions::{Action, Overload, Rate, Scope, StateOptions};
 pub use configs::{Config, count_entries};
 pub use filters::{Family, Filter, FlagTest, Host, Interface, Ports, Side, TableName, TableNo};
 pub use hashing::RulesHasher;
-pub use items::{Anchor, AnchorName, Item, Rule, RuleNo, What};
+pub use items::{Anchor, AnchorName, Item, ItemKind, Rule, RuleNo};
 pub use limits::{LimitName, Limits};
 pub use tables::{Entries, TableDef};
 pub use timeouts::{RuleTimeouts, TimeoutName, Timeouts};

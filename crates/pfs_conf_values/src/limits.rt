@@ -1,4 +1,4 @@
-// The `set limit` values.
+//! The `set limit` values.
 
 ghost use Rattle.std.specs.Prelude.{◌≡◌};
 ghost use Rattle.pfs_conf_values.specs.Limits.{limit_value, limits_with};

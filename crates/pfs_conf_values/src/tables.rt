@@ -1,4 +1,4 @@
-// The tables of a configuration: their names and entries.
+//! The tables of a configuration: their names and entries.
 
 ghost use Rattle.std.specs.Prelude.{◌≡◌, ◌<◌, ◌^◌, [], All, IfOk, length, map, slice_get};
 ghost use Rattle.std.specs.List.{IsDistinct};

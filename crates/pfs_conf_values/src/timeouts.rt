@@ -1,4 +1,4 @@
-// The timeouts: the global ones, and those that a rule gives for its own states.
+//! The timeouts: the global ones, and those that a rule gives for its own states.
 
 ghost use Rattle.std.specs.Prelude.{◌≡◌, ◌<◌, ◌≤◌, ◌^◌, slice_index, slice_index_or, slice_set, None, Some};
 ghost use Rattle.pfs_conf_values.specs.Timeouts.{default_timeout, place_of, no_timeouts, resolved_timeout, resolved_timeouts};

@@ -23,7 +23,7 @@ use Rattle.pfs_conf_values.specs.declared.filters.Filter.{Filter}
 use Rattle.pfs_conf_values.specs.declared.filters.Host.TheVariants as host
 use Rattle.pfs_conf_values.specs.declared.items.Item.{Item}
 use Rattle.pfs_conf_values.specs.declared.items.RuleNo.{RuleNo}
-use Rattle.pfs_conf_values.specs.declared.items.What.TheVariants as item
+use Rattle.pfs_conf_values.specs.declared.items.ItemKind.TheVariants as item
 use Rattle.pfs_conf_values.specs.declared.tables.TableDef.{TableDef}
 use Rattle.pfs_store_contract.specs.declared.records.Limit.{Limit}
 use Rattle.pfs_store_contract.specs.declared.records.Limit.TheVariants as limit

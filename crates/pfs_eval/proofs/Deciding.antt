@@ -6,8 +6,8 @@ use Rattle.pfs_conf_values.specs.Configs.{rule_in}
 use Rattle.pfs_conf_values.specs.Depths.{is_rule}
 use Rattle.pfs_conf_values.specs.declared.items.Item.{Item}
 use Rattle.pfs_conf_values.specs.declared.items.RuleNo.{RuleNo}
-use Rattle.pfs_conf_values.specs.declared.items.What.{What}
-use Rattle.pfs_conf_values.specs.declared.items.What.TheVariants.{Rule, Anchor}
+use Rattle.pfs_conf_values.specs.declared.items.ItemKind.{ItemKind}
+use Rattle.pfs_conf_values.specs.declared.items.ItemKind.TheVariants.{Rule, Anchor}
 use Rattle.pfs_eval.specs.Verdict.{Place, enclosing, path_from, is_hit, ends_before, cut_from, cut, last_or, verdict, IsRuleAt}
 use Rattle.pfs_eval.proofs.Paths.{place_at}
 
@@ -41,7 +41,7 @@ cut-at items m seen [] h = tt
 cut-at items m seen (x ∷ xs) h =
     cond-at items (list_any (λ (r : Place). is_hit m r && ends_before x r) seen) [] (x ∷ cut_from m (x ∷ seen) xs) tt (h.0, cut-at items m (x ∷ seen) xs h.1)
 
-in_rule : (w : What) → is_rule w ≡ true → IsSome (rule_in w)
+in_rule : (w : ItemKind) → is_rule w ≡ true → IsSome (rule_in w)
 in_rule (Rule r) e = refl
 in_rule (Anchor a) e = cc
 

@@ -3,7 +3,7 @@ use Rattle.std.specs.Prelude.{ℕ, suc, zero, ◌≡◌, ◌≤◌, ◌+◌, ◌
 use Rattle.pfs_conf_values.specs.Depths.{is_rule}
 use Rattle.pfs_conf_values.specs.Order.{IsPreorder}
 use Rattle.pfs_conf_values.specs.declared.items.Item.{Item}
-use Rattle.pfs_conf_values.specs.declared.items.What.{What}
+use Rattle.pfs_conf_values.specs.declared.items.ItemKind.{ItemKind}
 use Rattle.pfs_eval.specs.Matching.{filter_of}
 use Rattle.pfs_eval.specs.Skips.{AreSkipsOf, skip_of}
 use Rattle.pfs_eval.specs.Verdict.{enclosing, is_quick}
@@ -24,7 +24,7 @@ stop_depth_of [] = 0
 stop_depth_of (a ∷ outer) = if is_quick a.what then max (a.depth + 1) (stop_depth_of outer) else stop_depth_of outer
 
 -- where a walk goes on behind an item at p that matches: a quick rule ends it
-abbrev pub next_place : List Item → ℕ → What → ℕ
+abbrev pub next_place : List Item → ℕ → ItemKind → ℕ
 next_place items p what = if is_rule what && is_quick what then length items else p + 1
 
 -- the line of the item i at p, but for its skips

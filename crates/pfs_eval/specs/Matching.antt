@@ -22,8 +22,8 @@ use Rattle.pfs_conf_values.specs.declared.filters.Interface.{Interface}
 use Rattle.pfs_conf_values.specs.declared.filters.Ports.{Ports}
 use Rattle.pfs_conf_values.specs.declared.filters.TableNo.{TableNo}
 use Rattle.pfs_conf_values.specs.declared.items.Item.{Item}
-use Rattle.pfs_conf_values.specs.declared.items.What.{What}
-use Rattle.pfs_conf_values.specs.declared.items.What.TheVariants.{Rule, Anchor}
+use Rattle.pfs_conf_values.specs.declared.items.ItemKind.{ItemKind}
+use Rattle.pfs_conf_values.specs.declared.items.ItemKind.TheVariants.{Rule, Anchor}
 use Rattle.pfs_eval.specs.Entries.{Entry}
 use Rattle.pfs_eval.specs.Tables.{table_answer}
 
@@ -113,7 +113,7 @@ filter_holds tables p f =
     && flags_hold f.flags p.proto p.flags
 
 -- what an item asks of a packet
-abbrev pub filter_of : What → Filter
+abbrev pub filter_of : ItemKind → Filter
 filter_of (Rule r) = r.filter
 filter_of (Anchor a) = a.filter
 

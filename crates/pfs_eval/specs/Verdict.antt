@@ -5,13 +5,13 @@ use Rattle.std.specs.Option.{option_and_then}
 use Rattle.pfs_conf_values.specs.Configs.{rule_in}
 use Rattle.pfs_conf_values.specs.Depths.{is_rule}
 use Rattle.pfs_conf_values.specs.declared.items.Item.{Item}
-use Rattle.pfs_conf_values.specs.declared.items.What.{What}
-use Rattle.pfs_conf_values.specs.declared.items.What.TheVariants.{Rule, Anchor}
+use Rattle.pfs_conf_values.specs.declared.items.ItemKind.{ItemKind}
+use Rattle.pfs_conf_values.specs.declared.items.ItemKind.TheVariants.{Rule, Anchor}
 
 -- All that follows is over a test, whether an item matches: it speaks of no packet.
 
 -- whether `quick` stands in it
-abbrev pub is_quick : What → Bool
+abbrev pub is_quick : ItemKind → Bool
 is_quick (Rule r) = r.quick
 is_quick (Anchor a) = a.quick
 

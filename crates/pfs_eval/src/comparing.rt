@@ -6,7 +6,7 @@ ghost use Rattle.pfs_eval.specs.Parameters.{IsSame, holds_at, same_test};
 
 use crate::tables::Tables;
 use pfs_addr_values::{Addr, Dir, Flags, Meter, Packet, Prefix, Proto};
-use pfs_conf_values::{Family, Filter, FlagTest, Host, Interface, Ports, TableNo, What};
+use pfs_conf_values::{Family, Filter, FlagTest, Host, Interface, ItemKind, Ports, TableNo};
 
 /// A parameter of an item, in the order in which they are compared. (pf.conf(5), PARAMETERS)
 #[derive(Clone, Copy)]
@@ -39,12 +39,12 @@ pub struct Asked {
 
 impl Asked {
     /// What this rule or anchor asks.
-    pub fn of(what: &What) -> Asked
+    pub fn of(what: &ItemKind) -> Asked
         ensures { result.filter ≡ filter_of what.now }
     {
         let filter = match what {
-            What::Rule(rule) => rule.filter,
-            What::Anchor(anchor) => anchor.filter,
+            ItemKind::Rule(rule) => rule.filter,
+            ItemKind::Anchor(anchor) => anchor.filter,
         };
         Asked { filter }
     }

@@ -9,7 +9,7 @@ ghost use Rattle.pfs_eval.specs.Verdict.{enclosing, is_quick};
 
 use crate::comparing::Asked;
 use crate::skips::Skips;
-use pfs_conf_values::{Config, Item, What};
+use pfs_conf_values::{Config, Item, ItemKind};
 use std::alloc::{AllocError, Global};
 
 /// What a walk reads of an item: what is compared, and where the walk goes on.
@@ -105,7 +105,7 @@ fn skips_at(config: &Config, lines: &[Line], place: u32) -> Skips
 }
 
 // Where a walk goes on behind an item that matches.
-fn next_place(config: &Config, place: u32, what: &What) -> u32
+fn next_place(config: &Config, place: u32, what: &ItemKind) -> u32
     requires { place < length config.now.items }
     ensures { result ≡ next_place config.now.items place what.now }
 {
@@ -154,19 +154,19 @@ fn inside(item: &Item, stop_depth: u8) -> u8
 }
 
 // Whether this is a rule, and no anchor.
-fn is_rule(what: &What) -> bool
+fn is_rule(what: &ItemKind) -> bool
     ensures { result ≡ is_rule what.now }
 {
-    matches!(what, What::Rule(_))
+    matches!(what, ItemKind::Rule(_))
 }
 
 /// Whether `quick` stands in a rule or an anchor.
-pub fn is_quick(what: &What) -> bool
+pub fn is_quick(what: &ItemKind) -> bool
     ensures { result ≡ is_quick what.now }
 {
     match what {
-        What::Rule(rule) => rule.quick,
-        What::Anchor(anchor) => anchor.quick,
+        ItemKind::Rule(rule) => rule.quick,
+        ItemKind::Anchor(anchor) => anchor.quick,
     }
 }
 

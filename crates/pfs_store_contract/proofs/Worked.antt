@@ -14,7 +14,7 @@ use Rattle.pfs_conf_values.specs.declared.actions.Action.TheVariants as action
 use Rattle.pfs_conf_values.specs.declared.actions.Scope.TheVariants as scope
 use Rattle.pfs_conf_values.specs.declared.actions.StateOptions.{StateOptions}
 use Rattle.pfs_conf_values.specs.declared.items.Item.{Item}
-use Rattle.pfs_conf_values.specs.declared.items.What.TheVariants as what
+use Rattle.pfs_conf_values.specs.declared.items.ItemKind.TheVariants as what
 use Rattle.pfs_store_contract.specs.Calls.{packet_limit, answer_at, world_at, world_killed, node_slice_of, state_slice_of, touch_of, world_touched}
 use Rattle.pfs_store_contract.specs.Purging.{purge, state_share, state_slice}
 use Rattle.pfs_store_contract.specs.Worlds.{World, empty_world, state_with}

@@ -1,10 +1,10 @@
 //! The most comparisons of items with a packet that an evaluation needs, counted over the items as they stand.
 
 use pfs_addr_values::Packet;
-use pfs_conf::{Config, Filter, Item, What};
+use pfs_conf::{Config, Filter, Item, ItemKind};
 
-/// Whether what is asked of direction, interface, protocol and the port that a packet goes to holds. The rules that are counted
-/// here ask nothing else.
+// Whether what is asked of direction, interface, protocol and the port that a packet goes to holds. The rules that are counted
+// here ask nothing else.
 fn holds(filter: &Filter, packet: &Packet) -> bool {
     is_so(filter.dir, packet.dir())
         && is_so(filter.proto, packet.proto())
@@ -52,14 +52,14 @@ pub fn visit_bound(config: &Config, packet: &Packet) -> u64 {
 
 fn is_quick_rule(item: &Item, packet: &Packet) -> bool {
     match &item.what {
-        What::Rule(rule) => rule.quick && holds(&rule.filter, packet),
-        What::Anchor(_) => false,
+        ItemKind::Rule(rule) => rule.quick && holds(&rule.filter, packet),
+        ItemKind::Anchor(_) => false,
     }
 }
 
 fn is_open_anchor(item: &Item, packet: &Packet) -> bool {
     match &item.what {
-        What::Rule(_) => false,
-        What::Anchor(anchor) => holds(&anchor.filter, packet),
+        ItemKind::Rule(_) => false,
+        ItemKind::Anchor(anchor) => holds(&anchor.filter, packet),
     }
 }

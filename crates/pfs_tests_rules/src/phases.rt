@@ -7,7 +7,7 @@ use pfs_track::{Other, Phases, StatePhase, Tcp, Udp};
 
 const RST_ACK: Flags = Flags { rst: true, ..ACK };
 
-/// The timeout after some packets that follow the first, and whether the handshake completes at the last of them.
+// The timeout after some packets that follow the first, and whether the handshake completes at the last of them.
 fn after_all<P: Phases>(packets: &[(bool, Flags)]) -> (TimeoutName, bool) {
     let mut phase = P::first();
     let mut completes = false;

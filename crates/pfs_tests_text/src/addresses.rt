@@ -1,6 +1,8 @@
 //! IPv4 addresses and prefixes, numbers, protocols, flags and names at the edges of their texts.
 
-use pfs_addr::{parse_addr, parse_flags, parse_number, parse_prefix, parse_proto, push_addr};
+use pfs_addr::{
+    parse_addr, parse_flags, parse_number, parse_prefix, parse_proto, push_addr, push_flags,
+};
 use pfs_addr_values::{Addr, Flags, Name, Prefix, Proto, parse_ifname};
 use std::test::Fail;
 
@@ -182,6 +184,19 @@ fn flags_are_read(rt: HostRuntime) {
         same!(rt; parse_flags(text), wanted, text);
     }
     holds!(rt; Flags::default() == NONE);
+}
+
+#[test]
+fn flags_are_written(rt: HostRuntime) -> Result<(), Fail> {
+    let mut text = Vec::new(rt.alloc());
+    push_flags(&mut text, NONE)?;
+    same!(rt; text.as_slice(), b"".as_slice());
+    push_flags(&mut text, BOTH)?;
+    same!(rt; text.as_slice(), b"SA".as_slice());
+    let all = parse_flags(b"WEUAPRSF").ok_or("no flags")?;
+    push_flags(&mut text, all)?;
+    same!(rt; text.as_slice(), b"SAFSRPAUEW".as_slice());
+    Ok(())
 }
 
 const NAMES: &[(&[u8], Option<usize>)] = &[

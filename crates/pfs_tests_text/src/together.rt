@@ -1,5 +1,5 @@
-// Addresses of 2001:db8::/64, by their numbers, that have place 0 under the text of `hashing.rt`: the first 2,000 of
-// those that a search from 0 on finds, one for 65,536 tries.
+//! Addresses of 2001:db8::/64, by their numbers, that have place 0 under the text of `hashing.rt`: the first 2,000 of
+//! those that a search from 0 on finds, one for 65,536 tries.
 
 pub const TOGETHER: &[u32] = &[
     883, 189503, 279795, 352107, 525805, 570411, 588187, 611964, 768837, 809555, 811437, 827811,

@@ -9,7 +9,7 @@ pub read_text-requires : goal.read_text-requires
 read_text-requires c = rw c.new-cursor.ensures (tokens_lexed c.args.text.now)
 
 pub returns-in-Ok : goal.returns-in-Ok
-returns-in-Ok c = record { short = omega (arith, c.if-text-gt1048576.false); left = c.read_text.new.cursor; reads = ap text_at (sym c.new-cursor.ensures) ∙ c.in-Ok.ensures }
+returns-in-Ok c = record { short = omega (arith, c.if-text-gt-TEXT_LIMIT.false); left = c.read_text.new.cursor; reads = ap text_at (sym c.new-cursor.ensures) ∙ c.in-Ok.ensures }
 
 pub returns-in-Err : goal.returns-in-Err
-returns-in-Err c = rw c.fault_of.ensures (fault_read c.args.text.now c.new-cursor.result c.read_text.new.cursor c.in-Err.error (omega (arith, c.if-text-gt1048576.false)) c.new-cursor.ensures c.in-Err.ensures)
+returns-in-Err c = rw c.fault_of.ensures (fault_read c.args.text.now c.new-cursor.result c.read_text.new.cursor c.in-Err.error (omega (arith, c.if-text-gt-TEXT_LIMIT.false)) c.new-cursor.ensures c.in-Err.ensures)

@@ -1,7 +1,7 @@
 -- Answers of push_items: an item more, no item too deep, and the braces that are open at the end.
 use Rattle.std.proofs.Common.{◌≡◌, ◌++◌, ◌∙◌, ◌<◌, ◌≤◌, ◌+◌, ap, sym, List, ℕ, arith, drop, length}
 use Rattle.pfs_conf_show.specs.Texts.{items_text, braces_text}
-use Rattle.pfs_conf_show.proofs.ItemLaws.{is_there, item_step, items-end}
+use Rattle.pfs_conf_show.proofs.ItemLaws.{is_there, item_step, items_end}
 use Rattle.pfs_conf_show.proofs.ListLaws.{on_ok}
 use Rattle.pfs_conf_show.proofs.items.push_items.Goals as goal
 use Rattle.pfs_conf_show.proofs.items.push_items.Goals.{in-Some+in_ok-depth, in_default}
@@ -31,5 +31,5 @@ returns c =
     let over : length conf.items ≤ c.loop-number.number = omega (arith, c.item_count-number-end.ensures.value) in
     on_ok _ _ c.push_braces.result
     (λ (h : c.push_braces.new.out.items ≡ c.loop-number.out.items ++ braces_text c.loop-number.depth).
-    h ∙ (ap (λ (z : List ℕ). c.loop-number.out.items ++ z) (sym (items-end conf.tables c.loop-number.depth c.loop-number.number conf.items over)) ∙ c.loop-number.invariant))
+    h ∙ (ap (λ (z : List ℕ). c.loop-number.out.items ++ z) (sym (items_end conf.tables c.loop-number.depth c.loop-number.number conf.items over)) ∙ c.loop-number.invariant))
     c.push_braces.ensures

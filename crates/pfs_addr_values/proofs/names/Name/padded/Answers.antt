@@ -1,11 +1,11 @@
 -- Answers of Name::padded: the bytes of the text with zeros behind them are a name, and the one of that text.
 use Rattle.std.proofs.Common.{◌∙◌, ◌++◌, ap, length, take, drop, replicate}
 use Rattle.std.proofs.Math.Seq.{take-append_seam}
-use Rattle.pfs_addr_values.proofs.Laying.{padded-of}
+use Rattle.pfs_addr_values.proofs.Laying.{padded_of}
 use Rattle.pfs_addr_values.proofs.names.Name.padded.Goals as goal
 
 pub invariant_of-result : goal.invariant_of-result
-invariant_of-result g c = padded-of g.row.N c.args.text.now _ c.copy_from_slice.ensures.after c.requires
+invariant_of-result g c = padded_of g.row.N c.args.text.now _ c.copy_from_slice.ensures.after c.requires
 
 pub returns : goal.returns
 returns g c =

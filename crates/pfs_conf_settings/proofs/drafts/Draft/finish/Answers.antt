@@ -1,7 +1,7 @@
 -- Answer of Draft::finish: a draft that keeps the load rules of the whole text is a configuration.
 use Rattle.std.proofs.Common.{◌∙◌, ap}
 use Rattle.pfs_conf_settings.specs.Drafts.{Drafted, const_overload, has_broken_pair, has_too_many_entries, has_too_many_tables}
-use Rattle.pfs_conf_settings.proofs.FinishLaws.{IsConfig-finished}
+use Rattle.pfs_conf_settings.proofs.FinishLaws.{IsConfig_finished}
 use Rattle.pfs_conf_settings.proofs.drafts.Draft.finish.Goals as goal
 
 pub of_parts-requires : goal.of_parts-requires
@@ -15,7 +15,7 @@ of_parts-requires c =
       items = c.self.inside.items.items;
     } in
     rw (c.resolved-timeouts.ensures, tables)
-    (IsConfig-finished draft c.self.invariant c.into_tables-tables.ensures.each c.into_tables-tables.ensures.names
+    (IsConfig_finished draft c.self.invariant c.into_tables-tables.ensures.each c.into_tables-tables.ensures.names
     (ap has_broken_pair c.self.view_is ∙ c.requires.pair)
     (ap const_overload c.self.view_is ∙ c.requires.overloads)
     (ap has_too_many_tables c.self.view_is ∙ c.requires.tables)

@@ -3,7 +3,7 @@ use Rattle.std.proofs.Common.{◌∙◌, [], ◌∷◌, ◌++◌, ℕ, List, fal
 use Rattle.pfs_conf_values.specs.Entries.{TextEntry}
 use Rattle.pfs_conf_settings.specs.Namings.{Named, is_named}
 use Rattle.pfs_conf_values.specs.declared.tables.TableDef.{TableDef}
-use Rattle.pfs_conf_settings.proofs.NamingLaws.{IsNaming-push}
+use Rattle.pfs_conf_settings.proofs.NamingLaws.{IsNaming_push}
 use Rattle.pfs_conf_settings.proofs.named_tables.NamedTables.add.Goals as goal
 
 named : List ℕ → List TextEntry → TableDef
@@ -18,5 +18,5 @@ invariant_of-self-2 c =
     ∙ ap (λ es. c.self.inside.tables.items ++ named c.args.name es ∷ []) c.new-entries.ensures in
     let defined = c.push_reserved-2.ensures.items ∙ ap (λ bs. bs ++ false ∷ []) c.reserve-2.ensures.items in
     rw (c.in_ok-insert.ensures.keys, tables, defined)
-    (IsNaming-push c.self.inside.names.keys c.self.inside.tables.items c.self.inside.defined.items c.args.name c.self.invariant
+    (IsNaming_push c.self.inside.names.keys c.self.inside.tables.items c.self.inside.defined.items c.args.name c.self.invariant
     (ap (is_named c.args.name) view ∙ c.requires.fresh) c.requires.name)

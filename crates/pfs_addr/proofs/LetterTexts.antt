@@ -3,10 +3,8 @@ use Rattle.std.proofs.Common.{◌≡◌, ℕ, Bool, true, false, suc, length, Li
 use Rattle.std.specs.Prelude.{codes, ◌||◌, ◌==◌, if◌then◌else◌}
 use Rattle.std.specs.List.{list_all}
 use Rattle.std.proofs.lemmas.Bool.{cond-true, and_parts, and_from, ne_eqb}
-use Rattle.pfs_addr_values.specs.FlagSets.{flags_of, is_flag_letter, names_letter}
+use Rattle.pfs_addr_values.specs.FlagSets.{flags_of, is_flag_letter, letter_text, letters_text, names_letter}
 use Rattle.pfs_addr_values.specs.declared.flag_sets.Flags.{Flags}
-use Rattle.pfs_conf_values.specs.LoadRules.{has_a_flag}
-use Rattle.pfs_conf_show.specs.Filters.{letter_text, letters_text}
 
 -- the letters of a set of flags, each with whether it is in the set
 abbrev lettered : Flags → List (ℕ × Bool)
@@ -79,12 +77,12 @@ none_set : (a b c d e f g h : Bool) → a ≡ false → b ≡ false → c ≡ fa
 none_set a b c d e f g h p q r s t u v w = rw (p, q, r, s, t, u, v, w) refl
 
 -- some letter stands for a set that is not empty
-pub letters_some : (f : Flags) → has_a_flag f ≡ true → (length (letters_text f) == 0) ≡ false
+pub letters_some : (f : Flags) → (f.fin || f.syn || f.rst || f.psh || f.ack || f.urg || f.ece || f.cwr) ≡ true → (length (letters_text f) == 0) ≡ false
 letters_some f h = go (letters_text f) (λ k. ap (names_letter k) (spelled_letters f) ∙ named k (lettered f))
   where
     go : (w : List ℕ) → ((k : ℕ) → names_letter k w ≡ has k (lettered f)) → (length w == 0) ≡ false
     go [] at =
-        let none : has_a_flag f ≡ false =
+        let none : (f.fin || f.syn || f.rst || f.psh || f.ack || f.urg || f.ece || f.cwr) ≡ false =
         none_set f.fin f.syn f.rst f.psh f.ack f.urg f.ece f.cwr (sym (at 70 ∙ or_none f.fin)) (sym (at 83 ∙ or_none f.syn)) (sym (at 82 ∙ or_none f.rst))
         (sym (at 80 ∙ or_none f.psh)) (sym (at 65 ∙ or_none f.ack)) (sym (at 85 ∙ or_none f.urg)) (sym (at 69 ∙ or_none f.ece)) (sym (at 87 ∙ or_none f.cwr)) in
         absurd (cc (sym none ∙ h))
