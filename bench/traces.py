@@ -1,15 +1,19 @@
 """The rules and traces that `bench/run` measures.
 
 Each scenario is a rules text and a trace that is written to a file. The same words give the same bytes: the numbers come from a
-plain generator with a fixed seed.
+plain generator with a fixed seed. The trace of a scenario of TCP over IPv4 can be written as a capture too.
 """
+import socket
+import struct
 from dataclasses import dataclass
-from typing import Callable, Iterator, List, TextIO
+from typing import BinaryIO, Callable, Iterator, List, TextIO
 
 HEADER = "time,dir,if,proto,src,sport,dst,dport,flags\n"
 SERVER = "192.0.2.1"
 WIDE_SERVER = "2001:db8::80"
 UNSCALED = "set timeout { adaptive.start 0, adaptive.end 0 }\n"
+LETTERS = "FSRPAUEW"
+PAYLOAD = bytes(512)
 LONG = "set timeout { udp.first 86400, udp.single 86400, udp.multiple 86400, tcp.established 86400 }\n"
 
 
@@ -189,5 +193,25 @@ def write_trace(scenario: Scenario, to: TextIO) -> int:
     count = 0
     for line in scenario.records():
         to.write(line)
+        count += 1
+    return count
+
+
+def record(line: str) -> bytes:
+    """The record of a pcap file whose frame has the packet of a line: TCP over IPv4 on Ethernet, with 512 bytes of data under the flag P."""
+    second, _, _, _, source, source_port, target, target_port, flags = line.rstrip("\n").split(",")
+    bits = sum(1 << LETTERS.index(it) for it in flags)
+    tcp = struct.pack(">HHIIBBHHH", int(source_port), int(target_port), 0, 0, 0x50, bits, 65535, 0, 0) + (PAYLOAD if "P" in flags else b"")
+    addresses = socket.inet_aton(source) + socket.inet_aton(target)
+    frame = bytes(12) + struct.pack(">HBBHHHBBH", 0x0800, 0x45, 0, 20 + len(tcp), 0, 0, 64, 6, 0) + addresses + tcp
+    return struct.pack("<IIII", int(second), 0, len(frame), len(frame)) + frame
+
+
+def write_capture(scenario: Scenario, to: BinaryIO) -> int:
+    """Writes the trace as a pcap file of Ethernet, and answers how many frames it has."""
+    to.write(struct.pack("<IHHIIII", 0xA1B2C3D4, 2, 4, 0, 0, 65535, 1))
+    count = 0
+    for line in scenario.records():
+        to.write(record(line))
         count += 1
     return count
