@@ -1,5 +1,6 @@
-// Replays a trace over both kinds of store side by side: the words name the rules and the trace, each outcome and the counts of
-// what is held are compared after each record, and the report is written as far as they are one.
+//! Replays a trace over both kinds of store side by side: the words name the rules and the trace, each outcome and the counts of
+//! what is held are compared after each record, and the report is written as far as they are one.
+
 #![tactic(auto)]
 
 ghost use Rattle.std.specs.Prelude.{◌≡◌, ◌<◌, ◌≤◌, ◌^◌, true};
@@ -63,7 +64,7 @@ fn words(rt: &HostRuntime) -> io::Result<Vec<String>> {
     Ok(words.collect(rt.alloc())?)
 }
 
-// The trace of one file under the rules of another.
+/// The trace of one file under the rules of another.
 fn replay(rt: &HostRuntime, rules: &str, trace: &str) -> Result<(), Stop> {
     let text = read_file(rt, rules)?;
     let mut plain = plain_engine(rt.alloc(), &text)?;
@@ -128,7 +129,7 @@ fn read_rules(alloc: Global, text: &[u8]) -> Result<Config, Stop> {
     load(alloc, text).map_err(|fault| Stop::Rules(fault))
 }
 
-// Both engines go through the trace.
+/// Both engines go through the trace.
 fn compare<R: Read + Drop, S: Store, T: Store, W: Write>(
     alloc: Global,
     trace: R,
@@ -143,7 +144,7 @@ fn compare<R: Read + Drop, S: Store, T: Store, W: Write>(
     go_through(alloc, &mut reader, plain, indexed, out)
 }
 
-// The header, and then record after record.
+/// The header, and then record after record.
 fn go_through<R: Read, S: Store, T: Store, W: Write>(
     alloc: Global,
     reader: &mut Reader<R>,
@@ -176,7 +177,7 @@ fn next<R: Read>(reader: &mut Reader<R>, fields: &mut ByteRecord) -> Result<bool
     reader.read_byte_record(fields).map_err(|_| Stop::File)
 }
 
-// Both engines take the event, and answer and hold the same.
+/// Both engines take the event, and answer and hold the same.
 fn take_both<S: Store, T: Store>(
     row: u64,
     event: &Event,
@@ -204,7 +205,7 @@ fn take<S: Store>(engine: &mut Engine<S>, event: &Event) -> Result<Outcome, Stop
     engine.step(event).map_err(|_| Stop::Memory)
 }
 
-// How many states, source nodes and entries are held, and how many packets were taken.
+/// How many states, source nodes and entries are held, and how many packets were taken.
 fn held<S: Store>(engine: &Engine<S>) -> (u64, u64, u64, u64) {
     (
         engine.states(),

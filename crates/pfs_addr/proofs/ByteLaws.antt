@@ -6,7 +6,7 @@ use Rattle.std.proofs.lemmas.Bool.{and_from, and_parts}
 use Rattle.std.proofs.lemmas.Bool.Decides.{nat_tests}
 use Rattle.std.proofs.lemmas.List.Elements.{All-head, All-tail}
 use Rattle.std.proofs.lemmas.List.Folds.{list_all-append}
-use Rattle.pfs_addr_values.specs.Addresses.{dotted}
+use Rattle.pfs_addr_values.specs.Addresses.{dotted_decimal}
 use Rattle.pfs_addr_values.specs.Numbers.{is_digit}
 use Rattle.pfs_addr.proofs.NumberLaws.{decimal_digits}
 
@@ -23,9 +23,9 @@ decimal_bytes : (n : ℕ) → n < 256 → list_all is_addr_byte (decimal n) ≡ 
 decimal_bytes n h = weaker is_digit is_addr_byte (λ b k. grind (arith, nat_tests)) (decimal n) (decimal_digits n (omega arith))
 
 -- a dotted quad has digits and dots alone
-pub dotted_bytes : (bytes : List ℕ) → All (λ b. b < 256) bytes → list_all is_addr_byte (dotted bytes) ≡ true
+pub dotted_bytes : (bytes : List ℕ) → All (λ b. b < 256) bytes → list_all is_addr_byte (dotted_decimal bytes) ≡ true
 dotted_bytes [] all = refl
 dotted_bytes (b ∷ []) all = decimal_bytes b (All-head (λ b. b < 256) b [] all)
 dotted_bytes (b ∷ c ∷ rest) all =
-    list_all-append is_addr_byte (decimal b) (46 ∷ dotted (c ∷ rest))
+    list_all-append is_addr_byte (decimal b) (46 ∷ dotted_decimal (c ∷ rest))
     ∙ and_from _ _ (decimal_bytes b (All-head (λ b. b < 256) b (c ∷ rest) all)) (dotted_bytes (c ∷ rest) (All-tail (λ b. b < 256) b (c ∷ rest) all))

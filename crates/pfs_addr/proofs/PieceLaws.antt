@@ -12,11 +12,11 @@ use Rattle.std.specs.Net.Addr.{segments_of}
 use Rattle.pfs_addr_values.specs.Numbers.{is_digit, number_of}
 use Rattle.std.specs.Prelude.{All, IfSome}
 use Rattle.std.proofs.lemmas.List.Elements.{All-from_get_or, All-get_or}
-use Rattle.pfs_addr_values.specs.Addresses.{IsAddr, IsAddrText, addr_text, bytes_of, dotted, width_of}
+use Rattle.pfs_addr_values.specs.Addresses.{IsAddr, IsAddrText, addr_text, bytes_of, dotted_decimal, width_of}
 use Rattle.pfs_addr_values.specs.declared.addresses.Addr.{Addr}
 use Rattle.pfs_addr_values.specs.declared.addresses.Addr.TheVariants.{V4, V6}
 use Rattle.pfs_addr_values.specs.Prefixes.{Network, network_of, PrefixText}
-use Rattle.pfs_addr.specs.Texts.{up_to, bare_number, four_bytes, quad, quad_of, groups_of, addr_of, with_length, alone, cut_at, slashed, prefix_of}
+use Rattle.pfs_addr.specs.Texts.{up_to, bare_number, four_bytes, quad, quad_of, groups_of, addr_of, with_length, alone, cut_at, prefix_of_pieces, prefix_of}
 
 -- every byte of a piece is another one
 abbrev pub lacks : ℕ → List ℕ → Bool
@@ -74,11 +74,11 @@ byte_lacks : (n : ℕ) → n < 256 → lacks 46 (decimal n) ≡ true
 byte_lacks n h = decimal_lacks 46 n (omega arith) (omega arith)
 
 -- the text of an IPv4 address is read as that address
-dotted_read : (bytes : List ℕ) → IsAddr (V4 bytes) → quad_of (dotted bytes) ≡ Some (V4 bytes)
+dotted_read : (bytes : List ℕ) → IsAddr (V4 bytes) → quad_of (dotted_decimal bytes) ≡ Some (V4 bytes)
 unfolding quad_of
 dotted_read (a ∷ b ∷ c ∷ d ∷ []) h =
     let at : (i : ℕ) → i < 4 → get_or (a ∷ b ∷ c ∷ d ∷ []) i 0 < 256 = λ i lt. All-get_or (λ b. b < 256) (a ∷ b ∷ c ∷ d ∷ []) i 0 lt h.1 in
-    let pieces : slice_split (λ x. nat_eq x 46) (dotted (a ∷ b ∷ c ∷ d ∷ [])) ≡ decimal a ∷ decimal b ∷ decimal c ∷ decimal d ∷ [] =
+    let pieces : slice_split (λ x. nat_eq x 46) (dotted_decimal (a ∷ b ∷ c ∷ d ∷ [])) ≡ decimal a ∷ decimal b ∷ decimal c ∷ decimal d ∷ [] =
     split_more 46 (decimal a) _ (byte_lacks a (at 0 (omega arith)))
     ∙ (ap (λ t. decimal a ∷ t) (split_more 46 (decimal b) _ (byte_lacks b (at 1 (omega arith))))
     ∙ (ap (λ t. decimal a ∷ decimal b ∷ t) (split_more 46 (decimal c) _ (byte_lacks c (at 2 (omega arith))))
@@ -90,7 +90,7 @@ dotted_read (a ∷ b ∷ c ∷ d ∷ []) h =
     ∙ ap (λ o. four_bytes (Some a) (Some b) (Some c) o) (byte_read d (at 3 (omega arith))))))
 dotted_read _ h = absurd (omega arith)
 
-pub quad_of_text : (text bytes : List ℕ) → IsAddr (V4 bytes) → text ≡ dotted bytes → quad_of text ≡ Some (V4 bytes)
+pub quad_of_text : (text bytes : List ℕ) → IsAddr (V4 bytes) → text ≡ dotted_decimal bytes → quad_of text ≡ Some (V4 bytes)
 quad_of_text text bytes h e = ap quad_of e ∙ dotted_read bytes h
 
 -- what is read without a zero in front is the decimal text of its number
@@ -137,7 +137,7 @@ pub record AreQuad (a b c d : List ℕ) (x : Addr) : Type 0 where
   pub bytes : List ℕ
   pub is_addr : IsAddr (V4 bytes)
   pub value : x ≡ V4 bytes
-  pub spelled : join_with_byte 46 (a ∷ b ∷ c ∷ d ∷ []) ≡ dotted bytes
+  pub spelled : join_with_byte 46 (a ∷ b ∷ c ∷ d ∷ []) ≡ dotted_decimal bytes
 
 quad_parts : (a b c d : List ℕ) (x : Addr) → four_bytes (bare_number 255 a) (bare_number 255 b) (bare_number 255 c) (bare_number 255 d) ≡ Some x → AreQuad a b c d x
 quad_parts a b c d x h = go (bare_number 255 a) refl (bare_number 255 b) refl (bare_number 255 c) refl (bare_number 255 d) refl h
@@ -168,11 +168,11 @@ quad_parts a b c d x h = go (bare_number 255 a) refl (bare_number 255 b) refl (b
         }
 
 -- an IPv4 address that is read is one, and the text is its text
-pub quad_of_parts : (text : List ℕ) (a : Addr) → quad_of text ≡ Some a → (bytes : List ℕ) × (a ≡ V4 bytes) × IsAddr (V4 bytes) × (text ≡ dotted bytes)
+pub quad_of_parts : (text : List ℕ) (a : Addr) → quad_of text ≡ Some a → (bytes : List ℕ) × (a ≡ V4 bytes) × IsAddr (V4 bytes) × (text ≡ dotted_decimal bytes)
 unfolding quad_of
 quad_of_parts text a h = go (slice_split (λ x. nat_eq x 46) text) (join_with_byte-slice_split 46 text) h
   where
-    go : (pieces : List (List ℕ)) → join_with_byte 46 pieces ≡ text → quad pieces ≡ Some a → (bytes : List ℕ) × (a ≡ V4 bytes) × IsAddr (V4 bytes) × (text ≡ dotted bytes)
+    go : (pieces : List (List ℕ)) → join_with_byte 46 pieces ≡ text → quad pieces ≡ Some a → (bytes : List ℕ) × (a ≡ V4 bytes) × IsAddr (V4 bytes) × (text ≡ dotted_decimal bytes)
     go (p ∷ q ∷ r ∷ s ∷ []) e f =
         let w = quad_parts p q r s a f in
         (w.bytes, w.value, w.is_addr, sym e ∙ w.spelled)
@@ -188,8 +188,8 @@ digit_no_colon (x ∷ xs) h =
     or_from _ _ other (digit_no_colon xs p.1)
 
 -- a dotted quad has no colon
-dotted_no_colon : (bytes : List ℕ) → IsAddr (V4 bytes) → list_any (λ b. nat_eq b 58) (dotted bytes) ≡ false
-dotted_no_colon bytes h = digit_no_colon (dotted bytes) (dotted_bytes bytes h.1)
+dotted_no_colon : (bytes : List ℕ) → IsAddr (V4 bytes) → list_any (λ b. nat_eq b 58) (dotted_decimal bytes) ≡ false
+dotted_no_colon bytes h = digit_no_colon (dotted_decimal bytes) (dotted_bytes bytes h.1)
 
 -- a text of an address is read as that address
 pub addr_of_text : (text : List ℕ) (a : Addr) → IsAddr a → IsAddrText text a → addr_of text ≡ Some a
@@ -264,7 +264,7 @@ lacks_append c (x ∷ xs) ys h k =
     and_from _ _ p.0 (lacks_append c xs ys p.1 k)
 
 -- the text of an address has no slash
-dotted_lacks : (bytes : List ℕ) → IsAddr (V4 bytes) → lacks 47 (dotted bytes) ≡ true
+dotted_lacks : (bytes : List ℕ) → IsAddr (V4 bytes) → lacks 47 (dotted_decimal bytes) ≡ true
 dotted_lacks (a ∷ b ∷ c ∷ d ∷ []) h =
     let at : (i : ℕ) → i < 4 → get_or (a ∷ b ∷ c ∷ d ∷ []) i 0 < 256 = λ i lt. All-get_or (λ x. x < 256) (a ∷ b ∷ c ∷ d ∷ []) i 0 lt h.1 in
     let no_slash : (n : ℕ) → n < 256 → lacks 47 (decimal n) ≡ true = λ n lt. decimal_lacks 47 n (omega arith) (omega arith) in
@@ -288,18 +288,18 @@ pub prefix_of_text : (text : List ℕ) (p : Network) → PrefixText text p → p
 unfolding prefix_of
 prefix_of_text text p t = elim t.spelled [ inl w ↦ alone_read w.0 w.1 | inr w ↦ slashed_read w ]
   where
-    alone_read : text ≡ t.before → p.bits ≡ width_of t.addr → slashed (slice_split (λ b. nat_eq b 47) text) ≡ Some p
+    alone_read : text ≡ t.before → p.bits ≡ width_of t.addr → prefix_of_pieces (slice_split (λ b. nat_eq b 47) text) ≡ Some p
     alone_read e w =
-        ap (λ x. slashed (slice_split (λ b. nat_eq b 47) x)) e
-        ∙ (ap slashed (split_piece 47 t.before (addr_text_lacks t.before t.addr t.is_addr t.address))
+        ap (λ x. prefix_of_pieces (slice_split (λ b. nat_eq b 47) x)) e
+        ∙ (ap prefix_of_pieces (split_piece 47 t.before (addr_text_lacks t.before t.addr t.is_addr t.address))
         ∙ (ap alone (addr_of_text t.before t.addr t.is_addr t.address)
         ∙ (ap (λ n. Some (network_of t.addr n)) (sym w) ∙ ap (λ (x : Network). Some x) (sym t.of))))
 
-    slashed_read : text ≡ t.before ++ 47 ∷ decimal p.bits → slashed (slice_split (λ b. nat_eq b 47) text) ≡ Some p
+    slashed_read : text ≡ t.before ++ 47 ∷ decimal p.bits → prefix_of_pieces (slice_split (λ b. nat_eq b 47) text) ≡ Some p
     slashed_read e =
         let small : p.bits < 10 ^ 10 = short_width t.addr p.bits t.short in
-        ap (λ x. slashed (slice_split (λ b. nat_eq b 47) x)) e
-        ∙ (ap slashed (split_more 47 t.before (decimal p.bits) (addr_text_lacks t.before t.addr t.is_addr t.address)
+        ap (λ x. prefix_of_pieces (slice_split (λ b. nat_eq b 47) x)) e
+        ∙ (ap prefix_of_pieces (split_more 47 t.before (decimal p.bits) (addr_text_lacks t.before t.addr t.is_addr t.address)
         ∙ ap (λ y. t.before ∷ y) (split_piece 47 (decimal p.bits) (decimal_lacks 47 p.bits (omega arith) (omega arith))))
         ∙ (ap (λ o. cut_at o (decimal p.bits)) (addr_of_text t.before t.addr t.is_addr t.address)
         ∙ (ap (with_length t.addr) (bare_number_decimal (width_of t.addr) p.bits t.short small)
@@ -339,7 +339,7 @@ prefix_of_parts text p h = go (slice_split (λ b. nat_eq b 47) text) (join_with_
               spelled = inr (sym e ∙ ap (λ y. address ++ 47 ∷ y) (b.spelled ∙ ap decimal (sym bits)));
             }
 
-    go : (pieces : List (List ℕ)) → join_with_byte 47 pieces ≡ text → slashed pieces ≡ Some p → PrefixText text p
+    go : (pieces : List (List ℕ)) → join_with_byte 47 pieces ≡ text → prefix_of_pieces pieces ≡ Some p → PrefixText text p
     go (address ∷ []) e f = alone_parts address e (addr_of address) refl f
     go (address ∷ length ∷ []) e f = cut_parts address length e (addr_of address) refl f
     go _ e f = absurd (cc f)

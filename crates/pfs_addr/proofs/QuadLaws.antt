@@ -15,7 +15,7 @@ use Rattle.std.specs.Net.Text.{dotted_text}
 use Rattle.pfs_addr.proofs.AddrLaws.{dotted_spelled}
 use Rattle.pfs_addr.proofs.PieceLaws.{quad_of_text, quad_of_parts}
 use Rattle.pfs_addr.specs.Texts.{quad_of}
-use Rattle.pfs_addr_values.specs.Addresses.{IsAddr, bytes_of, dotted, is_ipv6}
+use Rattle.pfs_addr_values.specs.Addresses.{IsAddr, bytes_of, dotted_decimal, is_ipv6}
 use Rattle.pfs_addr_values.specs.declared.addresses.Addr.{Addr}
 use Rattle.pfs_addr_values.specs.declared.addresses.Addr.TheVariants.{V4, V6}
 use Rattle.pfs_addr.specs.Octets.{stops}
@@ -134,14 +134,14 @@ octet_four a b c d text rest more ha hb hc hd is next = octet_past a b c text re
 all_below : (a b c d : ℕ) → a < 256 → b < 256 → c < 256 → d < 256 → All (λ x. x < 256) (a ∷ b ∷ c ∷ d ∷ [])
 all_below a b c d h i j k = search rules
 
-from_dotted : (text bytes : List ℕ) → IsDotted text bytes → IsAddr (V4 bytes) × (text ≡ dotted bytes)
+from_dotted : (text bytes : List ℕ) → IsDotted text bytes → IsAddr (V4 bytes) × (text ≡ dotted_decimal bytes)
 from_dotted text bytes h =
-    let spelled : dotted (h.a ∷ h.b ∷ h.c ∷ h.d ∷ []) ≡ dotted_text h.a h.b h.c h.d = simp append_assoc in
-    subst (λ (bs : List ℕ). IsAddr (V4 bs) × (text ≡ dotted bs)) (sym h.value)
+    let spelled : dotted_decimal (h.a ∷ h.b ∷ h.c ∷ h.d ∷ []) ≡ dotted_text h.a h.b h.c h.d = simp append_assoc in
+    subst (λ (bs : List ℕ). IsAddr (V4 bs) × (text ≡ dotted_decimal bs)) (sym h.value)
     ((refl, all_below h.a h.b h.c h.d h.fit.0 h.fit.1 h.fit.2 h.fit.3), h.spelled ∙ sym spelled)
 
 -- four bytes with nothing behind them are an address
-quad_reads : (text bytes rest : List ℕ) → Some (bytes, rest) ≡ read_ipv4 text → length rest ≡ 0 → IsAddr (V4 bytes) × (text ≡ dotted bytes)
+quad_reads : (text bytes rest : List ℕ) → Some (bytes, rest) ≡ read_ipv4 text → length rest ≡ 0 → IsAddr (V4 bytes) × (text ≡ dotted_decimal bytes)
 quad_reads text bytes [] e none =
     let (front, split, h) = read_ipv4_sound text bytes [] (sym e) in
     let same : text ≡ front = split ∙ append-nil front in
@@ -149,9 +149,9 @@ quad_reads text bytes [] e none =
 quad_reads text bytes (c ∷ rest) e none = absurd (omega (arith, none))
 
 -- the text of an address is read as its four bytes
-quad_whole : (text bytes : List ℕ) → IsAddr (V4 bytes) → text ≡ dotted bytes → read_ipv4 text ≡ Some (bytes, [])
+quad_whole : (text bytes : List ℕ) → IsAddr (V4 bytes) → text ≡ dotted_decimal bytes → read_ipv4 text ≡ Some (bytes, [])
 quad_whole text bytes h e =
-    ap read_ipv4 (e ∙ sym (append-nil (dotted bytes))) ∙ read_ipv4_complete (dotted bytes) bytes [] (dotted_spelled bytes h) (lit≤ tt)
+    ap read_ipv4 (e ∙ sym (append-nil (dotted_decimal bytes))) ∙ read_ipv4_complete (dotted_decimal bytes) bytes [] (dotted_spelled bytes h) (lit≤ tt)
 
 -- ---- so the reader of four bytes gives the IPv4 address of a text
 

@@ -69,11 +69,11 @@ cut_at None length = None
 cut_at (Some a) length = with_length a (bare_number (width_of a) length)
 
 -- the prefix of the pieces between slashes
-abbrev pub slashed : List (List ℕ) → Option Network
-slashed (address ∷ []) = alone (addr_of address)
-slashed (address ∷ length ∷ []) = cut_at (addr_of address) length
-slashed _ = None
+abbrev pub prefix_of_pieces : List (List ℕ) → Option Network
+prefix_of_pieces (address ∷ []) = alone (addr_of address)
+prefix_of_pieces (address ∷ length ∷ []) = cut_at (addr_of address) length
+prefix_of_pieces _ = None
 
 -- the prefix whose text this is
 unfoldable pub prefix_of : List ℕ → Option Network
-prefix_of text = slashed (slice_split (λ b. b == 47) text)
+prefix_of text = prefix_of_pieces (slice_split (λ b. b == 47) text)

@@ -9,7 +9,7 @@ ghost use Rattle.std.specs.Option.{option_copied};
 ghost use Rattle.pfs_addr.specs.Octets.{stops};
 ghost use Rattle.pfs_addr.specs.Groups.{around};
 ghost use Rattle.pfs_addr.specs.Texts.{addr_of, groups_of, quad_of};
-ghost use Rattle.pfs_addr_values.specs.Addresses.{IsAddr, IsAddrText, addr_text, bytes_of, dotted, is_ipv6};
+ghost use Rattle.pfs_addr_values.specs.Addresses.{IsAddr, IsAddrText, addr_text, bytes_of, dotted_decimal, is_ipv6};
 
 use pfs_addr_values::{Addr, NoMemory};
 use std::net::Ipv6Addr;
@@ -31,7 +31,7 @@ pub fn parse_addr(text: &[u8]) -> Option<Addr>
     groups(text)
 }
 
-// An IPv6 address, where the text is one.
+/// An IPv6 address, where the text is one.
 #[inline(never)]
 fn groups(text: &[u8]) -> Option<Addr>
     ensures { result ≡ groups_of text.now }
@@ -45,7 +45,7 @@ fn groups(text: &[u8]) -> Option<Addr>
     }
 }
 
-// An IPv4 address, where the text is one.
+/// An IPv4 address, where the text is one.
 #[inline(always)]
 fn quad(text: &[u8]) -> Option<Addr>
     ensures { result ≡ quad_of text.now }
@@ -56,7 +56,7 @@ fn quad(text: &[u8]) -> Option<Addr>
     if rest.is_empty() { Some(addr) } else { None }
 }
 
-// Four bytes in decimal with dots between them, and what stands behind them.
+/// Four bytes in decimal with dots between them, and what stands behind them.
 #[inline(always)]
 #[tactic(auto, unfolding(std::specs::Net::Reader::read_ipv4))]
 fn four(text: &[u8]) -> Option<(Addr, &[u8])>
@@ -80,7 +80,7 @@ fn behind_dot(text: &[u8]) -> Option<&[u8]>
     }
 }
 
-// A number of 0 to 255 without a zero in front, and what stands behind it, which is no digit.
+/// A number of 0 to 255 without a zero in front, and what stands behind it, which is no digit.
 #[inline(always)]
 fn octet(text: &[u8]) -> Option<(u8, &[u8])>
     ensures { read_view (λ n. n) result ≡ read_octet text.now }
@@ -104,7 +104,7 @@ fn octet(text: &[u8]) -> Option<(u8, &[u8])>
     }
 }
 
-// The digit at the front of a text, and what stands behind it.
+/// The digit at the front of a text, and what stands behind it.
 #[inline(always)]
 fn digit(text: &[u8]) -> Option<(u8, &[u8])>
     ensures { MatchOption result (stops text.now ≡ true) (λ p. (p.0 < 10) × (text.now ≡ (48 + p.0) ∷ p.1.now)) }
@@ -133,9 +133,9 @@ pub fn push_addr(out: &mut Vec<u8>, addr: Addr) -> Result<(), NoMemory>
 }
 
 fn push_quad(out: &mut Vec<u8>, bytes: [u8; 4]) -> Result<(), NoMemory>
-    ensures ok { OnOk result (out.new.items ≡ out.old.items ++ dotted bytes) }
+    ensures ok { OnOk result (out.new.items ≡ out.old.items ++ dotted_decimal bytes) }
     ensures err { OnErr result (out.new.items ≡ out.old.items) }
-    ensures refused { OnErr result (vec_capacity out.old < vec_len out.old + length (dotted bytes)) }
+    ensures refused { OnErr result (vec_capacity out.old < vec_len out.old + length (dotted_decimal bytes)) }
 {
     let [a, b, c, d] = bytes;
     out.reserve(octet_len(a) + octet_len(b) + octet_len(c) + octet_len(d) + 3)?;
@@ -182,7 +182,7 @@ fn push_octet(out: &mut Vec<u8>, octet: u8)
     }
 }
 
-// Groups with `:` between them, and `::` in the place of the run of zeros that is left out.
+/// Groups with `:` between them, and `::` in the place of the run of zeros that is left out.
 fn push_short(out: &mut Vec<u8>, groups: [u16; 8]) -> Result<(), NoMemory>
     ensures ok { OnOk result (out.new.items ≡ out.old.items ++ hex_groups_text groups) }
     ensures err { OnErr result (out.new.items ≡ out.old.items) }
@@ -196,7 +196,7 @@ fn push_short(out: &mut Vec<u8>, groups: [u16; 8]) -> Result<(), NoMemory>
     }
 }
 
-// Whether a run of so many groups of zeros is left out; one group never is. (RFC 5952, section 4.2.2)
+/// Whether a run of so many groups of zeros is left out; one group never is. (RFC 5952, section 4.2.2)
 fn is_left_out(len: usize) -> bool
     ensures { result ≡ nat_lt 1 len }
 {
@@ -214,7 +214,7 @@ fn push_all(out: &mut Vec<u8>, groups: &[u16]) -> Result<(), NoMemory>
     Ok(())
 }
 
-// What stands before `::`, and what stands behind it.
+/// What stands before `::`, and what stands behind it.
 fn push_around(out: &mut Vec<u8>, head: &[u16], tail: &[u16]) -> Result<(), NoMemory>
     requires head { length head.now ≤ 8 }
     requires tail { length tail.now ≤ 8 }
@@ -230,7 +230,7 @@ fn push_around(out: &mut Vec<u8>, head: &[u16], tail: &[u16]) -> Result<(), NoMe
     Ok(())
 }
 
-// Where the longest run of zeros begins, the first of that length, and how long it is.
+/// Where the longest run of zeros begins, the first of that length, and how long it is.
 fn longest_zeros(groups: &[u16]) -> (usize, usize)
     ensures value { result ≡ longest_zero_run groups.now }
     ensures within { result.0 + result.1 ≤ length groups.now }
@@ -271,7 +271,7 @@ fn push_groups(out: &mut Vec<u8>, groups: &[u16])
     }
 }
 
-// The bytes of groups with a colon in front of each.
+/// The bytes of groups with a colon in front of each.
 fn more_len(groups: &[u16]) -> usize
     requires { length groups.now ≤ 8 }
     ensures value { result ≡ length (flat_map (λ g. 58 ∷ hex g) groups.now) }

@@ -21,7 +21,7 @@ pub fn parse_flags(text: &[u8]) -> Option<Flags>
     Some(flags)
 }
 
-// The flags with that of one letter more.
+/// The flags with that of one letter more.
 fn with_letter(flags: Flags, letter: u8) -> Flags
     ensures { result ≡ with_letter flags letter }
 {

@@ -18,7 +18,7 @@ pub fn parse_number(text: &[u8]) -> Option<u64>
     value(text)
 }
 
-// The value of so few digits; none where another byte stands among them.
+/// The value of so few digits; none where another byte stands among them.
 fn value(text: &[u8]) -> Option<u64>
     requires { length text.now ≤ 10 }
     ensures { result ≡ (if list_all is_digit text.now then Some (digits_value 10 text.now) else None) }

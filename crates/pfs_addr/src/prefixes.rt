@@ -44,7 +44,7 @@ fn parse_parts(address: &[u8], length: &[u8]) -> Option<Prefix>
     Some(addr.prefix(bits))
 }
 
-// What stands before and behind the first slash.
+/// What stands before and behind the first slash.
 fn around_slash(text: &[u8]) -> Option<(&[u8], &[u8])>
     ensures { MatchOption result (list_all is_no_slash text.now ≡ true)
         (λ parts. (list_all is_no_slash parts.0.now ≡ true) × (text.now ≡ parts.0.now ++ 47 ∷ parts.1.now)) }

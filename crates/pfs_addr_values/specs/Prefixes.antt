@@ -21,13 +21,13 @@ abbrev pub first_bits : ℕ → Addr → ℕ
 first_bits n a = addr_number a / 2 ^ (width_of a - n)
 
 -- an address with all bits past the first ones zero
-unfoldable pub cleared : ℕ → Addr → Addr
-cleared n (V4 bytes) = V4 (to_be_bytes w32 (from_be_bytes w32 bytes / 2 ^ (32 - n) * 2 ^ (32 - n)))
-cleared n (V6 bytes) = V6 (to_be_bytes w128 (from_be_bytes w128 bytes / 2 ^ (128 - n) * 2 ^ (128 - n)))
+unfoldable pub cleared_addr : ℕ → Addr → Addr
+cleared_addr n (V4 bytes) = V4 (to_be_bytes w32 (from_be_bytes w32 bytes / 2 ^ (32 - n) * 2 ^ (32 - n)))
+cleared_addr n (V6 bytes) = V6 (to_be_bytes w128 (from_be_bytes w128 bytes / 2 ^ (128 - n) * 2 ^ (128 - n)))
 
 -- the prefix of an address, of so many bits
 abbrev pub network_of : Addr → ℕ → Network
-network_of a n = record { addr = cleared n a; bits = n }
+network_of a n = record { addr = cleared_addr n a; bits = n }
 
 -- a prefix covers an address of its family when their first bits agree (pf.conf(5), TABLES)
 unfoldable pub covers : Network → Addr → Bool
@@ -37,7 +37,7 @@ covers p a = same_family p.addr a && (first_bits p.bits p.addr == first_bits p.b
 pub record IsNetwork (p : Network) : Type 0 where
   pub addr : IsAddr p.addr
   pub short : p.bits ≤ width_of p.addr
-  pub zeros : cleared p.bits p.addr ≡ p.addr
+  pub zeros : cleared_addr p.bits p.addr ≡ p.addr
 
 -- a text writes a prefix when it is the text of an address alone, all of whose bits count, or that with a slash and the
 -- number of bits in decimal behind it; the bits past them are cleared

@@ -21,7 +21,7 @@ impl Hash for Addr {
 
     ghost respects_eq = { Prim.search (hashing, rules) };
 
-    // The bytes at once; a derive would feed them one by one.
+    /// The bytes at once; a derive would feed them one by one.
     fn hash<H: Hasher>(&self, state: &mut H) {
         match self {
             Addr::V4(bytes) => state.write(bytes),

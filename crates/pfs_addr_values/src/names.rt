@@ -116,7 +116,7 @@ impl<const N: usize> fmt::Debug for Name<N> {
     }
 }
 
-// Whether two texts are the same. Names of interfaces mostly differ in their last byte, so that is compared first.
+/// Whether two texts are the same. Names of interfaces mostly differ in their last byte, so that is compared first.
 #[tactic(auto, using(crate::proofs::LastBytes::unequal))]
 fn same_bytes(one: &[u8], other: &[u8]) -> bool
     ensures { result ≡ bytes_eq one.now other.now }

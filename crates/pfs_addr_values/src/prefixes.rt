@@ -2,7 +2,7 @@
 
 ghost use Rattle.std.specs.Prelude.{◌≡◌, ◌≤◌, ◌<◌, ◌==◌};
 ghost use Rattle.pfs_addr_values.specs.Addresses.{IsAddr, width_of};
-ghost use Rattle.pfs_addr_values.specs.Prefixes.{IsNetwork, Network, cleared, covers, first_bits, network_of};
+ghost use Rattle.pfs_addr_values.specs.Prefixes.{IsNetwork, Network, cleared_addr, covers, first_bits, network_of};
 ghost use Rattle.pfs_addr_values.specs.declared.addresses.Addr.TheVariants.{V4, V6};
 
 use crate::addresses::Addr;
@@ -84,10 +84,10 @@ impl Addr {
         }
     }
 
-    #[tactic(auto, unfolding(crate::specs::Prefixes::cleared))]
+    #[tactic(auto, unfolding(crate::specs::Prefixes::cleared_addr))]
     fn cleared(self, bits: u8) -> Addr
         requires { bits ≤ width_of self }
-        ensures value { result ≡ cleared bits self }
+        ensures value { result ≡ cleared_addr bits self }
         ensures addr { IsAddr self }
     {
         match self {
@@ -102,7 +102,7 @@ impl Addr {
     }
 }
 
-// The first bits of four bytes, as a number.
+/// The first bits of four bytes, as a number.
 fn first_of_4(bytes: [u8; 4], bits: u8) -> u64
     requires { bits ≤ 32 }
     ensures { result ≡ first_bits bits (V4 bytes) }
@@ -110,7 +110,7 @@ fn first_of_4(bytes: [u8; 4], bits: u8) -> u64
     u64::from(u32::from_be_bytes(bytes)) >> (32 - u32::from(bits))
 }
 
-// The first bits of sixteen bytes, as a number.
+/// The first bits of sixteen bytes, as a number.
 fn first_of_16(bytes: [u8; 16], bits: u8) -> u128
     requires { bits ≤ 128 }
     ensures { result ≡ first_bits bits (V6 bytes) }
@@ -121,10 +121,10 @@ fn first_of_16(bytes: [u8; 16], bits: u8) -> u128
     u128::from_be_bytes(bytes) >> (128 - u32::from(bits))
 }
 
-// Sixteen bytes with all bits past the first ones zero.
+/// Sixteen bytes with all bits past the first ones zero.
 fn cleared_16(bytes: [u8; 16], bits: u8) -> [u8; 16]
     requires { bits ≤ 128 }
-    ensures value { V6 result ≡ cleared bits (V6 bytes) }
+    ensures value { V6 result ≡ cleared_addr bits (V6 bytes) }
     ensures addr { IsAddr (V6 bytes) }
 {
     let number = u128::from_be_bytes(bytes);

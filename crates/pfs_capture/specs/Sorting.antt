@@ -32,8 +32,8 @@ way_of inside ifname link_type frame packet =
     else option_map (λ dir. record { dir = dir; ifname = ifname }) (way_between (is_inside inside packet.source) (is_inside inside packet.destination))
 
 -- the packet of a frame and its way, or the one reason why it is no record
-abbrev pub sorted : List Network → List ℕ → ℕ → List ℕ → Result Found Reason
-sorted inside ifname link_type frame =
+abbrev pub found_in_frame : List Network → List ℕ → ℕ → List ℕ → Result Found Reason
+found_in_frame inside ifname link_type frame =
     then_read (packet_of link_type frame) (λ packet. then_read (ok_or (way_of inside ifname link_type frame packet) reason.NeitherWay) (λ way. Ok (record { way = way; packet = packet })))
 
 -- a packet whose ends are of one family, on an interface with a name, as a row tells it

@@ -8,7 +8,7 @@ use Rattle.pfs_capture_packets.specs.declared.packets.Reason.{Reason}
 use Rattle.pfs_capture_rows.specs.Rows.{capture_row}
 use Rattle.pfs_capture_rows.specs.declared.rows.Row.{Row}
 use Rattle.pfs_capture.specs.Accounts.{frame_counted}
-use Rattle.pfs_capture.specs.Sorting.{sorted}
+use Rattle.pfs_capture.specs.Sorting.{found_in_frame}
 use Rattle.pfs_capture.specs.declared.accounts.Account.{Account}
 use Rattle.pfs_capture.specs.declared.faults.TraceStop.{TraceStop}
 use Rattle.pfs_capture.specs.declared.faults.TraceStop.TheVariants as stop
@@ -49,7 +49,7 @@ abbrev pub taken_at : ℕ → Tally → Result Found Reason → Tally × List �
 taken_at second tally outcome = (record { last = second; account = frame_counted tally.account (reason_of outcome) }, frame_text second outcome)
 
 abbrev pub frame_taken : List Network → List ℕ → Tally → Frame → List ℕ → Result (Tally × List ℕ) TraceStop
-frame_taken inside ifname tally frame held = at_second (second_after tally.last frame.moment) (λ second. taken_at second tally (sorted inside ifname frame.link (frame_bytes frame held)))
+frame_taken inside ifname tally frame held = at_second (second_after tally.last frame.moment) (λ second. taken_at second tally (found_in_frame inside ifname frame.link (frame_bytes frame held)))
 
 -- a call answers and leaves what a frame makes, unless memory was refused
 abbrev pub TakesFrame : Result (Tally × List ℕ) TraceStop → Result Tally TraceStop → List ℕ → Type 0

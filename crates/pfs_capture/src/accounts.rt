@@ -1,4 +1,4 @@
-// How many frames there were, and what became of them.
+//! How many frames there were, and what became of them.
 
 ghost use Rattle.std.specs.Prelude.{◌≡◌, ◌<◌, ◌^◌};
 ghost use Rattle.pfs_capture.specs.Accounts.{AddsUp, frame_counted, no_frames};
@@ -42,7 +42,7 @@ impl Account {
         }
     }
 
-    // The account of one frame more, which is a record, or is none for this reason.
+    /// The account of one frame more, which is a record, or is none for this reason.
     pub fn with(self, reason: Option<Reason>) -> Account
         requires few { self.frames < 2 ^ 63 }
         requires sum { AddsUp self }

@@ -1,4 +1,4 @@
-// Why a trace ends before its capture does.
+//! Why a trace ends before its capture does.
 
 ghost use Rattle.std.specs.Prelude.{◌≡◌};
 ghost use Rattle.pfs_capture.specs.Faults.{stop_status};

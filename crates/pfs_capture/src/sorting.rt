@@ -1,8 +1,8 @@
-// Which way a frame's packet goes.
+//! Which way a frame's packet goes.
 
 ghost use Rattle.std.specs.Prelude.{◌≡◌, IfOk, IfSome, true};
 ghost use Rattle.pfs_addr_values.specs.Names.{is_name, name_of};
-ghost use Rattle.pfs_capture.specs.Sorting.{IsFound, is_inside, sorted, way_between, way_of};
+ghost use Rattle.pfs_capture.specs.Sorting.{IsFound, is_inside, found_in_frame, way_between, way_of};
 
 use pfs_addr_values::{Addr, Dir, IfName, Prefix, parse_ifname};
 use pfs_capture_packets::{IpPacket, Logged, Reason, read_log, read_packet};
@@ -24,8 +24,8 @@ pub fn interface(text: &[u8]) -> Option<IfName>
     parse_ifname(text)
 }
 
-// The packet of a frame of this link type with its way, or the one reason for which it is no record. A log of packets tells the way
-// itself; else what goes to an address inside comes in, and what goes away from one goes out, on the interface of this name.
+/// The packet of a frame of this link type with its way, or the one reason for which it is no record. A log of packets tells the way
+/// itself; else what goes to an address inside comes in, and what goes away from one goes out, on the interface of this name.
 pub fn sort(
     inside: &[Prefix],
     ifname: IfName,
@@ -33,7 +33,7 @@ pub fn sort(
     frame: &[u8],
 ) -> Result<Found, Reason>
     requires { is_name 15 ifname ≡ true }
-    ensures is { result ≡ sorted inside.now ifname link_type frame.now }
+    ensures is { result ≡ found_in_frame inside.now ifname link_type frame.now }
     ensures row { IfOk result IsFound }
 {
     let packet = read_packet(link_type, frame)?;

@@ -1,9 +1,9 @@
-// The trace of a capture, row by row.
+//! The trace of a capture, row by row.
 
 ghost use Rattle.std.specs.Prelude.{◌≡◌, ◌<◌, ◌≤◌, ◌^◌, ◌+◌, ◌++◌, IfErr, IfOk, OnOk, true};
 ghost use Rattle.pfs_capture.specs.Accounts.{AddsUp};
 ghost use Rattle.pfs_capture.specs.Traces.{TakesFrame, frame_bytes, frame_text, reason_of, second_after, frame_taken};
-ghost use Rattle.pfs_capture.specs.Sorting.{IsFound, sorted};
+ghost use Rattle.pfs_capture.specs.Sorting.{IsFound, found_in_frame};
 ghost use Rattle.pfs_addr_values.specs.Names.{is_name};
 
 use crate::accounts::Account;
@@ -88,7 +88,7 @@ fn send<W: Write>(out: &mut Sink<W>, bytes: &[u8]) -> Result<(), TraceStop> {
     }
 }
 
-// The tally of one frame more, whose row is in the line, if it has one; else the line is empty.
+/// The tally of one frame more, whose row is in the line, if it has one; else the line is empty.
 fn take_frame(
     inside: &[Prefix],
     ifname: IfName,
@@ -116,7 +116,7 @@ fn take_frame(
     })
 }
 
-// Writes the row of a frame's packet into the line, if it has one.
+/// Writes the row of a frame's packet into the line, if it has one.
 fn write_outcome(
     outcome: &Result<Found, Reason>,
     second: u64,
@@ -142,7 +142,7 @@ fn write_outcome(
     }
 }
 
-// Why a frame is no record, if it is none.
+/// Why a frame is no record, if it is none.
 fn reason_of(outcome: &Result<Found, Reason>) -> Option<Reason>
     ensures { result ≡ reason_of outcome.now }
 {
@@ -152,7 +152,7 @@ fn reason_of(outcome: &Result<Found, Reason>) -> Option<Reason>
     }
 }
 
-// The second of a frame, behind one of this second.
+/// The second of a frame, behind one of this second.
 fn second_after(last: u64, moment: Moment) -> Result<u64, TraceStop>
     requires { last ≤ 4294967295 }
     ensures is { result ≡ second_after last moment }
@@ -166,10 +166,10 @@ fn second_after(last: u64, moment: Moment) -> Result<u64, TraceStop>
     }
 }
 
-// The packet of a frame in what was read, with its way, or why it is no record.
+/// The packet of a frame in what was read, with its way, or why it is no record.
 fn outcome_of(inside: &[Prefix], ifname: IfName, frame: Frame, held: &[u8]) -> Result<Found, Reason>
     requires { is_name 15 ifname ≡ true }
-    ensures is { result ≡ sorted inside.now ifname frame.link (frame_bytes frame held.now) }
+    ensures is { result ≡ found_in_frame inside.now ifname frame.link (frame_bytes frame held.now) }
     ensures row { IfOk result IsFound }
 {
     let rest = &held[frame.from.min(held.len())..];

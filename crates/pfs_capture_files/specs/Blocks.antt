@@ -36,8 +36,8 @@ block_head order head =
     else then_known (order_of_block order (u32_in order head 0) head) (λ own. sized_head own head)
 
 -- one interface more, of 1,024 at most (own)
-abbrev pub added : Known → Interface → Result (Known × Item) FileFault
-added known interface =
+abbrev pub with_interface : Known → Interface → Result (Known × Item) FileFault
+with_interface known interface =
     if nat_lt (length known.interfaces) 1024
     then Ok (record known { interfaces = known.interfaces ++ interface ∷ [] }, item.Other)
     else Err fault.Interfaces
@@ -64,7 +64,7 @@ held_in known head rest =
 abbrev pub body_item : Known → BlockHead → List ℕ → Result (Known × Item) FileFault
 body_item known head rest =
     if head.kind == 0x0a0d0d0a then Ok (record { order = head.order; interfaces = [] }, item.Other)
-    else (if head.kind == 1 then then_known (interface_of head.order head.half (body_of rest)) (λ i. added known i)
+    else (if head.kind == 1 then then_known (interface_of head.order head.half (body_of rest)) (λ i. with_interface known i)
     else then_known (held_in known head rest) (λ held. Ok (known, held)))
 
 -- a fault of what is around a file, and none of the file

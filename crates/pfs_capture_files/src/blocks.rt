@@ -1,7 +1,7 @@
-// The blocks of a pcapng file.
+//! The blocks of a pcapng file.
 
 ghost use Rattle.std.specs.Prelude.{◌≡◌, ◌-◌, ◌≤◌, [], IfOk, length};
-ghost use Rattle.pfs_capture_files.specs.Blocks.{TakesItem, added, block_head, body_item, held_in, described_at, order_of_block, order_of_magic};
+ghost use Rattle.pfs_capture_files.specs.Blocks.{TakesItem, with_interface, block_head, body_item, held_in, described_at, order_of_block, order_of_magic};
 
 use crate::faults::FileFault;
 use crate::frames::{Item, enhanced_frame, simple_frame};
@@ -46,7 +46,7 @@ pub struct BlockHead {
     pub half: u16,
 }
 
-// How a block begins by its first twelve bytes, in a section of this byte order.
+/// How a block begins by its first twelve bytes, in a section of this byte order.
 pub fn block_head(order: Order, head: &[u8]) -> Result<BlockHead, FileFault>
     ensures is { result ≡ block_head order head.now }
     ensures few { IfOk result (λ h. h.count ≤ 524288) }
@@ -72,7 +72,7 @@ pub fn block_head(order: Order, head: &[u8]) -> Result<BlockHead, FileFault>
     })
 }
 
-// The byte order of a block of this kind: a section's own, and of a section's block what it begins with.
+/// The byte order of a block of this kind: a section's own, and of a section's block what it begins with.
 fn order_of_block(order: Order, kind: u32, head: &[u8]) -> Result<Order, FileFault>
     requires { 12 ≤ length head.now }
     ensures { result ≡ order_of_block order kind head.now }
@@ -111,8 +111,8 @@ impl Section {
         self.order
     }
 
-    // What a block holds, by how it begins and what follows; what is known of the section changes as it says. At a fault anything
-    // may be known.
+    /// What a block holds, by how it begins and what follows; what is known of the section changes as it says. At a fault anything
+    /// may be known.
     pub fn take(&mut self, head: BlockHead, rest: &[u8]) -> Result<Item, FileFault>
         ensures { TakesItem (body_item self.old head rest.now) result self.new }
     {
@@ -131,7 +131,7 @@ impl Section {
     }
 
     fn add(&mut self, interface: Interface) -> Result<Item, FileFault>
-        ensures { TakesItem (added self.old interface) result self.new }
+        ensures { TakesItem (with_interface self.old interface) result self.new }
     {
         if self.interfaces.len() >= MOST_INTERFACES {
             return Err(FileFault::Interfaces);
@@ -142,7 +142,7 @@ impl Section {
         }
     }
 
-    // What a block holds that changes nothing of its section.
+    /// What a block holds that changes nothing of its section.
     fn held(&self, head: BlockHead, rest: &[u8]) -> Result<Item, FileFault>
         ensures { result ≡ held_in self.now head rest.now }
     {
@@ -162,7 +162,7 @@ impl Section {
         }
     }
 
-    // The interface of this number, from 0.
+    /// The interface of this number, from 0.
     fn interface(&self, number: usize) -> Result<Interface, FileFault>
         ensures { result ≡ described_at self.now number }
     {
@@ -173,7 +173,7 @@ impl Section {
     }
 }
 
-// How many bytes stand in front of a block's last length.
+/// How many bytes stand in front of a block's last length.
 fn front(rest: &[u8]) -> usize
     ensures is { result ≡ length rest.now - 4 }
     ensures within { result ≤ length rest.now }

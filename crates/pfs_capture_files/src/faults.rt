@@ -1,4 +1,4 @@
-// What is wrong with a capture file.
+//! What is wrong with a capture file.
 
 ghost use Rattle.std.specs.Prelude.{◌≡◌};
 

@@ -1,4 +1,4 @@
-// The two forms of capture files.
+//! The two forms of capture files.
 
 ghost use Rattle.std.specs.Prelude.{◌≡◌, ◌≤◌, ℕ, List, Some};
 ghost use Rattle.pfs_capture_files.specs.declared.forms.Form.TheVariants as form;
@@ -91,7 +91,7 @@ fn start_of_magic(magic: u32) -> Result<Start, FileFault>
     }
 }
 
-// Reads the second half of a pcap file's header.
+/// Reads the second half of a pcap file's header.
 fn start_classic<R: Read>(
     reader: &mut R,
     buffer: &mut Vec<u8>,
@@ -113,7 +113,7 @@ fn classic_form(order: Order, rest: &[u8]) -> Result<Form, FileFault>
     Ok(Form::Classic(order, link as u16))
 }
 
-// Reads what follows the first twelve bytes of a section's block.
+/// Reads what follows the first twelve bytes of a section's block.
 fn start_blocks<R: Read>(
     alloc: Global,
     reader: &mut R,
@@ -127,7 +127,7 @@ fn start_blocks<R: Read>(
     Ok(Form::Blocks(section))
 }
 
-// Reads a record of a pcap file.
+/// Reads a record of a pcap file.
 fn next_record<R: Read>(
     reader: &mut R,
     buffer: &mut Vec<u8>,
@@ -144,7 +144,7 @@ fn next_record<R: Read>(
     read_frame(reader, buffer, order, frame)
 }
 
-// Reads the bytes of a record whose header is read.
+/// Reads the bytes of a record whose header is read.
 fn read_frame<R: Read>(
     reader: &mut R,
     buffer: &mut Vec<u8>,
@@ -161,7 +161,7 @@ fn read_frame<R: Read>(
     Ok(Item::Frame(frame))
 }
 
-// Reads a block of a pcapng file.
+/// Reads a block of a pcapng file.
 fn next_block<R: Read>(
     reader: &mut R,
     buffer: &mut Vec<u8>,
@@ -177,7 +177,7 @@ fn next_block<R: Read>(
     read_rest(reader, buffer, section, head)
 }
 
-// Reads what follows the first twelve bytes of a block.
+/// Reads what follows the first twelve bytes of a block.
 fn read_rest<R: Read>(
     reader: &mut R,
     buffer: &mut Vec<u8>,

@@ -1,4 +1,4 @@
-// The frames that items of a file hold, and their moments.
+//! The frames that items of a file hold, and their moments.
 
 ghost use Rattle.std.specs.Prelude.{◌≡◌, ◌+◌, ◌≤◌, length};
 ghost use Rattle.pfs_capture_files.specs.Frames.{enhanced_frame, frame_moment, simple_frame, within_range};
@@ -48,7 +48,7 @@ pub enum Item {
     Frame(Frame),
 }
 
-// The frame of an enhanced packet block, of which this is what follows its interface, without its last length.
+/// The frame of an enhanced packet block, of which this is what follows its interface, without its last length.
 pub fn enhanced_frame(order: Order, interface: &Interface, body: &[u8]) -> Result<Frame, FileFault>
     ensures { result ≡ enhanced_frame order interface.now body.now }
 {
@@ -73,7 +73,7 @@ pub fn enhanced_frame(order: Order, interface: &Interface, body: &[u8]) -> Resul
     })
 }
 
-// The frame of a simple packet block, of which this is what follows the frame's own length, without the block's last length.
+/// The frame of a simple packet block, of which this is what follows the frame's own length, without the block's last length.
 pub fn simple_frame(interface: &Interface, told: u32, body: &[u8]) -> Result<Frame, FileFault>
     ensures { result ≡ simple_frame interface.now told body.now }
 {
@@ -97,7 +97,7 @@ pub fn simple_frame(interface: &Interface, told: u32, body: &[u8]) -> Result<Fra
     })
 }
 
-// The second of a moment that is told in an interface's units.
+/// The second of a moment that is told in an interface's units.
 fn moment_of(interface: &Interface, units: u64) -> Moment
     ensures { result ≡ frame_moment interface.now units }
 {

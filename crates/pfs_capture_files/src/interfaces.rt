@@ -1,4 +1,4 @@
-// The interfaces of a section.
+//! The interfaces of a section.
 
 ghost use Rattle.std.specs.Prelude.{◌≡◌, ◌+◌, ◌<◌, ◌≤◌, ◌^◌, length};
 ghost use Rattle.pfs_capture_files.specs.Interfaces.{interface_of, offset_of, units_of, units_told};
@@ -20,7 +20,7 @@ pub struct Interface {
     pub offset: u64,
 }
 
-// The interface of this link type that a block describes, of which this is what follows the link type, without its last length.
+/// The interface of this link type that a block describes, of which this is what follows the link type, without its last length.
 pub fn interface_of(order: Order, link: u16, body: &[u8]) -> Result<Interface, FileFault>
     ensures { result ≡ interface_of order link body.now }
 {
@@ -38,7 +38,7 @@ pub fn interface_of(order: Order, link: u16, body: &[u8]) -> Result<Interface, F
     })
 }
 
-// How many units a second has: a million where no option tells it.
+/// How many units a second has: a million where no option tells it.
 fn units_told(order: Order, body: &[u8]) -> Result<u64, FileFault>
     ensures { result ≡ units_told order body.now }
 {
@@ -49,7 +49,7 @@ fn units_told(order: Order, body: &[u8]) -> Result<u64, FileFault>
     }
 }
 
-// How many units a second has by the byte that tells it.
+/// How many units a second has by the byte that tells it.
 #[tactic(auto, using(crate::proofs::Powers::tens, crate::proofs::Powers::twos))]
 fn units_of(byte: u8) -> Result<u64, FileFault>
     ensures { result ≡ units_of byte }
@@ -63,7 +63,7 @@ fn units_of(byte: u8) -> Result<u64, FileFault>
     Err(FileFault::Resolution)
 }
 
-// How many seconds are to be added: none where no option tells it.
+/// How many seconds are to be added: none where no option tells it.
 fn offset_of(order: Order, body: &[u8]) -> u64
     ensures { result ≡ offset_of order body.now }
 {

@@ -1,4 +1,4 @@
-// The options of a block.
+//! The options of a block.
 
 ghost use Rattle.std.specs.Prelude.{◌≡◌, ◌+◌, ◌≤◌, IfSome, length};
 ghost use Rattle.pfs_capture_files.specs.Options.{FitsIn, find_option, option_step};
@@ -23,7 +23,7 @@ pub enum Look {
     Nowhere,
 }
 
-// Where the value begins of the first option that is wanted, of those that begin at this place.
+/// Where the value begins of the first option that is wanted, of those that begin at this place.
 pub fn find_option(order: Order, body: &[u8], wanted: Wanted, first: usize) -> Option<usize>
     ensures is { result ≡ find_option (length body.now) order body.now wanted first }
     ensures within { IfSome result (λ at. at + wanted.size ≤ length body.now) }
@@ -39,7 +39,7 @@ pub fn find_option(order: Order, body: &[u8], wanted: Wanted, first: usize) -> O
     None
 }
 
-// Where the look goes from the option that begins here.
+/// Where the look goes from the option that begins here.
 fn option_step(order: Order, body: &[u8], wanted: Wanted, at: usize) -> Look
     ensures is { result ≡ option_step order body.now wanted at }
     ensures within { FitsIn (length body.now) wanted.size result }

@@ -1,4 +1,4 @@
-// Numbers of both byte orders.
+//! Numbers of both byte orders.
 
 ghost use Rattle.std.specs.Prelude.{◌≡◌, ◌+◌, ◌≤◌, length};
 ghost use Rattle.pfs_capture_files.specs.Orders.{u16_in, u32_in, u64_in};
@@ -12,7 +12,7 @@ pub enum Order {
     Little,
 }
 
-// The number of two bytes.
+/// The number of two bytes.
 pub fn read_u16(order: Order, bytes: &[u8], at: usize) -> u16
     requires { at + 2 ≤ length bytes.now }
     ensures { result ≡ u16_in order bytes.now at }
@@ -23,7 +23,7 @@ pub fn read_u16(order: Order, bytes: &[u8], at: usize) -> u16
     }
 }
 
-// The number of four bytes.
+/// The number of four bytes.
 pub fn read_u32(order: Order, bytes: &[u8], at: usize) -> u32
     requires { at + 4 ≤ length bytes.now }
     ensures { result ≡ u32_in order bytes.now at }
@@ -36,7 +36,7 @@ pub fn read_u32(order: Order, bytes: &[u8], at: usize) -> u32
     }
 }
 
-// The number of eight bytes.
+/// The number of eight bytes.
 pub fn read_u64(order: Order, bytes: &[u8], at: usize) -> u64
     requires { at + 8 ≤ length bytes.now }
     ensures { result ≡ u64_in order bytes.now at }

@@ -23,8 +23,8 @@ abbrev pub kind_of_family : ℕ → ℕ
 kind_of_family family = if family == 2 then 0x0800 else (if (family == 24) || (family == 28) || (family == 30) then 0x86dd else 0)
 
 -- behind a header of so many bytes, whose EtherType begins at this place
-abbrev pub framed : List ℕ → ℕ → ℕ → Result Place Reason
-framed frame size at = if nat_le (0 + size) (length frame) then Ok (record { kind = u16_at frame at; at = size }) else Err reason.Cut
+abbrev pub place_behind_header : List ℕ → ℕ → ℕ → Result Place Reason
+place_behind_header frame size at = if nat_le (0 + size) (length frame) then Ok (record { kind = u16_at frame at; at = size }) else Err reason.Cut
 
 -- the family that four bytes hold in either byte order, 0 where it is past 255
 abbrev pub either_order : List ℕ → ℕ
@@ -51,9 +51,9 @@ log_place frame =
 -- what stands behind a link's header, and where: Ethernet has two addresses before its EtherType (IEEE 802.3, clause 3.2.6),
 -- LINKTYPE_LINUX_SLL has its protocol last, LINKTYPE_LINUX_SLL2 first
 abbrev pub first_place : Link → List ℕ → Result Place Reason
-first_place link.Ethernet frame = framed frame 14 12
-first_place link.Cooked frame = framed frame 16 14
-first_place link.CookedAgain frame = framed frame 20 0
+first_place link.Ethernet frame = place_behind_header frame 14 12
+first_place link.Cooked frame = place_behind_header frame 16 14
+first_place link.CookedAgain frame = place_behind_header frame 20 0
 first_place link.Loopback frame = loopback_place frame
 first_place link.Raw frame = raw_place frame
 first_place link.Log frame = log_place frame

@@ -1,16 +1,16 @@
-// Numbers in the bytes of a frame.
+//! Numbers in the bytes of a frame.
 
 ghost use Rattle.std.specs.Prelude.{◌≡◌, ◌+◌, ◌≤◌, nat_le, length};
 ghost use Rattle.pfs_capture_packets.specs.Bytes.{u16_at};
 
-// Whether there are so many bytes from a place on.
+/// Whether there are so many bytes from a place on.
 pub fn holds(bytes: &[u8], at: usize, count: usize) -> bool
     ensures { result ≡ nat_le (at + count) (length bytes.now) }
 {
     count <= bytes.len() && at <= bytes.len() - count
 }
 
-// The number of two bytes, the higher one first.
+/// The number of two bytes, the higher one first.
 pub fn read_u16(bytes: &[u8], at: usize) -> u16
     requires { at + 2 ≤ length bytes.now }
     ensures { result ≡ u16_at bytes.now at }

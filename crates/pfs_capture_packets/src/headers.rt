@@ -1,4 +1,4 @@
-// What stands behind a header of each layer.
+//! What stands behind a header of each layer.
 
 ghost use Rattle.std.specs.Prelude.{◌≡◌};
 ghost use Rattle.pfs_capture_packets.specs.Headers.{header_behind, behind_authentication, behind_extension};
@@ -9,7 +9,7 @@ use crate::labels::behind_label;
 use crate::packets::Reason;
 use crate::walks::{Layer, Next, Place};
 
-// Where the walk of a layer goes from a header.
+/// Where the walk of a layer goes from a header.
 pub fn behind(layer: Layer, bytes: &[u8], place: Place) -> Next
     ensures { result ≡ header_behind layer bytes.now place }
 {
@@ -20,7 +20,7 @@ pub fn behind(layer: Layer, bytes: &[u8], place: Place) -> Next
     }
 }
 
-// Behind an authentication header, whose length counts words of four bytes less two.
+/// Behind an authentication header, whose length counts words of four bytes less two.
 fn behind_authentication(bytes: &[u8], place: Place) -> Next
     ensures { result ≡ behind_authentication bytes.now place }
 {
@@ -38,8 +38,8 @@ fn behind_authentication(bytes: &[u8], place: Place) -> Next
     })
 }
 
-// Behind an extension header, whose length counts words of eight bytes less one. Behind a fragment's header the rest stands
-// in the first fragment alone.
+/// Behind an extension header, whose length counts words of eight bytes less one. Behind a fragment's header the rest stands
+/// in the first fragment alone.
 fn behind_extension(bytes: &[u8], place: Place) -> Next
     ensures { result ≡ behind_extension bytes.now place }
 {

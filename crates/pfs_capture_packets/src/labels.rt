@@ -1,4 +1,4 @@
-// Tags and labels between a link's header and a packet.
+//! Tags and labels between a link's header and a packet.
 
 ghost use Rattle.std.specs.Prelude.{◌≡◌};
 ghost use Rattle.pfs_capture_packets.specs.Labels.{behind_label, behind_tag, behind_session, behind_switched, kind_of_ppp, kind_of_version};
@@ -7,7 +7,7 @@ use crate::bytes::{holds, read_u16};
 use crate::packets::Reason;
 use crate::walks::{Next, Place};
 
-// Behind a tag or a label of any kind.
+/// Behind a tag or a label of any kind.
 pub fn behind_label(frame: &[u8], place: Place) -> Next
     ensures { result ≡ behind_label frame.now place }
 {
@@ -19,7 +19,7 @@ pub fn behind_label(frame: &[u8], place: Place) -> Next
     }
 }
 
-// Behind a tag of a virtual network.
+/// Behind a tag of a virtual network.
 fn behind_tag(frame: &[u8], place: Place) -> Next
     ensures { result ≡ behind_tag frame.now place }
 {
@@ -32,7 +32,7 @@ fn behind_tag(frame: &[u8], place: Place) -> Next
     })
 }
 
-// Behind the header of a PPPoE session, and PPP's protocol.
+/// Behind the header of a PPPoE session, and PPP's protocol.
 fn behind_session(frame: &[u8], place: Place) -> Next
     ensures { result ≡ behind_session frame.now place }
 {
@@ -45,7 +45,7 @@ fn behind_session(frame: &[u8], place: Place) -> Next
     })
 }
 
-// Behind an entry of a stack of MPLS labels. What follows the last entry tells its version in its first bits.
+/// Behind an entry of a stack of MPLS labels. What follows the last entry tells its version in its first bits.
 fn behind_switched(frame: &[u8], place: Place) -> Next
     ensures { result ≡ behind_switched frame.now place }
 {
@@ -63,7 +63,7 @@ fn behind_switched(frame: &[u8], place: Place) -> Next
     Next::On(Place { kind, at })
 }
 
-// The EtherType of what PPP carries, 0 where no packet can stand in it.
+/// The EtherType of what PPP carries, 0 where no packet can stand in it.
 fn kind_of_ppp(protocol: u16) -> u16
     ensures { result ≡ kind_of_ppp protocol }
 {
@@ -76,7 +76,7 @@ fn kind_of_ppp(protocol: u16) -> u16
     }
 }
 
-// The EtherType of a packet that begins with this byte, 0 where none does.
+/// The EtherType of a packet that begins with this byte, 0 where none does.
 pub fn kind_of_version(first: u8) -> u16
     ensures { result ≡ kind_of_version first }
 {

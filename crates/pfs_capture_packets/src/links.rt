@@ -1,7 +1,7 @@
-// The headers of links.
+//! The headers of links.
 
 ghost use Rattle.std.specs.Prelude.{◌≡◌, ◌+◌, ◌≤◌};
-ghost use Rattle.pfs_capture_packets.specs.Links.{first_place, framed, kind_of_family, link_of, loopback_place, log_place, raw_place};
+ghost use Rattle.pfs_capture_packets.specs.Links.{first_place, place_behind_header, kind_of_family, link_of, loopback_place, log_place, raw_place};
 
 use crate::bytes::{holds, read_u16};
 use crate::labels::kind_of_version;
@@ -42,7 +42,7 @@ impl Link {
     }
 }
 
-// What stands behind a link's header, and where.
+/// What stands behind a link's header, and where.
 pub fn first_place(link: Link, frame: &[u8]) -> Result<Place, Reason>
     ensures { result ≡ first_place link frame.now }
 {
@@ -56,10 +56,10 @@ pub fn first_place(link: Link, frame: &[u8]) -> Result<Place, Reason>
     }
 }
 
-// Behind a header of so many bytes, which has an EtherType at this place.
+/// Behind a header of so many bytes, which has an EtherType at this place.
 fn framed(frame: &[u8], size: usize, at: usize) -> Result<Place, Reason>
     requires { at + 2 ≤ size }
-    ensures { result ≡ framed frame.now size at }
+    ensures { result ≡ place_behind_header frame.now size at }
 {
     if !holds(frame, 0, size) {
         return Err(Reason::Cut);
@@ -116,7 +116,7 @@ fn log_place(frame: &[u8]) -> Result<Place, Reason>
     })
 }
 
-// The EtherType of packets of an address family, 0 where it has none.
+/// The EtherType of packets of an address family, 0 where it has none.
 fn kind_of_family(family: u8) -> u16
     ensures { result ≡ kind_of_family family }
 {

@@ -1,4 +1,4 @@
-// What the header of a log of packets says beside the packet.
+//! What the header of a log of packets says beside the packet.
 
 ghost use Rattle.std.specs.Prelude.{◌≡◌, ◌==◌, ◌<◌, ◌≤◌, IfSome, length, position, true};
 ghost use Rattle.pfs_addr_values.specs.Names.{is_name};
@@ -40,7 +40,7 @@ fn dir_at(byte: u8) -> Option<Dir>
     }
 }
 
-// The name of an interface, in a field that zeros fill up.
+/// The name of an interface, in a field that zeros fill up.
 fn name_at(field: &[u8]) -> Option<IfName>
     ensures is { result ≡ name_at field.now }
     ensures name { IfSome result (λ n. is_name 15 n ≡ true) }
@@ -48,7 +48,7 @@ fn name_at(field: &[u8]) -> Option<IfName>
     parse_ifname(&field[..text_length(field)])
 }
 
-// How many bytes a text has that ends before the first zero.
+/// How many bytes a text has that ends before the first zero.
 fn text_length(field: &[u8]) -> usize
     ensures is { result ≡ text_length field.now }
     ensures within { result ≤ length field.now }

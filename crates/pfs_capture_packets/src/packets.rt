@@ -1,4 +1,4 @@
-// The packet that a frame holds, or why it is none that a trace tells.
+//! The packet that a frame holds, or why it is none that a trace tells.
 
 ghost use Rattle.std.specs.Prelude.{◌≡◌, ◌+◌, ◌≤◌, IfOk, length, true};
 ghost use Rattle.pfs_addr_values.specs.Addresses.{same_family};
@@ -79,7 +79,7 @@ fn packet_in(link: Link, frame: &[u8]) -> Result<IpPacket, Reason>
     }
 }
 
-// The packet that begins with an IPv4 header.
+/// The packet that begins with an IPv4 header.
 fn ipv4_in(packet: &[u8]) -> Result<IpPacket, Reason>
     ensures is { result ≡ ipv4_in packet.now }
     ensures family { IfOk result (λ p. same_family p.source p.destination ≡ true) }
@@ -108,7 +108,7 @@ fn ipv4_in(packet: &[u8]) -> Result<IpPacket, Reason>
     })
 }
 
-// The packet that begins with an IPv6 header.
+/// The packet that begins with an IPv6 header.
 fn ipv6_in(packet: &[u8]) -> Result<IpPacket, Reason>
     ensures is { result ≡ ipv6_in packet.now }
     ensures family { IfOk result (λ p. same_family p.source p.destination ≡ true) }
@@ -133,7 +133,7 @@ fn ipv6_in(packet: &[u8]) -> Result<IpPacket, Reason>
     })
 }
 
-// Where a packet ends that has so many bytes behind its first ones, within what was captured of it.
+/// Where a packet ends that has so many bytes behind its first ones, within what was captured of it.
 fn own_length(packet: &[u8], before: usize, told: u16) -> usize
     requires { before ≤ 40 }
     ensures is { result ≡ own_length (length packet.now) before told }
@@ -145,7 +145,7 @@ fn own_length(packet: &[u8], before: usize, told: u16) -> usize
     packet.len().min(before + usize::from(told))
 }
 
-// What is carried behind the headers that follow the packet's own.
+/// What is carried behind the headers that follow the packet's own.
 fn found_at(layer: Layer, packet: &[u8], first: Place) -> Result<Carried, Reason>
     ensures is { result ≡ found_at layer packet.now first }
     ensures carried { IfOk result IsCarried }
@@ -154,7 +154,7 @@ fn found_at(layer: Layer, packet: &[u8], first: Place) -> Result<Carried, Reason
     carried_at(packet, place)
 }
 
-// What is carried by the protocol of this place from there on.
+/// What is carried by the protocol of this place from there on.
 fn carried_at(packet: &[u8], place: Place) -> Result<Carried, Reason>
     ensures is { result ≡ carried_at packet.now place }
     ensures carried { IfOk result IsCarried }
@@ -174,7 +174,7 @@ fn carried_at(packet: &[u8], place: Place) -> Result<Carried, Reason>
     }
 }
 
-// The flags of a TCP header, from the byte that holds them.
+/// The flags of a TCP header, from the byte that holds them.
 fn flags_in(byte: u8) -> Flags
     ensures { result ≡ flags_in byte }
 {

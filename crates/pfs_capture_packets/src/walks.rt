@@ -1,4 +1,4 @@
-// The walk from header to header.
+//! The walk from header to header.
 
 ghost use Rattle.std.specs.Prelude.{◌≡◌, length};
 ghost use Rattle.pfs_capture_packets.specs.Walks.{walk_from};
@@ -38,7 +38,7 @@ pub enum Next {
     Stop(Reason),
 }
 
-// The header at which a walk ends.
+/// The header at which a walk ends.
 pub fn walk(layer: Layer, bytes: &[u8], first: Place) -> Result<Place, Reason>
     ensures { result ≡ walk_from (length bytes.now) layer bytes.now first }
 {

@@ -1,4 +1,4 @@
-// The row of a packet.
+//! The row of a packet.
 
 ghost use Rattle.std.specs.Prelude.{◌≡◌, ◌≤◌, ◌++◌, ℕ, Ok, Option, Some, OnOk, true, false, decimal};
 ghost use Rattle.pfs_addr_values.specs.Addresses.{addr_text, same_family};
@@ -51,7 +51,7 @@ pub fn push_row(out: &mut Vec<u8>, row: &Row) -> Result<(), NoMemory>
     Ok(())
 }
 
-// Appends the columns in front of the ends of the packet.
+/// Appends the columns in front of the ends of the packet.
 fn push_start(out: &mut Vec<u8>, row: &Row) -> Result<(), NoMemory>
     ensures { OnOk result (out.new.items ≡ out.old.items ++ start_text row.now) }
 {
@@ -85,7 +85,7 @@ fn push_proto(out: &mut Vec<u8>, carried: &Carried) -> Result<(), NoMemory>
     Ok(())
 }
 
-// Appends the columns of an end, its port where it has one.
+/// Appends the columns of an end, its port where it has one.
 fn push_end(out: &mut Vec<u8>, addr: Addr, port: Option<u16>) -> Result<(), NoMemory>
     ensures text { OnOk result (out.new.items ≡ out.old.items ++ row_end addr port) }
     ensures again { addr_of (addr_text addr) ≡ Some addr }

@@ -39,7 +39,7 @@ pub enum Stop {
     Write,
 }
 
-// Writes a line.
+/// Writes a line.
 fn send<W: Write>(line: &[u8], out: &mut Sink<W>) -> Result<(), Stop>
     ensures writes { (t : List ℕ) × Appends (bytes_held W.contents out.old) (bytes_held W.contents out.new) t × WritesLine line.now t result }
     ensures fails { result ≡ Err (Stop.Write) → 0 < failures_of out.new }
@@ -50,7 +50,7 @@ fn send<W: Write>(line: &[u8], out: &mut Sink<W>) -> Result<(), Stop>
     }
 }
 
-// Writes the line of one outcome. `line` is room that is used again.
+/// Writes the line of one outcome. `line` is room that is used again.
 fn write_row<W: Write>(
     row: u64,
     outcome: &Outcome,
@@ -67,7 +67,7 @@ fn write_row<W: Write>(
     }
 }
 
-// The last line, with what is held.
+/// The last line, with what is held.
 fn end_line<H: Store>(rows: u64, engine: &Engine<H>) -> EndLine
     ensures { end_text result.rows result.states result.nodes result.entries ≡ end_line_of rows engine.now.machine }
 {
@@ -79,7 +79,7 @@ fn end_line<H: Store>(rows: u64, engine: &Engine<H>) -> EndLine
     }
 }
 
-// Writes the last line.
+/// Writes the last line.
 fn write_end<W: Write>(end: EndLine, room: &mut Vec<u8>, out: &mut Sink<W>) -> Result<(), Stop>
     ensures writes { (t : List ℕ) × Appends (bytes_held W.contents out.old) (bytes_held W.contents out.new) t
         × WritesLine (end_text end.rows end.states end.nodes end.entries) t result }
@@ -92,7 +92,7 @@ fn write_end<W: Write>(end: EndLine, room: &mut Vec<u8>, out: &mut Sink<W>) -> R
     }
 }
 
-// Lets the engine take one event, and writes its line.
+/// Lets the engine take one event, and writes its line.
 fn take_event<H: Store, W: Write>(
     row: u64,
     event: &Event,
@@ -116,7 +116,7 @@ fn take_event<H: Store, W: Write>(
     }
 }
 
-// The turn of one record.
+/// The turn of one record.
 fn take_record<H: Store, W: Write>(
     row: u64,
     fields: &ByteRecord,
@@ -137,7 +137,7 @@ fn take_record<H: Store, W: Write>(
     }
 }
 
-// Reads the records after the header, and writes the line of each before it reads the next.
+/// Reads the records after the header, and writes the line of each before it reads the next.
 fn tell_rows<H: Store, S: Read, W: Write>(
     reader: &mut Reader<S>,
     fields: &mut ByteRecord,
@@ -174,7 +174,7 @@ fn tell_rows<H: Store, S: Read, W: Write>(
     unreachable!()
 }
 
-// Reads the header, and then the records.
+/// Reads the header, and then the records.
 fn tell_trace<H: Store, S: Read, W: Write>(
     reader: &mut Reader<S>,
     fields: &mut ByteRecord,

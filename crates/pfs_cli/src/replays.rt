@@ -22,7 +22,7 @@ use pfs_cli_streams::{Feed, RulesStop, Sink, read_rules};
 use std::alloc::Global;
 use std::io::{Read, Write};
 
-// Why a call over this feed failed, where no fault of its own is at hand.
+/// Why a call over this feed failed, where no fault of its own is at hand.
 pub(crate) fn feed_fault<R>(feed: &Feed<R>) -> ReplayFault
     ensures kinds { IsFeedFault result }
     ensures read { result ≡ ReplayFault.Read → 0 < read_failures feed.now }
@@ -38,7 +38,7 @@ pub(crate) fn feed_fault<R>(feed: &Feed<R>) -> ReplayFault
     }
 }
 
-// The fault of a run over this feed that stopped.
+/// The fault of a run over this feed that stopped.
 pub(crate) fn fault_at<R>(stop: Stop, feed: &Feed<R>) -> ReplayFault
     ensures told { (conf : Conf) (rs : List ℕ) (ts : List ℕ) (t : List ℕ) → Reads rs conf → Tells conf (trace_of conf ts) t (Err stop) → Replays rs ts t (Err result) }
     ensures no_rules { (f : LoadFault) → result ≢ ReplayFault.Rules f }
@@ -54,7 +54,7 @@ pub(crate) fn fault_at<R>(stop: Stop, feed: &Feed<R>) -> ReplayFault
     }
 }
 
-// The bytes of a rules text, of which no more is read than shows that it is too long.
+/// The bytes of a rules text, of which no more is read than shows that it is too long.
 pub(crate) fn read_text<R: Read>(alloc: Global, rules: &mut Feed<R>) -> Result<Vec<u8>, ReplayFault>
     requires { read_failures rules.old ≡ 0 }
     ensures text { IfOk result (λ v. (rs : List ℕ) → unread R.remaining rules.old ≡ Some rs → KeepsEnough v.items rs) }
@@ -73,7 +73,7 @@ pub(crate) fn read_text<R: Read>(alloc: Global, rules: &mut Feed<R>) -> Result<V
     }
 }
 
-// Flushes a report that is written whole, or tells why it is not.
+/// Flushes a report that is written whole, or tells why it is not.
 pub(crate) fn finish<R, W: Write>(
     outcome: Result<(), Stop>,
     feed: &Feed<R>,

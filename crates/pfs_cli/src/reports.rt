@@ -53,7 +53,7 @@ pub fn write_report_over<H: Store + Drop, S: Read + Drop, W: Write>(
     }
 }
 
-// Writes the report of the trace that `source` gives, over a new store.
+/// Writes the report of the trace that `source` gives, over a new store.
 pub(crate) fn write_report<S: Read + Drop, W: Write>(
     alloc: Global,
     config: Config,

@@ -4,7 +4,7 @@ use Rattle.std.specs.Fmt.{decimal}
 use Rattle.pfs_conf_values.specs.declared.items.RuleNo.{RuleNo}
 use Rattle.pfs_store_contract.specs.declared.records.Limit.{Limit}
 use Rattle.pfs_store_contract.specs.declared.records.Limit.TheVariants as limit
-use Rattle.pfs_engine_machine.specs.Sources.{Addition, by_addition}
+use Rattle.pfs_engine_machine.specs.Sources.{Addition, value_of_addition}
 use Rattle.pfs_engine_machine.specs.declared.events.Exceeded.{Exceeded}
 use Rattle.pfs_engine_machine.specs.declared.events.Exceeded.TheVariants as exceeded
 use Rattle.pfs_engine_machine.specs.declared.events.Outcome.{Outcome}
@@ -31,7 +31,7 @@ mark_text None = codes "-"
 
 -- what became of the source of killed states in the overload table of the rule
 abbrev pub overload_word : Addition → List ℕ
-overload_word a = by_addition (codes "added") (codes "held") (codes "full") (codes "none") a
+overload_word a = value_of_addition (codes "added") (codes "held") (codes "full") (codes "none") a
 
 -- what a line tells: its word, and the rule by which it came, or `-`; of killed states also the overload and how many were killed,
 -- of entries that expired how many left

@@ -61,7 +61,7 @@ fn has_fallen(last: Option<u64>, time: u64) -> bool
     }
 }
 
-// The event of a record by which entries leave a table.
+/// The event of a record by which entries leave a table.
 fn read_leaving(
     row: u64,
     last: Option<u64>,
@@ -80,7 +80,7 @@ fn read_leaving(
     Ok(Event { time, what })
 }
 
-// The table of this name, if there is one and it is not `const`.
+/// The table of this name, if there is one and it is not `const`.
 fn find_table(config: &Config, name: &TableName) -> Option<TableNo>
     ensures { result ≡ changing config.now (table_named config.now name.now) }
 {
@@ -91,7 +91,7 @@ fn find_table(config: &Config, name: &TableName) -> Option<TableNo>
     Some(table)
 }
 
-// The name of a table, and how many seconds old its entries are that leave.
+/// The name of a table, and how many seconds old its entries are that leave.
 fn read_expiry(row: u64, fields: &ByteRecord) -> Result<(TableName, u64), TraceFault>
     ensures { result ≡ expiry_at row (fields_of fields.now) }
 {
@@ -111,7 +111,7 @@ fn read_nothing(text: &[u8]) -> Option<()>
     if text.is_empty() { Some(()) } else { None }
 }
 
-// The event of a packet, or of a record that is skipped. Its packet is made where it stays: it is not moved from value to value.
+/// The event of a packet, or of a record that is skipped. Its packet is made where it stays: it is not moved from value to value.
 fn read_packet(
     row: u64,
     last: Option<u64>,
@@ -155,7 +155,7 @@ fn is_skipped(proto: &Proto) -> bool
     proto.is_icmp()
 }
 
-// An address of the same family as another. Inlined, as `read_port` is, so that what is read is not moved once more.
+/// An address of the same family as another. Inlined, as `read_port` is, so that what is read is not moved once more.
 #[inline(always)]
 fn read_beside(other: Addr, text: &[u8]) -> Option<Addr>
     ensures { result ≡ beside other (addr_of text.now) }
@@ -163,7 +163,7 @@ fn read_beside(other: Addr, text: &[u8]) -> Option<Addr>
     parse_addr(text).filter(|addr| other.same_family(*addr))
 }
 
-// The field of a column, which count from 1.
+/// The field of a column, which count from 1.
 fn column(fields: &ByteRecord, number: usize) -> &[u8]
     requires { 1 ≤ number }
     ensures { result.now ≡ column_of (fields_of fields.now) number }

@@ -60,7 +60,7 @@ fn push_number(out: &mut Vec<u8>, number: u64) -> Result<(), AllocError>
     out.extend_from_slice(buffer.format(number).as_bytes())
 }
 
-// The number of a rule, behind the `@` of its line.
+/// The number of a rule, behind the `@` of its line.
 fn push_rule(out: &mut Vec<u8>, rule: Option<RuleNo>) -> Result<(), AllocError>
     ensures { OnOk result (out.new.items ≡ out.old.items ++ number_text rule) }
 {
@@ -70,7 +70,7 @@ fn push_rule(out: &mut Vec<u8>, rule: Option<RuleNo>) -> Result<(), AllocError>
     }
 }
 
-// What a line of killed states goes on with, and one of entries that expired; nothing on any other.
+/// What a line of killed states goes on with, and one of entries that expired; nothing on any other.
 fn push_note(out: &mut Vec<u8>, outcome: &Outcome) -> Result<(), AllocError>
     ensures { OnOk result (out.new.items ≡ out.old.items ++ note_text outcome.now) }
 {
@@ -115,7 +115,7 @@ fn rule(outcome: &Outcome) -> Option<RuleNo>
     }
 }
 
-// What stands between the row and the number of the rule: the word, and `@`, or `-` where there is no rule.
+/// What stands between the row and the number of the rule: the word, and `@`, or `-` where there is no rule.
 fn lead(outcome: &Outcome) -> &'static str
     ensures { result.now ≡ lead_of outcome.now }
 {

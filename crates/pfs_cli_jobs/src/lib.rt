@@ -1,4 +1,5 @@
-// The words of the command line, and the job that they ask for.
+//! The words of the command line, and the job that they ask for.
+
 #![tactic(auto)]
 
 mod tasks;

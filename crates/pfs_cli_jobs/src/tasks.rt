@@ -1,4 +1,4 @@
-// What the program is asked to do.
+//! What the program is asked to do.
 
 /// What the program is asked to do. Files are named as the words name them; `-` is the name of a file like any other.
 #[derive(Clone, Copy, Debug, PartialEq, Eq)]

@@ -1,4 +1,4 @@
-// How the words of the command line are read, with `clap`.
+//! How the words of the command line are read, with `clap`.
 
 ghost use Rattle.std.specs.Prelude.{◌≡◌, IfOk, map, false, codes, Some};
 ghost use Rattle.clap.specs.Words.{app_of, subcommand_of, rule_of, with_subcommand, first_of, found_of, kind_of, rows_of};
@@ -36,7 +36,7 @@ fn pfsrc<'a>(alloc: Global) -> Result<Command<'a>, AllocError>
     with_show(alloc)?.subcommand(replay)
 }
 
-// (each holds at most one command over a `?`: each that is held there is dear to prove)
+/// (each holds at most one command over a `?`: each that is held there is dear to prove)
 fn with_show<'a>(alloc: Global) -> Result<Command<'a>, AllocError>
     ensures { IfOk result (λ c. app_of c ≡ with_subcommand (with_subcommand program_app check_app.top) show_app.top) }
 {

@@ -10,7 +10,7 @@ use Rattle.pfs_cli_streams.specs.declared.splitting.Place.TheVariants as place
 use Rattle.pfs_cli_streams.specs.Kept.{KeepsEnough, rules_limit}
 use Rattle.pfs_cli_streams.specs.Joined.{split_joined}
 use Rattle.pfs_cli_streams.proofs.SplitLaws.{split-lines}
-use Rattle.pfs_cli_streams.specs.Places.{Parts, ahead, split_from, IsPastSplit, pending, place_after, place_over, split_at, split_mark, settled, ends_split}
+use Rattle.pfs_cli_streams.specs.Places.{Parts, ahead, split_from, IsPastSplit, pending, place_after, place_over, split_at, split_mark, settled_bytes, ends_split}
 
 pub ahead-ahead : (a b : List ℕ) (p : Parts) → ahead a (ahead b p) ≡ ahead (a ++ b) p
 ahead-ahead a b p = ap (λ (l : List ℕ). (l, p.1)) (sym (append_assoc a b p.0))
@@ -57,14 +57,14 @@ unfolding split_from
 split-line ys = refl
 
 -- the end of the text: a split line needs no line feed there
-split-end : (p : Place) → split_at p [] ≡ (settled p, [])
+split-end : (p : Place) → split_at p [] ≡ (settled_bytes p, [])
 unfolding split_from
 split-end place.Start = refl
 split-end place.Percent = refl
 split-end place.Percents = refl
 split-end place.Inside = refl
 
-pending-settled : (p : Place) → pending p ≡ settled p ++ split_mark p
+pending-settled : (p : Place) → pending p ≡ settled_bytes p ++ split_mark p
 pending-settled place.Start = refl
 pending-settled place.Percent = refl
 pending-settled place.Percents = refl
@@ -156,10 +156,10 @@ pub joins-end : (xs : List ℕ) (now new : Option (List ℕ)) (kept v : List ℕ
 joins-end xs now new kept v p h took end e =
     let (zs, at_z, left) = left-is now new h.left [] h.unread took in
     let none : zs ≡ [] = rw at_z at end in
-    let whole : split_joined xs ≡ (h.rules ++ settled p, []) = h.split ∙ ap (ahead h.rules) (ap (split_at p) (left ∙ none) ∙ split-end p) in
-    let all : kept ≡ (h.rules ++ settled p) ++ split_mark p =
-    h.all ∙ (ap (λ (l : List ℕ). h.rules ++ l) (pending-settled p) ∙ sym (append_assoc h.rules (settled p) (split_mark p))) in
-    (rw whole (kept-is v (h.rules ++ settled p) (e ∙ kept-end (h.rules ++ settled p) (split_mark p) kept all)), rw whole (at_z ∙ ap Some none))
+    let whole : split_joined xs ≡ (h.rules ++ settled_bytes p, []) = h.split ∙ ap (ahead h.rules) (ap (split_at p) (left ∙ none) ∙ split-end p) in
+    let all : kept ≡ (h.rules ++ settled_bytes p) ++ split_mark p =
+    h.all ∙ (ap (λ (l : List ℕ). h.rules ++ l) (pending-settled p) ∙ sym (append_assoc h.rules (settled_bytes p) (split_mark p))) in
+    (rw whole (kept-is v (h.rules ++ settled_bytes p) (e ∙ kept-end (h.rules ++ settled_bytes p) (split_mark p) kept all)), rw whole (at_z ∙ ap Some none))
 
 joins-line : (xs : List ℕ) (now new : Option (List ℕ)) (kept v : List ℕ) → Joins xs now kept place.Percents → Consumes now new (10 ∷ [])
     → v ≡ take (length kept - 2) kept → Answers xs new v
@@ -240,7 +240,7 @@ pub on-end : (p : Place) (xs : List ℕ) (now new : Option (List ℕ)) (q : Plac
 on-end p xs now new q chunks h took end =
     let (zs, at_z, left) = left-is now new h.left [] h.unread took in
     let none : zs ≡ [] = rw at_z at end in
-    let whole : split_at p xs ≡ ahead h.rules (settled q, []) = h.split ∙ ap (ahead h.rules) (ap (split_at q) (left ∙ none) ∙ split-end q) in
+    let whole : split_at p xs ≡ ahead h.rules (settled_bytes q, []) = h.split ∙ ap (ahead h.rules) (ap (split_at q) (left ∙ none) ∙ split-end q) in
     (0, at_z ∙ ap Some (none ∙ sym (ap (λ (w : Parts). w.1) whole)))
 
 pub on-count : (p : Place) (xs : List ℕ) (now : Option (List ℕ)) (q : Place) (chunks : ℕ) → ReadOn p xs now q chunks → 2 ^ 64 - 1 ≤ chunks → length xs < 2 ^ 64 - 1 → IsPastSplit (split_at p xs) now

@@ -52,11 +52,11 @@ split_mark place.Percents = 37 ∷ 37 ∷ []
 split_mark place.Inside = []
 
 -- the bytes so far of the line that are the rules', if the text ends here
-abbrev pub settled : Place → List ℕ
-settled place.Start = []
-settled place.Percent = 37 ∷ []
-settled place.Percents = []
-settled place.Inside = []
+abbrev pub settled_bytes : Place → List ℕ
+settled_bytes place.Start = []
+settled_bytes place.Percent = 37 ∷ []
+settled_bytes place.Percents = []
+settled_bytes place.Inside = []
 
 -- whether a byte ends the split line
 abbrev pub ends_split : Place → ℕ → Bool

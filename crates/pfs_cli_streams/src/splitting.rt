@@ -27,14 +27,14 @@ enum Place {
 }
 
 impl Place {
-    // Whether this byte ends the split line.
+    /// Whether this byte ends the split line.
     fn splits(self, byte: u8) -> bool
         ensures { result ≡ ends_split self byte }
     {
         matches!((self, byte), (Place::Percents, b'\n'))
     }
 
-    // The place after one byte more, which does not end the split line.
+    /// The place after one byte more, which does not end the split line.
     fn after(self, byte: u8) -> Place
         ensures { result ≡ place_after self byte }
     {
@@ -46,7 +46,7 @@ impl Place {
         }
     }
 
-    // The place after these bytes; none where the split line ends among them.
+    /// The place after these bytes; none where the split line ends among them.
     #[tactic(auto, unfolding(crate::specs::Places::place_over))]
     fn over(self, bytes: &[u8]) -> Option<Place>
         ensures { result ≡ place_over self bytes.now }
@@ -62,7 +62,7 @@ impl Place {
     }
 }
 
-// The bytes without those of a split line that ends here.
+/// The bytes without those of a split line that ends here.
 fn without_mark(kept: Vec<u8>, place: Place) -> Vec<u8>
     requires { length (split_mark place) ≤ length kept.items }
     ensures { result.items ≡ take (length kept.items - length (split_mark place)) kept.items }
@@ -74,7 +74,7 @@ fn without_mark(kept: Vec<u8>, place: Place) -> Vec<u8>
     kept
 }
 
-// Reads on behind the rules that are kept, to the split line or the end, by chunks that are given up.
+/// Reads on behind the rules that are kept, to the split line or the end, by chunks that are given up.
 fn read_on<B: Read>(input: &mut B, place: Place) -> Result<(), RulesStop>
     ensures past { OnOk result ((xs : List ℕ) → B.remaining input.old ≡ Some xs → length xs < 2 ^ 64 - 1 →
         IsPastSplit (split_at place xs) (B.remaining input.new)) }

@@ -13,8 +13,8 @@ use Rattle.pfs_conf_values.specs.declared.limits.LimitName.{LimitName}
 use Rattle.pfs_conf_values.specs.declared.limits.LimitName.TheVariants as limit
 use Rattle.pfs_conf_values.specs.declared.timeouts.TimeoutName.{TimeoutName}
 use Rattle.pfs_conf_settings.specs.Drafts.{Drafted, with_limit, with_timeout, is_defined}
-use Rattle.pfs_conf_settings.specs.Settings.{timeout_named, bounded_at, limited, limit_by, set_limit_at, least_value, greatest_value, unkept, timed, time_by, time_at, lined_limit_at, lined_time_at, limits_by, limits_at, times_by, times_at, settings_by, settings_at}
-use Rattle.pfs_conf_settings.specs.Tables.{sign_by, sign_at, again, entry_joined, entered, entry_by, entry_at, lined_entry_at, entries_by, braced_entries_at, unless, part_by, part_at, parts_at}
+use Rattle.pfs_conf_settings.specs.Settings.{timeout_named, bounded_at, limit_statement, limit_by, set_limit_at, least_value, greatest_value, unkept, timeout_statement, time_by, time_at, lined_limit_at, lined_time_at, limits_by, limits_at, times_by, times_at, settings_by, settings_at}
+use Rattle.pfs_conf_settings.specs.Tables.{sign_by, sign_at, again, entry_joined, entries_with, entry_by, entry_at, lined_entry_at, entries_by, braced_entries_at, unless, part_by, part_at, parts_at}
 use Rattle.pfs_conf_settings.specs.TableGrammar.{no_parts}
 use Rattle.pfs_conf_settings.specs.declared.tables.Parts.{Parts}
 use Rattle.pfs_conf.specs.Reading.{open_by, angle_by, new_table_named, new_name_by, new_name_at}
@@ -27,7 +27,7 @@ unfolding bounded_at
 keeps_value true low high = keeps_skipping (number_at low high) (keeps_number true low high)
 keeps_value false low high = keeps_number false low high
 
-limited_acts : (lined : Bool) (name : LimitName) (d : Drafted) (k : Key) → is_word_key k ≡ true → KeepsAct lined lined k (limited lined name d)
+limited_acts : (lined : Bool) (name : LimitName) (d : Drafted) (k : Key) → is_word_key k ≡ true → KeepsAct lined lined k (limit_statement lined name d)
 limited_acts lined name d k e = keeps_word lined lined k _ e (keeps_chain (bounded_at lined 1 4294967295) (λ n. done (with_limit name n d)) (keeps_value lined 1 4294967295) (λ n. keeps_done (with_limit name n d)))
 
 limit_acts : (lined : Bool) (d : Drafted) (k : Key) → KeepsAct lined lined k (limit_by lined d k)
@@ -58,7 +58,7 @@ named_is_word key.End name e = absurd cc
 named_is_word key.Bad name e = absurd cc
 named_is_word _ name e = refl
 
-timed_acts : (lined : Bool) (d : Drafted) (k : Key) (o : Option TimeoutName) → timeout_named k ≡ o → KeepsAct lined lined k (timed lined d o)
+timed_acts : (lined : Bool) (d : Drafted) (k : Key) (o : Option TimeoutName) → timeout_named k ≡ o → KeepsAct lined lined k (timeout_statement lined d o)
 timed_acts lined d k None e = tt
 timed_acts lined d k (Some name) e = keeps_word lined lined k _ (named_is_word k name e)
     (keeps_chain (bounded_at lined (least_value name) (greatest_value name)) (λ n. done (with_timeout name n d)) (keeps_value lined (least_value name) (greatest_value name)) (λ n. keeps_done (with_timeout name n d)))
@@ -136,14 +136,14 @@ joined_acts : (k : Key) (entries : List TextEntry) (negated : Bool) (p : Network
 joined_acts k entries negated p None e = held_acts k (entries ++ (p, negated) ∷ []) e
 joined_acts k entries negated p (Some held) e = again_acts k entries negated held e
 
-entered_acts : (k : Key) (entries : List TextEntry) (negated : Bool) (o : Option Network) → is_word_key k ≡ true → KeepsAct true true k (entered entries negated o)
+entered_acts : (k : Key) (entries : List TextEntry) (negated : Bool) (o : Option Network) → is_word_key k ≡ true → KeepsAct true true k (entries_with entries negated o)
 entered_acts k entries negated None e = tt
 entered_acts k entries negated (Some p) e = joined_acts k entries negated p (sign_of entries p) e
 
 keeps_entry : (entries : List TextEntry) (negated : Bool) → Keeps true true (entry_at entries negated)
 unfolding entry_at
 keeps_entry entries negated = keeps_front (λ t. entry_by entries negated t)
-    (λ t. keeps_if true true t.key (is_word_key t.key) (entered entries negated (prefix_of t.text)) (refuse why.Host) (λ e. entered_acts t.key entries negated (prefix_of t.text) e) (λ e. tt))
+    (λ t. keeps_if true true t.key (is_word_key t.key) (entries_with entries negated (prefix_of t.text)) (refuse why.Host) (λ e. entered_acts t.key entries negated (prefix_of t.text) e) (λ e. tt))
 
 keeps_signed : (entries : List TextEntry) (negated : Bool) → Keeps true true (skipping (chain (entry_at entries negated) (λ more. skipping (done more))))
 keeps_signed entries negated = keeps_skipping (chain (entry_at entries negated) (λ more. skipping (done more))) (keeps_chain (entry_at entries negated) (λ more. skipping (done more)) (keeps_entry entries negated) (λ more. keeps_lines more))

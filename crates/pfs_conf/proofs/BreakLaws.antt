@@ -11,7 +11,7 @@ use Rattle.pfs_conf_tokens.specs.Grammar.{Word}
 use Rattle.pfs_conf_tokens.proofs.Laws.{bind_err}
 use Rattle.pfs_conf_tokens.proofs.ReaderLaws.{word_is}
 use Rattle.pfs_addr_values.specs.Names.{name_of}
-use Rattle.pfs_conf_settings.specs.Drafts.{Drafted, finished, is_defined}
+use Rattle.pfs_conf_settings.specs.Drafts.{Drafted, conf_of_draft, is_defined}
 use Rattle.pfs_conf_values.specs.Siblings.{has_sibling}
 use Rattle.pfs_conf_values.specs.declared.filters.FlagTest.{FlagTest}
 use Rattle.pfs_conf_filters.specs.Reading.{verb_at, parameters_at, flags_at, begins_flags}
@@ -194,13 +194,13 @@ unbroken_all_closed depth = unbroken_front (λ t. cond (depth == 0) (stay (done 
 
 pub text_breaks_is : {ts : List Tok} {c : LoadRule} {n : ℕ} → text_at ts ≡ Err (broken c n) → Breaks ts c n
 unfolding text_at
-text_breaks_is {ts} {c} {n} e = elim (bind_err (statements_at ts) (λ x. chain (all_closed x.0.depth) (λ u. chain (told_of (text_breaks x.0)) (λ v. done (finished x.0.draft))) x.1) (broken c n) e) [
+text_breaks_is {ts} {c} {n} e = elim (bind_err (statements_at ts) (λ x. chain (all_closed x.0.depth) (λ u. chain (told_of (text_breaks x.0)) (λ v. done (conf_of_draft x.0.draft))) x.1) (broken c n) e) [
   | inl h ↦ statements_break ts c n h
-  | inr b ↦ elim (bind_err (all_closed b.0.0.depth b.0.1) (λ x. chain (told_of (text_breaks b.0.0)) (λ v. done (finished b.0.0.draft)) x.1) (broken c n) b.2) [
+  | inr b ↦ elim (bind_err (all_closed b.0.0.depth b.0.1) (λ x. chain (told_of (text_breaks b.0.0)) (λ v. done (conf_of_draft b.0.0.draft)) x.1) (broken c n) b.2) [
     | inl h ↦ absurd ((unbroken_all_closed b.0.0.depth).never b.0.1 c n h)
-    | inr d ↦ elim (bind_err (told_of (text_breaks b.0.0) d.0.1) (λ x. done (finished b.0.0.draft) x.1) (broken c n) d.2) [
+    | inr d ↦ elim (bind_err (told_of (text_breaks b.0.0) d.0.1) (λ x. done (conf_of_draft b.0.0.draft) x.1) (broken c n) d.2) [
       | inl h ↦ at_end (statements_are ts b.0.0 b.0.1 b.1) (closed_ok b.0.0.depth b.0.1 d.0.0 d.0.1 d.1).0 (told_of_broken (text_breaks b.0.0) d.0.1 c n h)
-      | inr f ↦ absurd ((unbroken_done (finished b.0.0.draft)).never f.0.1 c n f.2)
+      | inr f ↦ absurd ((unbroken_done (conf_of_draft b.0.0.draft)).never f.0.1 c n f.2)
     ]
   ]
 ]

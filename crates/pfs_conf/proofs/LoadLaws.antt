@@ -4,7 +4,7 @@ use Rattle.std.specs.Prelude.{IfOk, IfErr, MatchResult}
 use Rattle.pfs_conf_tokens.specs.Tokens.{Tok, head}
 use Rattle.pfs_conf_tokens.specs.Reading.{ends_text, Refused, stop, broken, up_to_all}
 use Rattle.pfs_conf_tokens.specs.Lexis.{text_limit, tokens_of}
-use Rattle.pfs_conf_tokens.specs.Giving.{refused, GivesOrMemory}
+use Rattle.pfs_conf_tokens.specs.Giving.{refusal_at, GivesOrMemory}
 use Rattle.pfs_conf_tokens.specs.declared.refusals.LoadRule.{LoadRule}
 use Rattle.pfs_conf_tokens.specs.declared.refusals.Why.{Why}
 use Rattle.pfs_conf_tokens.specs.declared.refusals.Refusal.TheVariants as refusal
@@ -39,7 +39,7 @@ use Rattle.pfs_conf.proofs.ReadLaws.{verb_key, rule_told, rule_statement, anchor
 pub statements_fail : (e : ReadError) (p q : Progress) (left ts : List Tok) (total : Result (Progress × List Tok) Refused)
     → ends_text (head ts).key ≡ false → Comes (Err e) left q (statement_at p ts) → up_to_all ends_text statement_at p ts ≡ total → GivesOrMemory {X = Progress} (Err e) left total
 statements_fail error.Memory p q left ts total n h e = tt
-statements_fail (error.Refused r) p q left ts total n h e = sym e ∙ up_to_fails ends_text statement_at p ts (refused r left) n h
+statements_fail (error.Refused r) p q left ts total n h e = sym e ∙ up_to_fails ends_text statement_at p ts (refusal_at r left) n h
 
 -- a text reads as one configuration alone
 pub one_text : {ts : List Tok} (a b : Conf) → TextOf ts a → TextOf ts b → a ≡ b

@@ -11,7 +11,7 @@ use Rattle.pfs_conf_tokens.specs.Reading.{ends_text, Refused, stop, broken, Read
 use Rattle.pfs_conf_tokens.proofs.Laws.{Reach, inside, line, across, passes_more, Online, online_across, online_done, online_chain, OnlineAct, Taking, online_front, online_taking, once_taking, Shrinks, front_shrinks, chain_shrinks, online_perhaps, online_until_all, online_up_to_all, online_ended}
 use Rattle.pfs_conf_tokens.proofs.ReaderLaws.{line_end_before_end, word_in_line}
 use Rattle.pfs_addr_values.specs.Names.{name_of}
-use Rattle.pfs_conf_settings.specs.Drafts.{Drafted, finished, is_defined}
+use Rattle.pfs_conf_settings.specs.Drafts.{Drafted, conf_of_draft, is_defined}
 use Rattle.pfs_conf_values.specs.Siblings.{has_sibling}
 use Rattle.pfs_conf_values.specs.declared.filters.FlagTest.{FlagTest}
 use Rattle.pfs_conf_filters.specs.Reading.{verb_at, parameters_at, flags_at, begins_flags}
@@ -269,6 +269,6 @@ online_all_closed depth = online_front (λ t. cond (depth == 0) (stay (done tt))
 
 pub online_text : Online across text_at
 unfolding text_at
-online_text = online_chain statements_at (λ p. chain (all_closed p.depth) (λ u. chain (told_of (text_breaks p)) (λ v. done (finished p.draft)))) online_statements
-    (λ p. online_chain (all_closed p.depth) (λ u. chain (told_of (text_breaks p)) (λ v. done (finished p.draft))) (online_all_closed p.depth)
-    (λ u. online_chain (told_of (text_breaks p)) (λ v. done (finished p.draft)) (online_told_of across (text_breaks p)) (λ v. online_done (finished p.draft))))
+online_text = online_chain statements_at (λ p. chain (all_closed p.depth) (λ u. chain (told_of (text_breaks p)) (λ v. done (conf_of_draft p.draft)))) online_statements
+    (λ p. online_chain (all_closed p.depth) (λ u. chain (told_of (text_breaks p)) (λ v. done (conf_of_draft p.draft))) (online_all_closed p.depth)
+    (λ u. online_chain (told_of (text_breaks p)) (λ v. done (conf_of_draft p.draft)) (online_told_of across (text_breaks p)) (λ v. online_done (conf_of_draft p.draft))))

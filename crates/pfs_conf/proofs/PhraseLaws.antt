@@ -16,7 +16,7 @@ use Rattle.pfs_conf_tokens.proofs.ReaderLaws.{line_end_key, ends_text_key, word_
 use Rattle.pfs_conf_tokens.proofs.WordKeys.{key_of_Anchor}
 use Rattle.pfs_addr_values.specs.Names.{is_name, name_of}
 use Rattle.pfs_conf_values.specs.Configs.{Conf}
-use Rattle.pfs_conf_settings.specs.Drafts.{Drafted, finished, is_defined}
+use Rattle.pfs_conf_settings.specs.Drafts.{Drafted, conf_of_draft, is_defined}
 use Rattle.pfs_conf_values.specs.LoadRules.{IsFlagTest}
 use Rattle.pfs_conf_values.specs.Siblings.{has_sibling}
 use Rattle.pfs_conf_values.specs.Order.{repeats_by}
@@ -369,14 +369,14 @@ statements_are ts p left e = up_to_is key.End ends_text StatementOf statement_at
 pub text_is : (ts : List Tok) (conf : Conf) (left : List Tok) → text_at ts ≡ Ok (conf, left) → TextOf ts conf
 unfolding text_at
 text_is ts conf left e =
-    let a = chain_ok statements_at (λ p. chain (all_closed p.depth) (λ u. chain (told_of (text_breaks p)) (λ v. done (finished p.draft)))) ts conf left e in
-    let b = chain_ok (all_closed a.0.depth) (λ u. chain (told_of (text_breaks a.0)) (λ v. done (finished a.0.draft))) a.1 conf left a.3 in
-    let c = chain_ok (told_of (text_breaks a.0)) (λ v. done (finished a.0.draft)) b.1 conf left b.3 in
+    let a = chain_ok statements_at (λ p. chain (all_closed p.depth) (λ u. chain (told_of (text_breaks p)) (λ v. done (conf_of_draft p.draft)))) ts conf left e in
+    let b = chain_ok (all_closed a.0.depth) (λ u. chain (told_of (text_breaks a.0)) (λ v. done (conf_of_draft a.0.draft))) a.1 conf left a.3 in
+    let c = chain_ok (told_of (text_breaks a.0)) (λ v. done (conf_of_draft a.0.draft)) b.1 conf left b.3 in
     record {
       said = a.0;
       left = a.1;
       statements = statements_are ts a.0 a.1 a.2;
       all_closed = (closed_ok a.0.depth a.1 b.0 b.1 b.2).0;
       keeps = (told_of_ok (text_breaks a.0) b.1 c.0 c.1 c.2).0;
-      says = (ok_parts (finished a.0.draft) conf c.1 left c.3).0;
+      says = (ok_parts (conf_of_draft a.0.draft) conf c.1 left c.3).0;
     }

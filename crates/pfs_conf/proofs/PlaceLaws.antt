@@ -11,7 +11,7 @@ use Rattle.pfs_conf_tokens.specs.declared.refusals.Why.{Why}
 use Rattle.pfs_conf_tokens.specs.declared.refusals.Why.TheVariants as why
 use Rattle.pfs_conf_tokens.proofs.Laws.{bind_err, ok_parts, line, passes_then, online_until_all}
 use Rattle.pfs_conf_tokens.proofs.ReaderLaws.{line_end_before_end}
-use Rattle.pfs_conf_settings.specs.Drafts.{finished}
+use Rattle.pfs_conf_settings.specs.Drafts.{conf_of_draft}
 use Rattle.pfs_conf_filters.specs.Reading.{verb_at, parameters_at}
 use Rattle.pfs_conf_filters.specs.declared.phrases.Parameters.{Parameters}
 use Rattle.pfs_conf_filters.specs.declared.phrases.Statement.TheVariants as statement
@@ -202,11 +202,11 @@ open_stops depth ts left w e = if_open (depth == 0) ts left w e
 
 pub text_stops : (ts left : List Tok) (w : Why) → text_at ts ≡ Err (stop left w) → StopsBehind ts left
 unfolding text_at
-text_stops ts left w e = elim (bind_err (statements_at ts) (λ x. chain (all_closed x.0.depth) (λ u. chain (told_of (text_breaks x.0)) (λ v. done (finished x.0.draft))) x.1) (stop left w) e) [
+text_stops ts left w e = elim (bind_err (statements_at ts) (λ x. chain (all_closed x.0.depth) (λ u. chain (told_of (text_breaks x.0)) (λ v. done (conf_of_draft x.0.draft))) x.1) (stop left w) e) [
   | inl h ↦ statements_stop ts left w h
-  | inr b ↦ elim (bind_err (all_closed b.0.0.depth b.0.1) (λ x. chain (told_of (text_breaks b.0.0)) (λ v. done (finished b.0.0.draft)) x.1) (stop left w) b.2) [
+  | inr b ↦ elim (bind_err (all_closed b.0.0.depth b.0.1) (λ x. chain (told_of (text_breaks b.0.0)) (λ v. done (conf_of_draft b.0.0.draft)) x.1) (stop left w) b.2) [
     | inl h ↦ (b.0.0, b.0.1, steps_are (statements_are ts b.0.0 b.0.1 b.1), begun_there (open_stops b.0.0.depth b.0.1 left w h))
-    | inr d ↦ elim (bind_err (told_of (text_breaks b.0.0) d.0.1) (λ x. done (finished b.0.0.draft) x.1) (stop left w) d.2) [
+    | inr d ↦ elim (bind_err (told_of (text_breaks b.0.0) d.0.1) (λ x. done (conf_of_draft b.0.0.draft) x.1) (stop left w) d.2) [
       | inl h ↦ absurd (told_of_stops (text_breaks b.0.0) d.0.1 left w h)
       | inr f ↦ absurd (let h = f.2 in cc)
     ]

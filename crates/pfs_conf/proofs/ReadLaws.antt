@@ -10,7 +10,7 @@ use Rattle.pfs_conf_tokens.specs.Reading.{ends_text, Refused, broken}
 use Rattle.pfs_conf_tokens.specs.Grammar.{Word, Perhaps, absent, present, Until, ends, goes, UpTo}
 use Rattle.pfs_conf_tokens.proofs.ReaderLaws.{word_head, ended_reads, perhaps_reads, Reads, until_reads, up_to_reads}
 use Rattle.pfs_conf_values.specs.Configs.{Conf}
-use Rattle.pfs_conf_settings.specs.Drafts.{Drafted, finished}
+use Rattle.pfs_conf_settings.specs.Drafts.{Drafted, conf_of_draft}
 use Rattle.pfs_conf_values.specs.declared.filters.FlagTest.{FlagTest}
 use Rattle.pfs_conf_filters.specs.Grammar.{Behind, VerbOf, pass, block, DirOf, inward, outward, FamilyOf, inet, inet6, slow, quick, MarksOf, of_anchor, HostsOf, every, sides, ParametersOf, FlagsOf}
 use Rattle.pfs_conf_filters.specs.Reading.{flags_at, begins_flags}
@@ -214,7 +214,7 @@ unfolding statements_at
 statements_read u = up_to_reads statements_read_up u
 
 -- the end of the text, behind statements that are read
-pub text_ends : (ts : List Tok) (p : Progress) (left : List Tok) → statements_at ts ≡ Ok (p, left) → p.depth ≡ 0 → text_breaks p ≡ None → text_at ts ≡ Ok (finished p.draft, left)
+pub text_ends : (ts : List Tok) (p : Progress) (left : List Tok) → statements_at ts ≡ Ok (p, left) → p.depth ≡ 0 → text_breaks p ≡ None → text_at ts ≡ Ok (conf_of_draft p.draft, left)
 unfolding text_at
 text_ends ts p left e z k = let zero : (p.depth == 0) ≡ true = ap (λ (n : ℕ). n == 0) z in rw (e, zero, k) refl
 

@@ -26,7 +26,7 @@ use Rattle.pfs_conf_filters.specs.declared.phrases.Statement.{Statement}
 use Rattle.pfs_conf_filters.specs.declared.phrases.Statement.TheVariants as statement
 use Rattle.pfs_conf_filters.specs.declared.phrases.Verb.TheVariants as verb
 use Rattle.pfs_conf_filters.specs.Values.{in_plain_word, interface_name, ports_of, flag_test}
-use Rattle.pfs_conf_filters.specs.Reading.{behind, clause, part, begins_dir, begins_on, begins_family, begins_proto, begins_from, begins_to, begins_port, begins_flags, interface_at, policy_by, policy_at, verb_by, verb_at, dir_by, dir_at, log_item_by, log_item_at, log_list_by, log_list_at, log_by, log_at, quick_by, quick_at, marked, marks_by, marks_at, negation_by, negation_at, interface, on_at, on_part_at, family_by, family_part_at, proto_at, proto_part_at, head_at, close_by, close_at, place_by, place_at, host_by, host_at, equals_by, equals_at, ports_at, ports_part_at, side_host_by, side_host_at, side, side_at, from_part_at, to_part_at, all_hosts, given_hosts, hosts_by, hosts_at, parameters_at, flags_at}
+use Rattle.pfs_conf_filters.specs.Reading.{behind, clause, part, begins_dir, begins_on, begins_family, begins_proto, begins_from, begins_to, begins_port, begins_flags, interface_at, policy_by, policy_at, verb_by, verb_at, dir_by, dir_at, log_item_by, log_item_at, log_list_by, log_list_at, log_by, log_at, quick_by, quick_at, marks_of, marks_by, marks_at, negation_by, negation_at, interface, on_at, on_part_at, family_by, family_part_at, proto_at, proto_part_at, head_at, close_by, close_at, place_by, place_at, host_by, host_at, equals_by, equals_at, ports_at, ports_part_at, side_host_by, side_host_at, side, side_at, from_part_at, to_part_at, all_hosts, given_hosts, hosts_by, hosts_at, parameters_at, flags_at}
 use Rattle.pfs_conf_options.specs.Options.{none_given, rule_place}
 use Rattle.pfs_conf_options.specs.Reading.{track_by, track_at, rate_of, rate_found, rate_by, rate_at, name_closed_by, name_closed, table_by, table_at, flushed_by, flush_by, flush_at, overload_text_at, mark_once, timeout_by, mark_by, connection_by, option_by, option_at, state_options_at, kept_by, kept_at, kept_clause, behind_state, state_word, state_by, state_at}
 use Rattle.pfs_conf_tokens.specs.Values.{in_word, table_name, table_name_at, value_at, valued}
@@ -35,9 +35,9 @@ use Rattle.pfs_conf_options.specs.declared.clauses.Options.{Options}
 use Rattle.pfs_conf_options.specs.declared.clauses.StateClause.{StateClause}
 use Rattle.pfs_conf_options.specs.declared.clauses.StateClause.TheVariants as state_clause
 use Rattle.pfs_conf_settings.specs.Settings as setting
-use Rattle.pfs_conf_settings.specs.Settings.{timeout_named, limited, limit_by, set_limit_at, least_value, greatest_value, unkept, timed, time_by, time_at, lined_limit_at, lined_time_at, limits_by, limits_at, times_by, times_at, settings_by, settings_at}
+use Rattle.pfs_conf_settings.specs.Settings.{timeout_named, limit_statement, limit_by, set_limit_at, least_value, greatest_value, unkept, timeout_statement, time_by, time_at, lined_limit_at, lined_time_at, limits_by, limits_at, times_by, times_at, settings_by, settings_at}
 use Rattle.pfs_conf_settings.specs.Tables as tables
-use Rattle.pfs_conf_settings.specs.Tables.{again, entry_joined, entered, entry_by, entry_at, lined_entry_at, entries_by, braced_entries_at, unless, part_by, part_at, parts_at}
+use Rattle.pfs_conf_settings.specs.Tables.{again, entry_joined, entries_with, entry_by, entry_at, lined_entry_at, entries_by, braced_entries_at, unless, part_by, part_at, parts_at}
 use Rattle.pfs_conf_settings.specs.TableGrammar.{no_parts}
 use Rattle.pfs_conf_settings.specs.declared.tables.Parts.{Parts}
 use Rattle.pfs_conf.proofs.UnbrokenLaws.{Unbroken, UnbrokenAct, unbroken_done, unbroken_chain, unbroken_front, unbroken_if, unbroken_once, unbroken_perhaps, unbroken_up_to, unbroken_list, unbroken_skipping, unbroken_number}
@@ -134,13 +134,13 @@ unbroken_quick : Unbroken quick_at
 unfolding quick_at
 unbroken_quick = unbroken_front (λ t. quick_by t.key) (λ t. quick_acts t.key)
 
-log_then_quick : Unbroken (chain log_at (λ l. chain quick_at (λ q. done (marked l q))))
-log_then_quick = unbroken_chain log_at (λ l. chain quick_at (λ q. done (marked l q))) unbroken_log (λ l. unbroken_chain quick_at (λ q. done (marked l q)) unbroken_quick (λ q. unbroken_done (marked l q)))
+log_then_quick : Unbroken (chain log_at (λ l. chain quick_at (λ q. done (marks_of l q))))
+log_then_quick = unbroken_chain log_at (λ l. chain quick_at (λ q. done (marks_of l q))) unbroken_log (λ l. unbroken_chain quick_at (λ q. done (marks_of l q)) unbroken_quick (λ q. unbroken_done (marks_of l q)))
 
 marks_acts : (s : Statement) (k : Key) → UnbrokenAct (marks_by s k)
-marks_acts statement.Rule key.Quick = unbroken_chain log_at (λ l. done (marked l true)) unbroken_log (λ l. unbroken_done (marked l true))
+marks_acts statement.Rule key.Quick = unbroken_chain log_at (λ l. done (marks_of l true)) unbroken_log (λ l. unbroken_done (marks_of l true))
 marks_acts statement.Rule _ = log_then_quick
-marks_acts statement.Anchor k = unbroken_chain quick_at (λ q. done (marked false q)) unbroken_quick (λ q. unbroken_done (marked false q))
+marks_acts statement.Anchor k = unbroken_chain quick_at (λ q. done (marks_of false q)) unbroken_quick (λ q. unbroken_done (marks_of false q))
 
 unbroken_marks : (s : Statement) → Unbroken (marks_at s)
 unfolding marks_at
@@ -391,7 +391,7 @@ unfolding setting.bounded_at
 unbroken_setting true low high = unbroken_skipping (number_at low high) (unbroken_number low high)
 unbroken_setting false low high = unbroken_number low high
 
-limited_acts : (lined : Bool) (name : LimitName) (d : Drafted) → UnbrokenAct (limited lined name d)
+limited_acts : (lined : Bool) (name : LimitName) (d : Drafted) → UnbrokenAct (limit_statement lined name d)
 limited_acts lined name d = unbroken_chain (setting.bounded_at lined 1 4294967295) _ (unbroken_setting lined 1 4294967295) (λ n. unbroken_done (with_limit name n d))
 
 limit_acts : (lined : Bool) (d : Drafted) (k : Key) → UnbrokenAct (limit_by lined d k)
@@ -406,7 +406,7 @@ unbroken_limit : (lined : Bool) (d : Drafted) → Unbroken (set_limit_at lined d
 unfolding set_limit_at
 unbroken_limit lined d = unbroken_front (λ t. limit_by lined d t.key) (λ t. limit_acts lined d t.key)
 
-timed_acts : (lined : Bool) (d : Drafted) (o : Option TimeoutName) → UnbrokenAct (timed lined d o)
+timed_acts : (lined : Bool) (d : Drafted) (o : Option TimeoutName) → UnbrokenAct (timeout_statement lined d o)
 timed_acts lined d None = tt
 timed_acts lined d (Some name) = unbroken_chain (setting.bounded_at lined (least_value name) (greatest_value name)) _ (unbroken_setting lined (least_value name) (greatest_value name)) (λ n. unbroken_done (with_timeout name n d))
 
@@ -480,13 +480,13 @@ joined_acts : (entries : List TextEntry) (negated : Bool) (p : Network) (o : Opt
 joined_acts entries negated p None = unbroken_done _
 joined_acts entries negated p (Some held) = again_acts entries negated held
 
-entered_acts : (entries : List TextEntry) (negated : Bool) (o : Option Network) → UnbrokenAct (entered entries negated o)
+entered_acts : (entries : List TextEntry) (negated : Bool) (o : Option Network) → UnbrokenAct (entries_with entries negated o)
 entered_acts entries negated None = tt
 entered_acts entries negated (Some p) = joined_acts entries negated p (sign_of entries p)
 
 unbroken_entry : (entries : List TextEntry) (negated : Bool) → Unbroken (entry_at entries negated)
 unfolding entry_at
-unbroken_entry entries negated = unbroken_front (λ t. entry_by entries negated t) (λ t. unbroken_if (is_word_key t.key) (entered entries negated (prefix_of t.text)) (refuse why.Host) (entered_acts entries negated (prefix_of t.text)) tt)
+unbroken_entry entries negated = unbroken_front (λ t. entry_by entries negated t) (λ t. unbroken_if (is_word_key t.key) (entries_with entries negated (prefix_of t.text)) (refuse why.Host) (entered_acts entries negated (prefix_of t.text)) tt)
 
 unbroken_entries_behind : (entries : List TextEntry) → Unbroken (skipping (done entries))
 unbroken_entries_behind entries = unbroken_skipping (done entries) (unbroken_done entries)

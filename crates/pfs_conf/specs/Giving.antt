@@ -2,7 +2,7 @@
 use Rattle.std.specs.Prelude.{◌≡◌, ◌≤◌, List, Result, Ok, Err}
 use Rattle.pfs_conf_tokens.specs.Tokens.{Tok}
 use Rattle.pfs_conf_tokens.specs.Reading.{Refused}
-use Rattle.pfs_conf_tokens.specs.Giving.{refused}
+use Rattle.pfs_conf_tokens.specs.Giving.{refusal_at}
 use Rattle.pfs_conf_tokens.specs.declared.refusals.ReadError.{ReadError}
 use Rattle.pfs_conf_tokens.specs.declared.refusals.ReadError.TheVariants as error
 use Rattle.pfs_conf_values.specs.Order.{depth_after}
@@ -12,7 +12,7 @@ use Rattle.pfs_conf.specs.declared.progress.Progress.{Progress}
 abbrev pub Comes : Result (Unit {0}) ReadError → List Tok → Progress → Result (Progress × List Tok) Refused → Type 0
 Comes (Ok u) left p read = read ≡ Ok (p, left)
 Comes (Err error.Memory) left p read = Unit {0}
-Comes (Err (error.Refused e)) left p read = read ≡ Err (refused e left)
+Comes (Err (error.Refused e)) left p read = read ≡ Err (refusal_at e left)
 
 -- the next item may stand as deep as this
 pub record IsAtDepth (p : Progress) : Type 0 where

@@ -8,7 +8,7 @@ use Rattle.pfs_conf_tokens.specs.declared.keys.Key.{Key}
 use Rattle.pfs_conf_tokens.specs.declared.keys.Key.TheVariants as key
 use Rattle.pfs_addr_values.specs.Names.{name_of}
 use Rattle.pfs_conf_values.specs.Configs.{Conf}
-use Rattle.pfs_conf_settings.specs.Drafts.{Drafted, finished, is_defined}
+use Rattle.pfs_conf_settings.specs.Drafts.{Drafted, conf_of_draft, is_defined}
 use Rattle.pfs_conf_values.specs.Siblings.{has_sibling}
 use Rattle.pfs_conf_values.specs.declared.filters.FlagTest.{FlagTest}
 use Rattle.pfs_conf_filters.specs.declared.phrases.Statement.TheVariants as statement
@@ -95,4 +95,4 @@ pub record TextOf (ts : List Tok) (conf : Conf) : Type 0 where
   pub statements : UpTo key.End StatementOf nothing ts said left
   pub all_closed : said.depth ≡ 0
   pub keeps : text_breaks said ≡ None
-  pub says : finished said.draft ≡ conf
+  pub says : conf_of_draft said.draft ≡ conf

@@ -11,7 +11,7 @@ use Rattle.pfs_conf_tokens.specs.declared.refusals.Why.{Why}
 use Rattle.pfs_conf_tokens.specs.declared.refusals.Why.TheVariants as why
 use Rattle.pfs_addr_values.specs.Names.{name_of}
 use Rattle.pfs_conf_values.specs.Configs.{Conf}
-use Rattle.pfs_conf_settings.specs.Drafts.{Drafted, finished, is_defined}
+use Rattle.pfs_conf_settings.specs.Drafts.{Drafted, conf_of_draft, is_defined}
 use Rattle.pfs_conf_values.specs.Siblings.{has_sibling}
 use Rattle.pfs_conf_values.specs.declared.filters.FlagTest.{FlagTest}
 use Rattle.pfs_conf_filters.specs.Reading.{verb_at, parameters_at, flags_at, begins_flags}
@@ -43,9 +43,9 @@ abbrev pub anchor_closed : Progress → Progress
 anchor_closed p = record { draft = p.draft; depth = p.depth - 1; lines = p.lines }
 
 -- a word that no statement goes on with: one that begins what is there already is told so
-abbrev pub repeated : Bool → Why
-repeated true = why.Again
-repeated false = why.Plain
+abbrev pub why_repeated : Bool → Why
+why_repeated true = why.Again
+why_repeated false = why.Plain
 
 -- ---- rules
 
@@ -54,7 +54,7 @@ abbrev pub clause_by : Verb → Parameters → Clauses → Key → Act Clauses
 clause_by v p c key.Flags = once c.flags (stay (chain flags_at (λ f. done (record c { flags = Some f }))))
 clause_by v p c key.No = once c.state (stay (chain state_at (λ s. done (record c { state = Some s }))))
 clause_by v p c key.Keep = once c.state (stay (chain state_at (λ s. done (record c { state = Some s }))))
-clause_by v p c k = refuse (repeated (repeats_policy v k || repeats p k))
+clause_by v p c k = refuse (why_repeated (repeats_policy v k || repeats p k))
 
 unfoldable pub clause_at : Verb → Parameters → Clauses → Reader Clauses
 clause_at v p c ts = on_front (λ t. clause_by v p c t.key) ts
@@ -188,4 +188,4 @@ unfoldable pub statements_at : Reader Progress
 statements_at ts = up_to_all ends_text statement_at nothing ts
 
 unfoldable pub text_at : Reader Conf
-text_at ts = chain statements_at (λ p. chain (all_closed p.depth) (λ u. chain (told_of (text_breaks p)) (λ v. done (finished p.draft)))) ts
+text_at ts = chain statements_at (λ p. chain (all_closed p.depth) (λ u. chain (told_of (text_breaks p)) (λ v. done (conf_of_draft p.draft)))) ts

@@ -25,7 +25,7 @@ use Rattle.pfs_conf_options.specs.declared.clauses.Options.{Options}
 use Rattle.pfs_conf_options.specs.declared.clauses.OverloadText.{OverloadText}
 use Rattle.pfs_conf_options.specs.declared.clauses.StateClause.{StateClause}
 use Rattle.pfs_conf_options.specs.declared.clauses.StateClause.TheVariants as clause
-use Rattle.pfs_conf_options.specs.Options.{none_given, options_given, has_overload_alone, has_global_connections, has_global_retention, has_broken_rule_pair, resolved}
+use Rattle.pfs_conf_options.specs.Options.{none_given, options_given, has_overload_alone, has_global_connections, has_global_retention, has_broken_rule_pair, resolved_options}
 use Rattle.pfs_conf_settings.specs.declared.tables.Parts.{Parts}
 use Rattle.pfs_conf.specs.declared.phrases.Clauses.{Clauses}
 use Rattle.pfs_conf.specs.declared.phrases.RuleText.{RuleText}
@@ -92,9 +92,9 @@ state_options (Some s) = options_given s
 
 -- what a rule does: a pass rule keeps state unless it says `no state`
 abbrev pub passing : Option StateClause → Option TableNo → Action
-passing None table = action.Keep (resolved none_given table)
+passing None table = action.Keep (resolved_options none_given table)
 passing (Some clause.No) table = action.Pass
-passing (Some (clause.Keep o)) table = action.Keep (resolved o table)
+passing (Some (clause.Keep o)) table = action.Keep (resolved_options o table)
 
 abbrev pub action_of : Verb → Option StateClause → Option TableNo → Action
 action_of verb.Pass s table = passing s table

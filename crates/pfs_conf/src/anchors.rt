@@ -43,7 +43,7 @@ pub fn anchor(cursor: &mut Cursor, progress: &mut Progress, line: u64) -> Result
     }
 }
 
-// Puts an anchor behind the other items; what follows stands in it.
+/// Puts an anchor behind the other items; what follows stands in it.
 fn push_anchor(progress: &mut Progress, line: u64, text: &AnchorText) -> Result<(), NoMemory>
     requires text { IsAnchorText text.now }
     requires order { IsAtDepth progress.old }
@@ -61,7 +61,7 @@ fn push_anchor(progress: &mut Progress, line: u64, text: &AnchorText) -> Result<
     Ok(())
 }
 
-// The head of an anchor as it is written, with its brace.
+/// The head of an anchor as it is written, with its brace.
 fn anchor_text(cursor: &mut Cursor, progress: &Progress) -> Result<AnchorText, Refusal>
     requires { AreLexed cursor.old }
     ensures value { Gives result cursor.new (anchor_text_at progress.now cursor.old) }
@@ -71,7 +71,7 @@ fn anchor_text(cursor: &mut Cursor, progress: &Progress) -> Result<AnchorText, R
     read_anchor(cursor, progress)
 }
 
-// Wherever the line ends in the head, the brace was wanted.
+/// Wherever the line ends in the head, the brace was wanted.
 #[tactic(auto, unfolding(crate::specs::Reading::anchor_text_at))]
 fn read_anchor(cursor: &mut Cursor, progress: &Progress) -> Result<AnchorText, Refusal>
     ensures { Gives result cursor.new (anchor_text_at progress.now cursor.old) }

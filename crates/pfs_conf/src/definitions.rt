@@ -42,7 +42,7 @@ pub fn table(alloc: Global, cursor: &mut Cursor, progress: &mut Progress) -> Res
     }
 }
 
-// A name in angle brackets, of a table that is not defined yet.
+/// A name in angle brackets, of a table that is not defined yet.
 fn new_name(cursor: &mut Cursor, draft: &Draft) -> Result<TableName, Refusal>
     ensures value { Gives result cursor.new (new_name_at draft.now cursor.old) }
     ensures within { IfOk result (λ name. is_name 31 name ≡ true) }
@@ -69,7 +69,7 @@ fn read_name(cursor: &mut Cursor, draft: &Draft) -> Result<TableName, Refusal>
     Ok(name)
 }
 
-// Defines a table. `persist` and `counters` have no effect.
+/// Defines a table. `persist` and `counters` have no effect.
 fn define(
     alloc: Global,
     progress: &mut Progress,

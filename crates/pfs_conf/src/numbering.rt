@@ -116,7 +116,7 @@ pub fn state_options(state: Option<StateClause>) -> Options
     }
 }
 
-// A pass rule keeps state unless it says `no state`. (pf.conf(5), STATEFUL FILTERING)
+/// A pass rule keeps state unless it says `no state`. (pf.conf(5), STATEFUL FILTERING)
 fn action_of(verb: Verb, state: Option<StateClause>, table: Option<TableNo>) -> Action
     ensures { result ≡ action_of verb state table }
 {
@@ -128,8 +128,8 @@ fn action_of(verb: Verb, state: Option<StateClause>, table: Option<TableNo>) -> 
     }
 }
 
-// S/SA for a rule that keeps state, so that a TCP state begins with the first packet of a connection. (pf.conf(5), PARAMETERS,
-// "flags")
+/// S/SA for a rule that keeps state, so that a TCP state begins with the first packet of a connection. (pf.conf(5), PARAMETERS,
+/// "flags")
 fn default_flags(action: &Action) -> FlagTest
     ensures { result ≡ default_flags action.now }
 {

@@ -39,7 +39,7 @@ pub fn rule(cursor: &mut Cursor, progress: &mut Progress, line: u64) -> Result<(
     }
 }
 
-// Puts a rule behind the other items.
+/// Puts a rule behind the other items.
 fn push_rule(progress: &mut Progress, line: u64, text: &RuleText) -> Result<(), NoMemory>
     requires text { IsRuleText text.now }
     requires order { IsAtDepth progress.old }
@@ -54,7 +54,7 @@ fn push_rule(progress: &mut Progress, line: u64, text: &RuleText) -> Result<(), 
     progress.lines.push(line)
 }
 
-// A rule as it is written, with its line end.
+/// A rule as it is written, with its line end.
 fn rule_text(cursor: &mut Cursor) -> Result<RuleText, Refusal>
     requires { AreLexed cursor.old }
     ensures value { Gives result cursor.new (rule_text_at cursor.old) }

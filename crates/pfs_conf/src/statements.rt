@@ -1,7 +1,7 @@
 //! Statements, one behind another to the end of the text.
 
 ghost use Rattle.std.specs.Prelude.{◌≡◌, ◌≤◌, None, OnOk};
-ghost use Rattle.pfs_conf_settings.specs.Drafts.{finished};
+ghost use Rattle.pfs_conf_settings.specs.Drafts.{conf_of_draft};
 ghost use Rattle.pfs_conf_tokens.specs.Giving.{GivesOrMemory};
 ghost use Rattle.pfs_conf_tokens.specs.Reading.{ended};
 ghost use Rattle.pfs_conf.specs.Reading.{anchor_closed, statement_at, statements_at, text_at};
@@ -39,10 +39,10 @@ pub fn read_text(
     Ok(finish(progress))
 }
 
-// What a text says that ends here.
+/// What a text says that ends here.
 fn finish(progress: Progress) -> Config
     requires { text_breaks progress ≡ None }
-    ensures { result ≡ finished progress.draft }
+    ensures { result ≡ conf_of_draft progress.draft }
 {
     let Progress { draft, .. } = progress;
     draft.finish()
@@ -63,7 +63,7 @@ fn statements(
     Ok(progress)
 }
 
-// Reads a statement. A blank line says nothing; `set` and `table` stand outside of anchors.
+/// Reads a statement. A blank line says nothing; `set` and `table` stand outside of anchors.
 #[tactic(auto, unfolding(crate::specs::Reading::statement_at))]
 fn statement(alloc: Global, cursor: &mut Cursor, progress: &mut Progress) -> Result<(), ReadError>
     requires lexed { AreLexed cursor.old }
@@ -101,7 +101,7 @@ fn statement(alloc: Global, cursor: &mut Cursor, progress: &mut Progress) -> Res
     }
 }
 
-// The line end behind the brace that closes an anchor.
+/// The line end behind the brace that closes an anchor.
 fn close(cursor: &mut Cursor, progress: &mut Progress) -> Result<(), ReadError>
     requires open { 1 ≤ progress.old.depth }
     ensures { Comes result cursor.new progress.new (ended (anchor_closed progress.old) cursor.old) }

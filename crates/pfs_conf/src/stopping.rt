@@ -30,8 +30,8 @@ pub fn fault_of(error: ReadError, cursor: &mut Cursor) -> LoadFault
     }
 }
 
-// The kind of a fault at the token in front, where this was wanted: the first of `Duplicate`, `Number`, `Unsupported` and
-// `Syntax` that applies. (own to this profile)
+/// The kind of a fault at the token in front, where this was wanted: the first of `Duplicate`, `Number`, `Unsupported` and
+/// `Syntax` that applies. (own to this profile)
 fn kind_of(why: Why, cursor: &mut Cursor) -> Kind
     ensures { result ≡ kind_of why cursor.old }
 {
@@ -64,7 +64,7 @@ fn is_number(key: Key) -> bool
     }
 }
 
-// A token that is told `Unsupported` wherever it stands.
+/// A token that is told `Unsupported` wherever it stands.
 fn is_foreign(cursor: &Cursor) -> bool
     ensures { result ≡ is_foreign (head cursor.now) }
 {
@@ -86,7 +86,7 @@ fn has_dollar(cursor: &Cursor) -> bool
     cursor.key().is_word() && has_byte(cursor.text(), b'$')
 }
 
-// A token that is told so by what was wanted there.
+/// A token that is told so by what was wanted there.
 fn is_left_out(why: Why, cursor: &mut Cursor) -> bool
     ensures { result ≡ is_left_out why (head cursor.old) (head (rest cursor.old)).key }
 {
@@ -113,8 +113,8 @@ fn is_equals(key: Key) -> bool
     }
 }
 
-// A word that begins with a letter or has a colon: the name of a host or of a service, or an IPv6 address with a
-// zone or a dotted tail.
+/// A word that begins with a letter or has a colon: the name of a host or of a service, or an IPv6 address with a
+/// zone or a dotted tail.
 fn is_named_value(cursor: &Cursor) -> bool
     ensures { result ≡ is_named_value (head cursor.now) }
 {

@@ -22,7 +22,7 @@ use Rattle.pfs_conf_filters.specs.declared.phrases.Statement.TheVariants as stat
 use Rattle.pfs_addr.specs.Texts.{prefix_of}
 use Rattle.pfs_addr_values.specs.Protocols.{proto_in}
 use Rattle.pfs_conf_filters.specs.Values.{is_plain_word, in_plain_word, may_name_interface, interface_name, ports_of, flag_test_by, flag_test}
-use Rattle.pfs_conf_filters.specs.Reading.{behind, clause, part, begins_dir, begins_on, begins_family, begins_proto, begins_from, begins_to, begins_port, begins_flags, interface_at, policy_by, policy_at, verb_by, verb_at, dir_by, dir_at, log_item_by, log_item_at, log_list_by, log_list_at, log_by, log_at, quick_by, quick_at, marked, marks_by, marks_at, negation_by, negation_at, interface, on_at, on_part_at, family_by, family_part_at, proto_at, proto_part_at, head_at, close_by, close_at, place_by, place_at, host_by, host_at, equals_by, equals_at, ports_at, ports_part_at, side_host_by, side_host_at, side, side_at, from_part_at, to_part_at, all_hosts, given_hosts, hosts_by, hosts_at, parameters_at, flags_at}
+use Rattle.pfs_conf_filters.specs.Reading.{behind, clause, part, begins_dir, begins_on, begins_family, begins_proto, begins_from, begins_to, begins_port, begins_flags, interface_at, policy_by, policy_at, verb_by, verb_at, dir_by, dir_at, log_item_by, log_item_at, log_list_by, log_list_at, log_by, log_at, quick_by, quick_at, marks_of, marks_by, marks_at, negation_by, negation_at, interface, on_at, on_part_at, family_by, family_part_at, proto_at, proto_part_at, head_at, close_by, close_at, place_by, place_at, host_by, host_at, equals_by, equals_at, ports_at, ports_part_at, side_host_by, side_host_at, side, side_at, from_part_at, to_part_at, all_hosts, given_hosts, hosts_by, hosts_at, parameters_at, flags_at}
 use Rattle.pfs_conf_tokens.specs.Values.{in_word, table_name_at, value_at}
 use Rattle.pfs_conf_tokens.proofs.ValueLaws.{passed, in_word_in_line, online_value, value_shrinks, online_table_name}
 
@@ -175,9 +175,9 @@ unfolding quick_at
 online_quick = online_front (λ t. quick_by t.key) (λ t. quick_acts t.key)
 
 marks_acts : (s : Statement) (k : Key) → OnlineAct inside k (marks_by s k)
-marks_acts statement.Rule key.Quick = (refl, online_chain log_at (λ l. done (marked l true)) online_log (λ l. online_done (marked l true)))
-marks_acts statement.Rule _ = online_chain log_at (λ l. chain quick_at (λ q. done (marked l q))) online_log (λ l. online_chain quick_at (λ q. done (marked l q)) online_quick (λ q. online_done (marked l q)))
-marks_acts statement.Anchor k = online_chain quick_at (λ q. done (marked false q)) online_quick (λ q. online_done (marked false q))
+marks_acts statement.Rule key.Quick = (refl, online_chain log_at (λ l. done (marks_of l true)) online_log (λ l. online_done (marks_of l true)))
+marks_acts statement.Rule _ = online_chain log_at (λ l. chain quick_at (λ q. done (marks_of l q))) online_log (λ l. online_chain quick_at (λ q. done (marks_of l q)) online_quick (λ q. online_done (marks_of l q)))
+marks_acts statement.Anchor k = online_chain quick_at (λ q. done (marks_of false q)) online_quick (λ q. online_done (marks_of false q))
 
 pub online_marks : (s : Statement) → Online inside (marks_at s)
 unfolding marks_at

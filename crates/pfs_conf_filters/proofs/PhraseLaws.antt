@@ -35,7 +35,7 @@ use Rattle.pfs_conf_filters.specs.declared.phrases.Head.{Head}
 use Rattle.pfs_conf_filters.specs.declared.phrases.Hosts.{Hosts}
 use Rattle.pfs_conf_filters.specs.declared.phrases.Parameters.{Parameters}
 use Rattle.pfs_conf_filters.specs.Values.{in_plain_word, interface_name, ports_of, flag_test}
-use Rattle.pfs_conf_filters.specs.Reading.{behind, clause, part, begins_dir, begins_on, begins_family, begins_proto, begins_from, begins_to, begins_port, begins_flags, interface_at, policy_by, policy_at, verb_by, verb_at, dir_by, dir_at, log_item_by, log_item_at, log_list_by, log_list_at, log_by, log_at, quick_by, quick_at, marked, marks_by, marks_at, negation_by, negation_at, interface, on_at, on_part_at, family_by, family_part_at, proto_at, proto_part_at, head_at, close_by, close_at, place_by, place_at, host_by, host_at, equals_by, equals_at, ports_at, ports_part_at, side_host_by, side_host_at, side, side_at, from_part_at, to_part_at, all_hosts, given_hosts, hosts_by, hosts_at, parameters_at, flags_at}
+use Rattle.pfs_conf_filters.specs.Reading.{behind, clause, part, begins_dir, begins_on, begins_family, begins_proto, begins_from, begins_to, begins_port, begins_flags, interface_at, policy_by, policy_at, verb_by, verb_at, dir_by, dir_at, log_item_by, log_item_at, log_list_by, log_list_at, log_by, log_at, quick_by, quick_at, marks_of, marks_by, marks_at, negation_by, negation_at, interface, on_at, on_part_at, family_by, family_part_at, proto_at, proto_part_at, head_at, close_by, close_at, place_by, place_at, host_by, host_at, equals_by, equals_at, ports_at, ports_part_at, side_host_by, side_host_at, side, side_at, from_part_at, to_part_at, all_hosts, given_hosts, hosts_by, hosts_at, parameters_at, flags_at}
 use Rattle.pfs_conf_filters.specs.Grammar.{Says, Behind, PolicyOf, none, drop, return, return_rst, return_icmp, return_icmp6, VerbOf, pass, block, DirOf, inward, outward, LogItemOf, all, matches, user, to, LogListOf, bare, listed, LogOf, silent, logs, QuickOf, slow, quick, MarksOf, log_first, quick_first, of_anchor, NegationOf, affirmed, negated, OnOf, on, FamilyOf, inet, inet6, HeadOf, HostOf, any, prefix, table, PortsOf, plainly, equals, SideOf, hosted, ported, HostsOf, every, sides, ParametersOf, FlagsOf}
 use Rattle.pfs_conf_filters.proofs.OnlineLaws.{in_plain_word_in_line, interface_in_line, flags_in_line}
 use Rattle.pfs_conf_tokens.proofs.ValueLaws.{in_word_in_line}
@@ -213,7 +213,7 @@ quick_is ts x left e = by_key (head ts).key refl e
     by_key _ g h = not_there h
 
 -- a `quick` in front, with or without `log` behind it
-quick_then : {ts mid left : List Tok} {l : Bool} → Word key.Quick ts mid → LogOf mid l left → MarksOf statement.Rule ts (marked l true) left
+quick_then : {ts mid left : List Tok} {l : Bool} → Word key.Quick ts mid → LogOf mid l left → MarksOf statement.Rule ts (marks_of l true) left
 quick_then w silent = log_first silent (quick w)
 quick_then w (logs v list) = quick_first w (logs v list)
 
@@ -221,20 +221,20 @@ pub marks_are : (s : Statement) (ts : List Tok) (m : Marks) (left : List Tok) �
 unfolding marks_at
 marks_are s ts m left e = by_key s (head ts).key refl e
   where
-    log_in_front : act (stay (chain log_at (λ l. chain quick_at (λ q. done (marked l q))))) ts ≡ Ok (m, left) → MarksOf statement.Rule ts m left
+    log_in_front : act (stay (chain log_at (λ l. chain quick_at (λ q. done (marks_of l q))))) ts ≡ Ok (m, left) → MarksOf statement.Rule ts m left
     log_in_front h =
-        let c = chain_ok log_at (λ l. chain quick_at (λ q. done (marked l q))) ts m left h in
-        let d = chain_ok quick_at (λ q. done (marked c.0 q)) c.1 m left c.3 in
-        moved (MarksOf statement.Rule) ts (ok_parts (marked c.0 d.0) m d.1 left d.3) (log_first (log_is ts c.0 c.1 c.2) (quick_is c.1 d.0 d.1 d.2))
+        let c = chain_ok log_at (λ l. chain quick_at (λ q. done (marks_of l q))) ts m left h in
+        let d = chain_ok quick_at (λ q. done (marks_of c.0 q)) c.1 m left c.3 in
+        moved (MarksOf statement.Rule) ts (ok_parts (marks_of c.0 d.0) m d.1 left d.3) (log_first (log_is ts c.0 c.1 c.2) (quick_is c.1 d.0 d.1 d.2))
 
     by_key : (s : Statement) (k : Key) → (head ts).key ≡ k → act (marks_by s k) ts ≡ Ok (m, left) → MarksOf s ts m left
     by_key statement.Rule key.Quick g h =
-        let c = chain_ok log_at (λ l. done (marked l true)) (rest ts) m left h in
-        moved (MarksOf statement.Rule) ts (ok_parts (marked c.0 true) m c.1 left c.3) (quick_then (word_is key.Quick ts g (λ q. cc)) (log_is (rest ts) c.0 c.1 c.2))
+        let c = chain_ok log_at (λ l. done (marks_of l true)) (rest ts) m left h in
+        moved (MarksOf statement.Rule) ts (ok_parts (marks_of c.0 true) m c.1 left c.3) (quick_then (word_is key.Quick ts g (λ q. cc)) (log_is (rest ts) c.0 c.1 c.2))
     by_key statement.Rule _ g h = log_in_front h
     by_key statement.Anchor k g h =
-        let c = chain_ok quick_at (λ q. done (marked false q)) ts m left h in
-        moved (MarksOf statement.Anchor) ts (ok_parts (marked false c.0) m c.1 left c.3) (of_anchor (quick_is ts c.0 c.1 c.2))
+        let c = chain_ok quick_at (λ q. done (marks_of false q)) ts m left h in
+        moved (MarksOf statement.Anchor) ts (ok_parts (marks_of false c.0) m c.1 left c.3) (of_anchor (quick_is ts c.0 c.1 c.2))
 
 -- ---- interface, family and protocol
 

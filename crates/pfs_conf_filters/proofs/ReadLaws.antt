@@ -31,7 +31,7 @@ use Rattle.pfs_conf_filters.specs.declared.phrases.Head.{Head}
 use Rattle.pfs_conf_filters.specs.declared.phrases.Hosts.{Hosts}
 use Rattle.pfs_conf_filters.specs.declared.phrases.Parameters.{Parameters}
 use Rattle.pfs_conf_filters.specs.Values.{is_plain_word, in_plain_word, may_name_interface, interface_name, ports_of, flag_test}
-use Rattle.pfs_conf_filters.specs.Reading.{clause, part, begins_dir, begins_on, begins_family, begins_proto, begins_from, begins_to, begins_port, begins_flags, interface_at, policy_by, policy_at, verb_at, dir_by, dir_at, log_item_at, log_list_by, log_list_at, log_by, log_at, quick_by, quick_at, marked, rule_marks_by, marks_at, negation_by, negation_at, on_at, on_part_at, family_by, family_part_at, proto_at, proto_part_at, head_at, close_at, place_by, place_at, host_by, host_at, equals_by, equals_at, ports_at, ports_part_at, side_host_by, side_host_at, side_at, from_part_at, to_part_at, given_hosts, hosts_by, hosts_at, parameters_at, flags_at}
+use Rattle.pfs_conf_filters.specs.Reading.{clause, part, begins_dir, begins_on, begins_family, begins_proto, begins_from, begins_to, begins_port, begins_flags, interface_at, policy_by, policy_at, verb_at, dir_by, dir_at, log_item_at, log_list_by, log_list_at, log_by, log_at, quick_by, quick_at, marks_of, rule_marks_by, marks_at, negation_by, negation_at, on_at, on_part_at, family_by, family_part_at, proto_at, proto_part_at, head_at, close_at, place_by, place_at, host_by, host_at, equals_by, equals_at, ports_at, ports_part_at, side_host_by, side_host_at, side_at, from_part_at, to_part_at, given_hosts, hosts_by, hosts_at, parameters_at, flags_at}
 use Rattle.pfs_conf_filters.specs.Grammar.{Says, Behind, PolicyOf, none, drop, return, return_rst, return_icmp, return_icmp6, VerbOf, pass, block, DirOf, inward, outward, LogItemOf, all, matches, user, to, LogListOf, bare, listed, LogOf, silent, logs, QuickOf, slow, quick, MarksOf, log_first, quick_first, of_anchor, NegationOf, affirmed, negated, OnOf, on, FamilyOf, inet, inet6, HeadOf, HostOf, any, prefix, table, PortsOf, plainly, equals, SideOf, hosted, ported, HostsOf, every, sides, ParametersOf, FlagsOf}
 use Rattle.pfs_conf_filters.proofs.OnlineLaws.{log_item_shrinks}
 use Rattle.pfs_conf_tokens.proofs.ValueLaws.{passed}
@@ -256,13 +256,13 @@ marks_head Q q l (log_first a b) f = log_head Q l a (quick_head Q q b f)
 marks_head Q q l (quick_first w a) f = word_key key.Quick Q q w
 marks_head Q q l (of_anchor b) f = quick_head Q q b f
 
-rule_marks_stay : (k : Key) → is_quick k ≡ false → rule_marks_by k ≡ stay (chain log_at (λ l. chain quick_at (λ q. done (marked l q))))
+rule_marks_stay : (k : Key) → is_quick k ≡ false → rule_marks_by k ≡ stay (chain log_at (λ l. chain quick_at (λ q. done (marks_of l q))))
 rule_marks_stay key.Quick e = absurd cc
 rule_marks_stay _ e = refl
 
 -- log first, or neither
 rule_marks_read : {ts mid : List Tok} {l q : Bool} {left : List Tok} → is_quick (head ts).key ≡ false → LogOf ts l mid → QuickOf mid q left → is_log (head mid).key ≡ false → is_paren (head mid).key ≡ false → is_quick (head left).key ≡ false
-    → marks_at statement.Rule ts ≡ Ok (marked l q, left)
+    → marks_at statement.Rule ts ≡ Ok (marks_of l q, left)
 unfolding marks_at
 rule_marks_read {ts = ts} n a b f g h = rw (rule_marks_stay (head ts).key n, log_reads a f g, quick_reads b h) refl
 

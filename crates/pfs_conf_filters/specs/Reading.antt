@@ -148,17 +148,17 @@ quick_by _ = stay (done false)
 unfoldable pub quick_at : Reader Bool
 quick_at ts = on_front (λ t. quick_by t.key) ts
 
-abbrev pub marked : Bool → Bool → Marks
-marked l q = record { log = l; quick = q }
+abbrev pub marks_of : Bool → Bool → Marks
+marks_of l q = record { log = l; quick = q }
 
 -- of a rule, `log` and `quick` in either order; an anchor logs nothing
 abbrev pub rule_marks_by : Key → Act Marks
-rule_marks_by key.Quick = take (chain log_at (λ l. done (marked l true)))
-rule_marks_by _ = stay (chain log_at (λ l. chain quick_at (λ q. done (marked l q))))
+rule_marks_by key.Quick = take (chain log_at (λ l. done (marks_of l true)))
+rule_marks_by _ = stay (chain log_at (λ l. chain quick_at (λ q. done (marks_of l q))))
 
 abbrev pub marks_by : Statement → Key → Act Marks
 marks_by statement.Rule k = rule_marks_by k
-marks_by statement.Anchor k = stay (chain quick_at (λ q. done (marked false q)))
+marks_by statement.Anchor k = stay (chain quick_at (λ q. done (marks_of false q)))
 
 unfoldable pub marks_at : Statement → Reader Marks
 marks_at s ts = on_front (λ t. marks_by s t.key) ts

@@ -23,15 +23,15 @@ repeats p key.To = is_some p.hosts.to
 repeats p key.Port = gives_ports p.hosts
 repeats p _ = false
 
-abbrev pub policed : Verb → Bool
-policed verb.Pass = false
-policed (verb.Block p) = p
+abbrev pub sends_policy : Verb → Bool
+sends_policy verb.Pass = false
+sends_policy (verb.Block p) = p
 
 -- whether a word says once more how a packet is blocked
 abbrev pub repeats_policy : Verb → Key → Bool
-repeats_policy v key.Drop = policed v
-repeats_policy v key.Return = policed v
-repeats_policy v key.ReturnRst = policed v
-repeats_policy v key.ReturnIcmp = policed v
-repeats_policy v key.ReturnIcmp6 = policed v
+repeats_policy v key.Drop = sends_policy v
+repeats_policy v key.Return = sends_policy v
+repeats_policy v key.ReturnRst = sends_policy v
+repeats_policy v key.ReturnIcmp = sends_policy v
+repeats_policy v key.ReturnIcmp6 = sends_policy v
 repeats_policy v _ = false

@@ -27,7 +27,7 @@ pub fn read_parameters(cursor: &mut Cursor, statement: Statement) -> Result<Para
     Ok(Parameters { head, hosts })
 }
 
-// `all`, or `from` and `to` with what stands behind them, each of which may lack.
+/// `all`, or `from` and `to` with what stands behind them, each of which may lack.
 #[tactic(auto, unfolding(crate::specs::Reading::hosts_at))]
 fn hosts(cursor: &mut Cursor) -> Result<Hosts, Refusal>
     ensures { Gives result cursor.new (hosts_at cursor.old) }
@@ -70,7 +70,7 @@ fn to_part(cursor: &mut Cursor) -> Result<Option<Side<TableName>>, Refusal>
     }
 }
 
-// A host with or without ports, or ports alone.
+/// A host with or without ports, or ports alone.
 #[tactic(auto, unfolding(crate::specs::Reading::side_at))]
 fn side(cursor: &mut Cursor) -> Result<Side<TableName>, Refusal>
     ensures { Gives result cursor.new (side_at cursor.old) }
@@ -90,7 +90,7 @@ fn side_host(cursor: &mut Cursor) -> Result<Host<TableName>, Refusal>
     }
 }
 
-// `any`, or a prefix or a table with or without `!`.
+/// `any`, or a prefix or a table with or without `!`.
 #[tactic(auto, unfolding(crate::specs::Reading::host_at, crate::specs::Reading::negation_at))]
 fn host(cursor: &mut Cursor) -> Result<Host<TableName>, Refusal>
     ensures { Gives result cursor.new (host_at cursor.old) }

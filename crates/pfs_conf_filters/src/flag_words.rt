@@ -30,7 +30,7 @@ pub fn read_flags(cursor: &mut Cursor) -> Result<FlagTest, Refusal>
     take_value(cursor, Why::Plain, test)
 }
 
-// The test that a word says: a/b asks that of the flags b exactly a are set.
+/// The test that a word says: a/b asks that of the flags b exactly a are set.
 #[tactic(auto, unfolding(crate::specs::Values::flag_test_of))]
 fn parse_flag_test(text: &[u8]) -> Option<FlagTest>
     ensures { result ≡ flag_test_of text.now }

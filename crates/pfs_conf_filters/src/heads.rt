@@ -83,7 +83,7 @@ fn dir(cursor: &mut Cursor) -> Result<Option<Dir>, Refusal>
     }
 }
 
-// `log` and `quick`: of a rule in either order, of an anchor `quick` alone.
+/// `log` and `quick`: of a rule in either order, of an anchor `quick` alone.
 #[tactic(auto, unfolding(crate::specs::Reading::marks_at))]
 fn marks(cursor: &mut Cursor, statement: Statement) -> Result<Marks, Refusal>
     ensures { Gives result cursor.new (marks_at statement cursor.old) }
@@ -116,7 +116,7 @@ fn quick(cursor: &mut Cursor) -> Result<bool, Refusal>
     Ok(cursor.take(Key::Quick))
 }
 
-// `log` with its list, if it stands there.
+/// `log` with its list, if it stands there.
 #[tactic(auto, unfolding(crate::specs::Reading::log_at))]
 fn log(cursor: &mut Cursor) -> Result<bool, Refusal>
     ensures { Gives result cursor.new (log_at cursor.old) }
@@ -176,7 +176,7 @@ fn log_item(cursor: &mut Cursor) -> Result<(), Refusal>
     }
 }
 
-// `on [!] IF`, if it stands there.
+/// `on [!] IF`, if it stands there.
 #[tactic(auto, unfolding(crate::specs::Reading::on_part_at))]
 fn on_part(cursor: &mut Cursor) -> Result<Option<Interface>, Refusal>
     ensures { Gives result cursor.new (on_part_at cursor.old) }
@@ -197,7 +197,7 @@ fn interface(cursor: &mut Cursor) -> Result<Interface, Refusal>
     Ok(Interface { name, negated })
 }
 
-// `inet` or `inet6`, if one of them stands there.
+/// `inet` or `inet6`, if one of them stands there.
 #[tactic(auto, unfolding(crate::specs::Reading::family_part_at))]
 fn family_part(cursor: &mut Cursor) -> Result<Option<Family>, Refusal>
     ensures { Gives result cursor.new (family_part_at cursor.old) }

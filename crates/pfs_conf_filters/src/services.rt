@@ -59,7 +59,7 @@ fn ports(cursor: &mut Cursor) -> Result<Ports, Refusal>
     take_value(cursor, Why::Service, ports)
 }
 
-// The ports that a word says: P, or P:Q for those from P to Q.
+/// The ports that a word says: P, or P:Q for those from P to Q.
 #[tactic(auto, unfolding(crate::specs::Values::ports_of))]
 fn parse_ports(text: &[u8]) -> Option<Ports>
     ensures { result ≡ ports_of text.now }
@@ -91,7 +91,7 @@ fn port_range(low: Option<u16>, high: Option<u16>) -> Option<Ports>
     }
 }
 
-// The port that a word, or an end of one, says. (services(5), of which this profile knows six names)
+/// The port that a word, or an end of one, says. (services(5), of which this profile knows six names)
 #[tactic(auto, unfolding(crate::specs::Values::port_of))]
 fn parse_port(text: &[u8]) -> Option<u16>
     ensures { result ≡ port_of text.now }

@@ -27,7 +27,7 @@ use Rattle.pfs_conf_options.specs.declared.clauses.StateClause.{StateClause}
 use Rattle.pfs_conf_options.specs.declared.clauses.StateClause.TheVariants as clause
 use Rattle.pfs_conf_options.specs.Options.{none_given, rule_place}
 use Rattle.pfs_conf_options.specs.Grammar.{TrackOf, bare, rule, global, IsRateText, RateOf, TableOf, FlushOf, nothing, own, all, OverloadOf, OptionOf, max, source_track, max_src_nodes, max_src_states, max_src_conn, max_src_conn_rate, overload, sloppy, floating, no_sync, timeout, KeptOf, plainly, listed, StateOf, no, keep}
-use Rattle.pfs_conf_options.specs.Reading.{track_by, track_at, count_in, counted, rate_with, rate_parts, rate_of, rate_found, rate_by, rate_at, name_closed_by, name_closed, table_by, table_at, flushed_by, flush_by, flush_at, overload_text_at, mark_once, timeout_by, mark_by, connection_by, option_by, option_at, state_options_at, kept_by, kept_at, kept_clause, behind_state, state_word, state_by, state_at}
+use Rattle.pfs_conf_options.specs.Reading.{track_by, track_at, count_in, count_written, rate_with, rate_parts, rate_of, rate_found, rate_by, rate_at, name_closed_by, name_closed, table_by, table_at, flushed_by, flush_by, flush_at, overload_text_at, mark_once, timeout_by, mark_by, connection_by, option_by, option_at, state_options_at, kept_by, kept_at, kept_clause, behind_state, state_word, state_by, state_at}
 use Rattle.pfs_conf_tokens.specs.Values.{table_name_at, valued}
 use Rattle.pfs_conf_options.proofs.OptionLaws.{option_shrinks}
 
@@ -103,7 +103,7 @@ pub rate_text_is : (text : List ℕ) (r : Rate) → rate_of text ≡ Some r → 
 unfolding rate_of
 rate_text_is text r e = by_parts (split_around 47 text) refl e
   where
-    by_numbers : (parts : List ℕ × List ℕ) → split_around 47 text ≡ Some parts → (n s : Option ℕ) → counted 4294967 parts.0 ≡ n → counted 2147483647 parts.1 ≡ s → rate_with n s ≡ Some r → IsRateText text r
+    by_numbers : (parts : List ℕ × List ℕ) → split_around 47 text ≡ Some parts → (n s : Option ℕ) → count_written 4294967 parts.0 ≡ n → count_written 2147483647 parts.1 ≡ s → rate_with n s ≡ Some r → IsRateText text r
     by_numbers parts g None s a b h = absurd cc
     by_numbers parts g (Some n) None a b h = absurd cc
     by_numbers parts g (Some n) (Some s) a b h =
@@ -114,7 +114,7 @@ rate_text_is text r e = by_parts (split_around 47 text) refl e
 
     by_parts : (o : Option (List ℕ × List ℕ)) → split_around 47 text ≡ o → rate_parts o ≡ Some r → IsRateText text r
     by_parts None g h = absurd cc
-    by_parts (Some parts) g h = by_numbers parts g (counted 4294967 parts.0) (counted 2147483647 parts.1) refl refl h
+    by_parts (Some parts) g h = by_numbers parts g (count_written 4294967 parts.0) (count_written 2147483647 parts.1) refl refl h
 
 pub rate_text_reads : (text : List ℕ) (r : Rate) → IsRateText text r → rate_of text ≡ Some r
 unfolding rate_of

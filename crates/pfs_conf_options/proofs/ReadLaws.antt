@@ -21,7 +21,7 @@ use Rattle.pfs_conf_options.specs.declared.clauses.Track.TheVariants as track
 use Rattle.pfs_conf_options.specs.declared.clauses.OverloadText.{OverloadText}
 use Rattle.pfs_conf_options.specs.declared.clauses.Options.{Options}
 use Rattle.pfs_conf_options.specs.declared.clauses.StateClause.{StateClause}
-use Rattle.pfs_conf_options.specs.Options.{none_given, options_given, rule_place, has_connection_limit, scope_by_track, states_global, has_overload_alone, has_global_connections, has_global_retention, has_broken_rule_pair, overload_to, resolved}
+use Rattle.pfs_conf_options.specs.Options.{none_given, options_given, rule_place, has_connection_limit, scope_by_track, states_global, has_overload_alone, has_global_connections, has_global_retention, has_broken_rule_pair, overload_to, resolved_options}
 use Rattle.pfs_conf_options.specs.Bounds.{AreRead}
 use Rattle.pfs_conf_options.specs.Grammar.{TableOf, OptionOf, max, source_track, max_src_nodes, max_src_states, max_src_conn, max_src_conn_rate, overload, sloppy, floating, no_sync, timeout, plainly, listed, StateOf, no, keep}
 use Rattle.pfs_conf_options.proofs.OptionLaws.{timeout_place_below, rule_place_is}
@@ -130,7 +130,7 @@ state_within (keep w v (listed p q)) = more_keep q.others (option_keeps q.begins
 
 -- ---- what is resolved
 
-same_connections : (o : Options) (table : Option TableNo) → limits_connections (resolved o table) ≡ has_connection_limit o
+same_connections : (o : Options) (table : Option TableNo) → limits_connections (resolved_options o table) ≡ has_connection_limit o
 same_connections o table = refl
 
 and_false : (a b : Bool) → b ≡ false → a && b ≡ false
@@ -178,7 +178,7 @@ overload_known tables (Some v) (Some table) h = h
 -- options that break no load rule, resolved, are such as a configuration with so many tables has
 pub resolved_are : (tables : ℕ) (o : Options) (table : Option TableNo) → AreRead o → IfSome table (IsTableNo tables)
     → has_overload_alone o ≡ false → has_global_connections o ≡ false → has_global_retention o ≡ false → has_broken_rule_pair o ≡ false
-    → AreOptions tables (resolved o table)
+    → AreOptions tables (resolved_options o table)
 resolved_are tables o table a known alone connections retention pair = record {
   max = a.max;
   max_src_nodes = a.max_src_nodes;

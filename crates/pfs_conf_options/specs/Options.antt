@@ -102,8 +102,8 @@ overload_to (Some v) None = None
 overload_to (Some v) (Some table) = Some (record { table = table; flush = v.flush })
 
 -- the options with the scope that they mean, and the table by its number
-abbrev pub resolved : Options → Option TableNo → StateOptions
-resolved o table = record {
+abbrev pub resolved_options : Options → Option TableNo → StateOptions
+resolved_options o table = record {
   max = o.max;
   scope = scope_of_options o;
   max_src_nodes = o.max_src_nodes;

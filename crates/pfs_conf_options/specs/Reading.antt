@@ -35,8 +35,8 @@ count_in high None = None
 count_in high (Some n) = if nat_le 1 n && nat_le n high then Some n else None
 
 -- the number from 1 to a greatest that a text writes
-abbrev pub counted : ℕ → List ℕ → Option ℕ
-counted high text = count_in high (number_written text)
+abbrev pub count_written : ℕ → List ℕ → Option ℕ
+count_written high text = count_in high (number_written text)
 
 -- N/S as one word: N is 1 to 4294967, S is 1 to 2147483647
 abbrev pub rate_with : Option ℕ → Option ℕ → Option Rate
@@ -47,7 +47,7 @@ rate_with (Some n) (Some s) = Some (record { limit = n; seconds = s })
 -- the rate that the texts before and behind the slash write
 abbrev pub rate_parts : Option (List ℕ × List ℕ) → Option Rate
 rate_parts None = None
-rate_parts (Some parts) = rate_with (counted 4294967 parts.0) (counted 2147483647 parts.1)
+rate_parts (Some parts) = rate_with (count_written 4294967 parts.0) (count_written 2147483647 parts.1)
 
 unfoldable pub rate_of : List ℕ → Option Rate
 rate_of text = rate_parts (split_around 47 text)

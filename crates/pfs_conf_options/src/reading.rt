@@ -7,7 +7,7 @@ ghost use Rattle.pfs_conf_tokens.specs.Giving.{Gives};
 ghost use Rattle.pfs_conf_options.specs.Options.{rule_place, options_given};
 ghost use Rattle.pfs_conf_options.specs.Bounds.{AreRead};
 ghost use Rattle.pfs_conf_values.specs.Bounds.{greatest_timeout};
-ghost use Rattle.pfs_conf_options.specs.Reading.{track_at, counted, rate_of, rate_at, table_at, flush_at, overload_text_at, state_mark_at, timeout_at, connection_at, option_at, state_options_at, kept_at, state_at};
+ghost use Rattle.pfs_conf_options.specs.Reading.{track_at, count_written, rate_of, rate_at, table_at, flush_at, overload_text_at, state_mark_at, timeout_at, connection_at, option_at, state_options_at, kept_at, state_at};
 
 use crate::clauses::{Options, OverloadText, StateClause, Track};
 use pfs_conf_tokens::{Cursor, Key, Refusal, Why, digits, number, split_at_byte, table_name};
@@ -57,7 +57,7 @@ fn kept(cursor: &mut Cursor) -> Result<Options, Refusal>
     }
 }
 
-// Options up to the closing parenthesis, added to those that are given already.
+/// Options up to the closing parenthesis, added to those that are given already.
 fn options(cursor: &mut Cursor, given: Options) -> Result<Options, Refusal>
     ensures { Gives result cursor.new (list_all closes_parens option_at given cursor.old) }
 {
@@ -77,7 +77,7 @@ fn next_option(cursor: &mut Cursor, options: Options) -> Result<Options, Refusal
     option(cursor, options)
 }
 
-// An option is added to those that are read already.
+/// An option is added to those that are read already.
 #[tactic(auto, unfolding(crate::specs::Reading::option_at, crate::specs::Reading::connection_at))]
 fn option(cursor: &mut Cursor, options: Options) -> Result<Options, Refusal>
     ensures { Gives result cursor.new (option_at options cursor.old) }
@@ -139,7 +139,7 @@ fn max_src_states(cursor: &mut Cursor, options: Options) -> Result<Options, Refu
     }
 }
 
-// An option on the connections of a source.
+/// An option on the connections of a source.
 #[tactic(auto, unfolding(crate::specs::Reading::connection_at, crate::specs::Reading::state_mark_at))]
 fn connection_option(cursor: &mut Cursor, options: Options) -> Result<Options, Refusal>
     ensures { Gives result cursor.new (connection_at options cursor.old) }
@@ -188,7 +188,7 @@ fn with_overload(options: Options, overload: OverloadText) -> Options
     }
 }
 
-// A word of its own, which has no effect, or a timeout.
+/// A word of its own, which has no effect, or a timeout.
 #[tactic(auto, unfolding(crate::specs::Reading::state_mark_at, crate::specs::Reading::timeout_at))]
 fn mark(cursor: &mut Cursor, options: Options) -> Result<Options, Refusal>
     ensures { Gives result cursor.new (state_mark_at options cursor.old) }
@@ -240,7 +240,7 @@ fn timeout(cursor: &mut Cursor, options: Options) -> Result<Options, Refusal>
     })
 }
 
-// The place of a timeout that a rule may have: of all but `interval`.
+/// The place of a timeout that a rule may have: of all but `interval`.
 fn place_of_timeout(key: Key) -> Option<usize>
     ensures value { result ≡ rule_place key }
     ensures within { IfSome result (λ place. place < 16) }
@@ -251,7 +251,7 @@ fn place_of_timeout(key: Key) -> Option<usize>
     }
 }
 
-// Seconds, or for the adaptive ones states.
+/// Seconds, or for the adaptive ones states.
 fn greatest_of(place: usize) -> u32
     ensures { result ≡ greatest_timeout place }
 {
@@ -268,7 +268,7 @@ fn only_once(is_given: bool) -> Result<(), Refusal>
     }
 }
 
-// What stands behind the word of an option, at that word: it is refused where the option is given already.
+/// What stands behind the word of an option, at that word: it is refused where the option is given already.
 fn maximum_once(cursor: &mut Cursor, given: Option<u32>) -> Result<u32, Refusal>
     ensures { Gives result cursor.new (act (once given (take (number_at 1 4294967295))) cursor.old) }
 {
@@ -374,7 +374,7 @@ fn parse_rate(text: &[u8]) -> Option<Rate>
 }
 
 fn parse_count(text: &[u8], high: u32) -> Option<u32>
-    ensures { result ≡ counted high text.now }
+    ensures { result ≡ count_written high text.now }
 {
     match digits(text) {
         Some(count) if 1 <= count && count <= u64::from(high) => Some(count as u32),
@@ -405,7 +405,7 @@ fn flush(cursor: &mut Cursor) -> Result<Option<Scope>, Refusal>
     }
 }
 
-// The name of a table in angle brackets.
+/// The name of a table in angle brackets.
 #[tactic(auto, unfolding(crate::specs::Reading::table_at))]
 fn table(cursor: &mut Cursor) -> Result<TableName, Refusal>
     ensures { Gives result cursor.new (table_at cursor.old) }

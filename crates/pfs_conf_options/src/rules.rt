@@ -2,7 +2,7 @@
 //! configuration.
 
 ghost use Rattle.std.specs.Prelude.{◌≡◌};
-ghost use Rattle.pfs_conf_options.specs.Options.{options_given, scope_of_options, has_overload_alone, has_global_connections, has_global_retention, has_broken_rule_pair, has_connection_limit, overload_to, resolved};
+ghost use Rattle.pfs_conf_options.specs.Options.{options_given, scope_of_options, has_overload_alone, has_global_connections, has_global_retention, has_broken_rule_pair, has_connection_limit, overload_to, resolved_options};
 
 use crate::clauses::{Options, OverloadText, StateClause, Track};
 use pfs_conf_values::{Overload, Scope, StateOptions, TableNo, TimeoutName};
@@ -84,7 +84,7 @@ impl Options {
     /// The options of a configuration: with the scope that they mean, and the table of `overload` by its number, which
     /// the caller has looked up. Without a number `overload` is left out.
     pub fn resolved(&self, table: Option<TableNo>) -> StateOptions
-        ensures { result ≡ resolved self.now table }
+        ensures { result ≡ resolved_options self.now table }
     {
         StateOptions {
             max: self.max,

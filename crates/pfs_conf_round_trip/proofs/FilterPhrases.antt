@@ -40,14 +40,14 @@ use Rattle.pfs_conf_values.specs.declared.filters.Side.{Side}
 use Rattle.pfs_conf_values.specs.declared.filters.TableNo.{TableNo}
 use Rattle.pfs_conf_values.specs.declared.tables.TableDef.{TableDef}
 use Rattle.pfs_conf_filters.specs.Grammar.{Behind, DirOf, FamilyOf, FlagsOf, HostOf, HostsOf, MarksOf, OnOf, ParametersOf, PortsOf, QuickOf, Says, SideOf, inward, outward, slow, quick, silent, log_first, of_anchor, affirmed, negated, on, inet, inet6, any, prefix, table, plainly, hosted, every, sides}
-use Rattle.pfs_conf_filters.specs.Reading.{all_hosts, given_hosts, interface, marked}
+use Rattle.pfs_conf_filters.specs.Reading.{all_hosts, given_hosts, interface, marks_of}
 use Rattle.pfs_conf_filters.specs.Values.{is_plain_word, exactly, flag_test, flag_test_by, flag_test_of, flags_around, in_plain_word, interface_name, may_name_interface, ports_of}
 use Rattle.pfs_conf_tokens.specs.Values.{in_word, table_name}
 use Rattle.pfs_conf_filters.specs.declared.phrases.Statement.{Statement}
 use Rattle.pfs_conf_filters.specs.declared.phrases.Statement.TheVariants as statement
 use Rattle.pfs_conf_show.specs.Filters.{dir_text, family_text, flags_text, host_text, hosts_text, is_every_side, on_text, ports_text, proto_text, quick_text, range_text, side_text}
 use Rattle.pfs_conf_show.specs.Pieces.{not_text, prefix_text}
-use Rattle.pfs_conf_show.specs.Tables.{angled, name_in}
+use Rattle.pfs_conf_show.specs.Tables.{angled_name, name_in}
 use Rattle.pfs_conf_round_trip.proofs.Said.{host_said, hosts_said, parameters_said, side_said, table_said}
 use Rattle.pfs_addr.proofs.LetterTexts.{flags_again, letters_all, letters_some}
 use Rattle.pfs_conf_round_trip.proofs.Names.{is_other, key_of_word, may_name, name_again, name_text, not_any}
@@ -71,7 +71,7 @@ pub quick_reads : (q : Bool) (line : ℕ) (more : List ℕ) → breaks more ≡ 
 quick_reads false line more b = slow
 quick_reads true line more b = quick (word line (codes "quick") more refl b key_of_Quick)
 
-pub marks_read : (s : Statement) (q : Bool) (line : ℕ) (more : List ℕ) → breaks more ≡ true → MarksOf s (at line (quick_text q ++ more)) (marked false q) (at line more)
+pub marks_read : (s : Statement) (q : Bool) (line : ℕ) (more : List ℕ) → breaks more ≡ true → MarksOf s (at line (quick_text q ++ more)) (marks_of false q) (at line more)
 marks_read statement.Rule q line more b = log_first silent (quick_reads q line more b)
 marks_read statement.Anchor q line more b = of_anchor (quick_reads q line more b)
 
@@ -126,7 +126,7 @@ table_named tables t h lt = go tables t.0 h lt
     go (x ∷ ts) (suc i) g k = go ts i (All-tail IsTable x ts g) (omega arith)
 
 -- a name in angle brackets: its three tokens
-pub angle_opens : (busy : Bool) (line : ℕ) (n more : List ℕ) → Word key.OpenAngle (tokens 0 busy line (angled n ++ more)) (at line (n ++ 62 ∷ more))
+pub angle_opens : (busy : Bool) (line : ℕ) (n more : List ℕ) → Word key.OpenAngle (tokens 0 busy line (angled_name n ++ more)) (at line (n ++ 62 ∷ more))
 angle_opens busy line n more = (
   token line key.OpenAngle (60 ∷ []),
   mark_then busy line 60 ((n ++ 62 ∷ []) ++ more) refl
@@ -154,8 +154,8 @@ prefix_reads p true line more h b = prefix (negated (mark true line 33 (prefix_t
 prefix_reads p false line more h b = prefix affirmed (prefix_says line p more h b)
 
 table_reads : (n : List ℕ) (negation : Bool) (line : ℕ) (more : List ℕ) → is_name 31 n ≡ true
-    → HostOf (at line ((not_text negation ++ angled n) ++ more)) (host.Table n negation) (at line more)
-table_reads n true line more h = table (negated (mark true line 33 (angled n ++ more) refl)) (angle_opens true line n more) (table_says line n more h) (angle_closes line more)
+    → HostOf (at line ((not_text negation ++ angled_name n) ++ more)) (host.Table n negation) (at line more)
+table_reads n true line more h = table (negated (mark true line 33 (angled_name n ++ more) refl)) (angle_opens true line n more) (table_says line n more h) (angle_closes line more)
 table_reads n false line more h = table affirmed (angle_opens true line n more) (table_says line n more h) (angle_closes line more)
 
 pub host_reads : (tables : List TableDef) (h : Host TableNo) (line : ℕ) (more : List ℕ) → All IsTable tables → IsHost (IsTableNo (length tables)) h → breaks more ≡ true

@@ -3,7 +3,7 @@ use Rattle.std.proofs.Common.{◌≡◌, ℕ, true, List, [], ◌∷◌, ◌++�
 use Rattle.pfs_conf_tokens.specs.declared.keys.Key.{Key}
 use Rattle.pfs_conf_tokens.specs.Grammar.{ListOf, NextOf, Until, Word, comma, ends, goes}
 use Rattle.pfs_conf_tokens.specs.Tokens.{Tok}
-use Rattle.pfs_conf_show.specs.Pieces.{bracketed, going_on}
+use Rattle.pfs_conf_show.specs.Pieces.{bracketed_list, going_on}
 use Rattle.pfs_conf_round_trip.proofs.Pieces.{at, mark_space}
 
 -- the texts of items lead from one value to another: each is read as an item, in front of what may stand behind one
@@ -57,7 +57,7 @@ listed_again Item Fits closer opening closing h x xs a c line more (next {b = b}
 
 -- the text of a list that has items
 pub bracketed_more : (opening closing x : List ℕ) (xs : List (List ℕ)) (more : List ℕ)
-    → bracketed opening closing (x ∷ xs) ++ more ≡ opening ++ (x ++ (going_on opening true xs ++ (closing ++ more)))
+    → bracketed_list opening closing (x ∷ xs) ++ more ≡ opening ++ (x ++ (going_on opening true xs ++ (closing ++ more)))
 bracketed_more opening closing x xs more = go opening x (going_on opening true xs) closing more
   where
     go : (a b c d e : List ℕ) → ((a ++ (b ++ c)) ++ d) ++ e ≡ a ++ (b ++ (c ++ (d ++ e)))

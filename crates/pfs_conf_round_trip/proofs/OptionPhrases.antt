@@ -30,8 +30,8 @@ use Rattle.pfs_conf_options.specs.declared.clauses.StateClause.TheVariants as cl
 use Rattle.pfs_conf_options.specs.declared.clauses.Track.{Track}
 use Rattle.pfs_conf_options.specs.declared.clauses.Track.TheVariants as track
 use Rattle.pfs_conf_show.specs.Options.{flush_text, option_texts, options_text, overload_text, rate_text, rule_timeout_text, scope_text}
-use Rattle.pfs_conf_show.specs.Pieces.{bracketed, given, worded}
-use Rattle.pfs_conf_show.specs.Tables.{angled, table_ref}
+use Rattle.pfs_conf_show.specs.Pieces.{bracketed_list, text_if_given, word_and_number}
+use Rattle.pfs_conf_show.specs.Tables.{angled_name, table_ref}
 use Rattle.pfs_conf_round_trip.proofs.Said.{options_said, overload_said, table_said, track_said}
 use Rattle.pfs_conf_round_trip.proofs.FilterPhrases.{angle_closes, angle_names, angle_opens, table_named}
 use Rattle.pfs_conf_round_trip.proofs.Lists.{Chain, Closing, both, bracketed_more, done, listed_again, next}
@@ -91,7 +91,7 @@ overload_reads tables v line more t h b =
     let named : is_name 31 n ≡ true = table_named tables v.table t h in
     let left = flush_text v.flush ++ more in
     let P : List ℕ → Type 0 = λ z. OverloadOf (at line z) (overload_said tables v) (at line more) in
-    subst P (sym (append_assoc (angled n) (flush_text v.flush) more)) (record {
+    subst P (sym (append_assoc (angled_name n) (flush_text v.flush) more)) (record {
       mid = at line left;
       table = record {
         inner = at line (n ++ 62 ∷ left);
@@ -121,39 +121,39 @@ with_parts m t n s c r v timeouts = record {
   timeouts = timeouts;
 }
 
-give_max : (m : Option ℕ) → IfSome m IsCount → OptionChain (given (worded (codes "max")) m) none_given (with_parts m None None None None None None no_timeouts)
+give_max : (m : Option ℕ) → IfSome m IsCount → OptionChain (text_if_given (word_and_number (codes "max")) m) none_given (with_parts m None None None None None None no_timeouts)
 give_max None h = done
 give_max (Some n) h = next (λ line more b. max n (word_number line (codes "max") n more refl key_of_Max) refl (count_number line n more h b)) done
 
 give_track : (m : Option ℕ) (s : Option Scope)
-    → OptionChain (given scope_text s) (with_parts m None None None None None None no_timeouts) (with_parts m (option_map track_said s) None None None None None no_timeouts)
+    → OptionChain (text_if_given scope_text s) (with_parts m None None None None None None no_timeouts) (with_parts m (option_map track_said s) None None None None None no_timeouts)
 give_track m None = done
 give_track m (Some s) = next (λ line more b. track_reads s line more b (with_parts m None None None None None None no_timeouts) refl) done
 
 give_nodes : (m : Option ℕ) (t : Option Track) (c : Option ℕ) → IfSome c IsCount
-    → OptionChain (given (worded (codes "max-src-nodes")) c) (with_parts m t None None None None None no_timeouts) (with_parts m t c None None None None no_timeouts)
+    → OptionChain (text_if_given (word_and_number (codes "max-src-nodes")) c) (with_parts m t None None None None None no_timeouts) (with_parts m t c None None None None no_timeouts)
 give_nodes m t None h = done
 give_nodes m t (Some n) h = next (λ line more b. max_src_nodes n (word_number line (codes "max-src-nodes") n more refl key_of_MaxSrcNodes) refl (count_number line n more h b)) done
 
 give_states : (m : Option ℕ) (t : Option Track) (n c : Option ℕ) → IfSome c IsCount
-    → OptionChain (given (worded (codes "max-src-states")) c) (with_parts m t n None None None None no_timeouts) (with_parts m t n c None None None no_timeouts)
+    → OptionChain (text_if_given (word_and_number (codes "max-src-states")) c) (with_parts m t n None None None None no_timeouts) (with_parts m t n c None None None no_timeouts)
 give_states m t k None h = done
 give_states m t k (Some n) h = next (λ line more b. max_src_states n (word_number line (codes "max-src-states") n more refl key_of_MaxSrcStates) refl (count_number line n more h b)) done
 
 give_conn : (m : Option ℕ) (t : Option Track) (n s c : Option ℕ) → IfSome c IsCount
-    → OptionChain (given (worded (codes "max-src-conn")) c) (with_parts m t n s None None None no_timeouts) (with_parts m t n s c None None no_timeouts)
+    → OptionChain (text_if_given (word_and_number (codes "max-src-conn")) c) (with_parts m t n s None None None no_timeouts) (with_parts m t n s c None None no_timeouts)
 give_conn m t k s None h = done
 give_conn m t k s (Some n) h = next (λ line more b. max_src_conn n (word_number line (codes "max-src-conn") n more refl key_of_MaxSrcConn) refl (count_number line n more h b)) done
 
 give_rate : (m : Option ℕ) (t : Option Track) (n s c : Option ℕ) (r : Option Rate) → IfSome r IsRate
-    → OptionChain (given rate_text r) (with_parts m t n s c None None no_timeouts) (with_parts m t n s c r None no_timeouts)
+    → OptionChain (text_if_given rate_text r) (with_parts m t n s c None None no_timeouts) (with_parts m t n s c r None no_timeouts)
 give_rate m t n s c None h = done
 give_rate m t n s c (Some r) h =
     next (λ line more b. max_src_conn_rate r (word_space true line (codes "max-src-conn-rate") ((decimal r.limit ++ 47 ∷ decimal r.seconds) ++ more) refl key_of_MaxSrcConnRate) refl (rate_says r line more h b)) done
 
 give_overload : (tables : List TableDef) (m : Option ℕ) (t : Option Track) (n s c : Option ℕ) (r : Option Rate) (v : Option Overload) → All IsTable tables
     → IfSome v (λ x. IsTableNo (length tables) x.table)
-    → OptionChain (given (overload_text tables) v) (with_parts m t n s c r None no_timeouts) (with_parts m t n s c r (option_map (overload_said tables) v) no_timeouts)
+    → OptionChain (text_if_given (overload_text tables) v) (with_parts m t n s c r None no_timeouts) (with_parts m t n s c r (option_map (overload_said tables) v) no_timeouts)
 give_overload tables m t n s c r None g h = done
 give_overload tables m t n s c r (Some v) g h =
     next (λ line more b. overload (overload_said tables v) (word_space true line (codes "overload") ((table_ref tables v.table ++ flush_text v.flush) ++ more) refl key_of_Overload) refl
@@ -162,7 +162,7 @@ give_overload tables m t n s c r (Some v) g h =
 -- a timeout of the rule
 give_timeout : (w : List ℕ) (k : Key) (place : ℕ) (o : Options) (c : Option ℕ) → is_word_text w ≡ true → key_of_text w ≡ k → rule_place k ≡ Some place
     → slice_index_or o.timeouts place None ≡ None → slice_set o.timeouts place None ≡ o.timeouts → greatest_timeout place ≤ 4294967295 → IfSome c (IsTimeout place)
-    → OptionChain (given (worded w) c) o (record o { timeouts = slice_set o.timeouts place c })
+    → OptionChain (text_if_given (word_and_number w) c) o (record o { timeouts = slice_set o.timeouts place c })
 give_timeout w k place o None is_text key at_place fresh same high h =
     let P : List (Option ℕ) → Type 0 = λ z. OptionChain [] o (record o { timeouts = z }) in
     subst P (sym same) done
@@ -171,7 +171,7 @@ give_timeout w k place o (Some n) is_text key at_place fresh same high h =
 
 -- `interval` is no timeout of rules
 give_interval : (o : Options) (c : Option ℕ) → slice_set o.timeouts 13 None ≡ o.timeouts → c ≡ None
-    → OptionChain (given (worded (codes "interval")) c) o (record o { timeouts = slice_set o.timeouts 13 c })
+    → OptionChain (text_if_given (word_and_number (codes "interval")) c) o (record o { timeouts = slice_set o.timeouts 13 c })
 give_interval o None same h =
     let P : List (Option ℕ) → Type 0 = λ z. OptionChain [] o (record o { timeouts = z }) in
     subst P (sym same) done
@@ -215,14 +215,14 @@ options_chain tables o g h =
     (both (give_overload tables o.max _ o.max_src_nodes o.max_src_states o.max_src_conn o.max_src_conn_rate o.overload g h.overload)
     (give_timeouts o.max _ o.max_src_nodes o.max_src_states o.max_src_conn o.max_src_conn_rate _ o.timeouts h.size h.timeouts h.no_interval)))))))
 
-kept_by : (xs : List (List ℕ)) (a : Options) (line : ℕ) (more : List ℕ) → OptionChain xs none_given a → KeptOf (at line (bracketed (codes " (") (codes ")") xs ++ more)) a (at line more)
+kept_by : (xs : List (List ℕ)) (a : Options) (line : ℕ) (more : List ℕ) → OptionChain xs none_given a → KeptOf (at line (bracketed_list (codes " (") (codes ")") xs ++ more)) a (at line more)
 kept_by [] a line more done = plainly
 kept_by (x ∷ xs) a line more p =
     let P : List ℕ → Type 0 = λ z. KeptOf (at line z) a (at line more) in
     subst P (sym (bracketed_more (codes " (") (codes ")") x xs more))
     (listed (mark_behind line 40 _ refl) (listed_again OptionOf Fits key.CloseParen (codes " (") (codes ")") closing x xs none_given a line more p))
 
-options_break : (xs : List (List ℕ)) (more : List ℕ) → breaks more ≡ true → breaks (bracketed (codes " (") (codes ")") xs ++ more) ≡ true
+options_break : (xs : List (List ℕ)) (more : List ℕ) → breaks more ≡ true → breaks (bracketed_list (codes " (") (codes ")") xs ++ more) ≡ true
 options_break [] more b = b
 options_break (x ∷ xs) more b = refl
 

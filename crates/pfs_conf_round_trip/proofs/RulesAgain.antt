@@ -28,7 +28,7 @@ use Rattle.pfs_conf_values.specs.declared.limits.Limits.{Limits}
 use Rattle.pfs_conf_values.specs.declared.tables.TableDef.{TableDef}
 use Rattle.pfs_conf_filters.specs.Reading.{all_hosts, given_hosts, side}
 use Rattle.pfs_conf_filters.specs.Sides.{side_not_given, destination_of, lacks_proto, names_port, source_of}
-use Rattle.pfs_conf_options.specs.Options.{has_broken_rule_pair, has_global_connections, has_global_retention, has_overload_alone, overload_to, resolved, scope_by_track, scope_of_options, states_global}
+use Rattle.pfs_conf_options.specs.Options.{has_broken_rule_pair, has_global_connections, has_global_retention, has_overload_alone, overload_to, resolved_options, scope_by_track, scope_of_options, states_global}
 use Rattle.pfs_conf.specs.Statements.{action_of, anchor_breaks, anchor_said, filter_said, first_broken, keeps_on_block, name_host, name_hosts, name_rule, number_host, number_overload, number_side, name_overload, rule_action, rule_breaks, rule_said, state_options}
 use Rattle.pfs_conf_show.specs.Filters.{has_no_ports, is_any_host, is_every_side}
 use Rattle.pfs_conf_round_trip.proofs.Said.{host_said, hosts_said, options_said, overload_said, parameters_said, side_said, state_said, table_said, track_said}
@@ -156,7 +156,7 @@ with_scope o s v = record {
 
 -- the options of a rule mean those options again
 options_again : (tables : List TableDef) (d : Drafted) → AreAll tables d → (o : StateOptions) → AreOptions (length tables) o
-    → resolved (options_said tables o) (number_overload (options_said tables o).overload d) ≡ o
+    → resolved_options (options_said tables o) (number_overload (options_said tables o).overload d) ≡ o
 options_again tables d k o h =
     ap (λ (s : Option Scope). with_scope o s (overload_to (option_map (overload_said tables) o.overload) (number_overload (option_map (overload_said tables) o.overload) d))) (scope_again tables o h)
     ∙ ap (with_scope o o.scope) (overload_again tables d k o.overload h.overload)

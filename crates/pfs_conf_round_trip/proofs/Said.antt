@@ -17,7 +17,7 @@ use Rattle.pfs_conf_values.specs.declared.tables.TableDef.{TableDef}
 use Rattle.pfs_conf_filters.specs.declared.phrases.Head.{Head}
 use Rattle.pfs_conf_filters.specs.declared.phrases.Hosts.{Hosts}
 use Rattle.pfs_conf_filters.specs.declared.phrases.Parameters.{Parameters}
-use Rattle.pfs_conf_filters.specs.Reading.{all_hosts, given_hosts, marked, side}
+use Rattle.pfs_conf_filters.specs.Reading.{all_hosts, given_hosts, marks_of, side}
 use Rattle.pfs_conf_options.specs.declared.clauses.Options.{Options}
 use Rattle.pfs_conf_options.specs.declared.clauses.OverloadText.{OverloadText}
 use Rattle.pfs_conf_options.specs.declared.clauses.StateClause.{StateClause}
@@ -49,7 +49,7 @@ hosts_said tables from to =
     if is_every_side from && is_every_side to then all_hosts else given_hosts (Some (side_said tables from)) (Some (side_said tables to))
 
 abbrev pub head_said : Bool → Filter → Head
-head_said quick f = record { dir = f.dir; marks = marked false quick; on = f.on; family = f.family; proto = f.proto }
+head_said quick f = record { dir = f.dir; marks = marks_of false quick; on = f.on; family = f.family; proto = f.proto }
 
 abbrev pub parameters_said : List TableDef → Bool → Filter → Parameters
 parameters_said tables quick f = record { head = head_said quick f; hosts = hosts_said tables f.from f.to }

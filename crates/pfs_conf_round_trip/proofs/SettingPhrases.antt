@@ -22,7 +22,7 @@ use Rattle.pfs_conf_values.specs.declared.timeouts.TimeoutName.TheVariants as na
 use Rattle.pfs_conf_settings.proofs.TimeoutKeys.{placed}
 use Rattle.pfs_conf_settings.specs.SettingGrammar.{AmongLines, LimitOf, SettingOf, TimeOf, ValueOf, kept, limits, lined, src_nodes, states, table_entries, tables, timeouts}
 use Rattle.pfs_conf_settings.specs.Settings.{greatest_value, least_value, timeout_named}
-use Rattle.pfs_conf_show.specs.Pieces.{begun_after, bracketed, worded}
+use Rattle.pfs_conf_show.specs.Pieces.{begun_after, bracketed_list, word_and_number}
 use Rattle.pfs_conf_show.specs.Settings.{limit_texts, limits_text, timeout_text, timeout_word, timeouts_text}
 use Rattle.pfs_conf_round_trip.proofs.Lists.{Chain, Closing, bracketed_more, done, listed_again, next}
 use Rattle.pfs_conf_round_trip.proofs.Pieces.{at, line_end, mark_behind, mark_between, number, word_first, word_number, word_space}
@@ -63,20 +63,20 @@ value_reads line low high n more l h lt b =
 count_reads : (line n : ℕ) (more : List ℕ) → IsCount n → breaks more ≡ true → ValueOf 1 4294967295 true (at line (decimal n ++ more)) n (at line more)
 count_reads line n more h b = value_reads line 1 4294967295 n more h.0 h.1 (omega (arith, h.1)) b
 
-give_states : (d : Drafted) (n : ℕ) → IsCount n → (line : ℕ) (more : List ℕ) → Lined line more → (AmongLines (LimitOf true)) d (at line (worded (codes "states") n ++ more)) (with_limit limit_name.States n d) (at line more)
+give_states : (d : Drafted) (n : ℕ) → IsCount n → (line : ℕ) (more : List ℕ) → Lined line more → (AmongLines (LimitOf true)) d (at line (word_and_number (codes "states") n ++ more)) (with_limit limit_name.States n d) (at line more)
 give_states d n h line more f =
     record { mid = at line more; item = states (skip_word (word_number line (codes "states") n more refl key_of_States) refl) (count_reads line n more h f.0); behind = sym f.1 }
 
-give_src_nodes : (d : Drafted) (n : ℕ) → IsCount n → (line : ℕ) (more : List ℕ) → Lined line more → (AmongLines (LimitOf true)) d (at line (worded (codes "src-nodes") n ++ more)) (with_limit limit_name.SrcNodes n d) (at line more)
+give_src_nodes : (d : Drafted) (n : ℕ) → IsCount n → (line : ℕ) (more : List ℕ) → Lined line more → (AmongLines (LimitOf true)) d (at line (word_and_number (codes "src-nodes") n ++ more)) (with_limit limit_name.SrcNodes n d) (at line more)
 give_src_nodes d n h line more f =
     record { mid = at line more; item = src_nodes (skip_word (word_number line (codes "src-nodes") n more refl key_of_SrcNodes) refl) (count_reads line n more h f.0); behind = sym f.1 }
 
-give_tables : (d : Drafted) (n : ℕ) → IsCount n → (line : ℕ) (more : List ℕ) → Lined line more → (AmongLines (LimitOf true)) d (at line (worded (codes "tables") n ++ more)) (with_limit limit_name.Tables n d) (at line more)
+give_tables : (d : Drafted) (n : ℕ) → IsCount n → (line : ℕ) (more : List ℕ) → Lined line more → (AmongLines (LimitOf true)) d (at line (word_and_number (codes "tables") n ++ more)) (with_limit limit_name.Tables n d) (at line more)
 give_tables d n h line more f =
     record { mid = at line more; item = tables (skip_word (word_number line (codes "tables") n more refl key_of_Tables) refl) (count_reads line n more h f.0); behind = sym f.1 }
 
 give_table_entries : (d : Drafted) (n : ℕ) → IsCount n → (line : ℕ) (more : List ℕ) → Lined line more
-    → (AmongLines (LimitOf true)) d (at line (worded (codes "table-entries") n ++ more)) (with_limit limit_name.TableEntries n d) (at line more)
+    → (AmongLines (LimitOf true)) d (at line (word_and_number (codes "table-entries") n ++ more)) (with_limit limit_name.TableEntries n d) (at line more)
 give_table_entries d n h line more f =
     record { mid = at line more; item = table_entries (skip_word (word_number line (codes "table-entries") n more refl key_of_TableEntries) refl) (count_reads line n more h f.0); behind = sym f.1 }
 
@@ -100,14 +100,14 @@ pub record SettingLine (d : Drafted) (ts : List Tok) (e : Drafted) (left : List 
 
 -- the text of a list that is followed by the line end
 ended_text : (x : List ℕ) (xs : List (List ℕ)) (more : List ℕ)
-    → (bracketed (codes " { ") (codes " }") (x ∷ xs) ++ codes "\n") ++ more ≡ bracketed (codes " { ") (codes " }") (x ∷ xs) ++ 10 ∷ more
-ended_text x xs more = append_assoc (bracketed (codes " { ") (codes " }") (x ∷ xs)) (codes "\n") more
+    → (bracketed_list (codes " { ") (codes " }") (x ∷ xs) ++ codes "\n") ++ more ≡ bracketed_list (codes " { ") (codes " }") (x ∷ xs) ++ 10 ∷ more
+ended_text x xs more = append_assoc (bracketed_list (codes " { ") (codes " }") (x ∷ xs)) (codes "\n") more
 
 pub limits_line : (d : Drafted) (l : Limits) (line : ℕ) (more : List ℕ) → AreLimits l
     → SettingLine d (tokens 0 false line (limits_text l ++ more)) (record d { limits = l }) (tokens 0 false (suc line) more)
 limits_line d l line more h =
-    let x = worded (codes "states") l.states in
-    let xs = worded (codes "src-nodes") l.src_nodes ∷ worded (codes "tables") l.tables ∷ worded (codes "table-entries") l.table_entries ∷ [] in
+    let x = word_and_number (codes "states") l.states in
+    let xs = word_and_number (codes "src-nodes") l.src_nodes ∷ word_and_number (codes "tables") l.tables ∷ word_and_number (codes "table-entries") l.table_entries ∷ [] in
     let P : List ℕ → Type 0 = λ z. SettingLine d (tokens 0 false line (codes "set limit" ++ z)) (record d { limits = l }) (tokens 0 false (suc line) more) in
     subst P (sym (ended_text x xs more ∙ bracketed_more (codes " { ") (codes " }") x xs (10 ∷ more))) (record {
       behind_set = _;
@@ -168,13 +168,13 @@ greatest_small name.AdaptiveEnd = omega arith
 greatest_small _ = omega arith
 
 give_time : (d : Drafted) (n : TimeoutName) (v : ℕ) → least_value n ≤ v → v ≤ greatest_value n → (line : ℕ) (more : List ℕ) → Lined line more
-    → (AmongLines (TimeOf true)) d (at line (worded (timeout_word n) v ++ more)) (with_timeout n v d) (at line more)
+    → (AmongLines (TimeOf true)) d (at line (word_and_number (timeout_word n) v ++ more)) (with_timeout n v d) (at line more)
 give_time d n v low high line more f =
     let w = timeout_word n in
     let p = word_number line w v more (word_is n) refl in
     let named : timeout_named p.0.key ≡ Some n = ap timeout_named p.2 ∙ word_key n in
-    let front : skip_lines (at line (worded w v ++ more)) ≡ p.0 ∷ at line (decimal v ++ more) =
-    stays (at line (worded w v ++ more)) p.0 (at line (decimal v ++ more)) p.1 (no_line_end p.0.key n named) ∙ p.1 in
+    let front : skip_lines (at line (word_and_number w v ++ more)) ≡ p.0 ∷ at line (decimal v ++ more) =
+    stays (at line (word_and_number w v ++ more)) p.0 (at line (decimal v ++ more)) p.1 (no_line_end p.0.key n named) ∙ p.1 in
     let small : greatest_value n < 10 ^ 10 = greatest_small n in
     let P : List Tok → Type 0 = λ z. TimeOf true d z (with_timeout n v d) (at line more) in
     record {
@@ -194,7 +194,7 @@ pub record AreGiven (v : TimeoutName → ℕ) : Type 0 where
   pub high : (n : TimeoutName) → v n ≤ greatest_value n
 
 times_chain : (names : List TimeoutName) (v : TimeoutName → ℕ) (d : Drafted) → AreGiven v
-    → Chain (AmongLines (TimeOf true)) Lined (map (λ (n : TimeoutName). worded (timeout_word n) (v n)) names) d (set_all names v d)
+    → Chain (AmongLines (TimeOf true)) Lined (map (λ (n : TimeoutName). word_and_number (timeout_word n) (v n)) names) d (set_all names v d)
 times_chain [] v d h = done
 times_chain (n ∷ names) v d h = next (give_time d n (v n) (h.low n) (h.high n)) (times_chain names v (with_timeout n (v n) d) h)
 
@@ -210,7 +210,7 @@ timeouts_line d ts line more h = go (map (timeout_text ts) timeout_names) refl (
     e = set_all timeout_names (value_in ts) d
 
     go : (xs : List (List ℕ)) → begun_after false xs ≡ true → Chain (AmongLines (TimeOf true)) Lined xs d e
-        → SettingLine d (tokens 0 false line ((codes "set timeout" ++ (bracketed (codes " { ") (codes " }") xs ++ codes "\n")) ++ more)) e (tokens 0 false (suc line) more)
+        → SettingLine d (tokens 0 false line ((codes "set timeout" ++ (bracketed_list (codes " { ") (codes " }") xs ++ codes "\n")) ++ more)) e (tokens 0 false (suc line) more)
     go [] some p = absurd (cc some)
     go (x ∷ xs) some p =
         let P : List ℕ → Type 0 = λ z. SettingLine d (tokens 0 false line (codes "set timeout" ++ z)) e (tokens 0 false (suc line) more) in

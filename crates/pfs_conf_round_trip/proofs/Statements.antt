@@ -27,8 +27,8 @@ use Rattle.pfs_conf_values.specs.declared.tables.TableDef.{TableDef}
 use Rattle.pfs_conf.specs.Grammar.{StatementOf, anchor, close, rule, table}
 use Rattle.pfs_conf.specs.Statements.{anchor_said, name_hosts, name_rule, rule_said}
 use Rattle.pfs_conf.specs.declared.progress.Progress.{Progress}
-use Rattle.pfs_conf_show.specs.Pieces.{bracketed}
-use Rattle.pfs_conf_show.specs.Tables.{angled, const_text, entry_text, table_text}
+use Rattle.pfs_conf_show.specs.Pieces.{bracketed_list}
+use Rattle.pfs_conf_show.specs.Tables.{angled_name, const_text, entry_text, table_text}
 use Rattle.pfs_conf_show.specs.Texts.{anchor_text, braces_text, items_text, rule_text, what_text}
 use Rattle.pfs_conf_round_trip.proofs.Said.{parts_said}
 use Rattle.pfs_conf_round_trip.proofs.StatementsSaid.{anchor_phrase, rule_phrase}
@@ -74,13 +74,13 @@ table_again name c (e ∷ es) = refl
 table_reads : (d : Drafted) (t : TableDef) (line : ℕ) (lines : List ℕ) (more : List ℕ) → IsTable t → is_defined t.name d ≡ false
     → StatementOf (reached d 0 lines) (tokens 0 false line (table_text t ++ more)) (reached (with_table t d) 0 lines) (tokens 0 false (suc line) more)
 table_reads d t line lines more h new =
-    let body = bracketed (codes " { ") (codes " }") (map entry_text t.entries) in
+    let body = bracketed_list (codes " { ") (codes " }") (map entry_text t.entries) in
     let parts = const_text t.is_const ++ (body ++ 10 ∷ more) in
     let P : List ℕ → Type 0 = λ z. StatementOf (reached d 0 lines) (tokens 0 false line z) (reached (with_table t d) 0 lines) (tokens 0 false (suc line) more) in
-    let Q : TableDef → Type 0 = λ z. StatementOf (reached d 0 lines) (tokens 0 false line (codes "table " ++ (angled t.name ++ parts))) (reached (with_table z d) 0 lines) (tokens 0 false (suc line) more) in
-    subst P (sym (table_parts (codes "table ") (angled t.name) (const_text t.is_const) body (codes "\n") more))
+    let Q : TableDef → Type 0 = λ z. StatementOf (reached d 0 lines) (tokens 0 false line (codes "table " ++ (angled_name t.name ++ parts))) (reached (with_table z d) 0 lines) (tokens 0 false (suc line) more) in
+    subst P (sym (table_parts (codes "table ") (angled_name t.name) (const_text t.is_const) body (codes "\n") more))
     (subst Q (table_again t.name t.is_const t.entries)
-    (table t.name (parts_said t.is_const t.entries) refl (word_space false line (codes "table") (angled t.name ++ parts) refl key_of_Table) (
+    (table t.name (parts_said t.is_const t.entries) refl (word_space false line (codes "table") (angled_name t.name ++ parts) refl key_of_Table) (
       record {
         inner = at line (t.name ++ 62 ∷ parts);
         behind = at line (62 ∷ parts);

@@ -22,7 +22,7 @@ use Rattle.pfs_addr_values.specs.declared.addresses.Addr.{Addr}
 use Rattle.pfs_addr_values.specs.declared.addresses.Addr.TheVariants.{V4, V6}
 use Rattle.pfs_conf_values.specs.Entries.{TextEntry, are_same_addr, same_network, sign_of}
 use Rattle.pfs_conf_settings.specs.TableGrammar.{EntryOf, PartOf, PartsOf, SignOf, comes, constant, entries, negated, plain, some, no_parts}
-use Rattle.pfs_conf_show.specs.Pieces.{bracketed, going_on, prefix_text}
+use Rattle.pfs_conf_show.specs.Pieces.{bracketed_list, going_on, prefix_text}
 use Rattle.pfs_conf_show.specs.Tables.{const_text, entry_text}
 use Rattle.pfs_conf_round_trip.proofs.Said.{parts_said}
 use Rattle.pfs_conf_round_trip.proofs.Lists.{Chain, bracketed_more, done, listed_again, next}
@@ -137,7 +137,7 @@ list_break (x ∷ xs) more = refl
 
 -- the entries in braces, if there are any, up to the line end
 entries_parts : (c : Bool) (es : List TextEntry) (line : ℕ) (more : List ℕ) → All (λ (e : TextEntry). IsNetwork e.0) es → IsDistinct same_network (map (λ (e : TextEntry). e.0) es)
-    → UpTo key.LineEnd PartOf (record no_parts { is_const = c }) (at line (bracketed (codes " { ") (codes " }") (map entry_text es) ++ 10 ∷ more)) (parts_said c es) (at line (10 ∷ more))
+    → UpTo key.LineEnd PartOf (record no_parts { is_const = c }) (at line (bracketed_list (codes " { ") (codes " }") (map entry_text es) ++ 10 ∷ more)) (parts_said c es) (at line (10 ∷ more))
 entries_parts c [] line more h d = stands (ap (λ (z : List Tok). (head z).key) (line_then true line more))
 entries_parts c (e ∷ es) line more h d =
     let texts = map entry_text es in
@@ -149,13 +149,13 @@ entries_parts c (e ∷ es) line more h d =
     (steps (entries (mark_between line 123 _ refl) refl (some (subst L (sym (entry_front line e.0 e.1 _ (All-head (λ (x : TextEntry). IsNetwork x.0) e es h) (list_break texts left))) inside)))
     (stands (ap (λ (z : List Tok). (head z).key) (line_then true line more))))
 
-parts_break : (es : List TextEntry) (more : List ℕ) → breaks (bracketed (codes " { ") (codes " }") (map entry_text es) ++ 10 ∷ more) ≡ true
+parts_break : (es : List TextEntry) (more : List ℕ) → breaks (bracketed_list (codes " { ") (codes " }") (map entry_text es) ++ 10 ∷ more) ≡ true
 parts_break [] more = refl
 parts_break (e ∷ es) more = refl
 
 -- `const` and the entries, behind the name of a table
 pub parts_read : (c : Bool) (es : List TextEntry) (line : ℕ) (more : List ℕ) → All (λ (e : TextEntry). IsNetwork e.0) es → IsDistinct same_network (map (λ (e : TextEntry). e.0) es)
-    → PartsOf (at line (const_text c ++ (bracketed (codes " { ") (codes " }") (map entry_text es) ++ 10 ∷ more))) (parts_said c es) (at line (10 ∷ more))
+    → PartsOf (at line (const_text c ++ (bracketed_list (codes " { ") (codes " }") (map entry_text es) ++ 10 ∷ more))) (parts_said c es) (at line (10 ∷ more))
 parts_read false es line more h d = entries_parts false es line more h d
 parts_read true es line more h d =
-    steps (constant (word line (codes "const") (bracketed (codes " { ") (codes " }") (map entry_text es) ++ 10 ∷ more) refl (parts_break es more) key_of_Const) refl) (entries_parts true es line more h d)
+    steps (constant (word line (codes "const") (bracketed_list (codes " { ") (codes " }") (map entry_text es) ++ 10 ∷ more) refl (parts_break es more) key_of_Const) refl) (entries_parts true es line more h d)

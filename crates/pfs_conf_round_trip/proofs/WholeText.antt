@@ -11,7 +11,7 @@ use Rattle.pfs_conf_tokens.specs.Lexis.{tokens, tokens_of}
 use Rattle.pfs_conf_tokens.specs.Tokens.{Tok}
 use Rattle.pfs_conf_values.specs.Configs.{Conf, conf_of, entries_in, is_adaptive, overloads_const, timeout_of}
 use Rattle.pfs_conf_values.specs.Invariants.{IsConfig}
-use Rattle.pfs_conf_settings.specs.Drafts.{Drafted, const_overload, empty_draft, finished, has_broken_pair, has_too_many_entries, has_too_many_tables}
+use Rattle.pfs_conf_settings.specs.Drafts.{Drafted, const_overload, empty_draft, conf_of_draft, has_broken_pair, has_too_many_entries, has_too_many_tables}
 use Rattle.pfs_conf_values.specs.Timeouts.{resolved_timeouts, timeout_names}
 use Rattle.pfs_conf_values.specs.declared.items.Item.{Item}
 use Rattle.pfs_conf_values.specs.declared.timeouts.TimeoutName.{TimeoutName}
@@ -106,7 +106,7 @@ abbrev whole : Conf → Drafted
 whole conf = drafted conf.limits (all_set conf.timeouts) conf.tables conf.items
 
 -- what it says is the configuration
-whole_again : (conf : Conf) → IsConfig conf → finished (whole conf) ≡ conf
+whole_again : (conf : Conf) → IsConfig conf → conf_of_draft (whole conf) ≡ conf
 whole_again conf h = ap (λ (ts : List ℕ). conf_of conf.limits ts conf.tables conf.items) (timeouts_again conf.limits.states conf.timeouts h.size)
 
 setting_read : (d e : Drafted) (lines : List ℕ) (ts left : List Tok) → SettingLine d ts e left → StatementOf (reached d 0 lines) ts (reached e 0 lines) left
@@ -150,7 +150,7 @@ text_again conf h said =
         all_closed = e.all_closed;
         keeps = text_kept e.said (whole conf) e.says (no_position (overloads_const conf.tables) conf.items h.overloads) (ap not h.adaptive)
             (le-ltb conf.limits.tables (length conf.tables) h.few_tables) (le-ltb conf.limits.table_entries (entries_in conf.tables) h.few_entries);
-        says = ap finished e.says ∙ whole_again conf h;
+        says = ap conf_of_draft e.says ∙ whole_again conf h;
       };
     }
 

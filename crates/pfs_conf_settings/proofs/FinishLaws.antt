@@ -7,7 +7,7 @@ use Rattle.std.proofs.lemmas.Bool.{cond-false, cond-true, false≢true, lt-ltb, 
 use Rattle.pfs_conf_values.specs.Configs.{is_adaptive, overloads_const, table_names, timeout_of}
 use Rattle.pfs_conf_values.specs.Invariants.{IsConfig, IsTable, is_seconds}
 use Rattle.pfs_conf_settings.specs.Invariants.{IsDraft}
-use Rattle.pfs_conf_settings.specs.Drafts.{Drafted, broken_pair, const_overload, finished, has_broken_pair, has_too_many_entries, has_too_many_tables}
+use Rattle.pfs_conf_settings.specs.Drafts.{Drafted, broken_pair, const_overload, conf_of_draft, has_broken_pair, has_too_many_entries, has_too_many_tables}
 use Rattle.pfs_conf_values.specs.LoadRules.{IsTimeout}
 use Rattle.pfs_conf_values.specs.Bounds.{greatest_timeout, least_timeout}
 use Rattle.pfs_conf_values.specs.Timeouts.{place_of}
@@ -43,7 +43,7 @@ resolved_least : (place default : ℕ) (given : Option ℕ) → IfSome given (Is
 resolved_least place default None h le = le
 resolved_least place default (Some n) h le = h.0
 
-seconds : (d : Drafted) → IsDraft d → (name : TimeoutName) → is_seconds name ≡ true → timeout_of (finished d) name ≤ 2147483647
+seconds : (d : Drafted) → IsDraft d → (name : TimeoutName) → is_seconds name ≡ true → timeout_of (conf_of_draft d) name ≤ 2147483647
 seconds d k timeout.TcpFirst s = resolved_most 0 120 _ (k.timeouts 0) (omega arith)
 seconds d k timeout.TcpOpening s = resolved_most 1 30 _ (k.timeouts 1) (omega arith)
 seconds d k timeout.TcpEstablished s = resolved_most 2 86400 _ (k.timeouts 2) (omega arith)
@@ -85,7 +85,7 @@ adaptive_end_is states (Some n) h k = omega arith
 
 -- a draft that keeps the rules of the whole text is a configuration
 pub IsConfig_finished : (d : Drafted) → IsDraft d → All IsTable d.tables → IsDistinct bytes_eq (table_names d.tables)
-    → has_broken_pair d ≡ false → const_overload d ≡ None → has_too_many_tables d ≡ false → has_too_many_entries d ≡ false → IsConfig (finished d)
+    → has_broken_pair d ≡ false → const_overload d ≡ None → has_too_many_tables d ≡ false → has_too_many_entries d ≡ false → IsConfig (conf_of_draft d)
 IsConfig_finished d k tables names pair overloads few entries = record {
   limits = k.limits;
   size = refl;

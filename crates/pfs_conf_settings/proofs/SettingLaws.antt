@@ -10,7 +10,7 @@ use Rattle.pfs_conf_values.specs.declared.limits.LimitName.{LimitName}
 use Rattle.pfs_conf_values.specs.declared.limits.LimitName.TheVariants as limit
 use Rattle.pfs_conf_values.specs.declared.timeouts.TimeoutName.{TimeoutName}
 use Rattle.pfs_conf_settings.specs.Drafts.{Drafted, with_limit, with_timeout}
-use Rattle.pfs_conf_settings.specs.Settings.{timeout_named, bounded_at, limited, limit_by, set_limit_at, least_value, greatest_value, unkept, timed, time_by, time_at, lined_limit_at, lined_time_at, limits_by, limits_at, times_by, times_at, settings_by, settings_at}
+use Rattle.pfs_conf_settings.specs.Settings.{timeout_named, bounded_at, limit_statement, limit_by, set_limit_at, least_value, greatest_value, unkept, timeout_statement, time_by, time_at, lined_limit_at, lined_time_at, limits_by, limits_at, times_by, times_at, settings_by, settings_at}
 
 -- ---- a pair of a name and a number
 
@@ -19,7 +19,7 @@ unfolding bounded_at
 online_value true low high = online_skipping (number_at low high) (online_across (number_at low high) (online_number low high))
 online_value false low high = online_across (number_at low high) (online_number low high)
 
-limited_taking : (lined : Bool) (name : LimitName) (d : Drafted) (k : Key) → before_end k ≡ true → Taking across k (limited lined name d)
+limited_taking : (lined : Bool) (name : LimitName) (d : Drafted) (k : Key) → before_end k ≡ true → Taking across k (limit_statement lined name d)
 limited_taking lined name d k h = (h, online_chain (bounded_at lined 1 4294967295) _ (online_value lined 1 4294967295) (λ n. online_done (with_limit name n d)))
 
 limit_taking : (lined : Bool) (d : Drafted) (k : Key) → Taking across k (limit_by lined d k)
@@ -42,7 +42,7 @@ named_before_end : (k : Key) (name : TimeoutName) → timeout_named k ≡ Some n
 named_before_end key.End name e = absurd cc
 named_before_end _ name e = refl
 
-timed_taking : (lined : Bool) (d : Drafted) (k : Key) (o : Option TimeoutName) → timeout_named k ≡ o → Taking across k (timed lined d o)
+timed_taking : (lined : Bool) (d : Drafted) (k : Key) (o : Option TimeoutName) → timeout_named k ≡ o → Taking across k (timeout_statement lined d o)
 timed_taking lined d k None e = tt
 timed_taking lined d k (Some name) e =
     (named_before_end k name e, online_chain (bounded_at lined (least_value name) (greatest_value name)) _ (online_value lined (least_value name) (greatest_value name)) (λ n. online_done (with_timeout name n d)))

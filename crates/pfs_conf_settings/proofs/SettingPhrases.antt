@@ -12,7 +12,7 @@ use Rattle.pfs_conf_tokens.proofs.LineLaws.{skip_stays}
 use Rattle.pfs_conf_values.specs.declared.limits.LimitName.TheVariants as limit_name
 use Rattle.pfs_conf_values.specs.declared.timeouts.TimeoutName.{TimeoutName}
 use Rattle.pfs_conf_settings.specs.Drafts.{Drafted, with_limit, with_timeout}
-use Rattle.pfs_conf_settings.specs.Settings.{timeout_named, bounded_at, limit_by, set_limit_at, least_value, greatest_value, timed, time_by, time_at, lined_limit_at, lined_time_at, limits_by, limits_at, times_by, times_at, settings_by, settings_at}
+use Rattle.pfs_conf_settings.specs.Settings.{timeout_named, bounded_at, limit_by, set_limit_at, least_value, greatest_value, timeout_statement, time_by, time_at, lined_limit_at, lined_time_at, limits_by, limits_at, times_by, times_at, settings_by, settings_at}
 use Rattle.pfs_conf_settings.specs.SettingGrammar.{ValueOf, plain, lined, LimitOf, states, src_nodes, tables, table_entries, frags, TimeOf, kept, frag, tsdiff, icmp_first, icmp_error, AmongLines, SettingOf, limit, limits, timeout, timeouts}
 use Rattle.pfs_conf_settings.proofs.SettingLaws.{lined_limit_shrinks, lined_time_shrinks}
 use Rattle.pfs_conf_settings.proofs.TimeoutKeys.{placed, named}
@@ -44,7 +44,7 @@ limit_is inside d ts e left h = by_key (head ts).key refl h
     by_key key.Frags g q = let p = pair_is inside 1 4294967295 (λ n. d) (rest ts) e left q in subst (λ (z : Drafted). LimitOf inside d ts z left) p.2 (frags (word_is key.Frags ts g (λ r. cc)) p.1)
     by_key _ g q = absurd (not_refused _ _ _ q)
 
-timed_is : (inside : Bool) (d : Drafted) (ts : List Tok) (e : Drafted) (left : List Tok) (o : Option TimeoutName) → timeout_named (head ts).key ≡ o → act (timed inside d o) ts ≡ Ok (e, left) → TimeOf inside d ts e left
+timed_is : (inside : Bool) (d : Drafted) (ts : List Tok) (e : Drafted) (left : List Tok) (o : Option TimeoutName) → timeout_named (head ts).key ≡ o → act (timeout_statement inside d o) ts ≡ Ok (e, left) → TimeOf inside d ts e left
 timed_is inside d ts e left None g q = absurd cc
 timed_is inside d [] e left (Some name) g q = absurd cc
 timed_is inside d (t ∷ ts) e left (Some name) g q =
@@ -117,12 +117,12 @@ limit_reads (table_entries w v) = let h = word_head w in rw (h.0, h.1, value_rea
 limit_reads (frags w v) = let h = word_head w in rw (h.0, h.1, value_reads v) refl
 
 -- a timeout that is kept is none of those that are not
-kept_by : (inside : Bool) (d : Drafted) (k : Key) (name : TimeoutName) → timeout_named k ≡ Some name → time_by inside d k ≡ timed inside d (Some name)
+kept_by : (inside : Bool) (d : Drafted) (k : Key) (name : TimeoutName) → timeout_named k ≡ Some name → time_by inside d k ≡ timeout_statement inside d (Some name)
 kept_by inside d key.Frag name e = absurd cc
 kept_by inside d key.TcpTsdiff name e = absurd cc
 kept_by inside d key.IcmpFirst name e = absurd cc
 kept_by inside d key.IcmpError name e = absurd cc
-kept_by inside d _ name e = ap (timed inside d) e
+kept_by inside d _ name e = ap (timeout_statement inside d) e
 
 pub time_reads : {inside : Bool} {d e : Drafted} {ts left : List Tok} → TimeOf inside d ts e left → time_at inside d ts ≡ Ok (e, left)
 unfolding time_at

@@ -12,7 +12,7 @@ use Rattle.pfs_addr_values.specs.Prefixes.{Network}
 use Rattle.pfs_addr.specs.Texts.{prefix_of}
 use Rattle.pfs_conf_values.specs.Entries.{TextEntry, sign_of}
 use Rattle.pfs_conf_settings.specs.declared.tables.Parts.{Parts}
-use Rattle.pfs_conf_settings.specs.Tables.{sign_by, sign_at, again, entry_joined, entered, entry_by, entry_at, lined_entry_at, entries_by, braced_entries_at, unless, part_by, part_at, parts_at}
+use Rattle.pfs_conf_settings.specs.Tables.{sign_by, sign_at, again, entry_joined, entries_with, entry_by, entry_at, lined_entry_at, entries_by, braced_entries_at, unless, part_by, part_at, parts_at}
 use Rattle.pfs_conf_settings.specs.TableGrammar.{no_parts}
 
 -- ---- an entry
@@ -35,14 +35,14 @@ joined_taking : (k : Key) (entries : List TextEntry) (negated : Bool) (p : Netwo
 joined_taking k entries negated p None h = (h, online_done (entries ++ (p, negated) ∷ []))
 joined_taking k entries negated p (Some held) h = again_taking k entries negated held h
 
-entered_taking : (k : Key) (entries : List TextEntry) (negated : Bool) (o : Option Network) → in_line k ≡ true → Taking inside k (entered entries negated o)
+entered_taking : (k : Key) (entries : List TextEntry) (negated : Bool) (o : Option Network) → in_line k ≡ true → Taking inside k (entries_with entries negated o)
 entered_taking k entries negated None h = tt
 entered_taking k entries negated (Some p) h = joined_taking k entries negated p (sign_of entries p) h
 
 entry_taking : (entries : List TextEntry) (negated : Bool) (t : Tok) → Taking inside t.key (entry_by entries negated t)
 entry_taking entries negated t = go (is_word_key t.key) refl
   where
-    go : (b : Bool) → is_word_key t.key ≡ b → Taking inside t.key (if b then entered entries negated (prefix_of t.text) else refuse why.Host)
+    go : (b : Bool) → is_word_key t.key ≡ b → Taking inside t.key (if b then entries_with entries negated (prefix_of t.text) else refuse why.Host)
     go true e = entered_taking t.key entries negated (prefix_of t.text) (word_in_line t.key e)
     go false e = tt
 

@@ -15,7 +15,7 @@ use Rattle.pfs_addr_values.specs.Prefixes.{Network}
 use Rattle.pfs_addr.specs.Texts.{prefix_of}
 use Rattle.pfs_conf_values.specs.Entries.{TextEntry, sign_of}
 use Rattle.pfs_conf_settings.specs.declared.tables.Parts.{Parts}
-use Rattle.pfs_conf_settings.specs.Tables.{sign_by, sign_at, again, entry_joined, entered, entry_by, entry_at, lined_entry_at, entries_by, braced_entries_at, unless, part_by, part_at, parts_at}
+use Rattle.pfs_conf_settings.specs.Tables.{sign_by, sign_at, again, entry_joined, entries_with, entry_by, entry_at, lined_entry_at, entries_by, braced_entries_at, unless, part_by, part_at, parts_at}
 use Rattle.pfs_conf_settings.specs.TableGrammar.{no_parts, SignOf, plain, negated, Enters, comes, stands, EntryOf, EntriesOf, none, some, PartOf, persist, constant, counters, entries, PartsOf}
 use Rattle.pfs_conf_settings.proofs.TableLaws.{lined_entry_shrinks, part_shrinks}
 
@@ -57,7 +57,7 @@ joined_is es n p (Some h) f ts more left e =
     (subst (λ (z : List TextEntry). Enters es n p z) q.1 (stands (f ∙ ap (λ (b : Bool). Some b) (sym q.0))), q.2)
 
 entered_is : (es : List TextEntry) (n : Bool) (o : Option Network) (ts : List Tok) (more : List TextEntry) (left : List Tok)
-    → act (entered es n o) ts ≡ Ok (more, left) → (p : Network) × (o ≡ Some p) × Enters es n p more × (rest ts ≡ left)
+    → act (entries_with es n o) ts ≡ Ok (more, left) → (p : Network) × (o ≡ Some p) × Enters es n p more × (rest ts ≡ left)
 entered_is es n None ts more left e = absurd cc
 entered_is es n (Some p) ts more left e = let q = joined_is es n p (sign_of es p) refl ts more left e in (p, refl, q.0, q.1)
 
@@ -65,7 +65,7 @@ entry_is : (es : List TextEntry) (n : Bool) (ts : List Tok) (more : List TextEnt
 unfolding entry_at
 entry_is es n ts more left e = go (is_word_key (head ts).key) refl e
   where
-    go : (b : Bool) → is_word_key (head ts).key ≡ b → act (if b then entered es n (prefix_of (head ts).text) else refuse why.Host) ts ≡ Ok (more, left) → EntryRead es n (head ts) ts more left
+    go : (b : Bool) → is_word_key (head ts).key ≡ b → act (if b then entries_with es n (prefix_of (head ts).text) else refuse why.Host) ts ≡ Ok (more, left) → EntryRead es n (head ts) ts more left
     go true g h =
         let q = entered_is es n (prefix_of (head ts).text) ts more left h in
         record { is_word = g; p = q.0; says = q.1; enters = q.2; behind = q.3 }
@@ -162,7 +162,7 @@ entry_reads : {es : List TextEntry} {n : Bool} {p : Network} {ts : List Tok} {mo
 unfolding entry_at
 entry_reads {es = es} {n = n} {p = p} {ts = ts} {more = more} {left = left} w en =
     ap (λ (z : List Tok). act (entry_by es n (head z)) z) w.1
-    ∙ (ap (λ (b : Act (List TextEntry)). act b (w.0 ∷ left)) (cond-true (is_word_key w.0.key) _ _ w.2 ∙ (ap (entered es n) w.3 ∙ entered_reads en)))
+    ∙ (ap (λ (b : Act (List TextEntry)). act b (w.0 ∷ left)) (cond-true (is_word_key w.0.key) _ _ w.2 ∙ (ap (entries_with es n) w.3 ∙ entered_reads en)))
 
 -- behind line ends there are none
 skip_twice : (ts : List Tok) → skip_lines (skip_lines ts) ≡ skip_lines ts

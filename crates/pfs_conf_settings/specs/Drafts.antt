@@ -89,8 +89,8 @@ abbrev pub has_too_many_entries : Drafted → Bool
 has_too_many_entries d = nat_lt d.limits.table_entries (entries_in d.tables)
 
 -- what a text says whose statements say this: what it does not set has its default
-abbrev pub finished : Drafted → Conf
-finished d = record {
+abbrev pub conf_of_draft : Drafted → Conf
+conf_of_draft d = record {
   limits = d.limits;
   timeouts = resolved_timeouts d.limits.states d.timeouts;
   tables = d.tables;

@@ -3,7 +3,7 @@
 use Rattle.std.specs.Prelude.{◌≡◌, List, Result, Ok, Err}
 use Rattle.pfs_conf_tokens.specs.Tokens.{Tok}
 use Rattle.pfs_conf_tokens.specs.Reading.{Refused}
-use Rattle.pfs_conf_tokens.specs.Giving.{refused}
+use Rattle.pfs_conf_tokens.specs.Giving.{refusal_at}
 use Rattle.pfs_conf_tokens.specs.declared.refusals.ReadError.{ReadError}
 use Rattle.pfs_conf_tokens.specs.declared.refusals.ReadError.TheVariants as error
 
@@ -11,4 +11,4 @@ use Rattle.pfs_conf_tokens.specs.declared.refusals.ReadError.TheVariants as erro
 abbrev pub Extends : {X : Type 0} → Result Unit ReadError → List Tok → X → Result (X × List Tok) Refused → Type 0
 Extends (Ok u) left x read = read ≡ Ok (x, left)
 Extends (Err error.Memory) left x read = Unit {0}
-Extends (Err (error.Refused e)) left x read = read ≡ Err (refused e left)
+Extends (Err (error.Refused e)) left x read = read ≡ Err (refusal_at e left)

@@ -38,14 +38,14 @@ bounded_at true low high ts = skipping (number_at low high) ts
 bounded_at false low high ts = number_at low high ts
 
 -- a limit: a name and a number, 1 to 4294967295; `frags` is not kept
-abbrev pub limited : Bool → LimitName → Drafted → Act Drafted
-limited inside name d = take (chain (bounded_at inside 1 4294967295) (λ n. done (with_limit name n d)))
+abbrev pub limit_statement : Bool → LimitName → Drafted → Act Drafted
+limit_statement inside name d = take (chain (bounded_at inside 1 4294967295) (λ n. done (with_limit name n d)))
 
 abbrev pub limit_by : Bool → Drafted → Key → Act Drafted
-limit_by inside d key.States = limited inside limit.States d
-limit_by inside d key.SrcNodes = limited inside limit.SrcNodes d
-limit_by inside d key.Tables = limited inside limit.Tables d
-limit_by inside d key.TableEntries = limited inside limit.TableEntries d
+limit_by inside d key.States = limit_statement inside limit.States d
+limit_by inside d key.SrcNodes = limit_statement inside limit.SrcNodes d
+limit_by inside d key.Tables = limit_statement inside limit.Tables d
+limit_by inside d key.TableEntries = limit_statement inside limit.TableEntries d
 limit_by inside d key.Frags = take (chain (bounded_at inside 1 4294967295) (λ n. done d))
 limit_by inside d _ = refuse why.Plain
 
@@ -63,16 +63,16 @@ greatest_value name = greatest_timeout (place_of name)
 abbrev pub unkept : Bool → Drafted → Act Drafted
 unkept inside d = take (chain (bounded_at inside 0 2147483647) (λ n. done d))
 
-abbrev pub timed : Bool → Drafted → Option TimeoutName → Act Drafted
-timed inside d None = refuse why.Plain
-timed inside d (Some name) = take (chain (bounded_at inside (least_value name) (greatest_value name)) (λ n. done (with_timeout name n d)))
+abbrev pub timeout_statement : Bool → Drafted → Option TimeoutName → Act Drafted
+timeout_statement inside d None = refuse why.Plain
+timeout_statement inside d (Some name) = take (chain (bounded_at inside (least_value name) (greatest_value name)) (λ n. done (with_timeout name n d)))
 
 abbrev pub time_by : Bool → Drafted → Key → Act Drafted
 time_by inside d key.Frag = unkept inside d
 time_by inside d key.TcpTsdiff = unkept inside d
 time_by inside d key.IcmpFirst = unkept inside d
 time_by inside d key.IcmpError = unkept inside d
-time_by inside d k = timed inside d (timeout_named k)
+time_by inside d k = timeout_statement inside d (timeout_named k)
 
 unfoldable pub time_at : Bool → Drafted → Reader Drafted
 time_at inside d ts = on_front (λ t. time_by inside d t.key) ts

@@ -36,12 +36,12 @@ abbrev pub entry_joined : List TextEntry → Bool → Network → Option Bool �
 entry_joined entries negated p None = take (done (entries ++ (p, negated) ∷ []))
 entry_joined entries negated p (Some held) = again entries negated held
 
-abbrev pub entered : List TextEntry → Bool → Option Network → Act (List TextEntry)
-entered entries negated None = refuse why.Host
-entered entries negated (Some p) = entry_joined entries negated p (sign_of entries p)
+abbrev pub entries_with : List TextEntry → Bool → Option Network → Act (List TextEntry)
+entries_with entries negated None = refuse why.Host
+entries_with entries negated (Some p) = entry_joined entries negated p (sign_of entries p)
 
 abbrev pub entry_by : List TextEntry → Bool → Tok → Act (List TextEntry)
-entry_by entries negated t = if is_word_key t.key then entered entries negated (prefix_of t.text) else refuse why.Host
+entry_by entries negated t = if is_word_key t.key then entries_with entries negated (prefix_of t.text) else refuse why.Host
 
 unfoldable pub entry_at : List TextEntry → Bool → Reader (List TextEntry)
 entry_at entries negated ts = on_front (λ t. entry_by entries negated t) ts

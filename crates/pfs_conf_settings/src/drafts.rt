@@ -5,7 +5,7 @@ ghost use Rattle.std.specs.Option.{option_map};
 ghost use Rattle.pfs_addr_values.specs.Names.{is_name};
 ghost use Rattle.pfs_conf_values.specs.Configs.{is_const_table, overloads_const};
 ghost use Rattle.pfs_conf_values.specs.Order.{depth_after, next_depth, repeats_by, repeats_name};
-ghost use Rattle.pfs_conf_settings.specs.Drafts.{broken_pair, const_overload, empty_draft, finished, has_broken_pair, has_too_many_entries, has_too_many_tables, is_defined, number_of_table, with_item, with_limit, with_name, with_table, with_timeout};
+ghost use Rattle.pfs_conf_settings.specs.Drafts.{broken_pair, const_overload, empty_draft, conf_of_draft, has_broken_pair, has_too_many_entries, has_too_many_tables, is_defined, number_of_table, with_item, with_limit, with_name, with_table, with_timeout};
 ghost use Rattle.pfs_conf_values.specs.LoadRules.{IsAnchor, IsCount, IsItem, IsRule, IsTimeout};
 ghost use Rattle.pfs_conf_values.specs.Siblings.{has_sibling, is_anchor_named};
 ghost use Rattle.pfs_conf_values.specs.Timeouts.{place_of};
@@ -218,7 +218,7 @@ impl Draft {
         requires overloads { const_overload self ≡ None }
         requires tables { has_too_many_tables self ≡ false }
         requires entries { has_too_many_entries self ≡ false }
-        ensures { result ≡ finished self }
+        ensures { result ≡ conf_of_draft self }
     {
         let Draft {
             limits,

@@ -70,7 +70,7 @@ impl EntryDraft {
         }
         Ok(Entries::of(list))
     }
-    // The entry at this place.
+    /// The entry at this place.
     fn at(&self, place: usize) -> Option<(Prefix, bool)>
         ensures { result ≡ slice_get self.now place }
     {

@@ -76,7 +76,7 @@ impl NamedTables {
         Ok(TableNo(place.min(u32::MAX as usize) as u32))
     }
 
-    // The place of the table of this name, which is named from now on.
+    /// The place of the table of this name, which is named from now on.
     fn place_of(&mut self, name: TableName) -> Result<usize, NoMemory>
         requires { is_name 31 name ≡ true }
         ensures answer { IfOk result (λ n. n ≡ place_in name self.old.tables) }
@@ -90,7 +90,7 @@ impl NamedTables {
         }
     }
 
-    // Puts a table of a new name behind the others, and answers its place.
+    /// Puts a table of a new name behind the others, and answers its place.
     fn add(&mut self, name: TableName) -> Result<usize, NoMemory>
         requires fresh { is_named name self.old.tables ≡ false }
         requires name { is_name 31 name ≡ true }

@@ -4,7 +4,7 @@ ghost use Rattle.std.specs.Prelude.{◌≡◌, ◌≤◌, Some, IfOk};
 ghost use Rattle.pfs_conf_tokens.specs.Reading.{closes_braces, act, number_at, until_all, next_of};
 ghost use Rattle.pfs_conf_tokens.specs.Giving.{Gives};
 ghost use Rattle.pfs_conf_settings.specs.Draws.{Draws};
-ghost use Rattle.pfs_conf_settings.specs.Settings.{timeout_named, bounded_at, least_value, greatest_value, limited, timed, set_limit_at, time_at, lined_limit_at, lined_time_at, limits_at, times_at, settings_at};
+ghost use Rattle.pfs_conf_settings.specs.Settings.{timeout_named, bounded_at, least_value, greatest_value, limit_statement, timeout_statement, set_limit_at, time_at, lined_limit_at, lined_time_at, limits_at, times_at, settings_at};
 
 use crate::drafts::Draft;
 use pfs_conf_tokens::{Cursor, Key, Refusal, Why, number, skip_lines};
@@ -100,7 +100,7 @@ fn next_time(cursor: &mut Cursor, draft: &mut Draft) -> Result<(), Refusal>
     lined_time(cursor, draft)
 }
 
-// A limit among line ends.
+/// A limit among line ends.
 #[tactic(auto, unfolding(crate::specs::Settings::lined_limit_at))]
 fn lined_limit(cursor: &mut Cursor, draft: &mut Draft) -> Result<(), Refusal>
     ensures { Draws result cursor.new draft.new (lined_limit_at draft.old cursor.old) }
@@ -111,7 +111,7 @@ fn lined_limit(cursor: &mut Cursor, draft: &mut Draft) -> Result<(), Refusal>
     Ok(())
 }
 
-// A timeout among line ends.
+/// A timeout among line ends.
 #[tactic(auto, unfolding(crate::specs::Settings::lined_time_at))]
 fn lined_time(cursor: &mut Cursor, draft: &mut Draft) -> Result<(), Refusal>
     ensures { Draws result cursor.new draft.new (lined_time_at draft.old cursor.old) }
@@ -122,7 +122,7 @@ fn lined_time(cursor: &mut Cursor, draft: &mut Draft) -> Result<(), Refusal>
     Ok(())
 }
 
-// A limit: its name and its value.
+/// A limit: its name and its value.
 #[tactic(auto, unfolding(crate::specs::Settings::set_limit_at))]
 fn limit(cursor: &mut Cursor, draft: &mut Draft, inside: bool) -> Result<(), Refusal>
     ensures { Draws result cursor.new draft.new (set_limit_at inside draft.old cursor.old) }
@@ -147,7 +147,7 @@ fn set_limit(
     inside: bool,
     name: LimitName,
 ) -> Result<(), Refusal>
-    ensures { Draws result cursor.new draft.new (act (limited inside name draft.old) cursor.old) }
+    ensures { Draws result cursor.new draft.new (act (limit_statement inside name draft.old) cursor.old) }
 {
     cursor.advance();
     let value = value(cursor, inside, 1, 4_294_967_295)?;
@@ -155,7 +155,7 @@ fn set_limit(
     Ok(())
 }
 
-// A timeout: its name and its value.
+/// A timeout: its name and its value.
 #[tactic(auto, unfolding(crate::specs::Settings::time_at))]
 fn time(cursor: &mut Cursor, draft: &mut Draft, inside: bool) -> Result<(), Refusal>
     ensures { Draws result cursor.new draft.new (time_at inside draft.old cursor.old) }
@@ -179,7 +179,7 @@ fn set_timeout(
     inside: bool,
     name: TimeoutName,
 ) -> Result<(), Refusal>
-    ensures { Draws result cursor.new draft.new (act (timed inside draft.old (Some name)) cursor.old) }
+    ensures { Draws result cursor.new draft.new (act (timeout_statement inside draft.old (Some name)) cursor.old) }
 {
     cursor.advance();
     let value = value(cursor, inside, least(name), greatest(name))?;
@@ -187,7 +187,7 @@ fn set_timeout(
     Ok(())
 }
 
-// A number, behind line ends where it stands in braces.
+/// A number, behind line ends where it stands in braces.
 #[tactic(auto, unfolding(crate::specs::Settings::bounded_at))]
 fn value(cursor: &mut Cursor, inside: bool, low: u32, high: u32) -> Result<u32, Refusal>
     ensures value { Gives result cursor.new (bounded_at inside low high cursor.old) }
@@ -209,7 +209,7 @@ fn number_up_to(cursor: &mut Cursor, low: u32, high: u32) -> Result<u32, Refusal
     Ok(value as u32)
 }
 
-// The timeout that a key names, if it is one of those that are kept.
+/// The timeout that a key names, if it is one of those that are kept.
 fn timeout_of(key: Key) -> Option<TimeoutName>
     ensures { result ≡ timeout_named key }
 {
@@ -234,7 +234,7 @@ fn timeout_of(key: Key) -> Option<TimeoutName>
     }
 }
 
-// The least value of a timeout: `interval` is at least 1 second.
+/// The least value of a timeout: `interval` is at least 1 second.
 fn least(name: TimeoutName) -> u32
     ensures { result ≡ least_value name }
 {
@@ -244,7 +244,7 @@ fn least(name: TimeoutName) -> u32
     }
 }
 
-// The greatest value of a timeout, in seconds; the adaptive ones are numbers of states.
+/// The greatest value of a timeout, in seconds; the adaptive ones are numbers of states.
 fn greatest(name: TimeoutName) -> u32
     ensures { result ≡ greatest_value name }
 {

@@ -138,7 +138,7 @@ fn entries(alloc: Global, hasher: RulesHasher, cursor: &mut Cursor) -> Result<En
     }
 }
 
-// The entries in braces, behind the opening one.
+/// The entries in braces, behind the opening one.
 #[tactic(auto, unfolding(crate::specs::Tables::braced_entries_at))]
 fn braced_entries(
     alloc: Global,
@@ -182,7 +182,7 @@ fn next_entry(cursor: &mut Cursor, entries: &mut EntryDraft) -> Result<(), ReadE
     lined_entry(cursor, entries)
 }
 
-// An entry among line ends.
+/// An entry among line ends.
 #[tactic(auto, unfolding(crate::specs::Tables::lined_entry_at, crate::specs::Tables::sign_at))]
 fn lined_entry(cursor: &mut Cursor, entries: &mut EntryDraft) -> Result<(), ReadError>
     ensures { Extends result cursor.new entries.new (lined_entry_at entries.old cursor.old) }

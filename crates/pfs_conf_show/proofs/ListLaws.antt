@@ -5,7 +5,7 @@ use Rattle.std.proofs.lemmas.Option.{slice_get_within, get_or_from_slice_get}
 use Rattle.std.specs.List.{flat_map}
 use Rattle.std.proofs.lemmas.Grind.{flat_map-append}
 use Rattle.std.proofs.lemmas.List.{take_more, map-append}
-use Rattle.pfs_conf_show.specs.Pieces.{begun_after, going_on, separator, worded}
+use Rattle.pfs_conf_show.specs.Pieces.{begun_after, going_on, separator, word_and_number}
 
 pub going_on_append : (opening : List ℕ) (begun : Bool) (xs ys : List (List ℕ))
     → going_on opening begun (xs ++ ys) ≡ going_on opening begun xs ++ going_on opening (begun_after begun xs) ys
@@ -96,22 +96,22 @@ four : (w1 w2 w3 w4 : List ℕ) → (codes " { " ++ w1) ++ ((codes ", " ++ w2) +
 four w1 w2 w3 w4 = simp (append_assoc, append-nil)
 
 -- one item behind what is written, with the value that is meant
-item : (o o1 before word : List ℕ) (n m : ℕ) → o1 ≡ o ++ (before ++ worded word n) → n ≡ m → o1 ≡ o ++ (before ++ worded word m)
-item o o1 before word n m e h = e ∙ ap (λ (k : ℕ). o ++ (before ++ worded word k)) h
+item : (o o1 before word : List ℕ) (n m : ℕ) → o1 ≡ o ++ (before ++ word_and_number word n) → n ≡ m → o1 ≡ o ++ (before ++ word_and_number word m)
+item o o1 before word n m e h = e ∙ ap (λ (k : ℕ). o ++ (before ++ word_and_number word k)) h
 
 pub four_items : (v1 v2 v3 v4 : List ℕ) (a b c d s n t e : ℕ) (o o1 o2 o3 o4 : List ℕ)
-    → o1 ≡ o ++ (codes " { " ++ worded v1 a) → o2 ≡ o1 ++ (codes ", " ++ worded v2 b) → o3 ≡ o2 ++ (codes ", " ++ worded v3 c) → o4 ≡ o3 ++ (codes ", " ++ worded v4 d)
+    → o1 ≡ o ++ (codes " { " ++ word_and_number v1 a) → o2 ≡ o1 ++ (codes ", " ++ word_and_number v2 b) → o3 ≡ o2 ++ (codes ", " ++ word_and_number v3 c) → o4 ≡ o3 ++ (codes ", " ++ word_and_number v4 d)
     → a ≡ s → b ≡ n → c ≡ t → d ≡ e
-    → o4 ≡ o ++ going_on (codes " { ") false (worded v1 s ∷ worded v2 n ∷ worded v3 t ∷ worded v4 e ∷ [])
+    → o4 ≡ o ++ going_on (codes " { ") false (word_and_number v1 s ∷ word_and_number v2 n ∷ word_and_number v3 t ∷ word_and_number v4 e ∷ [])
 four_items v1 v2 v3 v4 a b c d s n t e o o1 o2 o3 o4 f g h k p q r u =
-    let w1 = codes " { " ++ worded v1 s in
-    let w2 = codes ", " ++ worded v2 n in
-    let w3 = codes ", " ++ worded v3 t in
-    let w4 = codes ", " ++ worded v4 e in
+    let w1 = codes " { " ++ word_and_number v1 s in
+    let w2 = codes ", " ++ word_and_number v2 n in
+    let w3 = codes ", " ++ word_and_number v3 t in
+    let w4 = codes ", " ++ word_and_number v4 e in
     behind o w1 (w2 ++ (w3 ++ w4)) (item o o1 (codes " { ") v1 a s f p)
     (behind o1 w2 (w3 ++ w4) (item o1 o2 (codes ", ") v2 b n g q)
     (behind o2 w3 w4 (item o2 o3 (codes ", ") v3 c t h r) (item o3 o4 (codes ", ") v4 d e k u)))
-    ∙ ap (λ (z : List ℕ). o ++ z) (four (worded v1 s) (worded v2 n) (worded v3 t) (worded v4 e))
+    ∙ ap (λ (z : List ℕ). o ++ z) (four (word_and_number v1 s) (word_and_number v2 n) (word_and_number v3 t) (word_and_number v4 e))
 
 -- what follows where a call succeeds
 pub on_ok : {A E : Type 0} (P Q : Type 0) (r : Result A E) → (P → Q) → OnOk r P → OnOk r Q

@@ -11,7 +11,7 @@ use Rattle.pfs_conf_values.specs.declared.actions.Scope.TheVariants as scope
 use Rattle.pfs_conf_values.specs.declared.actions.StateOptions.{StateOptions}
 use Rattle.pfs_conf_values.specs.declared.tables.TableDef.{TableDef}
 use Rattle.pfs_conf_values.specs.declared.timeouts.TimeoutName.{TimeoutName}
-use Rattle.pfs_conf_show.specs.Pieces.{bracketed, given, worded}
+use Rattle.pfs_conf_show.specs.Pieces.{bracketed_list, text_if_given, word_and_number}
 use Rattle.pfs_conf_show.specs.Settings.{timeout_word}
 use Rattle.pfs_conf_show.specs.Tables.{table_ref}
 
@@ -22,7 +22,7 @@ scope_text scope.Global = codes "source-track global"
 
 -- `max-src-conn-rate N/S`
 abbrev pub rate_text : Rate → List ℕ
-rate_text r = worded (codes "max-src-conn-rate") r.limit ++ (codes "/" ++ decimal r.seconds)
+rate_text r = word_and_number (codes "max-src-conn-rate") r.limit ++ (codes "/" ++ decimal r.seconds)
 
 abbrev pub flush_text : Option Scope → List ℕ
 flush_text None = []
@@ -35,23 +35,23 @@ overload_text tables v = codes "overload " ++ (table_ref tables v.table ++ flush
 
 -- the rule's own value of a timeout, if it gives one
 abbrev pub rule_timeout_text : List (Option ℕ) → TimeoutName → List (List ℕ)
-rule_timeout_text timeouts name = given (worded (timeout_word name)) (slice_index_or timeouts (place_of name) None)
+rule_timeout_text timeouts name = text_if_given (word_and_number (timeout_word name)) (slice_index_or timeouts (place_of name) None)
 
 -- the texts of the options that are given, in their order
 abbrev pub option_texts : List TableDef → StateOptions → List (List ℕ)
 option_texts tables o =
-    given (worded (codes "max")) o.max
-    ++ (given scope_text o.scope
-    ++ (given (worded (codes "max-src-nodes")) o.max_src_nodes
-    ++ (given (worded (codes "max-src-states")) o.max_src_states
-    ++ (given (worded (codes "max-src-conn")) o.max_src_conn
-    ++ (given rate_text o.max_src_conn_rate
-    ++ (given (overload_text tables) o.overload
+    text_if_given (word_and_number (codes "max")) o.max
+    ++ (text_if_given scope_text o.scope
+    ++ (text_if_given (word_and_number (codes "max-src-nodes")) o.max_src_nodes
+    ++ (text_if_given (word_and_number (codes "max-src-states")) o.max_src_states
+    ++ (text_if_given (word_and_number (codes "max-src-conn")) o.max_src_conn
+    ++ (text_if_given rate_text o.max_src_conn_rate
+    ++ (text_if_given (overload_text tables) o.overload
     ++ flat_map (rule_timeout_text o.timeouts) timeout_names))))))
 
 -- ` (o, o, ..)`, or nothing
 abbrev pub options_text : List TableDef → StateOptions → List ℕ
-options_text tables o = bracketed (codes " (") (codes ")") (option_texts tables o)
+options_text tables o = bracketed_list (codes " (") (codes ")") (option_texts tables o)
 
 -- the state clause of a pass rule
 abbrev pub state_text : List TableDef → Action → List ℕ

@@ -4,8 +4,8 @@ use Rattle.pfs_addr_values.specs.Addresses.{addr_text, width_of}
 use Rattle.pfs_addr_values.specs.Prefixes.{Network}
 
 -- a word and a number behind it
-abbrev pub worded : List ℕ → ℕ → List ℕ
-worded word n = word ++ (codes " " ++ decimal n)
+abbrev pub word_and_number : List ℕ → ℕ → List ℕ
+word_and_number word n = word ++ (codes " " ++ decimal n)
 
 -- `!` before what is negated
 abbrev pub not_text : Bool → List ℕ
@@ -43,10 +43,10 @@ closed_by closing true = closing
 closed_by closing false = []
 
 -- a list in brackets; nothing where it has no items
-abbrev pub bracketed : List ℕ → List ℕ → List (List ℕ) → List ℕ
-bracketed opening closing xs = going_on opening false xs ++ closed_by closing (begun_after false xs)
+abbrev pub bracketed_list : List ℕ → List ℕ → List (List ℕ) → List ℕ
+bracketed_list opening closing xs = going_on opening false xs ++ closed_by closing (begun_after false xs)
 
 -- the text of what is given, as the items of a list
-abbrev pub given : {A : Type 0} → (A → List ℕ) → Option A → List (List ℕ)
-given text None = []
-given text (Some x) = text x ∷ []
+abbrev pub text_if_given : {A : Type 0} → (A → List ℕ) → Option A → List (List ℕ)
+text_if_given text None = []
+text_if_given text (Some x) = text x ∷ []

@@ -4,17 +4,17 @@ use Rattle.pfs_conf_values.specs.Timeouts.{place_of, timeout_names}
 use Rattle.pfs_conf_values.specs.declared.limits.Limits.{Limits}
 use Rattle.pfs_conf_values.specs.declared.timeouts.TimeoutName.{TimeoutName}
 use Rattle.pfs_conf_values.specs.declared.timeouts.TimeoutName.TheVariants.{TcpFirst, TcpOpening, TcpEstablished, TcpClosing, TcpFinwait, TcpClosed, UdpFirst, UdpSingle, UdpMultiple, OtherFirst, OtherSingle, OtherMultiple, SrcTrack, Interval, AdaptiveStart, AdaptiveEnd}
-use Rattle.pfs_conf_show.specs.Pieces.{bracketed, worded}
+use Rattle.pfs_conf_show.specs.Pieces.{bracketed_list, word_and_number}
 
 -- the limits, each with its value
 abbrev pub limit_texts : Limits → List (List ℕ)
 limit_texts l =
-    worded (codes "states") l.states ∷ worded (codes "src-nodes") l.src_nodes ∷ worded (codes "tables") l.tables
-    ∷ worded (codes "table-entries") l.table_entries ∷ []
+    word_and_number (codes "states") l.states ∷ word_and_number (codes "src-nodes") l.src_nodes ∷ word_and_number (codes "tables") l.tables
+    ∷ word_and_number (codes "table-entries") l.table_entries ∷ []
 
 -- `set limit { states N, src-nodes N, tables N, table-entries N }`
 abbrev pub limits_text : Limits → List ℕ
-limits_text l = codes "set limit" ++ (bracketed (codes " { ") (codes " }") (limit_texts l) ++ codes "\n")
+limits_text l = codes "set limit" ++ (bracketed_list (codes " { ") (codes " }") (limit_texts l) ++ codes "\n")
 
 -- the word of a timeout
 abbrev pub timeout_word : TimeoutName → List ℕ
@@ -37,8 +37,8 @@ timeout_word AdaptiveEnd = codes "adaptive.end"
 
 -- a timeout with its value
 abbrev pub timeout_text : List ℕ → TimeoutName → List ℕ
-timeout_text timeouts name = worded (timeout_word name) (slice_index timeouts (place_of name))
+timeout_text timeouts name = word_and_number (timeout_word name) (slice_index timeouts (place_of name))
 
 -- `set timeout { tcp.first N, .. }`: all timeouts, by their places
 abbrev pub timeouts_text : List ℕ → List ℕ
-timeouts_text timeouts = codes "set timeout" ++ (bracketed (codes " { ") (codes " }") (map (timeout_text timeouts) timeout_names) ++ codes "\n")
+timeouts_text timeouts = codes "set timeout" ++ (bracketed_list (codes " { ") (codes " }") (map (timeout_text timeouts) timeout_names) ++ codes "\n")

@@ -101,7 +101,7 @@ fn push_hosts(
     push_side(out, config, to)
 }
 
-// Whether a side is any host at any port.
+/// Whether a side is any host at any port.
 fn is_every_side(side: &Side<TableNo>) -> bool
     ensures { result ≡ is_every_side side.now }
 {

@@ -42,8 +42,8 @@ fn push_items(out: &mut Vec<u8>, config: &Config) -> Result<(), NoMemory>
     push_braces(out, depth)
 }
 
-// An item, where so many anchors are open, with the braces that close those in which it does not stand. The answer says how
-// many are open behind it.
+/// An item, where so many anchors are open, with the braces that close those in which it does not stand. The answer says how
+/// many are open behind it.
 fn push_item(out: &mut Vec<u8>, config: &Config, depth: u8, item: &Item) -> Result<u8, NoMemory>
     requires { item.now.depth ≤ 16 }
     ensures text { OnOk result (out.new.items ≡ out.old.items

@@ -3,7 +3,7 @@
 ghost use Rattle.std.specs.Prelude.{◌≡◌, ◌++◌, IfOk, OnOk, codes, decimal};
 ghost use Rattle.std.specs.List.{flat_map};
 ghost use Rattle.pfs_conf_values.specs.Timeouts.{timeout_names};
-ghost use Rattle.pfs_conf_show.specs.Pieces.{begun_after, given, going_on, worded};
+ghost use Rattle.pfs_conf_show.specs.Pieces.{begun_after, text_if_given, going_on, word_and_number};
 ghost use Rattle.pfs_conf_show.specs.Options.{flush_text, options_text, overload_text, rate_text, rule_timeout_text, scope_text, state_text};
 
 use crate::pieces::{push_closing, push_number, push_separator, push_worded};
@@ -28,7 +28,7 @@ pub fn push_state(out: &mut Vec<u8>, config: &Config, action: &Action) -> Result
     }
 }
 
-// Each option that is given goes on with the list; the answer says whether the list has begun by then.
+/// Each option that is given goes on with the list; the answer says whether the list has begun by then.
 fn push_options(out: &mut Vec<u8>, config: &Config, options: &StateOptions) -> Result<(), NoMemory>
     ensures { OnOk result (out.new.items ≡ out.old.items ++ options_text config.now.tables options.now) }
 {
@@ -49,8 +49,8 @@ fn push_count(
     word: &[u8],
     count: Option<u32>,
 ) -> Result<bool, NoMemory>
-    ensures text { OnOk result (out.new.items ≡ out.old.items ++ going_on (codes " (") begun (given (worded word.now) count)) }
-    ensures begun { IfOk result (λ b. b ≡ begun_after begun (given (worded word.now) count)) }
+    ensures text { OnOk result (out.new.items ≡ out.old.items ++ going_on (codes " (") begun (text_if_given (word_and_number word.now) count)) }
+    ensures begun { IfOk result (λ b. b ≡ begun_after begun (text_if_given (word_and_number word.now) count)) }
 {
     let Some(count) = count else {
         return Ok(begun);
@@ -61,8 +61,8 @@ fn push_count(
 }
 
 fn push_scope(out: &mut Vec<u8>, begun: bool, scope: Option<Scope>) -> Result<bool, NoMemory>
-    ensures text { OnOk result (out.new.items ≡ out.old.items ++ going_on (codes " (") begun (given scope_text scope)) }
-    ensures begun { IfOk result (λ b. b ≡ begun_after begun (given scope_text scope)) }
+    ensures text { OnOk result (out.new.items ≡ out.old.items ++ going_on (codes " (") begun (text_if_given scope_text scope)) }
+    ensures begun { IfOk result (λ b. b ≡ begun_after begun (text_if_given scope_text scope)) }
 {
     let Some(scope) = scope else {
         return Ok(begun);
@@ -76,8 +76,8 @@ fn push_scope(out: &mut Vec<u8>, begun: bool, scope: Option<Scope>) -> Result<bo
 }
 
 fn push_rate(out: &mut Vec<u8>, begun: bool, rate: Option<Rate>) -> Result<bool, NoMemory>
-    ensures text { OnOk result (out.new.items ≡ out.old.items ++ going_on (codes " (") begun (given rate_text rate)) }
-    ensures begun { IfOk result (λ b. b ≡ begun_after begun (given rate_text rate)) }
+    ensures text { OnOk result (out.new.items ≡ out.old.items ++ going_on (codes " (") begun (text_if_given rate_text rate)) }
+    ensures begun { IfOk result (λ b. b ≡ begun_after begun (text_if_given rate_text rate)) }
 {
     let Some(rate) = rate else {
         return Ok(begun);
@@ -88,7 +88,7 @@ fn push_rate(out: &mut Vec<u8>, begun: bool, rate: Option<Rate>) -> Result<bool,
 }
 
 fn push_rate_text(out: &mut Vec<u8>, word: &[u8], rate: Rate) -> Result<(), NoMemory>
-    ensures { OnOk result (out.new.items ≡ out.old.items ++ (worded word.now rate.limit ++ (codes "/" ++ decimal rate.seconds))) }
+    ensures { OnOk result (out.new.items ≡ out.old.items ++ (word_and_number word.now rate.limit ++ (codes "/" ++ decimal rate.seconds))) }
 {
     push_worded(out, word, u64::from(rate.limit))?;
     out.extend_from_slice(b"/")?;
@@ -101,8 +101,8 @@ fn push_overload(
     config: &Config,
     overload: Option<Overload>,
 ) -> Result<bool, NoMemory>
-    ensures text { OnOk result (out.new.items ≡ out.old.items ++ going_on (codes " (") begun (given (overload_text config.now.tables) overload)) }
-    ensures begun { IfOk result (λ b. b ≡ begun_after begun (given (overload_text config.now.tables) overload)) }
+    ensures text { OnOk result (out.new.items ≡ out.old.items ++ going_on (codes " (") begun (text_if_given (overload_text config.now.tables) overload)) }
+    ensures begun { IfOk result (λ b. b ≡ begun_after begun (text_if_given (overload_text config.now.tables) overload)) }
 {
     let Some(overload) = overload else {
         return Ok(begun);

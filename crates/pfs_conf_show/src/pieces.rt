@@ -2,7 +2,7 @@
 
 ghost use Rattle.std.specs.Prelude.{◌≡◌, ◌==◌, ◌++◌, OnOk, codes, decimal};
 ghost use Rattle.pfs_addr_values.specs.Addresses.{width_of};
-ghost use Rattle.pfs_conf_show.specs.Pieces.{bits_text, closed_by, not_text, prefix_text, separator, worded};
+ghost use Rattle.pfs_conf_show.specs.Pieces.{bits_text, closed_by, not_text, prefix_text, separator, word_and_number};
 
 use itoa::Buffer;
 use pfs_addr::push_addr;
@@ -17,7 +17,7 @@ pub fn push_number(out: &mut Vec<u8>, n: u64) -> Result<(), NoMemory>
 }
 
 pub fn push_worded(out: &mut Vec<u8>, word: &[u8], n: u64) -> Result<(), NoMemory>
-    ensures { OnOk result (out.new.items ≡ out.old.items ++ worded word.now n) }
+    ensures { OnOk result (out.new.items ≡ out.old.items ++ word_and_number word.now n) }
 {
     out.extend_from_slice(word)?;
     out.extend_from_slice(b" ")?;
@@ -50,7 +50,7 @@ fn push_bits(out: &mut Vec<u8>, prefix: Prefix) -> Result<(), NoMemory>
     Ok(())
 }
 
-// Whether all bits of the address count.
+/// Whether all bits of the address count.
 fn is_whole(prefix: Prefix) -> bool
     ensures { result ≡ (prefix.bits == width_of prefix.addr) }
 {

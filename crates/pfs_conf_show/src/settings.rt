@@ -2,7 +2,7 @@
 
 ghost use Rattle.std.specs.Prelude.{◌≡◌, ◌++◌, OnOk, codes, false, map};
 ghost use Rattle.pfs_conf_values.specs.Timeouts.{timeout_names};
-ghost use Rattle.pfs_conf_show.specs.Pieces.{going_on, separator, worded};
+ghost use Rattle.pfs_conf_show.specs.Pieces.{going_on, separator, word_and_number};
 ghost use Rattle.pfs_conf_show.specs.Settings.{limit_texts, limits_text, timeout_text, timeout_word, timeouts_text};
 
 use crate::pieces::{push_separator, push_worded};
@@ -97,9 +97,9 @@ fn push_timeout_list(out: &mut Vec<u8>, config: &Config) -> Result<(), NoMemory>
     Ok(())
 }
 
-// An item of a list in braces, which has begun or not.
+/// An item of a list in braces, which has begun or not.
 fn push_item(out: &mut Vec<u8>, begun: bool, word: &[u8], n: u64) -> Result<(), NoMemory>
-    ensures { OnOk result (out.new.items ≡ out.old.items ++ (separator (codes " { ") begun ++ worded word.now n)) }
+    ensures { OnOk result (out.new.items ≡ out.old.items ++ (separator (codes " { ") begun ++ word_and_number word.now n)) }
 {
     push_separator(out, b" { ", begun)?;
     push_worded(out, word, n)

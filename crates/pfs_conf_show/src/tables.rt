@@ -2,8 +2,8 @@
 
 ghost use Rattle.std.specs.Prelude.{◌≡◌, ◌++◌, IfOk, OnOk, codes, false, map};
 ghost use Rattle.std.specs.List.{flat_map};
-ghost use Rattle.pfs_conf_show.specs.Pieces.{begun_after, bracketed, going_on};
-ghost use Rattle.pfs_conf_show.specs.Tables.{angled, const_text, entry_text, table_ref, table_text};
+ghost use Rattle.pfs_conf_show.specs.Pieces.{begun_after, bracketed_list, going_on};
+ghost use Rattle.pfs_conf_show.specs.Tables.{angled_name, const_text, entry_text, table_ref, table_text};
 
 use crate::pieces::{push_closing, push_not, push_prefix, push_separator};
 use pfs_addr_values::{NoMemory, Prefix};
@@ -47,7 +47,7 @@ pub fn push_table_ref(out: &mut Vec<u8>, config: &Config, table: TableNo) -> Res
 }
 
 fn push_name(out: &mut Vec<u8>, name: &TableName) -> Result<(), NoMemory>
-    ensures { OnOk result (out.new.items ≡ out.old.items ++ angled name.now) }
+    ensures { OnOk result (out.new.items ≡ out.old.items ++ angled_name name.now) }
 {
     out.extend_from_slice(b"<")?;
     out.extend_from_slice(name.as_bytes())?;
@@ -56,13 +56,13 @@ fn push_name(out: &mut Vec<u8>, name: &TableName) -> Result<(), NoMemory>
 }
 
 fn push_entries(out: &mut Vec<u8>, entries: &Entries) -> Result<(), NoMemory>
-    ensures { OnOk result (out.new.items ≡ out.old.items ++ bracketed (codes " { ") (codes " }") (map entry_text entries.now)) }
+    ensures { OnOk result (out.new.items ≡ out.old.items ++ bracketed_list (codes " { ") (codes " }") (map entry_text entries.now)) }
 {
     let begun = push_entry_list(out, entries)?;
     push_closing(out, b" }", begun)
 }
 
-// The answer says whether there are any.
+/// The answer says whether there are any.
 fn push_entry_list(out: &mut Vec<u8>, entries: &Entries) -> Result<bool, NoMemory>
     ensures text { OnOk result (out.new.items ≡ out.old.items ++ going_on (codes " { ") false (map entry_text entries.now)) }
     ensures begun { IfOk result (λ b. b ≡ begun_after false (map entry_text entries.now)) }

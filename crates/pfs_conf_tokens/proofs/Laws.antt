@@ -18,7 +18,7 @@
 -- (`no_text`), and the tokens before it are told by their keys (`stops_at`).
 use Rattle.std.proofs.Common.{◌≡◌, ℕ, zero, suc, ◌+◌, ◌≤◌, ◌<◌, Bool, true, false, cond, List, [], ◌∷◌, ◌++◌, length, Option, Some, None, Result, Ok, Err, refl, sym, ap, subst, ◌∙◌, arith, inl, inr, ◌⊎◌, length-append}
 use Rattle.pfs_conf_tokens.specs.Tokens.{Tok, head}
-use Rattle.pfs_conf_tokens.specs.Reading.{rest, Refused, stop, Reader, ◌>>=◌, Act, take, stay, refuse, act, on_front, done, chain, perhaps, once, turns, taken, left_there, until_all, up_to_all, ended_by, ended, judged}
+use Rattle.pfs_conf_tokens.specs.Reading.{rest, Refused, stop, Reader, ◌>>=◌, Act, take, stay, refuse, act, on_front, done, chain, perhaps, once, turns, taken, left_there, until_all, up_to_all, ended_by, ended, load_rule_reader}
 use Rattle.pfs_conf_tokens.specs.declared.keys.Key.{Key}
 use Rattle.pfs_conf_tokens.specs.declared.keys.Key.TheVariants as key
 use Rattle.pfs_conf_tokens.specs.declared.refusals.Why.{Why}
@@ -175,7 +175,7 @@ online_done {r = r} y = record {
 }
 
 -- a load rule is told at its line, and is no stop at a token
-pub online_judged : {A : Type 0} {r : Reach} (rule : LoadRule) (is_broken : Bool) (n : ℕ) (x : A) → Online r (judged rule is_broken n x)
+pub online_judged : {A : Type 0} {r : Reach} (rule : LoadRule) (is_broken : Bool) (n : ℕ) (x : A) → Online r (load_rule_reader rule is_broken n x)
 online_judged rule false n x = online_done x
 online_judged rule true n x = record { took = λ ts y left e. absurd cc; stopped = λ ts left w e. absurd cc; ok = λ ts y t m e m'. absurd cc; err = λ ts w t m e m'. absurd cc }
 

@@ -8,17 +8,17 @@ use Rattle.pfs_conf_tokens.specs.declared.refusals.ReadError.{ReadError}
 use Rattle.pfs_conf_tokens.specs.declared.refusals.ReadError.TheVariants as error
 
 -- a refusal with the tokens at which reading stopped
-abbrev pub refused : Refusal → List Tok → Refused
-refused (refusal.Stop w) left = stop left w
-refused (refusal.Broken rule line) left = broken rule line
+abbrev pub refusal_at : Refusal → List Tok → Refused
+refusal_at (refusal.Stop w) left = stop left w
+refusal_at (refusal.Broken rule line) left = broken rule line
 
 -- the same value with the cursor behind it, or the same refusal with the cursor at the token that goes on no statement
 abbrev pub Gives : {X : Type 0} → Result X Refusal → List Tok → Result (X × List Tok) Refused → Type 0
 Gives (Ok x) left read = read ≡ Ok (x, left)
-Gives (Err e) left read = read ≡ Err (refused e left)
+Gives (Err e) left read = read ≡ Err (refusal_at e left)
 
 -- the same of a function that takes memory, unless that is refused
 abbrev pub GivesOrMemory : {X : Type 0} → Result X ReadError → List Tok → Result (X × List Tok) Refused → Type 0
 GivesOrMemory (Ok x) left read = read ≡ Ok (x, left)
 GivesOrMemory (Err error.Memory) left read = Unit {0}
-GivesOrMemory (Err (error.Refused e)) left read = read ≡ Err (refused e left)
+GivesOrMemory (Err (error.Refused e)) left read = read ≡ Err (refusal_at e left)

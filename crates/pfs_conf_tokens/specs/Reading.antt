@@ -135,9 +135,9 @@ abbrev pub skipping : {A : Type 0} → Reader A → Reader A
 skipping f ts = f (skip_lines ts)
 
 -- a load rule of what was read
-abbrev pub judged : {A : Type 0} → LoadRule → Bool → ℕ → A → Reader A
-judged rule true line x ts = Err (broken rule line)
-judged rule false line x ts = Ok (x, ts)
+abbrev pub load_rule_reader : {A : Type 0} → LoadRule → Bool → ℕ → A → Reader A
+load_rule_reader rule true line x ts = Err (broken rule line)
+load_rule_reader rule false line x ts = Ok (x, ts)
 
 -- a number within bounds
 abbrev pub number_between : ℕ → ℕ → Option ℕ → Act ℕ

@@ -4,5 +4,5 @@ use Rattle.pfs_conf_tokens.specs.Tokens.{Tok}
 use Rattle.pfs_conf_tokens.specs.Lexis.{tokens}
 use Rattle.pfs_conf_tokens.specs.declared.lexer.Scan.{Scan}
 
-abbrev pub scanned : Scan → List Tok
-scanned s = s.token ∷ (if s.is_last then [] else tokens 0 s.busy s.line s.rest.now)
+abbrev pub tokens_of_scan : Scan → List Tok
+tokens_of_scan s = s.token ∷ (if s.is_last then [] else tokens 0 s.busy s.line s.rest.now)

@@ -27,9 +27,9 @@ impl<'a> Model for Cursor<'a> {
 
     ghost Value = { List Tok };
 
-    ghost use Rattle.pfs_conf_tokens.specs.Scanning.{scanned};
+    ghost use Rattle.pfs_conf_tokens.specs.Scanning.{tokens_of_scan};
 
-    ghost view = { λ c. if c.is_over then [] else scanned c.scan };
+    ghost view = { λ c. if c.is_over then [] else tokens_of_scan c.scan };
 
     ghost invariant = { λ c. c.scan.line + length c.scan.rest.now < 2 ^ 64 };
 }

@@ -2,7 +2,7 @@
 
 ghost use Rattle.std.specs.Prelude.{◌≡◌, ◌+◌, ◌<◌, ◌≤◌, ◌^◌, ◌∷◌, List, [], true, drop, length, IsTrue, MatchOption};
 ghost use Rattle.pfs_conf_tokens.specs.Lexis.{is_mark, mark_key, is_word_byte, is_space, goes_on, run_of, is_closed, piece, bytes_behind, tokens, in_front};
-ghost use Rattle.pfs_conf_tokens.specs.Scanning.{scanned};
+ghost use Rattle.pfs_conf_tokens.specs.Scanning.{tokens_of_scan};
 
 use crate::keys::Key;
 use crate::pieces::Token;
@@ -112,7 +112,7 @@ fn is_closed(bytes: &[u8]) -> bool
     }
 }
 
-// The token that begins with `b`, and how many of the bytes behind `b` are part of it.
+/// The token that begins with `b`, and how many of the bytes behind `b` are part of it.
 fn piece<'a>(line: u64, text: &'a [u8], b: u8, behind: &'a [u8]) -> (Token<'a>, usize)
     requires { text.now ≡ b ∷ behind.now }
     ensures token { result.0 ≡ piece line b behind.now }
@@ -142,10 +142,10 @@ fn split_front(bytes: &[u8]) -> Option<(u8, &[u8])>
     }
 }
 
-// The token that begins with `b`, and what is left behind it.
+/// The token that begins with `b`, and what is left behind it.
 fn scan_piece<'a>(line: u64, text: &'a [u8], b: u8, behind: &'a [u8]) -> Scan<'a>
     requires { text.now ≡ b ∷ behind.now }
-    ensures tokens { scanned result ≡ piece line b behind.now ∷ tokens 0 true line (drop (bytes_behind b behind.now) behind.now) }
+    ensures tokens { tokens_of_scan result ≡ piece line b behind.now ∷ tokens 0 true line (drop (bytes_behind b behind.now) behind.now) }
     ensures within { bytes_behind b behind.now ≤ length behind.now }
     ensures room { result.line + length result.rest.now ≤ line + length behind.now }
 {
@@ -163,7 +163,7 @@ fn scan_piece<'a>(line: u64, text: &'a [u8], b: u8, behind: &'a [u8]) -> Scan<'a
 /// The first token of the bytes, which begin on a line; `busy` says whether that line has tokens before them.
 pub fn first_token<'a>(bytes: &'a [u8], line: u64, busy: bool) -> Scan<'a>
     requires { line + length bytes.now < 2 ^ 64 }
-    ensures tokens { scanned result ≡ tokens 0 busy line bytes.now }
+    ensures tokens { tokens_of_scan result ≡ tokens 0 busy line bytes.now }
     ensures room { result.line + length result.rest.now ≤ line + length bytes.now }
 {
     let mut rest = bytes;

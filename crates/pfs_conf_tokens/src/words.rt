@@ -40,7 +40,7 @@ fn starts_with_digit(word: &[u8]) -> bool
     }
 }
 
-// The key of the word in a table of words, if it stands there.
+/// The key of the word in a table of words, if it stands there.
 fn find_word(words: &[(&'static [u8], Key)], word: &[u8]) -> Option<Key>
     ensures { result ≡ lookup (bytes_eq word.now) (map (λ e. (e.0.now, e.1)) words.now) }
 {
@@ -52,7 +52,7 @@ fn find_word(words: &[(&'static [u8], Key)], word: &[u8]) -> Option<Key>
     None
 }
 
-// Four tables, since the time of a proof grows with the square of a table's length.
+/// Four tables, since the time of a proof grows with the square of a table's length.
 fn statement_words() -> &'static [(&'static [u8], Key)]
     ensures { map (λ e. (e.0.now, e.1)) result.now ≡ statement_words }
 {

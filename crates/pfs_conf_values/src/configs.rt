@@ -192,7 +192,7 @@ impl Config {
         retention_by(options, global)
     }
 
-    // Feeds a hasher with all that the configuration says.
+    /// Feeds a hasher with all that the configuration says.
     pub(crate) fn feed(&self, state: &mut DefaultHasher)
         ensures { state.new ≡ after_conf state.old self.now }
     {
@@ -224,7 +224,7 @@ pub fn count_entries(tables: &[TableDef]) -> u64
     count
 }
 
-// The place of the table of this name.
+/// The place of the table of this name.
 fn place_named(tables: &[TableDef], name: &[u8]) -> Option<usize>
     ensures value { result ≡ position (has_name name.now) tables.now }
     ensures within { IfSome result (λ place. place < length tables.now) }
@@ -238,7 +238,7 @@ fn has_name(table: &TableDef, name: &[u8]) -> bool
     table.name.as_bytes() == name
 }
 
-// The retention of a source node of a rule with these options, where this is the global `src.track`.
+/// The retention of a source node of a rule with these options, where this is the global `src.track`.
 fn retention_by(options: &StateOptions, global: u64) -> u64
     ensures { result ≡ retention_in global options.now options.now.scope }
 {

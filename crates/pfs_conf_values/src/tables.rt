@@ -87,7 +87,7 @@ impl Entries {
 }
 
 impl TableDef {
-    // Feeds a hasher with the name, whether the table is `const`, and the entries.
+    /// Feeds a hasher with the name, whether the table is `const`, and the entries.
     fn feed(&self, state: &mut DefaultHasher)
         ensures { state.new ≡ after_table state.old self.now }
     {
@@ -119,7 +119,7 @@ pub fn copy_tables(alloc: Global, tables: &[TableDef]) -> Result<Vec<TableDef>, 
     Ok(copies)
 }
 
-// Feeds a hasher with how many tables there are, and with each.
+/// Feeds a hasher with how many tables there are, and with each.
 pub(crate) fn feed_tables(tables: &[TableDef], state: &mut DefaultHasher)
     ensures { state.new ≡ after_tables state.old tables.now }
 {

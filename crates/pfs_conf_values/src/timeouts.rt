@@ -93,7 +93,7 @@ impl TimeoutName {
         }
     }
 
-    // The value where `set timeout` gives none and so many states may be held.
+    /// The value where `set timeout` gives none and so many states may be held.
     fn default_value(self, states: u32) -> u64
         ensures { result ≡ default_timeout states self }
     {
@@ -160,7 +160,7 @@ impl RuleTimeouts {
         self.given[at] = Some(value);
     }
 
-    // The value of a name: the given one, else the default where so many states may be held.
+    /// The value of a name: the given one, else the default where so many states may be held.
     fn resolved(&self, name: TimeoutName, states: u32) -> u64
         ensures { result ≡ resolved_timeout states self.now name }
     {

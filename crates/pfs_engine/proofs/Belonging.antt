@@ -10,7 +10,7 @@ use Rattle.pfs_conf_values.specs.Configs.{Conf, options_of}
 use Rattle.pfs_conf_values.specs.declared.items.RuleNo.{RuleNo}
 use Rattle.pfs_store_contract.specs.Counts.{is_of_source}
 use Rattle.pfs_store_contract.specs.Calls.{source_states, touch_of, world_touched, state_number, state_rule}
-use Rattle.pfs_store_contract.specs.Touching.{completes_at, renewed, touched}
+use Rattle.pfs_store_contract.specs.Touching.{completes_at, numbered_state_after, world_after_touch}
 use Rattle.pfs_store_contract.specs.Worlds.{World, holds_number, state_with}
 use Rattle.pfs_store_contract.specs.declared.records.State.{State}
 use Rattle.pfs_store_contract.specs.declared.records.StateNo.{StateNo}
@@ -33,9 +33,9 @@ pub held_after : (conf : Conf) (w after : World) (p : Header) (now : ℕ) (numbe
     → after ≡ world_touched conf w p now (state_with (key_of p) w) → holds_number after.states number.0 ≡ true
 held_after conf w after p now number e is =
     let (s, found, same) = found_state (state_with (key_of p) w) number e in
-    let after_is : after ≡ touched conf w s p now = is ∙ ap (world_touched conf w p now) found in
+    let after_is : after ≡ world_after_touch conf w s p now = is ∙ ap (world_touched conf w p now) found in
     ap (λ (v : World). holds_number v.states number.0) after_is
-    ∙ (ap (λ (n : ℕ). holds_number (touched conf w s p now).states n) (sym same) ∙ held_touched conf w p now s found)
+    ∙ (ap (λ (n : ℕ). holds_number (world_after_touch conf w s p now).states n) (sym same) ∙ held_touched conf w p now s found)
 
 pub room_after : (conf store_conf : Conf) (m : Held) (p : Header) (now : ℕ) (number : StateNo) (t : Touched) (rule : Option RuleNo) (tables : Holdings)
     → IsKept conf m now → option_map state_number (state_with (key_of p) m.world) ≡ Some number
@@ -61,8 +61,8 @@ beside_after store_conf w after p now number t e is touch_is =
     let (s, found, same) = found_state (state_with (key_of p) w) number e in
     let told : Some t ≡ Some (touch_of store_conf w p now s) = touch_is ∙ ap (option_map (touch_of store_conf w p now)) found in
     let t_is : t ≡ touch_of store_conf w p now s = cc in
-    let after_is : after ≡ touched store_conf w s p now = is ∙ ap (world_touched store_conf w p now) found in
+    let after_is : after ≡ world_after_touch store_conf w s p now = is ∙ ap (world_touched store_conf w p now) found in
     ap (λ (a : Addr). source_states a after.states) (ap (λ (x : Touched). x.source) t_is)
     ∙ (ap (λ (v : World). source_states s.source v.states) after_is
-    ∙ (count-map (is_of_source s.source) (renewed s.number p now) (λ (x : State). ap (λ (a : Addr). same_addr a s.source) (renewed-same s.number p now x).source) w.states
+    ∙ (count-map (is_of_source s.source) (numbered_state_after s.number p now) (λ (x : State). ap (λ (a : Addr). same_addr a s.source) (renewed-same s.number p now x).source) w.states
     ∙ sym (ap (states_beside w) found)))

@@ -8,11 +8,11 @@ use Rattle.pfs_conf_values.specs.declared.actions.Action.{Action}
 use Rattle.pfs_conf_values.specs.declared.actions.Action.TheVariants as action
 use Rattle.pfs_store_contract.specs.Calls.{packet_limit}
 use Rattle.pfs_store_contract.specs.Handshakes.{hits_connections, hits_rate}
-use Rattle.pfs_store_contract.specs.Touching.{completes_at, touched}
+use Rattle.pfs_store_contract.specs.Touching.{completes_at, world_after_touch}
 use Rattle.pfs_store_contract.specs.Worlds.{World, state_with}
 use Rattle.pfs_store_contract.specs.declared.records.Limit.{Limit}
 use Rattle.pfs_store_contract.specs.declared.records.State.{State}
-use Rattle.pfs_engine_machine.specs.Machine.{Held, Machine, advanced, answered, by_action, by_exceeded, by_limit, by_rule, by_state, decided, exceeded_of, held_of}
+use Rattle.pfs_engine_machine.specs.Machine.{Held, Machine, machine_at_moment, answer_to_packet, answer_of_action, answer_of_exceeded, answer_of_limits, answer_of_rule, answer_of_state, deciding_rule, exceeded_of, held_of}
 use Rattle.pfs_engine_machine.specs.Kept.{moment_of}
 use Rattle.pfs_engine_machine.specs.Refusals.{IsFree, IsFreeOf}
 use Rattle.pfs_engine_machine.specs.Runs.{IsRefusedIn}
@@ -22,39 +22,39 @@ use Rattle.pfs_engine_machine.specs.declared.events.Outcome.{Outcome}
 use Rattle.pfs_engine_machine.specs.declared.events.Arrival.TheVariants as arrival
 use Rattle.pfs_engine.specs.Packets.{NeedsNone, NeedsNoneAt, NeedsNoneBy}
 
-free_limit : (conf : Conf) (m : Held) (p : Header) (now rule : ℕ) (limit : Option Limit) → IsFree conf p (by_limit conf m p now rule limit).0 → IsSome limit
+free_limit : (conf : Conf) (m : Held) (p : Header) (now rule : ℕ) (limit : Option Limit) → IsFree conf p (answer_of_limits conf m p now rule limit).0 → IsSome limit
 free_limit conf m p now rule None free = absurd free
 free_limit conf m p now rule (Some l) free = refl
 
-free_action : (conf : Conf) (m : Held) (p : Header) (now rule : ℕ) (what : Action) → IsFree conf p (by_action conf m p now rule what).0
+free_action : (conf : Conf) (m : Held) (p : Header) (now rule : ℕ) (what : Action) → IsFree conf p (answer_of_action conf m p now rule what).0
     → NeedsNoneAt conf m p rule what
 free_action conf m p now rule action.Block free = tt
 free_action conf m p now rule action.Pass free = tt
 free_action conf m p now rule (action.Keep o) free = free_limit conf m p now rule (packet_limit conf m.world p rule) free
 
-free_rule : (conf : Conf) (m : Held) (p : Header) (now : ℕ) (rule : Option ℕ) → IsFree conf p (by_rule conf m p now rule).0 → NeedsNoneBy conf m p rule
+free_rule : (conf : Conf) (m : Held) (p : Header) (now : ℕ) (rule : Option ℕ) → IsFree conf p (answer_of_rule conf m p now rule).0 → NeedsNoneBy conf m p rule
 free_rule conf m p now None free = tt
 free_rule conf m p now (Some rule) free = free_action conf m p now rule (rule_of conf rule).action free
 
-free_state : (conf : Conf) (m : Held) (p : Header) (now : ℕ) (found : Option State) → IsFree conf p (by_state conf m p now found).0 → NeedsNone conf m p found
-free_state conf m p now None free = free_rule conf m p now (decided conf m p) free
+free_state : (conf : Conf) (m : Held) (p : Header) (now : ℕ) (found : Option State) → IsFree conf p (answer_of_state conf m p now found).0 → NeedsNone conf m p found
+free_state conf m p now None free = free_rule conf m p now (deciding_rule conf m p) free
 free_state conf m p now (Some s) free = by (if completes_at p s then exceeded_of (hits_connections conf after s) (hits_rate conf after s) else None) free
   where
     after : World
-    after = touched conf m.world s p now
+    after = world_after_touch conf m.world s p now
 
-    by : (limits : Option Exceeded) → IsFree conf p (by_exceeded conf (held_of after m.tables) s.number s.rule s.source now limits).0
+    by : (limits : Option Exceeded) → IsFree conf p (answer_of_exceeded conf (held_of after m.tables) s.number s.rule s.source now limits).0
         → IsFreeOf conf p s.rule
     by (Some e) of = of
     by None of = of
 
-pub needs_none : (conf : Conf) (m : Held) (p : Header) (now : ℕ) → IsFree conf p (answered conf m p now).0 → NeedsNone conf m p (state_with (key_of p) m.world)
+pub needs_none : (conf : Conf) (m : Held) (p : Header) (now : ℕ) → IsFree conf p (answer_to_packet conf m p now).0 → NeedsNone conf m p (state_with (key_of p) m.world)
 needs_none conf m p now free = free_state conf m p now (state_with (key_of p) m.world) free
 
 -- ---- memory that was refused was needed
 
 pub refused_in : {E : Type 0} (conf : Conf) (m at new : Machine) (e : Event) (p : Header) (r : Result Outcome E) → e.what ≡ arrival.Packet p
-    → at ≡ advanced conf m e.time → OnErr r (new ≡ at) → (IsFree conf p (answered conf at.held p (moment_of at.last)).0 → IsOk r)
+    → at ≡ machine_at_moment conf m e.time → OnErr r (new ≡ at) → (IsFree conf p (answer_to_packet conf at.held p (moment_of at.last)).0 → IsOk r)
     → OnErr r ((q : Header) × IsRefusedIn conf m e q new)
 refused_in conf m at new e p (Ok o) comes is same free = tt
 refused_in conf m at new e p (Err x) comes is same free =
@@ -62,8 +62,8 @@ refused_in conf m at new e p (Err x) comes is same free =
       p,
       record {
         comes = comes;
-        needs = λ f. absurd (false≢true (free (subst (λ (n : ℕ). IsFree conf p (answered conf at.held p n).0) (sym now)
-            (subst (λ (k : Machine). IsFree conf p (answered conf k.held p e.time).0) same f))));
+        needs = λ f. absurd (false≢true (free (subst (λ (n : ℕ). IsFree conf p (answer_to_packet conf at.held p n).0) (sym now)
+            (subst (λ (k : Machine). IsFree conf p (answer_to_packet conf k.held p e.time).0) same f))));
         moment = same ∙ is;
       },
     )

@@ -5,18 +5,18 @@ use Rattle.std.proofs.lemmas.Bool.Decides.{nat_tests}
 use Rattle.pfs_conf_values.specs.Configs.{Conf}
 use Rattle.pfs_store_contract.specs.Purging.{is_among, node_round, node_share, node_slice, purge, round, state_round, state_share, state_slice}
 use Rattle.pfs_store_contract.specs.Calls.{node_slice_of, state_slice_of}
-use Rattle.pfs_store_contract.specs.Quiet.{NodeStays, NodesStay, StateStays, StatesStay, moved}
+use Rattle.pfs_store_contract.specs.Quiet.{NodeStays, NodesStay, StateStays, StatesStay, world_after_quiet}
 use Rattle.pfs_store_contract.specs.Worlds.{World}
 use Rattle.pfs_store_contract.specs.declared.records.Node.{Node}
 use Rattle.pfs_store_contract.specs.declared.records.Slice.{Slice}
 use Rattle.pfs_store_contract.specs.declared.records.State.{State}
 use Rattle.pfs_store_contract.specs.declared.records.Watched.{Watched}
-use Rattle.pfs_engine_machine.specs.Machine.{purged}
+use Rattle.pfs_engine_machine.specs.Machine.{world_after_purges}
 use Rattle.pfs_engine_machine.specs.Shares.{seconds, most_nodes, most_states}
 use Rattle.pfs_engine_machine.specs.Quiet.{IsQuietUntil}
 use Rattle.pfs_engine_machine.proofs.Purging.{idle_from, most_nodes_next, most_states_next, purged_next}
 use Rattle.pfs_engine_machine.proofs.Quiet.{half, half-stood, nodes-seen, round-fits, second-stood, seconds-quiet, states-seen}
-use Rattle.pfs_engine.specs.Watches.{IsOnTheWay, IsWatch, IsWatched, none, watch_after, watch_by}
+use Rattle.pfs_engine.specs.Watches.{IsOnTheWay, IsWatch, IsWatched, none, watch_after, watch_of}
 use Rattle.pfs_engine.specs.declared.purges.Passage.{Passage}
 use Rattle.pfs_engine.specs.declared.watches.Watch.{Watch}
 use Rattle.pfs_engine.specs.declared.works.Work.{Work}
@@ -78,7 +78,7 @@ module _ {X : Type 0} (number : X → ℕ) (Stays : ℕ → X → Type 0) (lower
 
   -- something left: only that a round is over is known
   pub left-watch : (share : ℕ) (xs : List X) (pending : List ℕ) (most until : ℕ) (over : Bool) → (over ≡ true → pending ≡ [])
-      → IsWatch number Stays share xs pending most (watch_by over (min 0 until) 0)
+      → IsWatch number Stays share xs pending most (watch_of over (min 0 until) 0)
   left-watch share xs pending most until true h =
       let e : length pending ≡ 0 = ap length (h refl) in
       record {
@@ -128,7 +128,7 @@ module _ {X : Type 0} (number : X → ℕ) (Stays : ℕ → X → Type 0) (lower
       → AllByRecursion (λ x. is_among (take share (round (map number xs) pending)) (number x) ≡ true → Stays until x) xs
       → more ≡ max most (length (take share (round (map number xs) pending)))
       → (over ≡ true → drop share (round (map number xs) pending) ≡ [])
-      → IsWatch number Stays share xs (drop share (round (map number xs) pending)) more (watch_by over (min watch.part until) watch.whole)
+      → IsWatch number Stays share xs (drop share (round (map number xs) pending)) more (watch_of over (min watch.part until) watch.whole)
   stay-watch share xs pending most more until true watch h u m o =
       let r = round (map number xs) pending in
       let e : length (drop share r) ≡ 0 = ap length (o refl) in
@@ -190,7 +190,7 @@ none-watched conf w second work s n es en = record {
 
 -- ---- seconds are passed over
 
-pub way-passed : (conf : Conf) (to : ℕ) (w w' : World) (at : Passage) (s n : Watch) (k quiet : ℕ) → w' ≡ moved conf k w → IsWatched conf w at → k ≤ quiet
+pub way-passed : (conf : Conf) (to : ℕ) (w w' : World) (at : Passage) (s n : Watch) (k quiet : ℕ) → w' ≡ world_after_quiet conf k w → IsWatched conf w at → k ≤ quiet
     → at.second + quiet ≤ to → at.second + quiet < at.states.whole → at.second + quiet < at.nodes.whole
     → IsOnTheWay conf to w at w' (record { second = at.second + k; work = at.work; states = s; nodes = n })
 way-passed conf to w w' at s n k quiet e h l o hs hn =
@@ -202,7 +202,7 @@ way-passed conf to w w' at s n k quiet e h l o hs hn =
     let before : at.second + k < until = omega (arith, l, hs, hn) in
     let within : at.second + k ≤ to = omega (arith, l, o) in
     record {
-      world = ap (λ (v : World). purged conf v (seconds (at.second + k) to)) e ∙ seconds-quiet conf until to k at.second w q before within;
+      world = ap (λ (v : World). world_after_purges conf v (seconds (at.second + k) to)) e ∙ seconds-quiet conf until to k at.second w q before within;
       most_states = ap (λ (v : World). max at.work.most_states (most_states conf v (seconds (at.second + k) to))) e
           ∙ states-seen conf until to at.work.most_states k at.second w q before within (h.states.whole_seen (omega (arith, hs)));
       most_nodes = ap (λ (v : World). max at.work.most_nodes (most_nodes conf v (seconds (at.second + k) to))) e
@@ -225,10 +225,10 @@ second_of false b h = absurd cc
 
 -- what is known after a second in which nothing left
 pub stood-watched : (conf : Conf) (w : World) (at : Passage) (next : ℕ) (work : Work) (s n : Watched)
-    → StatesStay conf w s.until w.states → (s.over ≡ true → (moved conf 1 w).pending_states ≡ []) → work.most_states ≡ max at.work.most_states (length (take (state_share conf) (state_round w)))
-    → NodesStay conf (half conf w) n.until w.nodes → (n.over ≡ true → (moved conf 1 w).pending_nodes ≡ []) → work.most_nodes ≡ max at.work.most_nodes (length (take (node_share conf) (node_round w)))
+    → StatesStay conf w s.until w.states → (s.over ≡ true → (world_after_quiet conf 1 w).pending_states ≡ []) → work.most_states ≡ max at.work.most_states (length (take (state_share conf) (state_round w)))
+    → NodesStay conf (half conf w) n.until w.nodes → (n.over ≡ true → (world_after_quiet conf 1 w).pending_nodes ≡ []) → work.most_nodes ≡ max at.work.most_nodes (length (take (node_share conf) (node_round w)))
     → IsWatched conf w at
-    → IsWatched conf (moved conf 1 w) (record { second = next; work = work; states = watch_after at.states false s.until s.over; nodes = watch_after at.nodes false n.until n.over })
+    → IsWatched conf (world_after_quiet conf 1 w) (record { second = next; work = work; states = watch_after at.states false s.until s.over; nodes = watch_after at.nodes false n.until n.over })
 stood-watched conf w at next work s n us os ms un on mn h = record {
   states = stay-watch number_of_state (StateStays conf w.states) (state-lower conf w.states) (state0 conf w.states) (state_share conf) w.states w.pending_states at.work.most_states work.most_states s.until s.over at.states h.states us ms os;
   nodes = stay-watch number_of_node (NodeStays conf w.states) (node-lower conf w.states) (node0 conf w.states) (node_share conf) w.nodes w.pending_nodes at.work.most_nodes work.most_nodes n.until n.over at.nodes h.nodes un mn on;
@@ -263,7 +263,7 @@ second-watched conf k w between after at second next work s n left ws wn ek eb e
         let ns : n.slice ≡ node_slice_of conf (state_slice conf w second) second = en ∙ (λ i. node_slice_of (ek i) (eb i) second) in
         let rn : (node_slice_of conf (state_slice conf w second) second).removed ≡ 0 = sym (ap (λ (x : Slice). x.removed) ns) ∙ second_of (s.slice.removed == 0) n.slice.removed f in
         let b : between ≡ half conf w = eb ∙ half-stood conf w second rs in
-        let a : after ≡ moved conf 1 w = after_is ∙ second-stood conf w second rs rn in
+        let a : after ≡ world_after_quiet conf 1 w = after_is ∙ second-stood conf w second rs rn in
         let es' = ap (λ (x : Slice). x.examined) es in
         let en' : n.slice.examined ≡ length (take (node_share conf) (node_round w)) = ap (λ (x : Slice). x.examined) (en ∙ (λ i. node_slice_of (ek i) (b i) second)) in
         let un1 : NodesStay conf between n.until after.nodes = subst (λ (c : Conf). NodesStay c between n.until after.nodes) ek un in
@@ -292,8 +292,8 @@ pub second-way : (conf : Conf) (to : ℕ) (w after : World) (at here : Passage) 
     → IsOnTheWay conf to w at after here
 second-way conf to w after at here e_s e_n l made es en ns ms mn = go ((e_s == 0) && (e_n == 0)) refl
   where
-    world1 : purged conf after (seconds (at.second + 1) to) ≡ purged conf w (seconds at.second to)
-    world1 = purged_next conf w after (purged conf w (seconds at.second to)) at.second to l made refl
+    world1 : world_after_purges conf after (seconds (at.second + 1) to) ≡ world_after_purges conf w (seconds at.second to)
+    world1 = purged_next conf w after (world_after_purges conf w (seconds at.second to)) at.second to l made refl
 
     states1 : max here.work.most_states (most_states conf after (seconds (at.second + 1) to)) ≡ max at.work.most_states (most_states conf w (seconds at.second to))
     states1 = most_states_next conf w after at.second to at.work.most_states here.work.most_states _ l made (ms ∙ ap (max at.work.most_states) es) refl
@@ -315,14 +315,14 @@ second-way conf to w after at here e_s e_n l made es en ns ms mn = go ((e_s == 0
         let none_states = ap (most_states conf after) due in
         let none_nodes = ap (most_nodes conf after) due in
         record {
-          world = ap (purged conf after) due ∙ sym idle.0 ∙ world1;
+          world = ap (world_after_purges conf after) due ∙ sym idle.0 ∙ world1;
           most_states = omega (arith, none_states, idle.1, states1);
           most_nodes = omega (arith, none_nodes, idle.2, nodes1);
         }
     go false t =
         let n : here.second ≡ at.second + 1 = ns ∙ ap (λ b. if b then to else (at.second + 1)) t in
         record {
-          world = ap (λ x. purged conf after (seconds x to)) n ∙ world1;
+          world = ap (λ x. world_after_purges conf after (seconds x to)) n ∙ world1;
           most_states = ap (λ x. max here.work.most_states (most_states conf after (seconds x to))) n ∙ states1;
           most_nodes = ap (λ x. max here.work.most_nodes (most_nodes conf after (seconds x to))) n ∙ nodes1;
         }

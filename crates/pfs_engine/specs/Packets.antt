@@ -5,20 +5,20 @@ use Rattle.pfs_conf_values.specs.Configs.{Conf, options_of, rule_of}
 use Rattle.pfs_conf_values.specs.declared.actions.Action.{Action}
 use Rattle.pfs_conf_values.specs.declared.actions.Action.TheVariants as action
 use Rattle.pfs_store_contract.specs.Calls.{packet_limit}
-use Rattle.pfs_store_contract.specs.Counts.{exceeded}
+use Rattle.pfs_store_contract.specs.Counts.{exceeds_maximum}
 use Rattle.pfs_store_contract.specs.Handshakes.{over_rate}
 use Rattle.pfs_store_contract.specs.declared.records.State.{State}
 use Rattle.pfs_store_contract.specs.declared.records.Touched.{Touched}
-use Rattle.pfs_engine_machine.specs.Machine.{Held, by_exceeded, decided, exceeded_of}
+use Rattle.pfs_engine_machine.specs.Machine.{Held, answer_of_exceeded, deciding_rule, exceeded_of}
 use Rattle.pfs_engine_machine.specs.Refusals.{IsFreeOf}
 use Rattle.pfs_engine_machine.specs.declared.events.Outcome.{Outcome}
 
 -- a packet touched the state of this number
-abbrev pub by_touch : Conf → Held → ℕ → ℕ → Touched → Outcome × Held
-by_touch conf h number now t =
+abbrev pub answer_of_touch : Conf → Held → ℕ → ℕ → Touched → Outcome × Held
+answer_of_touch conf h number now t =
     let o = options_of conf t.rule.0 in
-    let limits = exceeded_of (exceeded o.max_src_conn t.connections) (over_rate o.max_src_conn_rate t.score.value) in
-    by_exceeded conf h number t.rule t.source now (if t.completed then limits else None)
+    let limits = exceeded_of (exceeds_maximum o.max_src_conn t.connections) (over_rate o.max_src_conn_rate t.score.value) in
+    answer_of_exceeded conf h number t.rule t.source now (if t.completed then limits else None)
 
 -- a rule makes no state, or the state is refused
 abbrev pub NeedsNoneAt : Conf → Held → Header → ℕ → Action → Type 0
@@ -32,5 +32,5 @@ NeedsNoneBy conf h p (Some rule) = NeedsNoneAt conf h p rule (rule_of conf rule)
 
 -- a packet of this state needs none, or, where there is none, by the rule that decides
 abbrev pub NeedsNone : Conf → Held → Header → Option State → Type 0
-NeedsNone conf h p None = NeedsNoneBy conf h p (decided conf h p)
+NeedsNone conf h p None = NeedsNoneBy conf h p (deciding_rule conf h p)
 NeedsNone conf h p (Some s) = IsFreeOf conf p s.rule

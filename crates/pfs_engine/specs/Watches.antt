@@ -7,7 +7,7 @@ use Rattle.pfs_store_contract.specs.Quiet.{NodeStays, StateStays}
 use Rattle.pfs_store_contract.specs.Worlds.{World}
 use Rattle.pfs_store_contract.specs.declared.records.Node.{Node}
 use Rattle.pfs_store_contract.specs.declared.records.State.{State}
-use Rattle.pfs_engine_machine.specs.Machine.{purged}
+use Rattle.pfs_engine_machine.specs.Machine.{world_after_purges}
 use Rattle.pfs_engine_machine.specs.Shares.{seconds, most_nodes, most_states}
 use Rattle.pfs_engine_machine.specs.Quiet.{IsSeen}
 use Rattle.pfs_engine.specs.declared.purges.Passage.{Passage}
@@ -19,13 +19,13 @@ abbrev pub none : Watch
 none = record { part = 0; whole = 0 }
 
 -- the round goes on, or is over: then all have been examined, and of the next none yet
-abbrev pub watch_by : Bool → ℕ → ℕ → Watch
-watch_by true known whole = record { part = 2 ^ 64 - 1; whole = known }
-watch_by false known whole = record { part = known; whole = whole }
+abbrev pub watch_of : Bool → ℕ → ℕ → Watch
+watch_of true known whole = record { part = 2 ^ 64 - 1; whole = known }
+watch_of false known whole = record { part = known; whole = whole }
 
 -- nothing is known any more where something left
 abbrev pub watch_after : Watch → Bool → ℕ → Bool → Watch
-watch_after watch left until over = watch_by over (min (if left then none else watch).part until) (if left then none else watch).whole
+watch_after watch left until over = watch_of over (min (if left then none else watch).part until) (if left then none else watch).whole
 
 -- ---- what it means
 
@@ -47,6 +47,6 @@ pub record IsWatched (conf : Conf) (w : World) (at : Passage) : Type 0 where
 
 -- what is still to come from here makes the same as what was to come from there
 pub record IsOnTheWay (conf : Conf) (to : ℕ) (w0 : World) (there : Passage) (w : World) (here : Passage) : Type 0 where
-  pub world : purged conf w (seconds here.second to) ≡ purged conf w0 (seconds there.second to)
+  pub world : world_after_purges conf w (seconds here.second to) ≡ world_after_purges conf w0 (seconds there.second to)
   pub most_states : max here.work.most_states (most_states conf w (seconds here.second to)) ≡ max there.work.most_states (most_states conf w0 (seconds there.second to))
   pub most_nodes : max here.work.most_nodes (most_nodes conf w (seconds here.second to)) ≡ max there.work.most_nodes (most_nodes conf w0 (seconds there.second to))

@@ -13,8 +13,8 @@ ghost use Rattle.pfs_store_contract.specs.declared.records.Limit.{Limit};
 ghost use Rattle.pfs_engine_machine.specs.Kept.{IsWithinLimits, IsWithinShared, moment_of};
 ghost use Rattle.pfs_engine_machine.specs.Looks.{AreLooks, states_beside};
 ghost use Rattle.pfs_engine_machine.specs.Refusals.{IsFree, IsDropped};
-ghost use Rattle.pfs_engine_machine.specs.Machine.{advanced, answered, due, entries_held, expired, nodes_held, start, states_held, step, machine_after, outcomes_of};
-ghost use Rattle.pfs_engine_machine.specs.Runs.{MayCome, MayExpire, AreAllowed, IsInOrder, IsRefusedIn, IsStopped, packets_in, taken_by};
+ghost use Rattle.pfs_engine_machine.specs.Machine.{machine_at_moment, answer_to_packet, due, entries_held, answer_to_expire, nodes_held, start, states_held, step, machine_after, outcomes_of};
+ghost use Rattle.pfs_engine_machine.specs.Runs.{MayCome, MayExpire, AreAllowed, IsInOrder, IsRefusedIn, IsStopped, packets_in, packets_of};
 ghost use Rattle.pfs_engine_machine.specs.Shares.{most_nodes, most_states};
 ghost use Rattle.pfs_engine_machine.specs.Visits.{AreVisits};
 
@@ -154,7 +154,7 @@ impl<S: Store> Engine<S> {
     pub fn advance(&mut self, now: u64)
         requires order { ForSome self.old.machine.last (λ last. last ≤ now) }
         requires moment { now < 2 ^ 32 }
-        ensures machine { self.new.machine ≡ advanced self.old.config self.old.machine now }
+        ensures machine { self.new.machine ≡ machine_at_moment self.old.config self.old.machine now }
         ensures slices { self.new.work.slices ≡ 2 * length (due self.old.machine.last now) }
         ensures most_states { self.new.work.most_states ≡ most_states self.old.config self.old.machine.held.world (due self.old.machine.last now) }
         ensures most_nodes { self.new.work.most_nodes ≡ most_nodes self.old.config self.old.machine.held.world (due self.old.machine.last now) }
@@ -179,7 +179,7 @@ impl<S: Store> Engine<S> {
     pub fn packet(&mut self, packet: &Packet) -> Result<Outcome, NoMemory>
         requires started { IsSome self.old.machine.last }
         requires room { self.old.taken < 1000000000 }
-        ensures ok { IfOk result (λ o. (o, self.new.machine.held) ≡ answered self.old.config self.old.machine.held packet.now (moment_of self.old.machine.last)) }
+        ensures ok { IfOk result (λ o. (o, self.new.machine.held) ≡ answer_to_packet self.old.config self.old.machine.held packet.now (moment_of self.old.machine.last)) }
         ensures err { OnErr result (self.new.machine ≡ self.old.machine) }
         ensures first { self.new.machine.first ≡ self.old.machine.first }
         ensures last { self.new.machine.last ≡ self.old.machine.last }
@@ -200,7 +200,7 @@ impl<S: Store> Engine<S> {
 
         // Memory is asked for only where a state is made, or a TCP packet is one of a rule with `overload`.
         ensures free { IsFree self.old.config packet.now
-            (answered self.old.config self.old.machine.held packet.now (moment_of self.old.machine.last)).0 → IsOk result }
+            (answer_to_packet self.old.config self.old.machine.held packet.now (moment_of self.old.machine.last)).0 → IsOk result }
 
         ensures visits { AreVisits self.old.config self.old.machine.held packet.now (state_with (key_of packet.now) self.old.machine.held.world) self.new.work.visits }
         ensures slices { self.new.work.slices ≡ 0 }
@@ -240,7 +240,7 @@ impl<S: Store> Engine<S> {
         requires started { IsSome self.old.machine.last }
         requires table { MayExpire self.old.config table.0 }
         ensures answer { (Outcome.Expire result, self.new.machine.held)
-            ≡ expired self.old.machine.held (moment_of self.old.machine.first) (moment_of self.old.machine.last) table.0 seconds }
+            ≡ answer_to_expire self.old.machine.held (moment_of self.old.machine.first) (moment_of self.old.machine.last) table.0 seconds }
         ensures first { self.new.machine.first ≡ self.old.machine.first }
         ensures last { self.new.machine.last ≡ self.old.machine.last }
         ensures limits { IsWithinLimits self.new.config self.new.machine.held }
@@ -270,7 +270,7 @@ impl<S: Store> Engine<S> {
         ensures err { OnErr result ((packet : Header) × IsRefusedIn self.old.config self.old.machine event.now packet self.new.machine) }
         ensures limits { IsWithinLimits self.new.config self.new.machine.held }
         ensures config { self.new.config ≡ self.old.config }
-        ensures taken { OnOk result (self.new.taken ≡ self.old.taken + taken_by event.now.what) }
+        ensures taken { OnOk result (self.new.taken ≡ self.old.taken + packets_of event.now.what) }
         ensures not_taken { OnErr result (self.new.taken ≡ self.old.taken) }
         ensures few { self.new.taken ≤ self.old.taken + 1 }
         ensures last { self.new.machine.last ≡ Some event.now.time }
@@ -315,7 +315,7 @@ impl<S: Store> Engine<S> {
     }
 }
 
-// How many packets were answered after this one: one more, unless memory was refused.
+/// How many packets were answered after this one: one more, unless memory was refused.
 fn taken_after(taken: u64, outcome: &Result<Outcome, NoMemory>) -> u64
     requires { taken < 1000000000 }
     ensures ok { IfOk outcome.now (λ o. result ≡ taken + 1) }

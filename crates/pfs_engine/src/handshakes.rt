@@ -6,17 +6,17 @@ ghost use Rattle.pfs_addr_values.specs.Keys.{key_of};
 ghost use Rattle.pfs_conf_values.specs.Configs.{Conf, limit_of, options_at, options_of};
 ghost use Rattle.pfs_conf_values.specs.LoadRules.{AreOptions};
 ghost use Rattle.pfs_conf_values.specs.Bounds.{IsRate};
-ghost use Rattle.pfs_store_contract.specs.Counts.{exceeded};
+ghost use Rattle.pfs_store_contract.specs.Counts.{exceeds_maximum};
 ghost use Rattle.pfs_store_contract.specs.Calls.{source_states, state_number, state_rule};
 ghost use Rattle.pfs_store_contract.specs.Handshakes.{stays_at_kill, flush_of, goes_with, over_rate};
-ghost use Rattle.pfs_store_contract.specs.Leaving.{without};
+ghost use Rattle.pfs_store_contract.specs.Leaving.{world_without};
 ghost use Rattle.pfs_store_contract.specs.Worlds.{holds_number, state_with};
 ghost use Rattle.pfs_engine_machine.specs.Kept.{IsKept};
 ghost use Rattle.pfs_engine_machine.specs.Looks.{AreLooks, AreLooksOfKill, states_beside};
-ghost use Rattle.pfs_engine_machine.specs.Machine.{added_by, by_state, exceeded_of, held_of, tables_by};
+ghost use Rattle.pfs_engine_machine.specs.Machine.{addition_of, answer_of_state, exceeded_of, held_of, tables_after_addition};
 ghost use Rattle.pfs_store_contract.specs.declared.records.State.{State};
 ghost use Rattle.pfs_engine_machine.specs.Refusals.{IsFreeOf, is_tcp};
-ghost use Rattle.pfs_engine.specs.Packets.{by_touch};
+ghost use Rattle.pfs_engine.specs.Packets.{answer_of_touch};
 ghost use Rattle.pfs_engine.specs.Rooms.{HasRoomFor, rule_overload};
 
 use pfs_addr_values::{Addr, FlowKey, Meter, NoMemory, Packet, Proto};
@@ -48,7 +48,7 @@ pub(crate) fn take_packet_of_state<S: Store>(
     requires held { option_map state_number (state_with (key_of packet.now) (S.world store.old)) ≡ Some number }
     requires looks { looks.old ≡ 0 }
     ensures ok { IfOk result (λ o. (o, held_of (S.world store.new) tables.new.entries)
-        ≡ by_state config.now (held_of (S.world store.old) tables.old.entries) packet.now now (state_with (key_of packet.now) (S.world store.old))) }
+        ≡ answer_of_state config.now (held_of (S.world store.old) tables.old.entries) packet.now now (state_with (key_of packet.now) (S.world store.old))) }
     ensures world { OnErr result (S.world store.new ≡ S.world store.old) }
     ensures entries { OnErr result (tables.new.entries ≡ tables.old.entries) }
     ensures config { S.config store.new ≡ S.config store.old }
@@ -65,7 +65,7 @@ pub(crate) fn take_packet_of_state<S: Store>(
     Ok(complete_handshake(config, tables, store, number, &touched, now, looks))
 }
 
-// Room for one more entry in the overload table of the rule of the packet's state, where it may complete a handshake.
+/// Room for one more entry in the overload table of the rule of the packet's state, where it may complete a handshake.
 fn make_room<S: Store>(
     config: &Config,
     tables: &mut Tables,
@@ -89,7 +89,7 @@ fn make_room<S: Store>(
     }
 }
 
-// The overload of a rule that keeps state, if it has one: of a table that there is.
+/// The overload of a rule that keeps state, if it has one: of a table that there is.
 fn overload(config: &Config, rule: Option<RuleNo>) -> Option<Overload>
     ensures value { result ≡ rule_overload config.now rule }
     ensures known { ForSome result (λ v. v.table.0 < length config.now.tables) }
@@ -97,7 +97,7 @@ fn overload(config: &Config, rule: Option<RuleNo>) -> Option<Overload>
     options(config, rule?)?.overload
 }
 
-// The options of a rule that keeps state: they keep the load rules.
+/// The options of a rule that keeps state: they keep the load rules.
 fn options(config: &Config, rule: RuleNo) -> Option<&StateOptions>
     ensures value { option_copied result ≡ options_at config.now rule.0 }
     ensures kept { ForSome result (λ o. AreOptions (length config.now.tables) o.now) }
@@ -105,8 +105,8 @@ fn options(config: &Config, rule: RuleNo) -> Option<&StateOptions>
     config.options(rule)
 }
 
-// What comes of a packet that touched the state of this number: where its handshake completes past a limit of its rule, the
-// source is added to the overload table and states are killed.
+/// What comes of a packet that touched the state of this number: where its handshake completes past a limit of its rule, the
+/// source is added to the overload table and states are killed.
 fn complete_handshake<S: Store>(
     config: &Config,
     tables: &mut Tables,
@@ -122,7 +122,7 @@ fn complete_handshake<S: Store>(
     requires looks { looks.old ≤ 1000000000 }
     requires room { touched.now.completed ≡ true → HasRoomFor tables.old (options_of config.now touched.now.rule.0).overload }
     ensures answer { (result, held_of (S.world store.new) tables.new.entries)
-        ≡ by_touch config.now (held_of (S.world store.old) tables.old.entries) number.0 now touched.now }
+        ≡ answer_of_touch config.now (held_of (S.world store.old) tables.old.entries) number.0 now touched.now }
     ensures config { S.config store.new ≡ S.config store.old }
     ensures limit { tables.new.limit ≡ tables.old.limit }
     ensures looks { S.counts ≡ true → looks.old ≡ 1 →
@@ -155,11 +155,11 @@ fn complete_handshake<S: Store>(
     }
 }
 
-// The limits of a rule that a completed handshake exceeds, if it exceeds one.
+/// The limits of a rule that a completed handshake exceeds, if it exceeds one.
 fn exceeded_limits(options: &StateOptions, touched: &Touched) -> Option<Exceeded>
     requires { ForSome options.now.max_src_conn_rate IsRate }
     ensures { result
-        ≡ exceeded_of (exceeded options.now.max_src_conn touched.now.connections) (over_rate options.now.max_src_conn_rate touched.now.score.value) }
+        ≡ exceeded_of (exceeds_maximum options.now.max_src_conn touched.now.connections) (over_rate options.now.max_src_conn_rate touched.now.score.value) }
 {
     let conn = exceeds(options.max_src_conn, touched.connections);
     let rate = is_over(options.max_src_conn_rate, touched.score);
@@ -172,7 +172,7 @@ fn exceeded_limits(options: &StateOptions, touched: &Touched) -> Option<Exceeded
 }
 
 fn exceeds(most: Option<u32>, count: u64) -> bool
-    ensures { result ≡ exceeded most count }
+    ensures { result ≡ exceeds_maximum most count }
 {
     match most {
         Some(most) => count > u64::from(most),
@@ -196,7 +196,7 @@ fn flush_of(overload: Option<Overload>) -> Option<Scope>
     overload?.flush
 }
 
-// Adds a source to an overload table, if there is one, where there is room for it.
+/// Adds a source to an overload table, if there is one, where there is room for it.
 fn add_source(
     tables: &mut Tables,
     overload: Option<Overload>,
@@ -204,8 +204,8 @@ fn add_source(
     now: u64,
 ) -> Option<Added>
     requires { HasRoomFor tables.old overload }
-    ensures answer { (conf : Conf) → tables.old.limit ≡ limit_of conf LimitName.TableEntries → result ≡ added_by conf tables.old.entries source overload }
-    ensures entries { (conf : Conf) → tables.old.limit ≡ limit_of conf LimitName.TableEntries → tables.new.entries ≡ tables_by conf tables.old.entries source now overload }
+    ensures answer { (conf : Conf) → tables.old.limit ≡ limit_of conf LimitName.TableEntries → result ≡ addition_of conf tables.old.entries source overload }
+    ensures entries { (conf : Conf) → tables.old.limit ≡ limit_of conf LimitName.TableEntries → tables.new.entries ≡ tables_after_addition conf tables.old.entries source now overload }
     ensures limit { tables.new.limit ≡ tables.old.limit }
 {
     let overload = overload?;
@@ -215,7 +215,7 @@ fn add_source(
     }
 }
 
-// Kills the state of this number, and those that are flushed with it. It answers how many they are.
+/// Kills the state of this number, and those that are flushed with it. It answers how many they are.
 fn kill_with<S: Store>(
     store: &mut S,
     number: StateNo,
@@ -228,7 +228,7 @@ fn kill_with<S: Store>(
     requires looks { looks.old ≤ 2 ^ 63 }
     ensures answer { result ≡ length (filter (goes_with flush number.0 touched.now.rule touched.now.source) (S.world store.old).states) }
     ensures world { S.world store.new
-        ≡ without (S.config store.old) (S.world store.old) (stays_at_kill flush number.0 touched.now.rule touched.now.source) now }
+        ≡ world_without (S.config store.old) (S.world store.old) (stays_at_kill flush number.0 touched.now.rule touched.now.source) now }
     ensures config { S.config store.new ≡ S.config store.old }
     ensures looks { S.counts ≡ true → looks.old ≡ 1 →
         AreLooksOfKill flush result (source_states touched.now.source (S.world store.old).states) looks.new }

@@ -8,7 +8,7 @@ ghost use Rattle.pfs_store_contract.specs.Calls.{packet_limit};
 ghost use Rattle.pfs_store_contract.specs.Worlds.{state_with};
 ghost use Rattle.pfs_engine_machine.specs.Kept.{IsKept};
 ghost use Rattle.pfs_engine_machine.specs.Looks.{AreLooks, states_beside};
-ghost use Rattle.pfs_engine_machine.specs.Machine.{answered, by_action, by_limit, by_rule, decided, held_of};
+ghost use Rattle.pfs_engine_machine.specs.Machine.{answer_to_packet, answer_of_action, answer_of_limits, answer_of_rule, deciding_rule, held_of};
 ghost use Rattle.pfs_engine_machine.specs.Visits.{AreVisits};
 ghost use Rattle.pfs_engine.specs.Packets.{NeedsNone, NeedsNoneBy};
 
@@ -47,7 +47,7 @@ pub(crate) fn answer<S: Store>(
     requires visits { meters.old.visits ≡ 0 }
     requires looks { meters.old.looks ≡ 0 }
     ensures ok { IfOk result (λ o. (o, held_of (S.world store.new) tables.new.entries)
-        ≡ answered config.now (held_of (S.world store.old) tables.old.entries) packet.now now) }
+        ≡ answer_to_packet config.now (held_of (S.world store.old) tables.old.entries) packet.now now) }
     ensures world { OnErr result (S.world store.new ≡ S.world store.old) }
     ensures entries { OnErr result (tables.new.entries ≡ tables.old.entries) }
     ensures config { S.config store.new ≡ S.config store.old }
@@ -75,7 +75,7 @@ pub(crate) fn answer<S: Store>(
     }
 }
 
-// What the rules make of a packet that no held state has.
+/// What the rules make of a packet that no held state has.
 fn by_rules<S: Store>(
     config: &Config,
     book: &Book,
@@ -91,8 +91,8 @@ fn by_rules<S: Store>(
     requires room { (S.world store.old).made < 1000000000 }
     requires visits { visits.old ≡ 0 }
     ensures ok { IfOk result (λ o. (o, held_of (S.world store.new) tables.now.entries)
-        ≡ by_rule config.now (held_of (S.world store.old) tables.now.entries) packet.now now
-        (decided config.now (held_of (S.world store.old) tables.now.entries) packet.now)) }
+        ≡ answer_of_rule config.now (held_of (S.world store.old) tables.now.entries) packet.now now
+        (deciding_rule config.now (held_of (S.world store.old) tables.now.entries) packet.now)) }
     ensures world { OnErr result (S.world store.new ≡ S.world store.old) }
     ensures config { S.config store.new ≡ S.config store.old }
     ensures visits { AreVisits config.now (held_of (S.world store.old) tables.now.entries) packet.now None visits.new }
@@ -105,7 +105,7 @@ fn by_rules<S: Store>(
     }
 }
 
-// What the rule that decides makes of it.
+/// What the rule that decides makes of it.
 fn by_action<S: Store>(
     config: &Config,
     store: &mut S,
@@ -117,7 +117,7 @@ fn by_action<S: Store>(
     requires fresh { state_with (key_of packet.now) (S.world store.old) ≡ None }
     requires room { (S.world store.old).made < 1000000000 }
     ensures ok { IfOk result (λ o. (tables : List (List Entry)) → (o, held_of (S.world store.new) tables)
-        ≡ by_rule config.now (held_of (S.world store.old) tables) packet.now now (Some rule.0)) }
+        ≡ answer_of_rule config.now (held_of (S.world store.old) tables) packet.now now (Some rule.0)) }
     ensures world { OnErr result (S.world store.new ≡ S.world store.old) }
     ensures config { S.config store.new ≡ S.config store.old }
     ensures free { (tables : List (List Entry)) →

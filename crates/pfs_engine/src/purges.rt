@@ -2,7 +2,7 @@
 
 ghost use Rattle.std.specs.Prelude.{◌≡◌, ◌+◌, ◌*◌, ◌<◌, ◌≤◌, ◌^◌, ◌==◌, ◌&&◌, not, if◌then◌else◌, true, false, length, max};
 ghost use Rattle.std.specs.Option.{ForSome};
-ghost use Rattle.pfs_engine_machine.specs.Machine.{due, purged};
+ghost use Rattle.pfs_engine_machine.specs.Machine.{due, world_after_purges};
 ghost use Rattle.pfs_engine_machine.specs.Shares.{seconds, most_nodes, most_states};
 ghost use Rattle.pfs_engine.specs.Watches.{IsOnTheWay, IsWatched};
 
@@ -15,7 +15,7 @@ use pfs_store_contract::{Slice, Store};
 pub(crate) fn purge_due<S: Store>(store: &mut S, last: Option<u64>, now: u64) -> Work
     requires order { ForSome last (λ m. m ≤ now) }
     requires moment { now < 2 ^ 32 }
-    ensures world { S.world store.new ≡ purged (S.config store.old) (S.world store.old) (due last now) }
+    ensures world { S.world store.new ≡ world_after_purges (S.config store.old) (S.world store.old) (due last now) }
     ensures visits { result.visits ≡ 0 }
     ensures slices { result.slices ≡ 2 * length (due last now) }
     ensures most_states { result.most_states ≡ most_states (S.config store.old) (S.world store.old) (due last now) }
@@ -45,11 +45,11 @@ pub(crate) struct Passage {
     pub(crate) nodes: Watch,
 }
 
-// The purges of the seconds after one moment up to another, and the greatest slices.
+/// The purges of the seconds after one moment up to another, and the greatest slices.
 fn purge_each<S: Store>(store: &mut S, from: u64, to: u64) -> Work
     requires order { from ≤ to }
     requires moment { to < 2 ^ 32 }
-    ensures world { S.world store.new ≡ purged (S.config store.old) (S.world store.old) (seconds from to) }
+    ensures world { S.world store.new ≡ world_after_purges (S.config store.old) (S.world store.old) (seconds from to) }
     ensures visits { result.visits ≡ 0 }
     ensures most_states { result.most_states ≡ most_states (S.config store.old) (S.world store.old) (seconds from to) }
     ensures most_nodes { result.most_nodes ≡ most_nodes (S.config store.old) (S.world store.old) (seconds from to) }
@@ -70,7 +70,7 @@ fn purge_each<S: Store>(store: &mut S, from: u64, to: u64) -> Work
     at.work
 }
 
-// The purge of the next second. Where it has nothing to examine nothing is held, and the seconds after it change nothing.
+/// The purge of the next second. Where it has nothing to examine nothing is held, and the seconds after it change nothing.
 fn purge_second<S: Store>(store: &mut S, at: Passage, to: u64) -> Passage
     requires order { at.second < to }
     requires moment { to < 2 ^ 32 }
@@ -97,7 +97,7 @@ fn purge_second<S: Store>(store: &mut S, at: Passage, to: u64) -> Passage
     }
 }
 
-// Up to where the seconds are done with this one.
+/// Up to where the seconds are done with this one.
 fn second_after(second: u64, to: u64, states: Slice, nodes: Slice) -> u64
     ensures { result ≡ (if (states.examined == 0) && (nodes.examined == 0) then to else second) }
 {
@@ -108,14 +108,14 @@ fn second_after(second: u64, to: u64, states: Slice, nodes: Slice) -> u64
     }
 }
 
-// Whether something left in a second.
+/// Whether something left in a second.
 fn has_left(states: Slice, nodes: Slice) -> bool
     ensures { result ≡ not ((states.removed == 0) && (nodes.removed == 0)) }
 {
     !(states.removed == 0 && nodes.removed == 0)
 }
 
-// Passes over the seconds before anything can leave, as far as the store can.
+/// Passes over the seconds before anything can leave, as far as the store can.
 fn pass_over<S: Store>(store: &mut S, at: Passage, to: u64) -> Passage
     requires order { at.second ≤ to }
     requires moment { to < 2 ^ 32 }
@@ -140,7 +140,7 @@ fn pass_over<S: Store>(store: &mut S, at: Passage, to: u64) -> Passage
     }
 }
 
-// How many of the next seconds are known to be quiet.
+/// How many of the next seconds are known to be quiet.
 fn quiet_seconds(at: Passage, to: u64) -> u64
     requires order { at.second ≤ to }
     ensures order { at.second + result ≤ to }
@@ -152,7 +152,7 @@ fn quiet_seconds(at: Passage, to: u64) -> u64
     last.saturating_sub(at.second)
 }
 
-// The work with a second more: the greatest slices, and the most looks of one.
+/// The work with a second more: the greatest slices, and the most looks of one.
 fn greater(work: Work, looks: u64, states: Slice, nodes: Slice) -> Work
     ensures { result ≡ record work {
       looks = max work.looks looks;

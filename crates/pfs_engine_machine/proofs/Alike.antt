@@ -7,8 +7,8 @@ use Rattle.pfs_conf_values.specs.Configs.{Conf, options_of}
 use Rattle.pfs_conf_values.specs.declared.actions.Rate.{Rate}
 use Rattle.pfs_track.specs.Scores.{score_after}
 use Rattle.pfs_store_contract.specs.Counts.{has_node, is_node, node_scope_of, node_states, same_scope, scope_nodes}
-use Rattle.pfs_store_contract.specs.Leaving.{idled}
-use Rattle.pfs_store_contract.specs.Touching.{nodes_scored, nodes_touched, rescored}
+use Rattle.pfs_store_contract.specs.Leaving.{node_after_leaving}
+use Rattle.pfs_store_contract.specs.Touching.{nodes_scored, nodes_touched, node_after_handshake}
 use Rattle.pfs_store_contract.specs.declared.records.Node.{Node}
 use Rattle.pfs_store_contract.specs.declared.records.NodeScope.{NodeScope}
 use Rattle.pfs_store_contract.specs.declared.records.State.{State}
@@ -37,7 +37,7 @@ alike_map f same nodes = record {
 
 -- ---- a handshake
 
-rescored-alike : (scope : NodeScope) (source : Addr) (seconds now : ℕ) (n : Node) → IsAlike n (rescored scope source seconds now n)
+rescored-alike : (scope : NodeScope) (source : Addr) (seconds now : ℕ) (n : Node) → IsAlike n (node_after_handshake scope source seconds now n)
 rescored-alike scope source seconds now n = go (is_node scope source n)
   where
     go : (b : Bool) → IsAlike n (if b then record n { score = score_after seconds n.score now } else n)
@@ -49,7 +49,7 @@ nodes_scored-alike : (nodes : List Node) (source : Addr) (now : ℕ) (scope : Op
 nodes_scored-alike nodes source now None rate = alike_same nodes
 nodes_scored-alike nodes source now (Some scope) None = alike_same nodes
 nodes_scored-alike nodes source now (Some scope) (Some rate) =
-    alike_map (rescored scope source rate.seconds now) (rescored-alike scope source rate.seconds now) nodes
+    alike_map (node_after_handshake scope source rate.seconds now) (rescored-alike scope source rate.seconds now) nodes
 
 pub nodes_touched-alike : (conf : Conf) (nodes : List Node) (s : State) (now : ℕ) (completes : Bool)
     → AreAlike nodes (nodes_touched conf nodes s now completes)
@@ -59,7 +59,7 @@ nodes_touched-alike conf nodes s now false = alike_same nodes
 
 -- ---- states leave
 
-idled-alike : (conf : Conf) (before after : List State) (now : ℕ) (n : Node) → IsAlike n (idled conf before after now n)
+idled-alike : (conf : Conf) (before after : List State) (now : ℕ) (n : Node) → IsAlike n (node_after_leaving conf before after now n)
 idled-alike conf before after now n =
     go (nat_lt 0 (node_states conf n.scope n.source before) && (node_states conf n.scope n.source after == 0))
   where
@@ -68,5 +68,5 @@ idled-alike conf before after now n =
     go false = (refl, refl)
 
 pub idled_all-alike : (conf : Conf) (before after : List State) (now : ℕ) (nodes : List Node)
-    → AreAlike nodes (map (idled conf before after now) nodes)
-idled_all-alike conf before after now nodes = alike_map (idled conf before after now) (idled-alike conf before after now) nodes
+    → AreAlike nodes (map (node_after_leaving conf before after now) nodes)
+idled_all-alike conf before after now nodes = alike_map (node_after_leaving conf before after now) (idled-alike conf before after now) nodes

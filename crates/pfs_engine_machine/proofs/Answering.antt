@@ -12,15 +12,15 @@ use Rattle.pfs_conf_values.specs.declared.actions.Scope.TheVariants as scope
 use Rattle.pfs_conf_values.specs.declared.actions.StateOptions.{StateOptions}
 use Rattle.pfs_conf_values.specs.declared.items.Rule.{Rule}
 use Rattle.pfs_conf_values.specs.declared.items.RuleNo.{RuleNo}
-use Rattle.pfs_store_contract.specs.Admission.{admitted}
+use Rattle.pfs_store_contract.specs.Admission.{world_after_admission}
 use Rattle.pfs_store_contract.specs.Calls.{packet_limit}
 use Rattle.pfs_store_contract.specs.Handshakes.{hits_connections, hits_rate}
-use Rattle.pfs_store_contract.specs.Touching.{completes_at, touched}
+use Rattle.pfs_store_contract.specs.Touching.{completes_at, world_after_touch}
 use Rattle.pfs_store_contract.specs.Worlds.{state_with}
 use Rattle.pfs_store_contract.specs.declared.records.Limit.{Limit}
 use Rattle.pfs_store_contract.specs.declared.records.State.{State}
 use Rattle.pfs_engine_machine.specs.Kept.{IsKept, IsWithinShared}
-use Rattle.pfs_engine_machine.specs.Machine.{Held, answered, by_action, by_exceeded, by_limit, by_rule, by_state, by_handshake, decided, exceeded_of, held_of}
+use Rattle.pfs_engine_machine.specs.Machine.{Held, answer_to_packet, answer_of_action, answer_of_exceeded, answer_of_limits, answer_of_rule, answer_of_state, answer_of_handshake, deciding_rule, exceeded_of, held_of}
 use Rattle.pfs_engine_machine.specs.Refusals.{IsDropped}
 use Rattle.pfs_engine_machine.specs.declared.events.Exceeded.{Exceeded}
 use Rattle.pfs_engine_machine.specs.declared.events.Outcome.{Outcome}
@@ -29,13 +29,13 @@ use Rattle.pfs_engine_machine.proofs.KeptAdmission.{shared_admitted}
 
 -- what holds of each answer holds of a packet's
 pub record Answers (conf : Conf) (m : Held) (p : Header) (now : ℕ) (Q : Outcome × Held → Type 0) : Type 0 where
-  pub held : (s : State) → state_with (key_of p) m.world ≡ Some s → Q (by_state conf m p now (Some s))
+  pub held : (s : State) → state_with (key_of p) m.world ≡ Some s → Q (answer_of_state conf m p now (Some s))
   pub passes : Q (outcome.Pass None, m)
   pub passed : (rule : ℕ) → Q (outcome.Pass (Some (record { 0 = rule })), m)
   pub blocked : (rule : ℕ) → Q (outcome.Block (record { 0 = rule }), m)
   pub refused : (rule : ℕ) (limit : Limit) → IsDropped conf m p rule limit → Q (outcome.Drop (record { 0 = rule }) limit, m)
   pub made : (rule : ℕ) → packet_limit conf m.world p rule ≡ None
-      → Q (outcome.New (record { 0 = rule }), held_of (admitted conf m.world p rule now) m.tables)
+      → Q (outcome.New (record { 0 = rule }), held_of (world_after_admission conf m.world p rule now) m.tables)
 
 keeps_state : (found : Option Rule) (o : StateOptions) → (unwrap_or found no_rule).action ≡ action.Keep o
     → IsSome (option_and_then (λ (r : Rule). options_in r.action) found)
@@ -43,30 +43,30 @@ keeps_state None o e = cc
 keeps_state (Some r) o e = rw e refl
 
 limit_answers : (conf : Conf) (m : Held) (p : Header) (now rule : ℕ) (Q : Outcome × Held → Type 0) → Answers conf m p now Q
-    → state_with (key_of p) m.world ≡ None → decided conf m p ≡ Some rule → IsSome (options_at conf rule)
-    → (limit : Option Limit) → packet_limit conf m.world p rule ≡ limit → Q (by_limit conf m p now rule limit)
+    → state_with (key_of p) m.world ≡ None → deciding_rule conf m p ≡ Some rule → IsSome (options_at conf rule)
+    → (limit : Option Limit) → packet_limit conf m.world p rule ≡ limit → Q (answer_of_limits conf m p now rule limit)
 limit_answers conf m p now rule Q a fresh at keeps None e = a.made rule e
 limit_answers conf m p now rule Q a fresh at keeps (Some l) e = a.refused rule l (record { fresh = fresh; rule_is = at; keeps = keeps; met = e })
 
 action_answers : (conf : Conf) (m : Held) (p : Header) (now rule : ℕ) (Q : Outcome × Held → Type 0) → Answers conf m p now Q
-    → state_with (key_of p) m.world ≡ None → decided conf m p ≡ Some rule
-    → (what : Action) → (rule_of conf rule).action ≡ what → Q (by_action conf m p now rule what)
+    → state_with (key_of p) m.world ≡ None → deciding_rule conf m p ≡ Some rule
+    → (what : Action) → (rule_of conf rule).action ≡ what → Q (answer_of_action conf m p now rule what)
 action_answers conf m p now rule Q a fresh at action.Block e = a.blocked rule
 action_answers conf m p now rule Q a fresh at action.Pass e = a.passed rule
 action_answers conf m p now rule Q a fresh at (action.Keep o) e =
     limit_answers conf m p now rule Q a fresh at (keeps_state (rule_at conf rule) o e) (packet_limit conf m.world p rule) refl
 
 rule_answers : (conf : Conf) (m : Held) (p : Header) (now : ℕ) (Q : Outcome × Held → Type 0) → Answers conf m p now Q
-    → state_with (key_of p) m.world ≡ None → (rule : Option ℕ) → decided conf m p ≡ rule → Q (by_rule conf m p now rule)
+    → state_with (key_of p) m.world ≡ None → (rule : Option ℕ) → deciding_rule conf m p ≡ rule → Q (answer_of_rule conf m p now rule)
 rule_answers conf m p now Q a fresh None e = a.passes
 rule_answers conf m p now Q a fresh (Some rule) e = action_answers conf m p now rule Q a fresh e (rule_of conf rule).action refl
 
 state_answers : (conf : Conf) (m : Held) (p : Header) (now : ℕ) (Q : Outcome × Held → Type 0) → Answers conf m p now Q
-    → (found : Option State) → state_with (key_of p) m.world ≡ found → Q (by_state conf m p now found)
-state_answers conf m p now Q a None e = rule_answers conf m p now Q a e (decided conf m p) refl
+    → (found : Option State) → state_with (key_of p) m.world ≡ found → Q (answer_of_state conf m p now found)
+state_answers conf m p now Q a None e = rule_answers conf m p now Q a e (deciding_rule conf m p) refl
 state_answers conf m p now Q a (Some s) e = a.held s e
 
-pub answered_has : (conf : Conf) (m : Held) (p : Header) (now : ℕ) (Q : Outcome × Held → Type 0) → Answers conf m p now Q → Q (answered conf m p now)
+pub answered_has : (conf : Conf) (m : Held) (p : Header) (now : ℕ) (Q : Outcome × Held → Type 0) → Answers conf m p now Q → Q (answer_to_packet conf m p now)
 answered_has conf m p now Q a = state_answers conf m p now Q a (state_with (key_of p) m.world) refl
 
 -- ---- a packet of a held state is not refused, and makes no state
@@ -81,15 +81,15 @@ is_of_held (outcome.Kill r e o k) = true
 is_of_held outcome.Skip = false
 is_of_held (outcome.Expire n) = false
 
-handshake_held : (conf : Conf) (m : Held) (s : State) (now : ℕ) (completes : Bool) → is_of_held (by_handshake conf m s now completes).0 ≡ true
+handshake_held : (conf : Conf) (m : Held) (s : State) (now : ℕ) (completes : Bool) → is_of_held (answer_of_handshake conf m s now completes).0 ≡ true
 handshake_held conf m s now completes = by (if completes then exceeded_of (hits_connections conf m.world s) (hits_rate conf m.world s) else None)
   where
-    by : (limits : Option Exceeded) → is_of_held (by_exceeded conf m s.number s.rule s.source now limits).0 ≡ true
+    by : (limits : Option Exceeded) → is_of_held (answer_of_exceeded conf m s.number s.rule s.source now limits).0 ≡ true
     by (Some e) = refl
     by None = refl
 
-state_held : (conf : Conf) (m : Held) (p : Header) (now : ℕ) (s : State) → is_of_held (by_state conf m p now (Some s)).0 ≡ true
-state_held conf m p now s = handshake_held conf (held_of (touched conf m.world s p now) m.tables) s now (completes_at p s)
+state_held : (conf : Conf) (m : Held) (p : Header) (now : ℕ) (s : State) → is_of_held (answer_of_state conf m p now (Some s)).0 ≡ true
+state_held conf m p now s = handshake_held conf (held_of (world_after_touch conf m.world s p now) m.tables) s now (completes_at p s)
 
 -- ---- a state that is refused, and one that is made with shared nodes
 
@@ -99,7 +99,7 @@ numbered n = record { 0 = n }
 abbrev pub RefusedOnly : Conf → Held → Header → Outcome × Held → Type 0
 RefusedOnly conf m p a = (rule : RuleNo) (limit : Limit) → a.0 ≡ outcome.Drop rule limit → IsDropped conf m p rule.0 limit × (a.1 ≡ m)
 
-pub refused_only : (conf : Conf) (m : Held) (p : Header) (now : ℕ) → RefusedOnly conf m p (answered conf m p now)
+pub refused_only : (conf : Conf) (m : Held) (p : Header) (now : ℕ) → RefusedOnly conf m p (answer_to_packet conf m p now)
 refused_only conf m p now = answered_has conf m p now (RefusedOnly conf m p) (record {
   held = λ s found rule limit e. absurd (false≢true (sym (ap is_of_held e) ∙ state_held conf m p now s));
   passes = λ rule limit e. cc;
@@ -116,7 +116,7 @@ abbrev pub MadeShared : Conf → Held → Header → Outcome × Held → Type 0
 MadeShared conf m p a = (rule : RuleNo) → a.0 ≡ outcome.New rule → scope_of conf rule.0 ≡ Some scope.Global
     → IsWithinShared conf rule.0 p.source.addr m.world a.1.world
 
-pub made_shared : (conf : Conf) (m : Held) (p : Header) (now : ℕ) → IsConfig conf → IsKept conf m now → MadeShared conf m p (answered conf m p now)
+pub made_shared : (conf : Conf) (m : Held) (p : Header) (now : ℕ) → IsConfig conf → IsKept conf m now → MadeShared conf m p (answer_to_packet conf m p now)
 made_shared conf m p now config kept = answered_has conf m p now (MadeShared conf m p) (record {
   held = λ s found rule e. absurd (false≢true (sym (ap is_of_held e) ∙ state_held conf m p now s));
   passes = λ rule e. cc;
@@ -132,7 +132,7 @@ made_shared conf m p now config kept = answered_has conf m p now (MadeShared con
 -- ---- of an answer that may be want of memory
 
 pub refused_result : {E : Type 0} (conf : Conf) (m before after : Held) (p : Header) (now : ℕ) (r : Result Outcome E) → before ≡ m
-    → IfOk r (λ o. (o, after) ≡ answered conf before p now) → (rule : RuleNo) (limit : Limit) → r ≡ Ok (outcome.Drop rule limit)
+    → IfOk r (λ o. (o, after) ≡ answer_to_packet conf before p now) → (rule : RuleNo) (limit : Limit) → r ≡ Ok (outcome.Drop rule limit)
     → IsDropped conf m p rule.0 limit × (after ≡ before)
 refused_result conf m before after p now (Ok o) same ok rule limit e =
     let dropped : o ≡ outcome.Drop rule limit = cc in
@@ -141,11 +141,11 @@ refused_result conf m before after p now (Ok o) same ok rule limit e =
 refused_result conf m before after p now (Err x) same ok rule limit e = cc
 
 pub shared_result : {E : Type 0} (conf : Conf) (m before after : Held) (p : Header) (now : ℕ) (r : Result Outcome E) → before ≡ m
-    → IsConfig conf → IsKept conf before now → IfOk r (λ o. (o, after) ≡ answered conf before p now) → (rule : RuleNo)
+    → IsConfig conf → IsKept conf before now → IfOk r (λ o. (o, after) ≡ answer_to_packet conf before p now) → (rule : RuleNo)
     → r ≡ Ok (outcome.New rule) → scope_of conf rule.0 ≡ Some scope.Global → IsWithinShared conf rule.0 p.source.addr m.world after.world
 shared_result conf m before after p now (Ok o) same config kept ok rule e global =
     let made : o ≡ outcome.New rule = cc in
     let told = made_shared conf before p now config kept rule (sym (ap (λ (a : Outcome × Held). a.0) ok) ∙ made) global in
-    let is : after ≡ (answered conf before p now).1 = ap (λ (a : Outcome × Held). a.1) ok in
+    let is : after ≡ (answer_to_packet conf before p now).1 = ap (λ (a : Outcome × Held). a.1) ok in
     rw (is, sym same) told
 shared_result conf m before after p now (Err x) same config kept ok rule e global = cc

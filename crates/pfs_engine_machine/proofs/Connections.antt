@@ -9,9 +9,9 @@ use Rattle.pfs_addr_values.specs.declared.addresses.Addr.{Addr}
 use Rattle.pfs_conf_values.specs.Configs.{Conf, options_of, scope_of}
 use Rattle.pfs_conf_values.specs.declared.actions.Scope.{Scope}
 use Rattle.pfs_conf_values.specs.declared.actions.Scope.TheVariants as scope
-use Rattle.pfs_store_contract.specs.Counts.{node_scope_of, exceeded, is_connection, is_of_node, node_connections, node_scope_by}
+use Rattle.pfs_store_contract.specs.Counts.{node_scope_of, exceeds_maximum, is_connection, is_of_node, node_connections, node_scope_under}
 use Rattle.pfs_store_contract.specs.Handshakes.{goes_with, hits_connections, stays_at_kill}
-use Rattle.pfs_store_contract.specs.Touching.{completes_at, connections_in, goes_forward, renewed, stepped, touched}
+use Rattle.pfs_store_contract.specs.Touching.{completes_at, connections_in, goes_forward, numbered_state_after, state_after_packet, world_after_touch}
 use Rattle.pfs_store_contract.specs.Worlds.{World}
 use Rattle.pfs_store_contract.specs.declared.records.NodeScope.{NodeScope}
 use Rattle.pfs_store_contract.specs.declared.records.State.{State}
@@ -25,12 +25,12 @@ abbrev pub IsAlone : State → List State → Type 0
 IsAlone s states = All (λ (t : State). t.number ≡ s.number → t ≡ s) states
 
 -- what a packet makes of a state, by whether it has the packet's number
-renewed-cases : (s : State) (p : Header) (now : ℕ) (P : State → State → Type 0) → P s (stepped p now s) → ((t : State) → P t t)
-    → (t : State) → (t.number ≡ s.number → t ≡ s) → P t (renewed s.number p now t)
+renewed-cases : (s : State) (p : Header) (now : ℕ) (P : State → State → Type 0) → P s (state_after_packet p now s) → ((t : State) → P t t)
+    → (t : State) → (t.number ≡ s.number → t ≡ s) → P t (numbered_state_after s.number p now t)
 renewed-cases s p now P here there t alone = go (t.number == s.number) (λ e. alone (eqb-true t.number s.number e))
   where
-    go : (b : Bool) → (b ≡ true → t ≡ s) → P t (if b then stepped p now t else t)
-    go true same = subst (λ (u : State). P u (stepped p now u)) (sym (same refl)) here
+    go : (b : Bool) → (b ≡ true → t ≡ s) → P t (if b then state_after_packet p now t else t)
+    go true same = subst (λ (u : State). P u (state_after_packet p now u)) (sym (same refl)) here
     go false same = there t
 
 -- ---- a handshake that does not complete, or of another source
@@ -38,7 +38,7 @@ renewed-cases s p now P here there t alone = go (t.number == s.number) (λ e. al
 -- a state is of another node, or its handshake does not complete
 stepped-connection : (conf : Conf) (sc : NodeScope) (source : Addr) (s : State) (p : Header) (now : ℕ)
     → ((completes_at p s ≡ false) ⊎ (is_of_node conf sc source s ≡ false))
-    → is_connection conf sc source (stepped p now s) ≡ is_connection conf sc source s
+    → is_connection conf sc source (state_after_packet p now s) ≡ is_connection conf sc source s
 stepped-connection conf sc source s p now (inl before) =
     ap (λ b. b && is_of_node conf sc source s) (is_done-same s.phase (goes_forward p s) p.flags before)
 stepped-connection conf sc source s p now (inr other) =
@@ -48,39 +48,39 @@ stepped-connection conf sc source s p now (inr other) =
 -- then its node has as many connections as before
 pub connections-same : (conf : Conf) (sc : NodeScope) (source : Addr) (s : State) (p : Header) (now : ℕ) (states : List State)
     → IsAlone s states → ((completes_at p s ≡ false) ⊎ (is_of_node conf sc source s ≡ false))
-    → node_connections conf sc source (map (renewed s.number p now) states) ≡ node_connections conf sc source states
+    → node_connections conf sc source (map (numbered_state_after s.number p now) states) ≡ node_connections conf sc source states
 connections-same conf sc source s p now states alone why =
-    count-map_at (is_connection conf sc source) (renewed s.number p now) states
+    count-map_at (is_connection conf sc source) (numbered_state_after s.number p now) states
     (All-weaker (λ (t : State). t.number ≡ s.number → t ≡ s)
-    (λ (t : State). is_connection conf sc source (renewed s.number p now t) ≡ is_connection conf sc source t)
+    (λ (t : State). is_connection conf sc source (numbered_state_after s.number p now t) ≡ is_connection conf sc source t)
     (renewed-cases s p now (λ t u. is_connection conf sc source u ≡ is_connection conf sc source t) (stepped-connection conf sc source s p now why) (λ t. refl))
     states alone)
 
 -- ---- a handshake that completes, within `max-src-conn`
 
-not_exceeded : (most : Option ℕ) (count : ℕ) → exceeded most count ≡ false → IsWithin most count
+not_exceeded : (most : Option ℕ) (count : ℕ) → exceeds_maximum most count ≡ false → IsWithin most count
 not_exceeded None count e = λ n is. cc
 not_exceeded (Some m) count e = λ n is. let same : m ≡ n = cc in omega (arith, ltb-false m count e, same)
 
 -- the connections that count are those of the rule's own node
 told-connections : (conf : Conf) (w : World) (p : Header) (now : ℕ) (s : State) → TracksAlone conf s.rule.0
-    → connections_in conf s.source (map (renewed s.number p now) w.states) (node_scope_of conf s.rule.0) ≡ node_connections conf (own_scope s.rule.0) s.source (map (renewed s.number p now) w.states)
+    → connections_in conf s.source (map (numbered_state_after s.number p now) w.states) (node_scope_of conf s.rule.0) ≡ node_connections conf (own_scope s.rule.0) s.source (map (numbered_state_after s.number p now) w.states)
 told-connections conf w p now s alone =
-    ap (λ (sc : Option Scope). connections_in conf s.source (map (renewed s.number p now) w.states) (node_scope_by s.rule.0 sc)) alone
+    ap (λ (sc : Option Scope). connections_in conf s.source (map (numbered_state_after s.number p now) w.states) (node_scope_under s.rule.0 sc)) alone
 
 pub connections-within : (conf : Conf) (w : World) (p : Header) (now : ℕ) (s : State) (rule : ℕ) (source : Addr)
     → TracksAlone conf rule → is_of_node conf (own_scope rule) source s ≡ true
-    → hits_connections conf (touched conf w s p now) s ≡ false
-    → IsWithin (options_of conf rule).max_src_conn (node_connections conf (own_scope rule) source (map (renewed s.number p now) w.states))
+    → hits_connections conf (world_after_touch conf w s p now) s ≡ false
+    → IsWithin (options_of conf rule).max_src_conn (node_connections conf (own_scope rule) source (map (numbered_state_after s.number p now) w.states))
 connections-within conf w p now s rule source alone own few =
     let parts = and_parts (s.rule.0 == rule) (same_addr s.source source) own in
     let same_rule = eqb-true s.rule.0 rule parts.0 in
     let same_source = same_addr_true s.source source parts.1 in
-    let states = map (renewed s.number p now) w.states in
+    let states = map (numbered_state_after s.number p now) w.states in
     let here : TracksAlone conf s.rule.0 = ap (scope_of conf) same_rule ∙ alone in
     let most = (options_of conf s.rule.0).max_src_conn in
     let count = node_connections conf (own_scope s.rule.0) s.source states in
-    let first : IsWithin most count = not_exceeded most count (sym (ap (exceeded most) (told-connections conf w p now s here)) ∙ few) in
+    let first : IsWithin most count = not_exceeded most count (sym (ap (exceeds_maximum most) (told-connections conf w p now s here)) ∙ few) in
     subst (λ (a : Addr). IsWithin (options_of conf rule).max_src_conn (node_connections conf (own_scope rule) a states)) same_source
     (subst (λ (r : ℕ). IsWithin (options_of conf r).max_src_conn (node_connections conf (own_scope r) s.source states)) same_rule first)
 
@@ -88,7 +88,7 @@ connections-within conf w p now s rule source alone own few =
 
 -- the state of the packet is killed in any case
 stepped-goes : (conf : Conf) (w : World) (p : Header) (now : ℕ) (s : State) (flush : Option Scope)
-    → goes_with flush s.number s.rule s.source (stepped p now s) ≡ true
+    → goes_with flush s.number s.rule s.source (state_after_packet p now s) ≡ true
 stepped-goes conf w p now s None = eq-eqb s.number s.number refl
 stepped-goes conf w p now s (Some scope.Rule) =
     and_from (s.rule.0 == s.rule.0) (same_addr s.source s.source) (eq-eqb s.rule.0 s.rule.0 refl) (same_addr_self s.source)
@@ -97,16 +97,16 @@ stepped-goes conf w p now s (Some scope.Global) = same_addr_self s.source
 -- so those that stay are as before, and no node has more connections
 pub connections-killed : (conf : Conf) (w : World) (p : Header) (now : ℕ) (s : State) (flush : Option Scope) (sc : NodeScope) (source : Addr)
     → IsAlone s w.states
-    → node_connections conf sc source (filter (stays_at_kill flush s.number s.rule s.source) (map (renewed s.number p now) w.states))
+    → node_connections conf sc source (filter (stays_at_kill flush s.number s.rule s.source) (map (numbered_state_after s.number p now) w.states))
     ≤ node_connections conf sc source w.states
 connections-killed conf w p now s flush sc source alone =
-    count-stay_le (is_connection conf sc source) stays (renewed s.number p now) w.states
-    (All-weaker (λ (t : State). t.number ≡ s.number → t ≡ s) (λ (t : State). stays (renewed s.number p now t) ≡ true → renewed s.number p now t ≡ t)
+    count-stay_le (is_connection conf sc source) stays (numbered_state_after s.number p now) w.states
+    (All-weaker (λ (t : State). t.number ≡ s.number → t ≡ s) (λ (t : State). stays (numbered_state_after s.number p now t) ≡ true → numbered_state_after s.number p now t ≡ t)
     (renewed-cases s p now (λ t u. stays u ≡ true → u ≡ t) (λ k. absurd (false≢true (sym gone ∙ k))) (λ t k. refl))
     w.states alone)
   where
     stays : State → Bool
     stays = stays_at_kill flush s.number s.rule s.source
 
-    gone : stays (stepped p now s) ≡ false
+    gone : stays (state_after_packet p now s) ≡ false
     gone = ap not (stepped-goes conf w p now s flush)

@@ -15,9 +15,9 @@ use Rattle.pfs_conf_values.specs.declared.actions.Rate.{Rate}
 use Rattle.pfs_conf_values.specs.declared.actions.Scope.{Scope}
 use Rattle.pfs_conf_values.specs.declared.actions.Scope.TheVariants as scope
 use Rattle.pfs_conf_values.specs.declared.items.RuleNo.{RuleNo}
-use Rattle.pfs_store_contract.specs.Counts.{has_node, is_node, is_of_node, node_scope_by, node_scope_of, node_states, same_scope}
+use Rattle.pfs_store_contract.specs.Counts.{has_node, is_node, is_of_node, node_scope_under, node_scope_of, node_states, same_scope}
 use Rattle.pfs_store_contract.specs.Purging.{node_retention}
-use Rattle.pfs_store_contract.specs.Touching.{node_score, nodes_scored, renewed, rescored, stepped}
+use Rattle.pfs_store_contract.specs.Touching.{node_score, nodes_scored, numbered_state_after, node_after_handshake, state_after_packet}
 use Rattle.pfs_store_contract.specs.Worlds.{World, state_with}
 use Rattle.pfs_store_contract.specs.declared.records.Node.{Node}
 use Rattle.pfs_store_contract.specs.declared.records.NodeScope.{NodeScope}
@@ -45,7 +45,7 @@ pub long : (conf : Conf) (rule : ℕ) (rate : Rate) → IsRated conf rule rate �
 long conf rule rate i = let e = ap rate_seconds i.is in omega (arith, e)
 
 pub scope-rated : (conf : Conf) (rule : ℕ) (rate : Rate) → IsRated conf rule rate → node_scope_of conf rule ≡ Some (own_scope rule)
-scope-rated conf rule rate i = ap (node_scope_by rule) i.alone
+scope-rated conf rule rate i = ap (node_scope_under rule) i.alone
 
 abbrev numbered : ℕ → RuleNo
 numbered n = record { 0 = n }
@@ -54,7 +54,7 @@ numbered n = record { 0 = n }
 own-rule : (conf : Conf) (other rule : ℕ) → node_scope_of conf other ≡ Some (own_scope rule) → other ≡ rule
 own-rule conf other rule e = go (scope_of conf other) e
   where
-    go : (o : Option Scope) → node_scope_by other o ≡ Some (own_scope rule) → other ≡ rule
+    go : (o : Option Scope) → node_scope_under other o ≡ Some (own_scope rule) → other ≡ rule
     go None f = absurd cc
     go (Some scope.Rule) f =
         let same : own_scope other ≡ own_scope rule = cc in
@@ -70,7 +70,7 @@ own-rule conf other rule e = go (scope_of conf other) e
 abbrev pub is_of : ℕ → Addr → State → Bool
 is_of rule source s = (s.rule.0 == rule) && same_addr s.source source
 
-node-rescored : (scope other : NodeScope) (source from : Addr) (seconds now : ℕ) (n : Node) → is_node scope source (rescored other from seconds now n) ≡ is_node scope source n
+node-rescored : (scope other : NodeScope) (source from : Addr) (seconds now : ℕ) (n : Node) → is_node scope source (node_after_handshake other from seconds now n) ≡ is_node scope source n
 node-rescored scope other source from seconds now n = go (is_node other from n)
   where
     go : (b : Bool) → is_node scope source (cond b (record n { score = score_after seconds n.score now }) n) ≡ is_node scope source n
@@ -86,11 +86,11 @@ one-node scope other source from n e f =
 
 remembers-other : (rule : ℕ) (source : Addr) (seconds now : ℕ) (history : Score) (count : ℕ) (other : NodeScope) (from : Addr) (seconds' : ℕ) (nodes : List Node)
     → (other ≡ own_scope rule → from ≡ source → ⊥) → Remembers rule source seconds now history count nodes
-    → Remembers rule source seconds now history count (map (rescored other from seconds' now) nodes)
+    → Remembers rule source seconds now history count (map (node_after_handshake other from seconds' now) nodes)
 remembers-other rule source seconds now history count other from seconds' nodes apart r =
-    let same = any-map (is_node (own_scope rule) source) (rescored other from seconds' now) (node-rescored (own_scope rule) other source from seconds' now) nodes in
+    let same = any-map (is_node (own_scope rule) source) (node_after_handshake other from seconds' now) (node-rescored (own_scope rule) other source from seconds' now) nodes in
     record {
-      nodes = each-map (IsKnown rule source seconds now history count) (IsKnown rule source seconds now history count) (rescored other from seconds' now)
+      nodes = each-map (IsKnown rule source seconds now history count) (IsKnown rule source seconds now history count) (node_after_handshake other from seconds' now)
           (λ n f e. let g : is_node (own_scope rule) source n ≡ true = sym (node-rescored (own_scope rule) other source from seconds' now n) ∙ e in
           one n g (f g) (is_node other from n) refl) nodes r.nodes;
       absent = λ e. r.absent (sym same ∙ e);
@@ -106,12 +106,12 @@ remembers-other rule source seconds now history count other from seconds' nodes 
 
 remembers-this : (rule : ℕ) (source : Addr) (seconds now : ℕ) (history : Score) (count : ℕ) (nodes : List Node) → 0 < count
     → Remembers rule source seconds now history count nodes
-    → Remembers rule source seconds now (score_after seconds history now) count (map (rescored (own_scope rule) source seconds now) nodes)
+    → Remembers rule source seconds now (score_after seconds history now) count (map (node_after_handshake (own_scope rule) source seconds now) nodes)
 remembers-this rule source seconds now history count nodes some r =
-    let same = any-map (is_node (own_scope rule) source) (rescored (own_scope rule) source seconds now) (node-rescored (own_scope rule) (own_scope rule) source source seconds now) nodes in
+    let same = any-map (is_node (own_scope rule) source) (node_after_handshake (own_scope rule) source seconds now) (node-rescored (own_scope rule) (own_scope rule) source source seconds now) nodes in
     record {
       nodes = each-map (IsKnown rule source seconds now history count) (IsKnown rule source seconds now (score_after seconds history now) count)
-          (rescored (own_scope rule) source seconds now)
+          (node_after_handshake (own_scope rule) source seconds now)
           (λ n f e. let g : is_node (own_scope rule) source n ≡ true = sym (node-rescored (own_scope rule) (own_scope rule) source source seconds now n) ∙ e in
           one n (f g) (is_node (own_scope rule) source n) g) nodes r.nodes;
       absent = λ e. absurd (false≢true (sym e ∙ (same ∙ r.noded some)));
@@ -130,13 +130,13 @@ remembers-this rule source seconds now history count nodes some r =
 -- the score that is then compared
 pub score-this : (rule : ℕ) (source : Addr) (seconds now : ℕ) (history : Score) (count : ℕ) (nodes : List Node)
     → AllByRecursion (IsKnown rule source seconds now history count) nodes → has_node (own_scope rule) source nodes ≡ true
-    → node_score (own_scope rule) source (map (rescored (own_scope rule) source seconds now) nodes) ≡ score_after seconds history now
+    → node_score (own_scope rule) source (map (node_after_handshake (own_scope rule) source seconds now) nodes) ≡ score_after seconds history now
 score-this rule source seconds now history count [] all has = absurd (false≢true has)
 score-this rule source seconds now history count (n ∷ ns) all has =
     go (is_node (own_scope rule) source n) refl has (score-this rule source seconds now history count ns all.1)
   where
     rest : List Node
-    rest = map (rescored (own_scope rule) source seconds now) ns
+    rest = map (node_after_handshake (own_scope rule) source seconds now) ns
 
     go : (b : Bool) → is_node (own_scope rule) source n ≡ b → (b || has_node (own_scope rule) source ns) ≡ true
         → (has_node (own_scope rule) source ns ≡ true → node_score (own_scope rule) source rest ≡ score_after seconds history now)
@@ -155,10 +155,10 @@ heard rule source seconds history now None = history
 heard rule source seconds history now (Some s) = cond (is_of rule source s) (score_after seconds history now) history
 
 pub states-touched : (conf : Conf) (scope : NodeScope) (source : Addr) (number : ℕ) (p : Header) (now : ℕ) (ss : List State)
-    → node_states conf scope source (map (renewed number p now) ss) ≡ node_states conf scope source ss
-states-touched conf scope source number p now ss = count-map (is_of_node conf scope source) (renewed number p now) (λ s. one s (s.number == number)) ss
+    → node_states conf scope source (map (numbered_state_after number p now) ss) ≡ node_states conf scope source ss
+states-touched conf scope source number p now ss = count-map (is_of_node conf scope source) (numbered_state_after number p now) (λ s. one s (s.number == number)) ss
   where
-    one : (s : State) (b : Bool) → is_of_node conf scope source (cond b (stepped p now s) s) ≡ is_of_node conf scope source s
+    one : (s : State) (b : Bool) → is_of_node conf scope source (cond b (state_after_packet p now s) s) ≡ is_of_node conf scope source s
     one s true = refl
     one s false = refl
 

@@ -8,9 +8,9 @@ use Rattle.pfs_addr_values.specs.declared.addresses.Addr.{Addr}
 use Rattle.pfs_conf_values.specs.Configs.{Conf, options_of}
 use Rattle.pfs_conf_values.specs.declared.actions.Rate.{Rate}
 use Rattle.pfs_store_contract.specs.Counts.{is_node, node_scope_of, node_states}
-use Rattle.pfs_store_contract.specs.Leaving.{idled}
+use Rattle.pfs_store_contract.specs.Leaving.{node_after_leaving}
 use Rattle.pfs_store_contract.specs.Purging.{is_among, node_numbers, state_numbers}
-use Rattle.pfs_store_contract.specs.Touching.{nodes_scored, nodes_touched, renewed, rescored, stepped}
+use Rattle.pfs_store_contract.specs.Touching.{nodes_scored, nodes_touched, numbered_state_after, node_after_handshake, state_after_packet}
 use Rattle.pfs_store_contract.specs.declared.records.Node.{Node}
 use Rattle.pfs_store_contract.specs.declared.records.NodeScope.{NodeScope}
 use Rattle.pfs_store_contract.specs.declared.records.State.{State}
@@ -101,16 +101,16 @@ among-same n xs ys e h = ap (λ (zs : List ℕ). is_among zs n) (sym e) ∙ h
 
 -- ---- of states and nodes
 
-pub numbers-renewed : (number : ℕ) (p : Header) (now : ℕ) (ss : List State) → state_numbers (map (renewed number p now) ss) ≡ state_numbers ss
-numbers-renewed number p now ss = same-map (λ (s : State). s.number) (renewed number p now) (λ s. one s (s.number == number)) ss
+pub numbers-renewed : (number : ℕ) (p : Header) (now : ℕ) (ss : List State) → state_numbers (map (numbered_state_after number p now) ss) ≡ state_numbers ss
+numbers-renewed number p now ss = same-map (λ (s : State). s.number) (numbered_state_after number p now) (λ s. one s (s.number == number)) ss
   where
-    one : (s : State) (b : Bool) → (cond b (stepped p now s) s).number ≡ s.number
+    one : (s : State) (b : Bool) → (cond b (state_after_packet p now s) s).number ≡ s.number
     one s true = refl
     one s false = refl
 
-numbers-rescored : (scope : NodeScope) (source : Addr) (seconds now : ℕ) (ns : List Node) → node_numbers (map (rescored scope source seconds now) ns) ≡ node_numbers ns
+numbers-rescored : (scope : NodeScope) (source : Addr) (seconds now : ℕ) (ns : List Node) → node_numbers (map (node_after_handshake scope source seconds now) ns) ≡ node_numbers ns
 numbers-rescored scope source seconds now ns =
-    same-map (λ (n : Node). n.number) (rescored scope source seconds now) (λ n. one n (is_node scope source n)) ns
+    same-map (λ (n : Node). n.number) (node_after_handshake scope source seconds now) (λ n. one n (is_node scope source n)) ns
   where
     one : (n : Node) (b : Bool) → (cond b (record n { score = score_after seconds n.score now }) n).number ≡ n.number
     one n true = refl
@@ -125,9 +125,9 @@ pub numbers-touched : (conf : Conf) (ns : List Node) (s : State) (now : ℕ) (co
 numbers-touched conf ns s now true = numbers-scored ns s.source now (node_scope_of conf s.rule.0) (options_of conf s.rule.0).max_src_conn_rate
 numbers-touched conf ns s now false = refl
 
-pub numbers-idled : (conf : Conf) (before after : List State) (now : ℕ) (ns : List Node) → node_numbers (map (idled conf before after now) ns) ≡ node_numbers ns
+pub numbers-idled : (conf : Conf) (before after : List State) (now : ℕ) (ns : List Node) → node_numbers (map (node_after_leaving conf before after now) ns) ≡ node_numbers ns
 numbers-idled conf before after now ns =
-    same-map (λ (n : Node). n.number) (idled conf before after now)
+    same-map (λ (n : Node). n.number) (node_after_leaving conf before after now)
     (λ n. one n (nat_lt 0 (node_states conf n.scope n.source before) && (node_states conf n.scope n.source after == 0))) ns
   where
     one : (n : Node) (b : Bool) → (cond b (record n { idle = now }) n).number ≡ n.number

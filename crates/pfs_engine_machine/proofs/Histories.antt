@@ -13,12 +13,12 @@ use Rattle.pfs_addr_values.specs.declared.addresses.Addr.{Addr}
 use Rattle.pfs_conf_values.specs.Configs.{Conf, options_of, rate_seconds}
 use Rattle.pfs_conf_values.specs.Invariants.{IsConfig}
 use Rattle.pfs_conf_values.specs.declared.actions.Rate.{Rate}
-use Rattle.pfs_store_contract.specs.Admission.{admitted, new_node, new_state, nodes_with}
+use Rattle.pfs_store_contract.specs.Admission.{world_after_admission, new_node, new_state, nodes_with}
 use Rattle.pfs_store_contract.specs.Counts.{has_node, is_node, is_of_node, node_scope_of, node_states, same_scope}
 use Rattle.pfs_store_contract.specs.Handshakes.{hits_connections, hits_rate, over_rate}
-use Rattle.pfs_store_contract.specs.Leaving.{without}
+use Rattle.pfs_store_contract.specs.Leaving.{world_without}
 use Rattle.pfs_store_contract.specs.Purging.{node_round, node_share, purge, state_round, state_share, state_slice, stays}
-use Rattle.pfs_store_contract.specs.Touching.{completes_at, node_score, nodes_scored, nodes_touched, score_in, touched}
+use Rattle.pfs_store_contract.specs.Touching.{completes_at, node_score, nodes_scored, nodes_touched, score_in, world_after_touch}
 use Rattle.pfs_store_contract.specs.Worlds.{World, state_with}
 use Rattle.pfs_store_contract.specs.declared.records.Node.{Node}
 use Rattle.pfs_store_contract.specs.declared.records.NodeScope.{NodeScope}
@@ -28,8 +28,8 @@ use Rattle.pfs_track.specs.declared.scores.Score.{Score}
 use Rattle.pfs_engine_machine.proofs.Counts.{any-push, count-filter_le, count-push}
 use Rattle.pfs_engine_machine.proofs.Scopes.{same_scope_self, same_scope_true}
 use Rattle.pfs_engine_machine.specs.Kept.{moment_of, own_scope}
-use Rattle.pfs_engine_machine.specs.Machine.{Held, Machine, handled, advanced, answered, by_exceeded, by_state, by_handshake, due, exceeded_of, first_by, held_of, purged, start, step, machine_after, outcomes_of}
-use Rattle.pfs_engine_machine.specs.Rates.{Handshake, completed_by, folded, handshake_at, handshake_by, handshakes, history_score, is_from, moments_of, with_handshake}
+use Rattle.pfs_engine_machine.specs.Machine.{Held, Machine, answer_to_arrival, machine_at_moment, answer_to_packet, answer_of_exceeded, answer_of_state, answer_of_handshake, due, exceeded_of, first_moment, held_of, world_after_purges, start, step, machine_after, outcomes_of}
+use Rattle.pfs_engine_machine.specs.Rates.{Handshake, completed_state, score_through, handshake_at, handshaking_state, handshakes, history_score, is_from, moments_of, with_handshake}
 use Rattle.pfs_engine_machine.specs.Runs.{IsInOrder}
 use Rattle.pfs_engine_machine.specs.declared.events.Event.{Event}
 use Rattle.pfs_engine_machine.specs.declared.events.Arrival.{Arrival}
@@ -107,7 +107,7 @@ more-count rule source seconds now history count count' nodes h noded r = record
 }
 
 admitted-in : (conf : Conf) (rule : ℕ) (source : Addr) (x : Rate) (now : ℕ) (history : Score) (w : World) (p : Header) (other at : ℕ) → IsRated conf rule x
-    → RemembersIn conf rule source x.seconds now history w → RemembersIn conf rule source x.seconds now history (admitted conf w p other at)
+    → RemembersIn conf rule source x.seconds now history w → RemembersIn conf rule source x.seconds now history (world_after_admission conf w p other at)
 admitted-in conf rule source x now history w p other at i r =
     let new : State = new_state (w.made + 1) p other at in
     let before : ℕ = node_states conf (own_scope rule) source w.states in
@@ -133,7 +133,7 @@ admitted-in conf rule source x now history w p other at i r =
 -- ---- what comes of a packet
 
 without-in : (conf : Conf) (rule : ℕ) (source : Addr) (seconds now : ℕ) (history : Score) (w : World) (stay : State → Bool)
-    → RemembersIn conf rule source seconds now history w → RemembersIn conf rule source seconds now history (without conf w stay now)
+    → RemembersIn conf rule source seconds now history w → RemembersIn conf rule source seconds now history (world_without conf w stay now)
 without-in conf rule source seconds now history w stay r =
     remembers-left conf w.states (filter stay w.states) rule source seconds now history w.nodes (count-filter_le (is_of_node conf (own_scope rule) source) stay w.states) r
 
@@ -144,10 +144,10 @@ with-count rule source seconds now history count count' nodes e r = subst (λ (c
 -- the history after a packet of a state that is found
 touched-in : (conf : Conf) (rule : ℕ) (source : Addr) (x : Rate) (now : ℕ) (history : Score) (w : World) (p : Header) (s : State) → IsRated conf rule x
     → state_with (key_of p) w ≡ Some s → RemembersIn conf rule source x.seconds now history w
-    → RemembersIn conf rule source x.seconds now (heard rule source x.seconds history now (completed_by p (Some s))) (touched conf w s p now)
+    → RemembersIn conf rule source x.seconds now (heard rule source x.seconds history now (completed_state p (Some s))) (world_after_touch conf w s p now)
 touched-in conf rule source x now history w p s i found r =
-    with-count rule source x.seconds now (heard rule source x.seconds history now (completed_by p (Some s))) (node_states conf (own_scope rule) source w.states)
-    (node_states conf (own_scope rule) source (touched conf w s p now).states) (touched conf w s p now).nodes
+    with-count rule source x.seconds now (heard rule source x.seconds history now (completed_state p (Some s))) (node_states conf (own_scope rule) source w.states)
+    (node_states conf (own_scope rule) source (world_after_touch conf w s p now).states) (world_after_touch conf w s p now).nodes
     (states-touched conf (own_scope rule) source s.number p now w.states) (go (completes_at p s))
   where
     go : (b : Bool) → Remembers rule source x.seconds now (heard rule source x.seconds history now (cond b (Some s) None)) (node_states conf (own_scope rule) source w.states) (nodes_touched conf w.nodes s now b)
@@ -156,17 +156,17 @@ touched-in conf rule source x now history w p s i found r =
 
 packet-in : (conf : Conf) (rule : ℕ) (source : Addr) (x : Rate) (now : ℕ) (history : Score) (w : World) (p : Header) → IsRated conf rule x
     → RemembersIn conf rule source x.seconds now history w
-    → Changes conf w p now (RemembersIn conf rule source x.seconds now (heard rule source x.seconds history now (completed_by p (state_with (key_of p) w))))
+    → Changes conf w p now (RemembersIn conf rule source x.seconds now (heard rule source x.seconds history now (completed_state p (state_with (key_of p) w))))
 packet-in conf rule source x now history w p i r = record {
   passes = λ fresh. given (state_with (key_of p) w) None w fresh r;
-  admits = λ other fresh none. given (state_with (key_of p) w) None (admitted conf w p other now) fresh (admitted-in conf rule source x now history w p other now i r);
-  touches = λ s found. given (state_with (key_of p) w) (Some s) (touched conf w s p now) found (touched-in conf rule source x now history w p s i found r);
-  kills = λ v stay k. without-in conf rule source x.seconds now (heard rule source x.seconds history now (completed_by p (state_with (key_of p) w))) v stay k;
+  admits = λ other fresh none. given (state_with (key_of p) w) None (world_after_admission conf w p other now) fresh (admitted-in conf rule source x now history w p other now i r);
+  touches = λ s found. given (state_with (key_of p) w) (Some s) (world_after_touch conf w s p now) found (touched-in conf rule source x now history w p s i found r);
+  kills = λ v stay k. without-in conf rule source x.seconds now (heard rule source x.seconds history now (completed_state p (state_with (key_of p) w))) v stay k;
 }
   where
-    given : (o o' : Option State) (v : World) → o ≡ o' → RemembersIn conf rule source x.seconds now (heard rule source x.seconds history now (completed_by p o')) v
-        → RemembersIn conf rule source x.seconds now (heard rule source x.seconds history now (completed_by p o)) v
-    given o o' v e k = subst (λ (o : Option State). RemembersIn conf rule source x.seconds now (heard rule source x.seconds history now (completed_by p o)) v) (sym e) k
+    given : (o o' : Option State) (v : World) → o ≡ o' → RemembersIn conf rule source x.seconds now (heard rule source x.seconds history now (completed_state p o')) v
+        → RemembersIn conf rule source x.seconds now (heard rule source x.seconds history now (completed_state p o)) v
+    given o o' v e k = subst (λ (o : Option State). RemembersIn conf rule source x.seconds now (heard rule source x.seconds history now (completed_state p o)) v) (sym e) k
 
 -- ---- a purge
 
@@ -184,32 +184,32 @@ later-in : (conf : Conf) (rule : ℕ) (source : Addr) (seconds now later : ℕ) 
 later-in conf rule source seconds now later history w le r = remembers-later rule source seconds now later history (node_states conf (own_scope rule) source w.states) w.nodes le r
 
 purges-in : (conf : Conf) (rule : ℕ) (source : Addr) (x : Rate) (history : Score) → IsRated conf rule x → (n from : ℕ) (w : World)
-    → RemembersIn conf rule source x.seconds from history w → RemembersIn conf rule source x.seconds (from + n) history (purged conf w (range_with_len (from + 1) n))
+    → RemembersIn conf rule source x.seconds from history w → RemembersIn conf rule source x.seconds (from + n) history (world_after_purges conf w (range_with_len (from + 1) n))
 purges-in conf rule source x history i zero from w r = later-in conf rule source x.seconds from (from + 0) history w (omega arith) r
 purges-in conf rule source x history i (suc n) from w r =
     let v : World = purge conf w (from + 1) in
     let k : RemembersIn conf rule source x.seconds (from + 1) history v =
     purge-in conf rule source x (from + 1) history w i (later-in conf rule source x.seconds from (from + 1) history w (omega arith) r) in
-    later-in conf rule source x.seconds (from + 1 + n) (from + suc n) history (purged conf v (range_with_len (from + 1 + 1) n)) (omega arith)
+    later-in conf rule source x.seconds (from + 1 + n) (from + suc n) history (world_after_purges conf v (range_with_len (from + 1 + 1) n)) (omega arith)
     (purges-in conf rule source x history i n (from + 1) v k)
 
 due-in : (conf : Conf) (rule : ℕ) (source : Addr) (x : Rate) (history : Score) → IsRated conf rule x → (w : World) (last : Option ℕ) (now : ℕ) → ForSome last (λ l. l ≤ now)
-    → RemembersIn conf rule source x.seconds (moment_of last) history w → RemembersIn conf rule source x.seconds now history (purged conf w (due last now))
+    → RemembersIn conf rule source x.seconds (moment_of last) history w → RemembersIn conf rule source x.seconds now history (world_after_purges conf w (due last now))
 due-in conf rule source x history i w None now h r = later-in conf rule source x.seconds 0 now history w (omega arith) r
 due-in conf rule source x history i w (Some last) now h r =
     let before : last ≤ now = h last refl in
-    later-in conf rule source x.seconds (last + (now - last)) now history (purged conf w (range_with_len (last + 1) (now - last))) (omega (arith, before))
+    later-in conf rule source x.seconds (last + (now - last)) now history (world_after_purges conf w (range_with_len (last + 1) (now - last))) (omega (arith, before))
     (purges-in conf rule source x history i (now - last) last w r)
 
 -- ---- an event
 
 acted-in : (conf : Conf) (rule : ℕ) (source : Addr) (x : Rate) (first now : ℕ) (history : Score) (h : Held) → IsRated conf rule x → (what : Arrival)
     → RemembersIn conf rule source x.seconds now history h.world
-    → RemembersIn conf rule source x.seconds now (heard rule source x.seconds history now (handshake_by h.world what)) (handled conf h first now what).1.world
+    → RemembersIn conf rule source x.seconds now (heard rule source x.seconds history now (handshaking_state h.world what)) (answer_to_arrival conf h first now what).1.world
 acted-in conf rule source x first now history h i arrival.Skip r = r
 acted-in conf rule source x first now history h i (arrival.Expire table seconds) r = r
 acted-in conf rule source x first now history h i (arrival.Packet p) r =
-    answered_has conf h p now (RemembersIn conf rule source x.seconds now (heard rule source x.seconds history now (completed_by p (state_with (key_of p) h.world))))
+    answered_has conf h p now (RemembersIn conf rule source x.seconds now (heard rule source x.seconds history now (completed_state p (state_with (key_of p) h.world))))
     (packet-in conf rule source x now history h.world p i r)
 
 abbrev RemembersAt : Conf → ℕ → Addr → ℕ → Score → Machine → Type 0
@@ -220,26 +220,26 @@ step-in : (conf : Conf) (rule : ℕ) (source : Addr) (x : Rate) (history : Score
     → RemembersAt conf rule source x.seconds (heard rule source x.seconds history e.time (handshake_at conf m e)) (step conf m e).1
 unfolding step
 step-in conf rule source x history m e i h r =
-    acted-in conf rule source x (first_by m.first e.time) e.time history (advanced conf m e.time).held i e.what (due-in conf rule source x history i m.held.world m.last e.time h r)
+    acted-in conf rule source x (first_moment m.first e.time) e.time history (machine_at_moment conf m e.time).held i e.what (due-in conf rule source x history i m.held.world m.last e.time h r)
 
 -- ---- the history
 
 folded-heard : (rule : ℕ) (source : Addr) (seconds : ℕ) (history : Score) (now : ℕ) (o : Option State) (others : List Handshake)
-    → folded seconds history (moments_of rule source (with_handshake now o others)) ≡ folded seconds (heard rule source seconds history now o) (moments_of rule source others)
+    → score_through seconds history (moments_of rule source (with_handshake now o others)) ≡ score_through seconds (heard rule source seconds history now o) (moments_of rule source others)
 folded-heard rule source seconds history now None others = refl
 folded-heard rule source seconds history now (Some s) others = go (is_of rule source s)
   where
     rest : List Handshake
     rest = filter (is_from rule source) others
 
-    go : (b : Bool) → folded seconds history (map (λ (h : Handshake). h.moment) (cond b (record { rule = s.rule.0; source = s.source; moment = now } ∷ rest) rest))
-        ≡ folded seconds (cond b (score_after seconds history now) history) (moments_of rule source others)
+    go : (b : Bool) → score_through seconds history (map (λ (h : Handshake). h.moment) (cond b (record { rule = s.rule.0; source = s.source; moment = now } ∷ rest) rest))
+        ≡ score_through seconds (cond b (score_after seconds history now) history) (moments_of rule source others)
     go true = refl
     go false = refl
 
 history-in : (conf : Conf) (rule : ℕ) (source : Addr) (x : Rate) (history : Score) (m : Machine) (es : List Event) → IsRated conf rule x → IsInOrder m.last es
     → RemembersAt conf rule source x.seconds history m
-    → RemembersAt conf rule source x.seconds (folded x.seconds history (moments_of rule source (handshakes conf m es))) (machine_after conf m es)
+    → RemembersAt conf rule source x.seconds (score_through x.seconds history (moments_of rule source (handshakes conf m es))) (machine_after conf m es)
 unfolding machine_after step
 history-in conf rule source x history m [] i order r = r
 history-in conf rule source x history m (e ∷ es) i order r =
@@ -248,8 +248,8 @@ history-in conf rule source x history m (e ∷ es) i order r =
     (history-in conf rule source x (heard rule source x.seconds history e.time (handshake_at conf m e)) next es i order.2 (step-in conf rule source x history m e i order.0 r))
 
 folded-push : (conf : Conf) (rule : ℕ) (source : Addr) (seconds : ℕ) (history : Score) (m : Machine) (es : List Event) (e : Event)
-    → folded seconds history (moments_of rule source (handshakes conf m (es ++ e ∷ [])))
-    ≡ heard rule source seconds (folded seconds history (moments_of rule source (handshakes conf m es))) e.time (handshake_at conf (machine_after conf m es) e)
+    → score_through seconds history (moments_of rule source (handshakes conf m (es ++ e ∷ [])))
+    ≡ heard rule source seconds (score_through seconds history (moments_of rule source (handshakes conf m es))) e.time (handshake_at conf (machine_after conf m es) e)
 unfolding machine_after
 folded-push conf rule source seconds history m [] e = folded-heard rule source seconds history e.time (handshake_at conf m e) []
 folded-push conf rule source seconds history m (d ∷ es) e =
@@ -274,7 +274,7 @@ remembers-start conf rule source seconds = record { nodes = tt; absent = λ e t 
 
 -- ---- the law
 
-completed-is : (p : Header) (o : Option State) (s : State) → completed_by p o ≡ Some s → (o ≡ Some s) × (completes_at p s ≡ true)
+completed-is : (p : Header) (o : Option State) (s : State) → completed_state p o ≡ Some s → (o ≡ Some s) × (completes_at p s ≡ true)
 completed-is p None s e = cc
 completed-is p (Some t) s e = go (completes_at p t) refl e
   where
@@ -290,7 +290,7 @@ own-handshake s = rw (one s.rule.0, same_addr_self s.source) refl
 
 -- the score that is compared with the limit
 score-in : (conf : Conf) (x : Rate) (now : ℕ) (history : Score) (w : World) (p : Header) (s : State) → IsRated conf s.rule.0 x → state_with (key_of p) w ≡ Some s
-    → completes_at p s ≡ true → RemembersIn conf s.rule.0 s.source x.seconds now history w → score_in s.source (touched conf w s p now).nodes (node_scope_of conf s.rule.0) ≡ score_after x.seconds history now
+    → completes_at p s ≡ true → RemembersIn conf s.rule.0 s.source x.seconds now history w → score_in s.source (world_after_touch conf w s p now).nodes (node_scope_of conf s.rule.0) ≡ score_after x.seconds history now
 score-in conf x now history w p s i found act_done r =
     let some : 0 < node_states conf (own_scope s.rule.0) s.source w.states = found-count conf s.rule.0 s.source p w s found (own-handshake s) in
     ap (λ (b : Bool). score_in s.source (nodes_touched conf w.nodes s now b) (node_scope_of conf s.rule.0)) act_done
@@ -300,32 +300,32 @@ score-in conf x now history w p s i found act_done r =
 
 -- the outcome tells whether the score is over the limit
 rate-hit : (conf : Conf) (h : Held) (s : State) (now : ℕ) (conn rate : Bool)
-    → rate_hit (by_exceeded conf h s.number s.rule s.source now (exceeded_of conn rate)).0 ≡ rate
+    → rate_hit (answer_of_exceeded conf h s.number s.rule s.source now (exceeded_of conn rate)).0 ≡ rate
 rate-hit conf h s now true true = refl
 rate-hit conf h s now true false = refl
 rate-hit conf h s now false true = refl
 rate-hit conf h s now false false = refl
 
-hit-in : (conf : Conf) (x : Rate) (now : ℕ) (h : Held) (p : Header) (s : State) → IsRated conf s.rule.0 x → completed_by p (state_with (key_of p) h.world) ≡ Some s
-    → rate_hit (answered conf h p now).0 ≡ nat_lt (1000 * x.limit) (score_in s.source (touched conf h.world s p now).nodes (node_scope_of conf s.rule.0)).value
+hit-in : (conf : Conf) (x : Rate) (now : ℕ) (h : Held) (p : Header) (s : State) → IsRated conf s.rule.0 x → completed_state p (state_with (key_of p) h.world) ≡ Some s
+    → rate_hit (answer_to_packet conf h p now).0 ≡ nat_lt (1000 * x.limit) (score_in s.source (world_after_touch conf h.world s p now).nodes (node_scope_of conf s.rule.0)).value
 hit-in conf x now h p s i e =
     let q = completed-is p (state_with (key_of p) h.world) s e in
-    let v : Held = held_of (touched conf h.world s p now) h.tables in
+    let v : Held = held_of (world_after_touch conf h.world s p now) h.tables in
     let score : Score = score_in s.source v.world.nodes (node_scope_of conf s.rule.0) in
-    ap (λ (found : Option State). rate_hit (by_state conf h p now found).0) q.0
-    ∙ ap (λ (b : Bool). rate_hit (by_handshake conf v s now b).0) q.1
+    ap (λ (found : Option State). rate_hit (answer_of_state conf h p now found).0) q.0
+    ∙ ap (λ (b : Bool). rate_hit (answer_of_handshake conf v s now b).0) q.1
     ∙ rate-hit conf v s now (hits_connections conf v.world s) (hits_rate conf v.world s)
     ∙ ap (λ (r : Option Rate). over_rate r score.value) i.is
 
-score-at : (conf : Conf) (x : Rate) (now : ℕ) (history : Score) (w : World) (what : Arrival) (s : State) → IsRated conf s.rule.0 x → handshake_by w what ≡ Some s
+score-at : (conf : Conf) (x : Rate) (now : ℕ) (history : Score) (w : World) (what : Arrival) (s : State) → IsRated conf s.rule.0 x → handshaking_state w what ≡ Some s
     → RemembersIn conf s.rule.0 s.source x.seconds now history w → score_compared conf w now what s ≡ score_after x.seconds history now
 score-at conf x now history w arrival.Skip s i e r = cc
 score-at conf x now history w (arrival.Expire table seconds) s i e r = cc
 score-at conf x now history w (arrival.Packet p) s i e r =
     let q = completed-is p (state_with (key_of p) w) s e in score-in conf x now history w p s i q.0 q.1 r
 
-hit-at : (conf : Conf) (x : Rate) (first now : ℕ) (h : Held) (what : Arrival) (s : State) → IsRated conf s.rule.0 x → handshake_by h.world what ≡ Some s
-    → rate_hit (handled conf h first now what).0 ≡ nat_lt (1000 * x.limit) (score_compared conf h.world now what s).value
+hit-at : (conf : Conf) (x : Rate) (first now : ℕ) (h : Held) (what : Arrival) (s : State) → IsRated conf s.rule.0 x → handshaking_state h.world what ≡ Some s
+    → rate_hit (answer_to_arrival conf h first now what).0 ≡ nat_lt (1000 * x.limit) (score_compared conf h.world now what s).value
 hit-at conf x first now h arrival.Skip s i e = cc
 hit-at conf x first now h (arrival.Expire table seconds) s i e = cc
 hit-at conf x first now h (arrival.Packet p) s i e = hit-in conf x now h p s i e
@@ -335,15 +335,15 @@ score-is-remembered conf events sound order before e s rate is =
     let i : IsRated conf s.rule.0 rate = rated conf sound s.rule.0 rate is.rated in
     let o : IsInOrder None (before ++ e ∷ []) = order-front None (before ++ e ∷ []) is.run.0 (subst (IsInOrder None) is.run.1 order) in
     let m : Machine = machine_after conf (start conf) before in
-    let past : Score = folded rate.seconds zero_score (moments_of s.rule.0 s.source (handshakes conf (start conf) before)) in
+    let past : Score = score_through rate.seconds zero_score (moments_of s.rule.0 s.source (handshakes conf (start conf) before)) in
     let r : RemembersAt conf s.rule.0 s.source rate.seconds past m =
     history-in conf s.rule.0 s.source rate zero_score (start conf) before i (order-front None before (e ∷ []) o) (remembers-start conf s.rule.0 s.source rate.seconds) in
-    let now : RemembersIn conf s.rule.0 s.source rate.seconds e.time past (advanced conf m e.time).held.world =
+    let now : RemembersIn conf s.rule.0 s.source rate.seconds e.time past (machine_at_moment conf m e.time).held.world =
     due-in conf s.rule.0 s.source rate past i m.held.world m.last e.time (order-last conf (start conf) before e o) r in
-    score-at conf rate e.time past (advanced conf m e.time).held.world e.what s i is.completes now
+    score-at conf rate e.time past (machine_at_moment conf m e.time).held.world e.what s i is.completes now
     ∙ sym (folded-push conf s.rule.0 s.source rate.seconds zero_score (start conf) before e ∙ ap (heard s.rule.0 s.source rate.seconds past e.time) is.completes
     ∙ ap (λ (b : Bool). cond b (score_after rate.seconds past e.time) past) (own-handshake s))
-    ∙ ap (λ (n : ℕ). folded n zero_score (moments_of s.rule.0 s.source (handshakes conf (start conf) (before ++ e ∷ [])))) (sym (ap rate_seconds is.rated))
+    ∙ ap (λ (n : ℕ). score_through n zero_score (moments_of s.rule.0 s.source (handshakes conf (start conf) (before ++ e ∷ [])))) (sym (ap rate_seconds is.rated))
 
 -- the outcome of an event of a run
 outcome-at : (conf : Conf) (m : Machine) (before : List Event) (e : Event) (later : List Event)
@@ -359,7 +359,7 @@ outcome-hit : (conf : Conf) (events : List Event) → IsConfig conf → IsInOrde
 unfolding step
 outcome-hit conf events sound order before e s rate is =
     let m : Machine = machine_after conf (start conf) before in
-    hit-at conf rate (first_by m.first e.time) e.time (advanced conf m e.time).held e.what s (rated conf sound s.rule.0 rate is.rated) is.completes
+    hit-at conf rate (first_moment m.first e.time) e.time (machine_at_moment conf m e.time).held e.what s (rated conf sound s.rule.0 rate is.rated) is.completes
     ∙ ap (λ (y : Score). nat_lt (1000 * rate.limit) y.value) (score-is-remembered conf events sound order before e s rate is)
 
 pub rate-is-remembered : (conf : Conf) (events : List Event) → IsConfig conf → IsInOrder None events → RateIsRemembered conf events

@@ -18,10 +18,10 @@ use Rattle.pfs_conf_values.specs.declared.actions.StateOptions.{StateOptions}
 use Rattle.pfs_conf_values.specs.declared.limits.LimitName.TheVariants as limit_name
 use Rattle.pfs_store_contract.proofs.LimitLaws.{met_in_turn}
 use Rattle.pfs_store_contract.proofs.MomentLaws.{world_at-up_to_now}
-use Rattle.pfs_store_contract.specs.Admission.{admitted, limit_met, new_node, new_state, nodes_with}
+use Rattle.pfs_store_contract.specs.Admission.{world_after_admission, limit_met, new_node, new_state, nodes_with}
 use Rattle.pfs_store_contract.specs.Calls.{packet_limit}
 use Rattle.pfs_store_contract.specs.SourceLimits.{first_of, held_node_limit, new_node_limit, source_limit}
-use Rattle.pfs_store_contract.specs.Counts.{has_node, is_connection, is_node, is_of_node, is_of_rule, node_connections, node_scope_by, node_scope_of, node_states, reached, rule_states, same_scope, scope_nodes}
+use Rattle.pfs_store_contract.specs.Counts.{has_node, is_connection, is_node, is_of_node, is_of_rule, node_connections, node_scope_under, node_scope_of, node_states, reaches_maximum, rule_states, same_scope, scope_nodes}
 use Rattle.pfs_store_contract.specs.Worlds.{World}
 use Rattle.pfs_store_contract.specs.declared.records.Limit.{Limit}
 use Rattle.pfs_store_contract.specs.declared.records.Limit.TheVariants as limit
@@ -46,42 +46,42 @@ none_where true l h = absurd cc
 none_where false l h = refl
 
 -- a maximum that is not reached has room for one more
-not_reached : (most : Option ℕ) (count n : ℕ) → reached most count ≡ false → most ≡ Some n → count + 1 ≤ n
+not_reached : (most : Option ℕ) (count n : ℕ) → reaches_maximum most count ≡ false → most ≡ Some n → count + 1 ≤ n
 not_reached most count n h is = let free = rw is at h in grind (arith, nat_tests)
 
 -- what it says that a rule and a source meet no limit
 record MeetsNone (conf : Conf) (w : World) (rule : ℕ) (source : Addr) : Type 0 where
-  most : reached (options_of conf rule).max (rule_states rule w.states) ≡ false
+  most : reaches_maximum (options_of conf rule).max (rule_states rule w.states) ≡ false
   sources : source_limit conf w (options_of conf rule) source (node_scope_of conf rule) ≡ None
   room : length w.states + 1 ≤ limit_of conf limit_name.States
 
 meets_none : (conf : Conf) (w : World) (rule : ℕ) (source : Addr) → limit_met conf w rule source ≡ None → MeetsNone conf w rule source
 meets_none conf w rule source h =
-    let most = if reached (options_of conf rule).max (rule_states rule w.states) then Some limit.Max else None in
+    let most = if reaches_maximum (options_of conf rule).max (rule_states rule w.states) then Some limit.Max else None in
     let sources = source_limit conf w (options_of conf rule) source (node_scope_of conf rule) in
     let all = if nat_le (limit_of conf limit_name.States) (length w.states) then Some limit.States else None in
     let outer = first_none most (first_of sources all) (sym (met_in_turn conf w rule source) ∙ h) in
     let inner = first_none sources all outer.1 in
     let free = none_where (nat_le (limit_of conf limit_name.States) (length w.states)) limit.States inner.1 in
     record {
-      most = none_where (reached (options_of conf rule).max (rule_states rule w.states)) limit.Max outer.0;
+      most = none_where (reaches_maximum (options_of conf rule).max (rule_states rule w.states)) limit.Max outer.0;
       sources = inner.0;
       room = grind (arith, nat_tests);
     }
 
 -- a source that has a node has room there
 held_free : (conf : Conf) (w : World) (o : StateOptions) (source : Addr) (found : NodeScope) → source_limit conf w o source (Some found) ≡ None
-    → has_node found source w.nodes ≡ true → reached o.max_src_states (node_states conf found source w.states) ≡ false
+    → has_node found source w.nodes ≡ true → reaches_maximum o.max_src_states (node_states conf found source w.states) ≡ false
 held_free conf w o source found h has =
-    none_where (reached o.max_src_states (node_states conf found source w.states)) limit.MaxSrcStates
+    none_where (reaches_maximum o.max_src_states (node_states conf found source w.states)) limit.MaxSrcStates
     (sym (ap (λ b. if b then held_node_limit conf w o found source else new_node_limit conf w o found) has) ∙ h)
 
 -- a source that has none has room for one
 new_free : (conf : Conf) (w : World) (o : StateOptions) (source : Addr) (found : NodeScope) → source_limit conf w o source (Some found) ≡ None
     → has_node found source w.nodes ≡ false
-    → (reached o.max_src_nodes (scope_nodes found w.nodes) ≡ false) × (length w.nodes + 1 ≤ limit_of conf limit_name.SrcNodes)
+    → (reaches_maximum o.max_src_nodes (scope_nodes found w.nodes) ≡ false) × (length w.nodes + 1 ≤ limit_of conf limit_name.SrcNodes)
 new_free conf w o source found h has =
-    by (reached o.max_src_nodes (scope_nodes found w.nodes)) (nat_le (limit_of conf limit_name.SrcNodes) (length w.nodes)) refl
+    by (reaches_maximum o.max_src_nodes (scope_nodes found w.nodes)) (nat_le (limit_of conf limit_name.SrcNodes) (length w.nodes)) refl
     (sym (ap (λ b. if b then held_node_limit conf w o found source else new_node_limit conf w o found) has) ∙ h)
   where
     by : (a b : Bool) → nat_le (limit_of conf limit_name.SrcNodes) (length w.nodes) ≡ b
@@ -113,7 +113,7 @@ room_states conf w rule source found sound whole at free noded n is = by (has_no
 states_with : (conf : Conf) (w : World) (p : Header) (rule now other : ℕ) (source : Addr) → IsConfig conf → TracksAlone conf other
     → MeetsNone conf w rule p.source.addr → All (HasNode conf w.nodes) w.states
     → (n : ℕ) → (options_of conf other).max_src_states ≡ Some n → node_states conf (own_scope other) source w.states ≤ n
-    → node_states conf (own_scope other) source (admitted conf w p rule now).states ≤ n
+    → node_states conf (own_scope other) source (world_after_admission conf w p rule now).states ≤ n
 states_with conf w p rule now other source sound alone free noded n is before =
     by (is_of_node conf (own_scope other) source (new_state (w.made + 1) p rule now)) refl
   where
@@ -138,14 +138,14 @@ undone proto.Udp = refl
 undone (proto.Other n) = refl
 
 connections_with : (conf : Conf) (w : World) (p : Header) (rule now : ℕ) (found : NodeScope) (source : Addr)
-    → node_connections conf found source (admitted conf w p rule now).states ≡ node_connections conf found source w.states
+    → node_connections conf found source (world_after_admission conf w p rule now).states ≡ node_connections conf found source w.states
 connections_with conf w p rule now found source =
     count-push_failing (is_connection conf found source) w.states (new_state (w.made + 1) p rule now)
     (ap (λ b. b && is_of_node conf found source (new_state (w.made + 1) p rule now)) (undone p.proto))
 
 -- the states of each rule
 rule_states_with : (conf : Conf) (w : World) (p : Header) (rule now other : ℕ) → MeetsNone conf w rule p.source.addr
-    → (n : ℕ) → (options_of conf other).max ≡ Some n → rule_states other w.states ≤ n → rule_states other (admitted conf w p rule now).states ≤ n
+    → (n : ℕ) → (options_of conf other).max ≡ Some n → rule_states other w.states ≤ n → rule_states other (world_after_admission conf w p rule now).states ≤ n
 rule_states_with conf w p rule now other free n is before = by (rule == other) refl
   where
     by : (b : Bool) → (rule == other) ≡ b → rule_states other (w.states ++ new_state (w.made + 1) p rule now ∷ []) ≤ n
@@ -177,7 +177,7 @@ rule_of_scope conf rule other h = by (scope_of conf rule) h
     number_in (node_scope.Rule r) = r.0
     number_in node_scope.Global = 0
 
-    by : (o : Option Scope) → node_scope_by rule o ≡ Some (own_scope other) → rule ≡ other
+    by : (o : Option Scope) → node_scope_under rule o ≡ Some (own_scope other) → rule ≡ other
     by None k = absurd cc
     by (Some scope.Rule) k =
         let same : node_scope.Rule (record { 0 = rule }) ≡ own_scope other = cc in
@@ -237,7 +237,7 @@ nodes_with-own nodes number source found = by (has_node found source nodes) refl
     by false e = any-push (is_node found source) nodes (new_node number found source) ∙ rw (e, same_scope_self found, same_addr_self source) refl
 
 noded_with : (conf : Conf) (w : World) (p : Header) (rule now : ℕ) → All (HasNode conf w.nodes) w.states
-    → All (HasNode conf (admitted conf w p rule now).nodes) (admitted conf w p rule now).states
+    → All (HasNode conf (world_after_admission conf w p rule now).nodes) (world_after_admission conf w p rule now).states
 noded_with conf w p rule now h =
     let nodes = nodes_with w.nodes (w.made + 1) p.source.addr (node_scope_of conf rule) in
     All-push (HasNode conf nodes) w.states (new_state (w.made + 1) p rule now)
@@ -261,7 +261,7 @@ phase_first (proto.Other n) = tt
 
 pub kept_admitted : (conf : Conf) (m : Held) (p : Header) (rule now : ℕ) → IsConfig conf
     → packet_limit conf m.world p rule ≡ None → IsKept conf m now
-    → IsKept conf (held_of (admitted conf m.world p rule now) m.tables) now
+    → IsKept conf (held_of (world_after_admission conf m.world p rule now) m.tables) now
 kept_admitted conf m p rule now sound met k =
     let w = m.world in
     let new = new_state (w.made + 1) p rule now in
@@ -289,7 +289,7 @@ kept_admitted conf m p rule now sound met k =
 -- directly after it, the maxima of a rule with shared nodes hold too
 pub shared_admitted : (conf : Conf) (m : Held) (p : Header) (rule now : ℕ) → IsConfig conf
     → packet_limit conf m.world p rule ≡ None → scope_of conf rule ≡ Some scope.Global → IsKept conf m now
-    → IsWithinShared conf rule p.source.addr m.world (admitted conf m.world p rule now)
+    → IsWithinShared conf rule p.source.addr m.world (world_after_admission conf m.world p rule now)
 shared_admitted conf m p rule now sound met shared k =
     let w = m.world in
     let new = new_state (w.made + 1) p rule now in

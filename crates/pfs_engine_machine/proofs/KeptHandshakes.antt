@@ -18,14 +18,14 @@ use Rattle.pfs_conf_values.specs.declared.limits.LimitName.TheVariants as limit_
 use Rattle.pfs_store_contract.proofs.MomentLaws.{left-up_to_now, world_touched-up_to_now}
 use Rattle.pfs_store_contract.specs.Counts.{has_node, is_of_node, is_of_rule, node_connections, node_scope_of, node_states, rule_states, scope_nodes}
 use Rattle.pfs_store_contract.specs.Handshakes.{flush_of, hits_connections, hits_rate, stays_at_kill}
-use Rattle.pfs_store_contract.specs.Leaving.{without}
-use Rattle.pfs_store_contract.specs.Touching.{completes_at, goes_forward, nodes_touched, renewed, touched}
+use Rattle.pfs_store_contract.specs.Leaving.{world_without}
+use Rattle.pfs_store_contract.specs.Touching.{completes_at, goes_forward, nodes_touched, numbered_state_after, world_after_touch}
 use Rattle.pfs_store_contract.specs.Worlds.{IsUpToNow, World, holds_number, state_with}
 use Rattle.pfs_store_contract.specs.declared.records.Node.{Node}
 use Rattle.pfs_store_contract.specs.declared.records.NodeScope.{NodeScope}
 use Rattle.pfs_store_contract.specs.declared.records.State.{State}
 use Rattle.pfs_engine_machine.specs.Kept.{HasNode, IsKept, IsPhaseOf, IsWithin, Rise, TracksAlone, own_scope}
-use Rattle.pfs_engine_machine.specs.Machine.{Held, by_exceeded, by_state, exceeded_of, held_of, killed, tables_by}
+use Rattle.pfs_engine_machine.specs.Machine.{Held, answer_of_exceeded, answer_of_state, exceeded_of, held_of, answer_of_kill, tables_after_addition}
 use Rattle.pfs_engine_machine.specs.Refusals.{is_tcp}
 use Rattle.pfs_engine_machine.specs.declared.events.Exceeded.{Exceeded}
 use Rattle.pfs_engine_machine.specs.declared.events.Exceeded.TheVariants as exceeded
@@ -82,20 +82,20 @@ HasNode-alike : (conf : Conf) (before after : List Node) → AreAlike before aft
 HasNode-alike conf before after alike s h = λ scope is. alike.has scope s.source ∙ h scope is
 
 renewed-noded : (conf : Conf) (nodes : List Node) (number : ℕ) (p : Header) (now : ℕ) (s : State) → HasNode conf nodes s
-    → HasNode conf nodes (renewed number p now s)
+    → HasNode conf nodes (numbered_state_after number p now s)
 renewed-noded conf nodes number p now s h = λ scope is.
     let same = renewed-same number p now s in
     ap (λ (a : Addr). has_node scope a nodes) same.source ∙ h scope (sym (ap (λ (r : RuleNo). node_scope_of conf r.0) same.rule) ∙ is)
 
 renewed-of_node : (conf : Conf) (scope : NodeScope) (source : Addr) (number : ℕ) (p : Header) (now : ℕ) (s : State)
-    → is_of_node conf scope source (renewed number p now s) ≡ is_of_node conf scope source s
+    → is_of_node conf scope source (numbered_state_after number p now s) ≡ is_of_node conf scope source s
 renewed-of_node conf scope source number p now s = let same = renewed-same number p now s in rw (same.rule, same.source)
 
 kept_but_touched : (conf : Conf) (m : Held) (p : Header) (now : ℕ) (s : State) → IsKept conf m now
-    → IsKeptBut conf (held_of (touched conf m.world s p now) m.tables) now
+    → IsKeptBut conf (held_of (world_after_touch conf m.world s p now) m.tables) now
 kept_but_touched conf m p now s k =
     let w = m.world in
-    let f = renewed s.number p now in
+    let f = numbered_state_after s.number p now in
     let alike = nodes_touched-alike conf w.nodes s now (completes_at p s) in
     let nodes = nodes_touched conf w.nodes s now (completes_at p s) in
     record {
@@ -123,39 +123,39 @@ alone_of conf m p now s found k = Rise-alone (λ (t : State). same_key t.key (ke
 
 -- where the handshake does not complete, or hits no `max-src-conn`, no source has too many connections
 few_touched : (conf : Conf) (m : Held) (p : Header) (now : ℕ) (s : State) → state_with (key_of p) m.world ≡ Some s
-    → ((completes_at p s ≡ false) ⊎ (hits_connections conf (touched conf m.world s p now) s ≡ false))
-    → IsKept conf m now → AreFew conf (touched conf m.world s p now).states
+    → ((completes_at p s ≡ false) ⊎ (hits_connections conf (world_after_touch conf m.world s p now) s ≡ false))
+    → IsKept conf m now → AreFew conf (world_after_touch conf m.world s p now).states
 few_touched conf m p now s found why k rule source tracks = go why (is_of_node conf (own_scope rule) source s) refl
   where
     alone : IsAlone s m.world.states
     alone = alone_of conf m p now s found k
 
     same : ((completes_at p s ≡ false) ⊎ (is_of_node conf (own_scope rule) source s ≡ false))
-        → IsWithin (options_of conf rule).max_src_conn (node_connections conf (own_scope rule) source (map (renewed s.number p now) m.world.states))
+        → IsWithin (options_of conf rule).max_src_conn (node_connections conf (own_scope rule) source (map (numbered_state_after s.number p now) m.world.states))
     same because = λ n is.
         omega (arith, connections-same conf (own_scope rule) source s p now m.world.states alone because, k.limits.source_connections rule source tracks n is)
 
-    go : ((completes_at p s ≡ false) ⊎ (hits_connections conf (touched conf m.world s p now) s ≡ false))
+    go : ((completes_at p s ≡ false) ⊎ (hits_connections conf (world_after_touch conf m.world s p now) s ≡ false))
         → (own : Bool) → is_of_node conf (own_scope rule) source s ≡ own
-        → IsWithin (options_of conf rule).max_src_conn (node_connections conf (own_scope rule) source (map (renewed s.number p now) m.world.states))
+        → IsWithin (options_of conf rule).max_src_conn (node_connections conf (own_scope rule) source (map (numbered_state_after s.number p now) m.world.states))
     go (inl before) own e = same (inl before)
     go (inr few) true e = connections-within conf m.world p now s rule source tracks e few
     go (inr few) false e = same (inr e)
 
 pub kept_touched : (conf : Conf) (m : Held) (p : Header) (now : ℕ) (s : State) → state_with (key_of p) m.world ≡ Some s
-    → ((completes_at p s ≡ false) ⊎ (hits_connections conf (touched conf m.world s p now) s ≡ false))
-    → IsKept conf m now → IsKept conf (held_of (touched conf m.world s p now) m.tables) now
+    → ((completes_at p s ≡ false) ⊎ (hits_connections conf (world_after_touch conf m.world s p now) s ≡ false))
+    → IsKept conf m now → IsKept conf (held_of (world_after_touch conf m.world s p now) m.tables) now
 kept_touched conf m p now s found why k =
-    kept_whole conf (held_of (touched conf m.world s p now) m.tables) now (kept_but_touched conf m p now s k) (few_touched conf m p now s found why k)
+    kept_whole conf (held_of (world_after_touch conf m.world s p now) m.tables) now (kept_but_touched conf m p now s k) (few_touched conf m p now s found why k)
 
 -- ---- states are killed
 
 kept_but_without : (conf : Conf) (m : Held) (stays : State → Bool) (at now : ℕ) → IsKeptBut conf m now
-    → IsKeptBut conf (held_of (without conf m.world stays at) m.tables) now
+    → IsKeptBut conf (held_of (world_without conf m.world stays at) m.tables) now
 kept_but_without conf m stays at now k =
     let w = m.world in
     let alike = idled_all-alike conf w.states (filter stays w.states) at w.nodes in
-    let nodes = (without conf w stays at).nodes in
+    let nodes = (world_without conf w stays at).nodes in
     record {
       states = omega (arith, count_le stays w.states, k.states);
       nodes = omega (arith, alike.size, k.nodes);
@@ -168,23 +168,23 @@ kept_but_without conf m stays at now k =
       noded = All-filter stays (HasNode conf nodes) w.states (All-weaker (HasNode conf w.nodes) (HasNode conf nodes) (HasNode-alike conf w.nodes nodes alike) w.states k.noded);
       phases = All-filter stays (λ (t : State). IsPhaseOf t.key.proto t.phase) w.states k.phases;
       tables = k.tables;
-      moments = left-up_to_now conf w (filter stays w.states) (without conf w stays at).pending_states at now k.moments;
+      moments = left-up_to_now conf w (filter stays w.states) (world_without conf w stays at).pending_states at now k.moments;
     }
 
 -- the tables: one entry more at most, and only below the limit
 tables_by-size : (conf : Conf) (tables : List (List Entry)) (source : Addr) (now : ℕ) (overload : Option Overload)
-    → length (tables_by conf tables source now overload) ≡ length tables
+    → length (tables_after_addition conf tables source now overload) ≡ length tables
 tables_by-size conf tables source now None = refl
 tables_by-size conf tables source now (Some v) =
     entries_after-size tables v.table.0 source now (added_to tables (limit_of conf limit_name.TableEntries) v.table.0 source)
 
 tables_by-within : (conf : Conf) (tables : List (List Entry)) (source : Addr) (now : ℕ) (overload : Option Overload)
-    → entry_count tables ≤ limit_of conf limit_name.TableEntries → entry_count (tables_by conf tables source now overload) ≤ limit_of conf limit_name.TableEntries
+    → entry_count tables ≤ limit_of conf limit_name.TableEntries → entry_count (tables_after_addition conf tables source now overload) ≤ limit_of conf limit_name.TableEntries
 tables_by-within conf tables source now None le = le
 tables_by-within conf tables source now (Some v) le = entries_after-within tables (limit_of conf limit_name.TableEntries) v.table.0 source now le
 
 kept_but_added : (conf : Conf) (m : Held) (source : Addr) (overload : Option Overload) (now : ℕ) → IsKeptBut conf m now
-    → IsKeptBut conf (held_of m.world (tables_by conf m.tables source now overload)) now
+    → IsKeptBut conf (held_of m.world (tables_after_addition conf m.tables source now overload)) now
 kept_but_added conf m source overload now k = record {
   states = k.states;
   nodes = k.nodes;
@@ -201,27 +201,27 @@ kept_but_added conf m source overload now k = record {
 
 few_killed : (conf : Conf) (m : Held) (p : Header) (now : ℕ) (s : State) (flush : Option Scope) → state_with (key_of p) m.world ≡ Some s
     → IsKept conf m now
-    → AreFew conf (filter (stays_at_kill flush s.number s.rule s.source) (touched conf m.world s p now).states)
+    → AreFew conf (filter (stays_at_kill flush s.number s.rule s.source) (world_after_touch conf m.world s p now).states)
 few_killed conf m p now s flush found k rule source tracks =
     within_less (options_of conf rule).max_src_conn _ _ (connections-killed conf m.world p now s flush (own_scope rule) source (alone_of conf m p now s found k)) (k.limits.source_connections rule source tracks)
 
 pub kept_killed : (conf : Conf) (m : Held) (p : Header) (now : ℕ) (s : State) (limits : Exceeded) → state_with (key_of p) m.world ≡ Some s
-    → IsKept conf m now → IsKept conf (killed conf (held_of (touched conf m.world s p now) m.tables) s.number s.rule s.source now limits).1 now
+    → IsKept conf m now → IsKept conf (answer_of_kill conf (held_of (world_after_touch conf m.world s p now) m.tables) s.number s.rule s.source now limits).1 now
 kept_killed conf m p now s limits found k =
     let overload = (options_of conf s.rule.0).overload in
     let stays = stays_at_kill (flush_of overload) s.number s.rule s.source in
-    let first = held_of (touched conf m.world s p now) m.tables in
-    let second = held_of (without conf first.world stays now) first.tables in
-    kept_whole conf (held_of second.world (tables_by conf second.tables s.source now overload)) now
+    let first = held_of (world_after_touch conf m.world s p now) m.tables in
+    let second = held_of (world_without conf first.world stays now) first.tables in
+    kept_whole conf (held_of second.world (tables_after_addition conf second.tables s.source now overload)) now
     (kept_but_added conf second s.source overload now (kept_but_without conf first stays now now (kept_but_touched conf m p now s k)))
     (few_killed conf m p now s (flush_of overload) found k)
 
 -- ---- together
 
 kept_by_handshake : (conf : Conf) (m : Held) (p : Header) (now : ℕ) (s : State) (conn rate : Bool) → state_with (key_of p) m.world ≡ Some s
-    → IsKept conf m now → conn ≡ hits_connections conf (touched conf m.world s p now) s
+    → IsKept conf m now → conn ≡ hits_connections conf (world_after_touch conf m.world s p now) s
     → (completes : Bool) → completes_at p s ≡ completes
-    → IsKept conf (by_exceeded conf (held_of (touched conf m.world s p now) m.tables) s.number s.rule s.source now (if completes then exceeded_of conn rate else None)).1 now
+    → IsKept conf (answer_of_exceeded conf (held_of (world_after_touch conf m.world s p now) m.tables) s.number s.rule s.source now (if completes then exceeded_of conn rate else None)).1 now
 kept_by_handshake conf m p now s conn rate found k is false done = kept_touched conf m p now s found (inl done) k
 kept_by_handshake conf m p now s true true found k is true done = kept_killed conf m p now s exceeded.Both found k
 kept_by_handshake conf m p now s true false found k is true done = kept_killed conf m p now s exceeded.Connections found k
@@ -229,19 +229,19 @@ kept_by_handshake conf m p now s false true found k is true done = kept_killed c
 kept_by_handshake conf m p now s false false found k is true done = kept_touched conf m p now s found (inr (sym is)) k
 
 pub kept_held : (conf : Conf) (m : Held) (p : Header) (now : ℕ) (s : State) → state_with (key_of p) m.world ≡ Some s
-    → IsKept conf m now → IsKept conf (by_state conf m p now (Some s)).1 now
+    → IsKept conf m now → IsKept conf (answer_of_state conf m p now (Some s)).1 now
 kept_held conf m p now s found k =
-    let after = touched conf m.world s p now in
+    let after = world_after_touch conf m.world s p now in
     kept_by_handshake conf m p now s (hits_connections conf after s) (hits_rate conf after s) found k refl (completes_at p s) refl
 
 -- no state is made
-pub made_held : (conf : Conf) (m : Held) (p : Header) (now : ℕ) (s : State) → (by_state conf m p now (Some s)).1.world.made ≡ m.world.made
+pub made_held : (conf : Conf) (m : Held) (p : Header) (now : ℕ) (s : State) → (answer_of_state conf m p now (Some s)).1.world.made ≡ m.world.made
 made_held conf m p now s = by (if completes_at p s then exceeded_of (hits_connections conf after s) (hits_rate conf after s) else None)
   where
     after : World
-    after = touched conf m.world s p now
+    after = world_after_touch conf m.world s p now
 
-    by : (limits : Option Exceeded) → (by_exceeded conf (held_of after m.tables) s.number s.rule s.source now limits).1.world.made ≡ m.world.made
+    by : (limits : Option Exceeded) → (answer_of_exceeded conf (held_of after m.tables) s.number s.rule s.source now limits).1.world.made ≡ m.world.made
     by (Some e) = refl
     by None = refl
 
@@ -257,7 +257,7 @@ proto_of_completed conf m p now s k found done =
 
 -- the state is held after its packet
 pub held_touched : (conf : Conf) (w : World) (p : Header) (now : ℕ) (s : State) → state_with (key_of p) w ≡ Some s
-    → holds_number (touched conf w s p now).states s.number ≡ true
+    → holds_number (world_after_touch conf w s p now).states s.number ≡ true
 held_touched conf w p now s found =
-    any-map (λ (t : State). t.number == s.number) (renewed s.number p now) (λ (t : State). ap (λ n. n == s.number) (renewed-same s.number p now t).number) w.states
+    any-map (λ (t : State). t.number == s.number) (numbered_state_after s.number p now) (λ (t : State). ap (λ n. n == s.number) (renewed-same s.number p now t).number) w.states
     ∙ find-any (λ (t : State). t.number == s.number) (λ (t : State). same_key t.key (key_of p)) w.states s found (eq-eqb s.number s.number refl)

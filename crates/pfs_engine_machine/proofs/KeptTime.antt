@@ -15,7 +15,7 @@ use Rattle.pfs_conf_values.specs.Invariants.{IsConfig}
 use Rattle.pfs_conf_values.specs.declared.tables.TableDef.{TableDef}
 use Rattle.pfs_store_contract.proofs.MomentLaws.{empty_world-up_to_now, later-up_to_now, left-up_to_now, node_slice-up_to_now}
 use Rattle.pfs_store_contract.specs.Counts.{is_connection, is_node, is_of_node, is_of_rule, node_states, same_scope}
-use Rattle.pfs_store_contract.specs.Leaving.{idled, left}
+use Rattle.pfs_store_contract.specs.Leaving.{node_after_leaving, world_with_stay}
 use Rattle.pfs_store_contract.specs.Purging.{is_among, node_retention, node_round, node_share, node_slice, node_stays, purge, state_round, state_share, state_slice, stays}
 use Rattle.pfs_store_contract.specs.Worlds.{World}
 use Rattle.pfs_store_contract.specs.declared.records.Node.{Node}
@@ -26,7 +26,7 @@ use Rattle.pfs_engine_machine.proofs.Numbers.{Rise-filter}
 use Rattle.pfs_engine_machine.proofs.Counts.{any-filter, any-map, count-at, count-filter_le, count-map, count_le}
 use Rattle.pfs_engine_machine.proofs.Scopes.{and_left, and_right, is_of_node-own, same_scope_true}
 use Rattle.pfs_engine_machine.specs.Kept.{HasNode, IsKept, IsPhaseOf, IsWithin, moment_of, own_scope}
-use Rattle.pfs_engine_machine.specs.Machine.{Held, Machine, advanced, due, expired, first_by, held_of, purged, start}
+use Rattle.pfs_engine_machine.specs.Machine.{Held, Machine, machine_at_moment, due, answer_to_expire, first_moment, held_of, world_after_purges, start}
 
 -- ---- the start
 
@@ -56,19 +56,19 @@ within_less most a b le h n is = omega (arith, le, h n is)
 
 -- an idle moment changes neither the scope nor the source of a node
 idled-is_node : (conf : Conf) (before after : List State) (now : ℕ) (scope : NodeScope) (source : Addr) (n : Node)
-    → is_node scope source (idled conf before after now n) ≡ is_node scope source n
+    → is_node scope source (node_after_leaving conf before after now n) ≡ is_node scope source n
 idled-is_node conf before after now scope source n = grind arith
 
 idled-scope : (conf : Conf) (before after : List State) (now : ℕ) (scope : NodeScope) (n : Node)
-    → same_scope (idled conf before after now n).scope scope ≡ same_scope n.scope scope
+    → same_scope (node_after_leaving conf before after now n).scope scope ≡ same_scope n.scope scope
 idled-scope conf before after now scope n = grind arith
 
 -- the states that pass a test stay, at whatever moment, with whatever numbers pending
 pub kept_left : (conf : Conf) (m : Held) (p : State → Bool) (pending : List ℕ) (at now : ℕ) → IsKept conf m now
-    → IsKept conf (held_of (left conf m.world (filter p m.world.states) pending at) m.tables) now
+    → IsKept conf (held_of (world_with_stay conf m.world (filter p m.world.states) pending at) m.tables) now
 kept_left conf m p pending at now k =
     let w = m.world in
-    let change = idled conf w.states (filter p w.states) at in
+    let change = node_after_leaving conf w.states (filter p w.states) at in
     record {
       limits = record {
         states = omega (arith, count_le p w.states, k.limits.states);
@@ -146,7 +146,7 @@ kept_purge conf h at now k =
     kept_node_slice conf (held_of (state_slice conf h.world at) h.tables) at now (kept_state_slice conf h at now k)
 
 pub kept_purged : (conf : Conf) (w : World) (tables : List (List Entry)) (now : ℕ) (seconds : List ℕ) → IsKept conf (held_of w tables) now
-    → IsKept conf (held_of (purged conf w seconds) tables) now
+    → IsKept conf (held_of (world_after_purges conf w seconds) tables) now
 kept_purged conf w tables now [] k = k
 kept_purged conf w tables now (s ∷ seconds) k =
     kept_purged conf (purge conf w s) tables now seconds (kept_purge conf (held_of w tables) s now k)
@@ -163,9 +163,9 @@ kept_later conf h last now later k = record {
 }
 
 pub kept_advanced : (conf : Conf) (m : Machine) (now : ℕ) → ForSome m.last (λ last. last ≤ now) → IsKept conf m.held (moment_of m.last)
-    → IsKept conf (advanced conf m now).held now
+    → IsKept conf (machine_at_moment conf m now).held now
 kept_advanced conf m now later k =
-    kept_later conf (advanced conf m now).held (moment_of m.last) now (by m.last later) (kept_purged conf m.held.world m.held.tables (moment_of m.last) (due m.last now) k)
+    kept_later conf (machine_at_moment conf m now).held (moment_of m.last) now (by m.last later) (kept_purged conf m.held.world m.held.tables (moment_of m.last) (due m.last now) k)
   where
     by : (last : Option ℕ) → ForSome last (λ last. last ≤ now) → moment_of last ≤ now
     by None h = omega arith
@@ -173,7 +173,7 @@ kept_advanced conf m now later k =
 
 -- ---- old entries leave a table
 
-pub kept_expired : (conf : Conf) (h : Held) (first at table seconds now : ℕ) → IsKept conf h now → IsKept conf (expired h first at table seconds).1 now
+pub kept_expired : (conf : Conf) (h : Held) (first at table seconds now : ℕ) → IsKept conf h now → IsKept conf (answer_to_expire h first at table seconds).1 now
 kept_expired conf h first at table seconds now k = record {
   limits = record {
     states = k.limits.states;
@@ -193,22 +193,22 @@ kept_expired conf h first at table seconds now k = record {
 
 -- the first moment is not after the last one
 pub first_advanced : (conf : Conf) (m : Machine) (now : ℕ) → ForSome m.last (λ last. last ≤ now) → moment_of m.first ≤ moment_of m.last
-    → moment_of (advanced conf m now).first ≤ now
+    → moment_of (machine_at_moment conf m now).first ≤ now
 first_advanced conf m now later h = by m.first h (moment_within m.last later)
   where
     moment_within : (last : Option ℕ) → ForSome last (λ l. l ≤ now) → moment_of last ≤ now
     moment_within None k = omega arith
     moment_within (Some last) k = k last refl
 
-    by : (first : Option ℕ) → moment_of first ≤ moment_of m.last → moment_of m.last ≤ now → first_by first now ≤ now
+    by : (first : Option ℕ) → moment_of first ≤ moment_of m.last → moment_of m.last ≤ now → first_moment first now ≤ now
     by None k l = omega arith
     by (Some first) k l = omega (arith, k, l)
 
 -- ---- no second makes a state
 
-pub made_purged : (conf : Conf) (w : World) (seconds : List ℕ) → (purged conf w seconds).made ≡ w.made
+pub made_purged : (conf : Conf) (w : World) (seconds : List ℕ) → (world_after_purges conf w seconds).made ≡ w.made
 made_purged conf w [] = refl
 made_purged conf w (s ∷ seconds) = made_purged conf (purge conf w s) seconds
 
-pub made_advanced : (conf : Conf) (m : Machine) (now : ℕ) → (advanced conf m now).held.world.made ≡ m.held.world.made
+pub made_advanced : (conf : Conf) (m : Machine) (now : ℕ) → (machine_at_moment conf m now).held.world.made ≡ m.held.world.made
 made_advanced conf m now = made_purged conf m.held.world (due m.last now)

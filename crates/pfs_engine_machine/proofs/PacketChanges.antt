@@ -3,37 +3,37 @@ use Rattle.std.proofs.Common.{◌≡◌, ◌∙◌, ℕ, Bool, if◌then◌else�
 use Rattle.pfs_addr_values.specs.Keys.{key_of}
 use Rattle.pfs_addr_values.specs.Packets.{Header}
 use Rattle.pfs_conf_values.specs.Configs.{Conf, options_of}
-use Rattle.pfs_store_contract.specs.Admission.{admitted}
+use Rattle.pfs_store_contract.specs.Admission.{world_after_admission}
 use Rattle.pfs_store_contract.specs.Calls.{packet_limit}
 use Rattle.pfs_store_contract.specs.Handshakes.{stays_at_kill, flush_of, hits_connections, hits_rate}
-use Rattle.pfs_store_contract.specs.Leaving.{without}
-use Rattle.pfs_store_contract.specs.Touching.{completes_at, touched}
+use Rattle.pfs_store_contract.specs.Leaving.{world_without}
+use Rattle.pfs_store_contract.specs.Touching.{completes_at, world_after_touch}
 use Rattle.pfs_store_contract.specs.Worlds.{World, state_with}
 use Rattle.pfs_store_contract.specs.declared.records.State.{State}
 use Rattle.pfs_engine_machine.proofs.Answering as answering
-use Rattle.pfs_engine_machine.specs.Machine.{Held, answered, by_exceeded, by_handshake, by_state, exceeded_of, held_of}
+use Rattle.pfs_engine_machine.specs.Machine.{Held, answer_to_packet, answer_of_exceeded, answer_of_handshake, answer_of_state, exceeded_of, held_of}
 use Rattle.pfs_engine_machine.specs.declared.events.Exceeded.{Exceeded}
 use Rattle.pfs_engine_machine.specs.declared.events.Outcome.{Outcome}
 
 -- a fact of what a packet leaves, from what it may do
 pub record Changes (conf : Conf) (w : World) (p : Header) (now : ℕ) (Q : World → Type 0) : Type 0 where
   pub passes : state_with (key_of p) w ≡ None → Q w
-  pub admits : (rule : ℕ) → state_with (key_of p) w ≡ None → packet_limit conf w p rule ≡ None → Q (admitted conf w p rule now)
-  pub touches : (s : State) → state_with (key_of p) w ≡ Some s → Q (touched conf w s p now)
-  pub kills : (v : World) (stays : State → Bool) → Q v → Q (without conf v stays now)
+  pub admits : (rule : ℕ) → state_with (key_of p) w ≡ None → packet_limit conf w p rule ≡ None → Q (world_after_admission conf w p rule now)
+  pub touches : (s : State) → state_with (key_of p) w ≡ Some s → Q (world_after_touch conf w s p now)
+  pub kills : (v : World) (stays : State → Bool) → Q v → Q (world_without conf v stays now)
 
 handshake_has : (conf : Conf) (h : Held) (s : State) (now : ℕ) (completes : Bool) (Q : World → Type 0)
-    → ((v : World) (stays : State → Bool) → Q v → Q (without conf v stays now)) → Q h.world → Q (by_handshake conf h s now completes).1.world
+    → ((v : World) (stays : State → Bool) → Q v → Q (world_without conf v stays now)) → Q h.world → Q (answer_of_handshake conf h s now completes).1.world
 handshake_has conf h s now completes Q kills k = by (if completes then exceeded_of (hits_connections conf h.world s) (hits_rate conf h.world s) else None)
   where
-    by : (limits : Option Exceeded) → Q (by_exceeded conf h s.number s.rule s.source now limits).1.world
+    by : (limits : Option Exceeded) → Q (answer_of_exceeded conf h s.number s.rule s.source now limits).1.world
     by (Some e) = kills h.world (stays_at_kill (flush_of (options_of conf s.rule.0).overload) s.number s.rule s.source) k
     by None = k
 
-pub answered_has : (conf : Conf) (h : Held) (p : Header) (now : ℕ) (Q : World → Type 0) → Changes conf h.world p now Q → Q (answered conf h p now).1.world
+pub answered_has : (conf : Conf) (h : Held) (p : Header) (now : ℕ) (Q : World → Type 0) → Changes conf h.world p now Q → Q (answer_to_packet conf h p now).1.world
 answered_has conf h p now Q c = go (state_with (key_of p) h.world) refl
   where
-    go : (found : Option State) → state_with (key_of p) h.world ≡ found → Q (answered conf h p now).1.world
+    go : (found : Option State) → state_with (key_of p) h.world ≡ found → Q (answer_to_packet conf h p now).1.world
     go None fresh = answering.answered_has conf h p now (λ (a : Outcome × Held). Q a.1.world) (record {
       held = λ s found. absurd (let same = sym fresh ∙ found in cc);
       passes = c.passes fresh;
@@ -43,17 +43,17 @@ answered_has conf h p now Q c = go (state_with (key_of p) h.world) refl
       made = λ rule none. c.admits rule fresh none;
     })
     go (Some s) found =
-        subst (λ (o : Option State). Q (by_state conf h p now o).1.world) (sym found)
-        (handshake_has conf (held_of (touched conf h.world s p now) h.tables) s now (completes_at p s) Q c.kills (c.touches s found))
+        subst (λ (o : Option State). Q (answer_of_state conf h p now o).1.world) (sym found)
+        (handshake_has conf (held_of (world_after_touch conf h.world s p now) h.tables) s now (completes_at p s) Q c.kills (c.touches s found))
 
 -- ---- a fact that each change keeps
 
 pub record IsKeptByPackets (conf : Conf) (P : World → Type 0) : Type 0 where
-  pub touches : (w : World) (s : State) (p : Header) (now : ℕ) → P w → P (touched conf w s p now)
-  pub kills : (w : World) (stays : State → Bool) (now : ℕ) → P w → P (without conf w stays now)
-  pub admits : (w : World) (p : Header) (rule now : ℕ) → packet_limit conf w p rule ≡ None → P w → P (admitted conf w p rule now)
+  pub touches : (w : World) (s : State) (p : Header) (now : ℕ) → P w → P (world_after_touch conf w s p now)
+  pub kills : (w : World) (stays : State → Bool) (now : ℕ) → P w → P (world_without conf w stays now)
+  pub admits : (w : World) (p : Header) (rule now : ℕ) → packet_limit conf w p rule ≡ None → P w → P (world_after_admission conf w p rule now)
 
-pub answered_keeps : (conf : Conf) (P : World → Type 0) → IsKeptByPackets conf P → (h : Held) (p : Header) (now : ℕ) → P h.world → P (answered conf h p now).1.world
+pub answered_keeps : (conf : Conf) (P : World → Type 0) → IsKeptByPackets conf P → (h : Held) (p : Header) (now : ℕ) → P h.world → P (answer_to_packet conf h p now).1.world
 answered_keeps conf P k h p now i = answered_has conf h p now P (record {
   passes = λ fresh. i;
   admits = λ rule fresh none. k.admits h.world p rule now none i;

@@ -3,14 +3,14 @@ use Rattle.std.proofs.Common.{◌≡◌, ◌≤◌, ◌<◌, ◌+◌, ◌-◌, �
 use Rattle.std.specs.List.{range_with_len}
 use Rattle.std.proofs.Math.Seq.{take-nil, drop-nil}
 use Rattle.pfs_conf_values.specs.Configs.{Conf}
-use Rattle.pfs_store_contract.specs.Leaving.{idled}
+use Rattle.pfs_store_contract.specs.Leaving.{node_after_leaving}
 use Rattle.pfs_store_contract.specs.Purging.{node_numbers, node_share, node_slice, purge, round, state_numbers, state_share, state_slice}
 use Rattle.pfs_store_contract.specs.Calls.{node_slice_of, state_slice_of}
 use Rattle.pfs_store_contract.specs.Worlds.{World, lists}
 use Rattle.pfs_store_contract.specs.declared.records.Node.{Node}
 use Rattle.pfs_store_contract.specs.declared.records.Slice.{Slice}
 use Rattle.pfs_store_contract.specs.declared.records.State.{State}
-use Rattle.pfs_engine_machine.specs.Machine.{purged}
+use Rattle.pfs_engine_machine.specs.Machine.{world_after_purges}
 use Rattle.pfs_engine_machine.specs.Shares.{seconds, most_nodes, most_states}
 
 -- the first second that is due
@@ -37,9 +37,9 @@ nodes_seen conf states_conf nodes_conf w between s r hs hn eb e =
     ap (λ (x : Slice). x.examined) (e ∙ (ap (λ (k : Conf). node_slice_of k between s) (hn ∙ hs) ∙ ap (λ (v : World). node_slice_of conf v s) (eb ∙ ap (λ (k : Conf). state_slice k w s) hs)))
 
 pub purged_next : (conf : Conf) (w after all : World) (from to : ℕ) → from < to → after ≡ purge conf w (from + 1)
-    → purged conf w (seconds from to) ≡ all → purged conf after (seconds (from + 1) to) ≡ all
+    → world_after_purges conf w (seconds from to) ≡ all → world_after_purges conf after (seconds (from + 1) to) ≡ all
 purged_next conf w after all from to h ha e =
-    ap (λ (v : World). purged conf v (seconds (from + 1) to)) ha ∙ (sym (ap (purged conf w) (seconds_next from to h)) ∙ e)
+    ap (λ (v : World). world_after_purges conf v (seconds (from + 1) to)) ha ∙ (sym (ap (world_after_purges conf w) (seconds_next from to h)) ∙ e)
 
 pub most_states_next : (conf : Conf) (w after : World) (from to most more all : ℕ) → from < to → after ≡ purge conf w (from + 1)
     → more ≡ max most (state_slice_of conf w (from + 1)).examined → max most (most_states conf w (seconds from to)) ≡ all
@@ -66,9 +66,9 @@ nothing made = lists [] [] [] [] made
 nothing_stays : (conf : Conf) (made s : ℕ) → purge conf (nothing made) s ≡ nothing made
 nothing_stays conf made s = rw (drop-nil, drop-nil) refl
 
-pub purged_nothing : (conf : Conf) (made : ℕ) (ss : List ℕ) → purged conf (nothing made) ss ≡ nothing made
+pub purged_nothing : (conf : Conf) (made : ℕ) (ss : List ℕ) → world_after_purges conf (nothing made) ss ≡ nothing made
 purged_nothing conf made [] = refl
-purged_nothing conf made (s ∷ ss) = ap (λ (w : World). purged conf w ss) (nothing_stays conf made s) ∙ purged_nothing conf made ss
+purged_nothing conf made (s ∷ ss) = ap (λ (w : World). world_after_purges conf w ss) (nothing_stays conf made s) ∙ purged_nothing conf made ss
 
 no_states_examined : (conf : Conf) (made s : ℕ) → (state_slice_of conf (nothing made) s).examined ≡ 0
 no_states_examined conf made s = rw take-nil
@@ -116,7 +116,7 @@ nothing_held conf w s es en =
     let nr = no_round (node_numbers after) w.pending_nodes nodes_round in
     let states = none_mapped (λ (x : State). x.number) w.states sr.0 in
     let kept = none_mapped (λ (x : Node). x.number) after nr.0 in
-    let nodes = none_idled (idled conf w.states (state_slice conf w s).states s) w.nodes kept in
+    let nodes = none_idled (node_after_leaving conf w.states (state_slice conf w s).states s) w.nodes kept in
     rebuilt w.states w.nodes w.pending_states w.pending_nodes w.made states nodes sr.1 nr.1
   where
     rebuilt : (states : List State) (nodes : List Node) (ps pn : List ℕ) (made : ℕ) → states ≡ [] → nodes ≡ [] → ps ≡ [] → pn ≡ [] → lists states nodes ps pn made ≡ nothing made
@@ -125,8 +125,8 @@ nothing_held conf w s es en =
 -- and then all that is due changes nothing
 pub idle_from : (conf : Conf) (w after : World) (s : ℕ) (ss : List ℕ) → (state_slice_of conf w s).examined ≡ 0
     → (node_slice_of conf (state_slice conf w s) s).examined ≡ 0 → after ≡ purge conf w s
-    → (purged conf after ss ≡ after) × (most_states conf after ss ≡ 0) × (most_nodes conf after ss ≡ 0)
+    → (world_after_purges conf after ss ≡ after) × (most_states conf after ss ≡ 0) × (most_nodes conf after ss ≡ 0)
 idle_from conf w after s ss es en e =
     let held = nothing_held conf w s es en in
     let is : after ≡ nothing w.made = e ∙ (ap (λ (v : World). purge conf v s) held ∙ nothing_stays conf w.made s) in
-    (ap (λ (v : World). purged conf v ss) is ∙ (purged_nothing conf w.made ss ∙ sym is), ap (λ (v : World). most_states conf v ss) is ∙ most_states_nothing conf w.made ss, ap (λ (v : World). most_nodes conf v ss) is ∙ most_nodes_nothing conf w.made ss)
+    (ap (λ (v : World). world_after_purges conf v ss) is ∙ (purged_nothing conf w.made ss ∙ sym is), ap (λ (v : World). most_states conf v ss) is ∙ most_states_nothing conf w.made ss, ap (λ (v : World). most_nodes conf v ss) is ∙ most_nodes_nothing conf w.made ss)

@@ -5,14 +5,14 @@ use Rattle.std.proofs.lemmas.Bool.Decides.{nat_tests}
 use Rattle.std.proofs.lemmas.List.Sums.{count_by-le-length, length-filter}
 use Rattle.pfs_conf_values.specs.Configs.{Conf}
 use Rattle.pfs_store_contract.specs.Counts.{node_states}
-use Rattle.pfs_store_contract.specs.Leaving.{idled}
+use Rattle.pfs_store_contract.specs.Leaving.{node_after_leaving}
 use Rattle.pfs_store_contract.specs.Purging.{has_expired, is_among, is_over, node_numbers, node_retention, node_round, node_share, node_slice, node_stays, purge, round, state_numbers, state_round, state_share, state_slice, stays}
 use Rattle.pfs_store_contract.specs.Calls.{node_slice_of, state_slice_of}
-use Rattle.pfs_store_contract.specs.Quiet.{NodeStays, StateStays, moved}
+use Rattle.pfs_store_contract.specs.Quiet.{NodeStays, StateStays, world_after_quiet}
 use Rattle.pfs_store_contract.specs.Worlds.{World, lists}
 use Rattle.pfs_store_contract.specs.declared.records.Node.{Node}
 use Rattle.pfs_store_contract.specs.declared.records.State.{State}
-use Rattle.pfs_engine_machine.specs.Machine.{purged}
+use Rattle.pfs_engine_machine.specs.Machine.{world_after_purges}
 use Rattle.pfs_engine_machine.specs.Shares.{seconds, most_nodes, most_states}
 use Rattle.pfs_engine_machine.specs.Quiet.{IsQuietUntil, IsSeen}
 use Rattle.pfs_engine_machine.proofs.Purging.{most_nodes_next, most_states_next, purged_next}
@@ -32,7 +32,7 @@ filter-all p (x ∷ xs) h = go (λ k. filter-all p xs k) (p x) h
 not-both : (a : ℕ) → (nat_lt 0 a && (a == 0)) ≡ false
 not-both a = grind (arith, nat_tests)
 
-idled-same : (conf : Conf) (states : List State) (now : ℕ) (ns : List Node) → map (idled conf states states now) ns ≡ ns
+idled-same : (conf : Conf) (states : List State) (now : ℕ) (ns : List Node) → map (node_after_leaving conf states states now) ns ≡ ns
 idled-same conf states now [] = refl
 idled-same conf states now (n ∷ ns) =
     (λ i. ap (λ (b : Bool). if b then record n { idle = now } else n) (not-both (node_states conf n.scope n.source states)) i ∷ idled-same conf states now ns i)
@@ -41,11 +41,11 @@ idled-same conf states now (n ∷ ns) =
 
 -- the states that a slice leaves are all, and the nodes too
 second-moves : (conf : Conf) (w : World) (s : ℕ) → filter (stays conf w.states s (take (state_share conf) (state_round w))) w.states ≡ w.states
-    → filter (node_stays conf w.states s (take (node_share conf) (node_round w))) w.nodes ≡ w.nodes → purge conf w s ≡ moved conf 1 w
+    → filter (node_stays conf w.states s (take (node_share conf) (node_round w))) w.nodes ≡ w.nodes → purge conf w s ≡ world_after_quiet conf 1 w
 second-moves conf w s es en =
     let ps = drop (state_share conf) (state_round w) in
     let idle : state_slice conf w s ≡ lists w.states w.nodes ps w.pending_nodes w.made =
-    (λ i. lists (es i) (map (idled conf w.states (es i) s) w.nodes) ps w.pending_nodes w.made)
+    (λ i. lists (es i) (map (node_after_leaving conf w.states (es i) s) w.nodes) ps w.pending_nodes w.made)
     ∙ ap (λ (ns : List Node). lists w.states ns ps w.pending_nodes w.made) (idled-same conf w.states s w.nodes) in
     ap (λ (v : World). node_slice conf v s) idle
     ∙ ap (λ (ns : List Node). lists w.states ns ps (drop (node_share conf) (node_round w)) w.made) en
@@ -59,12 +59,12 @@ half-stood conf w s hs =
     let p = stays conf w.states s (take (state_share conf) (state_round w)) in
     let ps = drop (state_share conf) (state_round w) in
     let es : filter p w.states ≡ w.states = filter-all p w.states (omega (arith, hs)) in
-    (λ i. lists (es i) (map (idled conf w.states (es i) s) w.nodes) ps w.pending_nodes w.made)
+    (λ i. lists (es i) (map (node_after_leaving conf w.states (es i) s) w.nodes) ps w.pending_nodes w.made)
     ∙ ap (λ (ns : List Node). lists w.states ns ps w.pending_nodes w.made) (idled-same conf w.states s w.nodes)
 
 -- where the slices take nothing out, the world is moved
 pub second-stood : (conf : Conf) (w : World) (s : ℕ) → (state_slice_of conf w s).removed ≡ 0 → (node_slice_of conf (state_slice conf w s) s).removed ≡ 0
-    → purge conf w s ≡ moved conf 1 w
+    → purge conf w s ≡ world_after_quiet conf 1 w
 second-stood conf w s hs hn =
     let p = stays conf w.states s (take (state_share conf) (state_round w)) in
     let es : filter p w.states ≡ w.states = filter-all p w.states (omega (arith, hs)) in
@@ -108,25 +108,25 @@ nodes-stay conf held until s examined (n ∷ ns) l (h, hs) =
         let held_on : is_over conf held s n ≡ false = ap (λ b. b && nat_le (n.idle + node_retention conf n.scope) s) e in
         ap (λ b. not (is_among examined n.number && b)) held_on ∙ either-stays (is_among examined n.number)
 
-pub second-quiet : (conf : Conf) (w : World) (until s : ℕ) → IsQuietUntil conf w until → s < until → purge conf w s ≡ moved conf 1 w
+pub second-quiet : (conf : Conf) (w : World) (until s : ℕ) → IsQuietUntil conf w until → s < until → purge conf w s ≡ world_after_quiet conf 1 w
 second-quiet conf w until s q l =
     second-moves conf w s (states-stay conf w.states until s (take (state_share conf) (state_round w)) w.states l q.states)
     (nodes-stay conf w.states until s (take (node_share conf) (node_round w)) w.nodes l q.nodes)
 
 -- ---- so many quiet seconds
 
-quiet-moved : (conf : Conf) (w : World) (until : ℕ) → IsQuietUntil conf w until → IsQuietUntil conf (moved conf 1 w) until
+quiet-moved : (conf : Conf) (w : World) (until : ℕ) → IsQuietUntil conf w until → IsQuietUntil conf (world_after_quiet conf 1 w) until
 quiet-moved conf w until q = record { states = q.states; nodes = q.nodes }
 
 pub seconds-quiet : (conf : Conf) (until to k second : ℕ) (w : World) → IsQuietUntil conf w until → second + k < until → second + k ≤ to
-    → purged conf (moved conf k w) (seconds (second + k) to) ≡ purged conf w (seconds second to)
-seconds-quiet conf until to zero second w q l h = let e : second + 0 ≡ second = omega arith in ap (λ n. purged conf w (seconds n to)) e
+    → world_after_purges conf (world_after_quiet conf k w) (seconds (second + k) to) ≡ world_after_purges conf w (seconds second to)
+seconds-quiet conf until to zero second w q l h = let e : second + 0 ≡ second = omega arith in ap (λ n. world_after_purges conf w (seconds n to)) e
 seconds-quiet conf until to (suc k) second w q l h =
     let e : second + suc k ≡ second + 1 + k = omega arith in
-    let one : moved conf 1 w ≡ purge conf w (second + 1) = sym (second-quiet conf w until (second + 1) q (omega (arith, l))) in
-    ap (λ n. purged conf (moved conf (suc k) w) (seconds n to)) e
-    ∙ seconds-quiet conf until to k (second + 1) (moved conf 1 w) (quiet-moved conf w until q) (omega (arith, l)) (omega (arith, h))
-    ∙ purged_next conf w (moved conf 1 w) (purged conf w (seconds second to)) second to (omega (arith, h)) one refl
+    let one : world_after_quiet conf 1 w ≡ purge conf w (second + 1) = sym (second-quiet conf w until (second + 1) q (omega (arith, l))) in
+    ap (λ n. world_after_purges conf (world_after_quiet conf (suc k) w) (seconds n to)) e
+    ∙ seconds-quiet conf until to k (second + 1) (world_after_quiet conf 1 w) (quiet-moved conf w until q) (omega (arith, l)) (omega (arith, h))
+    ∙ purged_next conf w (world_after_quiet conf 1 w) (world_after_purges conf w (seconds second to)) second to (omega (arith, h)) one refl
 
 -- ---- how many a slice of them examines
 
@@ -147,15 +147,15 @@ seen-moved share most held pending s =
 
 pub states-seen : (conf : Conf) (until to most k second : ℕ) (w : World) → IsQuietUntil conf w until → second + k < until → second + k ≤ to
     → IsSeen (state_share conf) (length (state_numbers w.states)) w.pending_states most
-    → max most (most_states conf (moved conf k w) (seconds (second + k) to)) ≡ max most (most_states conf w (seconds second to))
+    → max most (most_states conf (world_after_quiet conf k w) (seconds (second + k) to)) ≡ max most (most_states conf w (seconds second to))
 states-seen conf until to most zero second w q l h s = let e : second + 0 ≡ second = omega arith in ap (λ n. max most (most_states conf w (seconds n to))) e
 states-seen conf until to most (suc k) second w q l h s =
     let e : second + suc k ≡ second + 1 + k = omega arith in
-    let one : moved conf 1 w ≡ purge conf w (second + 1) = sym (second-quiet conf w until (second + 1) q (omega (arith, l))) in
+    let one : world_after_quiet conf 1 w ≡ purge conf w (second + 1) = sym (second-quiet conf w until (second + 1) q (omega (arith, l))) in
     let few = slice-few (state_share conf) most (state_numbers w.states) w.pending_states s in
-    ap (λ n. max most (most_states conf (moved conf (suc k) w) (seconds n to))) e
-    ∙ states-seen conf until to most k (second + 1) (moved conf 1 w) (quiet-moved conf w until q) (omega (arith, l)) (omega (arith, h)) (seen-moved (state_share conf) most (state_numbers w.states) w.pending_states s)
-    ∙ most_states_next conf w (moved conf 1 w) second to most most (max most (most_states conf w (seconds second to))) (omega (arith, h)) one (omega (arith, few)) refl
+    ap (λ n. max most (most_states conf (world_after_quiet conf (suc k) w) (seconds n to))) e
+    ∙ states-seen conf until to most k (second + 1) (world_after_quiet conf 1 w) (quiet-moved conf w until q) (omega (arith, l)) (omega (arith, h)) (seen-moved (state_share conf) most (state_numbers w.states) w.pending_states s)
+    ∙ most_states_next conf w (world_after_quiet conf 1 w) second to most most (max most (most_states conf w (seconds second to))) (omega (arith, h)) one (omega (arith, few)) refl
 
 -- the nodes are examined in the world after the slice of the states
 node-few : (conf : Conf) (w : World) (until s most : ℕ) → IsQuietUntil conf w until → s < until
@@ -163,19 +163,19 @@ node-few : (conf : Conf) (w : World) (until s most : ℕ) → IsQuietUntil conf 
     → (node_slice_of conf (state_slice conf w s) s).examined ≤ most
 node-few conf w until s most q l n =
     let es = states-stay conf w.states until s (take (state_share conf) (state_round w)) w.states l q.states in
-    let same : (state_slice conf w s).nodes ≡ w.nodes = ap (λ (xs : List State). map (idled conf w.states xs s) w.nodes) es ∙ idled-same conf w.states s w.nodes in
+    let same : (state_slice conf w s).nodes ≡ w.nodes = ap (λ (xs : List State). map (node_after_leaving conf w.states xs s) w.nodes) es ∙ idled-same conf w.states s w.nodes in
     let few = slice-few (node_share conf) most (node_numbers w.nodes) w.pending_nodes n in
     let e = ap (λ (ns : List Node). length (take (node_share conf) (round (node_numbers ns) w.pending_nodes))) same in
     omega (arith, few, e)
 
 pub nodes-seen : (conf : Conf) (until to most k second : ℕ) (w : World) → IsQuietUntil conf w until → second + k < until → second + k ≤ to
     → IsSeen (node_share conf) (length (node_numbers w.nodes)) w.pending_nodes most
-    → max most (most_nodes conf (moved conf k w) (seconds (second + k) to)) ≡ max most (most_nodes conf w (seconds second to))
+    → max most (most_nodes conf (world_after_quiet conf k w) (seconds (second + k) to)) ≡ max most (most_nodes conf w (seconds second to))
 nodes-seen conf until to most zero second w q l h s = let e : second + 0 ≡ second = omega arith in ap (λ n. max most (most_nodes conf w (seconds n to))) e
 nodes-seen conf until to most (suc k) second w q l h s =
     let e : second + suc k ≡ second + 1 + k = omega arith in
-    let one : moved conf 1 w ≡ purge conf w (second + 1) = sym (second-quiet conf w until (second + 1) q (omega (arith, l))) in
+    let one : world_after_quiet conf 1 w ≡ purge conf w (second + 1) = sym (second-quiet conf w until (second + 1) q (omega (arith, l))) in
     let few = node-few conf w until (second + 1) most q (omega (arith, l)) s in
-    ap (λ n. max most (most_nodes conf (moved conf (suc k) w) (seconds n to))) e
-    ∙ nodes-seen conf until to most k (second + 1) (moved conf 1 w) (quiet-moved conf w until q) (omega (arith, l)) (omega (arith, h)) (seen-moved (node_share conf) most (node_numbers w.nodes) w.pending_nodes s)
-    ∙ most_nodes_next conf w (moved conf 1 w) second to most most (max most (most_nodes conf w (seconds second to))) (omega (arith, h)) one (omega (arith, few)) refl
+    ap (λ n. max most (most_nodes conf (world_after_quiet conf (suc k) w) (seconds n to))) e
+    ∙ nodes-seen conf until to most k (second + 1) (world_after_quiet conf 1 w) (quiet-moved conf w until q) (omega (arith, l)) (omega (arith, h)) (seen-moved (node_share conf) most (node_numbers w.nodes) w.pending_nodes s)
+    ∙ most_nodes_next conf w (world_after_quiet conf 1 w) second to most most (max most (most_nodes conf w (seconds second to))) (omega (arith, h)) one (omega (arith, few)) refl

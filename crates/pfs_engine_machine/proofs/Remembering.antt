@@ -11,12 +11,12 @@ use Rattle.pfs_engine_machine.proofs.Counts.{any-map}
 use Rattle.pfs_engine_machine.proofs.Scopes.{same_scope_true}
 use Rattle.pfs_engine_machine.specs.Kept.{own_scope}
 use Rattle.pfs_store_contract.specs.Counts.{has_node, is_node, node_states, same_scope}
-use Rattle.pfs_store_contract.specs.Leaving.{idled}
+use Rattle.pfs_store_contract.specs.Leaving.{node_after_leaving}
 use Rattle.pfs_store_contract.specs.Purging.{is_among, is_over, node_retention, node_stays}
 use Rattle.pfs_store_contract.specs.declared.records.Node.{Node}
 use Rattle.pfs_store_contract.specs.declared.records.NodeScope.{NodeScope}
 use Rattle.pfs_store_contract.specs.declared.records.State.{State}
-use Rattle.pfs_track.specs.Scores.{decayed, score_after, zero_score}
+use Rattle.pfs_track.specs.Scores.{decayed_score, score_after, zero_score}
 use Rattle.pfs_track.specs.declared.scores.Score.{Score}
 use Rattle.pfs_engine_machine.proofs.Lists.{both, each-filter, each-map, each-of}
 
@@ -26,7 +26,7 @@ use Rattle.pfs_engine_machine.proofs.Lists.{both, each-filter, each-map, each-of
 abbrev pub Agrees : ℕ → ℕ → Score → Score → Type 0
 Agrees seconds now x y = (t : ℕ) → now ≤ t → score_after seconds x t ≡ score_after seconds y t
 
-decayed_zero : (seconds d : ℕ) → decayed seconds 0 d ≡ 0
+decayed_zero : (seconds d : ℕ) → decayed_score seconds 0 d ≡ 0
 decayed_zero seconds d = go (nat_le seconds d)
   where
     less : (x : ℕ) → 0 - x ≡ 0
@@ -36,7 +36,7 @@ decayed_zero seconds d = go (nat_le seconds d)
     go true = refl
     go false = less (0 * d / seconds)
 
-decayed_late : (seconds value d : ℕ) → seconds ≤ d → decayed seconds value d ≡ 0
+decayed_late : (seconds value d : ℕ) → seconds ≤ d → decayed_score seconds value d ≡ 0
 decayed_late seconds value d h = let e : nat_le seconds d ≡ true = grind (arith, nat_tests) in rw e refl
 
 -- a score whose time is over is no other than none
@@ -94,7 +94,7 @@ count-of-node conf scope source n states e =
     ap (λ (x : NodeScope). node_states conf x n.source states) (scope-of-node scope source n e) ∙ ap (λ (a : Addr). node_states conf scope a states) (source-of-node scope source n e)
 
 node-idled : (conf : Conf) (before after : List State) (now : ℕ) (scope : NodeScope) (source : Addr) (n : Node)
-    → is_node scope source (idled conf before after now n) ≡ is_node scope source n
+    → is_node scope source (node_after_leaving conf before after now n) ≡ is_node scope source n
 node-idled conf before after now scope source n =
     go (nat_lt 0 (node_states conf n.scope n.source before) && (node_states conf n.scope n.source after == 0))
   where
@@ -104,7 +104,7 @@ node-idled conf before after now scope source n =
 
 knows-idled : (conf : Conf) (before after : List State) (rule : ℕ) (source : Addr) (seconds now : ℕ) (history : Score) (n : Node)
     → is_node (own_scope rule) source n ≡ true → Knows seconds now history (node_states conf (own_scope rule) source before) n
-    → Knows seconds now history (node_states conf (own_scope rule) source after) (idled conf before after now n)
+    → Knows seconds now history (node_states conf (own_scope rule) source after) (node_after_leaving conf before after now n)
 knows-idled conf before after rule source seconds now history n e k =
     go (nat_lt 0 (node_states conf n.scope n.source before) && (node_states conf n.scope n.source after == 0)) refl
   where
@@ -125,12 +125,12 @@ knows-idled conf before after rule source seconds now history n e k =
 pub remembers-left : (conf : Conf) (before after : List State) (rule : ℕ) (source : Addr) (seconds now : ℕ) (history : Score) (nodes : List Node)
     → node_states conf (own_scope rule) source after ≤ node_states conf (own_scope rule) source before
     → Remembers rule source seconds now history (node_states conf (own_scope rule) source before) nodes
-    → Remembers rule source seconds now history (node_states conf (own_scope rule) source after) (map (idled conf before after now) nodes)
+    → Remembers rule source seconds now history (node_states conf (own_scope rule) source after) (map (node_after_leaving conf before after now) nodes)
 remembers-left conf before after rule source seconds now history nodes fewer r =
-    let same = any-map (is_node (own_scope rule) source) (idled conf before after now) (node-idled conf before after now (own_scope rule) source) nodes in
+    let same = any-map (is_node (own_scope rule) source) (node_after_leaving conf before after now) (node-idled conf before after now (own_scope rule) source) nodes in
     record {
       nodes = each-map (IsKnown rule source seconds now history (node_states conf (own_scope rule) source before))
-          (IsKnown rule source seconds now history (node_states conf (own_scope rule) source after)) (idled conf before after now)
+          (IsKnown rule source seconds now history (node_states conf (own_scope rule) source after)) (node_after_leaving conf before after now)
           (λ n f e. let g : is_node (own_scope rule) source n ≡ true = sym (node-idled conf before after now (own_scope rule) source n) ∙ e in
           knows-idled conf before after rule source seconds now history n g (f g)) nodes r.nodes;
       absent = λ e. r.absent (sym same ∙ e);

@@ -5,7 +5,7 @@ use Rattle.pfs_addr_values.specs.Packets.{Header}
 use Rattle.pfs_addr_values.specs.declared.flag_sets.Flags.{Flags}
 use Rattle.pfs_addr_values.specs.declared.protocols.Proto.{Proto}
 use Rattle.pfs_addr_values.specs.declared.protocols.Proto.TheVariants as proto
-use Rattle.pfs_store_contract.specs.Touching.{goes_forward, renewed, stepped}
+use Rattle.pfs_store_contract.specs.Touching.{goes_forward, numbered_state_after, state_after_packet}
 use Rattle.pfs_store_contract.specs.declared.records.State.{State}
 use Rattle.pfs_track.specs.StatePhases.{completes, is_done, phase_after}
 use Rattle.pfs_track.specs.declared.state_phases.StatePhase.{StatePhase}
@@ -54,17 +54,17 @@ pub record IsSameState (before after : State) : Type 0 where
   pub source : after.source ≡ before.source
   pub rule : after.rule ≡ before.rule
 
-pub renewed-same : (number : ℕ) (p : Header) (now : ℕ) (s : State) → IsSameState s (renewed number p now s)
+pub renewed-same : (number : ℕ) (p : Header) (now : ℕ) (s : State) → IsSameState s (numbered_state_after number p now s)
 renewed-same number p now s = go (s.number == number)
   where
-    go : (b : Bool) → IsSameState s (if b then stepped p now s else s)
+    go : (b : Bool) → IsSameState s (if b then state_after_packet p now s else s)
     go true = record { number = refl; key = refl; source = refl; rule = refl }
     go false = record { number = refl; key = refl; source = refl; rule = refl }
 
 pub renewed-phase : (number : ℕ) (p : Header) (now : ℕ) (s : State) → IsPhaseOf s.key.proto s.phase
-    → IsPhaseOf (renewed number p now s).key.proto (renewed number p now s).phase
+    → IsPhaseOf (numbered_state_after number p now s).key.proto (numbered_state_after number p now s).phase
 renewed-phase number p now s h = go (s.number == number)
   where
-    go : (b : Bool) → IsPhaseOf (if b then stepped p now s else s).key.proto (if b then stepped p now s else s).phase
+    go : (b : Bool) → IsPhaseOf (if b then state_after_packet p now s else s).key.proto (if b then state_after_packet p now s else s).phase
     go true = IsPhaseOf-after s.key.proto s.phase (goes_forward p s) p.flags h
     go false = h

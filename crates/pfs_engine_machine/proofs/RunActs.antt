@@ -2,7 +2,7 @@
 use Rattle.std.proofs.Common.{◌≡◌, ℕ, List, [], ◌∷◌, ◌++◌, map, refl, sym, ◌∙◌, Some}
 use Rattle.pfs_conf_values.specs.Configs.{Conf}
 use Rattle.pfs_store_contract.specs.Purging.{purge}
-use Rattle.pfs_engine_machine.specs.Machine.{Held, Machine, handled, advanced, due, first_by, held_of, purged, step, machine_after}
+use Rattle.pfs_engine_machine.specs.Machine.{Held, Machine, answer_to_arrival, machine_at_moment, due, first_moment, held_of, world_after_purges, step, machine_after}
 use Rattle.pfs_engine_machine.specs.declared.events.Event.{Event}
 use Rattle.pfs_engine_machine.specs.declared.events.Arrival.{Arrival}
 use Rattle.pfs_engine_machine.specs.declared.events.Arrival.TheVariants as arrival
@@ -13,12 +13,12 @@ done_all-append conf h [] ys = refl
 done_all-append conf h (x ∷ xs) ys = done_all-append conf (act_done conf h x) xs ys
 
 purges-done : (conf : Conf) (h : Held) (ss : List ℕ) (rest : List RunAct)
-    → acts_done conf h (map (λ s. Purge s) ss ++ rest) ≡ acts_done conf (held_of (purged conf h.world ss) h.tables) rest
+    → acts_done conf h (map (λ s. Purge s) ss ++ rest) ≡ acts_done conf (held_of (world_after_purges conf h.world ss) h.tables) rest
 purges-done conf h [] rest = refl
 purges-done conf h (s ∷ ss) rest = purges-done conf (held_of (purge conf h.world s) h.tables) ss rest
 
 arrivals-done : (conf : Conf) (h : Held) (first now : ℕ) (what : Arrival) (rest : List RunAct)
-    → acts_done conf h (arrivals first now what ++ rest) ≡ acts_done conf (handled conf h first now what).1 rest
+    → acts_done conf h (arrivals first now what ++ rest) ≡ acts_done conf (answer_to_arrival conf h first now what).1 rest
 arrivals-done conf h first now arrival.Skip rest = refl
 arrivals-done conf h first now (arrival.Packet p) rest = refl
 arrivals-done conf h first now (arrival.Expire table seconds) rest = refl
@@ -27,7 +27,7 @@ pub acts-done : (conf : Conf) (m : Machine) (es : List Event) → (machine_after
 unfolding machine_after step
 acts-done conf m [] = refl
 acts-done conf m (e ∷ es) =
-    let first = first_by m.first e.time in
+    let first = first_moment m.first e.time in
     let rest = acts_from (Some first) (Some e.time) es in
     acts-done conf (step conf m e).1 es
-    ∙ sym (purges-done conf m.held (due m.last e.time) (arrivals first e.time e.what ++ rest) ∙ arrivals-done conf (advanced conf m e.time).held first e.time e.what rest)
+    ∙ sym (purges-done conf m.held (due m.last e.time) (arrivals first e.time e.what ++ rest) ∙ arrivals-done conf (machine_at_moment conf m e.time).held first e.time e.what rest)

@@ -5,7 +5,7 @@ use Rattle.pfs_conf_values.specs.Configs.{Conf}
 use Rattle.pfs_engine_machine.specs.declared.events.Event.{Event}
 use Rattle.pfs_engine_machine.specs.declared.events.Outcome.{Outcome}
 use Rattle.pfs_engine_machine.specs.Machine.{Machine, step, machine_after, outcomes_of}
-use Rattle.pfs_engine_machine.specs.Runs.{MayCome, AreAllowed, IsInOrder, packets_in, taken_by}
+use Rattle.pfs_engine_machine.specs.Runs.{MayCome, AreAllowed, IsInOrder, packets_in, packets_of}
 
 -- one event more
 pub machine_after-push : (conf : Conf) (m : Machine) (xs : List Event) (e : Event) → machine_after conf m (xs ++ e ∷ []) ≡ (step conf (machine_after conf m xs) e).1
@@ -47,13 +47,13 @@ outcomes_none conf m before = sym (append-nil before)
 
 -- ---- how many packets were taken
 
-packets_in-push : (xs : List Event) (e : Event) → packets_in (xs ++ e ∷ []) ≡ packets_in xs + taken_by e.what
+packets_in-push : (xs : List Event) (e : Event) → packets_in (xs ++ e ∷ []) ≡ packets_in xs + packets_of e.what
 unfolding packets_in
 packets_in-push [] e = omega arith
 packets_in-push (x ∷ xs) e = omega (arith, packets_in-push xs e)
 
 pub taken_next : (before taken more : ℕ) (es : List Event) (i : ℕ) (d : Event) → i < length es → taken ≡ before + packets_in (take i es)
-    → more ≡ taken + taken_by (get_or es i d).what → more ≡ before + packets_in (take (i + 1) es)
+    → more ≡ taken + packets_of (get_or es i d).what → more ≡ before + packets_in (take (i + 1) es)
 taken_next before taken more es i d h e m =
     let next = ap packets_in (take_more es i d h) ∙ packets_in-push (take i es) (get_or es i d) in
     omega (arith, next, e, m)

@@ -9,7 +9,7 @@ use Rattle.pfs_addr_values.specs.declared.addresses.Addr.{Addr}
 use Rattle.pfs_conf_values.specs.Configs.{Conf, scope_of}
 use Rattle.pfs_conf_values.specs.declared.actions.Scope.{Scope}
 use Rattle.pfs_conf_values.specs.declared.actions.Scope.TheVariants as scope
-use Rattle.pfs_store_contract.specs.Counts.{has_node, in_scope, is_of_node, node_scope_by, node_scope_of, node_states, same_scope}
+use Rattle.pfs_store_contract.specs.Counts.{has_node, in_scope, is_of_node, node_scope_under, node_scope_of, node_states, same_scope}
 use Rattle.pfs_conf_values.specs.Bounds.{is_global}
 use Rattle.pfs_store_contract.specs.declared.records.Node.{Node}
 use Rattle.pfs_store_contract.specs.declared.records.NodeScope.{NodeScope}
@@ -43,28 +43,28 @@ IsScopeOf conf scope = (rule : ℕ) → in_scope conf scope rule ≡ true → no
 pub own_scope-IsScopeOf : (conf : Conf) (rule : ℕ) → TracksAlone conf rule → IsScopeOf conf (own_scope rule)
 own_scope-IsScopeOf conf rule alone other h =
     let same : other ≡ rule = grind (arith, nat_tests) in
-    ap (node_scope_of conf) same ∙ ap (node_scope_by rule) alone
+    ap (node_scope_of conf) same ∙ ap (node_scope_under rule) alone
 
 pub global-IsScopeOf : (conf : Conf) → IsScopeOf conf node_scope.Global
 global-IsScopeOf conf rule h = by (scope_of conf rule) h
   where
-    by : (o : Option Scope) → is_global o ≡ true → node_scope_by rule o ≡ Some node_scope.Global
+    by : (o : Option Scope) → is_global o ≡ true → node_scope_under rule o ≡ Some node_scope.Global
     by None k = absurd (false≢true k)
     by (Some scope.Rule) k = absurd (false≢true k)
     by (Some scope.Global) k = refl
 
 -- a rule's own scope is that of the rule alone
 pub scope-alone : (conf : Conf) (rule : ℕ) → TracksAlone conf rule → node_scope_of conf rule ≡ Some (own_scope rule)
-scope-alone conf rule alone = ap (node_scope_by rule) alone
+scope-alone conf rule alone = ap (node_scope_under rule) alone
 
 pub scope-shared : (conf : Conf) (rule : ℕ) → scope_of conf rule ≡ Some scope.Global → node_scope_of conf rule ≡ Some node_scope.Global
-scope-shared conf rule shared = ap (node_scope_by rule) shared
+scope-shared conf rule shared = ap (node_scope_under rule) shared
 
 -- a rule counts in its scope
 pub in_scope-own : (conf : Conf) (rule : ℕ) (found : NodeScope) → node_scope_of conf rule ≡ Some found → in_scope conf found rule ≡ true
 in_scope-own conf rule found h = by (scope_of conf rule) refl h
   where
-    by : (o : Option Scope) → scope_of conf rule ≡ o → node_scope_by rule o ≡ Some found → in_scope conf found rule ≡ true
+    by : (o : Option Scope) → scope_of conf rule ≡ o → node_scope_under rule o ≡ Some found → in_scope conf found rule ≡ true
     by None e k = absurd cc
     by (Some scope.Rule) e k =
         let is : node_scope.Rule (record { 0 = rule }) ≡ found = cc in

@@ -9,13 +9,13 @@ use Rattle.pfs_conf_values.specs.Configs.{Conf, limit_of, options_of}
 use Rattle.pfs_conf_values.specs.declared.actions.Rate.{Rate}
 use Rattle.pfs_conf_values.specs.declared.limits.LimitName.TheVariants as limit_name
 use Rattle.pfs_store_contract.proofs.LimitLaws.{met_in_turn}
-use Rattle.pfs_store_contract.specs.Admission.{admitted, new_node, new_state, nodes_with}
+use Rattle.pfs_store_contract.specs.Admission.{world_after_admission, new_node, new_state, nodes_with}
 use Rattle.pfs_store_contract.specs.Calls.{packet_limit}
 use Rattle.pfs_store_contract.specs.SourceLimits.{first_of, held_node_limit, new_node_limit, source_limit}
-use Rattle.pfs_store_contract.specs.Counts.{has_node, node_scope_of, reached, rule_states, scope_nodes}
-use Rattle.pfs_store_contract.specs.Leaving.{idled, left, without}
+use Rattle.pfs_store_contract.specs.Counts.{has_node, node_scope_of, reaches_maximum, rule_states, scope_nodes}
+use Rattle.pfs_store_contract.specs.Leaving.{node_after_leaving, world_with_stay, world_without}
 use Rattle.pfs_store_contract.specs.Purging.{is_among, node_numbers, node_round, node_share, node_slice, node_stays, round, state_numbers, state_round, state_share, state_slice, stays}
-use Rattle.pfs_store_contract.specs.Touching.{completes_at, nodes_scored, nodes_touched, renewed, rescored, touched}
+use Rattle.pfs_store_contract.specs.Touching.{completes_at, nodes_scored, nodes_touched, numbered_state_after, node_after_handshake, world_after_touch}
 use Rattle.pfs_store_contract.specs.Worlds.{World, empty_world, holds_number}
 use Rattle.pfs_store_contract.specs.declared.records.Limit.{Limit}
 use Rattle.pfs_store_contract.specs.declared.records.Limit.TheVariants as limit
@@ -71,7 +71,7 @@ nodes-admitted conf w rule source (Some scope) e h = go (has_node scope source w
         → length (cond b w.nodes (w.nodes ++ new ∷ [])) ≤ node_limit conf
     go true k = h
     go false k =
-        omega (arith, length-append w.nodes (new ∷ []), later_room (reached (options_of conf rule).max_src_nodes (scope_nodes scope w.nodes)) (node_limit conf) (length w.nodes) limit.MaxSrcNodes limit.SrcNodes k)
+        omega (arith, length-append w.nodes (new ∷ []), later_room (reaches_maximum (options_of conf rule).max_src_nodes (scope_nodes scope w.nodes)) (node_limit conf) (length w.nodes) limit.MaxSrcNodes limit.SrcNodes k)
 
 made-admitted : (nodes : List Node) (made : ℕ) (source : Addr) (o : Option NodeScope) → ((n : ℕ) → is_among (node_numbers nodes) n ≡ true → n ≤ made)
     → (n : ℕ) → is_among (node_numbers (nodes_with nodes (made + 1) source o)) n ≡ true → n ≤ made + 1
@@ -85,10 +85,10 @@ made-admitted nodes made source (Some scope) h n k = go (has_node scope source n
     go true e = omega (arith, h n e)
     go false e = made-more (λ (d : Node). d.number) made nodes new refl h n e
 
-small-admitted : (conf : Conf) (w : World) (p : Header) (rule now : ℕ) → packet_limit conf w p rule ≡ None → IsSmall conf w → IsSmall conf (admitted conf w p rule now)
+small-admitted : (conf : Conf) (w : World) (p : Header) (rule now : ℕ) → packet_limit conf w p rule ≡ None → IsSmall conf w → IsSmall conf (world_after_admission conf w p rule now)
 small-admitted conf w p rule now e k =
     let new : State = new_state (w.made + 1) p rule now in
-    let a = none_of (cond (reached (options_of conf rule).max (rule_states rule w.states)) (Some limit.Max) None) _ (sym (met_in_turn conf w rule p.source.addr) ∙ e) in
+    let a = none_of (cond (reaches_maximum (options_of conf rule).max (rule_states rule w.states)) (Some limit.Max) None) _ (sym (met_in_turn conf w rule p.source.addr) ∙ e) in
     let b = none_of (source_limit conf w (options_of conf rule) p.source.addr (node_scope_of conf rule)) (cond (nat_le (state_limit conf) (length w.states)) (Some limit.States) None) a.1 in
     record {
       states = omega (arith, length-append w.states (new ∷ []), room (state_limit conf) (length w.states) limit.States b.1);
@@ -104,15 +104,15 @@ small-admitted conf w p rule now e k =
 length-scored : (ns : List Node) (source : Addr) (now : ℕ) (scope : Option NodeScope) (rate : Option Rate) → length (nodes_scored ns source now scope rate) ≡ length ns
 length-scored ns source now None rate = refl
 length-scored ns source now (Some scope) None = refl
-length-scored ns source now (Some scope) (Some rate) = length-map ns (rescored scope source rate.seconds now)
+length-scored ns source now (Some scope) (Some rate) = length-map ns (node_after_handshake scope source rate.seconds now)
 
 length-touched : (conf : Conf) (ns : List Node) (s : State) (now : ℕ) (completes : Bool) → length (nodes_touched conf ns s now completes) ≡ length ns
 length-touched conf ns s now true = length-scored ns s.source now (node_scope_of conf s.rule.0) (options_of conf s.rule.0).max_src_conn_rate
 length-touched conf ns s now false = refl
 
-small-touched : (conf : Conf) (w : World) (s : State) (p : Header) (now : ℕ) → IsSmall conf w → IsSmall conf (touched conf w s p now)
+small-touched : (conf : Conf) (w : World) (s : State) (p : Header) (now : ℕ) → IsSmall conf w → IsSmall conf (world_after_touch conf w s p now)
 small-touched conf w s p now k = record {
-  states = omega (arith, length-map w.states (renewed s.number p now), k.states);
+  states = omega (arith, length-map w.states (numbered_state_after s.number p now), k.states);
   nodes = omega (arith, length-touched conf w.nodes s now (completes_at p s), k.nodes);
   pending_states = k.pending_states;
   pending_nodes = k.pending_nodes;
@@ -123,17 +123,17 @@ small-touched conf w s p now k = record {
 -- ---- fewer
 
 small-left : (conf : Conf) (w : World) (p : State → Bool) (pending : List ℕ) (now : ℕ) → length pending ≤ state_limit conf → IsSmall conf w
-    → IsSmall conf (left conf w (filter p w.states) pending now)
+    → IsSmall conf (world_with_stay conf w (filter p w.states) pending now)
 small-left conf w p pending now few k = record {
   states = omega (arith, length-filter-le p w.states, k.states);
-  nodes = omega (arith, length-map w.nodes (idled conf w.states (filter p w.states) now), k.nodes);
+  nodes = omega (arith, length-map w.nodes (node_after_leaving conf w.states (filter p w.states) now), k.nodes);
   pending_states = few;
   pending_nodes = k.pending_nodes;
   state_made = λ n h. k.state_made n (was (λ (s : State). s.number) p n w.states h);
   node_made = λ n h. k.node_made n (among-same n _ _ (numbers-idled conf w.states (filter p w.states) now w.nodes) h);
 }
 
-small-without : (conf : Conf) (w : World) (stay : State → Bool) (now : ℕ) → IsSmall conf w → IsSmall conf (without conf w stay now)
+small-without : (conf : Conf) (w : World) (stay : State → Bool) (now : ℕ) → IsSmall conf w → IsSmall conf (world_without conf w stay now)
 small-without conf w stay now k =
     let still = holds_number (filter stay w.states) in
     small-left conf w stay (filter still w.pending_states) now (omega (arith, length-filter-le still w.pending_states, k.pending_states)) k

@@ -10,7 +10,7 @@ use Rattle.pfs_conf_values.specs.Invariants.{IsConfig}
 use Rattle.pfs_conf_values.specs.declared.timeouts.TimeoutName.TheVariants as timeout
 use Rattle.pfs_store_contract.specs.Admission.{new_node, new_state, nodes_with}
 use Rattle.pfs_store_contract.specs.Counts.{has_node, node_scope_of}
-use Rattle.pfs_store_contract.specs.Leaving.{left}
+use Rattle.pfs_store_contract.specs.Leaving.{world_with_stay}
 use Rattle.pfs_store_contract.specs.Purging.{has_expired, is_among, is_over, node_numbers, node_share, purge, round, share, state_numbers, state_share, state_slice}
 use Rattle.pfs_store_contract.specs.Touching.{completes_at}
 use Rattle.pfs_store_contract.specs.Worlds.{World, holds_number}
@@ -160,7 +160,7 @@ record NodeAwaits (conf : Conf) (k n : ℕ) (w : World) : Type 0 where
 
 -- states that leave leave the nodes there
 node-left : (conf : Conf) (k n : ℕ) (w : World) (states : List State) (pending : List ℕ) (now : ℕ) → NodeAwaits conf k n w
-    → NodeAwaits conf k n (left conf w states pending now)
+    → NodeAwaits conf k n (world_with_stay conf w states pending now)
 node-left conf k n w states pending now h = record {
   made = h.made;
   fate = fate-same (node_share conf) (interval_of conf) k n _ _ w.pending_nodes (numbers-idled conf w.states states now w.nodes) h.fate;

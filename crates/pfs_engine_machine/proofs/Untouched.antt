@@ -11,7 +11,7 @@ use Rattle.pfs_conf_values.specs.Configs.{Conf}
 use Rattle.pfs_conf_values.specs.Invariants.{IsConfig}
 use Rattle.pfs_store_contract.specs.Admission.{new_state}
 use Rattle.pfs_store_contract.specs.Purging.{has_expired, is_among, state_numbers, state_round, state_share, stays}
-use Rattle.pfs_store_contract.specs.Touching.{renewed, stepped, touched}
+use Rattle.pfs_store_contract.specs.Touching.{numbered_state_after, state_after_packet, world_after_touch}
 use Rattle.pfs_store_contract.specs.Worlds.{World, holds_number, state_with}
 use Rattle.pfs_store_contract.specs.declared.records.State.{State}
 use Rattle.pfs_engine_machine.proofs.Numbers.{Rise-filter, Rise-map}
@@ -39,7 +39,7 @@ record AreNumbered (w : World) : Type 0 where
 
 numbered-packets : (conf : Conf) → IsKeptByPackets conf AreNumbered
 numbered-packets conf = record {
-  touches = λ w s p now h. record { rise = Rise-map (renewed s.number p now) (λ t. (renewed-same s.number p now t).number) 0 w.made w.states h.rise };
+  touches = λ w s p now h. record { rise = Rise-map (numbered_state_after s.number p now) (λ t. (renewed-same s.number p now t).number) 0 w.made w.states h.rise };
   kills = λ w stay now h. record { rise = Rise-filter stay 0 w.made w.states h.rise };
   admits = λ w p rule now none h. record { rise = Rise-push 0 w.made w.states (new_state (w.made + 1) p rule now) refl h.rise };
 }
@@ -89,14 +89,14 @@ record IsAsBefore (s : State) (w : World) : Type 0 where
   same : AllByRecursion (λ (t : State). t.number ≡ s.number → t ≡ s) w.states
 
 before-touched : (conf : Conf) (s : State) (w : World) (x : State) (p : Header) (now : ℕ) → (x.number ≡ s.number → ⊥) → IsAsBefore s w
-    → IsAsBefore s (touched conf w x p now)
+    → IsAsBefore s (world_after_touch conf w x p now)
 before-touched conf s w x p now other h = record {
   made = h.made;
-  same = each-map (λ (t : State). t.number ≡ s.number → t ≡ s) (λ (t : State). t.number ≡ s.number → t ≡ s) (renewed x.number p now) (λ t f. one t f (t.number == x.number) refl) w.states h.same;
+  same = each-map (λ (t : State). t.number ≡ s.number → t ≡ s) (λ (t : State). t.number ≡ s.number → t ≡ s) (numbered_state_after x.number p now) (λ t f. one t f (t.number == x.number) refl) w.states h.same;
 }
   where
     one : (t : State) → (t.number ≡ s.number → t ≡ s) → (b : Bool) → (t.number == x.number) ≡ b
-        → (cond b (stepped p now t) t).number ≡ s.number → cond b (stepped p now t) t ≡ s
+        → (cond b (state_after_packet p now t) t).number ≡ s.number → cond b (state_after_packet p now t) t ≡ s
     one t f false e n = f n
     one t f true e n = let same : t.number ≡ x.number = grind (arith, nat_tests) in absurd (other (sym same ∙ n))
 

@@ -6,7 +6,7 @@ use Rattle.pfs_conf_values.specs.Invariants.{IsConfig}
 use Rattle.pfs_engine_machine.proofs.KeptPackets.{kept_answered}
 use Rattle.pfs_engine_machine.proofs.KeptTime.{kept_expired, kept_later, kept_purge, kept_start}
 use Rattle.pfs_engine_machine.specs.Kept.{IsKept, IsWithinLimits, moment_of}
-use Rattle.pfs_engine_machine.specs.Machine.{Held, due, first_by, start}
+use Rattle.pfs_engine_machine.specs.Machine.{Held, due, first_moment, start}
 use Rattle.pfs_engine_machine.specs.Runs.{IsInOrder}
 use Rattle.pfs_engine_machine.specs.declared.events.Event.{Event}
 use Rattle.pfs_engine_machine.specs.declared.events.Arrival.{Arrival}
@@ -44,7 +44,7 @@ ordered-arrivals first now (arrival.Expire table seconds) rest o = o
 acts-ordered : (first last : Option ℕ) (es : List Event) → IsInOrder last es → AreOrdered (moment_of last) (acts_from first last es)
 acts-ordered first last [] o = tt
 acts-ordered first last (e ∷ es) o =
-    let from = first_by first e.time in
+    let from = first_moment first e.time in
     let later = acts_from (Some from) (Some e.time) es in
     let rest = ordered-arrivals from e.time e.what later (acts-ordered (Some from) (Some e.time) es o.2) in
     ordered-purges (moment_of last) (due last e.time) (arrivals from e.time e.what ++ later)

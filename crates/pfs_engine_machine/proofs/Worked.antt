@@ -1,7 +1,7 @@
 -- Worked runs of the machine, each by computation.
 use Rattle.std.proofs.Common.{◌≡◌, ℕ, Bool, true, false, Option, None, Some, List, [], ◌∷◌, ◌++◌, refl}
 use Rattle.pfs_addr_values.specs.Packets.{Header}
-use Rattle.pfs_addr_values.specs.Prefixes.{cleared, covers}
+use Rattle.pfs_addr_values.specs.Prefixes.{cleared_addr, covers}
 use Rattle.pfs_addr_values.specs.declared.addresses.Addr.{Addr}
 use Rattle.pfs_addr_values.specs.declared.addresses.Addr.TheVariants.{V4}
 use Rattle.pfs_addr_values.specs.declared.flag_sets.Flags.{Flags}
@@ -166,12 +166,12 @@ guarded_outcomes killed =
 
 flushed_by_rule : run_of (guarded (Some (record { table = record { 0 = 0 }; flush = Some scope.Rule }))) two_handshakes
     ≡ (guarded_outcomes 2, (1, 1, 1))
-unfolding outcomes_of machine_after step verdict matches_item table_answer covers cleared
+unfolding outcomes_of machine_after step verdict matches_item table_answer covers cleared_addr
 flushed_by_rule = refl
 
 flushed_by_source : run_of (guarded (Some (record { table = record { 0 = 0 }; flush = Some scope.Global }))) two_handshakes
     ≡ (guarded_outcomes 3, (0, 1, 1))
-unfolding outcomes_of machine_after step verdict matches_item table_answer covers cleared
+unfolding outcomes_of machine_after step verdict matches_item table_answer covers cleared_addr
 flushed_by_source = refl
 
 -- ---- the rate of a source outlives its states
@@ -321,7 +321,7 @@ entries_expire : run_of expiring
           ∷ [],
       (1, 1, 0),
     )
-unfolding outcomes_of machine_after step verdict matches_item table_answer covers cleared
+unfolding outcomes_of machine_after step verdict matches_item table_answer covers cleared_addr
 entries_expire = refl
 
 text_entries_stay : run_of expiring (nothing 100 ∷ expire 100 0 5 ∷ []) ≡ (outcome.Skip ∷ outcome.Expire 0 ∷ [], (0, 0, 1))

@@ -4,7 +4,7 @@ use Rattle.pfs_addr_values.specs.Packets.{Header}
 use Rattle.pfs_conf_values.specs.Configs.{Conf}
 use Rattle.pfs_store_contract.specs.Purging.{purge}
 use Rattle.pfs_engine_machine.specs.Kept.{IsWithinLimits}
-use Rattle.pfs_engine_machine.specs.Machine.{Held, answered, due, expired, first_by, held_of, start}
+use Rattle.pfs_engine_machine.specs.Machine.{Held, answer_to_packet, due, answer_to_expire, first_moment, held_of, start}
 use Rattle.pfs_engine_machine.specs.declared.events.Event.{Event}
 use Rattle.pfs_engine_machine.specs.declared.events.Arrival.{Arrival}
 use Rattle.pfs_engine_machine.specs.declared.events.Arrival.TheVariants as arrival
@@ -25,7 +25,7 @@ arrivals first now (arrival.Expire table seconds) = Expire first now table.0 sec
 abbrev pub acts_from : Option ℕ → Option ℕ → List Event → List RunAct
 acts_from first last [] = []
 acts_from first last (e ∷ es) =
-    map (λ s. Purge s) (due last e.time) ++ (arrivals (first_by first e.time) e.time e.what ++ acts_from (Some (first_by first e.time)) (Some e.time) es)
+    map (λ s. Purge s) (due last e.time) ++ (arrivals (first_moment first e.time) e.time e.what ++ acts_from (Some (first_moment first e.time)) (Some e.time) es)
 
 -- from its last moment on, where it has none before
 abbrev pub acts_of : Option ℕ → List Event → List RunAct
@@ -34,8 +34,8 @@ acts_of last es = acts_from None last es
 -- what is held after one of them, after all of them, and after the first of a run
 abbrev pub act_done : Conf → Held → RunAct → Held
 act_done conf h (Purge s) = held_of (purge conf h.world s) h.tables
-act_done conf h (Arrive now p) = (answered conf h p now).1
-act_done conf h (Expire first now table seconds) = (expired h first now table seconds).1
+act_done conf h (Arrive now p) = (answer_to_packet conf h p now).1
+act_done conf h (Expire first now table seconds) = (answer_to_expire h first now table seconds).1
 
 abbrev pub acts_done : Conf → Held → List RunAct → Held
 acts_done conf h [] = h

@@ -15,11 +15,11 @@ use Rattle.pfs_conf_values.specs.declared.actions.Action.TheVariants as action
 use Rattle.pfs_conf_values.specs.declared.actions.Overload.{Overload}
 use Rattle.pfs_conf_values.specs.declared.items.RuleNo.{RuleNo}
 use Rattle.pfs_conf_values.specs.declared.limits.LimitName.TheVariants as limit_name
-use Rattle.pfs_store_contract.specs.Admission.{admitted, limit_met}
+use Rattle.pfs_store_contract.specs.Admission.{world_after_admission, limit_met}
 use Rattle.pfs_store_contract.specs.Handshakes.{flush_of, goes_with, hits_connections, hits_rate, stays_at_kill}
-use Rattle.pfs_store_contract.specs.Leaving.{without}
+use Rattle.pfs_store_contract.specs.Leaving.{world_without}
 use Rattle.pfs_store_contract.specs.Purging.{purge}
-use Rattle.pfs_store_contract.specs.Touching.{completes_at, touched}
+use Rattle.pfs_store_contract.specs.Touching.{completes_at, world_after_touch}
 use Rattle.pfs_store_contract.specs.Worlds.{World, empty_world, state_with}
 use Rattle.pfs_store_contract.specs.declared.records.Limit.{Limit}
 use Rattle.pfs_store_contract.specs.declared.records.State.{State}
@@ -67,40 +67,40 @@ due None now = []
 due (Some last) now = range_with_len (last + 1) (now - last)
 
 -- the world after the purges of these seconds
-abbrev pub purged : Conf → World → List ℕ → World
-purged conf w [] = w
-purged conf w (s ∷ ss) = purged conf (purge conf w s) ss
+abbrev pub world_after_purges : Conf → World → List ℕ → World
+world_after_purges conf w [] = w
+world_after_purges conf w (s ∷ ss) = world_after_purges conf (purge conf w s) ss
 
 -- the first moment, once an event has come at this one
-abbrev pub first_by : Option ℕ → ℕ → ℕ
-first_by first now = unwrap_or first now
+abbrev pub first_moment : Option ℕ → ℕ → ℕ
+first_moment first now = unwrap_or first now
 
 -- the machine at a moment: all purges due are done
-abbrev pub advanced : Conf → Machine → ℕ → Machine
-advanced conf m now = record {
-  held = held_of (purged conf m.held.world (due m.last now)) m.held.tables;
-  first = Some (first_by m.first now);
+abbrev pub machine_at_moment : Conf → Machine → ℕ → Machine
+machine_at_moment conf m now = record {
+  held = held_of (world_after_purges conf m.held.world (due m.last now)) m.held.tables;
+  first = Some (first_moment m.first now);
   last = Some now;
 }
 
 -- ---- a completed handshake
 
 -- the source is added to the rule's overload table, if it has one
-abbrev pub added_by : Conf → List (List Entry) → Addr → Option Overload → Option Added
-added_by conf tables source None = None
-added_by conf tables source (Some v) = Some (added_to tables (limit_of conf limit_name.TableEntries) v.table.0 source)
+abbrev pub addition_of : Conf → List (List Entry) → Addr → Option Overload → Option Added
+addition_of conf tables source None = None
+addition_of conf tables source (Some v) = Some (added_to tables (limit_of conf limit_name.TableEntries) v.table.0 source)
 
-abbrev pub tables_by : Conf → List (List Entry) → Addr → ℕ → Option Overload → List (List Entry)
-tables_by conf tables source now None = tables
-tables_by conf tables source now (Some v) = entries_after tables v.table.0 source now (added_to tables (limit_of conf limit_name.TableEntries) v.table.0 source)
+abbrev pub tables_after_addition : Conf → List (List Entry) → Addr → ℕ → Option Overload → List (List Entry)
+tables_after_addition conf tables source now None = tables
+tables_after_addition conf tables source now (Some v) = entries_after tables v.table.0 source now (added_to tables (limit_of conf limit_name.TableEntries) v.table.0 source)
 
 -- the state of this number, rule and source is killed, with those that its rule flushes
-abbrev pub killed : Conf → Held → ℕ → RuleNo → Addr → ℕ → Exceeded → Outcome × Held
-killed conf h number rule source now limits =
+abbrev pub answer_of_kill : Conf → Held → ℕ → RuleNo → Addr → ℕ → Exceeded → Outcome × Held
+answer_of_kill conf h number rule source now limits =
     let overload = (options_of conf rule.0).overload in
     let flush = flush_of overload in (
-      outcome.Kill rule limits (added_by conf h.tables source overload) (length (filter (goes_with flush number rule source) h.world.states)),
-      held_of (without conf h.world (stays_at_kill flush number rule source) now) (tables_by conf h.tables source now overload),
+      outcome.Kill rule limits (addition_of conf h.tables source overload) (length (filter (goes_with flush number rule source) h.world.states)),
+      held_of (world_without conf h.world (stays_at_kill flush number rule source) now) (tables_after_addition conf h.tables source now overload),
     )
 
 -- the limits that it exceeds, by whether `max-src-conn` is exceeded and whether `max-src-conn-rate` is; none where neither is
@@ -111,60 +111,60 @@ exceeded_of false true = Some exceeded.Rate
 exceeded_of false false = None
 
 -- a packet of the state of this number, rule and source exceeds these limits, or none
-abbrev pub by_exceeded : Conf → Held → ℕ → RuleNo → Addr → ℕ → Option Exceeded → Outcome × Held
-by_exceeded conf h number rule source now (Some limits) = killed conf h number rule source now limits
-by_exceeded conf h number rule source now None = (outcome.State rule, h)
+abbrev pub answer_of_exceeded : Conf → Held → ℕ → RuleNo → Addr → ℕ → Option Exceeded → Outcome × Held
+answer_of_exceeded conf h number rule source now (Some limits) = answer_of_kill conf h number rule source now limits
+answer_of_exceeded conf h number rule source now None = (outcome.State rule, h)
 
 -- a packet of this state completes its handshake, or not
-abbrev pub by_handshake : Conf → Held → State → ℕ → Bool → Outcome × Held
-by_handshake conf h s now completes =
+abbrev pub answer_of_handshake : Conf → Held → State → ℕ → Bool → Outcome × Held
+answer_of_handshake conf h s now completes =
     let limits = exceeded_of (hits_connections conf h.world s) (hits_rate conf h.world s) in
-    by_exceeded conf h s.number s.rule s.source now (if completes then limits else None)
+    answer_of_exceeded conf h s.number s.rule s.source now (if completes then limits else None)
 
 -- ---- one packet
 
 -- the state that it would make meets a limit, or none
-abbrev pub by_limit : Conf → Held → Header → ℕ → ℕ → Option Limit → Outcome × Held
-by_limit conf h p now rule None = (outcome.New (record { 0 = rule }), held_of (admitted conf h.world p rule now) h.tables)
-by_limit conf h p now rule (Some l) = (outcome.Drop (record { 0 = rule }) l, h)
+abbrev pub answer_of_limits : Conf → Held → Header → ℕ → ℕ → Option Limit → Outcome × Held
+answer_of_limits conf h p now rule None = (outcome.New (record { 0 = rule }), held_of (world_after_admission conf h.world p rule now) h.tables)
+answer_of_limits conf h p now rule (Some l) = (outcome.Drop (record { 0 = rule }) l, h)
 
 -- what the rule that decides says
-abbrev pub by_action : Conf → Held → Header → ℕ → ℕ → Action → Outcome × Held
-by_action conf h p now rule action.Block = (outcome.Block (record { 0 = rule }), h)
-by_action conf h p now rule action.Pass = (outcome.Pass (Some (record { 0 = rule })), h)
-by_action conf h p now rule (action.Keep o) = by_limit conf h p now rule (limit_met conf h.world rule p.source.addr)
+abbrev pub answer_of_action : Conf → Held → Header → ℕ → ℕ → Action → Outcome × Held
+answer_of_action conf h p now rule action.Block = (outcome.Block (record { 0 = rule }), h)
+answer_of_action conf h p now rule action.Pass = (outcome.Pass (Some (record { 0 = rule })), h)
+answer_of_action conf h p now rule (action.Keep o) = answer_of_limits conf h p now rule (limit_met conf h.world rule p.source.addr)
 
 -- a rule decides, or none
-abbrev pub by_rule : Conf → Held → Header → ℕ → Option ℕ → Outcome × Held
-by_rule conf h p now None = (outcome.Pass None, h)
-by_rule conf h p now (Some rule) = by_action conf h p now rule (rule_of conf rule).action
+abbrev pub answer_of_rule : Conf → Held → Header → ℕ → Option ℕ → Outcome × Held
+answer_of_rule conf h p now None = (outcome.Pass None, h)
+answer_of_rule conf h p now (Some rule) = answer_of_action conf h p now rule (rule_of conf rule).action
 
 -- the rule that decides
-abbrev pub decided : Conf → Held → Header → Option ℕ
-decided conf h p = verdict (matches_item h.tables p) conf.items
+abbrev pub deciding_rule : Conf → Held → Header → Option ℕ
+deciding_rule conf h p = verdict (matches_item h.tables p) conf.items
 
 -- a held state has its key, or none
-abbrev pub by_state : Conf → Held → Header → ℕ → Option State → Outcome × Held
-by_state conf h p now (Some s) =
-    by_handshake conf (held_of (touched conf h.world s p now) h.tables) s now (completes_at p s)
-by_state conf h p now None = by_rule conf h p now (decided conf h p)
+abbrev pub answer_of_state : Conf → Held → Header → ℕ → Option State → Outcome × Held
+answer_of_state conf h p now (Some s) =
+    answer_of_handshake conf (held_of (world_after_touch conf h.world s p now) h.tables) s now (completes_at p s)
+answer_of_state conf h p now None = answer_of_rule conf h p now (deciding_rule conf h p)
 
 -- what a packet does at a moment
-abbrev pub answered : Conf → Held → Header → ℕ → Outcome × Held
-answered conf h p now = by_state conf h p now (state_with (key_of p) h.world)
+abbrev pub answer_to_packet : Conf → Held → Header → ℕ → Outcome × Held
+answer_to_packet conf h p now = answer_of_state conf h p now (state_with (key_of p) h.world)
 
 -- ---- one event
 
 -- the old entries leave a table, where the run began at the first of these moments (pfctl(8), "-T expire")
-abbrev pub expired : Held → ℕ → ℕ → ℕ → ℕ → Outcome × Held
-expired h first now table seconds =
+abbrev pub answer_to_expire : Held → ℕ → ℕ → ℕ → ℕ → Outcome × Held
+answer_to_expire h first now table seconds =
     (outcome.Expire (expired_count h.tables table first now seconds), held_of h.world (entries_expired h.tables table first now seconds))
 
 -- what comes
-abbrev pub handled : Conf → Held → ℕ → ℕ → Arrival → Outcome × Held
-handled conf h first now arrival.Skip = (outcome.Skip, h)
-handled conf h first now (arrival.Packet p) = answered conf h p now
-handled conf h first now (arrival.Expire table seconds) = expired h first now table.0 seconds
+abbrev pub answer_to_arrival : Conf → Held → ℕ → ℕ → Arrival → Outcome × Held
+answer_to_arrival conf h first now arrival.Skip = (outcome.Skip, h)
+answer_to_arrival conf h first now (arrival.Packet p) = answer_to_packet conf h p now
+answer_to_arrival conf h first now (arrival.Expire table seconds) = answer_to_expire h first now table.0 seconds
 
 -- what it leaves is held
 abbrev pub leaving : Machine → Outcome × Held → Outcome × Machine
@@ -173,7 +173,7 @@ leaving m a = (a.0, record { held = a.1; first = m.first; last = m.last })
 -- the purges due, and then what comes
 unfoldable pub step : Conf → Machine → Event → Outcome × Machine
 step conf m e =
-    leaving (advanced conf m e.time) (handled conf (advanced conf m e.time).held (first_by m.first e.time) e.time e.what)
+    leaving (machine_at_moment conf m e.time) (answer_to_arrival conf (machine_at_moment conf m e.time).held (first_moment m.first e.time) e.time e.what)
 
 -- ---- a run of events: the outcome of each in turn, and the machine after all of them
 

@@ -4,12 +4,12 @@ use Rattle.std.specs.Prelude.{◌≡◌, ℕ, ◌*◌, nat_lt, length, option_ma
 use Rattle.pfs_conf_values.specs.Configs.{Conf, options_of}
 use Rattle.pfs_conf_values.specs.declared.actions.Rate.{Rate}
 use Rattle.pfs_store_contract.specs.Counts.{node_scope_of}
-use Rattle.pfs_store_contract.specs.Touching.{score_in, touched}
+use Rattle.pfs_store_contract.specs.Touching.{score_in, world_after_touch}
 use Rattle.pfs_store_contract.specs.Worlds.{World}
 use Rattle.pfs_store_contract.specs.declared.records.State.{State}
 use Rattle.pfs_track.specs.Scores.{zero_score}
 use Rattle.pfs_track.specs.declared.scores.Score.{Score}
-use Rattle.pfs_engine_machine.specs.Machine.{advanced, start, machine_after, outcomes_of}
+use Rattle.pfs_engine_machine.specs.Machine.{machine_at_moment, start, machine_after, outcomes_of}
 use Rattle.pfs_engine_machine.specs.Rates.{handshake_at, history_score}
 use Rattle.pfs_engine_machine.specs.declared.events.Event.{Event}
 use Rattle.pfs_engine_machine.specs.declared.events.Exceeded.{Exceeded}
@@ -28,14 +28,14 @@ pub record IsHandshake (conf : Conf) (events before : List Event) (e : Event) (s
 -- the score that is compared with the limit where a packet completes the handshake of a state: that of its node, with this handshake
 abbrev pub score_compared : Conf → World → ℕ → Arrival → State → Score
 score_compared conf w now arrival.Skip s = zero_score
-score_compared conf w now (arrival.Packet p) s = score_in s.source (touched conf w s p now).nodes (node_scope_of conf s.rule.0)
+score_compared conf w now (arrival.Packet p) s = score_in s.source (world_after_touch conf w s p now).nodes (node_scope_of conf s.rule.0)
 score_compared conf w now (arrival.Expire table seconds) s = zero_score
 
 -- at each handshake of a rule with a rate, that score is the one of the whole history of its source's handshakes
 abbrev pub ScoreIsRemembered : Conf → List Event → Type 0
 ScoreIsRemembered conf events =
     (before : List Event) (e : Event) (s : State) (rate : Rate) → IsHandshake conf events before e s rate →
-    score_compared conf (advanced conf (machine_after conf (start conf) before) e.time).held.world e.time e.what s
+    score_compared conf (machine_at_moment conf (machine_after conf (start conf) before) e.time).held.world e.time e.what s
     ≡ history_score conf s.rule.0 s.source (before ++ e ∷ [])
 
 -- `max-src-conn-rate` is one of these limits

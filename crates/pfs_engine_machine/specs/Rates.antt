@@ -14,7 +14,7 @@ use Rattle.pfs_track.specs.declared.scores.Score.{Score}
 use Rattle.pfs_engine_machine.specs.declared.events.Event.{Event}
 use Rattle.pfs_engine_machine.specs.declared.events.Arrival.{Arrival}
 use Rattle.pfs_engine_machine.specs.declared.events.Arrival.TheVariants as arrival
-use Rattle.pfs_engine_machine.specs.Machine.{Machine, advanced, start, step}
+use Rattle.pfs_engine_machine.specs.Machine.{Machine, machine_at_moment, start, step}
 
 -- a handshake of a state: its rule, its source, and when it completed
 pub record Handshake : Type 0 where
@@ -23,18 +23,18 @@ pub record Handshake : Type 0 where
   pub moment : ℕ
 
 -- the state whose handshake a packet completes
-abbrev pub completed_by : Header → Option State → Option State
-completed_by p None = None
-completed_by p (Some s) = if completes_at p s then Some s else None
+abbrev pub completed_state : Header → Option State → Option State
+completed_state p None = None
+completed_state p (Some s) = if completes_at p s then Some s else None
 
-abbrev pub handshake_by : World → Arrival → Option State
-handshake_by w arrival.Skip = None
-handshake_by w (arrival.Packet p) = completed_by p (state_with (key_of p) w)
-handshake_by w (arrival.Expire table seconds) = None
+abbrev pub handshaking_state : World → Arrival → Option State
+handshaking_state w arrival.Skip = None
+handshaking_state w (arrival.Packet p) = completed_state p (state_with (key_of p) w)
+handshaking_state w (arrival.Expire table seconds) = None
 
 -- the state whose handshake an event completes
 abbrev pub handshake_at : Conf → Machine → Event → Option State
-handshake_at conf m e = handshake_by (advanced conf m e.time).held.world e.what
+handshake_at conf m e = handshaking_state (machine_at_moment conf m e.time).held.world e.what
 
 abbrev pub with_handshake : ℕ → Option State → List Handshake → List Handshake
 with_handshake now None others = others
@@ -46,9 +46,9 @@ handshakes conf m [] = []
 handshakes conf m (e ∷ es) = with_handshake e.time (handshake_at conf m e) (handshakes conf (step conf m e).1 es)
 
 -- a score through handshakes at these moments
-abbrev pub folded : ℕ → Score → List ℕ → Score
-folded seconds score [] = score
-folded seconds score (t ∷ ts) = folded seconds (score_after seconds score t) ts
+abbrev pub score_through : ℕ → Score → List ℕ → Score
+score_through seconds score [] = score
+score_through seconds score (t ∷ ts) = score_through seconds (score_after seconds score t) ts
 
 abbrev pub is_from : ℕ → Addr → Handshake → Bool
 is_from rule source h = (h.rule == rule) && same_addr h.source source
@@ -60,4 +60,4 @@ moments_of rule source all = map (λ (h : Handshake). h.moment) (filter (is_from
 -- the score of a rule and a source after these events, from all handshakes of that rule's states of that source
 abbrev pub history_score : Conf → ℕ → Addr → List Event → Score
 history_score conf rule source events =
-    folded (rate_seconds (options_of conf rule).max_src_conn_rate) zero_score (moments_of rule source (handshakes conf (start conf) events))
+    score_through (rate_seconds (options_of conf rule).max_src_conn_rate) zero_score (moments_of rule source (handshakes conf (start conf) events))

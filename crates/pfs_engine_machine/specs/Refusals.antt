@@ -9,7 +9,7 @@ use Rattle.pfs_conf_values.specs.declared.items.RuleNo.{RuleNo}
 use Rattle.pfs_store_contract.specs.Calls.{packet_limit}
 use Rattle.pfs_store_contract.specs.Worlds.{state_with}
 use Rattle.pfs_store_contract.specs.declared.records.Limit.{Limit}
-use Rattle.pfs_engine_machine.specs.Machine.{Held, decided}
+use Rattle.pfs_engine_machine.specs.Machine.{Held, deciding_rule}
 use Rattle.pfs_engine_machine.specs.declared.events.Outcome.{Outcome}
 use Rattle.pfs_engine_machine.specs.declared.events.Outcome.TheVariants as outcome
 
@@ -22,7 +22,7 @@ is_tcp (proto.Other n) = false
 -- no held state has the packet's key, this rule decides on it and keeps state, and this is the first limit that the state meets
 pub record IsDropped (conf : Conf) (h : Held) (p : Header) (rule : ℕ) (limit : Limit) : Type 0 where
   pub fresh : state_with (key_of p) h.world ≡ None
-  pub rule_is : decided conf h p ≡ Some rule
+  pub rule_is : deciding_rule conf h p ≡ Some rule
   pub keeps : IsSome (options_at conf rule)
   pub met : packet_limit conf h.world p rule ≡ Some limit
 

@@ -7,7 +7,7 @@ use Rattle.pfs_engine_machine.specs.declared.events.Event.{Event}
 use Rattle.pfs_engine_machine.specs.declared.events.Outcome.{Outcome}
 use Rattle.pfs_engine_machine.specs.declared.events.Arrival.{Arrival}
 use Rattle.pfs_engine_machine.specs.declared.events.Arrival.TheVariants as arrival
-use Rattle.pfs_engine_machine.specs.Machine.{Machine, advanced, answered, machine_after, outcomes_of}
+use Rattle.pfs_engine_machine.specs.Machine.{Machine, machine_at_moment, answer_to_packet, machine_after, outcomes_of}
 use Rattle.pfs_engine_machine.specs.Refusals.{IsFree}
 
 -- ---- what may come
@@ -23,15 +23,15 @@ MayCome conf (arrival.Expire table seconds) = MayExpire conf table.0
 MayCome conf _ = Unit {0}
 
 -- an event counts as one packet, or none
-abbrev pub taken_by : Arrival → ℕ
-taken_by (arrival.Packet p) = 1
-taken_by arrival.Skip = 0
-taken_by (arrival.Expire table seconds) = 0
+abbrev pub packets_of : Arrival → ℕ
+packets_of (arrival.Packet p) = 1
+packets_of arrival.Skip = 0
+packets_of (arrival.Expire table seconds) = 0
 
 -- how many of these events are packets
 unfoldable pub packets_in : List Event → ℕ
 packets_in [] = 0
-packets_in (e ∷ es) = taken_by e.what + packets_in es
+packets_in (e ∷ es) = packets_of e.what + packets_in es
 
 -- moments do not fall, from this one on, and are small
 abbrev pub IsInOrder : Option ℕ → List Event → Type 0
@@ -48,8 +48,8 @@ AreAllowed conf (e ∷ es) = MayCome conf e.what × AreAllowed conf es
 -- memory was refused in the packet of this event, which needs memory there: the machine is at the event's moment
 pub record IsRefusedIn (conf : Conf) (m : Machine) (e : Event) (p : Header) (new : Machine) : Type 0 where
   pub comes : e.what ≡ arrival.Packet p
-  pub needs : IsFree conf p (answered conf new.held p e.time).0 → ⊥
-  pub moment : new ≡ advanced conf m e.time
+  pub needs : IsFree conf p (answer_to_packet conf new.held p e.time).0 → ⊥
+  pub moment : new ≡ machine_at_moment conf m e.time
 
 -- memory was refused for the outcome of this event, before anything changed, or in its packet
 abbrev pub IsRefusedAt : Conf → Machine → Event → Machine → Type 0

@@ -8,8 +8,8 @@ abbrev pub Addition : Type 0
 Addition = Option Added
 
 -- one of four values: where the source was added, was held, did not fit, or there is no table
-abbrev pub by_addition : {A : Type 0} → A → A → A → A → Addition → A
-by_addition new held full none (Some added.New) = new
-by_addition new held full none (Some added.Held) = held
-by_addition new held full none (Some added.Full) = full
-by_addition new held full none None = none
+abbrev pub value_of_addition : {A : Type 0} → A → A → A → A → Addition → A
+value_of_addition new held full none (Some added.New) = new
+value_of_addition new held full none (Some added.Held) = held
+value_of_addition new held full none (Some added.Full) = full
+value_of_addition new held full none None = none

@@ -10,7 +10,7 @@ use Rattle.std.proofs.lemmas.Bool.{and_from, and_parts, cond-true, cond-false, f
 use Rattle.pfs_addr_values.specs.declared.addresses.Addr.{Addr}
 use Rattle.pfs_addr_values.specs.declared.addresses.Addr.TheVariants.{V4, V6}
 use Rattle.pfs_addr_values.specs.Addresses.{IsAddr, same_family, width_of}
-use Rattle.pfs_addr_values.specs.Prefixes.{Network, IsNetwork, cleared, covers, network_of}
+use Rattle.pfs_addr_values.specs.Prefixes.{Network, IsNetwork, cleared_addr, covers, network_of}
 use Rattle.pfs_addr_values.proofs.PrefixLaws.{cleared_family, cleared_width, covers_true, network_covers, network_of_is_network}
 use Rattle.pfs_eval.specs.Entries.{Entry, narrower, narrowest, says_yes, answer_of, is_prefix_of, mark_at, holds_prefix}
 use Rattle.pfs_eval.specs.Holdings.{AreKept}
@@ -359,5 +359,5 @@ kept-added es old new a n hidden mark h k short rest long notes =
           All-append P es ((network_of a n, mark) ∷ [])
           (λ i d l m few. still_noted old new a hidden _ notes h.on (h.noted i d l) m few)
           (All-cons P (network_of a n, mark) []
-          (λ m few. let fewer = new_noted (next old (cleared n a) m) (next new (cleared n a) m) hidden m (same_family (cleared n a) a) (notes.at (cleared n a) m (omega arith)) (cleared_family n a) (omega arith) in omega arith) (All-nil P));
+          (λ m few. let fewer = new_noted (next old (cleared_addr n a) m) (next new (cleared_addr n a) m) hidden m (same_family (cleared_addr n a) a) (notes.at (cleared_addr n a) m (omega arith)) (cleared_family n a) (omega arith) in omega arith) (All-nil P));
     }

@@ -100,7 +100,7 @@ fn rule_no(found: Option<u32>) -> Option<RuleNo>
     }
 }
 
-// The items of a configuration.
+/// The items of a configuration.
 fn items(alloc: Global, config: &Config) -> Result<Vec<Item>, AllocError>
     ensures { IfOk result (λ v. v.items ≡ config.now.items) }
 {

@@ -79,7 +79,7 @@ impl Asked {
     }
 }
 
-// The first parameter that does not hold.
+/// The first parameter that does not hold.
 fn first_failing(tables: &Tables, packet: &Packet, filter: &Filter) -> Option<Parameter>
     ensures { MatchOption result (filter_holds tables.now.entries packet.now filter.now ≡ true) (λ k. holds_at tables.now.entries packet.now k filter.now ≡ false) }
 {
@@ -119,7 +119,7 @@ fn dir_holds(wanted: Option<Dir>, dir: Dir) -> bool
     wanted.is_none_or(|wanted| wanted == dir)
 }
 
-// The packet is asked, so that its name is compared where it stands and not copied for each item.
+/// The packet is asked, so that its name is compared where it stands and not copied for each item.
 fn interface_holds(on: &Option<Interface>, packet: &Packet) -> bool
     ensures { result ≡ interface_holds on.now packet.now.ifname }
 {
@@ -145,7 +145,7 @@ fn proto_holds(wanted: Option<Proto>, proto: Proto) -> bool
     wanted.is_none_or(|wanted| wanted == proto)
 }
 
-// Inlined, so that an address is compared where it stands and not copied for each host.
+/// Inlined, so that an address is compared where it stands and not copied for each host.
 #[inline(always)]
 fn host_holds(tables: &Tables, host: &Host<TableNo>, addr: Addr) -> bool
     ensures { result ≡ host_holds tables.now.entries host.now addr }
@@ -157,7 +157,7 @@ fn host_holds(tables: &Tables, host: &Host<TableNo>, addr: Addr) -> bool
     }
 }
 
-// A prefix, also one with a `!`, holds of addresses of its own family alone.
+/// A prefix, also one with a `!`, holds of addresses of its own family alone.
 fn prefix_holds(prefix: &Prefix, negated: bool, addr: Addr) -> bool
     ensures { result ≡ prefix_holds prefix.now negated addr }
 {
@@ -191,7 +191,7 @@ fn same_flags(flags: Flags, set: Flags) -> bool
     flags == set
 }
 
-// Whether two tests of flags are written the same.
+/// Whether two tests of flags are written the same.
 fn same_test(one: FlagTest, two: FlagTest) -> bool
     ensures { result ≡ same_test one two }
 {
@@ -204,7 +204,7 @@ fn same_test(one: FlagTest, two: FlagTest) -> bool
     }
 }
 
-// The flags that are in both sets.
+/// The flags that are in both sets.
 fn common_flags(flags: Flags, among: Flags) -> Flags
     ensures { result ≡ common_flags flags among }
 {
@@ -220,7 +220,7 @@ fn common_flags(flags: Flags, among: Flags) -> Flags
     }
 }
 
-// A test's answer, turned where a `!` stands before it.
+/// A test's answer, turned where a `!` stands before it.
 fn turned(negated: bool, holds: bool) -> bool
     ensures { result ≡ turned_if negated holds }
 {

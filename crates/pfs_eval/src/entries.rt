@@ -1,4 +1,4 @@
-// The entries of one table: prefixes in the order in which they came, each with its mark.
+//! The entries of one table: prefixes in the order in which they came, each with its mark.
 
 ghost use Rattle.std.specs.Prelude.{◌≡◌, All, ◌<◌, ◌≤◌, ◌++◌, [], ◌∷◌, IfOk, IsOk, OnErr, OnOk, map, nat_lt, not, false};
 ghost use Rattle.pfs_addr_values.specs.Addresses.{width_of};

@@ -57,7 +57,7 @@ impl Lengths {
     }
 }
 
-// Lowers what stands at each place up to the last one to at most that place.
+/// Lowers what stands at each place up to the last one to at most that place.
 fn lower_up_to(places: &mut [u8], last: u8)
     requires { last < length places.old }
     ensures { (n : ℕ) → n < length places.old →

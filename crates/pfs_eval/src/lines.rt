@@ -39,7 +39,7 @@ pub fn lines(alloc: Global, config: &Config) -> Result<Vec<Line>, AllocError>
     Ok(lines)
 }
 
-// The lines of a configuration's items, each of which skips its own body alone.
+/// The lines of a configuration's items, each of which skips its own body alone.
 fn short_lines(alloc: Global, config: &Config) -> Result<Vec<Line>, AllocError>
     ensures { IfOk result (λ v. AreLinesFrom (length config.now.items) config.now.items v.items) }
 {
@@ -56,7 +56,7 @@ fn short_lines(alloc: Global, config: &Config) -> Result<Vec<Line>, AllocError>
     Ok(lines)
 }
 
-// The line of an item, which skips its own body alone.
+/// The line of an item, which skips its own body alone.
 fn short_line(config: &Config, place: u32, item: &Item, stop_depth: u8) -> Line
     requires place { place < length config.now.items }
     requires at { slice_get config.now.items place ≡ Some item.now }
@@ -74,7 +74,7 @@ fn short_line(config: &Config, place: u32, item: &Item, stop_depth: u8) -> Line
     }
 }
 
-// Lets each line skip as far as it may, from the last to the first.
+/// Lets each line skip as far as it may, from the last to the first.
 fn lengthen(config: &Config, lines: &mut [Line])
     requires { AreLinesFrom (length config.now.items) config.now.items lines.old }
     ensures { AreLines config.now.items lines.new }
@@ -84,7 +84,7 @@ fn lengthen(config: &Config, lines: &mut [Line])
     }
 }
 
-// The skips of the item at a place, from those of the items behind it.
+/// The skips of the item at a place, from those of the items behind it.
 fn skips_at(config: &Config, lines: &[Line], place: u32) -> Skips
     requires place { place < length config.now.items }
     requires lines { AreLinesFrom (place + 1) config.now.items lines.now }
@@ -104,7 +104,7 @@ fn skips_at(config: &Config, lines: &[Line], place: u32) -> Skips
     }
 }
 
-// Where a walk goes on behind an item that matches.
+/// Where a walk goes on behind an item that matches.
 fn next_place(config: &Config, place: u32, what: &ItemKind) -> u32
     requires { place < length config.now.items }
     ensures { result ≡ next_place config.now.items place what.now }
@@ -117,7 +117,7 @@ fn next_place(config: &Config, place: u32, what: &ItemKind) -> u32
     }
 }
 
-// The first place, from one on, whose item does not stand deeper than this, or the number of items.
+/// The first place, from one on, whose item does not stand deeper than this, or the number of items.
 fn body_end(config: &Config, from: u32, depth: u8) -> u32
     requires { from ≤ length config.now.items }
     ensures value { result ≡ from + body_length depth (drop from config.now.items) }
@@ -141,7 +141,7 @@ pub fn item_at(config: &Config, place: u32) -> &Item
     config.item(place).unwrap()
 }
 
-// The stop depth of rules in an item's body, from that of the item.
+/// The stop depth of rules in an item's body, from that of the item.
 fn inside(item: &Item, stop_depth: u8) -> u8
     requires { item.now.depth ≤ 16 }
     ensures { result ≡ (if is_quick item.now.what then max (item.now.depth + 1) stop_depth else stop_depth) }
@@ -153,7 +153,7 @@ fn inside(item: &Item, stop_depth: u8) -> u8
     }
 }
 
-// Whether this is a rule, and no anchor.
+/// Whether this is a rule, and no anchor.
 fn is_rule(what: &ItemKind) -> bool
     ensures { result ≡ is_rule what.now }
 {
@@ -170,7 +170,7 @@ pub fn is_quick(what: &ItemKind) -> bool
     }
 }
 
-// Writes a value at each place from one on.
+/// Writes a value at each place from one on.
 fn set_from(stop_depths: &mut [u8; 18], from: u8, value: u8)
     ensures { (d : ℕ) → d < 18 → slice_index stop_depths.new d ≡ (if nat_le from d then value else slice_index stop_depths.old d) }
 {

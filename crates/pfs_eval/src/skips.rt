@@ -85,7 +85,7 @@ impl Skips {
         }
     }
 
-    // The skip at one parameter of an item, where these are the skips of the next one, which stands at `place`.
+    /// The skip at one parameter of an item, where these are the skips of the next one, which stands at `place`.
     fn past(&self, item: &Asked, next: &Asked, place: u32, parameter: Parameter) -> u32
         ensures { IsJoined parameter item.now.filter next.now.filter place (skip_of self.now parameter) result }
     {

@@ -1,4 +1,4 @@
-// All tables of a configuration, and the limit on their entries.
+//! All tables of a configuration, and the limit on their entries.
 
 ghost use Rattle.std.specs.Prelude.{◌≡◌, ◌<◌, ◌≤◌, ◌⊎◌, ℕ, All, IfOk, IsOk, OnErr, OnOk, Some, length, nat_le, option_map, slice_get, slice_index, true};
 ghost use Rattle.pfs_eval.specs.Entries.{AreDistinct};

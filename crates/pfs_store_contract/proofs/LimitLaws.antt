@@ -5,7 +5,7 @@ use Rattle.pfs_conf_values.specs.Configs.{Conf, limit_of, options_of}
 use Rattle.pfs_conf_values.specs.declared.actions.StateOptions.{StateOptions}
 use Rattle.pfs_conf_values.specs.declared.limits.LimitName.TheVariants as limit_name
 use Rattle.pfs_store_contract.specs.Admission.{first_met, limit_met, tracks}
-use Rattle.pfs_store_contract.specs.Counts.{has_node, node_scope_of, node_states, reached, rule_states, scope_nodes}
+use Rattle.pfs_store_contract.specs.Counts.{has_node, node_scope_of, node_states, reaches_maximum, rule_states, scope_nodes}
 use Rattle.pfs_store_contract.specs.SourceLimits.{first_of, limit_in_turn, source_limit}
 use Rattle.pfs_store_contract.specs.Worlds.{World}
 use Rattle.pfs_store_contract.specs.declared.records.Limit.TheVariants as limit
@@ -41,7 +41,7 @@ met_in_turn conf w rule source = by (node_scope_of conf rule)
     o = options_of conf rule
 
     most : Bool
-    most = reached o.max (rule_states rule w.states)
+    most = reaches_maximum o.max (rule_states rule w.states)
 
     full : Bool
     full = nat_le (limit_of conf limit_name.SrcNodes) (length w.nodes)
@@ -51,13 +51,13 @@ met_in_turn conf w rule source = by (node_scope_of conf rule)
 
     by : (scope : Option NodeScope)
         → first_met ((most, limit.Max)
-        ∷ (tracks scope (λ s. not (has_node s source w.nodes) && reached o.max_src_nodes (scope_nodes s w.nodes)), limit.MaxSrcNodes)
+        ∷ (tracks scope (λ s. not (has_node s source w.nodes) && reaches_maximum o.max_src_nodes (scope_nodes s w.nodes)), limit.MaxSrcNodes)
         ∷ (tracks scope (λ s. not (has_node s source w.nodes) && full), limit.SrcNodes)
-        ∷ (tracks scope (λ s. has_node s source w.nodes && reached o.max_src_states (node_states conf s source w.states)), limit.MaxSrcStates)
+        ∷ (tracks scope (λ s. has_node s source w.nodes && reaches_maximum o.max_src_states (node_states conf s source w.states)), limit.MaxSrcStates)
         ∷ (all, limit.States) ∷ [])
         ≡ first_of (if most then Some limit.Max else None)
         (first_of (source_limit conf w o source scope) (if all then Some limit.States else None))
     by None = rows_untracked most all
     by (Some s) =
-        rows_in_turn most (has_node s source w.nodes) (reached o.max_src_nodes (scope_nodes s w.nodes)) full
-        (reached o.max_src_states (node_states conf s source w.states)) all
+        rows_in_turn most (has_node s source w.nodes) (reaches_maximum o.max_src_nodes (scope_nodes s w.nodes)) full
+        (reaches_maximum o.max_src_states (node_states conf s source w.states)) all

@@ -10,9 +10,9 @@ use Rattle.pfs_track.specs.Scores.{score_after}
 use Rattle.pfs_store_contract.specs.Admission.{new_node, nodes_with}
 use Rattle.pfs_store_contract.specs.Calls.{world_at, world_flushed, world_killed, world_touched}
 use Rattle.pfs_store_contract.specs.Counts.{has_node, is_node, node_scope_of, node_states}
-use Rattle.pfs_store_contract.specs.Leaving.{idled, left}
+use Rattle.pfs_store_contract.specs.Leaving.{node_after_leaving, world_with_stay}
 use Rattle.pfs_store_contract.specs.Purging.{node_slice, state_slice}
-use Rattle.pfs_store_contract.specs.Touching.{completes_at, nodes_scored, nodes_touched, rescored}
+use Rattle.pfs_store_contract.specs.Touching.{completes_at, nodes_scored, nodes_touched, node_after_handshake}
 use Rattle.pfs_store_contract.specs.Worlds.{IsUpToNow, World, empty_world}
 use Rattle.pfs_store_contract.specs.declared.records.Limit.{Limit}
 use Rattle.pfs_store_contract.specs.declared.records.Node.{Node}
@@ -43,7 +43,7 @@ pub world_at-up_to_now : (conf : Conf) (w : World) (p : Header) (rule now : ℕ)
 world_at-up_to_now conf w p rule now None h = nodes_with-scored now w.nodes (w.made + 1) p.source.addr (node_scope_of conf rule) h
 world_at-up_to_now conf w p rule now (Some l) h = h
 
-rescored-scored : (scope : NodeScope) (source : Addr) (seconds now : ℕ) (n : Node) → IsScoredBy now n → IsScoredBy now (rescored scope source seconds now n)
+rescored-scored : (scope : NodeScope) (source : Addr) (seconds now : ℕ) (n : Node) → IsScoredBy now n → IsScoredBy now (node_after_handshake scope source seconds now n)
 rescored-scored scope source seconds now n h = by (is_node scope source n)
   where
     by : (b : Bool) → IsScoredBy now (if b then record n { score = score_after seconds n.score now } else n)
@@ -55,8 +55,8 @@ nodes_scored-scored : (nodes : List Node) (source : Addr) (now : ℕ) (scope : O
 nodes_scored-scored nodes source now None rate h = h
 nodes_scored-scored nodes source now (Some scope) None h = h
 nodes_scored-scored nodes source now (Some scope) (Some rate) h =
-    All-map (IsScoredBy now) (rescored scope source rate.seconds now) nodes
-    (All-weaker (IsScoredBy now) (λ (n : Node). IsScoredBy now (rescored scope source rate.seconds now n)) (rescored-scored scope source rate.seconds now) nodes h)
+    All-map (IsScoredBy now) (node_after_handshake scope source rate.seconds now) nodes
+    (All-weaker (IsScoredBy now) (λ (n : Node). IsScoredBy now (node_after_handshake scope source rate.seconds now n)) (rescored-scored scope source rate.seconds now) nodes h)
 
 nodes_touched-scored : (conf : Conf) (nodes : List Node) (s : State) (now : ℕ) (completes : Bool) → All (IsScoredBy now) nodes
     → All (IsScoredBy now) (nodes_touched conf nodes s now completes)
@@ -69,7 +69,7 @@ pub world_touched-up_to_now : (conf : Conf) (w : World) (p : Header) (now : ℕ)
 world_touched-up_to_now conf w p now None h = h
 world_touched-up_to_now conf w p now (Some s) h = nodes_touched-scored conf w.nodes s now (completes_at p s) h
 
-idled-scored : (conf : Conf) (before after : List State) (at now : ℕ) (n : Node) → IsScoredBy now n → IsScoredBy now (idled conf before after at n)
+idled-scored : (conf : Conf) (before after : List State) (at now : ℕ) (n : Node) → IsScoredBy now n → IsScoredBy now (node_after_leaving conf before after at n)
 idled-scored conf before after at now n h =
     by (nat_lt 0 (node_states conf n.scope n.source before) && (node_states conf n.scope n.source after == 0))
   where
@@ -79,10 +79,10 @@ idled-scored conf before after at now n h =
 
 -- states may leave at any moment
 pub left-up_to_now : (conf : Conf) (w : World) (states : List State) (pending : List ℕ) (at now : ℕ) → IsUpToNow now w
-    → IsUpToNow now (left conf w states pending at)
+    → IsUpToNow now (world_with_stay conf w states pending at)
 left-up_to_now conf w states pending at now h =
-    All-map (IsScoredBy now) (idled conf w.states states at) w.nodes
-    (All-weaker (IsScoredBy now) (λ (n : Node). IsScoredBy now (idled conf w.states states at n)) (idled-scored conf w.states states at now) w.nodes h)
+    All-map (IsScoredBy now) (node_after_leaving conf w.states states at) w.nodes
+    (All-weaker (IsScoredBy now) (λ (n : Node). IsScoredBy now (node_after_leaving conf w.states states at n)) (idled-scored conf w.states states at now) w.nodes h)
 
 pub killed-up_to_now : (conf : Conf) (w : World) (number at now : ℕ) → IsUpToNow now w → IsUpToNow now (world_killed conf w number at)
 killed-up_to_now conf w number at now h = left-up_to_now conf w _ [] at now h

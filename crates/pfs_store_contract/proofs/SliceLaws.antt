@@ -11,11 +11,11 @@ use Rattle.pfs_conf_values.specs.declared.actions.StateOptions.{StateOptions}
 use Rattle.pfs_conf_values.specs.declared.items.Item.{Item}
 use Rattle.pfs_conf_values.specs.declared.items.Rule.{Rule}
 use Rattle.pfs_conf_values.specs.declared.timeouts.TimeoutName.TheVariants.{AdaptiveStart, AdaptiveEnd}
-use Rattle.pfs_track.specs.Lifetimes.{is_expired, scaled, scaled_lifetime, value_for}
+use Rattle.pfs_track.specs.Lifetimes.{is_expired, lifetime_under, scaled_lifetime, value_for}
 use Rattle.pfs_track.specs.StatePhases.{slot}
 use Rattle.pfs_track.specs.declared.state_phases.StatePhase.{StatePhase}
 use Rattle.pfs_store_contract.specs.Counts.{rule_states}
-use Rattle.pfs_store_contract.specs.Leaving.{idled}
+use Rattle.pfs_store_contract.specs.Leaving.{node_after_leaving}
 use Rattle.pfs_store_contract.specs.Plain.{AreCounts}
 use Rattle.pfs_store_contract.specs.Purging.{is_among, node_round, node_share, node_slice, node_stays, state_round, state_share, state_slice, stays}
 use Rattle.pfs_store_contract.specs.Calls.{node_slice_of, state_slice_of}
@@ -32,7 +32,7 @@ options_by i = option_and_then (λ (r : Rule). options_in r.action) (option_and_
 pub lifetime-unread : (conf : Conf) (rule : ℕ) (phase : StatePhase) (a b all : ℕ) → is_some (rule_timeout_of conf rule AdaptiveStart) ≡ false
     → scaled_lifetime conf rule phase a all ≡ scaled_lifetime conf rule phase b all
 lifetime-unread conf rule phase a b all none =
-    let under : ℕ → ℕ = scaled (value_for conf rule (slot phase)) (value_for conf rule AdaptiveStart) (value_for conf rule AdaptiveEnd) in
+    let under : ℕ → ℕ = lifetime_under (value_for conf rule (slot phase)) (value_for conf rule AdaptiveStart) (value_for conf rule AdaptiveEnd) in
     ap (λ (own : Bool). under (if own then a else all)) none ∙ sym (ap (λ (own : Bool). under (if own then b else all)) none)
 
 -- nor on those of a rule that there is not
@@ -68,7 +68,7 @@ pub state_slice-parts : (conf : Conf) (counts : List ℕ) (w : World) (now : ℕ
     → length counts ≡ length conf.items → AreCounts counts w.states
     → r ≡ state_round w → e ≡ min (state_share conf) (length r)
     → states' ≡ filter (stays_by conf counts (length w.states) now (take e r)) w.states
-    → nodes' ≡ map (idled conf w.states (filter (stays_by conf counts (length w.states) now (take e r)) w.states) now) w.nodes
+    → nodes' ≡ map (node_after_leaving conf w.states (filter (stays_by conf counts (length w.states) now (take e r)) w.states) now) w.nodes
     → pending' ≡ drop e r
     → lists states' nodes' pending' w.pending_nodes w.made ≡ state_slice conf w now
 state_slice-parts conf counts w now states' nodes' pending' r e size right hr he hs hn hp =

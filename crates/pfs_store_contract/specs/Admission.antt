@@ -9,7 +9,7 @@ use Rattle.pfs_conf_values.specs.declared.limits.LimitName.TheVariants as limit_
 use Rattle.pfs_track.specs.Scores.{zero_score}
 use Rattle.pfs_track.specs.StatePhases.{first_phase}
 use Rattle.pfs_store_contract.specs.Worlds.{World}
-use Rattle.pfs_store_contract.specs.Counts.{node_scope_of, rule_states, node_states, scope_nodes, has_node, reached}
+use Rattle.pfs_store_contract.specs.Counts.{node_scope_of, rule_states, node_states, scope_nodes, has_node, reaches_maximum}
 use Rattle.pfs_store_contract.specs.declared.records.Limit.{Limit}
 use Rattle.pfs_store_contract.specs.declared.records.Limit.TheVariants as limit
 use Rattle.pfs_store_contract.specs.declared.records.Node.{Node}
@@ -35,10 +35,10 @@ abbrev pub limit_met : Conf → World → ℕ → Addr → Option Limit
 limit_met conf w rule source =
     let o = options_of conf rule in
     let scope = node_scope_of conf rule in
-    first_met ((reached o.max (rule_states rule w.states), limit.Max)
-    ∷ (tracks scope (λ s. not (has_node s source w.nodes) && reached o.max_src_nodes (scope_nodes s w.nodes)), limit.MaxSrcNodes)
+    first_met ((reaches_maximum o.max (rule_states rule w.states), limit.Max)
+    ∷ (tracks scope (λ s. not (has_node s source w.nodes) && reaches_maximum o.max_src_nodes (scope_nodes s w.nodes)), limit.MaxSrcNodes)
     ∷ (tracks scope (λ s. not (has_node s source w.nodes) && nat_le (limit_of conf limit_name.SrcNodes) (length w.nodes)), limit.SrcNodes)
-    ∷ (tracks scope (λ s. has_node s source w.nodes && reached o.max_src_states (node_states conf s source w.states)), limit.MaxSrcStates)
+    ∷ (tracks scope (λ s. has_node s source w.nodes && reaches_maximum o.max_src_states (node_states conf s source w.states)), limit.MaxSrcStates)
     ∷ (nat_le (limit_of conf limit_name.States) (length w.states), limit.States)
     ∷ [])
 
@@ -65,8 +65,8 @@ nodes_with nodes number source None = nodes
 nodes_with nodes number source (Some scope) = if has_node scope source nodes then nodes else nodes ++ new_node number scope source ∷ []
 
 -- the world with one state more: numbers count from 1 and are never used again
-abbrev pub admitted : Conf → World → Header → ℕ → ℕ → World
-admitted conf w p rule now = record w {
+abbrev pub world_after_admission : Conf → World → Header → ℕ → ℕ → World
+world_after_admission conf w p rule now = record w {
   states = w.states ++ new_state (w.made + 1) p rule now ∷ [];
   nodes = nodes_with w.nodes (w.made + 1) p.source.addr (node_scope_of conf rule);
   made = w.made + 1;

@@ -4,11 +4,11 @@ use Rattle.pfs_addr_values.specs.Packets.{Header}
 use Rattle.pfs_addr_values.specs.declared.addresses.Addr.{Addr}
 use Rattle.pfs_conf_values.specs.Configs.{Conf}
 use Rattle.pfs_conf_values.specs.declared.items.RuleNo.{RuleNo}
-use Rattle.pfs_store_contract.specs.Admission.{admitted, limit_met}
+use Rattle.pfs_store_contract.specs.Admission.{world_after_admission, limit_met}
 use Rattle.pfs_store_contract.specs.Counts.{is_of_source, node_scope_of}
-use Rattle.pfs_store_contract.specs.Leaving.{is_flushed, without}
+use Rattle.pfs_store_contract.specs.Leaving.{is_flushed, world_without}
 use Rattle.pfs_store_contract.specs.Purging.{node_round, node_share, node_slice, state_round, state_share, state_slice}
-use Rattle.pfs_store_contract.specs.Touching.{completes_at, connections_in, score_in, touched}
+use Rattle.pfs_store_contract.specs.Touching.{completes_at, connections_in, score_in, world_after_touch}
 use Rattle.pfs_store_contract.specs.Worlds.{World}
 use Rattle.pfs_store_contract.specs.declared.records.Limit.{Limit}
 use Rattle.pfs_store_contract.specs.declared.records.Slice.{Slice}
@@ -37,14 +37,14 @@ answer_at w (Some l) = Err l
 
 -- a refusal changes nothing
 abbrev pub world_at : Conf → World → Header → ℕ → ℕ → Option Limit → World
-world_at conf w p rule now None = admitted conf w p rule now
+world_at conf w p rule now None = world_after_admission conf w p rule now
 world_at conf w p rule now (Some l) = w
 
 -- ---- a packet of the state that has its key
 
 abbrev pub world_touched : Conf → World → Header → ℕ → Option State → World
 world_touched conf w p now None = w
-world_touched conf w p now (Some s) = touched conf w s p now
+world_touched conf w p now (Some s) = world_after_touch conf w s p now
 
 -- the rule, the source, whether the handshake completed, and the connections and the score after it
 abbrev pub touch_of : Conf → World → Header → ℕ → State → Touched
@@ -52,8 +52,8 @@ touch_of conf w p now s = record {
   rule = s.rule;
   source = s.source;
   completed = completes_at p s;
-  connections = connections_in conf s.source (touched conf w s p now).states (node_scope_of conf s.rule.0);
-  score = score_in s.source (touched conf w s p now).nodes (node_scope_of conf s.rule.0);
+  connections = connections_in conf s.source (world_after_touch conf w s p now).states (node_scope_of conf s.rule.0);
+  score = score_in s.source (world_after_touch conf w s p now).nodes (node_scope_of conf s.rule.0);
 }
 
 -- ---- states are killed or flushed
@@ -63,14 +63,14 @@ abbrev pub other_than : ℕ → State → Bool
 other_than number s = not (s.number == number)
 
 abbrev pub world_killed : Conf → World → ℕ → ℕ → World
-world_killed conf w number now = without conf w (other_than number) now
+world_killed conf w number now = world_without conf w (other_than number) now
 
 -- the states of a source are flushed, all of them or those of one rule
 abbrev pub stays_unflushed : Addr → Option RuleNo → State → Bool
 stays_unflushed source rule s = not (is_flushed source rule s)
 
 abbrev pub world_flushed : Conf → World → Addr → Option RuleNo → ℕ → World
-world_flushed conf w source rule now = without conf w (stays_unflushed source rule) now
+world_flushed conf w source rule now = world_without conf w (stays_unflushed source rule) now
 
 -- how many are flushed
 abbrev pub flushed_count : World → Addr → Option RuleNo → ℕ

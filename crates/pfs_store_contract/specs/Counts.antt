@@ -17,13 +17,13 @@ use Rattle.pfs_store_contract.specs.declared.records.NodeScope.TheVariants as no
 -- ---- scopes
 
 -- the scope of a rule's source nodes: its own, or that of all rules that track sources globally; none where it tracks none
-abbrev pub node_scope_by : ℕ → Option Scope → Option NodeScope
-node_scope_by rule None = None
-node_scope_by rule (Some scope.Rule) = Some (node_scope.Rule (record { 0 = rule }))
-node_scope_by rule (Some scope.Global) = Some node_scope.Global
+abbrev pub node_scope_under : ℕ → Option Scope → Option NodeScope
+node_scope_under rule None = None
+node_scope_under rule (Some scope.Rule) = Some (node_scope.Rule (record { 0 = rule }))
+node_scope_under rule (Some scope.Global) = Some node_scope.Global
 
 abbrev pub node_scope_of : Conf → ℕ → Option NodeScope
-node_scope_of conf rule = node_scope_by rule (scope_of conf rule)
+node_scope_of conf rule = node_scope_under rule (scope_of conf rule)
 
 -- what `==` says of two scopes
 abbrev pub same_scope : NodeScope → NodeScope → Bool
@@ -77,10 +77,10 @@ scope_nodes scope nodes = length (filter (λ (n : Node). same_scope n.scope scop
 -- ---- maxima
 
 -- a maximum, where there is one, is reached, or exceeded
-abbrev pub reached : Option ℕ → ℕ → Bool
-reached None count = false
-reached (Some most) count = nat_le most count
+abbrev pub reaches_maximum : Option ℕ → ℕ → Bool
+reaches_maximum None count = false
+reaches_maximum (Some most) count = nat_le most count
 
-abbrev pub exceeded : Option ℕ → ℕ → Bool
-exceeded None count = false
-exceeded (Some most) count = nat_lt most count
+abbrev pub exceeds_maximum : Option ℕ → ℕ → Bool
+exceeds_maximum None count = false
+exceeds_maximum (Some most) count = nat_lt most count

@@ -8,7 +8,7 @@ use Rattle.pfs_conf_values.specs.declared.actions.Rate.{Rate}
 use Rattle.pfs_conf_values.specs.declared.actions.Scope.{Scope}
 use Rattle.pfs_conf_values.specs.declared.actions.Scope.TheVariants as scope
 use Rattle.pfs_conf_values.specs.declared.items.RuleNo.{RuleNo}
-use Rattle.pfs_store_contract.specs.Counts.{exceeded, node_scope_of}
+use Rattle.pfs_store_contract.specs.Counts.{exceeds_maximum, node_scope_of}
 use Rattle.pfs_store_contract.specs.Leaving.{is_flushed}
 use Rattle.pfs_store_contract.specs.Touching.{connections_in, score_in}
 use Rattle.pfs_store_contract.specs.Worlds.{World}
@@ -17,7 +17,7 @@ use Rattle.pfs_store_contract.specs.declared.records.State.{State}
 -- the connections of a state's source exceed `max-src-conn` of its rule
 abbrev pub hits_connections : Conf → World → State → Bool
 hits_connections conf w s =
-    exceeded (options_of conf s.rule.0).max_src_conn (connections_in conf s.source w.states (node_scope_of conf s.rule.0))
+    exceeds_maximum (options_of conf s.rule.0).max_src_conn (connections_in conf s.source w.states (node_scope_of conf s.rule.0))
 
 -- its score exceeds 1000 for each handshake of the rule's rate
 abbrev pub over_rate : Option Rate → ℕ → Bool

@@ -10,20 +10,20 @@ use Rattle.pfs_store_contract.specs.declared.records.Node.{Node}
 use Rattle.pfs_store_contract.specs.declared.records.State.{State}
 
 -- a node that had states before and has none after has been idle since now
-abbrev pub idled : Conf → List State → List State → ℕ → Node → Node
-idled conf before after now n =
+abbrev pub node_after_leaving : Conf → List State → List State → ℕ → Node → Node
+node_after_leaving conf before after now n =
     if nat_lt 0 (node_states conf n.scope n.source before) && (node_states conf n.scope n.source after == 0)
     then record n { idle = now }
     else n
 
 -- the world in which these states stay, and these state numbers are pending
-abbrev pub left : Conf → World → List State → List ℕ → ℕ → World
-left conf w states pending now =
-    record w { states = states; nodes = map (idled conf w.states states now) w.nodes; pending_states = pending }
+abbrev pub world_with_stay : Conf → World → List State → List ℕ → ℕ → World
+world_with_stay conf w states pending now =
+    record w { states = states; nodes = map (node_after_leaving conf w.states states now) w.nodes; pending_states = pending }
 
 -- the world in which the states stay that pass a test; pending numbers of states that left are pending no more
-abbrev pub without : Conf → World → (State → Bool) → ℕ → World
-without conf w stays now = left conf w (filter stays w.states) (filter (holds_number (filter stays w.states)) w.pending_states) now
+abbrev pub world_without : Conf → World → (State → Bool) → ℕ → World
+world_without conf w stays now = world_with_stay conf w (filter stays w.states) (filter (holds_number (filter stays w.states)) w.pending_states) now
 
 -- the states of a source that are flushed: all of them, or those of one rule
 abbrev pub is_flushed : Addr → Option RuleNo → State → Bool

@@ -9,7 +9,7 @@ use Rattle.pfs_conf_values.specs.declared.timeouts.TimeoutName.TheVariants as ti
 use Rattle.pfs_track.specs.Lifetimes.{scaled_lifetime, is_expired}
 use Rattle.pfs_store_contract.specs.Worlds.{World}
 use Rattle.pfs_store_contract.specs.Counts.{rule_states, node_states}
-use Rattle.pfs_store_contract.specs.Leaving.{left}
+use Rattle.pfs_store_contract.specs.Leaving.{world_with_stay}
 use Rattle.pfs_store_contract.specs.declared.records.Node.{Node}
 use Rattle.pfs_store_contract.specs.declared.records.NodeScope.{NodeScope}
 use Rattle.pfs_store_contract.specs.declared.records.NodeScope.TheVariants as node_scope
@@ -50,7 +50,7 @@ stays conf states now examined s = not (is_among examined s.number && has_expire
 
 abbrev pub state_slice : Conf → World → ℕ → World
 state_slice conf w now =
-    left conf w (filter (stays conf w.states now (take (state_share conf) (state_round w))) w.states) (drop (state_share conf) (state_round w)) now
+    world_with_stay conf w (filter (stays conf w.states now (take (state_share conf) (state_round w))) w.states) (drop (state_share conf) (state_round w)) now
 
 -- ---- nodes
 

@@ -12,15 +12,15 @@ use Rattle.pfs_store_contract.specs.declared.records.State.{State}
 -- ---- the rounds go on
 
 -- what is left of a round after so many slices, where nothing leaves of what is held
-abbrev pub turned : ℕ → List ℕ → ℕ → List ℕ → List ℕ
-turned share held zero pending = pending
-turned share held (suc slices) pending = turned share held slices (drop share (round held pending))
+abbrev pub round_after_slices : ℕ → List ℕ → ℕ → List ℕ → List ℕ
+round_after_slices share held zero pending = pending
+round_after_slices share held (suc slices) pending = round_after_slices share held slices (drop share (round held pending))
 
 -- the world after so many seconds in which nothing leaves
-abbrev pub moved : Conf → ℕ → World → World
-moved conf seconds w = record w {
-  pending_states = turned (state_share conf) (state_numbers w.states) seconds w.pending_states;
-  pending_nodes = turned (node_share conf) (node_numbers w.nodes) seconds w.pending_nodes;
+abbrev pub world_after_quiet : Conf → ℕ → World → World
+world_after_quiet conf seconds w = record w {
+  pending_states = round_after_slices (state_share conf) (state_numbers w.states) seconds w.pending_states;
+  pending_nodes = round_after_slices (node_share conf) (node_numbers w.nodes) seconds w.pending_nodes;
 }
 
 -- ---- up to when what is held stays

@@ -6,7 +6,7 @@ use Rattle.pfs_conf_values.specs.Configs.{Conf, limit_of, options_of}
 use Rattle.pfs_conf_values.specs.declared.actions.StateOptions.{StateOptions}
 use Rattle.pfs_conf_values.specs.declared.limits.LimitName.TheVariants as limit_name
 use Rattle.pfs_store_contract.specs.Worlds.{World}
-use Rattle.pfs_store_contract.specs.Counts.{node_scope_of, rule_states, node_states, scope_nodes, has_node, reached}
+use Rattle.pfs_store_contract.specs.Counts.{node_scope_of, rule_states, node_states, scope_nodes, has_node, reaches_maximum}
 use Rattle.pfs_store_contract.specs.declared.records.Limit.{Limit}
 use Rattle.pfs_store_contract.specs.declared.records.Limit.TheVariants as limit
 use Rattle.pfs_store_contract.specs.declared.records.NodeScope.{NodeScope}
@@ -19,13 +19,13 @@ first_of None other = other
 -- a source without a node in the scope: the scope's maximum of nodes, then the limit of all nodes
 abbrev pub new_node_limit : Conf → World → StateOptions → NodeScope → Option Limit
 new_node_limit conf w o scope =
-    if reached o.max_src_nodes (scope_nodes scope w.nodes) then Some limit.MaxSrcNodes
+    if reaches_maximum o.max_src_nodes (scope_nodes scope w.nodes) then Some limit.MaxSrcNodes
     else (if nat_le (limit_of conf limit_name.SrcNodes) (length w.nodes) then Some limit.SrcNodes else None)
 
 -- a source with a node: the maximum of its states
 abbrev pub held_node_limit : Conf → World → StateOptions → NodeScope → Addr → Option Limit
 held_node_limit conf w o scope source =
-    if reached o.max_src_states (node_states conf scope source w.states) then Some limit.MaxSrcStates else None
+    if reaches_maximum o.max_src_states (node_states conf scope source w.states) then Some limit.MaxSrcStates else None
 
 -- the limit that a source meets, where the rule tracks sources
 abbrev pub source_limit : Conf → World → StateOptions → Addr → Option NodeScope → Option Limit
@@ -36,6 +36,6 @@ source_limit conf w o source (Some scope) =
 -- one after the other
 abbrev pub limit_in_turn : Conf → World → ℕ → Addr → Option Limit
 limit_in_turn conf w rule source =
-    first_of (if reached (options_of conf rule).max (rule_states rule w.states) then Some limit.Max else None)
+    first_of (if reaches_maximum (options_of conf rule).max (rule_states rule w.states) then Some limit.Max else None)
     (first_of (source_limit conf w (options_of conf rule) source (node_scope_of conf rule))
     (if nat_le (limit_of conf limit_name.States) (length w.states) then Some limit.States else None))

@@ -25,12 +25,12 @@ abbrev pub completes_at : Header → State → Bool
 completes_at p s = completes s.phase (goes_forward p s) p.flags
 
 -- the state after its packet
-abbrev pub stepped : Header → ℕ → State → State
-stepped p now s = record s { phase = phase_after s.phase (goes_forward p s) p.flags; last = now }
+abbrev pub state_after_packet : Header → ℕ → State → State
+state_after_packet p now s = record s { phase = phase_after s.phase (goes_forward p s) p.flags; last = now }
 
 -- the state of a number after its packet
-abbrev pub renewed : ℕ → Header → ℕ → State → State
-renewed number p now s = if s.number == number then stepped p now s else s
+abbrev pub numbered_state_after : ℕ → Header → ℕ → State → State
+numbered_state_after number p now s = if s.number == number then state_after_packet p now s else s
 
 -- ---- scores
 
@@ -39,14 +39,14 @@ abbrev pub node_score : NodeScope → Addr → List Node → Score
 node_score scope source nodes = unwrap_or (option_map (λ (n : Node). n.score) (find (is_node scope source) nodes)) zero_score
 
 -- the node of a scope and source after a handshake
-abbrev pub rescored : NodeScope → Addr → ℕ → ℕ → Node → Node
-rescored scope source seconds now n = if is_node scope source n then record n { score = score_after seconds n.score now } else n
+abbrev pub node_after_handshake : NodeScope → Addr → ℕ → ℕ → Node → Node
+node_after_handshake scope source seconds now n = if is_node scope source n then record n { score = score_after seconds n.score now } else n
 
 -- the nodes after a handshake of a source: only a rule that tracks sources and has a rate keeps a score
 abbrev pub nodes_scored : List Node → Addr → ℕ → Option NodeScope → Option Rate → List Node
 nodes_scored nodes source now None rate = nodes
 nodes_scored nodes source now (Some scope) None = nodes
-nodes_scored nodes source now (Some scope) (Some rate) = map (rescored scope source rate.seconds now) nodes
+nodes_scored nodes source now (Some scope) (Some rate) = map (node_after_handshake scope source rate.seconds now) nodes
 
 -- ---- the world after a packet of a state
 
@@ -56,9 +56,9 @@ nodes_touched conf nodes s now true = nodes_scored nodes s.source now (node_scop
 nodes_touched conf nodes s now false = nodes
 
 -- the phase and the last moment of the state are renewed, and its node's score
-abbrev pub touched : Conf → World → State → Header → ℕ → World
-touched conf w s p now = record w {
-  states = map (renewed s.number p now) w.states;
+abbrev pub world_after_touch : Conf → World → State → Header → ℕ → World
+world_after_touch conf w s p now = record w {
+  states = map (numbered_state_after s.number p now) w.states;
   nodes = nodes_touched conf w.nodes s now (completes_at p s);
 }
 

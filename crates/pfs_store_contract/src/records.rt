@@ -1,4 +1,4 @@
-// What is held: states and source nodes, and what calls tell of them.
+//! What is held: states and source nodes, and what calls tell of them.
 
 use pfs_addr_values::{Addr, Dir, FlowKey};
 use pfs_conf_values::RuleNo;

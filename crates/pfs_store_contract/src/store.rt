@@ -1,11 +1,11 @@
-// What every kind of store does: the changes of the states and source nodes that it holds.
+//! What every kind of store does: the changes of the states and source nodes that it holds.
 
 ghost use Rattle.std.specs.Prelude.{◌≡◌, ◌+◌, ◌<◌, ◌≤◌, ◌^◌, [], Bool, false, true, None, Some, IfOk, IsOk, IsSome, OnErr, length, option_map};
 ghost use Rattle.pfs_addr_values.specs.Keys.{key_of};
 ghost use Rattle.pfs_conf_values.specs.Configs.{Conf, options_at};
 ghost use Rattle.pfs_store_contract.specs.Calls.{packet_limit, answer_at, world_at, source_states, world_flushed, flushed_count, world_killed, node_slice_of, state_slice_of, touch_of, world_touched, state_number, state_rule};
 ghost use Rattle.pfs_store_contract.specs.Purging.{node_slice, state_slice};
-ghost use Rattle.pfs_store_contract.specs.Quiet.{NodesStay, StatesStay, moved};
+ghost use Rattle.pfs_store_contract.specs.Quiet.{NodesStay, StatesStay, world_after_quiet};
 ghost use Rattle.pfs_store_contract.specs.Worlds.{IsUpToNow, World, holds_number, state_with};
 
 use crate::records::{Limit, Slice, StateNo, Touched, Watched};
@@ -181,7 +181,7 @@ pub trait Store {
     /// slices, as if each of them had been done. A kind of store that cannot answers 0. It looks at no record. (own)
     fn pass_over(&mut self, seconds: u64) -> u64
         ensures most { result ≤ seconds }
-        ensures world { world self.new ≡ moved (config self.old) result (world self.old) }
+        ensures world { world self.new ≡ world_after_quiet (config self.old) result (world self.old) }
         ensures config { config self.new ≡ config self.old }
     {
         0

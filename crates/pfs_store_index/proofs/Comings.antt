@@ -18,7 +18,7 @@ use Rattle.pfs_conf_values.specs.declared.actions.Scope.{Scope}
 use Rattle.pfs_conf_values.specs.declared.actions.Scope.TheVariants as scope
 use Rattle.pfs_track.specs.StatePhases.{is_done}
 use Rattle.pfs_store_contract.specs.Admission.{new_node, nodes_with}
-use Rattle.pfs_store_contract.specs.Counts.{has_node, in_scope, is_connection, is_node, is_of_node, is_of_rule, is_of_source, node_connections, node_scope_by, node_scope_of, node_states, rule_states}
+use Rattle.pfs_store_contract.specs.Counts.{has_node, in_scope, is_connection, is_node, is_of_node, is_of_rule, is_of_source, node_connections, node_scope_under, node_scope_of, node_states, rule_states}
 use Rattle.pfs_conf_values.specs.Bounds.{is_global}
 use Rattle.pfs_store_contract.specs.Plain.{AreCounts}
 use Rattle.pfs_store_contract.specs.declared.records.NodeScope.{NodeScope}
@@ -29,7 +29,7 @@ use Rattle.pfs_store_index.specs.Sourced.{source_at}
 use Rattle.pfs_store_index.specs.Tallies.{is_tally, nodes_of}
 use Rattle.pfs_store_index.specs.declared.nodes.Tally.{Tally}
 use Rattle.pfs_store_index.specs.declared.indexes.Entry.{Entry}
-use Rattle.pfs_store_index.specs.Ties.{HasRule, HasTally, IsCounted, IsFew, IsScope, IsScored, IsScoped, at_node, entry_of, has_key, is_at, is_pair, joined, joined_of, key_in, new_tally}
+use Rattle.pfs_store_index.specs.Ties.{HasRule, HasTally, IsCounted, IsFew, IsScope, IsScored, IsScoped, at_node, entry_of, has_key, is_at, is_pair, tallies_with_state, joined_of, key_in, new_tally}
 use Rattle.pfs_store_index.proofs.OneNode.{IsFaithful, and_both, and_false, and_left, and_right, of_node, same_scope_self, scope_of-IsScope, scoped-at, tally-at}
 use Rattle.pfs_store_index.proofs.Searches.{all-map, all-push, all-weaker, any-found, any-push, count-le, count-push, map-push, none-any}
 
@@ -97,10 +97,10 @@ all-apart conf s xs (t ∷ ts) p (g, gs) (a, more) (h, hs) = (counted-apart conf
 pub in_scope-of : (conf : Conf) (sc : NodeScope) (rule : ℕ) → IsScope conf sc → in_scope conf sc rule ≡ true → node_scope_of conf rule ≡ Some sc
 in_scope-of conf (node_scope.Rule r) rule k h =
     let q : rule ≡ r.0 = grind (arith, nat_tests) in
-    ap (node_scope_of conf) q ∙ ap (node_scope_by r.0) k
+    ap (node_scope_of conf) q ∙ ap (node_scope_under r.0) k
 in_scope-of conf node_scope.Global rule k h = by (scope_of conf rule) refl h
   where
-    by : (o : Option Scope) → scope_of conf rule ≡ o → is_global o ≡ true → node_scope_by rule o ≡ Some node_scope.Global
+    by : (o : Option Scope) → scope_of conf rule ≡ o → is_global o ≡ true → node_scope_under rule o ≡ Some node_scope.Global
     by None e z = absurd cc
     by (Some scope.Rule) e z = absurd cc
     by (Some scope.Global) e z = refl
@@ -161,12 +161,12 @@ none-untracked a (t ∷ ts) = (refl, none-untracked a ts)
 
 pub counted-came : (conf : Conf) (o : Option NodeScope) (s : State) (xs : List State) (ts : List Tally) → node_scope_of conf s.rule.0 ≡ o → is_done s.phase ≡ false
     → AllByRecursion (IsScoped conf) ts → AllByRecursion (IsCounted conf xs) ts → AllByRecursion (HasTally conf ts) xs
-    → AllByRecursion (IsCounted conf (xs ++ s ∷ [])) (joined o s ts)
+    → AllByRecursion (IsCounted conf (xs ++ s ∷ [])) (tallies_with_state o s ts)
 counted-came conf None s xs ts e p g h n =
     all-apart conf s xs ts p g (subst (λ (o : Option NodeScope). AllByRecursion (λ t. is_at o s.source t ≡ false) ts) (sym e) (none-untracked s.source ts)) h
 counted-came conf (Some sc) s xs ts e p g h n = go (find (is_tally sc s.source) ts) refl
   where
-    go : (o : Option Tally) → find (is_tally sc s.source) ts ≡ o → AllByRecursion (IsCounted conf (xs ++ s ∷ [])) (joined (Some sc) s ts)
+    go : (o : Option Tally) → find (is_tally sc s.source) ts ≡ o → AllByRecursion (IsCounted conf (xs ++ s ∷ [])) (tallies_with_state (Some sc) s ts)
     go (Some t) f =
         let w = subst (λ (o : Option NodeScope). AllByRecursion (IsCounted conf (xs ++ s ∷ [])) (map (at_node o s.source joined_of) ts)) e (all-joined conf s xs ts p g h) in
         rw f w
@@ -180,7 +180,7 @@ pub joined-faithful : IsFaithful joined_of
 joined-faithful = record { scope = λ t. refl; source = λ t. refl; number = λ t. refl }
 
 pub scoped-came : (conf : Conf) (o : Option NodeScope) (s : State) (ts : List Tally) → node_scope_of conf s.rule.0 ≡ o → AllByRecursion (IsScoped conf) ts
-    → AllByRecursion (IsScoped conf) (joined o s ts)
+    → AllByRecursion (IsScoped conf) (tallies_with_state o s ts)
 scoped-came conf None s ts e h = h
 scoped-came conf (Some sc) s ts e h = go (is_some (find (is_tally sc s.source) ts))
   where
@@ -188,7 +188,7 @@ scoped-came conf (Some sc) s ts e h = go (is_some (find (is_tally sc s.source) t
     go true = scoped-at conf (Some sc) s.source joined_of joined-faithful ts h
     go false = all-push (IsScoped conf) (new_tally sc s) ts h (scope_of-IsScope conf s.rule.0 sc e)
 
-pub scored-came : (o : Option NodeScope) (s : State) (ts : List Tally) → AllByRecursion IsScored ts → AllByRecursion IsScored (joined o s ts)
+pub scored-came : (o : Option NodeScope) (s : State) (ts : List Tally) → AllByRecursion IsScored ts → AllByRecursion IsScored (tallies_with_state o s ts)
 scored-came None s ts h = h
 scored-came (Some sc) s ts h = go (is_some (find (is_tally sc s.source) ts))
   where
@@ -207,7 +207,7 @@ or_true : (b : Bool) → (b || true) ≡ true
 or_true true = refl
 or_true false = refl
 
-has-joined : (o : Option NodeScope) (s : State) (ts : List Tally) (sc : NodeScope) (a : Addr) → list_any (is_tally sc a) ts ≡ true → list_any (is_tally sc a) (joined o s ts) ≡ true
+has-joined : (o : Option NodeScope) (s : State) (ts : List Tally) (sc : NodeScope) (a : Addr) → list_any (is_tally sc a) ts ≡ true → list_any (is_tally sc a) (tallies_with_state o s ts) ≡ true
 has-joined None s ts sc a h = h
 has-joined (Some own) s ts sc a h = go (is_some (find (is_tally own s.source) ts))
   where
@@ -215,7 +215,7 @@ has-joined (Some own) s ts sc a h = go (is_some (find (is_tally own s.source) ts
     go true = tally-at sc a (Some own) s.source joined_of joined-faithful ts ∙ h
     go false = any-push (is_tally sc a) (new_tally own s) ts ∙ ap (λ b. is_tally sc a (new_tally own s) || b) h ∙ or_true (is_tally sc a (new_tally own s))
 
-has-own : (sc : NodeScope) (s : State) (ts : List Tally) → list_any (is_tally sc s.source) (joined (Some sc) s ts) ≡ true
+has-own : (sc : NodeScope) (s : State) (ts : List Tally) → list_any (is_tally sc s.source) (tallies_with_state (Some sc) s ts) ≡ true
 has-own sc s ts = go (is_some (find (is_tally sc s.source) ts)) refl
   where
     go : (b : Bool) → is_some (find (is_tally sc s.source) ts) ≡ b → list_any (is_tally sc s.source) (if b then map (at_node (Some sc) s.source joined_of) ts else ts ++ new_tally sc s ∷ []) ≡ true
@@ -225,11 +225,11 @@ has-own sc s ts = go (is_some (find (is_tally sc s.source) ts)) refl
         any-push (is_tally sc s.source) (new_tally sc s) ts ∙ ap (λ b. b || list_any (is_tally sc s.source) ts) y
 
 pub noded-came : (conf : Conf) (o : Option NodeScope) (s : State) (xs : List State) (ts : List Tally) → node_scope_of conf s.rule.0 ≡ o → AllByRecursion (HasTally conf ts) xs
-    → AllByRecursion (HasTally conf (joined o s ts)) (xs ++ s ∷ [])
+    → AllByRecursion (HasTally conf (tallies_with_state o s ts)) (xs ++ s ∷ [])
 noded-came conf o s xs ts e h =
-    all-push (HasTally conf (joined o s ts)) s xs
-    (all-weaker (HasTally conf ts) (HasTally conf (joined o s ts)) (λ x k sc f. has-joined o s ts sc x.source (k sc f)) xs h)
-    (λ sc f. subst (λ (z : Option NodeScope). list_any (is_tally sc s.source) (joined z s ts) ≡ true) (sym f ∙ e) (has-own sc s ts))
+    all-push (HasTally conf (tallies_with_state o s ts)) s xs
+    (all-weaker (HasTally conf ts) (HasTally conf (tallies_with_state o s ts)) (λ x k sc f. has-joined o s ts sc x.source (k sc f)) xs h)
+    (λ sc f. subst (λ (z : Option NodeScope). list_any (is_tally sc s.source) (tallies_with_state z s ts) ≡ true) (sym f ∙ e) (has-own sc s ts))
 
 nodes-joined : (o : Option NodeScope) (a : Addr) (ts : List Tally) → nodes_of (map (at_node o a joined_of) ts) ≡ nodes_of ts
 nodes-joined o a [] = refl
@@ -246,7 +246,7 @@ has_node-of sc a (t ∷ ts) = ap (λ b. is_node sc a t.node || b) (has_node-of s
 pub has_node-tally : (sc : NodeScope) (a : Addr) (ts : List Tally) → has_node sc a (nodes_of ts) ≡ is_some (find (is_tally sc a) ts)
 has_node-tally sc a ts = has_node-of sc a ts ∙ sym (any-found (is_tally sc a) ts)
 
-pub nodes-came : (o : Option NodeScope) (s : State) (ts : List Tally) → nodes_of (joined o s ts) ≡ nodes_with (nodes_of ts) s.number s.source o
+pub nodes-came : (o : Option NodeScope) (s : State) (ts : List Tally) → nodes_of (tallies_with_state o s ts) ≡ nodes_with (nodes_of ts) s.number s.source o
 nodes-came None s ts = refl
 nodes-came (Some sc) s ts =
     go (is_some (find (is_tally sc s.source) ts))

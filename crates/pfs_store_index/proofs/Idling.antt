@@ -3,7 +3,7 @@ use Rattle.std.proofs.Common.{◌≡◌, ◌∙◌, ◌≤◌, ◌==◌, ◌&&�
 use Rattle.std.proofs.lemmas.Bool.Decides.{nat_tests}
 use Rattle.pfs_conf_values.specs.Configs.{Conf}
 use Rattle.pfs_store_contract.specs.Counts.{is_of_node, node_states}
-use Rattle.pfs_store_contract.specs.Leaving.{idled}
+use Rattle.pfs_store_contract.specs.Leaving.{node_after_leaving}
 use Rattle.pfs_store_contract.specs.declared.records.Node.{Node}
 use Rattle.pfs_store_contract.specs.declared.records.State.{State}
 
@@ -14,7 +14,7 @@ node_number n = n.number
 none_left : (c : ℕ) → (nat_lt 0 c && (c == 0)) ≡ false
 none_left c = grind (arith, nat_tests)
 
-pub idled-same : (conf : Conf) (xs : List State) (now : ℕ) (ns : List Node) → ns ≡ map (idled conf xs xs now) ns
+pub idled-same : (conf : Conf) (xs : List State) (now : ℕ) (ns : List Node) → ns ≡ map (node_after_leaving conf xs xs now) ns
 idled-same conf xs now [] = refl
 idled-same conf xs now (n ∷ ns) =
     (λ i. ap (λ (b : Bool). if b then record n { idle = now } else n) (sym (none_left (node_states conf n.scope n.source xs))) i ∷ idled-same conf xs now ns i)
@@ -36,7 +36,7 @@ first_no : (a b c : ℕ) → b ≤ a → c ≤ b → (nat_lt 0 a && (b == 0)) �
 first_no a b c l m h = grind (arith, nat_tests)
 
 idled-node : (conf : Conf) (xs : List State) (p q : State → Bool) (now : ℕ) (n : Node)
-    → idled conf (filter p xs) (filter q (filter p xs)) now (idled conf xs (filter p xs) now n) ≡ idled conf xs (filter q (filter p xs)) now n
+    → node_after_leaving conf (filter p xs) (filter q (filter p xs)) now (node_after_leaving conf xs (filter p xs) now n) ≡ node_after_leaving conf xs (filter q (filter p xs)) now n
 idled-node conf xs p q now n = go (nat_lt 0 (node_states conf n.scope n.source xs) && (node_states conf n.scope n.source (filter p xs) == 0)) refl
   where
     l : node_states conf n.scope n.source (filter p xs) ≤ node_states conf n.scope n.source xs
@@ -46,18 +46,18 @@ idled-node conf xs p q now n = go (nat_lt 0 (node_states conf n.scope n.source x
     m = count_fewer (is_of_node conf n.scope n.source) q (filter p xs)
 
     go : (b : Bool) → (nat_lt 0 (node_states conf n.scope n.source xs) && (node_states conf n.scope n.source (filter p xs) == 0)) ≡ b
-        → idled conf (filter p xs) (filter q (filter p xs)) now (idled conf xs (filter p xs) now n) ≡ idled conf xs (filter q (filter p xs)) now n
+        → node_after_leaving conf (filter p xs) (filter q (filter p xs)) now (node_after_leaving conf xs (filter p xs) now n) ≡ node_after_leaving conf xs (filter q (filter p xs)) now n
     go true t = let y = first_yes _ _ _ l m t in rw (t, y.0, y.1) refl
     go false t = rw (t, first_no _ _ _ l m t) refl
 
 idled-twice : (conf : Conf) (xs : List State) (p q : State → Bool) (now : ℕ) (ns : List Node)
-    → map (idled conf (filter p xs) (filter q (filter p xs)) now) (map (idled conf xs (filter p xs) now) ns) ≡ map (idled conf xs (filter q (filter p xs)) now) ns
+    → map (node_after_leaving conf (filter p xs) (filter q (filter p xs)) now) (map (node_after_leaving conf xs (filter p xs) now) ns) ≡ map (node_after_leaving conf xs (filter q (filter p xs)) now) ns
 idled-twice conf xs p q now [] = refl
 idled-twice conf xs p q now (n ∷ ns) = (λ i. idled-node conf xs p q now n i ∷ idled-twice conf xs p q now ns i)
 
 pub step-nodes : (conf : Conf) (p q : State → Bool) (now : ℕ) (xs0 xs xs' : List State) (ns0 ns ns' : List Node) → xs ≡ filter p xs0 → xs' ≡ filter q xs
-    → ns ≡ map (idled conf xs0 xs now) ns0 → ns' ≡ map (idled conf xs xs' now) ns → ns' ≡ map (idled conf xs0 xs' now) ns0
+    → ns ≡ map (node_after_leaving conf xs0 xs now) ns0 → ns' ≡ map (node_after_leaving conf xs xs' now) ns → ns' ≡ map (node_after_leaving conf xs0 xs' now) ns0
 step-nodes conf p q now xs0 xs xs' ns0 ns ns' e e' h h' =
     let e2 : xs' ≡ filter q (filter p xs0) = e' ∙ ap (filter q) e in
-    h' ∙ ap (map (idled conf xs xs' now)) h ∙ (λ i. map (idled conf (e i) (e2 i) now) (map (idled conf xs0 (e i) now) ns0)) ∙ idled-twice conf xs0 p q now ns0
-    ∙ (λ i. map (idled conf xs0 (sym e2 i) now) ns0)
+    h' ∙ ap (map (node_after_leaving conf xs xs' now)) h ∙ (λ i. map (node_after_leaving conf (e i) (e2 i) now) (map (node_after_leaving conf xs0 (e i) now) ns0)) ∙ idled-twice conf xs0 p q now ns0
+    ∙ (λ i. map (node_after_leaving conf xs0 (sym e2 i) now) ns0)

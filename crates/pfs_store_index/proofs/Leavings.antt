@@ -10,7 +10,7 @@ use Rattle.pfs_addr_values.specs.declared.packets.FlowKey.{FlowKey}
 use Rattle.pfs_conf_values.specs.Configs.{Conf}
 use Rattle.pfs_track.specs.StatePhases.{is_done}
 use Rattle.pfs_store_contract.specs.Counts.{is_connection, is_of_node, is_of_rule, is_of_source, node_connections, node_scope_of, node_states, rule_states}
-use Rattle.pfs_store_contract.specs.Leaving.{idled}
+use Rattle.pfs_store_contract.specs.Leaving.{node_after_leaving}
 use Rattle.pfs_store_contract.specs.Calls.{other_than}
 use Rattle.pfs_store_contract.specs.Plain.{AreCounts}
 use Rattle.pfs_store_contract.specs.declared.records.Node.{Node}
@@ -37,7 +37,7 @@ record_number p = p.state.number
 -- a node's tally in the states that are left
 abbrev parted : Conf → List State → List State → ℕ → Tally → Tally
 parted conf before after now t = record {
-  node = idled conf before after now t.node;
+  node = node_after_leaving conf before after now t.node;
   states = node_states conf t.node.scope t.node.source after;
   connections = node_connections conf t.node.scope t.node.source after;
 }
@@ -135,17 +135,17 @@ counted-left conf s now xs [] r f g h = tt
 counted-left conf s now xs (t ∷ ts) r f (g, gs) (h, hs) =
     (still (left_at conf s now t) (left-parted conf s now xs t r f g h), counted-left conf s now xs ts r f gs hs)
   where
-    same_scope_of : (idled conf xs (filter (other_than s.number) xs) now t.node).scope ≡ t.node.scope
+    same_scope_of : (node_after_leaving conf xs (filter (other_than s.number) xs) now t.node).scope ≡ t.node.scope
     same_scope_of = idle-part (λ (n : Node). n.scope) refl
       where
-        idle-part : {Y : Type 0} (part : Node → Y) → part (record t.node { idle = now }) ≡ part t.node → part (idled conf xs (filter (other_than s.number) xs) now t.node) ≡ part t.node
+        idle-part : {Y : Type 0} (part : Node → Y) → part (record t.node { idle = now }) ≡ part t.node → part (node_after_leaving conf xs (filter (other_than s.number) xs) now t.node) ≡ part t.node
         idle-part part e = go (nat_lt 0 (node_states conf t.node.scope t.node.source xs) && (node_states conf t.node.scope t.node.source (filter (other_than s.number) xs) == 0))
           where
             go : (b : Bool) → part (if b then record t.node { idle = now } else t.node) ≡ part t.node
             go true = e
             go false = refl
 
-    same_source_of : (idled conf xs (filter (other_than s.number) xs) now t.node).source ≡ t.node.source
+    same_source_of : (node_after_leaving conf xs (filter (other_than s.number) xs) now t.node).source ≡ t.node.source
     same_source_of = go (nat_lt 0 (node_states conf t.node.scope t.node.source xs) && (node_states conf t.node.scope t.node.source (filter (other_than s.number) xs) == 0))
       where
         go : (b : Bool) → (if b then record t.node { idle = now } else t.node).source ≡ t.node.source
@@ -155,14 +155,14 @@ counted-left conf s now xs (t ∷ ts) r f (g, gs) (h, hs) =
     still : (u : Tally) → u ≡ parted conf xs (filter (other_than s.number) xs) now t → IsCounted conf (filter (other_than s.number) xs) u
     still u e = subst (IsCounted conf (filter (other_than s.number) xs)) (sym e)
         (λ j. record {
-          node = idled conf xs (filter (other_than s.number) xs) now t.node;
+          node = node_after_leaving conf xs (filter (other_than s.number) xs) now t.node;
           states = node_states conf (sym same_scope_of j) (sym same_source_of j) (filter (other_than s.number) xs);
           connections = node_connections conf (sym same_scope_of j) (sym same_source_of j) (filter (other_than s.number) xs);
         })
 
 pub nodes-left : (conf : Conf) (s : State) (now : ℕ) (xs : List State) (ts : List Tally) → IsRisingBy state_number xs → find (has_number state_number s.number) xs ≡ Some s
     → AllByRecursion (IsScoped conf) ts → AllByRecursion (IsCounted conf xs) ts
-    → nodes_of (map (left_at conf s now) ts) ≡ map (idled conf xs (filter (other_than s.number) xs) now) (nodes_of ts)
+    → nodes_of (map (left_at conf s now) ts) ≡ map (node_after_leaving conf xs (filter (other_than s.number) xs) now) (nodes_of ts)
 nodes-left conf s now xs [] r f g h = refl
 nodes-left conf s now xs (t ∷ ts) r f (g, gs) (h, hs) =
     (λ i. (left-parted conf s now xs t r f g h i).node ∷ nodes-left conf s now xs ts r f gs hs i)

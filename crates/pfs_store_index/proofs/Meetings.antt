@@ -11,7 +11,7 @@ use Rattle.pfs_track.specs.Scores.{score_after}
 use Rattle.pfs_track.specs.StatePhases.{is_done, phase_after}
 use Rattle.pfs_track.specs.declared.scores.Score.{Score}
 use Rattle.pfs_store_contract.specs.Counts.{is_connection, is_of_node, node_connections, node_scope_of, node_states}
-use Rattle.pfs_store_contract.specs.Touching.{completes_at, goes_forward, nodes_scored, nodes_touched, renewed, stepped}
+use Rattle.pfs_store_contract.specs.Touching.{completes_at, goes_forward, nodes_scored, nodes_touched, numbered_state_after, state_after_packet}
 use Rattle.pfs_store_contract.specs.declared.records.Node.{Node}
 use Rattle.pfs_store_contract.specs.declared.records.NodeScope.{NodeScope}
 use Rattle.pfs_store_contract.specs.declared.records.State.{State}
@@ -26,37 +26,37 @@ use Rattle.pfs_store_index.proofs.RisingWalks.{Apart, IsRisingBy, has_number, he
 -- ---- what a packet leaves as it was
 
 abbrev pub IsBlind : {X : Type 0} → ℕ → Header → ℕ → (State → X) → Type 0
-IsBlind n p now f = (s : State) → f (renewed n p now s) ≡ f s
+IsBlind n p now f = (s : State) → f (numbered_state_after n p now s) ≡ f s
 
-pub blind : {X : Type 0} (n : ℕ) (p : Header) (now : ℕ) (f : State → X) → ((s : State) → f (stepped p now s) ≡ f s) → IsBlind n p now f
+pub blind : {X : Type 0} (n : ℕ) (p : Header) (now : ℕ) (f : State → X) → ((s : State) → f (state_after_packet p now s) ≡ f s) → IsBlind n p now f
 blind n p now f h s = go (s.number == n)
   where
-    go : (b : Bool) → f (if b then stepped p now s else s) ≡ f s
+    go : (b : Bool) → f (if b then state_after_packet p now s else s) ≡ f s
     go true = h s
     go false = refl
 
-pub map-blind : {X : Type 0} (n : ℕ) (p : Header) (now : ℕ) (f : State → X) (xs : List State) → IsBlind n p now f → map f (map (renewed n p now) xs) ≡ map f xs
+pub map-blind : {X : Type 0} (n : ℕ) (p : Header) (now : ℕ) (f : State → X) (xs : List State) → IsBlind n p now f → map f (map (numbered_state_after n p now) xs) ≡ map f xs
 map-blind n p now f [] h = refl
 map-blind n p now f (x ∷ xs) h = (λ i. h x i ∷ map-blind n p now f xs h i)
 
-pub count-blind : (n : ℕ) (p : Header) (now : ℕ) (q : State → Bool) (xs : List State) → IsBlind n p now q → length (filter q (map (renewed n p now) xs)) ≡ length (filter q xs)
+pub count-blind : (n : ℕ) (p : Header) (now : ℕ) (q : State → Bool) (xs : List State) → IsBlind n p now q → length (filter q (map (numbered_state_after n p now) xs)) ≡ length (filter q xs)
 count-blind n p now q [] h = refl
 count-blind n p now q (x ∷ xs) h = rw (h x) (go (count-blind n p now q xs h) (q x))
   where
-    go : length (filter q (map (renewed n p now) xs)) ≡ length (filter q xs) → (b : Bool)
-        → length (cond b (renewed n p now x ∷ filter q (map (renewed n p now) xs)) (filter q (map (renewed n p now) xs))) ≡ length (cond b (x ∷ filter q xs) (filter q xs))
+    go : length (filter q (map (numbered_state_after n p now) xs)) ≡ length (filter q xs) → (b : Bool)
+        → length (cond b (numbered_state_after n p now x ∷ filter q (map (numbered_state_after n p now) xs)) (filter q (map (numbered_state_after n p now) xs))) ≡ length (cond b (x ∷ filter q xs) (filter q xs))
     go m true = omega (arith, m)
     go m false = m
 
-pub any-blind : (n : ℕ) (p : Header) (now : ℕ) (q : State → Bool) (xs : List State) → IsBlind n p now q → list_any q (map (renewed n p now) xs) ≡ list_any q xs
+pub any-blind : (n : ℕ) (p : Header) (now : ℕ) (q : State → Bool) (xs : List State) → IsBlind n p now q → list_any q (map (numbered_state_after n p now) xs) ≡ list_any q xs
 any-blind n p now q [] h = refl
 any-blind n p now q (x ∷ xs) h = (λ i. h x i || any-blind n p now q xs h i)
 
-pub all-blind : (n : ℕ) (p : Header) (now : ℕ) (P : State → Type 0) (xs : List State) → ((s : State) → P s → P (stepped p now s)) → AllByRecursion P xs → AllByRecursion P (map (renewed n p now) xs)
+pub all-blind : (n : ℕ) (p : Header) (now : ℕ) (P : State → Type 0) (xs : List State) → ((s : State) → P s → P (state_after_packet p now s)) → AllByRecursion P xs → AllByRecursion P (map (numbered_state_after n p now) xs)
 all-blind n p now P [] keep h = tt
 all-blind n p now P (x ∷ xs) keep (h, hs) = (go (x.number == n), all-blind n p now P xs keep hs)
   where
-    go : (b : Bool) → P (if b then stepped p now x else x)
+    go : (b : Bool) → P (if b then state_after_packet p now x else x)
     go true = keep x h
     go false = h
 
@@ -64,11 +64,11 @@ all-blind n p now P (x ∷ xs) keep (h, hs) = (go (x.number == n), all-blind n p
 
 -- a record after a packet
 abbrev pub renewed_record : ℕ → Header → ℕ → Placed → Placed
-renewed_record n p now r = placed_at r.place (renewed n p now r.state)
+renewed_record n p now r = placed_at r.place (numbered_state_after n p now r.state)
 
-pub states-renewed : (n : ℕ) (p : Header) (now : ℕ) (rs : List Placed) → states_of (map (renewed_record n p now) rs) ≡ map (renewed n p now) (states_of rs)
+pub states-renewed : (n : ℕ) (p : Header) (now : ℕ) (rs : List Placed) → states_of (map (renewed_record n p now) rs) ≡ map (numbered_state_after n p now) (states_of rs)
 states-renewed n p now [] = refl
-states-renewed n p now (r ∷ rs) = ap (λ xs. renewed n p now r.state ∷ xs) (states-renewed n p now rs)
+states-renewed n p now (r ∷ rs) = ap (λ xs. numbered_state_after n p now r.state ∷ xs) (states-renewed n p now rs)
 
 renew-apart : (n : ℕ) (p : Header) (now : ℕ) (rs : List Placed) → Apart record_number n rs → map (renewed_record n p now) rs ≡ rs
 renew-apart n p now [] a = refl
@@ -81,18 +81,18 @@ put-apart n st (r ∷ rs) e (a, more) =
     rw a' (ap (λ xs. r ∷ xs) (put-apart n st rs e more))
 
 pub put-renewed : (n : ℕ) (p : Header) (now : ℕ) (s : Placed) (st : State) (rs : List Placed) → IsRisingBy record_number rs → find (has_number record_number n) rs ≡ Some s
-    → st ≡ renewed n p now s.state → st.number ≡ n → map (put st) rs ≡ map (renewed_record n p now) rs
+    → st ≡ numbered_state_after n p now s.state → st.number ≡ n → map (put st) rs ≡ map (renewed_record n p now) rs
 put-renewed n p now s st [] r f e k = refl
 put-renewed n p now s st (x ∷ xs) r f e k = go (put-renewed n p now s st xs (rest-rising record_number x xs r)) (x.state.number == n) refl
   where
-    go : (find (has_number record_number n) xs ≡ Some s → st ≡ renewed n p now s.state → st.number ≡ n → map (put st) xs ≡ map (renewed_record n p now) xs)
+    go : (find (has_number record_number n) xs ≡ Some s → st ≡ numbered_state_after n p now s.state → st.number ≡ n → map (put st) xs ≡ map (renewed_record n p now) xs)
         → (b : Bool) → (x.state.number == n) ≡ b → map (put st) (x ∷ xs) ≡ map (renewed_record n p now) (x ∷ xs)
     go more true t =
         let q = head-is record_number n x s xs t f in
         let a : Apart record_number n xs = subst (λ m. Apart record_number m xs) (same_number n x.state.number t) (head-apart record_number x xs r) in
         let y : (x.state.number == st.number) ≡ true = ap (λ m. x.state.number == m) k ∙ t in
         let h : put st x ≡ renewed_record n p now x =
-        ap (λ (b : Bool). if b then placed_at x.place st else x) y ∙ ap (placed_at x.place) (e ∙ ap (λ (z : Placed). renewed n p now z.state) (sym q)) in
+        ap (λ (b : Bool). if b then placed_at x.place st else x) y ∙ ap (placed_at x.place) (e ∙ ap (λ (z : Placed). numbered_state_after n p now z.state) (sym q)) in
         (λ i. h i ∷ (put-apart n st xs k a ∙ sym (renew-apart n p now xs a)) i)
     go more false t =
         let y : (x.state.number == st.number) ≡ false = ap (λ m. x.state.number == m) k ∙ t in
@@ -141,9 +141,9 @@ key-renewed n p now k (r ∷ rs) = on (r.state.number == n) (key-renewed n p now
     go x e false m = m
 
     on : (c : Bool) → option_map entry_of (find (has_key k) (map (renewed_record n p now) rs)) ≡ option_map entry_of (find (has_key k) rs)
-        → option_map entry_of (cond (has_key k (placed_at r.place (if c then stepped p now r.state else r.state))) (Some (placed_at r.place (if c then stepped p now r.state else r.state))) (find (has_key k) (map (renewed_record n p now) rs)))
+        → option_map entry_of (cond (has_key k (placed_at r.place (if c then state_after_packet p now r.state else r.state))) (Some (placed_at r.place (if c then state_after_packet p now r.state else r.state))) (find (has_key k) (map (renewed_record n p now) rs)))
         ≡ option_map entry_of (cond (has_key k r) (Some r) (find (has_key k) rs))
-    on true m = go (placed_at r.place (stepped p now r.state)) refl (has_key k r) m
+    on true m = go (placed_at r.place (state_after_packet p now r.state)) refl (has_key k r) m
     on false m = go r refl (has_key k r) m
 
 pub keys-renewed : (n : ℕ) (p : Header) (now : ℕ) (rs : List Placed) → map key_in (map (renewed_record n p now) rs) ≡ map key_in rs
@@ -154,11 +154,11 @@ keys-renewed n p now (r ∷ rs) = (λ i. blind n p now (λ (s : State). s.key) (
 
 -- a count of states, which only that of the number changes
 count-renewed : (n : ℕ) (p : Header) (now : ℕ) (q : State → Bool) (s : State) (xs : List State) → IsRisingBy state_number xs → find (has_number state_number n) xs ≡ Some s
-    → length (filter q (map (renewed n p now) xs)) + cond (q s) 1 0 ≡ length (filter q xs) + cond (q (stepped p now s)) 1 0
+    → length (filter q (map (numbered_state_after n p now) xs)) + cond (q s) 1 0 ≡ length (filter q xs) + cond (q (state_after_packet p now s)) 1 0
 count-renewed n p now q s [] r f = absurd cc
 count-renewed n p now q s (x ∷ xs) r f = go (count-renewed n p now q s xs (rest-rising state_number x xs r)) (x.number == n) refl
   where
-    apart : (ys : List State) → Apart state_number n ys → map (renewed n p now) ys ≡ ys
+    apart : (ys : List State) → Apart state_number n ys → map (numbered_state_after n p now) ys ≡ ys
     apart [] a = refl
     apart (y ∷ ys) (a, more) = rw a (ap (λ zs. y ∷ zs) (apart ys more))
 
@@ -168,19 +168,19 @@ count-renewed n p now q s (x ∷ xs) r f = go (count-renewed n p now q s xs (res
     add false true ys zs y z e = omega (arith, e)
     add false false ys zs y z e = omega (arith, e)
 
-    same : length (filter q (map (renewed n p now) xs)) + cond (q s) 1 0 ≡ length (filter q xs) + cond (q (stepped p now s)) 1 0 → (b : Bool)
-        → length (cond b (x ∷ filter q (map (renewed n p now) xs)) (filter q (map (renewed n p now) xs))) + cond (q s) 1 0 ≡ length (cond b (x ∷ filter q xs) (filter q xs)) + cond (q (stepped p now s)) 1 0
+    same : length (filter q (map (numbered_state_after n p now) xs)) + cond (q s) 1 0 ≡ length (filter q xs) + cond (q (state_after_packet p now s)) 1 0 → (b : Bool)
+        → length (cond b (x ∷ filter q (map (numbered_state_after n p now) xs)) (filter q (map (numbered_state_after n p now) xs))) + cond (q s) 1 0 ≡ length (cond b (x ∷ filter q xs) (filter q xs)) + cond (q (state_after_packet p now s)) 1 0
     same m true = omega (arith, m)
     same m false = m
 
-    go : (find (has_number state_number n) xs ≡ Some s → length (filter q (map (renewed n p now) xs)) + cond (q s) 1 0 ≡ length (filter q xs) + cond (q (stepped p now s)) 1 0) → (b : Bool) → (x.number == n) ≡ b
-        → length (filter q (map (renewed n p now) (x ∷ xs))) + cond (q s) 1 0 ≡ length (filter q (x ∷ xs)) + cond (q (stepped p now s)) 1 0
+    go : (find (has_number state_number n) xs ≡ Some s → length (filter q (map (numbered_state_after n p now) xs)) + cond (q s) 1 0 ≡ length (filter q xs) + cond (q (state_after_packet p now s)) 1 0) → (b : Bool) → (x.number == n) ≡ b
+        → length (filter q (map (numbered_state_after n p now) (x ∷ xs))) + cond (q s) 1 0 ≡ length (filter q (x ∷ xs)) + cond (q (state_after_packet p now s)) 1 0
     go more true t =
         let k = head-is state_number n x s xs t f in
         let a : Apart state_number n xs = subst (λ m. Apart state_number m xs) (same_number n x.number t) (head-apart state_number x xs r) in
-        let e : length (filter q (map (renewed n p now) xs)) ≡ length (filter q xs) = ap (λ ys. length (filter q ys)) (apart xs a) in
-        subst (λ (z : State). length (filter q (map (renewed n p now) (x ∷ xs))) + cond (q z) 1 0 ≡ length (filter q (x ∷ xs)) + cond (q (stepped p now z)) 1 0) k
-        (rw t (add (q x) (q (stepped p now x)) _ _ (stepped p now x) x e))
+        let e : length (filter q (map (numbered_state_after n p now) xs)) ≡ length (filter q xs) = ap (λ ys. length (filter q ys)) (apart xs a) in
+        subst (λ (z : State). length (filter q (map (numbered_state_after n p now) (x ∷ xs))) + cond (q z) 1 0 ≡ length (filter q (x ∷ xs)) + cond (q (state_after_packet p now z)) 1 0) k
+        (rw t (add (q x) (q (state_after_packet p now x)) _ _ (state_after_packet p now x) x e))
     go more false t = rw t (same (more (rw t at f)) (q x))
 
 -- the handshake of a state has completed after a packet where it had before, or where it completes with it
@@ -219,13 +219,13 @@ met-connections rate now false t = omega arith
 
 counted-met : (conf : Conf) (n : ℕ) (p : Header) (now : ℕ) (rate : Option Rate) (s : State) (xs : List State) (t : Tally) → IsRisingBy state_number xs
     → find (has_number state_number n) xs ≡ Some s → CountsDone s p → IsScoped conf t → IsCounted conf xs t
-    → IsCounted conf (map (renewed n p now) xs) (at_node (node_scope_of conf s.rule.0) s.source (met_by rate now (completes_at p s)) t)
+    → IsCounted conf (map (numbered_state_after n p now) xs) (at_node (node_scope_of conf s.rule.0) s.source (met_by rate now (completes_at p s)) t)
 counted-met conf n p now rate s xs t r f k h e = go (is_at (node_scope_of conf s.rule.0) s.source t) refl
   where
-    c : node_states conf t.node.scope t.node.source (map (renewed n p now) xs) ≡ node_states conf t.node.scope t.node.source xs
+    c : node_states conf t.node.scope t.node.source (map (numbered_state_after n p now) xs) ≡ node_states conf t.node.scope t.node.source xs
     c = count-blind n p now (is_of_node conf t.node.scope t.node.source) xs (blind n p now (is_of_node conf t.node.scope t.node.source) (λ x. refl))
 
-    d : node_connections conf t.node.scope t.node.source (map (renewed n p now) xs) + cond (is_done s.phase && is_of_node conf t.node.scope t.node.source s) 1 0
+    d : node_connections conf t.node.scope t.node.source (map (numbered_state_after n p now) xs) + cond (is_done s.phase && is_of_node conf t.node.scope t.node.source s) 1 0
         ≡ node_connections conf t.node.scope t.node.source xs + cond (is_done (phase_after s.phase (goes_forward p s) p.flags) && is_of_node conf t.node.scope t.node.source s) 1 0
     d = count-renewed n p now (is_connection conf t.node.scope t.node.source) s xs r f
 
@@ -244,31 +244,31 @@ counted-met conf n p now rate s xs t r f k h e = go (is_at (node_scope_of conf s
     neither false b z = refl
 
     go : (b : Bool) → is_at (node_scope_of conf s.rule.0) s.source t ≡ b
-        → IsCounted conf (map (renewed n p now) xs) (at_node (node_scope_of conf s.rule.0) s.source (met_by rate now (completes_at p s)) t)
+        → IsCounted conf (map (numbered_state_after n p now) xs) (at_node (node_scope_of conf s.rule.0) s.source (met_by rate now (completes_at p s)) t)
     go true i =
         let o : is_of_node conf t.node.scope t.node.source s ≡ true = of_node conf s t h ∙ i in
         let d1 = both (is_done s.phase) (is_of_node conf t.node.scope t.node.source s) o in
         let d2 = both (is_done (phase_after s.phase (goes_forward p s) p.flags)) (is_of_node conf t.node.scope t.node.source s) o in
-        let m : t.connections + cond (completes_at p s) 1 0 ≡ node_connections conf t.node.scope t.node.source (map (renewed n p now) xs) = omega (arith, d, d1, d2, ec, k) in
+        let m : t.connections + cond (completes_at p s) 1 0 ≡ node_connections conf t.node.scope t.node.source (map (numbered_state_after n p now) xs) = omega (arith, d, d1, d2, ec, k) in
         let w : at_node (node_scope_of conf s.rule.0) s.source (met_by rate now (completes_at p s)) t ≡ met_by rate now (completes_at p s) t =
         ap (λ (b : Bool). if b then met_by rate now (completes_at p s) t else t) i in
         let f1 = met-faithful rate now (completes_at p s) in
-        subst (IsCounted conf (map (renewed n p now) xs)) (sym w)
-        (recount conf (map (renewed n p now) xs) t (met_by rate now (completes_at p s) t) (f1.scope t) (f1.source t)
+        subst (IsCounted conf (map (numbered_state_after n p now) xs)) (sym w)
+        (recount conf (map (numbered_state_after n p now) xs) t (met_by rate now (completes_at p s) t) (f1.scope t) (f1.source t)
         (met-states rate now (completes_at p s) t ∙ es ∙ sym c) (met-connections rate now (completes_at p s) t ∙ m))
     go false i =
         let o : is_of_node conf t.node.scope t.node.source s ≡ false = of_node conf s t h ∙ i in
         let d1 = neither (is_done s.phase) (is_of_node conf t.node.scope t.node.source s) o in
         let d2 = neither (is_done (phase_after s.phase (goes_forward p s) p.flags)) (is_of_node conf t.node.scope t.node.source s) o in
-        let m : t.connections ≡ node_connections conf t.node.scope t.node.source (map (renewed n p now) xs) = omega (arith, d, d1, d2, ec) in
+        let m : t.connections ≡ node_connections conf t.node.scope t.node.source (map (numbered_state_after n p now) xs) = omega (arith, d, d1, d2, ec) in
         let w : at_node (node_scope_of conf s.rule.0) s.source (met_by rate now (completes_at p s)) t ≡ t =
         ap (λ (b : Bool). if b then met_by rate now (completes_at p s) t else t) i in
-        subst (IsCounted conf (map (renewed n p now) xs)) (sym w)
-        (recount conf (map (renewed n p now) xs) t t refl refl (es ∙ sym c) m)
+        subst (IsCounted conf (map (numbered_state_after n p now) xs)) (sym w)
+        (recount conf (map (numbered_state_after n p now) xs) t t refl refl (es ∙ sym c) m)
 
 pub all-met : (conf : Conf) (n : ℕ) (p : Header) (now : ℕ) (rate : Option Rate) (s : State) (xs : List State) (ts : List Tally) → IsRisingBy state_number xs
     → find (has_number state_number n) xs ≡ Some s → CountsDone s p → AllByRecursion (IsScoped conf) ts → AllByRecursion (IsCounted conf xs) ts
-    → AllByRecursion (IsCounted conf (map (renewed n p now) xs)) (map (at_node (node_scope_of conf s.rule.0) s.source (met_by rate now (completes_at p s))) ts)
+    → AllByRecursion (IsCounted conf (map (numbered_state_after n p now) xs)) (map (at_node (node_scope_of conf s.rule.0) s.source (met_by rate now (completes_at p s))) ts)
 all-met conf n p now rate s xs [] r f k g h = tt
 all-met conf n p now rate s xs (t ∷ ts) r f k (g, gs) (h, hs) = (counted-met conf n p now rate s xs t r f k g h, all-met conf n p now rate s xs ts r f k gs hs)
 
@@ -284,7 +284,7 @@ scored-met o a rate now c (t ∷ ts) (h, hs) = (go (is_at o a t) rate c, scored-
     go false rate c = h
 
 pub noded-met : (conf : Conf) (n : ℕ) (p : Header) (now : ℕ) (o : Option NodeScope) (a : Addr) (rate : Option Rate) (c : Bool) (xs : List State) (ts : List Tally)
-    → AllByRecursion (HasTally conf ts) xs → AllByRecursion (HasTally conf (map (at_node o a (met_by rate now c)) ts)) (map (renewed n p now) xs)
+    → AllByRecursion (HasTally conf ts) xs → AllByRecursion (HasTally conf (map (at_node o a (met_by rate now c)) ts)) (map (numbered_state_after n p now) xs)
 noded-met conf n p now o a rate c xs ts h =
     all-blind n p now (HasTally conf (map (at_node o a (met_by rate now c)) ts)) xs (λ s k. k) (each xs h)
   where

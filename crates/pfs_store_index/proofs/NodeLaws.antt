@@ -15,7 +15,7 @@ use Rattle.pfs_addr_values.specs.declared.addresses.Addr.{Addr}
 use Rattle.pfs_store_contract.specs.Counts.{same_scope, scope_nodes}
 use Rattle.pfs_store_contract.specs.Purging.{node_numbers}
 use Rattle.pfs_store_contract.specs.declared.records.NodeScope.{NodeScope}
-use Rattle.pfs_store_index.specs.Keeping.{AreInPlace, IsNoted, IsPlaced, SameCounts, held, number_of_node, one_if, place_of_node, same_place}
+use Rattle.pfs_store_index.specs.Keeping.{AreInPlace, IsNoted, IsPlaced, SameCounts, values_at, number_of_node, one_if, place_of_node, same_place}
 use Rattle.pfs_store_index.specs.Records.{IsAbove, IsRising}
 use Rattle.pfs_store_index.specs.Tallies.{IsOrderly, IsTallied, count_of, has_node_number, is_tally, nodes_of, put_tally, same_node}
 use Rattle.pfs_store_index.specs.declared.nodes.Tally.{Tally}
@@ -66,10 +66,10 @@ tally_self : (scope : NodeScope) (source : Addr) (t : Tally) → place_of_node t
 tally_self scope source t e = ap (λ a. same_place a (scope, source)) e ∙ place_self (scope, source)
 
 pub get-noted : (scope : NodeScope) (source : Addr) (T : NodeScope × Addr → Option Tally) (es : List (ℕ × (NodeScope × Addr))) (rules : List ℕ) (global : ℕ) → IsNoted T es rules global
-    → T (scope, source) ≡ find (is_tally scope source) (held T es)
+    → T (scope, source) ≡ find (is_tally scope source) (values_at T es)
 get-noted scope source T es rules global k = go (T (scope, source)) refl
   where
-    go : (o : Option Tally) → T (scope, source) ≡ o → T (scope, source) ≡ find (is_tally scope source) (held T es)
+    go : (o : Option Tally) → T (scope, source) ≡ o → T (scope, source) ≡ find (is_tally scope source) (values_at T es)
     go None n = n ∙ sym (find-vacant number_of_node place_of_node (is_tally scope source) T (scope, source) es (tally_true scope source) n k.kept.placed)
     go (Some t) n =
         n ∙ sym (find-held number_of_node place_of_node (is_tally scope source) T (scope, source) t es (tally_true scope source) (tally_self scope source) n (k.found (scope, source) t n) k.kept.placed)
@@ -81,7 +81,7 @@ numbers-nodes [] = refl
 numbers-nodes (t ∷ ts) = ap (λ xs. t.node.number ∷ xs) (numbers-nodes ts)
 
 apart : (T : NodeScope × Addr → Option Tally) (t : Tally) (m : ℕ) (es : List (ℕ × (NodeScope × Addr))) → T (place_of_node t) ≡ Some t → number_of_node t ≡ m → AllByRecursion (λ k. nat_cmp m k ≡ Less) (keys_of es)
-    → AllByRecursion (IsPlaced number_of_node place_of_node T) es → AllByRecursion (λ u. same_node t u ≡ false) (held T es)
+    → AllByRecursion (IsPlaced number_of_node place_of_node T) es → AllByRecursion (λ u. same_node t u ≡ false) (values_at T es)
 apart T t m [] a n d h = tt
 apart T t m (e ∷ es) a n (d, ds) (h, hs) = rw h.1 (go (same_node t h.0) refl, apart T t m es a n ds hs)
   where
@@ -99,16 +99,16 @@ IsDistinct-nil : IsDistinct same_node []
 unfolding IsDistinct
 IsDistinct-nil = tt
 
-distinct-held : (T : NodeScope × Addr → Option Tally) (es : List (ℕ × (NodeScope × Addr))) → IsStrictlySortedBy nat_cmp (keys_of es) → AllByRecursion (IsPlaced number_of_node place_of_node T) es → IsDistinct same_node (held T es)
+distinct-held : (T : NodeScope × Addr → Option Tally) (es : List (ℕ × (NodeScope × Addr))) → IsStrictlySortedBy nat_cmp (keys_of es) → AllByRecursion (IsPlaced number_of_node place_of_node T) es → IsDistinct same_node (values_at T es)
 distinct-held T [] o h = IsDistinct-nil
 distinct-held T (e ∷ es) o (h, hs) =
-    rw h.1 (IsDistinct-cons same_node h.0 (held T es)
+    rw h.1 (IsDistinct-cons same_node h.0 (values_at T es)
     (apart T h.0 e.0 es (ap T h.3 ∙ h.1) h.2 (sorted_head nat_cmp e.0 (keys_of es) o) hs)
     (distinct-held T es (sorted_tail nat_cmp e.0 (keys_of es) o) hs))
 
-pub orderly : (T : NodeScope × Addr → Option Tally) (es : List (ℕ × (NodeScope × Addr))) → AreInPlace number_of_node place_of_node T es → IsOrderly (held T es)
+pub orderly : (T : NodeScope × Addr → Option Tally) (es : List (ℕ × (NodeScope × Addr))) → AreInPlace number_of_node place_of_node T es → IsOrderly (values_at T es)
 orderly T es k = record {
-  rising = rw (numbers-nodes (held T es)) (rising-held number_of_node place_of_node T es k);
+  rising = rw (numbers-nodes (values_at T es)) (rising-held number_of_node place_of_node T es k);
   distinct = distinct-held T es k.ordered k.placed;
 }
 
@@ -117,14 +117,14 @@ orderly T es k = record {
 abbrev pub in_order : NodeScope → List (ℕ × (NodeScope × Addr)) → ℕ
 in_order s es = length (filter (λ (e : ℕ × (NodeScope × Addr)). same_scope e.1.0 s) es)
 
-pub nodes-in-order : (s : NodeScope) (T : NodeScope × Addr → Option Tally) (es : List (ℕ × (NodeScope × Addr))) → AllByRecursion (IsPlaced number_of_node place_of_node T) es → scope_nodes s (nodes_of (held T es)) ≡ in_order s es
+pub nodes-in-order : (s : NodeScope) (T : NodeScope × Addr → Option Tally) (es : List (ℕ × (NodeScope × Addr))) → AllByRecursion (IsPlaced number_of_node place_of_node T) es → scope_nodes s (nodes_of (values_at T es)) ≡ in_order s es
 nodes-in-order s T [] h = refl
 nodes-in-order s T (e ∷ es) (h, hs) = rw h.1 (go (nodes-in-order s T es hs) (same_scope h.0.node.scope s) refl)
   where
     same : same_scope e.1.0 s ≡ same_scope h.0.node.scope s
     same = ap (λ (a : NodeScope × Addr). same_scope a.0 s) (sym h.3)
 
-    go : scope_nodes s (nodes_of (held T es)) ≡ in_order s es → (b : Bool) → same_scope h.0.node.scope s ≡ b → scope_nodes s (nodes_of (h.0 ∷ held T es)) ≡ in_order s (e ∷ es)
+    go : scope_nodes s (nodes_of (values_at T es)) ≡ in_order s es → (b : Bool) → same_scope h.0.node.scope s ≡ b → scope_nodes s (nodes_of (h.0 ∷ values_at T es)) ≡ in_order s (e ∷ es)
     go more true t = rw (same, t) (ap suc more)
     go more false t = rw (same, t) more
 
@@ -187,7 +187,7 @@ noted-all T U es rules rules' global global' h s k = record {
 
 -- a node comes
 pub noted-pushed : (T U : NodeScope × Addr → Option Tally) (t : Tally) (es fs : List (ℕ × (NodeScope × Addr))) (rules rules' : List ℕ) (global global' : ℕ)
-    → T (place_of_node t) ≡ None → IsUpdated T U (place_of_node t) (Some t) → IsAbove t.node.number (node_numbers (nodes_of (held T es)))
+    → T (place_of_node t) ≡ None → IsUpdated T U (place_of_node t) (Some t) → IsAbove t.node.number (node_numbers (nodes_of (values_at T es)))
     → fs ≡ insert_entry nat_cmp es t.node.number (place_of_node t) → IsStrictlySortedBy nat_cmp (keys_of fs)
     → ((q : ℕ) → lookup (is_at (nat_cmp q)) fs ≡ cond (is_at (nat_cmp t.node.number) q) (Some (place_of_node t)) (lookup (is_at (nat_cmp q)) es))
     → ((s : NodeScope) → count_of rules' global' s ≡ count_of rules global s + one_if (same_scope t.node.scope s))
@@ -198,8 +198,8 @@ noted-pushed T U t es fs rules rules' global global' n u a e o g c k = record {
   counted = λ s. c s ∙ rw (k.counted s, nodes-in-order s T es k.kept.placed, nodes-in-order s U fs kept.placed, e, last) (sym (in-order-push s t.node.number (place_of_node t) es));
 }
   where
-    above : AllByRecursion (λ m. m < t.node.number) (map number_of_node (held T es))
-    above = rw (numbers-nodes (held T es)) at a
+    above : AllByRecursion (λ m. m < t.node.number) (map number_of_node (values_at T es))
+    above = rw (numbers-nodes (values_at T es)) at a
 
     below : AllByRecursion (λ m. m < t.node.number) (keys_of es)
     below = below-keys number_of_node place_of_node t.node.number T es k.kept.placed above
@@ -243,10 +243,10 @@ noted-removed T U n place es fs rules rules' global global' l u e o g c k = reco
     kept : AreInPlace number_of_node place_of_node U fs
     kept = kept-removed number_of_node place_of_node T U place n es fs l u k.kept e o
 
-    counted : (s : NodeScope) → count_of rules' global' s ≡ scope_nodes s (nodes_of (held U fs))
+    counted : (s : NodeScope) → count_of rules' global' s ≡ scope_nodes s (nodes_of (values_at U fs))
     counted s =
         let a : count_of rules global s ≡ in_order s es = k.counted s ∙ nodes-in-order s T es k.kept.placed in
-        let b : scope_nodes s (nodes_of (held U fs)) ≡ in_order s (remove_entry (is_at (nat_cmp n)) es) = nodes-in-order s U fs kept.placed ∙ ap (in_order s) e in
+        let b : scope_nodes s (nodes_of (values_at U fs)) ≡ in_order s (remove_entry (is_at (nat_cmp n)) es) = nodes-in-order s U fs kept.placed ∙ ap (in_order s) e in
         let r = in-order-remove s n place es l in
         let d = c s in
         omega (arith, a, b, r, d)
@@ -298,7 +298,7 @@ tallied_true t v h = go (is_tally t.node.scope t.node.source v) refl
         (grind (arith, nat_tests), tally_true t.node.scope t.node.source v s)
     go false s = let h' : false ≡ true = (rw s at h) in absurd (cc h')
 
-pub at_tally : (T : NodeScope × Addr → Option Tally) (t : Tally) (es : List (ℕ × (NodeScope × Addr))) → AreInPlace number_of_node place_of_node T es → IsTallied t (held T es) → lookup (is_at (nat_cmp t.node.number)) es ≡ Some (place_of_node t)
+pub at_tally : (T : NodeScope × Addr → Option Tally) (t : Tally) (es : List (ℕ × (NodeScope × Addr))) → AreInPlace number_of_node place_of_node T es → IsTallied t (values_at T es) → lookup (is_at (nat_cmp t.node.number)) es ≡ Some (place_of_node t)
 at_tally T t es k a =
     look-placed number_of_node place_of_node (λ (v : Tally). is_tally t.node.scope t.node.source v && has_node_number t.node.number v) T t.node.number (place_of_node t) es (tallied_true t) k.ordered k.placed a
 
@@ -313,7 +313,7 @@ put-here T t r v h =
     rw y refl
 
 pub view-tally : (T U : NodeScope × Addr → Option Tally) (t : Tally) (es : List (ℕ × (NodeScope × Addr))) → lookup (is_at (nat_cmp t.node.number)) es ≡ Some (place_of_node t) → IsUpdated T U (place_of_node t) (Some t)
-    → AreInPlace number_of_node place_of_node T es → held U es ≡ map (put_tally t) (held T es)
+    → AreInPlace number_of_node place_of_node T es → values_at U es ≡ map (put_tally t) (values_at T es)
 view-tally T U t es l u k =
     let f = found number_of_node place_of_node T t.node.number (place_of_node t) es k.placed l in
     view-written number_of_node place_of_node (put_tally t) T U (place_of_node t) t.node.number t es (put-elsewhere t) (put-here T t f) l u k
@@ -333,7 +333,7 @@ pub noted-reserved : {S : Type 0} (m m' : IndexMap (NodeScope × Addr) Tally S) 
 noted-reserved m m' es rules rules' global global' e s k =
     noted-all (get same_place m) (get same_place m') es rules rules' global global' (λ q. ap (λ fs. lookup (same_place q) fs) e) s k
 
-pub held-reserved : {S : Type 0} (m m' : IndexMap (NodeScope × Addr) Tally S) (es : List (ℕ × (NodeScope × Addr))) → m'.entries ≡ m.entries → held (get same_place m') es ≡ held (get same_place m) es
+pub held-reserved : {S : Type 0} (m m' : IndexMap (NodeScope × Addr) Tally S) (es : List (ℕ × (NodeScope × Addr))) → m'.entries ≡ m.entries → values_at (get same_place m') es ≡ values_at (get same_place m) es
 held-reserved m m' es e = held-all number_of_node place_of_node (get same_place m) (get same_place m') es (λ q. ap (λ fs. lookup (same_place q) fs) e)
 
 pub few-noted : (T : NodeScope × Addr → Option Tally) (es : List (ℕ × (NodeScope × Addr))) (rules : List ℕ) (global : ℕ) → IsNoted T es rules global → (s : NodeScope) → count_of rules global s ≤ length es

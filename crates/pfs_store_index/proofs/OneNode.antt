@@ -13,7 +13,7 @@ use Rattle.pfs_conf_values.specs.Configs.{Conf, scope_of}
 use Rattle.pfs_conf_values.specs.declared.actions.Scope.{Scope}
 use Rattle.pfs_conf_values.specs.declared.actions.Scope.TheVariants as scope
 use Rattle.pfs_conf_values.specs.declared.items.RuleNo.{RuleNo}
-use Rattle.pfs_store_contract.specs.Counts.{is_of_node, node_scope_by, node_scope_of, same_scope}
+use Rattle.pfs_store_contract.specs.Counts.{is_of_node, node_scope_under, node_scope_of, same_scope}
 use Rattle.pfs_store_contract.specs.declared.records.Node.{Node}
 use Rattle.pfs_store_contract.specs.declared.records.NodeScope.{NodeScope}
 use Rattle.pfs_store_contract.specs.declared.records.NodeScope.TheVariants as node_scope
@@ -76,7 +76,7 @@ pub of_node : (conf : Conf) (s : State) (t : Tally) → IsScoped conf t → is_o
 of_node conf s t h = by t.node.scope refl h
   where
     own : (r : RuleNo) → t.node.scope ≡ node_scope.Rule r → scope_of conf r.0 ≡ Some scope.Rule → (o : Option Scope) → scope_of conf s.rule.0 ≡ o
-        → ((s.rule.0 == r.0) && same_addr s.source t.node.source) ≡ is_at (node_scope_by s.rule.0 o) s.source t
+        → ((s.rule.0 == r.0) && same_addr s.source t.node.source) ≡ is_at (node_scope_under s.rule.0 o) s.source t
     own r e k None f = ap (λ b. b && same_addr s.source t.node.source) (differs (s.rule.0 == r.0) refl)
       where
         differs : (b : Bool) → (s.rule.0 == r.0) ≡ b → (s.rule.0 == r.0) ≡ false
@@ -98,7 +98,7 @@ of_node conf s t h = by t.node.scope refl h
         differs false i = i
 
     shared : t.node.scope ≡ node_scope.Global → (o : Option Scope) → scope_of conf s.rule.0 ≡ o
-        → is_of_node conf node_scope.Global t.node.source s ≡ is_at (node_scope_by s.rule.0 o) s.source t
+        → is_of_node conf node_scope.Global t.node.source s ≡ is_at (node_scope_under s.rule.0 o) s.source t
     shared e None f = rw f refl
     shared e (Some scope.Rule) f = rw (f, e) refl
     shared e (Some scope.Global) f = rw (f, e) (same_addr_flip s.source t.node.source)
@@ -111,7 +111,7 @@ of_node conf s t h = by t.node.scope refl h
 pub scope_of-IsScope : (conf : Conf) (rule : ℕ) (sc : NodeScope) → node_scope_of conf rule ≡ Some sc → IsScope conf sc
 scope_of-IsScope conf rule sc h = by (scope_of conf rule) refl h
   where
-    by : (o : Option Scope) → scope_of conf rule ≡ o → node_scope_by rule o ≡ Some sc → IsScope conf sc
+    by : (o : Option Scope) → scope_of conf rule ≡ o → node_scope_under rule o ≡ Some sc → IsScope conf sc
     by None f k = absurd cc
     by (Some scope.Rule) f k = let q : node_scope.Rule (record { 0 = rule }) ≡ sc = cc in subst (IsScope conf) q f
     by (Some scope.Global) f k = let q : node_scope.Global ≡ sc = cc in subst (IsScope conf) q tt

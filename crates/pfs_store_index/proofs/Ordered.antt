@@ -11,7 +11,7 @@ use Rattle.std.specs.declared.ops.Bound.TheVariants.{Included, Excluded}
 use Rattle.std.proofs.lemmas.List.Elements.{filter_map-append}
 use Rattle.std.proofs.lemmas.Bool.Decides.{nat_tests}
 use Rattle.std.proofs.lemmas.Map.Keys.{sorted_head, sorted_tail}
-use Rattle.pfs_store_index.specs.Keeping.{held, IsPlaced, AreInPlace}
+use Rattle.pfs_store_index.specs.Keeping.{values_at, IsPlaced, AreInPlace}
 use Rattle.pfs_store_index.specs.Records.{between}
 
 -- ---- keys
@@ -128,12 +128,12 @@ module _ {P V : Type 0} (num : V → ℕ) (pl : V → P) where
 
   -- the first value of a number is that at its place
   pub find_placed : (T : P → Option V) (n : ℕ) (es : List (ℕ × P)) (p : P) → AllByRecursion (IsPlaced num pl T) es → lookup (is_at (nat_cmp n)) es ≡ Some p
-      → find (λ (v : V). num v == n) (held T es) ≡ T p
+      → find (λ (v : V). num v == n) (values_at T es) ≡ T p
   find_placed T n [] p h l = absurd cc
   find_placed T n (e ∷ es) p (h, hs) l = go (find_placed T n es p hs) (is_at (nat_cmp n) e.0) refl
     where
-      go : (lookup (is_at (nat_cmp n)) es ≡ Some p → find (λ (v : V). num v == n) (held T es) ≡ T p) → (b : Bool) → is_at (nat_cmp n) e.0 ≡ b
-          → find (λ (v : V). num v == n) (held T (e ∷ es)) ≡ T p
+      go : (lookup (is_at (nat_cmp n)) es ≡ Some p → find (λ (v : V). num v == n) (values_at T es) ≡ T p) → (b : Bool) → is_at (nat_cmp n) e.0 ≡ b
+          → find (λ (v : V). num v == n) (values_at T (e ∷ es)) ≡ T p
       go more true t =
           let l' : Some e.1 ≡ Some p = (rw t at l) in
           let k : num h.0 ≡ n = h.2 ∙ sym (at_same n e.0 t) in
@@ -147,12 +147,12 @@ module _ {P V : Type 0} (num : V → ℕ) (pl : V → P) where
 
   -- none has a number that no look-up finds
   pub none_placed : (T : P → Option V) (n : ℕ) (es : List (ℕ × P)) → AllByRecursion (IsPlaced num pl T) es → lookup (is_at (nat_cmp n)) es ≡ None
-      → list_any (λ (v : V). num v == n) (held T es) ≡ false
+      → list_any (λ (v : V). num v == n) (values_at T es) ≡ false
   none_placed T n [] h l = refl
   none_placed T n (e ∷ es) (h, hs) l = go (none_placed T n es hs) (is_at (nat_cmp n) e.0) refl
     where
-      go : (lookup (is_at (nat_cmp n)) es ≡ None → list_any (λ (v : V). num v == n) (held T es) ≡ false) → (b : Bool) → is_at (nat_cmp n) e.0 ≡ b
-          → list_any (λ (v : V). num v == n) (held T (e ∷ es)) ≡ false
+      go : (lookup (is_at (nat_cmp n)) es ≡ None → list_any (λ (v : V). num v == n) (values_at T es) ≡ false) → (b : Bool) → is_at (nat_cmp n) e.0 ≡ b
+          → list_any (λ (v : V). num v == n) (values_at T (e ∷ es)) ≡ false
       go more true t = let l' : Some e.1 ≡ None = (rw t at l) in absurd cc
       go more false t =
           let d = at_apart n e.0 t in
@@ -160,19 +160,19 @@ module _ {P V : Type 0} (num : V → ℕ) (pl : V → P) where
           rw (h.1, y) (more (rw t at l))
 
   pub in_none : (T : P → Option V) (n : ℕ) (es : List (ℕ × P)) → AllByRecursion (IsPlaced num pl T) es → lookup (is_at (nat_cmp n)) es ≡ None
-      → list_any (λ (v : V). num v == n) (held T es) ≡ true → ⊥
+      → list_any (λ (v : V). num v == n) (values_at T es) ≡ true → ⊥
   in_none T n es h l i = let f = none_placed T n es h l in absurd (cc (f, i))
 
   -- the entry of a value that passes a test of its number and place
   pub look-placed : (test : V → Bool) (T : P → Option V) (n : ℕ) (p : P) (es : List (ℕ × P))
       → ((v : V) → test v ≡ true → (num v ≡ n) × (pl v ≡ p))
-      → IsStrictlySortedBy nat_cmp (keys_of es) → AllByRecursion (IsPlaced num pl T) es → list_any test (held T es) ≡ true → lookup (is_at (nat_cmp n)) es ≡ Some p
+      → IsStrictlySortedBy nat_cmp (keys_of es) → AllByRecursion (IsPlaced num pl T) es → list_any test (values_at T es) ≡ true → lookup (is_at (nat_cmp n)) es ≡ Some p
   look-placed test T n p [] s o h a = absurd (cc a)
   look-placed test T n p (e ∷ es) s o (h, hs) a =
-      let a' : list_any test (h.0 ∷ held T es) ≡ true = (rw h.1 at a) in
+      let a' : list_any test (h.0 ∷ values_at T es) ≡ true = (rw h.1 at a) in
       go (look-placed test T n p es s (sorted_tail nat_cmp e.0 (keys_of es) o) hs) a' (test h.0) refl
     where
-      go : (list_any test (held T es) ≡ true → lookup (is_at (nat_cmp n)) es ≡ Some p) → list_any test (h.0 ∷ held T es) ≡ true → (b : Bool) → test h.0 ≡ b
+      go : (list_any test (values_at T es) ≡ true → lookup (is_at (nat_cmp n)) es ≡ Some p) → list_any test (h.0 ∷ values_at T es) ≡ true → (b : Bool) → test h.0 ≡ b
           → lookup (is_at (nat_cmp n)) (e ∷ es) ≡ Some p
       go more a' true t =
           let f = s h.0 t in
@@ -184,15 +184,15 @@ module _ {P V : Type 0} (num : V → ℕ) (pl : V → P) where
           rw (at_other n e.0 k) l
 
   -- the numbers of the values are the keys
-  pub numbers-held : (T : P → Option V) (es : List (ℕ × P)) → AllByRecursion (IsPlaced num pl T) es → map num (held T es) ≡ keys_of es
+  pub numbers-held : (T : P → Option V) (es : List (ℕ × P)) → AllByRecursion (IsPlaced num pl T) es → map num (values_at T es) ≡ keys_of es
   numbers-held T [] h = refl
   numbers-held T (e ∷ es) (h, hs) = rw h.1 (cc (h.2, numbers-held T es hs))
 
-  pub length-held : (T : P → Option V) (es : List (ℕ × P)) → AllByRecursion (IsPlaced num pl T) es → length (held T es) ≡ length es
+  pub length-held : (T : P → Option V) (es : List (ℕ × P)) → AllByRecursion (IsPlaced num pl T) es → length (values_at T es) ≡ length es
   length-held T [] h = refl
   length-held T (e ∷ es) (h, hs) = rw h.1 (ap suc (length-held T es hs))
 
-  pub rising-held : (T : P → Option V) (es : List (ℕ × P)) → AreInPlace num pl T es → IsStrictlySortedBy nat_cmp (map num (held T es))
+  pub rising-held : (T : P → Option V) (es : List (ℕ × P)) → AreInPlace num pl T es → IsStrictlySortedBy nat_cmp (map num (values_at T es))
   rising-held T es k = rw (numbers-held T es k.placed) k.ordered
 
   -- ---- a change at a place that no entry of these has
@@ -200,7 +200,7 @@ module _ {P V : Type 0} (num : V → ℕ) (pl : V → P) where
   abbrev pub IsSame : (P → Option V) → (P → Option V) → ℕ × P → Type 0
   IsSame T U e = U e.1 ≡ T e.1
 
-  pub held-same : (T U : P → Option V) (es : List (ℕ × P)) → AllByRecursion (IsSame T U) es → held U es ≡ held T es
+  pub held-same : (T U : P → Option V) (es : List (ℕ × P)) → AllByRecursion (IsSame T U) es → values_at U es ≡ values_at T es
   held-same T U [] h = refl
   held-same T U (e ∷ es) (h, hs) = rw (h, held-same T U es hs)
 
@@ -213,7 +213,7 @@ module _ {P V : Type 0} (num : V → ℕ) (pl : V → P) where
   same-all T U [] h = tt
   same-all T U (e ∷ es) h = (h e.1, same-all T U es h)
 
-  pub held-all : (T U : P → Option V) (es : List (ℕ × P)) → ((q : P) → U q ≡ T q) → held U es ≡ held T es
+  pub held-all : (T U : P → Option V) (es : List (ℕ × P)) → ((q : P) → U q ≡ T q) → values_at U es ≡ values_at T es
   held-all T U es h = held-same T U es (same-all T U es h)
 
   pub kept-all : (T U : P → Option V) (es : List (ℕ × P)) → ((q : P) → U q ≡ T q) → AreInPlace num pl T es → AreInPlace num pl U es
@@ -244,19 +244,19 @@ module _ {P V : Type 0} (num : V → ℕ) (pl : V → P) where
   abbrev pub is_other : ℕ → V → Bool
   is_other n v = not (num v == n)
 
-  pub filter-others : (n : ℕ) (T : P → Option V) (es : List (ℕ × P)) → AllByRecursion (IsOther n) es → AllByRecursion (IsPlaced num pl T) es → filter (is_other n) (held T es) ≡ held T es
+  pub filter-others : (n : ℕ) (T : P → Option V) (es : List (ℕ × P)) → AllByRecursion (IsOther n) es → AllByRecursion (IsPlaced num pl T) es → filter (is_other n) (values_at T es) ≡ values_at T es
   filter-others n T [] o h = refl
   filter-others n T (e ∷ es) (o, os) (h, hs) =
       let y : (num h.0 == n) ≡ false = grind (arith, nat_tests, o, h.2) in
       rw (h.1, y) (ap (λ xs. h.0 ∷ xs) (filter-others n T es os hs))
 
   pub filter-removed : (n : ℕ) (T : P → Option V) (es : List (ℕ × P)) → IsStrictlySortedBy nat_cmp (keys_of es) → AllByRecursion (IsPlaced num pl T) es
-      → held T (remove_entry (is_at (nat_cmp n)) es) ≡ filter (is_other n) (held T es)
+      → values_at T (remove_entry (is_at (nat_cmp n)) es) ≡ filter (is_other n) (values_at T es)
   filter-removed n T [] o h = refl
   filter-removed n T (e ∷ es) o (h, hs) = go (filter-removed n T es (sorted_tail nat_cmp e.0 (keys_of es) o) hs) (is_at (nat_cmp n) e.0) refl
     where
-      go : held T (remove_entry (is_at (nat_cmp n)) es) ≡ filter (is_other n) (held T es) → (b : Bool) → is_at (nat_cmp n) e.0 ≡ b
-          → held T (remove_entry (is_at (nat_cmp n)) (e ∷ es)) ≡ filter (is_other n) (held T (e ∷ es))
+      go : values_at T (remove_entry (is_at (nat_cmp n)) es) ≡ filter (is_other n) (values_at T es) → (b : Bool) → is_at (nat_cmp n) e.0 ≡ b
+          → values_at T (remove_entry (is_at (nat_cmp n)) (e ∷ es)) ≡ filter (is_other n) (values_at T (e ∷ es))
       go more true t =
           let k = at_same n e.0 t in
           let hd = sorted_head nat_cmp e.0 (keys_of es) o in
@@ -271,7 +271,7 @@ module _ {P V : Type 0} (num : V → ℕ) (pl : V → P) where
   same-removed T U p n es r u k = same-other T U p n None _ r u (others-removed n es k.ordered) (placed-removed _ T es k.placed)
 
   pub held-removed : (T U : P → Option V) (p : P) (n : ℕ) (es fs : List (ℕ × P)) → lookup (is_at (nat_cmp n)) es ≡ Some p → IsUpdated T U p None → AreInPlace num pl T es
-      → fs ≡ remove_entry (is_at (nat_cmp n)) es → held U fs ≡ filter (is_other n) (held T es)
+      → fs ≡ remove_entry (is_at (nat_cmp n)) es → values_at U fs ≡ filter (is_other n) (values_at T es)
   held-removed T U p n es fs l u k e = rw e (held-same T U _ (same-removed T U p n es (found T n p es k.placed l) u k) ∙ filter-removed n T es k.ordered k.placed)
 
   pub kept-removed : (T U : P → Option V) (p : P) (n : ℕ) (es fs : List (ℕ × P)) → lookup (is_at (nat_cmp n)) es ≡ Some p → IsUpdated T U p None → AreInPlace num pl T es
@@ -283,7 +283,7 @@ module _ {P V : Type 0} (num : V → ℕ) (pl : V → P) where
 
   -- ---- a value takes the place of another, where a function changes this one and no other
 
-  pub map-others : (f : V → V) (n : ℕ) (T : P → Option V) (es : List (ℕ × P)) → ((v : V) → (num v == n) ≡ false → f v ≡ v) → AllByRecursion (IsOther n) es → AllByRecursion (IsPlaced num pl T) es → map f (held T es) ≡ held T es
+  pub map-others : (f : V → V) (n : ℕ) (T : P → Option V) (es : List (ℕ × P)) → ((v : V) → (num v == n) ≡ false → f v ≡ v) → AllByRecursion (IsOther n) es → AllByRecursion (IsPlaced num pl T) es → map f (values_at T es) ≡ values_at T es
   map-others f n T [] s o h = refl
   map-others f n T (e ∷ es) s (o, os) (h, hs) =
       let y : (num h.0 == n) ≡ false = grind (arith, nat_tests, o, h.2) in
@@ -294,12 +294,12 @@ module _ {P V : Type 0} (num : V → ℕ) (pl : V → P) where
   pub held-written : (f : V → V) (T U : P → Option V) (p : P) (n : ℕ) (w : V) (es : List (ℕ × P))
       → ((v : V) → (num v == n) ≡ false → f v ≡ v) → ((v : V) → T p ≡ Some v → f v ≡ w)
       → lookup (is_at (nat_cmp n)) es ≡ Some p → IsPlaced num pl T (n, p) → IsUpdated T U p (Some w) → IsStrictlySortedBy nat_cmp (keys_of es) → AllByRecursion (IsPlaced num pl T) es
-      → held U es ≡ map f (held T es)
+      → values_at U es ≡ map f (values_at T es)
   held-written f T U p n w [] s m l r u o h = refl
   held-written f T U p n w (e ∷ es) s m l r u o (h, hs) =
       go (λ l'. held-written f T U p n w es s m l' r u (sorted_tail nat_cmp e.0 (keys_of es) o) hs) (is_at (nat_cmp n) e.0) refl
     where
-      go : (lookup (is_at (nat_cmp n)) es ≡ Some p → held U es ≡ map f (held T es)) → (b : Bool) → is_at (nat_cmp n) e.0 ≡ b → held U (e ∷ es) ≡ map f (held T (e ∷ es))
+      go : (lookup (is_at (nat_cmp n)) es ≡ Some p → values_at U es ≡ map f (values_at T es)) → (b : Bool) → is_at (nat_cmp n) e.0 ≡ b → values_at U (e ∷ es) ≡ map f (values_at T (e ∷ es))
       go more true i =
           let k = at_same n e.0 i in
           let hd = sorted_head nat_cmp e.0 (keys_of es) o in
@@ -337,7 +337,7 @@ module _ {P V : Type 0} (num : V → ℕ) (pl : V → P) where
 
   pub view-written : (f : V → V) (T U : P → Option V) (p : P) (n : ℕ) (w : V) (es : List (ℕ × P))
       → ((v : V) → (num v == n) ≡ false → f v ≡ v) → ((v : V) → T p ≡ Some v → f v ≡ w)
-      → lookup (is_at (nat_cmp n)) es ≡ Some p → IsUpdated T U p (Some w) → AreInPlace num pl T es → held U es ≡ map f (held T es)
+      → lookup (is_at (nat_cmp n)) es ≡ Some p → IsUpdated T U p (Some w) → AreInPlace num pl T es → values_at U es ≡ map f (values_at T es)
   view-written f T U p n w es s m l u k = held-written f T U p n w es s m l (found T n p es k.placed l) u k.ordered k.placed
 
   pub kept-written : (T U : P → Option V) (p : P) (n : ℕ) (w : V) (es : List (ℕ × P)) → num w ≡ n → pl w ≡ p → lookup (is_at (nat_cmp n)) es ≡ Some p → IsUpdated T U p (Some w) → AreInPlace num pl T es → AreInPlace num pl U es
@@ -345,19 +345,19 @@ module _ {P V : Type 0} (num : V → ℕ) (pl : V → P) where
 
   -- ---- a value at the end
 
-  pub below-keys : (n : ℕ) (T : P → Option V) (es : List (ℕ × P)) → AllByRecursion (IsPlaced num pl T) es → AllByRecursion (λ k. k < n) (map num (held T es)) → AllByRecursion (λ k. k < n) (keys_of es)
+  pub below-keys : (n : ℕ) (T : P → Option V) (es : List (ℕ × P)) → AllByRecursion (IsPlaced num pl T) es → AllByRecursion (λ k. k < n) (map num (values_at T es)) → AllByRecursion (λ k. k < n) (keys_of es)
   below-keys n T es h a = rw (numbers-held T es h) at a
 
   placed-push : (T : P → Option V) (e : ℕ × P) (es : List (ℕ × P)) → AllByRecursion (IsPlaced num pl T) es → IsPlaced num pl T e → AllByRecursion (IsPlaced num pl T) (es ++ e ∷ [])
   placed-push T e [] h p = (p, tt)
   placed-push T e (f ∷ es) (h, hs) p = (h, placed-push T e es hs p)
 
-  pub held-pushed : (T U : P → Option V) (p : P) (v : V) (es fs : List (ℕ × P)) → T p ≡ None → IsUpdated T U p (Some v) → AreInPlace num pl T es → AllByRecursion (λ k. k < num v) (map num (held T es)) → fs ≡ insert_entry nat_cmp es (num v) p
-      → held U fs ≡ held T es ++ v ∷ []
+  pub held-pushed : (T U : P → Option V) (p : P) (v : V) (es fs : List (ℕ × P)) → T p ≡ None → IsUpdated T U p (Some v) → AreInPlace num pl T es → AllByRecursion (λ k. k < num v) (map num (values_at T es)) → fs ≡ insert_entry nat_cmp es (num v) p
+      → values_at U fs ≡ values_at T es ++ v ∷ []
   held-pushed T U p v es fs n u k a e =
       rw (e, insert-last (num v) p es (below-keys (num v) T es k.placed a), filter_map-append, u.changed, held-same T U es (same-vacant T U p (Some v) es n u k.placed)) refl
 
-  pub kept-pushed : (T U : P → Option V) (p : P) (v : V) (es fs : List (ℕ × P)) → T p ≡ None → IsUpdated T U p (Some v) → AreInPlace num pl T es → AllByRecursion (λ k. k < num v) (map num (held T es)) → pl v ≡ p → fs ≡ insert_entry nat_cmp es (num v) p
+  pub kept-pushed : (T U : P → Option V) (p : P) (v : V) (es fs : List (ℕ × P)) → T p ≡ None → IsUpdated T U p (Some v) → AreInPlace num pl T es → AllByRecursion (λ k. k < num v) (map num (values_at T es)) → pl v ≡ p → fs ≡ insert_entry nat_cmp es (num v) p
       → IsStrictlySortedBy nat_cmp (keys_of fs) → AreInPlace num pl U fs
   kept-pushed T U p v es fs n u k a b e o = record {
     placed = rw (e, insert-last (num v) p es (below-keys (num v) T es k.placed a)) (placed-push U (num v, p) es (placed-same T U es (same-vacant T U p (Some v) es n u k.placed) k.placed) (v, u.changed, refl, b));
@@ -367,13 +367,13 @@ module _ {P V : Type 0} (num : V → ℕ) (pl : V → P) where
   -- ---- the next number
 
   pub first_between : (a m : ℕ) (T : P → Option V) (k : ℕ) (p : P) (rest es : List (ℕ × P)) → AllByRecursion (IsPlaced num pl T) es → (k, p) ∷ rest ≡ entries_between nat_cmp (Excluded a) (Included m) es
-      → Some k ≡ slice_get (filter (between a m) (map num (held T es))) 0
+      → Some k ≡ slice_get (filter (between a m) (map num (values_at T es))) 0
   first_between a m T k p rest es h e =
       let q : k ∷ keys_of rest ≡ filter (between a m) (keys_of es) = ap keys_of e ∙ keys-between a m es in
       rw (numbers-held T es h) (ap (λ (xs : List ℕ). slice_get xs 0) q)
 
   pub none_between : (a m : ℕ) (T : P → Option V) (es : List (ℕ × P)) → AllByRecursion (IsPlaced num pl T) es → [] ≡ entries_between nat_cmp (Excluded a) (Included m) es
-      → None ≡ slice_get (filter (between a m) (map num (held T es))) 0
+      → None ≡ slice_get (filter (between a m) (map num (values_at T es))) 0
   none_between a m T es h e =
       let q : [] ≡ filter (between a m) (keys_of es) = ap keys_of e ∙ keys-between a m es in
       rw (numbers-held T es h) (ap (λ (xs : List ℕ). slice_get xs 0) q)
@@ -382,11 +382,11 @@ module _ {P V : Type 0} (num : V → ℕ) (pl : V → P) where
 
   -- a value that a test finds by its place
   pub find-vacant : (test : V → Bool) (T : P → Option V) (p : P) (es : List (ℕ × P)) → ((v : V) → test v ≡ true → pl v ≡ p)
-      → T p ≡ None → AllByRecursion (IsPlaced num pl T) es → find test (held T es) ≡ None
+      → T p ≡ None → AllByRecursion (IsPlaced num pl T) es → find test (values_at T es) ≡ None
   find-vacant test T p [] s n h = refl
   find-vacant test T p (e ∷ es) s n (h, hs) = go (find-vacant test T p es s n hs) (test h.0) refl
     where
-      go : find test (held T es) ≡ None → (b : Bool) → test h.0 ≡ b → find test (held T (e ∷ es)) ≡ None
+      go : find test (values_at T es) ≡ None → (b : Bool) → test h.0 ≡ b → find test (values_at T (e ∷ es)) ≡ None
       go more true t =
           let q : e.1 ≡ p = sym h.3 ∙ s h.0 t in
           let a : T e.1 ≡ None = ap T q ∙ n in
@@ -394,7 +394,7 @@ module _ {P V : Type 0} (num : V → ℕ) (pl : V → P) where
       go more false t = rw (h.1, t) more
 
   pub find-held : (test : V → Bool) (T : P → Option V) (p : P) (v : V) (es : List (ℕ × P)) → ((v : V) → test v ≡ true → pl v ≡ p) → ((v : V) → pl v ≡ p → test v ≡ true)
-      → T p ≡ Some v → lookup (is_at (nat_cmp (num v))) es ≡ Some p → AllByRecursion (IsPlaced num pl T) es → find test (held T es) ≡ Some v
+      → T p ≡ Some v → lookup (is_at (nat_cmp (num v))) es ≡ Some p → AllByRecursion (IsPlaced num pl T) es → find test (values_at T es) ≡ Some v
   find-held test T p v [] s c n l h = absurd cc
   find-held test T p v (e ∷ es) s c n l (h, hs) = go (λ l'. find-held test T p v es s c n l' hs) (test h.0) refl
     where
@@ -406,7 +406,7 @@ module _ {P V : Type 0} (num : V → ℕ) (pl : V → P) where
           absurd (cc (y, t))
       skip false i t = rw i at l
 
-      go : (lookup (is_at (nat_cmp (num v))) es ≡ Some p → find test (held T es) ≡ Some v) → (b : Bool) → test h.0 ≡ b → find test (held T (e ∷ es)) ≡ Some v
+      go : (lookup (is_at (nat_cmp (num v))) es ≡ Some p → find test (values_at T es) ≡ Some v) → (b : Bool) → test h.0 ≡ b → find test (values_at T (e ∷ es)) ≡ Some v
       go more true t =
           let q : e.1 ≡ p = sym h.3 ∙ s h.0 t in
           let a : T e.1 ≡ Some v = ap T q ∙ n in

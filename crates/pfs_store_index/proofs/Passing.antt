@@ -9,7 +9,7 @@ use Rattle.pfs_store_contract.specs.Purging.{is_over, node_retention}
 use Rattle.pfs_store_contract.specs.Quiet.{NodeStays}
 use Rattle.pfs_store_contract.specs.declared.records.Node.{Node}
 use Rattle.pfs_store_contract.specs.declared.records.State.{State}
-use Rattle.pfs_store_index.specs.Keeping.{AreInPlace, IsPlaced, held, number_of_node}
+use Rattle.pfs_store_index.specs.Keeping.{AreInPlace, IsPlaced, values_at, number_of_node}
 use Rattle.pfs_store_index.specs.Records.{between}
 use Rattle.pfs_store_index.specs.Staying.{IsKeptUntil, is_past}
 use Rattle.pfs_store_index.specs.Tallies.{nodes_of}
@@ -44,7 +44,7 @@ module _ {P V : Type 0} where
 
 module _ {P V : Type 0} (number : V → ℕ) (place : V → P) where
   pub each-value : (Q : V → Type 0) (at : P → Option V) (a m : ℕ) (es : List (ℕ × P)) → AllByRecursion (IsPlaced number place at) es → Each (OfValue Q at) a m es
-      → AllByRecursion (λ (v : V). between a m (number v) ≡ true → Q v) (held at es)
+      → AllByRecursion (λ (v : V). between a m (number v) ≡ true → Q v) (values_at at es)
   each-value Q at a m [] h w = tt
   each-value Q at a m (e ∷ es) (h, hs) (w, ws) = rw h.1 (here, each-value Q at a m es hs ws)
     where
@@ -53,7 +53,7 @@ module _ {P V : Type 0} (number : V → ℕ) (place : V → P) where
 
   -- the walk so far
   pub is-passing : (test : V → Bool) (at : P → Option V) (es left : List (ℕ × P)) (above last most share stayed : ℕ) → AreInPlace number place at es
-      → Walking (OfValue (λ (v : V). test v ≡ false) at) es left above last most stayed → stayed ≤ share → IsPassing number test (held at es) above most share stayed last
+      → Walking (OfValue (λ (v : V). test v ≡ false) at) es left above last most stayed → stayed ≤ share → IsPassing number test (values_at at es) above most share stayed last
   is-passing test at es left above last most share stayed k w s = record {
     from = w.from;
     to = w.to;
@@ -64,7 +64,7 @@ module _ {P V : Type 0} (number : V → ℕ) (place : V → P) where
     within = s;
   }
     where
-      numbers : map number (held at es) ≡ keys_of es
+      numbers : map number (values_at at es) ≡ keys_of es
       numbers = numbers-held number place at es k.placed
 
       split : filter (between above most) (keys_of es) ≡ filter (between above last) (keys_of es) ++ filter (between last most) (keys_of es)

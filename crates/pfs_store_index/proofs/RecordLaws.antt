@@ -10,7 +10,7 @@ use Rattle.slab.proofs.SlabLemmas.{Updates-with_value}
 use Rattle.pfs_store_contract.specs.Calls.{other_than}
 use Rattle.pfs_store_contract.specs.Purging.{state_numbers}
 use Rattle.pfs_store_contract.specs.declared.records.State.{State}
-use Rattle.pfs_store_index.specs.Keeping.{held, IsPlaced, AreInPlace, number_in, place_of_record, record_in}
+use Rattle.pfs_store_index.specs.Keeping.{values_at, IsPlaced, AreInPlace, number_in, place_of_record, record_in}
 use Rattle.pfs_store_index.specs.Records.{IsRecordAt, IsRising, Placed, is_placed, leaves_number, placed_at, put, put_state, stands_at, states_of}
 use Rattle.pfs_store_index.proofs.Ordered.{IsUpdated, find_placed, found, kept-written, look-placed, rising-held, view-written}
 
@@ -83,20 +83,20 @@ state_at None p v h = absurd (cc h)
 state_at (Some s) p v h = ap (option_map (λ (q : Placed). q.state)) h
 
 -- a record that stands at a place is there
-pub stands : (place : ℕ) (s : Slab State) (es : List (ℕ × ℕ)) → AllByRecursion (IsPlaced number_in place_of_record (record_in s)) es → list_any (stands_at place) (held (record_in s) es) ≡ true → ContainsKey s place
+pub stands : (place : ℕ) (s : Slab State) (es : List (ℕ × ℕ)) → AllByRecursion (IsPlaced number_in place_of_record (record_in s)) es → list_any (stands_at place) (values_at (record_in s) es) ≡ true → ContainsKey s place
 stands place s [] h a = absurd (cc a)
 stands place s (e ∷ es) (h, hs) a =
-    let a' : list_any (stands_at place) (h.0 ∷ held (record_in s) es) ≡ true = (rw h.1 at a) in
+    let a' : list_any (stands_at place) (h.0 ∷ values_at (record_in s) es) ≡ true = (rw h.1 at a) in
     go (stands place s es hs) a' (h.0.place == place) refl
   where
-    go : (list_any (stands_at place) (held (record_in s) es) ≡ true → ContainsKey s place) → list_any (stands_at place) (h.0 ∷ held (record_in s) es) ≡ true → (b : Bool) → (h.0.place == place) ≡ b → ContainsKey s place
+    go : (list_any (stands_at place) (values_at (record_in s) es) ≡ true → ContainsKey s place) → list_any (stands_at place) (h.0 ∷ values_at (record_in s) es) ≡ true → (b : Bool) → (h.0.place == place) ≡ b → ContainsKey s place
     go more a' true t =
         let q : h.0.place ≡ place = grind (arith, nat_tests) in
         subst (λ (p : ℕ). ContainsKey s p) (sym h.3 ∙ q) (has_place s e.1 h.0 h.1)
     go more a' false t = more (rw t at a')
 
 -- and the state at a place is that of each record there
-pub records-at : (place : ℕ) (st : State) (s : Slab State) (es : List (ℕ × ℕ)) → get s place ≡ Some st → AllByRecursion (IsPlaced number_in place_of_record (record_in s)) es → IsRecordAt place st (held (record_in s) es)
+pub records-at : (place : ℕ) (st : State) (s : Slab State) (es : List (ℕ × ℕ)) → get s place ≡ Some st → AllByRecursion (IsPlaced number_in place_of_record (record_in s)) es → IsRecordAt place st (values_at (record_in s) es)
 records-at place st s [] g h = tt
 records-at place st s (e ∷ es) g (h, hs) = rw h.1 (here, records-at place st s es g hs)
   where
@@ -108,14 +108,14 @@ records-at place st s (e ∷ es) g (h, hs) = rw h.1 (here, records-at place st s
 
 -- the state of a number is that at its place
 pub read-value : (n : ℕ) (s : Slab State) (es : List (ℕ × ℕ)) (p : ℕ) (st : State) → AllByRecursion (IsPlaced number_in place_of_record (record_in s)) es → lookup (is_at (nat_cmp n)) es ≡ Some p → get s p ≡ Some st
-    → Some st ≡ find (λ (x : State). x.number == n) (states_of (held (record_in s) es))
+    → Some st ≡ find (λ (x : State). x.number == n) (states_of (values_at (record_in s) es))
 read-value n s es p st h l g =
     let f = find_placed number_in place_of_record (record_in s) n es p h l in
     let r : record_in s p ≡ Some (placed_at p st) = ap (option_map (placed_at p)) g in
-    sym (find-states n (held (record_in s) es) ∙ ap (option_map (λ (q : Placed). q.state)) (f ∙ r))
+    sym (find-states n (values_at (record_in s) es) ∙ ap (option_map (λ (q : Placed). q.state)) (f ∙ r))
 
-pub rising-states : (s : Slab State) (es : List (ℕ × ℕ)) → AreInPlace number_in place_of_record (record_in s) es → IsRising (state_numbers (states_of (held (record_in s) es)))
-rising-states s es k = rw (numbers-states (held (record_in s) es)) (rising-held number_in place_of_record (record_in s) es k)
+pub rising-states : (s : Slab State) (es : List (ℕ × ℕ)) → AreInPlace number_in place_of_record (record_in s) es → IsRising (state_numbers (states_of (values_at (record_in s) es)))
+rising-states s es k = rw (numbers-states (values_at (record_in s) es)) (rising-held number_in place_of_record (record_in s) es k)
 
 -- ---- a record is written
 
@@ -133,7 +133,7 @@ put-here s p st r v h =
     rw y (ap (λ q. placed_at q st) (ap place_of_record e ∙ r.3))
 
 abbrev pub Stands : Slab State → List (ℕ × ℕ) → ℕ → State → Type 0
-Stands s es p st = list_any (is_placed st.number p) (held (record_in s) es) ≡ true
+Stands s es p st = list_any (is_placed st.number p) (values_at (record_in s) es) ≡ true
 
 at_number : (s : Slab State) (es : List (ℕ × ℕ)) (p : ℕ) (st : State) → AreInPlace number_in place_of_record (record_in s) es → Stands s es p st → lookup (is_at (nat_cmp st.number)) es ≡ Some p
 at_number s es p st k a = look-placed number_in place_of_record (is_placed st.number p) (record_in s) st.number p es (placed_true st.number p) k.ordered k.placed a
@@ -150,7 +150,7 @@ pub kept-put : (s : Slab State) (es : List (ℕ × ℕ)) (p : ℕ) (st : State) 
 kept-put s es p st k a =
     kept-written number_in place_of_record (record_in s) (record_in (with_value s p st)) p st.number (placed_at p st) es refl refl (at_number s es p st k a) (with_record s es p st k a) k
 
-pub view-put : (s : Slab State) (es : List (ℕ × ℕ)) (p : ℕ) (st : State) → AreInPlace number_in place_of_record (record_in s) es → Stands s es p st → held (record_in (with_value s p st)) es ≡ map (put st) (held (record_in s) es)
+pub view-put : (s : Slab State) (es : List (ℕ × ℕ)) (p : ℕ) (st : State) → AreInPlace number_in place_of_record (record_in s) es → Stands s es p st → values_at (record_in (with_value s p st)) es ≡ map (put st) (values_at (record_in s) es)
 view-put s es p st k a =
     let l = at_number s es p st k a in
     let f = found number_in place_of_record (record_in s) st.number p es k.placed l in

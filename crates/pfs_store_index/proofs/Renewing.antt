@@ -16,7 +16,7 @@ use Rattle.pfs_track.specs.declared.state_phases.StatePhase.{StatePhase}
 use Rattle.pfs_track.specs.declared.state_phases.StatePhase.TheVariants.{Tcp, Udp, Other}
 use Rattle.pfs_store_contract.specs.Counts.{is_node, node_connections}
 use Rattle.pfs_store_contract.specs.Purging.{state_numbers}
-use Rattle.pfs_store_contract.specs.Touching.{connections_in, goes_forward, renewed, score_in, stepped}
+use Rattle.pfs_store_contract.specs.Touching.{connections_in, goes_forward, numbered_state_after, score_in, state_after_packet}
 use Rattle.pfs_store_contract.specs.declared.records.Node.{Node}
 use Rattle.pfs_store_contract.specs.declared.records.NodeScope.{NodeScope}
 use Rattle.pfs_store_contract.specs.declared.records.State.{State}
@@ -73,15 +73,15 @@ number-found k e s rs h q r =
     subst (λ (x : State). find (has_number record_number x.number) rs ≡ Some h.record_of) q (key-number k h.record_of rs (rising-records rs r) h.found) in
     find-part (λ (p : Placed). p.state) (has_number state_number s.number) rs ∙ ap (option_map (λ (p : Placed). p.state)) f ∙ ap Some q
 
-renewed-self : (p : Header) (now : ℕ) (s : State) → renewed s.number p now s ≡ stepped p now s
-renewed-self p now s = ap (λ (b : Bool). if b then stepped p now s else s) (same_self s.number)
+renewed-self : (p : Header) (now : ℕ) (s : State) → numbered_state_after s.number p now s ≡ state_after_packet p now s
+renewed-self p now s = ap (λ (b : Bool). if b then state_after_packet p now s else s) (same_self s.number)
 
 pub written : (k : FlowKey) (e : Entry) (p : Header) (now : ℕ) (s after : State) (rs : List Placed) (h : IsEntryOf k e rs) → h.record_of.state ≡ s → IsRising (state_numbers (states_of rs))
-    → after ≡ stepped p now s → map (put after) rs ≡ map (renewed_record s.number p now) rs
+    → after ≡ state_after_packet p now s → map (put after) rs ≡ map (renewed_record s.number p now) rs
 written k e p now s after rs h q r a =
     let f : find (has_number record_number s.number) rs ≡ Some h.record_of =
     subst (λ (x : State). find (has_number record_number x.number) rs ≡ Some h.record_of) q (key-number k h.record_of rs (rising-records rs r) h.found) in
-    put-renewed s.number p now h.record_of after rs (rising-records rs r) f (a ∙ sym (renewed-self p now s) ∙ ap (renewed s.number p now) (sym q)) (ap (λ (x : State). x.number) a)
+    put-renewed s.number p now h.record_of after rs (rising-records rs r) f (a ∙ sym (renewed-self p now s) ∙ ap (numbered_state_after s.number p now) (sym q)) (ap (λ (x : State). x.number) a)
 
 -- ---- a handshake is counted once
 

@@ -14,10 +14,10 @@ use Rattle.pfs_store_contract.specs.Admission.{new_node, nodes_with}
 use Rattle.pfs_store_contract.proofs.SliceLaws.{lifetime-unread}
 use Rattle.pfs_store_contract.specs.Counts.{has_node, is_node, is_of_source, node_scope_of, node_states, rule_states}
 use Rattle.pfs_store_contract.specs.Calls.{source_states, stays_unflushed}
-use Rattle.pfs_store_contract.specs.Leaving.{idled, is_flushed, without}
+use Rattle.pfs_store_contract.specs.Leaving.{node_after_leaving, is_flushed, world_without}
 use Rattle.pfs_store_contract.specs.Plain.{AreCounts}
 use Rattle.pfs_store_contract.specs.Purging.{has_expired, is_among, node_numbers, node_share, node_slice, node_stays, round, state_numbers, state_share, state_slice, stays}
-use Rattle.pfs_store_contract.specs.Touching.{completes_at, nodes_scored, nodes_touched, renewed, rescored, touched}
+use Rattle.pfs_store_contract.specs.Touching.{completes_at, nodes_scored, nodes_touched, numbered_state_after, node_after_handshake, world_after_touch}
 use Rattle.pfs_store_contract.specs.Worlds.{holds_number, lists}
 use Rattle.pfs_store_contract.specs.declared.records.Node.{Node}
 use Rattle.pfs_store_contract.specs.declared.records.NodeScope.{NodeScope}
@@ -50,7 +50,7 @@ numbered-later : (made : ℕ) (numbers : List ℕ) → IsNumbered made numbers �
 numbered-later made [] h = tt
 numbered-later made (n ∷ ns) (h, hs) = ((h.0, omega (arith, h.1)), numbered-later made ns hs)
 
-numbers-idled : (conf : Conf) (before after : List State) (now : ℕ) (ns : List Node) → node_numbers (map (idled conf before after now) ns) ≡ node_numbers ns
+numbers-idled : (conf : Conf) (before after : List State) (now : ℕ) (ns : List Node) → node_numbers (map (node_after_leaving conf before after now) ns) ≡ node_numbers ns
 numbers-idled conf before after now [] = refl
 numbers-idled conf before after now (n ∷ ns) = (λ i. go (nat_lt 0 (node_states conf n.scope n.source before) && (node_states conf n.scope n.source after == 0)) i ∷ numbers-idled conf before after now ns i)
   where
@@ -58,7 +58,7 @@ numbers-idled conf before after now (n ∷ ns) = (λ i. go (nat_lt 0 (node_state
     go true = refl
     go false = refl
 
-pub numbers-renewed : (n : ℕ) (p : Header) (now : ℕ) (xs : List State) → state_numbers (map (renewed n p now) xs) ≡ state_numbers xs
+pub numbers-renewed : (n : ℕ) (p : Header) (now : ℕ) (xs : List State) → state_numbers (map (numbered_state_after n p now) xs) ≡ state_numbers xs
 numbers-renewed n p now xs = map-blind n p now (λ (s : State). s.number) xs (blind n p now (λ (s : State). s.number) (λ s. refl))
 
 numbers-scored : (ns : List Node) (a : Addr) (now : ℕ) (sc : Option NodeScope) (rate : Option Rate) → node_numbers (nodes_scored ns a now sc rate) ≡ node_numbers ns
@@ -66,7 +66,7 @@ numbers-scored ns a now None rate = refl
 numbers-scored ns a now (Some sc) None = refl
 numbers-scored ns a now (Some sc) (Some rate) = each ns
   where
-    each : (ns : List Node) → node_numbers (map (rescored sc a rate.seconds now) ns) ≡ node_numbers ns
+    each : (ns : List Node) → node_numbers (map (node_after_handshake sc a rate.seconds now) ns) ≡ node_numbers ns
     each [] = refl
     each (n ∷ ns) = (λ i. go (is_node sc a n) i ∷ each ns i)
       where
@@ -161,9 +161,9 @@ waiting-without c m p xs r = waiting-held c m (holds_number (filter p xs)) p xs 
 -- ---- states leave
 
 pub world-without : (p : State → Bool) (now : ℕ) (h h' : Holding) (c m c' m' made : ℕ) → IsRisingBy state_number h.states → h'.states ≡ filter p h.states
-    → h'.nodes ≡ map (idled h.config h.states h'.states now) h.nodes → world_of h' c m c' m' made ≡ without h.config (world_of h c m c' m' made) p now
+    → h'.nodes ≡ map (node_after_leaving h.config h.states h'.states now) h.nodes → world_of h' c m c' m' made ≡ world_without h.config (world_of h c m c' m' made) p now
 world-without p now h h' c m c' m' made r e f =
-    let ns : h'.nodes ≡ map (idled h.config h.states (filter p h.states) now) h.nodes = f ∙ ap (λ xs. map (idled h.config h.states xs now) h.nodes) e in
+    let ns : h'.nodes ≡ map (node_after_leaving h.config h.states (filter p h.states) now) h.nodes = f ∙ ap (λ xs. map (node_after_leaving h.config h.states xs now) h.nodes) e in
     let ps : waiting c m (state_numbers h'.states) ≡ filter (holds_number (filter p h.states)) (waiting c m (state_numbers h.states)) =
     ap (λ xs. waiting c m (state_numbers xs)) e ∙ waiting-without c m p h.states r in
     let qs : waiting c' m' (node_numbers h'.nodes) ≡ waiting c' m' (node_numbers h.nodes) =
@@ -171,7 +171,7 @@ world-without p now h h' c m c' m' made r e f =
     (λ i. lists (e i) (ns i) (ps i) (qs i) made)
 
 pub stored-without : (p : State → Bool) (now : ℕ) (h h' : Holding) (c m c' m' c2 m2 made places : ℕ) → h'.config ≡ h.config → h'.states ≡ filter p h.states
-    → h'.nodes ≡ map (idled h.config h.states h'.states now) h.nodes → IsStored h c m c' m' made places → c2 ≤ m2 → m2 ≤ made → IsStored h' c2 m2 c' m' made places
+    → h'.nodes ≡ map (node_after_leaving h.config h.states h'.states now) h.nodes → IsStored h c m c' m' made places → c2 ≤ m2 → m2 ≤ made → IsStored h' c2 m2 c' m' made places
 stored-without p now h h' c m c' m' c2 m2 made places g e f i l k = record {
   order = l;
   mark_made = k;
@@ -188,13 +188,13 @@ stored-without p now h h' c m c' m' c2 m2 made places g e f i l k = record {
 
 pub world-slice : (now share : ℕ) (h h' : Holding) (b k c m c' m' made : ℕ) (rs : List ℕ) → share ≡ state_share h.config
     → rs ≡ round (state_numbers h.states) (waiting b k (state_numbers h.states))
-    → h'.states ≡ filter (stays h.config h.states now (take share rs)) h.states → h'.nodes ≡ map (idled h.config h.states h'.states now) h.nodes
+    → h'.states ≡ filter (stays h.config h.states now (take share rs)) h.states → h'.nodes ≡ map (node_after_leaving h.config h.states h'.states now) h.nodes
     → waiting c m (state_numbers h'.states) ≡ drop share rs → world_of h' c m c' m' made ≡ state_slice h.config (world_of h b k c' m' made) now
 world-slice now share h h' b k c m c' m' made rs s r e f w =
     let xs : h'.states ≡ filter (stays h.config h.states now (take (state_share h.config) (round (state_numbers h.states) (waiting b k (state_numbers h.states))))) h.states =
     e ∙ (λ i. filter (stays h.config h.states now (take (s i) (r i))) h.states) in
-    let ns : h'.nodes ≡ map (idled h.config h.states (filter (stays h.config h.states now (take (state_share h.config) (round (state_numbers h.states) (waiting b k (state_numbers h.states))))) h.states) now) h.nodes =
-    f ∙ ap (λ ys. map (idled h.config h.states ys now) h.nodes) xs in
+    let ns : h'.nodes ≡ map (node_after_leaving h.config h.states (filter (stays h.config h.states now (take (state_share h.config) (round (state_numbers h.states) (waiting b k (state_numbers h.states))))) h.states) now) h.nodes =
+    f ∙ ap (λ ys. map (node_after_leaving h.config h.states ys now) h.nodes) xs in
     let qs : waiting c' m' (node_numbers h'.nodes) ≡ waiting c' m' (node_numbers h.nodes) =
     ap (waiting c' m') (ap node_numbers f ∙ numbers-idled h.config h.states h'.states now h.nodes) in
     (λ i. lists (xs i) (ns i) ((w ∙ (λ j. drop (s j) (r j))) i) (qs i) made)
@@ -226,8 +226,8 @@ stored-nodes p h h' c m c' m' c2 m2 made places g e f i l k = record {
 
 -- ---- a packet of a state
 
-pub world-touched : (s : State) (p : Header) (now : ℕ) (h h' : Holding) (c m c' m' made : ℕ) → h'.states ≡ map (renewed s.number p now) h.states
-    → h'.nodes ≡ nodes_touched h.config h.nodes s now (completes_at p s) → world_of h' c m c' m' made ≡ touched h.config (world_of h c m c' m' made) s p now
+pub world-touched : (s : State) (p : Header) (now : ℕ) (h h' : Holding) (c m c' m' made : ℕ) → h'.states ≡ map (numbered_state_after s.number p now) h.states
+    → h'.nodes ≡ nodes_touched h.config h.nodes s now (completes_at p s) → world_of h' c m c' m' made ≡ world_after_touch h.config (world_of h c m c' m' made) s p now
 world-touched s p now h h' c m c' m' made e f =
     (λ i. lists (e i) (f i) ((ap (λ xs. waiting c m (state_numbers xs)) e ∙ ap (waiting c m) (numbers-renewed s.number p now h.states)) i)
     ((ap (λ ns. waiting c' m' (node_numbers ns)) f ∙ ap (waiting c' m') (same (completes_at p s))) i) made)
@@ -236,7 +236,7 @@ world-touched s p now h h' c m c' m' made e f =
     same true = numbers-scored h.nodes s.source now (node_scope_of h.config s.rule.0) _
     same false = refl
 
-pub stored-touched : (s : State) (p : Header) (now : ℕ) (h h' : Holding) (c m c' m' made places : ℕ) → h'.config ≡ h.config → h'.states ≡ map (renewed s.number p now) h.states
+pub stored-touched : (s : State) (p : Header) (now : ℕ) (h h' : Holding) (c m c' m' made places : ℕ) → h'.config ≡ h.config → h'.states ≡ map (numbered_state_after s.number p now) h.states
     → h'.nodes ≡ nodes_touched h.config h.nodes s now (completes_at p s) → IsStored h c m c' m' made places → IsStored h' c m c' m' made places
 stored-touched s p now h h' c m c' m' made places g e f i = record {
   order = i.order;

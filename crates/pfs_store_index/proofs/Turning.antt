@@ -6,7 +6,7 @@ use Rattle.std.specs.Ordering.{nat_cmp}
 use Rattle.std.specs.BTreeMap.Range.{entries_between}
 use Rattle.std.specs.declared.ops.Bound.TheVariants.{Included, Excluded}
 use Rattle.std.proofs.lemmas.Bool.Decides.{nat_tests}
-use Rattle.pfs_store_contract.specs.Quiet.{turned}
+use Rattle.pfs_store_contract.specs.Quiet.{round_after_slices}
 use Rattle.pfs_store_contract.proofs.Turns.{drop-all, rounds-over, whole-round}
 use Rattle.pfs_store_index.specs.Records.{IsRising, between}
 use Rattle.pfs_store_index.proofs.Walking.{Walking, drop-front, length-keys, map-both, span, span-entries, span-keys, split-span}
@@ -53,13 +53,13 @@ module _ {P : Type 0} where
   -- ---- a whole round
 
   pub round-ends : (es : List (ℕ × P)) (numbers less share : ℕ) → 1 ≤ share → numbers ≡ length (keys_of es) → less ≡ numbers - 1
-      → turned share (keys_of es) (1 + less / share) [] ≡ []
+      → round_after_slices share (keys_of es) (1 + less / share) [] ≡ []
   round-ends es numbers less share s hn hl =
       let q = less / share in
       let parts = div-add-mod' less share in
       let most = mod-lt less s in
       let is : 1 + q ≡ suc q = omega arith in
-      ap (λ k. turned share (keys_of es) k []) is
+      ap (λ k. round_after_slices share (keys_of es) k []) is
       ∙ whole-round share q (keys_of es) (omega (arith, parts, hn, hl)) (omega (arith, parts, most, hn, hl))
 
 -- ---- one slice, or all whole rounds
@@ -68,11 +68,11 @@ over-empty : (pending : List ℕ) → (length pending == 0) ≡ true → pending
 over-empty [] h = refl
 over-empty (p ∷ ps) h = let f = not_zero (length ps) in absurd (cc (f, h))
 
-pub whole-passed : (share whole left : ℕ) (numbers pending : List ℕ) → (length pending == 0) ≡ true → turned share numbers whole [] ≡ []
-    → turned share numbers (left % whole) pending ≡ turned share numbers left pending
+pub whole-passed : (share whole left : ℕ) (numbers pending : List ℕ) → (length pending == 0) ≡ true → round_after_slices share numbers whole [] ≡ []
+    → round_after_slices share numbers (left % whole) pending ≡ round_after_slices share numbers left pending
 whole-passed share whole left numbers pending h e =
     let none = over-empty pending h in
-    ap (turned share numbers (left % whole)) none ∙ rounds-over share whole left numbers e ∙ ap (turned share numbers left) (sym none)
+    ap (round_after_slices share numbers (left % whole)) none ∙ rounds-over share whole left numbers e ∙ ap (round_after_slices share numbers left) (sym none)
 
 in_range : (made n : ℕ) → 1 ≤ n → n ≤ made → between 0 made n ≡ true
 in_range made n l m = grind (arith, nat_tests)
@@ -83,13 +83,13 @@ all-numbers made (n ∷ ns) (h, hs) = rw (in_range made n h.0 h.1) (ap (λ ks. n
 
 -- a new round begins with its first slice
 pub round-begun : (share left made : ℕ) (numbers pending next : List ℕ) → AllByRecursion (λ n. (1 ≤ n) × (n ≤ made)) numbers → 0 < left → (length pending == 0) ≡ true
-    → next ≡ drop share (filter (between 0 made) numbers) → turned share numbers (left - 1) next ≡ turned share numbers left pending
+    → next ≡ drop share (filter (between 0 made) numbers) → round_after_slices share numbers (left - 1) next ≡ round_after_slices share numbers left pending
 round-begun share left made numbers pending next n l h e =
     let more : left ≡ suc (left - 1) = omega (arith, l) in
-    ap (turned share numbers (left - 1)) (e ∙ ap (drop share) (all-numbers made numbers n))
-    ∙ (λ i. turned share numbers (sym more i) (sym (over-empty pending h) i))
+    ap (round_after_slices share numbers (left - 1)) (e ∙ ap (drop share) (all-numbers made numbers n))
+    ∙ (λ i. round_after_slices share numbers (sym more i) (sym (over-empty pending h) i))
 
 -- a round over numbers goes on as over others that are the same
-pub turned-same : (share slices cursor mark most least : ℕ) (ns ks : List ℕ) → ns ≡ ks → filter (between cursor mark) ks ≡ turned share ks slices (filter (between least most) ks)
-    → filter (between cursor mark) ns ≡ turned share ns slices (filter (between least most) ns)
-turned-same share slices cursor mark most least ns ks e h = subst (λ xs. filter (between cursor mark) xs ≡ turned share xs slices (filter (between least most) xs)) (sym e) h
+pub turned-same : (share slices cursor mark most least : ℕ) (ns ks : List ℕ) → ns ≡ ks → filter (between cursor mark) ks ≡ round_after_slices share ks slices (filter (between least most) ks)
+    → filter (between cursor mark) ns ≡ round_after_slices share ns slices (filter (between least most) ns)
+turned-same share slices cursor mark most least ns ks e h = subst (λ xs. filter (between cursor mark) xs ≡ round_after_slices share xs slices (filter (between least most) xs)) (sym e) h

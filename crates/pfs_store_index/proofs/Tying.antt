@@ -16,13 +16,13 @@ use Rattle.pfs_store_contract.specs.Counts.{node_scope_of, rule_states}
 use Rattle.pfs_store_contract.specs.Calls.{other_than}
 use Rattle.pfs_store_contract.specs.Plain.{AreCounts}
 use Rattle.pfs_store_contract.specs.Purging.{state_numbers}
-use Rattle.pfs_store_contract.specs.Touching.{completes_at, renewed}
+use Rattle.pfs_store_contract.specs.Touching.{completes_at, numbered_state_after}
 use Rattle.pfs_store_contract.specs.declared.records.NodeScope.{NodeScope}
 use Rattle.pfs_store_contract.specs.declared.records.State.{State}
 use Rattle.pfs_store_index.specs.Records.{IsRising, Placed, leaves_number, placed_at, states_of}
 use Rattle.pfs_store_index.specs.declared.nodes.Tally.{Tally}
 use Rattle.pfs_store_index.specs.declared.indexes.Entry.{Entry}
-use Rattle.pfs_store_index.specs.Ties.{HasPair, HasRule, HasTally, IsCounted, IsTied, SamePairs, at_node, entry_of, has_key, is_pair, joined, key_in, left_at, left_of, met_by, pair_cmp}
+use Rattle.pfs_store_index.specs.Ties.{HasPair, HasRule, HasTally, IsCounted, IsTied, SamePairs, at_node, entry_of, has_key, is_pair, tallies_with_state, key_in, left_at, left_of, met_by, pair_cmp}
 use Rattle.pfs_store_index.proofs.Comings.{counted-came, distinct-came, key-came, noded-came, pair-came, rule-came, ruled-came, scoped-came, scored-came}
 use Rattle.pfs_store_index.proofs.Leavings.{counted-left, key-left, left-faithful, noded-left, pair-left, record_number, rule-left, ruled-set, scored-left, state_number}
 use Rattle.pfs_store_index.proofs.Meetings.{CountsDone, all-blind, all-met, any-blind, blind, count-blind, key-renewed, keys-renewed, met-faithful, noded-met, renewed_record, scored-met, states-renewed}
@@ -72,7 +72,7 @@ module _ {S : Type 0} (conf : Conf) (rs : List Placed) (keys : HashMap FlowKey E
       → find (has_key s.key) rs ≡ None → s.rule.0 < length counts → v ≡ slice_index counts s.rule.0 → is_done s.phase ≡ false → node_scope_of conf s.rule.0 ≡ o
       → ((k : FlowKey) → hash.get same_key keys' k ≡ cond (same_key s.key k) (Some (entry_of (placed_at place s))) (hash.get same_key keys k))
       → HasPair (s.source, s.number) pairs pairs'
-      → IsTied conf (rs ++ placed_at place s ∷ []) keys' (slice_set counts s.rule.0 (v + 1)) (joined o s ts) pairs'
+      → IsTied conf (rs ++ placed_at place s ∷ []) keys' (slice_set counts s.rule.0 (v + 1)) (tallies_with_state o s ts) pairs'
   tied-came keys' pairs' s place v o i f w e d so hk hp =
       let xs = states_of rs in
       let at : states_of (rs ++ placed_at place s ∷ []) ≡ states_of rs ++ s ∷ [] = map-push (λ (p : Placed). p.state) (placed_at place s) rs in
@@ -82,10 +82,10 @@ module _ {S : Type 0} (conf : Conf) (rs : List Placed) (keys : HashMap FlowKey E
         by_rule = subst (AreCounts (slice_set counts s.rule.0 (v + 1))) (sym at) (rule-came s xs counts v w e i.by_rule);
         size = length-set counts s.rule.0 (v + 1) ∙ i.size;
         ruled = subst (AllByRecursion (HasRule (length (slice_set counts s.rule.0 (v + 1))))) (sym at) (ruled-came counts s.rule.0 (v + 1) s xs w i.ruled);
-        counted = subst (λ ys. AllByRecursion (IsCounted conf ys) (joined o s ts)) (sym at) (counted-came conf o s xs ts so d i.scoped i.counted i.noded);
+        counted = subst (λ ys. AllByRecursion (IsCounted conf ys) (tallies_with_state o s ts)) (sym at) (counted-came conf o s xs ts so d i.scoped i.counted i.noded);
         scoped = scoped-came conf o s ts so i.scoped;
         scored = scored-came o s ts i.scored;
-        noded = subst (AllByRecursion (HasTally conf (joined o s ts))) (sym at) (noded-came conf o s xs ts so i.noded);
+        noded = subst (AllByRecursion (HasTally conf (tallies_with_state o s ts))) (sym at) (noded-came conf o s xs ts so i.noded);
         paired = λ a n.
             pair-came s xs a n _ _ (i.paired a n) (hp (a, n) ∙ ap (λ b. cond b true (tree.contains pair_cmp pairs (a, n))) (pair_test s a n))
             ∙ ap (list_any (is_pair a n)) (sym at);
@@ -99,7 +99,7 @@ module _ {S : Type 0} (conf : Conf) (rs : List Placed) (keys : HashMap FlowKey E
       let xs = states_of rs in
       let rate = (options_of conf s.rule.0).max_src_conn_rate in
       let sc = node_scope_of conf s.rule.0 in
-      let at : states_of (map (renewed_record n p now) rs) ≡ map (renewed n p now) (states_of rs) = states-renewed n p now rs in
+      let at : states_of (map (renewed_record n p now) rs) ≡ map (numbered_state_after n p now) (states_of rs) = states-renewed n p now rs in
       record {
         by_key = λ k. i.by_key k ∙ sym (key-renewed n p now k rs);
         distinct = subst (IsDistinct same_key) (sym (keys-renewed n p now rs)) i.distinct;

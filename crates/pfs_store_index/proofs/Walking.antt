@@ -12,7 +12,7 @@ use Rattle.std.proofs.lemmas.Map.Keys.{sorted_head, sorted_tail}
 use Rattle.slab.specs.Slab.{Slab, get, ContainsKey}
 use Rattle.pfs_store_contract.specs.Purging.{state_numbers}
 use Rattle.pfs_store_contract.specs.declared.records.State.{State}
-use Rattle.pfs_store_index.specs.Keeping.{AreInPlace, IsPlaced, held, number_in, place_of_record, record_in}
+use Rattle.pfs_store_index.specs.Keeping.{AreInPlace, IsPlaced, values_at, number_in, place_of_record, record_in}
 use Rattle.pfs_store_index.specs.Records.{between, states_of}
 use Rattle.pfs_store_index.specs.Walks.{IsLeaver, IsWalk, StayUntil}
 use Rattle.pfs_store_index.proofs.Ordered.{found, less_apart, look-between, numbers-held, range_between}
@@ -249,7 +249,7 @@ abbrev pub OfState : (State → Type 0) → Slab State → ℕ × ℕ → Type 0
 OfState Q slab e = (s : State) → get slab e.1 ≡ Some s → Q s
 
 each-state : (Q : State → Type 0) (slab : Slab State) (a m : ℕ) (es : List (ℕ × ℕ)) → AllByRecursion (IsPlaced number_in place_of_record (record_in slab)) es → Each (OfState Q slab) a m es
-    → AllByRecursion (λ (s : State). between a m s.number ≡ true → Q s) (states_of (held (record_in slab) es))
+    → AllByRecursion (λ (s : State). between a m s.number ≡ true → Q s) (states_of (values_at (record_in slab) es))
 each-state Q slab a m [] h w = tt
 each-state Q slab a m (e ∷ es) (h, hs) (w, ws) = rw h.1 (here, each-state Q slab a m es hs ws)
   where
@@ -263,7 +263,7 @@ abbrev pub Until : (State → ℕ) → Slab State → ℕ → ℕ × ℕ → Typ
 Until moment slab until = OfState (λ (s : State). until ≤ moment s) slab
 
 pub until-states : (moment : State → ℕ) (slab : Slab State) (above last until : ℕ) (es : List (ℕ × ℕ)) → AreInPlace number_in place_of_record (record_in slab) es
-    → Each (Until moment slab until) above last es → StayUntil moment (states_of (held (record_in slab) es)) above last until
+    → Each (Until moment slab until) above last es → StayUntil moment (states_of (values_at (record_in slab) es)) above last until
 until-states moment slab above last until es k u = each-state (λ (s : State). until ≤ moment s) slab above last es k.placed u
 
 until-less : (moment : State → ℕ) (slab : Slab State) (above last until less : ℕ) (es : List (ℕ × ℕ)) → less ≤ until
@@ -281,8 +281,8 @@ until-more moment slab es rest above last most stayed until m k p st passes kept
     (until-less moment slab above last until (min until m) es (omega arith) u)
     (λ s e. let q : s ≡ st = cc (e, g) in let x = ap moment q in omega (arith, h, x))
 
-pub numbers-keys : (slab : Slab State) (es : List (ℕ × ℕ)) → AllByRecursion (IsPlaced number_in place_of_record (record_in slab)) es → state_numbers (states_of (held (record_in slab) es)) ≡ keys_of es
-numbers-keys slab es h = numbers-states (held (record_in slab) es) ∙ numbers-held number_in place_of_record (record_in slab) es h
+pub numbers-keys : (slab : Slab State) (es : List (ℕ × ℕ)) → AllByRecursion (IsPlaced number_in place_of_record (record_in slab)) es → state_numbers (states_of (values_at (record_in slab) es)) ≡ keys_of es
+numbers-keys slab es h = numbers-states (values_at (record_in slab) es) ∙ numbers-held number_in place_of_record (record_in slab) es h
 
 pub split-keys : {P : Type 0} (above last most : ℕ) (es : List (ℕ × P)) → IsStrictlySortedBy nat_cmp (keys_of es) → above ≤ last → last ≤ most
     → filter (between above most) (keys_of es) ≡ filter (between above last) (keys_of es) ++ filter (between last most) (keys_of es)
@@ -293,8 +293,8 @@ split-keys above last most es o p q =
 -- the walk ends here
 pub is-walk : (passes : State → Bool) (slab : Slab State) (es left : List (ℕ × ℕ)) (above last most share stayed : ℕ) (leaver : Option State)
     → AreInPlace number_in place_of_record (record_in slab) es → Walking (Stays passes slab) es left above last most stayed → stayed ≤ share
-    → IsLeaver passes (states_of (held (record_in slab) es)) last most stayed share leaver
-    → IsWalk passes (states_of (held (record_in slab) es)) above most share stayed last leaver
+    → IsLeaver passes (states_of (values_at (record_in slab) es)) last most stayed share leaver
+    → IsWalk passes (states_of (values_at (record_in slab) es)) above most share stayed last leaver
 is-walk passes slab es left above last most share stayed leaver k w s l = record {
   from = w.from;
   to = w.to;
@@ -306,7 +306,7 @@ is-walk passes slab es left above last most share stayed leaver k w s l = record
   leaver = l;
 }
   where
-    numbers : state_numbers (states_of (held (record_in slab) es)) ≡ keys_of es
+    numbers : state_numbers (states_of (values_at (record_in slab) es)) ≡ keys_of es
     numbers = numbers-keys slab es k.placed
 
     split : filter (between above most) (keys_of es) ≡ filter (between above last) (keys_of es) ++ filter (between last most) (keys_of es)
@@ -318,7 +318,7 @@ is-walk passes slab es left above last most share stayed leaver k w s l = record
 -- the state of the next entry leaves
 pub next-leaves : (passes : State → Bool) (slab : Slab State) (es rest : List (ℕ × ℕ)) (last most share stayed k p : ℕ) (st : State)
     → AreInPlace number_in place_of_record (record_in slab) es → (k, p) ∷ rest ≡ span last most es → get slab p ≡ Some st → passes st ≡ true → stayed < share
-    → IsLeaver passes (states_of (held (record_in slab) es)) last most stayed share (Some st)
+    → IsLeaver passes (states_of (values_at (record_in slab) es)) last most stayed share (Some st)
 next-leaves passes slab es rest last most share stayed k p st kept x g t s =
     let l = look-between last most k p rest es kept.ordered (x ∙ sym (span-entries last most es)) in
     let f = found number_in place_of_record (record_in slab) k p es kept.placed l in
@@ -330,13 +330,13 @@ next-leaves passes slab es rest last most share stayed k p st kept x g t s =
     record {
       within = s;
       next = rw (numbers-keys slab es kept.placed, n) (ap (λ (xs : List ℕ). slice_get xs 0) (sym q));
-      found = subst (λ (m : ℕ). find (λ (u : State). u.number == m) (states_of (held (record_in slab) es)) ≡ Some st) (sym n) (sym z);
+      found = subst (λ (m : ℕ). find (λ (u : State). u.number == m) (states_of (values_at (record_in slab) es)) ≡ Some st) (sym n) (sym z);
       passes = t;
     }
 
 -- and none is left
 pub none-leaves : (passes : State → Bool) (slab : Slab State) (es : List (ℕ × ℕ)) (last most share stayed : ℕ)
-    → AreInPlace number_in place_of_record (record_in slab) es → [] ≡ span last most es → IsLeaver passes (states_of (held (record_in slab) es)) last most stayed share None
+    → AreInPlace number_in place_of_record (record_in slab) es → [] ≡ span last most es → IsLeaver passes (states_of (values_at (record_in slab) es)) last most stayed share None
 none-leaves passes slab es last most share stayed kept x s =
     rw (numbers-keys slab es kept.placed) (sym (ap keys_of x ∙ span-keys last most es))
 

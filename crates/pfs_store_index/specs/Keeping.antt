@@ -17,8 +17,8 @@ use Rattle.pfs_store_index.specs.Tallies.{count_of, nodes_of}
 use Rattle.pfs_store_index.specs.declared.nodes.Tally.{Tally}
 
 -- the values at the places of these entries
-abbrev pub held : {P V : Type 0} → (P → Option V) → List (ℕ × P) → List V
-held {P} at es = filter_map (λ (e : ℕ × P). at e.1) es
+abbrev pub values_at : {P V : Type 0} → (P → Option V) → List (ℕ × P) → List V
+values_at {P} at es = filter_map (λ (e : ℕ × P). at e.1) es
 
 module _ {P V : Type 0} (number : V → ℕ) (place : V → P) where
   -- at the place of an entry is a value of the entry's number and place
@@ -58,7 +58,7 @@ same_place a b = same_scope a.0 b.0 && same_addr a.1 b.1
 pub record IsNoted (at : NodeScope × Addr → Option Tally) (es : List (ℕ × (NodeScope × Addr))) (rules : List ℕ) (global : ℕ) : Type 0 where
   pub kept : AreInPlace number_of_node place_of_node at es
   pub found : (place : NodeScope × Addr) (t : Tally) → at place ≡ Some t → lookup (is_at (nat_cmp t.node.number)) es ≡ Some place
-  pub counted : (scope : NodeScope) → count_of rules global scope ≡ scope_nodes scope (nodes_of (held at es))
+  pub counted : (scope : NodeScope) → count_of rules global scope ≡ scope_nodes scope (nodes_of (values_at at es))
 
 -- ---- counts of scopes
 

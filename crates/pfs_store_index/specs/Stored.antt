@@ -5,7 +5,7 @@ use Rattle.pfs_conf_values.specs.Configs.{Conf, rule_timeout_of}
 use Rattle.pfs_conf_values.specs.declared.items.RuleNo.{RuleNo}
 use Rattle.pfs_conf_values.specs.declared.timeouts.TimeoutName.{TimeoutName}
 use Rattle.pfs_conf_values.specs.declared.timeouts.TimeoutName.TheVariants.{AdaptiveEnd, AdaptiveStart}
-use Rattle.pfs_track.specs.Lifetimes.{scaled, value_for}
+use Rattle.pfs_track.specs.Lifetimes.{lifetime_under, value_for}
 use Rattle.pfs_store_contract.specs.Purging.{node_numbers, state_numbers}
 use Rattle.pfs_store_contract.specs.Worlds.{World, lists}
 use Rattle.pfs_store_contract.specs.declared.records.State.{State}
@@ -29,7 +29,7 @@ has_pair conf rule = is_some (rule_timeout_of conf rule AdaptiveStart)
 -- how long a state of a rule may stay in phases of a timeout, where the rules had these counts of states and so many were held
 abbrev pub seconds_of : Conf → List ℕ → ℕ → RuleNo → TimeoutName → ℕ
 seconds_of conf counts held rule timeout =
-    scaled (value_for conf rule.0 timeout) (value_for conf rule.0 AdaptiveStart) (value_for conf rule.0 AdaptiveEnd)
+    lifetime_under (value_for conf rule.0 timeout) (value_for conf rule.0 AdaptiveStart) (value_for conf rule.0 AdaptiveEnd)
     (if has_pair conf rule.0 then slice_index counts rule.0 else held)
 
 -- the moment at which a state expires, and whether it has expired at a second

@@ -68,8 +68,8 @@ abbrev pub at_node : Option NodeScope → Addr → (Tally → Tally) → Tally �
 at_node scope source change t = if is_at scope source t then change t else t
 
 -- a tally, counted anew
-abbrev pub recounted : Conf → List State → Tally → Tally
-recounted conf states t = record {
+abbrev pub tally_of_states : Conf → List State → Tally → Tally
+tally_of_states conf states t = record {
   node = t.node;
   states = node_states conf t.node.scope t.node.source states;
   connections = node_connections conf t.node.scope t.node.source states;
@@ -77,7 +77,7 @@ recounted conf states t = record {
 
 -- the counts of a tally are those of the states
 abbrev pub IsCounted : Conf → List State → Tally → Type 0
-IsCounted conf states t = t ≡ recounted conf states t
+IsCounted conf states t = t ≡ tally_of_states conf states t
 
 -- the scope is that of a rule which tracks sources alone, or of all that do it together
 abbrev pub IsScope : Conf → NodeScope → Type 0
@@ -136,9 +136,9 @@ abbrev pub new_tally : NodeScope → State → Tally
 new_tally scope s = record { node = new_node s.number scope s.source; states = 1; connections = 0 }
 
 -- the tallies after a state came
-abbrev pub joined : Option NodeScope → State → List Tally → List Tally
-joined None s tallies = tallies
-joined (Some scope) s tallies =
+abbrev pub tallies_with_state : Option NodeScope → State → List Tally → List Tally
+tallies_with_state None s tallies = tallies
+tallies_with_state (Some scope) s tallies =
     if is_some (find (is_tally scope s.source) tallies)
     then map (at_node (Some scope) s.source joined_of) tallies
     else tallies ++ new_tally scope s ∷ []

@@ -2,7 +2,7 @@
 
 ghost use Rattle.std.specs.Prelude.{◌≡◌, ◌+◌, ◌-◌, ◌<◌, ◌≤◌, ◌^◌, filter, length, map, true};
 ghost use Rattle.pfs_store_contract.specs.Calls.{source_states, stays_unflushed};
-ghost use Rattle.pfs_store_contract.specs.Leaving.{idled, is_flushed};
+ghost use Rattle.pfs_store_contract.specs.Leaving.{node_after_leaving, is_flushed};
 ghost use Rattle.pfs_store_contract.specs.Purging.{state_numbers};
 ghost use Rattle.pfs_store_contract.specs.Worlds.{holds_number};
 ghost use Rattle.pfs_store_index.specs.Records.{IsRising};
@@ -31,7 +31,7 @@ pub(crate) fn flush<S: BuildHasher>(
     requires room { meter.old ≤ 2 ^ 63 }
     ensures config { indexes.new.config ≡ indexes.old.config }
     ensures states { indexes.new.states ≡ filter (stays_unflushed source rule) indexes.old.states }
-    ensures nodes { indexes.new.nodes ≡ map (idled indexes.old.config indexes.old.states indexes.new.states now) indexes.old.nodes }
+    ensures nodes { indexes.new.nodes ≡ map (node_after_leaving indexes.old.config indexes.old.states indexes.new.states now) indexes.old.nodes }
     ensures looks { meter.new ≡ meter.old + source_states source indexes.old.states }
 {
     let mut cursor = 0;
@@ -56,7 +56,7 @@ fn strike<S: BuildHasher>(
     requires room { meter.old < 2 ^ 64 - 1 }
     ensures config { indexes.new.config ≡ indexes.old.config }
     ensures states { indexes.new.states ≡ filter (state_survives (is_flushed source rule) number) indexes.old.states }
-    ensures nodes { indexes.new.nodes ≡ map (idled indexes.old.config indexes.old.states indexes.new.states now) indexes.old.nodes }
+    ensures nodes { indexes.new.nodes ≡ map (node_after_leaving indexes.old.config indexes.old.states indexes.new.states now) indexes.old.nodes }
     ensures looks { meter.new ≡ meter.old + 1 }
     ensures rising { IsRising (state_numbers indexes.old.states) }
 {

@@ -6,12 +6,12 @@ ghost use Rattle.pfs_addr_values.specs.Keys.{key_of};
 ghost use Rattle.pfs_conf_values.specs.Configs.{options_at};
 ghost use Rattle.pfs_store_contract.specs.Admission.{nodes_with};
 ghost use Rattle.pfs_store_contract.specs.Counts.{has_node, node_scope_of, node_states, rule_states, scope_nodes};
-ghost use Rattle.pfs_store_contract.specs.Leaving.{idled};
+ghost use Rattle.pfs_store_contract.specs.Leaving.{node_after_leaving};
 ghost use Rattle.pfs_store_contract.specs.Calls.{other_than, touch_of, state_number, state_rule};
 ghost use Rattle.pfs_store_contract.specs.Plain.{AreCounts};
 ghost use Rattle.pfs_store_contract.specs.Purging.{is_over, node_numbers, state_numbers};
-ghost use Rattle.pfs_store_contract.specs.Quiet.{NodeStays, turned};
-ghost use Rattle.pfs_store_contract.specs.Touching.{completes_at, nodes_touched, renewed};
+ghost use Rattle.pfs_store_contract.specs.Quiet.{NodeStays, round_after_slices};
+ghost use Rattle.pfs_store_contract.specs.Touching.{completes_at, nodes_touched, numbered_state_after};
 ghost use Rattle.pfs_store_contract.specs.Worlds.{IsUpToNow, holds_number, lists, state_with};
 ghost use Rattle.pfs_store_index.specs.Records.{IsAbove, IsRising, between, placed_at};
 ghost use Rattle.pfs_store_index.specs.Sourced.{IsSourced};
@@ -268,7 +268,7 @@ impl<S: BuildHasher> Indexes<S> {
         ensures order { result.cursor ≤ result.mark }
         ensures mark { result.mark ≤ made }
         ensures waiting { waiting result.cursor result.mark (state_numbers self.now.states)
-            ≡ turned share (state_numbers self.now.states) slices (waiting round.cursor round.mark (state_numbers self.now.states)) }
+            ≡ round_after_slices share (state_numbers self.now.states) slices (waiting round.cursor round.mark (state_numbers self.now.states)) }
     {
         self.records.turned(round, share, made, slices)
     }
@@ -282,7 +282,7 @@ impl<S: BuildHasher> Indexes<S> {
         ensures order { result.cursor ≤ result.mark }
         ensures mark { result.mark ≤ made }
         ensures waiting { waiting result.cursor result.mark (node_numbers self.now.nodes)
-            ≡ turned share (node_numbers self.now.nodes) slices (waiting round.cursor round.mark (node_numbers self.now.nodes)) }
+            ≡ round_after_slices share (node_numbers self.now.nodes) slices (waiting round.cursor round.mark (node_numbers self.now.nodes)) }
     {
         self.nodes.turned(round, share, made, slices)
     }
@@ -332,7 +332,7 @@ impl<S: BuildHasher> Indexes<S> {
         requires few { length self.old.states ≤ 1000000000 }
         requires room { meter.old < 2 ^ 64 - 1 }
         ensures before { state_with (key_of packet.now) (lists self.old.states [] [] [] 0) ≡ Some result.before }
-        ensures states { self.new.states ≡ map (renewed result.before.number packet.now now) self.old.states }
+        ensures states { self.new.states ≡ map (numbered_state_after result.before.number packet.now now) self.old.states }
         ensures nodes { self.new.nodes
             ≡ nodes_touched self.old.config self.old.nodes result.before now (completes_at packet.now result.before) }
         ensures told { result.touched
@@ -370,7 +370,7 @@ impl<S: BuildHasher> Indexes<S> {
         ensures config { self.new.config ≡ self.old.config }
         ensures states { self.new.states ≡ filter (other_than state.number) self.old.states }
         ensures nodes { self.new.nodes
-            ≡ map (idled self.old.config self.old.states (filter (other_than state.number) self.old.states) now) self.old.nodes }
+            ≡ map (node_after_leaving self.old.config self.old.states (filter (other_than state.number) self.old.states) now) self.old.nodes }
     {
         let _count = self.records.len();
         let rule = state.rule.0 as usize;

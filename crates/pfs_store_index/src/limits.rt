@@ -4,7 +4,7 @@ ghost use Rattle.std.specs.Prelude.{◌≡◌, [], IsSome};
 ghost use Rattle.pfs_conf_values.specs.Configs.{options_at, options_of};
 ghost use Rattle.pfs_store_contract.specs.Admission.{limit_met};
 ghost use Rattle.pfs_store_contract.specs.SourceLimits.{new_node_limit, source_limit};
-ghost use Rattle.pfs_store_contract.specs.Counts.{reached};
+ghost use Rattle.pfs_store_contract.specs.Counts.{reaches_maximum};
 ghost use Rattle.pfs_store_contract.specs.Worlds.{lists};
 
 use crate::indexes::{Indexes, node_scope};
@@ -89,7 +89,7 @@ fn new_node_limit<S: BuildHasher>(
 
 /// Whether a maximum, if there is one, is reached.
 fn is_reached(most: Option<u32>, count: u64) -> bool
-    ensures { result ≡ reached most count }
+    ensures { result ≡ reaches_maximum most count }
 {
     match most {
         Some(most) => u64::from(most) <= count,

@@ -5,8 +5,8 @@ ghost use Rattle.std.specs.List.{AllByRecursion, find, list_any};
 ghost use Rattle.indexmap.specs.IndexMap.{get};
 ghost use Rattle.pfs_store_contract.specs.Counts.{scope_nodes};
 ghost use Rattle.pfs_store_contract.specs.Purging.{node_numbers};
-ghost use Rattle.pfs_store_contract.specs.Quiet.{turned};
-ghost use Rattle.pfs_store_index.specs.Keeping.{AreInPlace, held, number_of_node, place_of_node, same_place};
+ghost use Rattle.pfs_store_contract.specs.Quiet.{round_after_slices};
+ghost use Rattle.pfs_store_index.specs.Keeping.{AreInPlace, values_at, number_of_node, place_of_node, same_place};
 ghost use Rattle.pfs_store_index.specs.Records.{IsAbove, between};
 ghost use Rattle.pfs_store_index.specs.Staying.{IsKeptUntil, is_past};
 ghost use Rattle.pfs_store_index.specs.Tallies.{IsOrderly, IsTallied, has_node_number, is_tally, nodes_of, other_node, put_tally};
@@ -60,11 +60,11 @@ impl<S: BuildHasher> Model for Nodes<S> {
     ghost use Rattle.std.specs.Prelude.{List};
     ghost use Rattle.indexmap.specs.IndexMap.{get};
     ghost use Rattle.pfs_store_index.specs.declared.nodes.Tally.{Tally};
-    ghost use Rattle.pfs_store_index.specs.Keeping.{held, IsNoted, same_place};
+    ghost use Rattle.pfs_store_index.specs.Keeping.{values_at, IsNoted, same_place};
 
     ghost Value = { List Tally };
 
-    ghost view = { λ n. held (get same_place n.table) n.order.entries };
+    ghost view = { λ n. values_at (get same_place n.table) n.order.entries };
 
     ghost invariant = { λ n. IsNoted (get same_place n.table) n.order.entries n.counts.rules.items n.counts.global };
 }
@@ -141,7 +141,7 @@ impl<S: BuildHasher> Nodes<S> {
         ensures order { result.cursor ≤ result.mark }
         ensures mark { result.mark ≤ made }
         ensures waiting { filter (between result.cursor result.mark) (node_numbers (nodes_of self.now))
-            ≡ turned share (node_numbers (nodes_of self.now)) slices (filter (between round.cursor round.mark) (node_numbers (nodes_of self.now))) }
+            ≡ round_after_slices share (node_numbers (nodes_of self.now)) slices (filter (between round.cursor round.mark) (node_numbers (nodes_of self.now))) }
     {
         turned(&self.order, round, share, made, slices)
     }
@@ -208,8 +208,8 @@ fn pass_range<S: BuildHasher>(
 ) -> Passed
     requires kept { AreInPlace number_of_node place_of_node (get same_place table.now) order.now.entries }
     requires range { round.cursor ≤ round.mark }
-    ensures passing { IsPassing number_of_node (is_past config.now now) (held (get same_place table.now) order.now.entries) round.cursor round.mark share result.stayed result.last }
-    ensures until { AllByRecursion (λ t. between round.cursor result.last (number_of_node t) ≡ true → IsKeptUntil config.now result.until t) (held (get same_place table.now) order.now.entries) }
+    ensures passing { IsPassing number_of_node (is_past config.now now) (values_at (get same_place table.now) order.now.entries) round.cursor round.mark share result.stayed result.last }
+    ensures until { AllByRecursion (λ t. between round.cursor result.last (number_of_node t) ≡ true → IsKeptUntil config.now result.until t) (values_at (get same_place table.now) order.now.entries) }
 {
     let mut rest = order.range((Bound::Excluded(round.cursor), Bound::Included(round.mark)));
     let mut stayed = 0;

@@ -7,7 +7,7 @@ ghost use Rattle.pfs_store_contract.specs.Purging.{node_numbers, state_numbers};
 ghost use Rattle.pfs_store_index.specs.Records.{IsAbove, placed_at, states_of};
 ghost use Rattle.pfs_store_index.specs.Sourced.{IsSourced};
 ghost use Rattle.pfs_store_index.specs.Tallies.{nodes_of};
-ghost use Rattle.pfs_store_index.specs.Ties.{HasPair, IsFew, SamePairs, joined, pair_cmp};
+ghost use Rattle.pfs_store_index.specs.Ties.{HasPair, IsFew, SamePairs, tallies_with_state, pair_cmp};
 
 use crate::nodes::Nodes;
 use crate::records::Records;
@@ -34,7 +34,7 @@ pub(crate) fn place<S: BuildHasher>(
     requires absent { contains pair_cmp pairs.old (state.source, state.number) ≡ false }
     ensures records { IfOk result (λ place. records.new ≡ records.old ++ placed_at place state ∷ []) }
     ensures pairs { OnOk result (HasPair (state.source, state.number) pairs.old pairs.new) }
-    ensures nodes { OnOk result (nodes.new ≡ joined scope state nodes.old) }
+    ensures nodes { OnOk result (nodes.new ≡ tallies_with_state scope state nodes.old) }
     ensures same_records { OnErr result (records.new ≡ records.old) }
     ensures same_pairs { OnErr result (SamePairs pairs.old pairs.new) }
     ensures same_nodes { OnErr result (nodes.new ≡ nodes.old) }

@@ -5,7 +5,7 @@ ghost use Rattle.std.specs.List.{AllByRecursion, find};
 ghost use Rattle.pfs_conf_values.specs.Configs.{timeout_of};
 ghost use Rattle.pfs_conf_values.specs.declared.timeouts.TimeoutName.TheVariants as timeout;
 ghost use Rattle.pfs_store_contract.specs.Counts.{node_states};
-ghost use Rattle.pfs_store_contract.specs.Leaving.{idled};
+ghost use Rattle.pfs_store_contract.specs.Leaving.{node_after_leaving};
 ghost use Rattle.pfs_store_contract.specs.Plain.{AreCounts};
 ghost use Rattle.pfs_store_contract.specs.Purging.{is_among, is_over, node_numbers, node_retention, node_stays, round, share, state_numbers, stays};
 ghost use Rattle.pfs_store_contract.specs.Quiet.{StateStays};
@@ -105,7 +105,7 @@ pub(crate) fn walk_states<S: BuildHasher>(
     ensures examined { result.examined ≡ length (take share (waiting round.cursor round.mark (state_numbers indexes.old.states))) }
     ensures states { indexes.new.states
         ≡ filter (stays indexes.old.config indexes.old.states now (take share (waiting round.cursor round.mark (state_numbers indexes.old.states)))) indexes.old.states }
-    ensures nodes { indexes.new.nodes ≡ map (idled indexes.old.config indexes.old.states indexes.new.states now) indexes.old.nodes }
+    ensures nodes { indexes.new.nodes ≡ map (node_after_leaving indexes.old.config indexes.old.states indexes.new.states now) indexes.old.nodes }
     ensures waiting { waiting result.cursor round.mark (state_numbers indexes.new.states)
         ≡ drop share (waiting round.cursor round.mark (state_numbers indexes.old.states)) }
     ensures order { result.cursor ≤ round.mark }
@@ -154,7 +154,7 @@ fn examine<S: BuildHasher>(
     ensures config { indexes.new.config ≡ indexes.old.config }
     ensures states { indexes.new.states
         ≡ filter (states_survive (is_due indexes.old.config counts.now held now) (take result.examined (waiting round.cursor round.mark (state_numbers indexes.old.states)))) indexes.old.states }
-    ensures nodes { indexes.new.nodes ≡ map (idled indexes.old.config indexes.old.states indexes.new.states now) indexes.old.nodes }
+    ensures nodes { indexes.new.nodes ≡ map (node_after_leaving indexes.old.config indexes.old.states indexes.new.states now) indexes.old.nodes }
     ensures waiting { waiting result.cursor round.mark (state_numbers indexes.new.states)
         ≡ drop result.examined (waiting round.cursor round.mark (state_numbers indexes.old.states)) }
     ensures order { result.cursor ≤ round.mark }

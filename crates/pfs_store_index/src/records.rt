@@ -5,9 +5,9 @@ ghost use Rattle.std.specs.List.{AllByRecursion, find, list_any};
 ghost use Rattle.slab.specs.Slab.{ContainsKey, get};
 ghost use Rattle.pfs_store_contract.specs.Calls.{other_than};
 ghost use Rattle.pfs_store_contract.specs.Purging.{state_numbers};
-ghost use Rattle.pfs_store_contract.specs.Quiet.{turned};
+ghost use Rattle.pfs_store_contract.specs.Quiet.{round_after_slices};
 ghost use Rattle.pfs_store_contract.specs.Worlds.{holds_number};
-ghost use Rattle.pfs_store_index.specs.Keeping.{AreInPlace, held, number_in, place_of_record, record_in};
+ghost use Rattle.pfs_store_index.specs.Keeping.{AreInPlace, values_at, number_in, place_of_record, record_in};
 ghost use Rattle.pfs_store_index.specs.Sourced.{IsSourced};
 ghost use Rattle.pfs_store_index.specs.Walks.{IsWalk, StayUntil, end_of, state_has_expired, looks_of};
 ghost use Rattle.pfs_store_index.specs.Records.{IsAbove, IsRecordAt, IsRising, between, is_placed, leaves_number, placed_at, put, put_state, stands_at, states_of};
@@ -35,11 +35,11 @@ pub struct Records {
 impl Model for Records {
     ghost use Rattle.std.specs.Prelude.{List};
     ghost use Rattle.pfs_store_index.specs.Records.{Placed};
-    ghost use Rattle.pfs_store_index.specs.Keeping.{AreInPlace, held, number_in, place_of_record, record_in};
+    ghost use Rattle.pfs_store_index.specs.Keeping.{AreInPlace, values_at, number_in, place_of_record, record_in};
 
     ghost Value = { List Placed };
 
-    ghost view = { λ r. held (record_in r.slab) r.places.entries };
+    ghost view = { λ r. values_at (record_in r.slab) r.places.entries };
 
     ghost invariant = { λ r. AreInPlace number_in place_of_record (record_in r.slab) r.places.entries };
 }
@@ -80,7 +80,7 @@ impl Records {
 
     /// The state of this number, of which there is a record: one look, and one search by number. It takes no memory.
     pub fn read(&self, number: u64, meter: &mut Meter) -> State
-        requires held { holds_number (states_of self.now) number ≡ true }
+        requires values_at { holds_number (states_of self.now) number ≡ true }
         requires room { meter.old < 2 ^ 64 - 1 }
         ensures value { Some result ≡ find (λ s. s.number == number) (states_of self.now) }
         ensures small { result.number < 2 ^ 32 }
@@ -94,7 +94,7 @@ impl Records {
 
     /// The state of the record that stands at this place: one look, and no search. It takes no memory.
     pub fn read_at(&self, place: usize, meter: &mut Meter) -> State
-        requires held { list_any (stands_at place) self.now ≡ true }
+        requires values_at { list_any (stands_at place) self.now ≡ true }
         requires room { meter.old < 2 ^ 64 - 1 }
         ensures value { IsRecordAt place result self.now }
         ensures sourced { IsSourced result }
@@ -144,7 +144,7 @@ impl Records {
         ensures order { result.cursor ≤ result.mark }
         ensures mark { result.mark ≤ made }
         ensures waiting { filter (between result.cursor result.mark) (state_numbers (states_of self.now))
-            ≡ turned share (state_numbers (states_of self.now)) slices (filter (between round.cursor round.mark) (state_numbers (states_of self.now))) }
+            ≡ round_after_slices share (state_numbers (states_of self.now)) slices (filter (between round.cursor round.mark) (state_numbers (states_of self.now))) }
     {
         turned(&self.places, round, share, made, slices)
     }
@@ -199,7 +199,7 @@ impl Records {
 
 /// Reads the record at a place: the one look.
 fn look<'a>(slab: &'a Slab<Kept>, place: usize, meter: &mut Meter) -> &'a Kept
-    requires held { ContainsKey slab.now place }
+    requires values_at { ContainsKey slab.now place }
     requires room { meter.old < 2 ^ 64 - 1 }
     ensures value { get slab.now place ≡ Some result.now }
     ensures looks { meter.new ≡ meter.old + 1 }
@@ -220,9 +220,9 @@ fn walk_range<T: Lifetimes>(
     requires kept { AreInPlace number_in place_of_record (record_in slab.now) places.now.entries }
     requires range { round.cursor ≤ round.mark }
     requires room { meter.old + share < 2 ^ 64 }
-    ensures walk { IsWalk (state_has_expired (T.lifetime lifetimes.now) now) (states_of (held (record_in slab.now) places.now.entries)) round.cursor round.mark share
+    ensures walk { IsWalk (state_has_expired (T.lifetime lifetimes.now) now) (states_of (values_at (record_in slab.now) places.now.entries)) round.cursor round.mark share
         result.stayed result.last result.leaver }
-    ensures until { StayUntil (end_of (T.lifetime lifetimes.now)) (states_of (held (record_in slab.now) places.now.entries)) round.cursor result.last result.until }
+    ensures until { StayUntil (end_of (T.lifetime lifetimes.now)) (states_of (values_at (record_in slab.now) places.now.entries)) round.cursor result.last result.until }
     ensures small { IfSome result.leaver (λ s. s.number < 2 ^ 32) }
     ensures looks { meter.new ≡ meter.old + looks_of result.stayed result.leaver }
 {

@@ -4,7 +4,7 @@ ghost use Rattle.std.specs.Prelude.{◌≡◌, ◌+◌, ◌-◌, ◌<◌, ◌≤
 ghost use Rattle.std.specs.List.{AllByRecursion};
 ghost use Rattle.std.specs.Map.{keys_of};
 ghost use Rattle.pfs_store_contract.specs.Purging.{round};
-ghost use Rattle.pfs_store_contract.specs.Quiet.{turned};
+ghost use Rattle.pfs_store_contract.specs.Quiet.{round_after_slices};
 ghost use Rattle.pfs_store_index.specs.Records.{IsRising, between};
 
 use std::collections::BTreeMap;
@@ -42,7 +42,7 @@ pub(crate) fn turned<V>(
     ensures order { result.cursor ≤ result.mark }
     ensures mark { result.mark ≤ made }
     ensures waiting { filter (between result.cursor result.mark) (keys_of places.now.entries)
-        ≡ turned share (keys_of places.now.entries) slices (filter (between round.cursor round.mark) (keys_of places.now.entries)) }
+        ≡ round_after_slices share (keys_of places.now.entries) slices (filter (between round.cursor round.mark) (keys_of places.now.entries)) }
 {
     let mut round = round;
     let mut left = slices;
@@ -54,7 +54,7 @@ pub(crate) fn turned<V>(
     round
 }
 
-// One slice; or all whole rounds, where one is over.
+/// One slice; or all whole rounds, where one is over.
 fn go_on<V>(places: &BTreeMap<u64, V>, round: Round, share: u64, made: u64, left: u64) -> Turn
     requires rising { IsRising (keys_of places.now.entries) }
     requires numbered { AllByRecursion (λ n. (1 ≤ n) × (n ≤ made)) (keys_of places.now.entries) }
@@ -65,8 +65,8 @@ fn go_on<V>(places: &BTreeMap<u64, V>, round: Round, share: u64, made: u64, left
     ensures order { result.round.cursor ≤ result.round.mark }
     ensures mark { result.round.mark ≤ made }
     ensures less { result.left < left }
-    ensures waiting { turned share (keys_of places.now.entries) result.left (filter (between result.round.cursor result.round.mark) (keys_of places.now.entries))
-        ≡ turned share (keys_of places.now.entries) left (filter (between round.cursor round.mark) (keys_of places.now.entries)) }
+    ensures waiting { round_after_slices share (keys_of places.now.entries) result.left (filter (between result.round.cursor result.round.mark) (keys_of places.now.entries))
+        ≡ round_after_slices share (keys_of places.now.entries) left (filter (between round.cursor round.mark) (keys_of places.now.entries)) }
 {
     if is_over(places, round) {
         let whole = whole_round(places, share);
@@ -93,11 +93,11 @@ fn go_on<V>(places: &BTreeMap<u64, V>, round: Round, share: u64, made: u64, left
     }
 }
 
-// How many slices a whole round has; one where there is no number.
+/// How many slices a whole round has; one where there is no number.
 fn whole_round<V>(places: &BTreeMap<u64, V>, share: u64) -> u64
     requires share { 1 ≤ share }
     ensures some { 1 ≤ result }
-    ensures whole { turned share (keys_of places.now.entries) result [] ≡ [] }
+    ensures whole { round_after_slices share (keys_of places.now.entries) result [] ≡ [] }
 {
     let numbers = places.len() as u64;
     1 + numbers.saturating_sub(1) / share
@@ -116,7 +116,7 @@ fn is_over<V>(places: &BTreeMap<u64, V>, round: Round) -> bool
     }
 }
 
-// The round after a slice: the next numbers, so many at most, are passed by.
+/// The round after a slice: the next numbers, so many at most, are passed by.
 fn sliced<V>(places: &BTreeMap<u64, V>, round: Round, share: u64) -> Round
     requires rising { IsRising (keys_of places.now.entries) }
     requires order { round.cursor ≤ round.mark }
@@ -131,7 +131,7 @@ fn sliced<V>(places: &BTreeMap<u64, V>, round: Round, share: u64) -> Round
     }
 }
 
-// The last of the next numbers above one and up to another, so many at most.
+/// The last of the next numbers above one and up to another, so many at most.
 fn passed<V>(places: &BTreeMap<u64, V>, above: u64, most: u64, share: u64) -> u64
     requires rising { IsRising (keys_of places.now.entries) }
     requires range { above ≤ most }

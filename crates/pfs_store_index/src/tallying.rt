@@ -9,7 +9,7 @@ ghost use Rattle.pfs_store_contract.specs.Purging.{node_numbers};
 ghost use Rattle.pfs_store_contract.specs.Worlds.{IsUpToNow, lists};
 ghost use Rattle.pfs_store_index.specs.Records.{IsAbove};
 ghost use Rattle.pfs_store_index.specs.Tallies.{is_tally, nodes_of};
-ghost use Rattle.pfs_store_index.specs.Ties.{HasTally, IsFew, IsScored, at_node, connections_at, joined, left_of, met_by, score_at, scored_by};
+ghost use Rattle.pfs_store_index.specs.Ties.{HasTally, IsFew, IsScored, at_node, connections_at, tallies_with_state, left_of, met_by, score_at, scored_by};
 
 use crate::indexes::node_scope;
 use crate::nodes::{Nodes, Tally};
@@ -34,7 +34,7 @@ pub(crate) fn join<S: BuildHasher>(
 ) -> Result<(), NoMemory>
     requires few { AllByRecursion IsFew nodes.old }
     requires above { IsAbove state.now.number (node_numbers (nodes_of nodes.old)) }
-    ensures ok { OnOk result (nodes.new ≡ joined scope state.now nodes.old) }
+    ensures ok { OnOk result (nodes.new ≡ tallies_with_state scope state.now nodes.old) }
     ensures err { OnErr result (nodes.new ≡ nodes.old) }
 {
     let _count = nodes.len();

@@ -4,7 +4,7 @@ use Rattle.std.proofs.lemmas.Bool.Decides.{nat_tests}
 use Rattle.std.proofs.lemmas.List.Sums.{count_by-le-length, length-filter}
 use Rattle.pfs_conf_values.specs.Configs.{Conf}
 use Rattle.pfs_store_contract.specs.Counts.{node_states}
-use Rattle.pfs_store_contract.specs.Leaving.{idled}
+use Rattle.pfs_store_contract.specs.Leaving.{node_after_leaving}
 use Rattle.pfs_store_contract.specs.declared.records.Node.{Node}
 use Rattle.pfs_store_contract.specs.declared.records.State.{State}
 
@@ -28,12 +28,12 @@ not-both : (a : ℕ) → (nat_lt 0 a && (a == 0)) ≡ false
 not-both a = grind (arith, nat_tests)
 
 -- a node that has as many states as before is as before
-idled-same : (conf : Conf) (states : List State) (now : ℕ) (n : Node) → idled conf states states now n ≡ n
+idled-same : (conf : Conf) (states : List State) (now : ℕ) (n : Node) → node_after_leaving conf states states now n ≡ n
 idled-same conf states now n =
     ap (λ b. if b then record n { idle = now } else n) (not-both (node_states conf n.scope n.source states))
 
 pub none-idle : (conf : Conf) (p : State → Bool) (states : List State) (now : ℕ) (nodes : List Node) → length states ≤ length (filter p states)
-    → nodes ≡ map (idled conf states (filter p states) now) nodes
+    → nodes ≡ map (node_after_leaving conf states (filter p states) now) nodes
 none-idle conf p states now nodes h =
     let all = filter-all p states h in
-    rw all (sym (map-same (idled conf states states now) (idled-same conf states now) nodes))
+    rw all (sym (map-same (node_after_leaving conf states states now) (idled-same conf states now) nodes))

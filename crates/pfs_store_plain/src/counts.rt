@@ -1,7 +1,7 @@
-// Counts of states, and the nodes that a scope has.
+//! Counts of states, and the nodes that a scope has.
 
 ghost use Rattle.std.specs.Prelude.{◌≡◌, Bool, filter, length};
-ghost use Rattle.pfs_store_contract.specs.Counts.{has_node, in_scope, is_connection, is_of_node, is_of_rule, node_scope_of, reached, scope_nodes};
+ghost use Rattle.pfs_store_contract.specs.Counts.{has_node, in_scope, is_connection, is_of_node, is_of_rule, node_scope_of, reaches_maximum, scope_nodes};
 ghost use Rattle.pfs_store_contract.specs.declared.records.State.{State};
 
 use pfs_addr_values::Addr;
@@ -103,7 +103,7 @@ pub(crate) fn scope_nodes(nodes: &[Node], scope: NodeScope) -> u64
 
 /// Whether a maximum, if there is one, is reached.
 pub(crate) fn is_reached(most: Option<u32>, count: u64) -> bool
-    ensures { result ≡ reached most count }
+    ensures { result ≡ reaches_maximum most count }
 {
     match most {
         Some(most) => u64::from(most) <= count,

@@ -1,8 +1,8 @@
-// States leave, in lists of states and nodes.
+//! States leave, in lists of states and nodes.
 
 ghost use Rattle.std.specs.Prelude.{◌≡◌, ◌≤◌, ℕ, List, filter, length, map, vec_capacity};
 ghost use Rattle.pfs_store_contract.specs.Counts.{node_states};
-ghost use Rattle.pfs_store_contract.specs.Leaving.{idled, is_flushed, without};
+ghost use Rattle.pfs_store_contract.specs.Leaving.{node_after_leaving, is_flushed, world_without};
 ghost use Rattle.pfs_store_contract.specs.Calls.{other_than, stays_unflushed};
 ghost use Rattle.pfs_store_plain.specs.Rooms.{AreScores};
 ghost use Rattle.pfs_store_contract.specs.Worlds.{holds_number, lists};
@@ -65,7 +65,7 @@ pub(crate) fn leave<T: Test>(
 )
     requires scores { AreScores nodes.old }
     ensures world { (node_numbers : List ℕ) (made : ℕ) → lists states.new.items nodes.new pending.new.items node_numbers made
-        ≡ without config.now (lists states.old.items nodes.old pending.old.items node_numbers made) (T.passes test.now) now }
+        ≡ world_without config.now (lists states.old.items nodes.old pending.old.items node_numbers made) (T.passes test.now) now }
     ensures fewer { length states.new.items ≤ length states.old.items }
     ensures room { vec_capacity pending.new ≡ vec_capacity pending.old }
     ensures scores { AreScores nodes.new }
@@ -84,7 +84,7 @@ pub(crate) fn idle<T: Test>(
     now: u64,
 )
     requires scores { AreScores nodes.old }
-    ensures nodes { nodes.new ≡ map (idled config.now before.now (filter (T.passes test.now) before.now) now) nodes.old }
+    ensures nodes { nodes.new ≡ map (node_after_leaving config.now before.now (filter (T.passes test.now) before.now) now) nodes.old }
     ensures scores { AreScores nodes.new }
 {
     // most slices let no state leave, and then no node is looked at
@@ -95,7 +95,7 @@ pub(crate) fn idle<T: Test>(
 
 fn settle<T: Test>(config: &Config, nodes: &mut [Node], before: &[State], test: &T, now: u64)
     requires scores { AreScores nodes.old }
-    ensures nodes { nodes.new ≡ map (idled config.now before.now (filter (T.passes test.now) before.now) now) nodes.old }
+    ensures nodes { nodes.new ≡ map (node_after_leaving config.now before.now (filter (T.passes test.now) before.now) now) nodes.old }
     ensures scores { AreScores nodes.new }
 {
     for node in nodes.iter_mut() {
@@ -104,7 +104,7 @@ fn settle<T: Test>(config: &Config, nodes: &mut [Node], before: &[State], test: 
 }
 
 fn idled<T: Test>(config: &Config, node: Node, before: &[State], test: &T, now: u64) -> Node
-    ensures node { result ≡ idled config.now before.now (filter (T.passes test.now) before.now) now node }
+    ensures node { result ≡ node_after_leaving config.now before.now (filter (T.passes test.now) before.now) now node }
     ensures score { result.score ≡ node.score }
 {
     let of_node = OfNode {

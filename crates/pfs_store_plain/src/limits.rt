@@ -1,4 +1,4 @@
-// The limits that a new state meets.
+//! The limits that a new state meets.
 
 ghost use Rattle.std.specs.Prelude.{◌≡◌, [], IsSome};
 ghost use Rattle.pfs_conf_values.specs.Configs.{options_at, options_of};

@@ -1,8 +1,8 @@
-// A store over plain lists.
+//! A store over plain lists.
 
 ghost use Rattle.std.specs.Prelude.{◌≡◌, ◌+◌, ◌<◌, ◌≤◌, [], ◌∷◌, ◌++◌, false, IfOk, IsOk, IsSome, None, OnErr, OnOk, length, vec_capacity};
 ghost use Rattle.pfs_conf_values.specs.Configs.{options_at};
-ghost use Rattle.pfs_store_contract.specs.Admission.{admitted, nodes_with};
+ghost use Rattle.pfs_store_contract.specs.Admission.{world_after_admission, nodes_with};
 ghost use Rattle.pfs_store_contract.specs.Calls.{packet_limit};
 ghost use Rattle.pfs_store_plain.specs.Rooms.{AreScores};
 ghost use Rattle.pfs_store_contract.specs.Worlds.{empty_world};
@@ -75,7 +75,7 @@ impl PlainStore {
     fn place(&mut self, packet: &Packet, rule: RuleNo, now: u64) -> Result<StateNo, AllocError>
         requires room { self.old.world.made < 1000000000 }
         ensures answer { IfOk result (λ number. number.0 ≡ self.old.world.made + 1) }
-        ensures ok { OnOk result (self.new.world ≡ admitted self.old.config self.old.world packet.now rule.0 now) }
+        ensures ok { OnOk result (self.new.world ≡ world_after_admission self.old.config self.old.world packet.now rule.0 now) }
         ensures err { OnErr result (self.new.world ≡ self.old.world) }
         ensures config { self.new.config ≡ self.old.config }
     {

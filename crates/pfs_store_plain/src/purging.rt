@@ -1,4 +1,4 @@
-// The slices of the purge, in lists of states and nodes.
+//! The slices of the purge, in lists of states and nodes.
 
 ghost use Rattle.std.specs.Prelude.{◌≡◌, ◌+◌, ◌-◌, ◌<◌, ◌≤◌, ◌==◌, ◌&&◌, ℕ, [], List, ◌^◌, not, drop, filter, length, map, min, None, replicate, slice_index, slice_index_or, take, unwrap_or, vec_capacity};
 ghost use Rattle.pfs_conf_values.specs.Configs.{rate_seconds, rule_retention, timeout_of};

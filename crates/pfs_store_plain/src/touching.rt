@@ -1,4 +1,4 @@
-// A packet of a state that is held, in lists of states and nodes.
+//! A packet of a state that is held, in lists of states and nodes.
 
 ghost use Rattle.std.specs.Prelude.{◌≡◌, ◌≤◌, ℕ, [], IfSome, IsSome, List, Some, map, option_map};
 ghost use Rattle.pfs_addr_values.specs.Keys.{key_of};
@@ -6,7 +6,7 @@ ghost use Rattle.pfs_conf_values.specs.Configs.{options_of};
 ghost use Rattle.pfs_conf_values.specs.Bounds.{IsRate};
 ghost use Rattle.pfs_store_contract.specs.Counts.{node_scope_of};
 ghost use Rattle.pfs_store_plain.specs.Rooms.{AreScores};
-ghost use Rattle.pfs_store_contract.specs.Touching.{completes_at, connections_in, goes_forward, node_score, nodes_scored, nodes_touched, renewed, rescored, score_in};
+ghost use Rattle.pfs_store_contract.specs.Touching.{completes_at, connections_in, goes_forward, node_score, nodes_scored, nodes_touched, numbered_state_after, node_after_handshake, score_in};
 ghost use Rattle.pfs_store_contract.specs.Calls.{touch_of, world_touched};
 ghost use Rattle.pfs_store_contract.specs.Worlds.{IsUpToNow, lists, state_with};
 
@@ -63,7 +63,7 @@ fn touch_state(
 ) -> Touched
     requires order { IsUpToNow now (lists [] nodes.old [] [] 0) }
     requires scores { AreScores nodes.old }
-    ensures states { states.new ≡ map (renewed state.number packet.now now) states.old }
+    ensures states { states.new ≡ map (numbered_state_after state.number packet.now now) states.old }
     ensures nodes { nodes.new ≡ nodes_touched config.now nodes.old state now (completes_at packet.now state) }
     ensures answer { result ≡ touch_of config.now (lists states.old nodes.old [] [] 0) packet.now now state }
     ensures scores { AreScores nodes.new }
@@ -101,7 +101,7 @@ fn goes_forward(packet: &Packet, state: &State) -> bool
 
 /// The state of this number takes a packet.
 fn renew(states: &mut [State], number: u64, packet: &Packet, now: u64)
-    ensures { states.new ≡ map (renewed number packet.now now) states.old }
+    ensures { states.new ≡ map (numbered_state_after number packet.now now) states.old }
 {
     for state in states.iter_mut() {
         *state = renewed(*state, number, packet, now);
@@ -109,7 +109,7 @@ fn renew(states: &mut [State], number: u64, packet: &Packet, now: u64)
 }
 
 fn renewed(state: State, number: u64, packet: &Packet, now: u64) -> State
-    ensures { result ≡ renewed number packet.now now state }
+    ensures { result ≡ numbered_state_after number packet.now now state }
 {
     if state.number == number {
         let (phase, _) = state
@@ -156,7 +156,7 @@ fn rescore(nodes: &mut [Node], scope: NodeScope, source: Addr, rate: Rate, now: 
     requires rate { IsRate rate }
     requires order { IsUpToNow now (lists [] nodes.old [] [] 0) }
     requires scores { AreScores nodes.old }
-    ensures nodes { nodes.new ≡ map (rescored scope source rate.seconds now) nodes.old }
+    ensures nodes { nodes.new ≡ map (node_after_handshake scope source rate.seconds now) nodes.old }
     ensures scores { AreScores nodes.new }
 {
     for node in nodes.iter_mut() {
@@ -168,7 +168,7 @@ fn rescored(node: Node, scope: NodeScope, source: Addr, rate: Rate, now: u64) ->
     requires rate { IsRate rate }
     requires order { node.score.last ≤ now }
     requires score { node.score.value ≤ 4294968000 }
-    ensures value { result ≡ rescored scope source rate.seconds now node }
+    ensures value { result ≡ node_after_handshake scope source rate.seconds now node }
     ensures bounded { result.score.value ≤ 4294968000 }
 {
     if node.scope == scope && node.source == source {

@@ -44,7 +44,7 @@ pass keep state (source-track rule, max-src-conn 1, max-src-conn-rate 3/10)
 pass keep state
 ";
 
-// A packet of one of six sources, from one of eight ports or to it, with flags by the draw
+/// A packet of one of six sources, from one of eight ports or to it, with flags by the draw
 fn drawn(draw: u64) -> Result<Packet, Fail> {
     let flags = Flags {
         syn: draw / 1_024 % 2 == 0,
@@ -64,7 +64,7 @@ fn source(draw: u64) -> Addr {
     Addr::V4([198, 51, 100, (draw / 8 % 6) as u8])
 }
 
-// A packet comes: of the state that has its key, or for a new one
+/// A packet comes: of the state that has its key, or for a new one
 fn come<S: Store>(
     rt: &impl Abort,
     store: &mut S,
@@ -85,7 +85,7 @@ fn come<S: Store>(
     Ok(Answer::Admitted(admit(rt, store, config, &packet, rule, now)?))
 }
 
-// A source is flushed, of one rule or of all
+/// A source is flushed, of one rule or of all
 fn wash<S: Store>(store: &mut S, draw: u64, now: u64) -> Answer
     requires order { IsUpToNow now (S.world store.old) }
     ensures made_for { S.config store.new ≡ S.config store.old }
@@ -99,7 +99,7 @@ fn wash<S: Store>(store: &mut S, draw: u64, now: u64) -> Answer
     Answer::Killed(flush(store, source(draw), rule, now))
 }
 
-// A state is killed, where the drawn number is one
+/// A state is killed, where the drawn number is one
 fn end<S: Store>(rt: &impl Abort, store: &mut S, draw: u64, now: u64) -> Answer
     requires order { IsUpToNow now (S.world store.old) }
     ensures made_for { S.config store.new ≡ S.config store.old }
@@ -113,7 +113,7 @@ fn end<S: Store>(rt: &impl Abort, store: &mut S, draw: u64, now: u64) -> Answer
     Answer::Killed(1)
 }
 
-// The slices of a second
+/// The slices of a second
 fn purge<S: Store>(store: &mut S, now: u64) -> Answer
     requires order { IsUpToNow now (S.world store.old) }
     ensures made_for { S.config store.new ≡ S.config store.old }
@@ -123,7 +123,7 @@ fn purge<S: Store>(store: &mut S, now: u64) -> Answer
     Answer::Purged(states, purge_nodes(store, now))
 }
 
-// One call, by the draw
+/// One call, by the draw
 fn call<S: Store>(
     rt: &impl Abort,
     store: &mut S,
@@ -144,13 +144,13 @@ fn call<S: Store>(
     }
 }
 
-// The next draw (a linear congruential generator, of Knuth's constants)
+/// The next draw (a linear congruential generator, of Knuth's constants)
 fn next(draw: u64) -> u64 {
     draw.wrapping_mul(6_364_136_223_846_793_005)
         .wrapping_add(1_442_695_040_888_963_407)
 }
 
-// What calls answer, of a store that was made for this configuration and holds nothing that came after moment 0
+/// What calls answer, of a store that was made for this configuration and holds nothing that came after moment 0
 fn answers<S: Store>(
     rt: &(impl Abort + AllocGlobal),
     store: &mut S,
@@ -175,13 +175,13 @@ fn answers<S: Store>(
     Ok(told)
 }
 
-// What the calls answer over plain lists
+/// What the calls answer over plain lists
 fn listed(rt: &(impl Abort + AllocGlobal), config: &Config) -> Result<Vec<Told>, Fail> {
     let mut store = PlainStore::new(rt.alloc(), config)?;
     answers(rt, &mut store, config, CALLS)
 }
 
-// What they answer over indexes
+/// What they answer over indexes
 fn indexed(rt: &(impl Abort + AllocGlobal), config: &Config) -> Result<Vec<Told>, Fail> {
     let mut store = IndexStore::new(rt.alloc(), config)?;
     answers(rt, &mut store, config, CALLS)

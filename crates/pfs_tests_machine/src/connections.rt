@@ -12,7 +12,7 @@ const STATE: Outcome = Outcome::State(RuleNo(0));
 
 const BAD: Addr = Addr::V4([203, 0, 113, 9]);
 
-// The connections are past `max-src-conn`
+/// The connections are past `max-src-conn`
 const CONN: Outcome = Outcome::Kill {
     rule: RuleNo(0),
     exceeded: Exceeded::Connections,
@@ -20,7 +20,7 @@ const CONN: Outcome = Outcome::Kill {
     killed: 1,
 };
 
-// The rate is past `max-src-conn-rate`
+/// The rate is past `max-src-conn-rate`
 const RATE: Outcome = Outcome::Kill {
     rule: RuleNo(0),
     exceeded: Exceeded::Rate,
@@ -35,7 +35,7 @@ const BOTH: Outcome = Outcome::Kill {
     killed: 1,
 };
 
-// The source is not added, since the tables are full, or since it is held
+/// The source is not added, since the tables are full, or since it is held
 const FULL: Outcome = Outcome::Kill {
     rule: RuleNo(0),
     exceeded: Exceeded::Connections,
@@ -50,7 +50,7 @@ const HELD: Outcome = Outcome::Kill {
     killed: 1,
 };
 
-// The source is added, and its state leaves alone, with those of the rule, or with all
+/// The source is added, and its state leaves alone, with those of the rule, or with all
 const ADDED: Outcome = Outcome::Kill {
     rule: RuleNo(2),
     exceeded: Exceeded::Connections,
@@ -258,7 +258,7 @@ const OVERLOADS: &[Case] = &[
     },
 ];
 
-// Entries leave by their age: of the rules from the first event on, of a source from its packet on
+/// Entries leave by their age: of the rules from the first event on, of a source from its packet on
 const EXPIRED: &[Case] = &[
     Case {
         shows: "an entry that is held keeps its moment",

@@ -107,7 +107,7 @@ pub fn held<S: Store>(engine: &Engine<S>) -> (u64, u64, u64) {
     (engine.states(), engine.nodes(), engine.entries())
 }
 
-// The events one by one, and what is held after them
+/// The events one by one, and what is held after them
 fn ends<S: Store + Drop>(
     rt: &impl Abort,
     engine: Engine<S>,
@@ -131,7 +131,7 @@ fn ends<S: Store + Drop>(
     Ok(())
 }
 
-// Each event by one call, and what is held after them
+/// Each event by one call, and what is held after them
 fn steps<S: Store + Drop>(
     rt: &impl Abort,
     engine: Engine<S>,
@@ -149,7 +149,7 @@ fn steps<S: Store + Drop>(
     Ok(())
 }
 
-// All events by one call, and what is held after them
+/// All events by one call, and what is held after them
 fn runs<S: Store + Drop>(
     rt: &(impl Abort + AllocGlobal),
     engine: Engine<S>,
@@ -167,7 +167,7 @@ fn runs<S: Store + Drop>(
     Ok(())
 }
 
-// What is held after the script, how many packets were taken, and the last moment
+/// What is held after the script, how many packets were taken, and the last moment
 fn check_end<S: Store>(rt: &impl Abort, engine: &Engine<S>, script: &Script, case: &Case) {
     same!(rt; held(engine), case.end, case.shows);
     same!(rt; engine.taken(), script.packets);

@@ -34,7 +34,7 @@ const A8: Addr = Addr::V4([198, 51, 100, 8]);
 
 const A9: Addr = Addr::V4([198, 51, 100, 9]);
 
-// No packet: time passes to the moment
+/// No packet: time passes to the moment
 const WAIT: Came = Came::Nothing;
 
 const LIVES: &[Case] = &[

@@ -50,7 +50,7 @@ enum Step {
 /// When it is done, and what.
 type Row = (u64, Step);
 
-// A handshake of the first source from this port: what its third packet did
+/// A handshake of the first source from this port: what its third packet did
 fn shake<S: Store>(
     rt: &impl Abort,
     store: &mut S,
@@ -78,7 +78,7 @@ fn numbered(answer: Result<StateNo, Limit>) -> Result<u64, Limit> {
     }
 }
 
-// The rule of a state that was admitted
+/// The rule of a state that was admitted
 fn rule_of(answer: Result<StateNo, Limit>, rule: u32) -> Option<RuleNo> {
     match answer {
         Ok(_) => Some(RuleNo(rule)),
@@ -177,7 +177,7 @@ fn look<S: Store>(rt: &impl Abort, store: &S, step: &Step) {
     }
 }
 
-// Does one step at a moment that is not before the last one
+/// Does one step at a moment that is not before the last one
 fn act<S: Store>(
     rt: &impl Abort,
     store: &mut S,
@@ -217,7 +217,7 @@ fn follow<S: Store>(
     Ok(())
 }
 
-// How many calls a step makes that change a store, or might
+/// How many calls a step makes that change a store, or might
 fn changes(step: &Step) -> u64 {
     match step {
         Step::Shake(..) => 3,
@@ -234,7 +234,7 @@ fn all_changes(rows: &[Row]) -> u64 {
     all
 }
 
-// In each kind of store, of which one is held at a time
+/// In each kind of store, of which one is held at a time
 fn tell(rt: &(impl Abort + AllocGlobal), rules: &[u8], rows: &[Row]) -> Result<(), Fail> {
     let config = configured(rt.alloc(), UNSCALED, rules)?;
     tell_plain(rt, &config, rows)?;
@@ -386,7 +386,7 @@ const LEAVING: &[Row] = &[
     (27, Step::Held(1, 0, 5)),
 ];
 
-// The node has been idle since moment 7, and is kept for 20 seconds
+/// The node has been idle since moment 7, and is kept for 20 seconds
 #[test]
 fn states_leave_by_number_and_by_source(rt: HostRuntime) -> Result<(), Fail> {
     let rules =
@@ -413,8 +413,8 @@ const ROUNDS: &[Row] = &[
     (33, Step::Nodes(0, 0)),
 ];
 
-// A slice examines two states and one node, and does not go on into the next round. The states expire at moment 10; the
-// source of the fourth is idle since then, the other one since moment 12
+/// A slice examines two states and one node, and does not go on into the next round. The states expire at moment 10; the
+/// source of the fourth is idle since then, the other one since moment 12
 #[test]
 fn a_slice_examines_its_share_of_a_round(rt: HostRuntime) -> Result<(), Fail> {
     let rules = b"set limit { states 6, src-nodes 4 }\n\
@@ -445,8 +445,8 @@ const PASSED: &[Row] = &[
     (35, Step::Held(0, 0, 5)),
 ];
 
-// Of four seconds three are a whole round of the states, and two rounds of the nodes. The states expire at moment 10; the source
-// of the fourth has been idle since moment 13, and the other one since 15
+/// Of four seconds three are a whole round of the states, and two rounds of the nodes. The states expire at moment 10; the source
+/// of the fourth has been idle since moment 13, and the other one since 15
 #[test]
 fn seconds_are_passed_over_by_rounds(rt: HostRuntime) -> Result<(), Fail> {
     let alloc = rt.alloc();

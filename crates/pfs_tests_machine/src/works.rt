@@ -16,7 +16,7 @@ const NEW: Outcome = Outcome::New(RuleNo(0));
 
 const STATE: Outcome = Outcome::State(RuleNo(0));
 
-// What comes to an engine.
+/// What comes to an engine.
 #[derive(Clone, Copy)]
 enum Step {
     // time passes to this moment
@@ -25,10 +25,10 @@ enum Step {
     Packet(Sent, Addr, u16, Outcome),
 }
 
-// What comes, and the work of it: visits, looks, slices, the most states and the most nodes of one slice.
+/// What comes, and the work of it: visits, looks, slices, the most states and the most nodes of one slice.
 type Row = (Step, [u64; 5]);
 
-// The work of a row, over a store that counts looks or over one that does not
+/// The work of a row, over a store that counts looks or over one that does not
 fn work_of(row: &[u64; 5], counts: bool) -> Work {
     Work {
         visits: row[0],
@@ -39,7 +39,7 @@ fn work_of(row: &[u64; 5], counts: bool) -> Work {
     }
 }
 
-// Rules, what comes, and what is held in the end, over each kind of store
+/// Rules, what comes, and what is held in the end, over each kind of store
 fn works(
     rt: &(impl Abort + AllocGlobal),
     rules: &[u8],
@@ -148,7 +148,7 @@ const SECOND: Sent = Sent::Answer(SYN_ACK);
 
 const THIRD: Sent = Sent::Tcp(80, ACK);
 
-// The second connection of the source is killed alone, and a third state is one too many
+/// The second connection of the source is killed alone, and a third state is one too many
 const KILLED: &[Row] = &[
     (Step::Until(0), [0, 0, 0, 0, 0]),
     (Step::Packet(FIRST, A1, 1, NEW), [1, 0, 0, 0, 0]),
@@ -172,7 +172,7 @@ const ALONE: Outcome = Outcome::Kill {
 
 const SHAKEN: Outcome = Outcome::State(RuleNo(2));
 
-// With it leave the other states of its source, and at no state of another source is looked
+/// With it leave the other states of its source, and at no state of another source is looked
 const FLUSHED: &[Row] = &[
     (Step::Until(0), [0, 0, 0, 0, 0]),
     (
@@ -217,8 +217,8 @@ fn a_packet_looks_at_its_state_and_at_those_it_kills(rt: HostRuntime) -> Result<
     works(&rt, rules, FLUSHED, (1, 1, 1))
 }
 
-// Six states and four nodes may be held: a slice examines at most two states and one node. The
-// first moment purges nothing
+/// Six states and four nodes may be held: a slice examines at most two states and one node. The
+/// first moment purges nothing
 const SHARES: &[Row] = &[
     (Step::Until(100), [0, 0, 0, 0, 0]),
     (Step::Packet(UDP, A1, 1, NEW), [1, 0, 0, 0, 0]),
@@ -246,7 +246,7 @@ const EMPTY: &[Row] = &[
     (Step::Until(4_294_967_295), [0, 0, 8_589_934_590, 0, 0]),
 ];
 
-// A state that lives for 60 seconds leaves
+/// A state that lives for 60 seconds leaves
 const ONE_STATE: &[Row] = &[
     (Step::Until(0), [0, 0, 0, 0, 0]),
     (Step::Packet(UDP, A1, 1, NEW), [1, 0, 0, 0, 0]),
@@ -259,7 +259,7 @@ fn a_long_jump_is_short_where_nothing_is_held(rt: HostRuntime) -> Result<(), Fai
     works(&rt, b"pass in proto udp all", ONE_STATE, (0, 0, 0))
 }
 
-// A state that lives for 2,147,483,647 seconds, and leaves in the last of them
+/// A state that lives for 2,147,483,647 seconds, and leaves in the last of them
 const STAYING: &[Row] = &[
     (Step::Until(0), [0, 0, 0, 0, 0]),
     (Step::Packet(UDP, A1, 1, NEW), [1, 0, 0, 0, 0]),
@@ -284,7 +284,7 @@ fn a_long_jump_is_short_where_what_is_held_stays(rt: HostRuntime) -> Result<(), 
     )
 }
 
-// Rules and events over an indexed store, at how many states each packet looks at most, and each lapse of time.
+/// Rules and events over an indexed store, at how many states each packet looks at most, and each lapse of time.
 struct Looked {
     case: Case,
     of_packets: &'static [u64],
@@ -389,7 +389,7 @@ const OF_THE_RULE: Outcome = Outcome::Kill {
     killed: 2,
 };
 
-// One event, and the looks that it took at most.
+/// One event, and the looks that it took at most.
 fn look<S: Store>(
     rt: &impl Abort,
     engine: &mut Engine<S>,

@@ -1,4 +1,4 @@
-// Engines over both kinds of store: events one by one, and as a run.
+//! Engines over both kinds of store: events one by one, and as a run.
 
 ghost use Rattle.std.specs.Prelude.{◌≡◌, ◌<◌, ◌≤◌, ◌^◌, true};
 ghost use Rattle.std.specs.Option.{ForSome};
@@ -18,8 +18,8 @@ type Indexed = IndexStore;
 /// When a packet comes, what it is, its source and port, and what comes of it.
 type Row = (u64, Sent, Addr, u16, Outcome);
 
-// What is shown, the rules, the packets, whether the rules have a table for overload, and how many states, source nodes and
-// entries are held in the end.
+/// What is shown, the rules, the packets, whether the rules have a table for overload, and how many states, source nodes and
+/// entries are held in the end.
 struct Case {
     rules: &'static [u8],
     rows: &'static [Row],
@@ -221,7 +221,7 @@ fn new_indexed(rt: &HostRuntime, case: &Case) -> Result<bool, Stop> {
     answered(rt, is_right)
 }
 
-// Whether a new engine is one before the first event, where there is one.
+/// Whether a new engine is one before the first event, where there is one.
 fn is_new<S: Store + Drop>(made: Result<Engine<S>, NoMemory>) -> Option<bool> {
     match made {
         Ok(engine) => Some(engine.last() == None && engine.states() == 0),
@@ -229,7 +229,7 @@ fn is_new<S: Store + Drop>(made: Result<Engine<S>, NoMemory>) -> Option<bool> {
     }
 }
 
-// How many states, source nodes and entries are held, and how many packets were taken.
+/// How many states, source nodes and entries are held, and how many packets were taken.
 fn held<S: Store>(engine: &Engine<S>) -> (u64, u64, u64, u64) {
     (
         engine.states(),
@@ -239,7 +239,7 @@ fn held<S: Store>(engine: &Engine<S>) -> (u64, u64, u64, u64) {
     )
 }
 
-// The packets one by one.
+/// The packets one by one.
 fn walk<S: Store>(rt: &HostRuntime, engine: &mut Engine<S>, case: &Case) -> Result<(), Stop> {
     for row in case.rows {
         take_row(rt, engine, case, row)?;
@@ -254,7 +254,7 @@ fn walk<S: Store>(rt: &HostRuntime, engine: &mut Engine<S>, case: &Case) -> Resu
     Ok(())
 }
 
-// All entries of the table leave, those of the text too.
+/// All entries of the table leave, those of the text too.
 fn expire<S: Store>(rt: &HostRuntime, engine: &mut Engine<S>, case: &Case) -> Result<(), Stop> {
     if engine.last().is_none() || !may_expire(engine.config(), TableNo(0)) {
         return Err(Stop::Input);
@@ -268,13 +268,13 @@ fn expire<S: Store>(rt: &HostRuntime, engine: &mut Engine<S>, case: &Case) -> Re
     Ok(())
 }
 
-// What is held is what the case has in the end.
+/// What is held is what the case has in the end.
 fn is_end<S: Store>(engine: &Engine<S>, case: &Case) -> bool {
     let (states, nodes, entries, _) = held(engine);
     (states, nodes, entries) == case.end
 }
 
-// A packet at its moment, and once more where memory was refused.
+/// A packet at its moment, and once more where memory was refused.
 fn take_row<S: Store>(
     rt: &HostRuntime,
     engine: &mut Engine<S>,
@@ -321,7 +321,7 @@ fn take<S: Store>(
     }
 }
 
-// Memory is taken where a state is made, and for a TCP packet of a rule with overload.
+/// Memory is taken where a state is made, and for a TCP packet of a rule with overload.
 fn begin_packet(rt: &HostRuntime, case: &Case, row: &Row) -> Result<(), Stop> {
     match row.4 {
         Outcome::New(_) => begin(rt, "packet that makes a state"),
@@ -332,7 +332,7 @@ fn begin_packet(rt: &HostRuntime, case: &Case, row: &Row) -> Result<(), Stop> {
     }
 }
 
-// The packets by one call each, with the time up to them; once more where memory was refused.
+/// The packets by one call each, with the time up to them; once more where memory was refused.
 fn step_each<S: Store>(rt: &HostRuntime, engine: &mut Engine<S>, case: &Case) -> Result<(), Stop> {
     for row in case.rows {
         if !step(rt, engine, case, row)? {
@@ -392,7 +392,7 @@ fn event_of(row: &Row) -> Result<Event, Stop> {
     })
 }
 
-// All packets by one call; where it is refused, those that are left by another.
+/// All packets by one call; where it is refused, those that are left by another.
 fn run_all<S: Store>(rt: &HostRuntime, engine: &mut Engine<S>, case: &Case) -> Result<(), Stop> {
     let mut events = Vec::with_capacity(rt.alloc(), 16)?;
     for row in case.rows {
@@ -430,7 +430,7 @@ fn run_once<S: Store>(
     }
 }
 
-// The outcomes are those of the first packets.
+/// The outcomes are those of the first packets.
 fn is_front(outcomes: &[Outcome], case: &Case) -> bool {
     outcomes.len() <= case.rows.len()
         && outcomes

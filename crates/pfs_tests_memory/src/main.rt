@@ -1,6 +1,7 @@
-// Each call that may answer want of memory, so that a growth that is refused shows which call it was, and what stands after it. Standard
-// output has a line before each call and one behind it, and then whether the answer is the plain one, or refused, with all that has to stand
-// still there. Words choose what is called; without words it is everything.
+//! Each call that may answer want of memory, so that a growth that is refused shows which call it was, and what stands after it. Standard
+//! output has a line before each call and one behind it, and then whether the answer is the plain one, or refused, with all that has to stand
+//! still there. Words choose what is called; without words it is everything.
+
 #![tactic(auto)]
 
 mod engines;
@@ -18,7 +19,7 @@ fn main(rt: HostRuntime) -> ExitCode {
     code_of(tell_all(&rt))
 }
 
-// What the words name, or everything, and then that it is whole.
+/// What the words name, or everything, and then that it is whole.
 fn tell_all(rt: &HostRuntime) -> Result<(), Stop> {
     let words: Vec<String> = env::args(rt)?.collect(rt.alloc())?;
     let chosen = match words.get(1) {

@@ -1,4 +1,4 @@
-// Packets on em0 between two sources and a server.
+//! Packets on em0 between two sources and a server.
 
 ghost use Rattle.std.specs.Prelude.{◌≡◌, true};
 ghost use Rattle.pfs_addr_values.specs.Protocols.{has_ports};

@@ -1,4 +1,4 @@
-// The calls of the program: replays, what is told of rules, and the words of the command line.
+//! The calls of the program: replays, what is told of rules, and the words of the command line.
 
 use clap::error::ErrorKind;
 use pfs_cli::{
@@ -8,7 +8,7 @@ use pfs_tests_telling::{
     EVERYTHING, FULL, NODES, OVERLOAD, SHOWN, Stop, begin, begin_free, end, plain, refused, wrong,
 };
 
-// Rules, a trace, and its report.
+/// Rules, a trace, and its report.
 type Row = (&'static [u8], &'static [u8], &'static [u8]);
 
 const TRACES: &[Row] = &[
@@ -44,7 +44,7 @@ const TRACES: &[Row] = &[
 
 const COUNTS: &[u8] = b"ok items=3 tables=2 entries=2\n";
 
-// Words of a command line, and what they ask for; nothing where they are refused.
+/// Words of a command line, and what they ask for; nothing where they are refused.
 type Words = (&'static [&'static str], Option<Job<'static>>);
 
 const WORDS: &[Words] = &[
@@ -83,7 +83,7 @@ fn tell_joined(rt: &HostRuntime, row: &Row) -> Result<(), Stop> {
     Ok(())
 }
 
-// Room for all that is written, so that no write needs more.
+/// Room for all that is written, so that no write needs more.
 fn sink(rt: &HostRuntime) -> Result<Sink<Vec<u8>>, Stop> {
     Ok(Sink::new(Vec::with_capacity(rt.alloc(), 4096)?))
 }
@@ -133,7 +133,7 @@ fn perform_joined(rt: &HostRuntime, text: &[u8], report: &[u8]) -> Result<bool, 
     tell_report(rt, answer, &out.into_inner(), report)
 }
 
-// The report; or at want of memory whole lines of it, without the last.
+/// The report; or at want of memory whole lines of it, without the last.
 fn tell_report(
     rt: &HostRuntime,
     answer: Result<(), ReplayFault>,
@@ -202,7 +202,7 @@ fn perform_one(rt: &HostRuntime, task: &Job, text: &[u8]) -> Result<bool, Stop> 
     tell_text(rt, answer, &out.into_inner(), text)
 }
 
-// The text; or at want of memory a front of it.
+/// The text; or at want of memory a front of it.
 fn tell_text(
     rt: &HostRuntime,
     answer: Result<(), ReplayFault>,

@@ -1,4 +1,4 @@
-// Both kinds of store: new ones, and states that are admitted, refused and taken away.
+//! Both kinds of store: new ones, and states that are admitted, refused and taken away.
 
 ghost use Rattle.std.specs.Prelude.{◌≡◌};
 
@@ -10,7 +10,7 @@ use pfs_tests_telling::{
     EVERYTHING, NODES, Stop, answered, begin, begin_free, end, plain, refused, wrong,
 };
 
-// The first rule tracks sources, the second does not; both share the states.
+/// The first rule tracks sources, the second does not; both share the states.
 const LIMITED: &[u8] = b"set limit states 14\n\
     pass keep state (max 12, max-src-nodes 2, max-src-states 6)\npass\n";
 
@@ -33,7 +33,7 @@ enum Ask {
     InRoom,
 }
 
-// What is asked, a source and a port, the rule, and the number of the state or the limit that is met.
+/// What is asked, a source and a port, the rule, and the number of the state or the limit that is met.
 type Row = (Ask, Addr, u16, u32, Result<u64, Limit>);
 
 const A3: Addr = Addr::V4([198, 51, 100, 3]);
@@ -138,7 +138,7 @@ fn new_indexed(rt: &HostRuntime, config: &Config) -> Result<bool, Stop> {
     answered(rt, is_right)
 }
 
-// Whether a new store holds nothing, where there is one.
+/// Whether a new store holds nothing, where there is one.
 fn is_empty<S: Store + Drop>(made: Result<S, NoMemory>) -> Option<bool> {
     match made {
         Ok(store) => Some(counts(&store) == (0, 0, 0)),
@@ -146,7 +146,7 @@ fn is_empty<S: Store + Drop>(made: Result<S, NoMemory>) -> Option<bool> {
     }
 }
 
-// How many states and source nodes are held, and how many states were made.
+/// How many states and source nodes are held, and how many states were made.
 fn counts<S: Store>(store: &S) -> (u64, u64, u64) {
     (store.state_count(), store.node_count(), store.made())
 }
@@ -158,7 +158,7 @@ fn fill<S: Store>(rt: &HostRuntime, store: &mut S, config: &Config) -> Result<()
     take_away(rt, store)
 }
 
-// Where no source is tracked, and a state has left: the next one takes its room, and no room is made for a source node.
+/// Where no source is tracked, and a state has left: the next one takes its room, and no room is made for a source node.
 fn fill_again<S: Store>(rt: &HostRuntime, store: &mut S, config: &Config) -> Result<(), Stop>
     requires made_for { S.config store.old ≡ config.now }
 {
@@ -188,7 +188,7 @@ fn admit_all<S: Store>(
     Ok(())
 }
 
-// A state of a rule, or the limit that is met, at which no memory is taken.
+/// A state of a rule, or the limit that is met, at which no memory is taken.
 fn admit<S: Store>(
     rt: &HostRuntime,
     store: &mut S,
@@ -226,7 +226,7 @@ fn begin_ask(rt: &HostRuntime, ask: Ask) -> Result<(), Stop> {
     }
 }
 
-// None for want of memory.
+/// None for want of memory.
 fn admit_one<S: Store>(
     store: &mut S,
     config: &Config,
@@ -249,7 +249,7 @@ fn admit_one<S: Store>(
     }
 }
 
-// A state is killed, those of a source are flushed, and slices take the others away.
+/// A state is killed, those of a source are flushed, and slices take the others away.
 fn take_away<S: Store>(rt: &HostRuntime, store: &mut S) -> Result<(), Stop> {
     if !store.holds(StateNo(1)) {
         wrong(rt)?;

@@ -1,4 +1,4 @@
-// Tables of hosts, and the book of the rules.
+//! Tables of hosts, and the book of the rules.
 
 ghost use Rattle.std.specs.Prelude.{◌≡◌, ◌<◌, length};
 
@@ -10,7 +10,7 @@ use pfs_tests_telling::{
     EVERYTHING, FULL, NODES, OVERLOAD, Stop, answered, begin, begin_free, end, plain, refused,
 };
 
-// Rules, how many entries they have, and the rule that decides on a packet of UDP.
+/// Rules, how many entries they have, and the rule that decides on a packet of UDP.
 type Row = (&'static [u8], u64, Option<u32>);
 
 const RULES: &[Row] = &[
@@ -22,7 +22,7 @@ const RULES: &[Row] = &[
 
 const HOSTS: &[u8] = b"set limit table-entries 41\ntable <bad> { 203.0.113.9 }\n";
 
-// How many hosts there is room for under that limit.
+/// How many hosts there is room for under that limit.
 const FREE: u8 = 40;
 
 /// Tables and books of rules, and hosts that are added, with room made before and without.
@@ -58,7 +58,7 @@ fn new_tables(rt: &HostRuntime, config: &Config, entries: u64) -> Result<bool, S
     answered(rt, is_right)
 }
 
-// Whether new tables have so many entries, where there are any.
+/// Whether new tables have so many entries, where there are any.
 fn are_tables(made: Result<Tables, NoMemory>, entries: u64) -> Option<bool> {
     match made {
         Ok(tables) => Some(tables.entries() == entries),
@@ -105,7 +105,7 @@ fn host(number: u8) -> Addr {
     Addr::V4([198, 51, 100, number])
 }
 
-// How many of the hosts the table answers for.
+/// How many of the hosts the table answers for.
 fn held(tables: &Tables) -> u8 {
     let mut count: u8 = 0;
     for number in 0..=FREE {
@@ -116,12 +116,12 @@ fn held(tables: &Tables) -> u8 {
     count
 }
 
-// The tables hold the first so many hosts, beside the entry of the text.
+/// The tables hold the first so many hosts, beside the entry of the text.
 fn is_held(tables: &Tables, count: u8) -> bool {
     held(tables) == count && tables.entries() == u64::from(count) + 1
 }
 
-// Room is made for each host, which is then added without memory; the last host is one too many.
+/// Room is made for each host, which is then added without memory; the last host is one too many.
 fn add_with_room(rt: &HostRuntime, config: &Config) -> Result<(), Stop>
     requires { 0 < length config.now.tables }
 {
@@ -174,7 +174,7 @@ fn room_at_limit(rt: &HostRuntime, tables: &mut Tables) -> Result<(), Stop>
     Ok(())
 }
 
-// A host that there is room for, that is held, or that is one too many.
+/// A host that there is room for, that is held, or that is one too many.
 fn add_free(rt: &HostRuntime, tables: &mut Tables, number: u8, wanted: Added) -> Result<(), Stop>
     requires { 0 < length tables.old.entries }
     ensures { length tables.new.entries ≡ length tables.old.entries }
@@ -207,7 +207,7 @@ fn add(rt: &HostRuntime, tables: &mut Tables, number: u8) -> Result<bool, Stop>
     }
 }
 
-// All entries leave, those of the text too.
+/// All entries leave, those of the text too.
 fn expire(rt: &HostRuntime, tables: &mut Tables) -> Result<(), Stop>
     requires { 0 < length tables.old.entries }
 {

@@ -1,4 +1,4 @@
-// Addresses as text, and rules texts with their configurations.
+//! Addresses as text, and rules texts with their configurations.
 
 use pfs_addr::push_addr;
 use pfs_addr_values::Addr;
@@ -7,7 +7,7 @@ use pfs_tests_telling::{
     EVERYTHING, FULL, NODES, OVERLOAD, SHOWN, Stop, begin, end, plain, refused,
 };
 
-// A rules text, and how many items, tables and entries it has.
+/// A rules text, and how many items, tables and entries it has.
 type Row = (&'static [u8], u64, u64, u64);
 
 const TEXTS: &[Row] = &[

@@ -84,7 +84,7 @@ const EXPIRED: &[Case] = &[
     },
 ];
 
-// A last record behind ten others, under rules, and how the replay ends.
+/// A last record behind ten others, under rules, and how the replay ends.
 #[derive(Clone, Copy)]
 struct Row {
     rules: &'static str,
@@ -106,7 +106,7 @@ fn refused(rules: &'static str, record: &'static str, fault: ReplayFault) -> Row
     }
 }
 
-// The fault of a field in the eleventh row.
+/// The fault of a field in the eleventh row.
 fn at(record: &'static str, column: u8) -> Row {
     refused(OVERLOAD, record, ReplayFault::Field(11, column))
 }
@@ -153,7 +153,7 @@ fn seconds() -> [Row; 4] {
     ]
 }
 
-// The records in front, and their lines under either rules but for what became of the source.
+/// The records in front, and their lines under either rules but for what became of the source.
 fn tell_refused(rt: &(impl Abort + AllocGlobal), rows: &[Row]) -> Result<(), Fail> {
     for row in rows {
         let mut trace = String::new(rt.alloc());
@@ -181,7 +181,7 @@ fn old_entries_leave(rt: HostRuntime) -> Result<(), Fail> {
     tell_each(&rt, EXPIRED)
 }
 
-// The ten records in front of two expiries in the row that shows what they do, and their lines but for what became of the source.
+/// The ten records in front of two expiries in the row that shows what they do, and their lines but for what became of the source.
 const SHAKEN: &[&str] = &[
     "100,in,em0,icmp,198.51.100.1,,192.0.2.1,,",
     "104,in,em0,tcp,198.51.100.1,1000,192.0.2.1,80,S",
@@ -195,7 +195,7 @@ const SHAKEN: &[&str] = &[
     "106,in,em0,tcp,198.51.100.1,1002,192.0.2.1,80,A",
 ];
 
-// The rules, the two expiries, what became of the source at its two last handshakes, and how the replay ends.
+/// The rules, the two expiries, what became of the source at its two last handshakes, and how the replay ends.
 type Told = (
     &'static str,
     [&'static str; 2],
@@ -224,7 +224,7 @@ const TOLD: &[Told] = &[
     ),
 ];
 
-// One such replay, over each kind of store.
+/// One such replay, over each kind of store.
 fn tell_shaken(rt: &(impl Abort + AllocGlobal), told: &Told) -> Result<(), Fail> {
     let (rules, [first, second], [added, held], fault) = *told;
     let mut trace = String::new(rt.alloc());

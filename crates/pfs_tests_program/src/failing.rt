@@ -17,7 +17,7 @@ const RECORDS: &[u8] =
 const REPORT: &[u8] =
     b"1 new @0\n2 new @0\n3 drop:states @0\nend rows=3 states=2 nodes=0 entries=0\n";
 
-// How many bytes the first `count` lines of a text have.
+/// How many bytes the first `count` lines of a text have.
 fn lines_len(text: &[u8], count: usize) -> usize {
     let mut left = count;
     for (i, byte) in text.iter().enumerate() {
@@ -31,12 +31,12 @@ fn lines_len(text: &[u8], count: usize) -> usize {
     text.len()
 }
 
-// How many lines are whole in the first `len` bytes of a text.
+/// How many lines are whole in the first `len` bytes of a text.
 fn whole_lines(text: &[u8], len: usize) -> usize {
     text.iter().take(len).filter(|byte| **byte == b'\n').count()
 }
 
-// What a run of the report's records wrote before a read failed: as many lines as it had whole records.
+/// What a run of the report's records wrote before a read failed: as many lines as it had whole records.
 fn cut(rt: &impl Abort, told: &Result<(), ReplayFault>, written: &[u8], rows: usize) {
     same!(rt; *told, Err(ReplayFault::Read));
     let len = lines_len(REPORT, rows);
@@ -113,7 +113,7 @@ fn a_write_takes_nothing_at_each_turn(rt: HostRuntime) -> Result<(), Fail> {
     Ok(())
 }
 
-// What a job over these rules answers, whose reader gives so many bytes and whose writer takes so many.
+/// What a job over these rules answers, whose reader gives so many bytes and whose writer takes so many.
 fn told_of(
     rt: &impl AllocGlobal,
     job: &Job,
@@ -150,7 +150,7 @@ fn a_write_of_a_job_fails_at_each_turn(rt: HostRuntime) {
     }
 }
 
-// A joined text is read on to its split line, in bounded memory.
+/// A joined text is read on to its split line, in bounded memory.
 #[test]
 fn traces_without_an_end(rt: HostRuntime) {
     let (told, _, _, written) = replayed(

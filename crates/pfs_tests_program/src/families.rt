@@ -10,7 +10,7 @@ const RULES: &[u8] = b"set timeout { adaptive.start 0, adaptive.end 0 }\n\
     pass in inet6 proto tcp to any port 80 keep state (max-src-conn 1, overload <bad>)\n\
     pass in inet proto udp all\n";
 
-// Two handshakes of a source of IPv6, a packet of IPv4, the source once more in another text, and another source.
+/// Two handshakes of a source of IPv6, a packet of IPv4, the source once more in another text, and another source.
 const RECORDS: &[u8] = b"0,in,em0,tcp,2001:db8::1,1000,2001:db8::53,80,S\n\
     0,out,em0,tcp,2001:db8::53,80,2001:db8::1,1000,SA\n\
     0,in,em0,tcp,2001:db8::1,1000,2001:db8::53,80,A\n\
@@ -26,8 +26,8 @@ const LINES: &[u8] = b"1 new @1\n2 state @1\n3 state @1\n4 new @1\n5 state @1\n\
 
 const END: &[u8] = b"end rows=9 states=2 nodes=1 entries=1\n";
 
-// Records that are refused, and in which column: the families are compared before what stands behind them is read, also
-// where the record would be skipped.
+/// Records that are refused, and in which column: the families are compared before what stands behind them is read, also
+/// where the record would be skipped.
 const REFUSED: &[(&[u8], u8)] = &[
     (b"0,in,em0,udp,198.51.100.1,1,2001:db8::53,53,\n", 7),
     (b"0,in,em0,udp,2001:db8::1,1,192.0.2.1,53,\n", 7),

@@ -11,7 +11,7 @@ const COUNTS: &[u8] = b"ok items=3 tables=2 entries=2\n";
 const TRACE: &[u8] = b"time,dir,if,proto,src,sport,dst,dport,flags\n\
     5,in,em0,udp,198.51.100.1,1,192.0.2.1,53,\n";
 
-// What a job does over these rules and this trace: its answer, and that this is what it writes.
+/// What a job does over these rules and this trace: its answer, and that this is what it writes.
 fn done(
     rt: &(impl Abort + AllocGlobal),
     job: &Job,

@@ -12,7 +12,7 @@ const UNSCALED: &[u8] = b"set timeout { adaptive.start 0, adaptive.end 0 }\n";
 
 const ALL_UDP: &[u8] = b"set timeout { adaptive.start 0, adaptive.end 0 }\npass in proto udp all\n";
 
-// Rules, records behind the header, what is written, and how it ends.
+/// Rules, records behind the header, what is written, and how it ends.
 #[derive(Clone, Copy)]
 struct Row {
     rules: &'static [u8],
@@ -21,8 +21,8 @@ struct Row {
     outcome: Result<(), ReplayFault>,
 }
 
-// One packet of 198.51.100.1 by no rule, the run with a refused third state, a
-// maximum that is asked before the limit, the last rule that matches, and a faulty trace.
+/// One packet of 198.51.100.1 by no rule, the run with a refused third state, a
+/// maximum that is asked before the limit, the last rule that matches, and a faulty trace.
 fn rows() -> [Row; 9] {
     [
         Row {

@@ -66,7 +66,7 @@ pub fn tell_joined(
     same!(rt; written.as_slice(), report);
 }
 
-// How a replay of a trace ends, by how its report does.
+/// How a replay of a trace ends, by how its report does.
 fn ended(told: Result<(), Stop>) -> Result<(), ReplayFault> {
     match told {
         Ok(()) => Ok(()),

@@ -3,8 +3,8 @@
 use pfs_addr_values::Packet;
 use pfs_conf::{Config, Filter, Item, ItemKind};
 
-// Whether what is asked of direction, interface, protocol and the port that a packet goes to holds. The rules that are counted
-// here ask nothing else.
+/// Whether what is asked of direction, interface, protocol and the port that a packet goes to holds. The rules that are counted
+/// here ask nothing else.
 fn holds(filter: &Filter, packet: &Packet) -> bool {
     is_so(filter.dir, packet.dir())
         && is_so(filter.proto, packet.proto())

@@ -11,13 +11,13 @@ use std::alloc::{AllocError, Global};
 use std::process::Abort;
 use std::test::Fail;
 
-// Two tables, which stand in front of each ruleset.
+/// Two tables, which stand in front of each ruleset.
 const TABLES: &[u8] =
     b"table <t> { 10.0.0.0/8, !10.1.0.0/16, 10.1.2.3, 2001:db8::/32, !2001:db8:2::/48 }
 table <bad> { 203.0.113.9, 2001:db8:1::9 }
 ";
 
-// How many parameters an item has here.
+/// How many parameters an item has here.
 const PARAMETERS: usize = 9;
 
 /// A source of numbers that look random, the same in each run.
@@ -62,7 +62,7 @@ impl Numbers {
     }
 }
 
-// The host 9 of a network of 2001:db8::/32, by its number.
+/// The host 9 of a network of 2001:db8::/32, by its number.
 fn ipv6(network: u8) -> Addr {
     Addr::V6([0x20, 1, 0xd, 0xb8, 0, network, 0, 0, 0, 0, 0, 0, 0, 0, 0, 9])
 }
@@ -74,7 +74,7 @@ struct Asked {
 }
 
 impl Asked {
-    // The same, but for one parameter.
+    /// The same, but for one parameter.
     fn changed(self, numbers: &mut Numbers) -> Asked {
         let changed = numbers.below(9) as usize;
         let choice = numbers.below(6);
@@ -87,7 +87,7 @@ impl Asked {
         asked
     }
 
-    // Appends what is asked. Ports are asked of TCP and UDP alone.
+    /// Appends what is asked. Ports are asked of TCP and UDP alone.
     fn write(&self, text: &mut Vec<u8>, quick: bool) -> Result<(), AllocError> {
         let has_ports = self.choices[3] < 2;
         for (parameter, choice) in self.choices.iter().enumerate() {
@@ -102,7 +102,7 @@ impl Asked {
     }
 }
 
-// The words of a parameter, by its place in the text.
+/// The words of a parameter, by its place in the text.
 fn words(parameter: usize, choice: u32) -> &'static [u8] {
     match (parameter, choice) {
         (0, 0) => b" in",
@@ -154,7 +154,7 @@ struct Item {
 }
 
 impl Ruleset {
-    // The two tables, without an item.
+    /// The two tables, without an item.
     fn new(alloc: Global) -> Result<Ruleset, AllocError> {
         Ok(Ruleset {
             text: Vec::from_slice(alloc, TABLES)?,
@@ -163,7 +163,7 @@ impl Ruleset {
         })
     }
 
-    // Leaves anchors until an item would stand at this depth.
+    /// Leaves anchors until an item would stand at this depth.
     fn leave(&mut self, depth: usize) -> Result<(), AllocError> {
         for _ in depth..self.open {
             self.text.extend_from_slice(b"}\n")?;
@@ -172,7 +172,7 @@ impl Ruleset {
         Ok(())
     }
 
-    // Appends an item.
+    /// Appends an item.
     fn push(
         &mut self,
         alloc: Global,
@@ -203,7 +203,7 @@ impl Ruleset {
     }
 }
 
-// A ruleset of some items, nested at random, most of which differ from their neighbour in one parameter.
+/// A ruleset of some items, nested at random, most of which differ from their neighbour in one parameter.
 fn generate(alloc: Global, numbers: &mut Numbers) -> Result<Ruleset, Fail> {
     let mut ruleset = Ruleset::new(alloc)?;
     let mut asked = Asked {
@@ -224,7 +224,7 @@ fn generate(alloc: Global, numbers: &mut Numbers) -> Result<Ruleset, Fail> {
     Ok(ruleset)
 }
 
-// The plain evaluation of a packet.
+/// The plain evaluation of a packet.
 fn evaluated(items: &[Item], packet: &Packet) -> Evaluation {
     let mut evaluation = Evaluation::new();
     for (place, item) in items.iter().enumerate() {

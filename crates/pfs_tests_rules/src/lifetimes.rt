@@ -32,8 +32,8 @@ const DEFAULT: &[(u64, u64)] = &[
     (u64::MAX, 0),
 ];
 
-// At most 10 states are held, so that lives are shorter
-// from 6 on and end at 12
+/// At most 10 states are held, so that lives are shorter
+/// from 6 on and end at 12
 #[test]
 fn lifetimes_shrink_by_the_default_pair(rt: HostRuntime) -> Result<(), Fail> {
     let config = configured(rt.alloc(), b"set limit states 10", b"")?;

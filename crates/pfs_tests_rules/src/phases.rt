@@ -7,7 +7,7 @@ use pfs_track::{Other, Phases, StatePhase, Tcp, Udp};
 
 const RST_ACK: Flags = Flags { rst: true, ..ACK };
 
-// The timeout after some packets that follow the first, and whether the handshake completes at the last of them.
+/// The timeout after some packets that follow the first, and whether the handshake completes at the last of them.
 fn after_all<P: Phases>(packets: &[(bool, Flags)]) -> (TimeoutName, bool) {
     let mut phase = P::first();
     let mut completes = false;
@@ -59,7 +59,7 @@ const TCP: &[(&[(bool, Flags)], TimeoutName, bool)] = &[
     (&[(true, SYN)], TimeoutName::TcpOpening, false),
 ];
 
-// The third packet may reset and not close; one half of a connection that is seen alone opens it and closes it
+/// The third packet may reset and not close; one half of a connection that is seen alone opens it and closes it
 #[test]
 fn tcp_goes_through_its_timeouts(rt: HostRuntime) {
     for &(packets, slot, completes) in TCP {

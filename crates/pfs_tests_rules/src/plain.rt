@@ -72,7 +72,7 @@ impl Evaluation {
         }
     }
 
-    // Behind the bodies of the anchors that are not around an item of this depth.
+    /// Behind the bodies of the anchors that are not around an item of this depth.
     fn after_leaving(self, depth: usize) -> Evaluation {
         let mut left = self;
         for (around, anchor) in left.open.iter_mut().enumerate() {
@@ -86,7 +86,7 @@ impl Evaluation {
         left
     }
 
-    // Behind a rule that matched.
+    /// Behind a rule that matched.
     fn hit(self, place: usize, quick: bool) -> Evaluation {
         let mut hit = self;
         for anchor in hit.open.iter_mut() {
@@ -99,7 +99,7 @@ impl Evaluation {
         hit
     }
 
-    // Inside an anchor that matched.
+    /// Inside an anchor that matched.
     fn opened(self, depth: usize, quick: bool) -> Evaluation {
         let mut opened = self;
         for (around, anchor) in opened.open.iter_mut().enumerate() {

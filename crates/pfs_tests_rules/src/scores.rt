@@ -3,7 +3,7 @@
 use pfs_track::Score;
 use std::process::Abort;
 
-// The scores after handshakes at these moments, of a rate over 10 seconds.
+/// The scores after handshakes at these moments, of a rate over 10 seconds.
 fn check(rt: &impl Abort, handshakes: &[(u64, u64)]) {
     let mut score = Score::default();
     for (moment, value) in handshakes {

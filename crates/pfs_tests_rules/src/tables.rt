@@ -17,7 +17,7 @@ const TABLES: &[u8] =
 table <bad> { 203.0.113.9 }
 table <all> { 0.0.0.0/0, !::/0, 2001:db8::/127 }";
 
-// A table, an address, and the answer: 32.1.13.184 has the first bits of 2001:db8::, a02::1 those of 10.2.0.0.
+/// A table, an address, and the answer: 32.1.13.184 has the first bits of 2001:db8::, a02::1 those of 10.2.0.0.
 const ANSWERS: &[(u32, &[u8], bool)] = &[
     (0, b"10.2.0.1", true),
     (0, b"10.1.0.1", false),
@@ -48,7 +48,7 @@ fn a_table_answers_by_its_narrowest_entry(rt: HostRuntime) -> Result<(), Fail> {
     Ok(())
 }
 
-// The tables of a text with one, of one entry
+/// The tables of a text with one, of one entry
 fn one_table(rt: &(impl Abort + AllocGlobal), first: &[u8]) -> Result<Tables, Fail>
     ensures { IfOk result (λ tables. length tables.entries ≡ 1) }
 {
@@ -59,7 +59,7 @@ fn one_table(rt: &(impl Abort + AllocGlobal), first: &[u8]) -> Result<Tables, Fa
     Ok(tables)
 }
 
-// What a host is answered that is new, and once more, and how many entries there are then
+/// What a host is answered that is new, and once more, and how many entries there are then
 type Room = (Added, Added, u64);
 
 fn come_to(rt: &impl Abort, tables: &mut Tables, room: Room) -> Result<(), Fail>

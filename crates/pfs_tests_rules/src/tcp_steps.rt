@@ -63,7 +63,7 @@ const ACK: [Row; 5] = [
     },
 ];
 
-// The timeout by the ranges of the lower and of the higher rank; the first that fits.
+/// The timeout by the ranges of the lower and of the higher rank; the first that fits.
 const TIMEOUTS: [((u8, u8), (u8, u8), TimeoutName); 5] = [
     ((9, 10), (9, 10), TimeoutName::TcpClosed),
     ((7, 10), (7, 10), TimeoutName::TcpFinwait),
@@ -137,7 +137,7 @@ fn expected(seen: Seen, forward: bool, flags: Flags) -> Option<(Seen, bool)> {
     Some((after, completes))
 }
 
-// Sixteen sets of SYN, FIN, ACK and RST; the flags that do not matter are set in half of them.
+/// Sixteen sets of SYN, FIN, ACK and RST; the flags that do not matter are set in half of them.
 fn flags_of(number: u8) -> Flags {
     Flags {
         syn: number & 1 != 0,
@@ -151,10 +151,10 @@ fn flags_of(number: u8) -> Flags {
     }
 }
 
-// A phase, and the ranks that stand for it.
+/// A phase, and the ranks that stand for it.
 type Pair = (StatePhase, Seen);
 
-// Whether each of the phases is this one just where its ranks are
+/// Whether each of the phases is this one just where its ranks are
 fn is_one_to_one(reached: &[Pair], pair: &Pair) -> bool {
     for (phase, seen) in reached {
         if (*phase == pair.0) != (*seen == pair.1) {

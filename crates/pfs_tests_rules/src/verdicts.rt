@@ -9,11 +9,11 @@ use pfs_conf::{RuleNo, load};
 use std::alloc::Global;
 use std::test::Fail;
 
-// Two tables, for the rules behind them.
+/// Two tables, for the rules behind them.
 const TABLES: &[u8] =
     b"table <t> { 10.0.0.0/8, !10.1.0.0/16, 10.1.2.3 }\ntable <bad> { 203.0.113.9 }\n";
 
-// The rule of a text, behind the two tables, that decides on a packet, and the number of visits.
+/// The rule of a text, behind the two tables, that decides on a packet, and the number of visits.
 fn decided(alloc: Global, rules: &[u8], packet: &Packet) -> Result<(Option<RuleNo>, u64), Fail> {
     let rules = Rules::of(alloc, &configured(alloc, TABLES, rules)?)?;
     Ok(rules.ask(packet))
@@ -59,7 +59,7 @@ fn each_parameter_is_asked(rt: HostRuntime) -> Result<(), Fail> {
     Ok(())
 }
 
-// A rule, and whether it holds of a packet from 198.51.100.1 to 192.0.2.1, and of one from 2001:db8::1 to 2001:db8::53
+/// A rule, and whether it holds of a packet from 198.51.100.1 to 192.0.2.1, and of one from 2001:db8::1 to 2001:db8::53
 const FAMILIES: &[(&[u8], bool, bool)] = &[
     (b"pass", true, true),
     (b"pass inet", true, false),
@@ -139,7 +139,7 @@ pass proto tcp to any port 22 no state
 pass in proto udp no state
 ";
 
-// The packet, the rule that decides on it, the number of visits, and the most that it may be
+/// The packet, the rule that decides on it, the number of visits, and the most that it may be
 const QUICK: &[(Dir, bool, u16, u32, u64, u64)] = &[
     (Dir::In, false, 53, 2, 3, 7),
     (Dir::In, true, 22, 7, 7, 8),

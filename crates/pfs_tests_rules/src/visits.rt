@@ -8,7 +8,7 @@ use pfs_conf::{RuleNo, load};
 use std::alloc::{AllocError, Global};
 use std::test::Fail;
 
-// A rule for each port from 1 to 50, and one that takes UDP.
+/// A rule for each port from 1 to 50, and one that takes UDP.
 fn fifty_ports(alloc: Global) -> Result<Vec<u8>, AllocError> {
     let mut text = Vec::new(alloc);
     for port in 1..51u32 {
@@ -32,7 +32,7 @@ fn rules_of_another_interface_are_skipped(rt: HostRuntime) -> Result<(), Fail> {
     Ok(())
 }
 
-// Twenty times this item, and a rule that matches.
+/// Twenty times this item, and a rule that matches.
 fn twenty_times(alloc: Global, item: &[u8]) -> Result<Vec<u8>, AllocError> {
     let mut text = Vec::new(alloc);
     for _ in 0..20 {
@@ -42,7 +42,7 @@ fn twenty_times(alloc: Global, item: &[u8]) -> Result<Vec<u8>, AllocError> {
     Ok(text)
 }
 
-// The number of visits of a packet that comes in on em0 from 198.51.100.1 to a port.
+/// The number of visits of a packet that comes in on em0 from 198.51.100.1 to a port.
 fn visits(alloc: Global, item: &[u8], packet: &Packet) -> Result<u64, Fail> {
     let config = load(alloc, &twenty_times(alloc, item)?)?;
     let rules = Rules::of(alloc, &config)?;

@@ -1,4 +1,4 @@
-// What is told of a call, and which calls the words choose.
+//! What is told of a call, and which calls the words choose.
 
 use pfs_addr_values::NoMemory;
 use pfs_conf::LoadFault;

@@ -140,7 +140,7 @@ const PORTS: &[(u8, bool, bool)] = &[
     (255, false, false),
 ];
 
-// A number, whether its protocol has ports, and whether it is ICMP
+/// A number, whether its protocol has ports, and whether it is ICMP
 #[test]
 fn protocols_have_numbers(rt: HostRuntime) {
     holds!(rt; Proto::from_number(6) == Proto::Tcp);

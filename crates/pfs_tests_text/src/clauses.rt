@@ -5,7 +5,7 @@ use pfs_conf_tokens::{Cursor, Key, Refusal, Why};
 use pfs_conf_values::{Overload, Rate, Scope, TableName, TableNo, TimeoutName};
 use std::test::Fail;
 
-// The options of a clause that is read up to the end of its line.
+/// The options of a clause that is read up to the end of its line.
 fn read(text: &[u8]) -> Option<Options> {
     if text.len() > 1000 {
         return None;
@@ -17,7 +17,7 @@ fn read(text: &[u8]) -> Option<Options> {
     }
 }
 
-// Why a clause is refused, and at which token.
+/// Why a clause is refused, and at which token.
 fn refusal(text: &[u8]) -> Option<(Refusal, Key)> {
     if text.len() > 1000 {
         return None;

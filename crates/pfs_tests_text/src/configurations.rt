@@ -21,7 +21,7 @@ fn nested(rt: &impl AllocGlobal) -> Result<Config, Fail> {
     Ok(load(rt.alloc(), NESTED)?)
 }
 
-// How many items, tables and entries there are.
+/// How many items, tables and entries there are.
 fn counts(config: &Config) -> (u32, u32, u64) {
     (
         config.item_count(),
@@ -99,7 +99,7 @@ fn tables_are_found_by_their_names(rt: HostRuntime) -> Result<(), Fail> {
     Ok(())
 }
 
-// As long as its score may matter, or for `src.track`
+/// As long as its score may matter, or for `src.track`
 #[test]
 fn a_source_node_is_retained(rt: HostRuntime) -> Result<(), Fail> {
     let config = nested(&rt)?;
@@ -239,7 +239,7 @@ fn a_web_server_has_its_items_and_tables(rt: HostRuntime) -> Result<(), Fail> {
     Ok(())
 }
 
-// What is set, what has its default, and what is resolved of it
+/// What is set, what has its default, and what is resolved of it
 #[test]
 fn a_web_server_has_its_settings(rt: HostRuntime) -> Result<(), Fail> {
     let config = load(rt.alloc(), WEB_SERVER)?;

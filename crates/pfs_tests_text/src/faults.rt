@@ -5,7 +5,7 @@ use std::alloc::{AllocError, Global};
 use std::process::Abort;
 use std::test::Fail;
 
-// A text is refused at this line, with this kind.
+/// A text is refused at this line, with this kind.
 fn refused(rt: &(impl Abort + AllocGlobal), text: &[u8], line: u64, kind: Kind) {
     match load(rt.alloc(), text) {
         Ok(_) => assert!(rt; false, "accepted, and not refused as {kind}"),
@@ -68,7 +68,7 @@ fn repeated(alloc: Global, line: &[u8], times: u32, last: &[u8]) -> Result<Vec<u
     Ok(text)
 }
 
-// The limits on depth, on rules and anchors, and on bytes; the 10,001st item is asked the other rules first.
+/// The limits on depth, on rules and anchors, and on bytes; the 10,001st item is asked the other rules first.
 #[test]
 fn too_many(rt: HostRuntime) -> Result<(), Fail> {
     let alloc = rt.alloc();
@@ -135,7 +135,7 @@ const SPELLINGS: &[&[u8]] = &[
     b"anchor \"quick\" {\n}\nanchor 10.1 on em0 inet proto esp from any to !10.0.0.0/8 {\nblock\n}",
 ];
 
-// The least usual spelling of each production.
+/// The least usual spelling of each production.
 #[test]
 fn unusual_spellings(rt: HostRuntime) {
     for &text in SPELLINGS {
@@ -182,7 +182,7 @@ const DEFINITIONS: &[(&[u8], u64, Kind)] = &[
     (b"table \"a\"", 1, Kind::Syntax),
 ];
 
-// Statements that set options and define tables.
+/// Statements that set options and define tables.
 #[test]
 fn refused_definitions(rt: HostRuntime) {
     for &(text, line, kind) in DEFINITIONS {
@@ -277,7 +277,7 @@ fn refused_anchors(rt: HostRuntime) {
     }
 }
 
-// Bytes without any order are answered too: a linear congruence gives them.
+/// Bytes without any order are answered too: a linear congruence gives them.
 #[test]
 fn any_bytes(rt: HostRuntime) -> Result<(), Fail> {
     let mut seed = 1u64;

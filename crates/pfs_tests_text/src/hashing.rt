@@ -9,24 +9,24 @@ use std::hash::BuildHasher;
 use std::test::Fail;
 
 const RULES: &[u8] = b"table <bad> { 203.0.113.9 }\npass in proto udp keep state\n";
-// Of one entry another address alone
+/// Of one entry another address alone
 const OTHER: &[u8] = b"table <bad> { 203.0.113.8 }\npass in proto udp keep state\n";
 
-// How many places an index has.
+/// How many places an index has.
 const PLACES: u64 = 65_536;
 
-// An address of 2001:db8::/64 by its number.
+/// An address of 2001:db8::/64 by its number.
 fn address(number: u32) -> Addr {
     Addr::V6((0x2001_0db8_0000_0000_0000_0000_0000_0000 | u128::from(number)).to_be_bytes())
 }
 
-// The place of an address: the last 16 bits of its hash, as an index takes them of both halves.
+/// The place of an address: the last 16 bits of its hash, as an index takes them of both halves.
 fn place(rules: &RulesHasher, addr: Addr) -> u64 {
     let hash = rules.hash_one(addr);
     (hash ^ (hash >> 32)) % PLACES
 }
 
-// The most of the addresses of `TOGETHER` that have one place under these rules.
+/// The most of the addresses of `TOGETHER` that have one place under these rules.
 fn most_in_a_place(alloc: Global, rules: &RulesHasher) -> Result<usize, Fail> {
     let mut places = Vec::with_capacity(alloc, TOGETHER.len())?;
     for number in TOGETHER {

@@ -36,7 +36,7 @@ const ANY: Side<TableName> = Side {
     ports: None,
 };
 
-// What is read of a rule's parameters, and the key of the token behind them.
+/// What is read of a rule's parameters, and the key of the token behind them.
 fn read(text: &[u8]) -> (Result<Parameters, Refusal>, Key)
     requires { length text.now < 2 ^ 63 }
 {
@@ -45,7 +45,7 @@ fn read(text: &[u8]) -> (Result<Parameters, Refusal>, Key)
     (read, cursor.key())
 }
 
-// Reading stops at this token, where something else was wanted.
+/// Reading stops at this token, where something else was wanted.
 fn stops(rt: &impl Abort, text: &[u8], why: Why, at: &[u8]) {
     assert!(rt; text.len() < 1000);
     let mut cursor = Cursor::new(text);
@@ -270,7 +270,7 @@ fn verbs(rt: HostRuntime) {
     same!(rt; cursor.key(), Key::Drop);
 }
 
-// Whether a port lacks its protocol in this text, if it is read.
+/// Whether a port lacks its protocol in this text, if it is read.
 fn lacks_proto(text: &[u8]) -> Option<bool>
     requires { length text.now < 2 ^ 63 }
 {

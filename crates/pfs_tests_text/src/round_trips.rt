@@ -31,7 +31,7 @@ const TIMEOUTS: [TimeoutName; 16] = [
     TimeoutName::AdaptiveEnd,
 ];
 
-// Each part of a rules text, in usual and in unusual spellings.
+/// Each part of a rules text, in usual and in unusual spellings.
 const TEXTS: [&[u8]; 38] = [
     b"",
     b"# a comment alone \\\n",
@@ -73,7 +73,7 @@ const TEXTS: [&[u8]; 38] = [
     b"set limit states 50\ntable <bad> { 10.0.0.0/8, !10.9.9.9 }\nblock in quick on !em1 from <bad>\nanchor web in on em0 proto tcp {\npass proto tcp to port www keep state (max 9, max-src-conn-rate 3/10, overload <worse> flush global)\n}",
 ];
 
-// Limits and timeouts of two configurations are the same.
+/// Limits and timeouts of two configurations are the same.
 fn same_settings(rt: &impl Abort, one: &Config, other: &Config) {
     for name in LIMITS {
         same!(*rt; one.limit(name), other.limit(name));
@@ -83,7 +83,7 @@ fn same_settings(rt: &impl Abort, one: &Config, other: &Config) {
     }
 }
 
-// The table of a number is the same in two configurations: its name, whether it is const, and its entries in order.
+/// The table of a number is the same in two configurations: its name, whether it is const, and its entries in order.
 fn same_table(rt: &impl Abort, one: &Config, other: &Config, number: u32) {
     let (Some(a), Some(b)) = (one.table(TableNo(number)), other.table(TableNo(number))) else {
         assert!(rt; false, "no table {number}");
@@ -97,7 +97,7 @@ fn same_table(rt: &impl Abort, one: &Config, other: &Config, number: u32) {
     }
 }
 
-// All that is read of two configurations is the same.
+/// All that is read of two configurations is the same.
 fn same(rt: &impl Abort, one: &Config, other: &Config) {
     same_settings(rt, one, other);
     same!(*rt; one.entry_count(), other.entry_count());

@@ -55,7 +55,7 @@ fn parts_refused(rt: &impl Abort, alloc: Global, text: &str, why: Why, line: u64
     }
 }
 
-// What is read, by whether the table persists, is constant and has counters, and how many entries are given
+/// What is read, by whether the table persists, is constant and has counters, and how many entries are given
 const READ: &[(&str, bool, bool, bool, Option<usize>)] = &[
     (
         "persist { 10.1.2.3/8,\n! 10.9.9.9 10.255.0.0/8 } const\n",

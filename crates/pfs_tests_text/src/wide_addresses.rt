@@ -4,7 +4,7 @@ use pfs_addr::{parse_addr, parse_prefix, push_addr};
 use pfs_addr_values::{Addr, Prefix};
 use std::test::Fail;
 
-// Eight groups as an address
+/// Eight groups as an address
 const fn groups(g: [u16; 8]) -> Addr {
     let [a, b, c, d, e, f, g, h] = g;
     let [a, b, c, d] = [
@@ -25,7 +25,7 @@ const fn groups(g: [u16; 8]) -> Addr {
     ])
 }
 
-// A text, the address that it writes, and the text in which that is shown
+/// A text, the address that it writes, and the text in which that is shown
 const TEXTS: &[(&[u8], [u16; 8], &[u8])] = &[
     (
         b"2001:DB8:0:0:1:0:0:1",
@@ -201,7 +201,7 @@ fn prefixes_are_read(rt: HostRuntime) {
     }
 }
 
-// A prefix, an address, and whether the one covers the other
+/// A prefix, an address, and whether the one covers the other
 const COVERS: &[(&[u8], &[u8], bool)] = &[
     (b"1:2:3:4:5:6:7:8/64", b"1:2:3:4:ffff::", true),
     (b"1:2:3:4:5:6:7:8/64", b"1:2:3:5:5:6:7:8", false),

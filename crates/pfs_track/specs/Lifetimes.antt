@@ -8,8 +8,8 @@ use Rattle.pfs_track.specs.declared.state_phases.StatePhase.{StatePhase}
 
 -- a lifetime that a pair (start, end) scales under a count of states: unchanged by (0, 0) and up to start, nothing from
 -- end on, and between them the share of it that the count leaves (pf.conf(5), OPTIONS, "adaptive.start")
-abbrev pub scaled : ℕ → ℕ → ℕ → ℕ → ℕ
-scaled lifetime start end count =
+abbrev pub lifetime_under : ℕ → ℕ → ℕ → ℕ → ℕ
+lifetime_under lifetime start end count =
     if (start == 0 && end == 0) || nat_le count start then lifetime
     else (if nat_le end count then 0
     else lifetime * (end - count) / (end - start))
@@ -22,7 +22,7 @@ value_for conf rule name = unwrap_or (rule_timeout_of conf rule name) (timeout_o
 -- with an adaptive pair of its own counts its own states, any other is scaled by the global pair under all
 abbrev pub scaled_lifetime : Conf → ℕ → StatePhase → ℕ → ℕ → ℕ
 scaled_lifetime conf rule phase rule_states all_states =
-    scaled (value_for conf rule (slot phase)) (value_for conf rule AdaptiveStart) (value_for conf rule AdaptiveEnd)
+    lifetime_under (value_for conf rule (slot phase)) (value_for conf rule AdaptiveStart) (value_for conf rule AdaptiveEnd)
     (if is_some (rule_timeout_of conf rule AdaptiveStart) then rule_states else all_states)
 
 -- what came last at a moment, and may stay so long, is expired at a second

@@ -5,18 +5,18 @@ use Rattle.pfs_addr_values.specs.declared.flag_sets.Flags.{Flags}
 use Rattle.pfs_track.specs.declared.tcp_ranks.Ends.{Ends}
 use Rattle.pfs_track.specs.declared.tcp_ranks.TcpRank.{TcpRank}
 use Rattle.pfs_track.specs.declared.tcp_ranks.TcpRank.TheVariants.{SynSent, Closing, TimeWait}
-use Rattle.pfs_track.specs.TcpRanks.{rank_number, raised, IsEstablished, acknowledged, acted, ends, peers_after}
+use Rattle.pfs_track.specs.TcpRanks.{rank_number, raised_rank, IsEstablished, ends_after_ack, ends_after_packet, ends, peers_after}
 
 -- once it has completed, now or before, both are there
 abbrev IsShown : Bool → Ends → Type 0
 IsShown complete e = (complete || e.completes) ≡ true → IsEstablished e.sender × IsEstablished e.receiver
 
-raised-keeps : (on : Bool) (rank least : TcpRank) → rank_number rank ≤ rank_number (if on then raised rank least else rank)
+raised-keeps : (on : Bool) (rank least : TcpRank) → rank_number rank ≤ rank_number (if on then raised_rank rank least else rank)
 raised-keeps true rank least = grind arith
 raised-keeps false rank least = omega arith
 
 ack-shows : (complete ack forward : Bool) (s r : TcpRank) → (complete ≡ true → IsEstablished s × IsEstablished r)
-    → IsShown complete (if ack then acknowledged forward s r else ends s r false)
+    → IsShown complete (if ack then ends_after_ack forward s r else ends s r false)
 ack-shows true true forward s r were = let b = were refl in let c = b.0 in let d = b.1 in λ h. (grind (arith, c, d), grind (arith, c, d))
 ack-shows true false forward s r were = λ h. were refl
 ack-shows false true forward s r were = λ h. (grind (arith, h), grind (arith, h))
@@ -26,12 +26,12 @@ rst-shows : (complete rst : Bool) (e : Ends) → IsShown complete e → IsShown 
 rst-shows complete true e shown = λ h. (lit≤ tt, lit≤ tt)
 rst-shows complete false e shown = shown
 
-acted-shows : (complete forward : Bool) (flags : Flags) (s r : TcpRank) → (complete ≡ true → IsEstablished s × IsEstablished r) → IsShown complete (acted forward flags s r)
+acted-shows : (complete forward : Bool) (flags : Flags) (s r : TcpRank) → (complete ≡ true → IsEstablished s × IsEstablished r) → IsShown complete (ends_after_packet forward flags s r)
 acted-shows complete forward flags s r were =
-    let syn = if flags.syn then raised s SynSent else s in
-    let fin = if flags.fin then raised syn Closing else syn in
+    let syn = if flags.syn then raised_rank s SynSent else s in
+    let fin = if flags.fin then raised_rank syn Closing else syn in
     let risen : complete ≡ true → IsEstablished fin × IsEstablished r = λ h. (omega (arith, raised-keeps flags.syn s SynSent, raised-keeps flags.fin syn Closing, (were h).0), (were h).1) in
-    rst-shows complete flags.rst (if flags.ack then acknowledged forward fin r else ends fin r false) (ack-shows complete flags.ack forward fin r risen)
+    rst-shows complete flags.rst (if flags.ack then ends_after_ack forward fin r else ends fin r false) (ack-shows complete flags.ack forward fin r risen)
 
 pub peers_established : (complete forward : Bool) (flags : Flags) (maker other : TcpRank)
     → (complete ≡ true → IsEstablished maker × IsEstablished other)

@@ -7,18 +7,18 @@ use Rattle.pfs_track.specs.declared.tcp_ranks.Ends.{Ends}
 use Rattle.pfs_track.specs.declared.tcp_ranks.Peers.{Peers}
 use Rattle.pfs_track.specs.declared.tcp_ranks.TcpRank.{TcpRank}
 use Rattle.pfs_track.specs.declared.tcp_ranks.TcpRank.TheVariants.{Closed, SynSent, Closing, TimeWait}
-use Rattle.pfs_track.specs.TcpRanks.{rank_number, raised, IsEstablished, ends, acknowledged, acted, peers_after}
+use Rattle.pfs_track.specs.TcpRanks.{rank_number, raised_rank, IsEstablished, ends, ends_after_ack, ends_after_packet, peers_after}
 
 -- ---- the acts of a packet, one by one
 
 abbrev after_syn : Bool → TcpRank → TcpRank
-after_syn syn sender = if syn then raised sender SynSent else sender
+after_syn syn sender = if syn then raised_rank sender SynSent else sender
 
 abbrev after_fin : Bool → TcpRank → TcpRank
-after_fin fin sender = if fin then raised sender Closing else sender
+after_fin fin sender = if fin then raised_rank sender Closing else sender
 
 abbrev after_ack : Bool → Bool → TcpRank → TcpRank → Ends
-after_ack ack forward s r = if ack then acknowledged forward s r else ends s r false
+after_ack ack forward s r = if ack then ends_after_ack forward s r else ends s r false
 
 abbrev after_rst : Bool → Ends → Ends
 after_rst rst e = if rst then ends TimeWait TimeWait e.completes else e
@@ -31,7 +31,7 @@ pub record IsRise (sender receiver : TcpRank) (after : Ends) : Type 0 where
   pub to : rank_number receiver ≤ rank_number after.receiver
 
 -- raising lowers no rank
-raised-rises : (rank least : TcpRank) → rank_number rank ≤ rank_number (raised rank least)
+raised-rises : (rank least : TcpRank) → rank_number rank ≤ rank_number (raised_rank rank least)
 raised-rises rank least = grind arith
 
 -- nor does any of the acts
@@ -43,7 +43,7 @@ after_fin-rises : (fin : Bool) (rank : TcpRank) → rank_number rank ≤ rank_nu
 after_fin-rises true rank = raised-rises rank Closing
 after_fin-rises false rank = omega arith
 
-acknowledged-rises : (forward : Bool) (s r : TcpRank) → IsRise s r (acknowledged forward s r)
+acknowledged-rises : (forward : Bool) (s r : TcpRank) → IsRise s r (ends_after_ack forward s r)
 acknowledged-rises true s r = record { from = grind arith; to = grind arith }
 acknowledged-rises false s r = record { from = grind arith; to = grind arith }
 
@@ -61,7 +61,7 @@ after_rst-rises true s r e rise = record { from = rank-last s; to = rank-last r 
 after_rst-rises false s r e rise = rise
 
 -- no packet lowers a rank
-pub acted-rises : (forward : Bool) (flags : Flags) (s r : TcpRank) → IsRise s r (acted forward flags s r)
+pub acted-rises : (forward : Bool) (flags : Flags) (s r : TcpRank) → IsRise s r (ends_after_packet forward flags s r)
 acted-rises forward flags s r =
     let syn = after_syn flags.syn s in
     let fin = after_fin flags.fin syn in
@@ -77,8 +77,8 @@ pub record IsCompletion (sender receiver : TcpRank) (after : Ends) : Type 0 wher
   pub to : IsEstablished after.receiver
   pub first : IsEstablished sender → IsEstablished receiver → ⊥
 
-acknowledged-completes : (forward : Bool) (s r : TcpRank) → (acknowledged forward s r).completes ≡ true
-    → IsCompletion s r (acknowledged forward s r)
+acknowledged-completes : (forward : Bool) (s r : TcpRank) → (ends_after_ack forward s r).completes ≡ true
+    → IsCompletion s r (ends_after_ack forward s r)
 acknowledged-completes true s r done = record { from = grind arith; to = grind arith; first = λ a b. grind arith }
 acknowledged-completes false s r done = record { from = grind arith; to = grind arith; first = λ a b. grind arith }
 
@@ -94,8 +94,8 @@ after_rst-completes true s r e completion done =
 after_rst-completes false s r e completion done = completion done
 
 -- where the handshake completes, both ranks are at least at ESTABLISHED, and before the packet one was below
-pub acted-completes : (forward : Bool) (flags : Flags) (s r : TcpRank) → (acted forward flags s r).completes ≡ true
-    → IsCompletion s r (acted forward flags s r)
+pub acted-completes : (forward : Bool) (flags : Flags) (s r : TcpRank) → (ends_after_packet forward flags s r).completes ≡ true
+    → IsCompletion s r (ends_after_packet forward flags s r)
 acted-completes forward flags s r done =
     let syn = after_syn flags.syn s in
     let fin = after_fin flags.fin syn in

@@ -30,8 +30,8 @@ abbrev pub is_below : TcpRank → TcpRank → Bool
 is_below rank limit = nat_lt (rank_number rank) (rank_number limit)
 
 -- a rank that is below another becomes that one
-abbrev pub raised : TcpRank → TcpRank → TcpRank
-raised rank least = if is_below rank least then least else rank
+abbrev pub raised_rank : TcpRank → TcpRank → TcpRank
+raised_rank rank least = if is_below rank least then least else rank
 
 -- a rank is at least ESTABLISHED
 abbrev pub IsEstablished : TcpRank → Type 0
@@ -47,8 +47,8 @@ ends sender receiver completes = record { sender = sender; receiver = receiver; 
 --   where the sender is at SYN_SENT and the receiver below it, so that one half is seen alone, both become ESTABLISHED,
 --     and the handshake completes;
 --   where the sender is at CLOSING, the receiver at ESTABLISHED and the packet goes forward, the receiver becomes CLOSING
-abbrev pub acknowledged : Bool → TcpRank → TcpRank → Ends
-acknowledged forward s r =
+abbrev pub ends_after_ack : Bool → TcpRank → TcpRank → Ends
+ends_after_ack forward s r =
     if is_rank r SynSent then ends s Established (is_rank s Established)
     else (if is_rank r Closing then ends s FinWait2 false
     else (if is_rank s SynSent && is_below r SynSent then ends Established Established true
@@ -57,19 +57,19 @@ acknowledged forward s r =
 
 -- what a packet makes of the ranks of its sender and its receiver (own): SYN raises the sender to SYN_SENT, then FIN raises
 -- it to CLOSING; then ACK acts; RST makes both TIME_WAIT, and a handshake that the same packet's ACK completes stays complete
-abbrev pub acted : Bool → Flags → TcpRank → TcpRank → Ends
-acted forward flags s r =
-    let syn = if flags.syn then raised s SynSent else s in
-    let fin = if flags.fin then raised syn Closing else syn in
-    let e = if flags.ack then acknowledged forward fin r else ends fin r false in
+abbrev pub ends_after_packet : Bool → Flags → TcpRank → TcpRank → Ends
+ends_after_packet forward flags s r =
+    let syn = if flags.syn then raised_rank s SynSent else s in
+    let fin = if flags.fin then raised_rank syn Closing else syn in
+    let e = if flags.ack then ends_after_ack forward fin r else ends fin r false in
     if flags.rst then ends TimeWait TimeWait e.completes else e
 
 -- what it makes of the ranks of the maker and the other peer: the maker is the sender of a packet that goes forward
 abbrev pub peers_after : Bool → Flags → TcpRank → TcpRank → Peers
 peers_after true flags maker other =
-    let e = acted true flags maker other in record { maker = e.sender; other = e.receiver; completes = e.completes }
+    let e = ends_after_packet true flags maker other in record { maker = e.sender; other = e.receiver; completes = e.completes }
 peers_after false flags maker other =
-    let e = acted false flags other maker in record { maker = e.receiver; other = e.sender; completes = e.completes }
+    let e = ends_after_packet false flags other maker in record { maker = e.receiver; other = e.sender; completes = e.completes }
 
 -- both peers are at least at a rank, or one of them is
 abbrev pub both_reach : TcpRank → TcpRank → TcpRank → Bool

@@ -1,4 +1,4 @@
-// The phase of traffic without a handshake: UDP, and protocols other than TCP and UDP.
+//! The phase of traffic without a handshake: UDP, and protocols other than TCP and UDP.
 
 ghost use Rattle.std.specs.Prelude.{◌≡◌};
 ghost use Rattle.pfs_track.specs.Datagrams.{once_sent, once_answered, stage_of, first_datagram, udp_step};

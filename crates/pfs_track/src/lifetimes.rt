@@ -1,7 +1,7 @@
-// How long a state may stay without a packet.
+//! How long a state may stay without a packet.
 
 ghost use Rattle.std.specs.Prelude.{◌≡◌};
-ghost use Rattle.pfs_track.specs.Lifetimes.{scaled, scaled_lifetime, is_expired, value_for};
+ghost use Rattle.pfs_track.specs.Lifetimes.{lifetime_under, scaled_lifetime, is_expired, value_for};
 
 use crate::state_phases::StatePhase;
 use pfs_conf_values::{Config, RuleNo, TimeoutName};
@@ -53,7 +53,7 @@ pub fn is_expired(lifetime: u64, last: u64, second: u64) -> bool
 /// A lifetime under a count of states: a pair (`start`, `end`) other than (0, 0) shortens it from `start` states on, in
 /// proportion, to 0 at `end` states.
 fn scale(lifetime: u64, start: u64, end: u64, count: u64) -> u64
-    ensures { result ≡ scaled lifetime start end count }
+    ensures { result ≡ lifetime_under lifetime start end count }
 {
     if (start == 0 && end == 0) || count <= start {
         lifetime

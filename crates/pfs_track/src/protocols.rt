@@ -1,4 +1,4 @@
-// What the three kinds of protocols have in common: phases, and the packets that lead from one to the next.
+//! What the three kinds of protocols have in common: phases, and the packets that lead from one to the next.
 
 ghost use Rattle.std.specs.Prelude.{◌≡◌, ℕ, Bool, false};
 ghost use Rattle.pfs_addr_values.specs.declared.flag_sets.Flags.{Flags};

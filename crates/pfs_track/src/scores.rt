@@ -1,7 +1,7 @@
-// The score of a source node, by which the rate of its handshakes is limited.
+//! The score of a source node, by which the rate of its handshakes is limited.
 
 ghost use Rattle.std.specs.Prelude.{◌≡◌, ◌*◌, ◌≤◌, nat_lt};
-ghost use Rattle.pfs_track.specs.Scores.{decayed, score_after};
+ghost use Rattle.pfs_track.specs.Scores.{decayed_score, score_after};
 
 /// The score of a source node: 1000 for each handshake, which decays as time goes by, and the moment of the last one.
 /// (pf.conf(5), STATEFUL TRACKING OPTIONS, "max-src-conn-rate"; how it decays is own to this profile)
@@ -46,7 +46,7 @@ impl Score {
 /// What is left of a score after `passed` seconds.
 fn decay(value: u64, passed: u64, seconds: u64) -> u64
     requires { value ≤ 4294968000 }
-    ensures left { result ≡ decayed seconds value passed }
+    ensures left { result ≡ decayed_score seconds value passed }
     ensures less { result ≤ value }
 {
     if seconds <= passed {

@@ -1,4 +1,4 @@
-// The phase of a state, whatever its protocol.
+//! The phase of a state, whatever its protocol.
 
 ghost use Rattle.std.specs.Prelude.{◌≡◌};
 ghost use Rattle.pfs_track.specs.StatePhases.{first_phase, phase_after, completes, slot, is_done};

@@ -1,4 +1,4 @@
-// The phase of a TCP connection.
+//! The phase of a TCP connection.
 
 ghost use Rattle.std.specs.Prelude.{◌≡◌, true};
 ghost use Rattle.pfs_track.specs.TcpRanks.{IsEstablished};

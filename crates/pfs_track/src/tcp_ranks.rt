@@ -1,7 +1,7 @@
-// The ranks of the two peers of a TCP connection, and what the flags of one packet make of them.
+//! The ranks of the two peers of a TCP connection, and what the flags of one packet make of them.
 
 ghost use Rattle.std.specs.Prelude.{◌≡◌};
-ghost use Rattle.pfs_track.specs.TcpRanks.{is_below, raised, acknowledged, acted, peers_after, tcp_timeout};
+ghost use Rattle.pfs_track.specs.TcpRanks.{is_below, raised_rank, ends_after_ack, ends_after_packet, peers_after, tcp_timeout};
 
 use pfs_addr_values::Flags;
 use pfs_conf_values::TimeoutName;
@@ -81,7 +81,7 @@ pub(crate) fn meet(forward: bool, flags: Flags, maker: TcpRank, other: TcpRank) 
 /// What a packet makes of the ranks of its sender and its receiver: SYN acts first, then FIN, ACK and RST. `forward`
 /// tells a packet in the direction of the one that made the state. (own to this profile)
 fn act(forward: bool, flags: Flags, sender: TcpRank, receiver: TcpRank) -> Ends
-    ensures { result ≡ acted forward flags sender receiver }
+    ensures { result ≡ ends_after_packet forward flags sender receiver }
 {
     let sender = if flags.syn {
         sender.raised(TcpRank::SynSent)
@@ -115,7 +115,7 @@ fn act(forward: bool, flags: Flags, sender: TcpRank, receiver: TcpRank) -> Ends
 
 /// What an ACK does: the first line that applies.
 fn acknowledge(forward: bool, sender: TcpRank, receiver: TcpRank) -> Ends
-    ensures { result ≡ acknowledged forward sender receiver }
+    ensures { result ≡ ends_after_ack forward sender receiver }
 {
     if receiver == TcpRank::SynSent {
         Ends {
@@ -182,7 +182,7 @@ impl TcpRank {
 
     /// The greater of the rank and another.
     fn raised(self, least: TcpRank) -> TcpRank
-        ensures { result ≡ raised self least }
+        ensures { result ≡ raised_rank self least }
     {
         if self.is_below(least) { least } else { self }
     }

@@ -1,5 +1,6 @@
-// The program: it opens the files that its words name, does the job, tells a fault on standard error, and ends with the
-// fault's status.
+//! The program: it opens the files that its words name, does the job, tells a fault on standard error, and ends with the
+//! fault's status.
+
 #![tactic(auto)]
 
 use clap::Error;

@@ -1,5 +1,6 @@
-// The program: it opens the capture that its words name, writes the trace of it, tells the account of its frames on standard error,
-// and ends with the status of what stopped it.
+//! The program: it opens the capture that its words name, writes the trace of it, tells the account of its frames on standard error,
+//! and ends with the status of what stopped it.
+
 #![tactic(auto)]
 
 ghost use Rattle.std.specs.Prelude.{◌≡◌, true};

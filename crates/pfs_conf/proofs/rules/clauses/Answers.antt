@@ -2,7 +2,7 @@
 use Rattle.std.proofs.Common.{sym, ◌∙◌}
 use Rattle.std.proofs.lemmas.Result.{err_from_is_err_and}
 use Rattle.pfs_conf_tokens.specs.Keys.{ends_line}
-use Rattle.pfs_conf_tokens.specs.Giving.{refused}
+use Rattle.pfs_conf_tokens.specs.Giving.{refusal_at}
 use Rattle.pfs_conf_tokens.proofs.Laws.{until_goes_on, until_stops, until_fails}
 use Rattle.pfs_conf.specs.Reading.{clause_at}
 use Rattle.pfs_conf.proofs.OnlineLaws.{clause_shrinks}
@@ -17,7 +17,7 @@ loop-verb-smaller c = (clause_shrinks c.args.verb c.args.parameters.now c.loop-v
 pub returns-in_err-clauses : goal.returns-in_err-clauses
 returns-in_err-clauses c =
     let p = err_from_is_err_and c.from_residual.result c.from_residual.ensures.1 in
-    rw (p.1, p.2) (sym c.loop-verb.invariant ∙ until_fails ends_line (clause_at c.args.verb c.args.parameters.now) c.loop-verb.clauses c.loop-verb.cursor (refused c.in_err-clauses.field-0.0 c.clause.new.cursor) (sym c.is_at_line_end.ensures ∙ c.loop-verb-test.true) c.in_err-clauses.ensures)
+    rw (p.1, p.2) (sym c.loop-verb.invariant ∙ until_fails ends_line (clause_at c.args.verb c.args.parameters.now) c.loop-verb.clauses c.loop-verb.cursor (refusal_at c.in_err-clauses.field-0.0 c.clause.new.cursor) (sym c.is_at_line_end.ensures ∙ c.loop-verb-test.true) c.in_err-clauses.ensures)
 
 pub returns : goal.returns
 returns c = sym c.loop-verb.invariant ∙ rw c.advance.ensures (until_stops ends_line (clause_at c.args.verb c.args.parameters.now) c.loop-verb.clauses c.loop-verb.cursor (sym c.is_at_line_end.ensures ∙ c.loop-verb-test.false))

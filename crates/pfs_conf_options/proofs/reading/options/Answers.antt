@@ -2,7 +2,7 @@
 use Rattle.std.proofs.Common.{sym, ◌∙◌}
 use Rattle.std.proofs.lemmas.Result.{err_from_is_err_and}
 use Rattle.pfs_conf_tokens.specs.Reading.{closes_parens, next_of}
-use Rattle.pfs_conf_tokens.specs.Giving.{refused}
+use Rattle.pfs_conf_tokens.specs.Giving.{refusal_at}
 use Rattle.pfs_conf_tokens.proofs.Laws.{until_goes_on, until_stops, until_fails}
 use Rattle.pfs_conf_options.specs.Reading.{option_at}
 use Rattle.pfs_conf_options.proofs.OptionLaws.{next_option_shrinks}
@@ -17,7 +17,7 @@ loop-cursor-smaller c = (next_option_shrinks c.loop-cursor.options).less c.loop-
 pub returns-in_err-options : goal.returns-in_err-options
 returns-in_err-options c =
     let p = err_from_is_err_and c.from_residual-in_err-options.result c.from_residual-in_err-options.ensures.1 in
-    rw (p.1, p.2) (sym c.loop-cursor.invariant ∙ until_fails closes_parens (next_of option_at) c.loop-cursor.options c.loop-cursor.cursor (refused c.in_err-options.field-0.0 c.next_option.new.cursor) (sym c.is_at_close_paren.ensures ∙ c.loop-cursor-test.true) c.in_err-options.ensures)
+    rw (p.1, p.2) (sym c.loop-cursor.invariant ∙ until_fails closes_parens (next_of option_at) c.loop-cursor.options c.loop-cursor.cursor (refusal_at c.in_err-options.field-0.0 c.next_option.new.cursor) (sym c.is_at_close_paren.ensures ∙ c.loop-cursor-test.true) c.in_err-options.ensures)
 
 pub returns : goal.returns
 returns c = sym c.loop-cursor.invariant ∙ rw c.advance.ensures (until_stops closes_parens (next_of option_at) c.loop-cursor.options c.loop-cursor.cursor (sym c.is_at_close_paren.ensures ∙ c.loop-cursor-test.false))

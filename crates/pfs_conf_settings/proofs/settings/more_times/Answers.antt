@@ -1,7 +1,7 @@
 -- Answers of more_times: its loop reads up to the `}` as defined, at a step, a refusal and the end.
 use Rattle.std.proofs.Common.{sym, ◌∙◌}
 use Rattle.pfs_conf_tokens.specs.Reading.{closes_braces, next_of}
-use Rattle.pfs_conf_tokens.specs.Giving.{refused}
+use Rattle.pfs_conf_tokens.specs.Giving.{refusal_at}
 use Rattle.pfs_conf_tokens.proofs.Laws.{until_goes_on, until_stops, until_fails}
 use Rattle.pfs_conf_settings.specs.Settings.{lined_time_at}
 use Rattle.pfs_conf_settings.proofs.SettingLaws.{next_time_shrinks}
@@ -19,7 +19,7 @@ loop-cursor-smaller c = (next_time_shrinks c.loop-cursor.draft).less c.loop-curs
 pub returns-in-Err : goal.returns-in-Err
 returns-in-Err c =
     sym c.loop-cursor.invariant
-    ∙ until_fails closes_braces (next_of lined_time_at) c.loop-cursor.draft c.loop-cursor.cursor (refused c.in-Err.refusal c.next_time.new.cursor) (sym c.is_at_close_brace.ensures ∙ c.loop-cursor-test.true) c.in-Err.ensures
+    ∙ until_fails closes_braces (next_of lined_time_at) c.loop-cursor.draft c.loop-cursor.cursor (refusal_at c.in-Err.refusal c.next_time.new.cursor) (sym c.is_at_close_brace.ensures ∙ c.loop-cursor-test.true) c.in-Err.ensures
 
 pub returns : goal.returns
 returns c =

@@ -1,6 +1,6 @@
 -- Invariant of purge_each: the seconds to come leave what all leave, and what is known of them.
 use Rattle.std.proofs.Common.{◌≡◌, ◌≤◌, ◌-◌, max, true, false}
-use Rattle.pfs_engine_machine.specs.Machine.{purged}
+use Rattle.pfs_engine_machine.specs.Machine.{world_after_purges}
 use Rattle.pfs_engine_machine.specs.Shares.{seconds, most_nodes, most_states}
 use Rattle.pfs_engine.specs.Watches.{IsWatched}
 use Rattle.pfs_engine.proofs.purges.purge_each.Given as goal
@@ -12,7 +12,7 @@ invariant-loop-at g l =
     let conf = g.S.Store.config in
     record {
       order : l.at.second ≤ l.to;
-      all : purged (conf l.fn.store) (held l.store) (seconds l.at.second l.to) ≡ purged (conf l.fn.store) (held l.fn.store) (seconds l.from l.to);
+      all : world_after_purges (conf l.fn.store) (held l.store) (seconds l.at.second l.to) ≡ world_after_purges (conf l.fn.store) (held l.fn.store) (seconds l.from l.to);
       states : max l.at.work.most_states (most_states (conf l.fn.store) (held l.store) (seconds l.at.second l.to)) ≡ most_states (conf l.fn.store) (held l.fn.store) (seconds l.from l.to);
       nodes : max l.at.work.most_nodes (most_nodes (conf l.fn.store) (held l.store) (seconds l.at.second l.to)) ≡ most_nodes (conf l.fn.store) (held l.fn.store) (seconds l.from l.to);
       watched : IsWatched (conf l.fn.store) (held l.store) l.at;

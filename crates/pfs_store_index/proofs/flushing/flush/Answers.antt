@@ -2,7 +2,7 @@
 use Rattle.std.proofs.Common.{◌≡◌, ◌∙◌, sym, ap, refl, filter, take, map, arith}
 use Rattle.std.proofs.lemmas.List.{take_all}
 use Rattle.pfs_store_contract.specs.Counts.{is_of_source}
-use Rattle.pfs_store_contract.specs.Leaving.{idled, is_flushed}
+use Rattle.pfs_store_contract.specs.Leaving.{node_after_leaving, is_flushed}
 use Rattle.pfs_store_index.specs.Rounds.{state_survives, waiting_of}
 use Rattle.pfs_store_index.proofs.Idling.{idled-same, step-nodes}
 use Rattle.pfs_store_index.proofs.Leavings.{state_number}
@@ -44,8 +44,8 @@ loop-number-preserved g c =
     let leaves = is_flushed c.args.source c.args.rule in
     let q = waiting-in state_number test c.loop-number.cursor c.args.made n c.loop-number.indexes.states (sym c.in-Some.ensures) in
     let x = at_next c.loop-number.examined n ws (waiting_of c.args.source c.loop-number.cursor c.args.made c.loop-number.indexes.states) i.rest (sym c.in-Some.ensures) in
-    let m : c.strike.new.indexes.nodes ≡ map (idled conf c.loop-number.indexes.states c.strike.new.indexes.states c.args.now) c.loop-number.indexes.nodes =
-    c.strike.ensures.nodes ∙ (λ j. map (idled (i.config j) c.loop-number.indexes.states c.strike.new.indexes.states c.args.now) c.loop-number.indexes.nodes) in
+    let m : c.strike.new.indexes.nodes ≡ map (node_after_leaving conf c.loop-number.indexes.states c.strike.new.indexes.states c.args.now) c.loop-number.indexes.nodes =
+    c.strike.ensures.nodes ∙ (λ j. map (node_after_leaving (i.config j) c.loop-number.indexes.states c.strike.new.indexes.states c.args.now) c.loop-number.indexes.nodes) in
     record {
       config = c.strike.ensures.config ∙ i.config;
       order = q.most;

@@ -1,6 +1,6 @@
 -- Answers of walk_states: one stretch more, and at the end which states stay (`states`) and still wait.
 use Rattle.std.proofs.Common.{◌≡◌, ◌∙◌, ◌-◌, ℕ, List, ap, refl, subst, ◌≤◌, filter, length, take, map, arith, length-take, length-drop}
-use Rattle.pfs_store_contract.specs.Leaving.{idled}
+use Rattle.pfs_store_contract.specs.Leaving.{node_after_leaving}
 use Rattle.pfs_store_contract.specs.Purging.{state_numbers}
 use Rattle.pfs_store_index.specs.Rounds.{states_survive, waiting}
 use Rattle.pfs_store_index.specs.Stored.{due_at, is_due}
@@ -49,8 +49,8 @@ loop-left-preserved g c =
     let xs' = c.examine-stretch.new.indexes.states in
     let e : xs' ≡ filter (states_survive leaves (take more.examined zs)) c.loop-left.indexes.states =
     f.states ∙ (λ j. filter (states_survive (is_due (i.config j) c.args.counts.now (i.held j) c.args.now) (take more.examined zs)) c.loop-left.indexes.states) in
-    let m : c.examine-stretch.new.indexes.nodes ≡ map (idled conf c.loop-left.indexes.states xs' c.args.now) c.loop-left.indexes.nodes =
-    f.nodes ∙ (λ j. map (idled (i.config j) c.loop-left.indexes.states xs' c.args.now) c.loop-left.indexes.nodes) in
+    let m : c.examine-stretch.new.indexes.nodes ≡ map (node_after_leaving conf c.loop-left.indexes.states xs' c.args.now) c.loop-left.indexes.nodes =
+    f.nodes ∙ (λ j. map (node_after_leaving (i.config j) c.loop-left.indexes.states xs' c.args.now) c.loop-left.indexes.nodes) in
     record {
       config = f.config ∙ i.config;
       held = i.held;

@@ -1,6 +1,6 @@
 -- Invariant of walk_states: of the states that waited the first are examined, and the others wait.
 use Rattle.std.proofs.Common.{◌≡◌, ◌+◌, ◌≤◌, ◌<◌, length, filter, map, take, drop}
-use Rattle.pfs_store_contract.specs.Leaving.{idled}
+use Rattle.pfs_store_contract.specs.Leaving.{node_after_leaving}
 use Rattle.pfs_store_contract.specs.Purging.{state_numbers}
 use Rattle.pfs_store_index.specs.Rounds.{waiting}
 use Rattle.pfs_store_index.specs.Stored.{due_at, is_due}
@@ -21,7 +21,7 @@ invariant-loop-left g l = record {
   within : l.examined ≤ length (waiting l.round.cursor l.round.mark (state_numbers l.fn.indexes.states));
   states : l.indexes.states
       ≡ filter (stays_by state_number (is_due l.fn.indexes.config l.counts (length l.fn.indexes.states) l.now) (take l.examined (waiting l.round.cursor l.round.mark (state_numbers l.fn.indexes.states)))) l.fn.indexes.states;
-  nodes : l.indexes.nodes ≡ map (idled l.fn.indexes.config l.fn.indexes.states l.indexes.states l.now) l.fn.indexes.nodes;
+  nodes : l.indexes.nodes ≡ map (node_after_leaving l.fn.indexes.config l.fn.indexes.states l.indexes.states l.now) l.fn.indexes.nodes;
   rest : waiting l.cursor l.round.mark (state_numbers l.indexes.states) ≡ drop l.examined (waiting l.round.cursor l.round.mark (state_numbers l.fn.indexes.states));
   until : StatesHold (due_at l.fn.indexes.config l.counts (length l.fn.indexes.states)) (take l.examined (waiting l.round.cursor l.round.mark (state_numbers l.fn.indexes.states))) l.until l.indexes.states;
   looks : l.meter ≡ l.fn.meter + l.examined;

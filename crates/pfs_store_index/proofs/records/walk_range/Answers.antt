@@ -1,7 +1,7 @@
 -- Answers of walk_range: one more that stays, and each end: a leaver, the range's end, the share's (`walk`).
 use Rattle.std.proofs.Common.{◌∙◌, None, Some, arith, subst, sym}
 use Rattle.pfs_track.specs.Lifetimes.{is_expired}
-use Rattle.pfs_store_index.specs.Keeping.{held, record_in}
+use Rattle.pfs_store_index.specs.Keeping.{values_at, record_in}
 use Rattle.pfs_store_index.specs.Records.{states_of}
 use Rattle.pfs_store_index.specs.Walks.{end_of, state_has_expired}
 use Rattle.pfs_store_index.proofs.Walking.{Each, Stays, Until, each-empty, is-walk, next-leaves, next-there, none-leaves, one-stays, share-used, until-more, until-states, walking-init, walking-step}
@@ -56,7 +56,7 @@ pub returns-clause-walk : goal.returns-clause-walk
 returns-clause-walk g c =
     is-walk (state_has_expired (g.T.Lifetimes.lifetime c.args.lifetimes.now) c.args.now) c.args.slab.now c.args.places.now.entries c.loop-stayed.rest c.args.round.cursor c.loop-stayed.last c.args.round.mark c.args.share c.loop-stayed.stayed None
     c.requires.kept c.loop-stayed.invariant.walking c.loop-stayed.invariant.share
-    (share-used (state_has_expired (g.T.Lifetimes.lifetime c.args.lifetimes.now) c.args.now) (states_of (held (record_in c.args.slab.now) c.args.places.now.entries)) c.loop-stayed.last c.args.round.mark c.args.share c.loop-stayed.stayed (omega arith))
+    (share-used (state_has_expired (g.T.Lifetimes.lifetime c.args.lifetimes.now) c.args.now) (states_of (values_at (record_in c.args.slab.now) c.args.places.now.entries)) c.loop-stayed.last c.args.round.mark c.args.share c.loop-stayed.stayed (omega arith))
 
 pub returns-in_default-clause-until : goal.returns-in_default-clause-until
 returns-in_default-clause-until g c =

@@ -2,7 +2,7 @@
 use Rattle.std.proofs.Common.{◌∙◌, ap, sym, refl, arith, map, is_some, if◌then◌else◌, ◌++◌, ◌∷◌, []}
 use Rattle.std.proofs.Common.{Option}
 use Rattle.pfs_store_index.specs.declared.nodes.Tally.{Tally}
-use Rattle.pfs_store_index.specs.Ties.{IsFew, at_node, joined, joined_of, new_tally}
+use Rattle.pfs_store_index.specs.Ties.{IsFew, at_node, tallies_with_state, joined_of, new_tally}
 use Rattle.pfs_store_contract.specs.declared.records.NodeScope.{NodeScope}
 use Rattle.pfs_store_index.specs.Tallies.{is_tally}
 use Rattle.pfs_store_index.proofs.OneNode.{put-at, tallied-at}
@@ -25,4 +25,4 @@ returns-in-Some-get-clause-ok g c =
     c.write.ensures.nodes
     ∙ put-at c.in-Some.scope c.args.state.now.source (joined_of t) t joined_of c.args.nodes.now (rising-tallies c.args.nodes.now c.len-count.ensures.orderly.rising) c.len-count.ensures.orderly.distinct (sym c.in-Some-get.ensures) refl refl
     ∙ ap (λ (o : Option Tally). if is_some o then map (at_node (Some c.in-Some.scope) c.args.state.now.source joined_of) c.args.nodes.now else c.args.nodes.now ++ new_tally c.in-Some.scope c.args.state.now ∷ []) c.in-Some-get.ensures
-    ∙ ap (λ (o : Option NodeScope). joined o c.args.state.now c.args.nodes.now) (sym c.in-Some.is)
+    ∙ ap (λ (o : Option NodeScope). tallies_with_state o c.args.state.now c.args.nodes.now) (sym c.in-Some.is)

@@ -3,7 +3,7 @@ use Rattle.std.proofs.Common.{◌<◌, ◌≤◌, length, filter, arith, subst, 
 use Rattle.std.proofs.lemmas.List.{get_or_default}
 use Rattle.std.proofs.lemmas.List.Edits.{map_over_more}
 use Rattle.std.proofs.lemmas.List.Elements.{All-set}
-use Rattle.pfs_store_contract.specs.Leaving.{idled}
+use Rattle.pfs_store_contract.specs.Leaving.{node_after_leaving}
 use Rattle.pfs_store_contract.specs.declared.records.Node.{Node}
 use Rattle.pfs_track.specs.declared.scores.Score.{Score}
 use Rattle.pfs_store_plain.proofs.leaving.settle.Goals as goal
@@ -16,7 +16,7 @@ loop-node-preserved g c =
     record {
       nodes =
           rw c.idled.ensures.node
-          (map_over_more (idled c.args.config.now before (filter (g.T.Test.passes c.args.test.now) before) c.args.now) c.args.nodes.now c.loop-node.nodes i _ (omega arith) c.loop-node.invariant.nodes (get_or_default c.loop-node.nodes i _ _ within));
+          (map_over_more (node_after_leaving c.args.config.now before (filter (g.T.Test.passes c.args.test.now) before) c.args.now) c.args.nodes.now c.loop-node.nodes i _ (omega arith) c.loop-node.invariant.nodes (get_or_default c.loop-node.nodes i _ _ within));
       scores =
           All-set (λ (n : Node). n.score.value ≤ 4294968000) c.loop-node.nodes i c.idled.result
           (subst (λ (s : Score). s.value ≤ 4294968000) (sym c.idled.ensures.score) (c.loop-node.invariant.scores i _ within)) c.loop-node.invariant.scores;

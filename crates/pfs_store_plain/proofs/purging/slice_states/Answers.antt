@@ -1,7 +1,7 @@
 -- Answers of slice_states: the slice leaves the lists as defined (`world`), and what it tells (`answer`).
 use Rattle.std.proofs.Common.{◌≡◌, ◌∙◌, ℕ, List, [], length, filter, map, take, ap, rules}
 use Rattle.pfs_store_contract.proofs.SliceLaws.{state_slice-parts, state_slice-told, stays_by}
-use Rattle.pfs_store_contract.specs.Leaving.{idled}
+use Rattle.pfs_store_contract.specs.Leaving.{node_after_leaving}
 use Rattle.pfs_store_contract.specs.Worlds.{lists}
 use Rattle.pfs_store_contract.specs.declared.records.Node.{Node}
 use Rattle.pfs_store_contract.specs.declared.records.State.{State}
@@ -14,7 +14,7 @@ returns-clause-world c = λ node_numbers made.
     let e = c.share_of-examined.result in
     let left : ℕ → List ℕ → List State =
     λ held round. filter (stays_by conf c.count_rules.new.counts held c.args.now (take e round)) before in
-    let settled : List State → List State → List Node = λ all after. map (idled conf all after c.args.now) c.args.nodes.now in
+    let settled : List State → List State → List Node = λ all after. map (node_after_leaving conf all after c.args.now) c.args.nodes.now in
     let held : c.len-held.result ≡ length before = search rules in
     let examined : c.deref-3.result.now ≡ c.begin_round.new.pending.items = c.deref-3.ensures.value in
     let same : left c.len-held.result c.deref-3.result.now ≡ left (length before) c.begin_round.new.pending.items =

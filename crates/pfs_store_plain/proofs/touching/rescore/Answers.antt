@@ -3,7 +3,7 @@ use Rattle.std.proofs.Common.{◌<◌, ◌≤◌, ◌≢◌, length, arith, get_
 use Rattle.std.proofs.lemmas.List.{get_or_default, length-set}
 use Rattle.std.proofs.lemmas.List.Edits.{map_over_more}
 use Rattle.std.proofs.lemmas.List.Elements.{All-set}
-use Rattle.pfs_store_contract.specs.Touching.{rescored}
+use Rattle.pfs_store_contract.specs.Touching.{node_after_handshake}
 use Rattle.pfs_store_contract.specs.declared.records.Node.{Node}
 use Rattle.pfs_store_plain.proofs.touching.rescore.Goals as goal
 
@@ -14,7 +14,7 @@ loop-node-preserved c =
     record {
       nodes =
           rw c.rescored.ensures.value
-          (map_over_more (rescored c.args.scope c.args.source c.args.rate.seconds c.args.now) c.args.nodes.now c.loop-node.nodes i _ (omega arith) c.loop-node.invariant.nodes (get_or_default c.loop-node.nodes i _ _ within));
+          (map_over_more (node_after_handshake c.args.scope c.args.source c.args.rate.seconds c.args.now) c.args.nodes.now c.loop-node.nodes i _ (omega arith) c.loop-node.invariant.nodes (get_or_default c.loop-node.nodes i _ _ within));
       order = λ k d after below.
           let other : k ≢ i = omega arith in
           let inside : k < length c.loop-node.nodes = omega (arith, length-set c.loop-node.nodes i c.rescored.result) in

@@ -2,7 +2,7 @@
 use Rattle.std.proofs.Common.{◌≡◌, ◌≤◌, ◌++◌, take, drop, map, length}
 use Rattle.std.specs.List.{AllWithin}
 use Rattle.pfs_store_plain.specs.Rooms.{AreScores}
-use Rattle.pfs_store_contract.specs.Touching.{rescored}
+use Rattle.pfs_store_contract.specs.Touching.{node_after_handshake}
 use Rattle.pfs_store_contract.specs.declared.records.Node.{Node}
 use Rattle.pfs_store_plain.proofs.touching.rescore.Given as goal
 
@@ -10,7 +10,7 @@ use Rattle.pfs_store_plain.proofs.touching.rescore.Given as goal
 abbrev pub invariant-loop-node : goal.invariant-loop-node
 invariant-loop-node l = record {
   nodes : l.nodes
-      ≡ map (rescored l.scope l.source l.rate.seconds l.now) (take l.node-index l.initial.nodes) ++ drop l.node-index l.initial.nodes;
+      ≡ map (node_after_handshake l.scope l.source l.rate.seconds l.now) (take l.node-index l.initial.nodes) ++ drop l.node-index l.initial.nodes;
   order : AllWithin (λ (n : Node). n.score.last ≤ l.now) l.nodes l.node-index (length l.nodes);
   scores : AreScores l.nodes;
 }

@@ -3,7 +3,7 @@ use Rattle.std.proofs.Common.{◌≡◌, ◌∙◌, ap, arith, subst, sym}
 use Rattle.pfs_conf_values.specs.Configs.{Conf}
 use Rattle.pfs_store_contract.specs.Worlds.{World}
 use Rattle.pfs_engine_machine.specs.Kept.{IsKept, IsWithinLimits}
-use Rattle.pfs_engine_machine.specs.Machine.{due, held_of, purged}
+use Rattle.pfs_engine_machine.specs.Machine.{due, held_of, world_after_purges}
 use Rattle.pfs_engine_machine.specs.Shares.{most_nodes, most_states}
 use Rattle.pfs_engine.specs.Views.{View, machine_at}
 use Rattle.pfs_engine_machine.proofs.KeptTime.{first_advanced, kept_advanced, made_purged}
@@ -17,8 +17,8 @@ invariant_of-self g c =
     let w = g.S.Store.world inside.store in
     let seconds = due inside.last c.args.now in
     let before = machine_at w inside.tables.entries inside.first inside.last in
-    let is : g.S.Store.world c.purge_due-self-inside.new.store ≡ purged inside.config w seconds =
-    c.purge_due-self-inside.ensures.world ∙ ap (λ (k : Conf). purged k w seconds) i.made_for in
+    let is : g.S.Store.world c.purge_due-self-inside.new.store ≡ world_after_purges inside.config w seconds =
+    c.purge_due-self-inside.ensures.world ∙ ap (λ (k : Conf). world_after_purges k w seconds) i.made_for in
     record {
       made_for = c.purge_due-self-inside.ensures.config ∙ i.made_for;
       items = i.items;
@@ -37,8 +37,8 @@ returns-clause-limits g c =
     let w = g.S.Store.world inside.store in
     let seconds = due inside.last c.args.now in
     let before = machine_at w inside.tables.entries inside.first inside.last in
-    let is : g.S.Store.world c.purge_due-self-inside.new.store ≡ purged inside.config w seconds =
-    c.purge_due-self-inside.ensures.world ∙ ap (λ (k : Conf). purged k w seconds) i.made_for in
+    let is : g.S.Store.world c.purge_due-self-inside.new.store ≡ world_after_purges inside.config w seconds =
+    c.purge_due-self-inside.ensures.world ∙ ap (λ (k : Conf). world_after_purges k w seconds) i.made_for in
     let kept = kept_advanced inside.config before c.args.now (λ last e. c.requires.order last (sym (ap (λ (v : View). v.machine.last) c.self.view_is) ∙ e)) i.kept in
     subst (λ (v : World). IsWithinLimits inside.config (held_of v inside.tables.entries)) (sym is) kept.limits
 

@@ -2,7 +2,7 @@
 use Rattle.std.proofs.Common.{IsOk, subst}
 use Rattle.pfs_conf_values.specs.Configs.{Conf}
 use Rattle.pfs_engine_machine.specs.Kept.{moment_of}
-use Rattle.pfs_engine_machine.specs.Machine.{answered}
+use Rattle.pfs_engine_machine.specs.Machine.{answer_to_packet}
 use Rattle.pfs_engine_machine.specs.Refusals.{IsFree}
 use Rattle.pfs_engine.proofs.Free.{refused_in}
 use Rattle.pfs_engine.proofs.engine.Engine.step.Goals as goal
@@ -13,7 +13,7 @@ returns-in-Packet-clause-err g c =
     let at = c.advance.new.self.machine in
     let a = c.packet.ensures in
     refused_in c.args.self.now.config c.args.self.now.machine at c.packet.new.self.machine c.args.event.now p c.packet.result c.in-Packet.is c.advance.ensures.machine a.err
-    (subst (λ (k : Conf). IsFree k p (answered k at.held p (moment_of at.last)).0 → IsOk c.packet.result) c.advance.ensures.config a.free)
+    (subst (λ (k : Conf). IsFree k p (answer_to_packet k at.held p (moment_of at.last)).0 → IsOk c.packet.result) c.advance.ensures.config a.free)
 
 pub returns-in-Skip-clause-err : goal.returns-in-Skip-clause-err
 returns-in-Skip-clause-err g c = tt

@@ -6,7 +6,7 @@ use Rattle.pfs_addr_values.specs.Keys.{key_of}
 use Rattle.pfs_addr_values.specs.Sameness.{same_key}
 use Rattle.pfs_conf_values.specs.Configs.{Conf, options_of}
 use Rattle.pfs_store_contract.specs.Counts.{node_scope_of}
-use Rattle.pfs_store_contract.specs.Touching.{completes_at, connections_in, nodes_touched, renewed, score_in}
+use Rattle.pfs_store_contract.specs.Touching.{completes_at, connections_in, nodes_touched, numbered_state_after, score_in}
 use Rattle.pfs_store_contract.specs.Worlds.{IsUpToNow, lists}
 use Rattle.pfs_store_contract.specs.declared.records.State.{State}
 use Rattle.pfs_store_index.specs.Records.{states_of}
@@ -93,7 +93,7 @@ returns-clause-states g c =
     let q = read-is k c.in-Some.entry.now c.read_at-state.result rs h c.read_at-state.ensures.value in
     let w : c.write_at.new.self ≡ map (renewed_record s.number c.args.packet.now c.args.now) c.self.inside.records =
     c.write_at.ensures.records ∙ written k c.in-Some.entry.now c.args.packet.now c.args.now s _ rs h q c.len-count.ensures.rising c.stepped-completed.ensures.state in
-    ap states_of w ∙ states-renewed s.number c.args.packet.now c.args.now rs ∙ ap (λ (x : Holding). map (renewed s.number c.args.packet.now c.args.now) x.states) c.self.view_is
+    ap states_of w ∙ states-renewed s.number c.args.packet.now c.args.now rs ∙ ap (λ (x : Holding). map (numbered_state_after s.number c.args.packet.now c.args.now) x.states) c.self.view_is
 
 pub returns-clause-nodes : goal.returns-clause-nodes
 returns-clause-nodes g c =
@@ -124,7 +124,7 @@ returns-clause-told g c =
     ∙ told-connections conf sc s.source (states_of c.write_at.new.self) c.meet-met.new.nodes tied.counted
     (λ own e. ap (list_any (is_tally own s.source)) m ∙ tally-at own s.source sc s.source (met_by rate c.args.now done) (met-faithful rate c.args.now done) c.self.inside.nodes ∙ has own e)
     ∙ ap (λ xs. connections_in conf s.source xs sc) (returns-clause-states g c)
-    ∙ ap (λ (x : Conf). connections_in x s.source (map (renewed s.number c.args.packet.now c.args.now) c.args.self.now.states) (node_scope_of x s.rule.0)) (ap (λ (x : Holding). x.config) c.self.view_is) in
+    ∙ ap (λ (x : Conf). connections_in x s.source (map (numbered_state_after s.number c.args.packet.now c.args.now) c.args.self.now.states) (node_scope_of x s.rule.0)) (ap (λ (x : Holding). x.config) c.self.view_is) in
     let z = c.meet-met.ensures.score ∙ told-score sc s.source c.meet-met.new.nodes
     ∙ ap (λ ns. score_in s.source ns sc) (returns-clause-nodes g c)
     ∙ ap (λ (x : Conf). score_in s.source (nodes_touched c.args.self.now.config c.args.self.now.nodes s c.args.now (completes_at c.args.packet.now s)) (node_scope_of x s.rule.0)) (ap (λ (x : Holding). x.config) c.self.view_is) in

@@ -1,7 +1,7 @@
 -- Answers of Nodes::push: a new node goes last and is counted (`ok`), or room is refused; all are `orderly`.
 use Rattle.std.proofs.Common.{◌≡◌, ◌∙◌, ◌++◌, ◌∷◌, [], None, Some, ap, arith}
 use Rattle.indexmap.specs.IndexMap.{get}
-use Rattle.pfs_store_index.specs.Keeping.{held, number_of_node, place_of_node, same_place}
+use Rattle.pfs_store_index.specs.Keeping.{values_at, number_of_node, place_of_node, same_place}
 use Rattle.pfs_store_index.proofs.Ordered.{held-pushed}
 use Rattle.pfs_store_index.proofs.NodeLaws.{few-noted, get-noted, held-reserved, noted-pushed, noted-reserved, numbers-nodes, orderly, updated-table}
 use Rattle.pfs_store_index.proofs.nodes.Nodes.push.Goals as goal
@@ -37,7 +37,7 @@ pub invariant_of-self-in-Ok : goal.invariant_of-self-in-Ok
 invariant_of-self-in-Ok g c =
     let r = c.reserve.ensures.entries in
     let k = noted-reserved c.self.inside.table c.reserve.new.self c.self.inside.order.entries c.self.inside.counts.rules.items c.make_room.new.self.rules.items c.self.inside.counts.global c.make_room.new.self.global r c.make_room.ensures.counts c.self.invariant in
-    let w : held (get same_place c.reserve.new.self) c.self.inside.order.entries ≡ c.args.self.now = held-reserved c.self.inside.table c.reserve.new.self c.self.inside.order.entries r ∙ c.self.view_is in
+    let w : values_at (get same_place c.reserve.new.self) c.self.inside.order.entries ≡ c.args.self.now = held-reserved c.self.inside.table c.reserve.new.self c.self.inside.order.entries r ∙ c.self.view_is in
     let n : get same_place c.reserve.new.self (place_of_node c.args.tally) ≡ None = get-noted c.args.tally.node.scope c.args.tally.node.source (get same_place c.reserve.new.self) c.self.inside.order.entries c.make_room.new.self.rules.items c.make_room.new.self.global k ∙ rw w c.requires.absent in
     let u = updated-table (get same_place c.reserve.new.self) (get same_place c.insert-2.new.self) (place_of_node c.args.tally) (Some c.args.tally) c.in-Ok.ensures.updates.0 in
     noted-pushed (get same_place c.reserve.new.self) (get same_place c.insert-2.new.self) c.args.tally c.self.inside.order.entries c.insert.new.self.entries
@@ -48,7 +48,7 @@ pub returns-clause-ok : goal.returns-clause-ok
 returns-clause-ok g c =
     let r = c.reserve.ensures.entries in
     let k = noted-reserved c.self.inside.table c.reserve.new.self c.self.inside.order.entries c.self.inside.counts.rules.items c.make_room.new.self.rules.items c.self.inside.counts.global c.make_room.new.self.global r c.make_room.ensures.counts c.self.invariant in
-    let w : held (get same_place c.reserve.new.self) c.self.inside.order.entries ≡ c.args.self.now = held-reserved c.self.inside.table c.reserve.new.self c.self.inside.order.entries r ∙ c.self.view_is in
+    let w : values_at (get same_place c.reserve.new.self) c.self.inside.order.entries ≡ c.args.self.now = held-reserved c.self.inside.table c.reserve.new.self c.self.inside.order.entries r ∙ c.self.view_is in
     let n : get same_place c.reserve.new.self (place_of_node c.args.tally) ≡ None = get-noted c.args.tally.node.scope c.args.tally.node.source (get same_place c.reserve.new.self) c.self.inside.order.entries c.make_room.new.self.rules.items c.make_room.new.self.global k ∙ rw w c.requires.absent in
     let u = updated-table (get same_place c.reserve.new.self) (get same_place c.insert-2.new.self) (place_of_node c.args.tally) (Some c.args.tally) c.in-Ok.ensures.updates.0 in
     held-pushed number_of_node place_of_node (get same_place c.reserve.new.self) (get same_place c.insert-2.new.self) (place_of_node c.args.tally) c.args.tally c.self.inside.order.entries c.insert.new.self.entries

@@ -1,6 +1,6 @@
 -- Answers of Records::push: a new record goes last (`records`, `states`), or room is refused; numbers rise.
 use Rattle.std.proofs.Common.{◌≡◌, ◌∙◌, ◌++◌, ◌∷◌, [], Some, ap, refl, sym}
-use Rattle.pfs_store_index.specs.Keeping.{held, number_in, place_of_record, record_in}
+use Rattle.pfs_store_index.specs.Keeping.{values_at, number_in, place_of_record, record_in}
 use Rattle.pfs_store_index.specs.Records.{placed_at, states_of}
 use Rattle.pfs_store_index.proofs.Ordered.{held-all, held-pushed, kept-all, kept-pushed}
 use Rattle.pfs_store_index.proofs.RecordLaws.{grown, numbers-states, rising-states, states-push, updated, vacant}
@@ -25,7 +25,7 @@ pub invariant_of-self-2 : goal.invariant_of-self-2
 invariant_of-self-2 c =
     let g = grown c.self.inside.slab c.reserve.new.self _ c.reserve.ensures.rest_kept in
     let k = kept-all number_in place_of_record (record_in c.self.inside.slab) (record_in c.reserve.new.self) c.self.inside.places.entries g c.self.invariant in
-    let w : held (record_in c.reserve.new.self) c.self.inside.places.entries ≡ c.args.self.now = held-all number_in place_of_record (record_in c.self.inside.slab) (record_in c.reserve.new.self) c.self.inside.places.entries g ∙ c.self.view_is in
+    let w : values_at (record_in c.reserve.new.self) c.self.inside.places.entries ≡ c.args.self.now = held-all number_in place_of_record (record_in c.self.inside.slab) (record_in c.reserve.new.self) c.self.inside.places.entries g ∙ c.self.view_is in
     let q = c.vacant_key-place.ensures.value ∙ sym c.insert_reserved.ensures.key in
     kept-pushed number_in place_of_record (record_in c.reserve.new.self) (record_in c.insert_reserved.new.self) c.insert_reserved.result (placed_at c.insert_reserved.result c.args.state.now) c.self.inside.places.entries _
     (vacant c.reserve.new.self c.insert_reserved.result c.insert_reserved.ensures.was_vacant)
@@ -36,7 +36,7 @@ pub returns-clause-records : goal.returns-clause-records
 returns-clause-records c =
     let g = grown c.self.inside.slab c.reserve.new.self _ c.reserve.ensures.rest_kept in
     let k = kept-all number_in place_of_record (record_in c.self.inside.slab) (record_in c.reserve.new.self) c.self.inside.places.entries g c.self.invariant in
-    let w : held (record_in c.reserve.new.self) c.self.inside.places.entries ≡ c.args.self.now = held-all number_in place_of_record (record_in c.self.inside.slab) (record_in c.reserve.new.self) c.self.inside.places.entries g ∙ c.self.view_is in
+    let w : values_at (record_in c.reserve.new.self) c.self.inside.places.entries ≡ c.args.self.now = held-all number_in place_of_record (record_in c.self.inside.slab) (record_in c.reserve.new.self) c.self.inside.places.entries g ∙ c.self.view_is in
     let q = c.vacant_key-place.ensures.value ∙ sym c.insert_reserved.ensures.key in
     held-pushed number_in place_of_record (record_in c.reserve.new.self) (record_in c.insert_reserved.new.self) c.insert_reserved.result (placed_at c.insert_reserved.result c.args.state.now) c.self.inside.places.entries _
     (vacant c.reserve.new.self c.insert_reserved.result c.insert_reserved.ensures.was_vacant)

@@ -1,6 +1,6 @@
 -- Answers of IndexStore's make: a new number is above all others, and the world then is as defined (`ok`).
 use Rattle.std.proofs.Common.{◌≡◌, ◌∙◌, ◌+◌, ◌<◌, ◌++◌, ◌∷◌, [], ap, refl, sym, arith}
-use Rattle.pfs_store_contract.specs.Admission.{admitted, new_state, nodes_with}
+use Rattle.pfs_store_contract.specs.Admission.{world_after_admission, new_state, nodes_with}
 use Rattle.pfs_store_contract.specs.Counts.{node_scope_of}
 use Rattle.pfs_store_contract.specs.Plain.{Plain}
 use Rattle.pfs_store_contract.specs.Purging.{node_numbers, state_numbers}
@@ -45,4 +45,4 @@ returns-in-Ok-clause-ok g c =
     (λ j. record { number = c.self.inside.made + 1; key = c.of.ensures j; dir = c.dir.ensures j; source = c.src-source.ensures j; rule = c.args.rule; phase = (c.first.ensures ∙ ap first_phase c.proto.ensures) j; last = c.args.now }) in
     world-came s h c.put.new.self c.self.inside.states_round.cursor c.self.inside.states_round.mark c.self.inside.nodes_round.cursor c.self.inside.nodes_round.mark m _ c.self.invariant refl c.in-Ok.ensures.states c.in-Ok.ensures.nodes
     ∙ ap (λ (x : State). lists (h.states ++ x ∷ []) (nodes_with h.nodes (m + 1) x.source (node_scope_of h.config x.rule.0)) (waiting c.self.inside.states_round.cursor c.self.inside.states_round.mark (state_numbers h.states)) (waiting c.self.inside.nodes_round.cursor c.self.inside.nodes_round.mark (node_numbers h.nodes)) (m + 1)) q
-    ∙ ap (λ (p : Plain). admitted p.config p.world c.args.packet.now c.args.rule.0 c.args.now) c.self.view_is
+    ∙ ap (λ (p : Plain). world_after_admission p.config p.world c.args.packet.now c.args.rule.0 c.args.now) c.self.view_is

@@ -1,7 +1,7 @@
 -- Answers of IndexStore's kill: the state is there to be taken out, and the world without it is as defined.
 use Rattle.std.proofs.Common.{◌≡◌, ◌∙◌, Some, ap, subst, sym, map}
 use Rattle.std.specs.List.{find}
-use Rattle.pfs_store_contract.specs.Leaving.{idled}
+use Rattle.pfs_store_contract.specs.Leaving.{node_after_leaving}
 use Rattle.pfs_store_contract.specs.Calls.{world_killed, other_than}
 use Rattle.pfs_store_index.proofs.Leavings.{state_number}
 use Rattle.pfs_store_index.proofs.Storing.{stored-without, world-without}
@@ -17,15 +17,15 @@ pub invariant_of-self : goal.invariant_of-self
 invariant_of-self g c =
     let h = c.self.inside.indexes in
     let i = c.self.invariant in
-    let ns : c.take_out.new.self.nodes ≡ map (idled h.config h.states c.take_out.new.self.states c.args.now) h.nodes =
-    c.take_out.ensures.nodes ∙ ap (λ xs. map (idled h.config h.states xs c.args.now) h.nodes) (sym c.take_out.ensures.states) in
+    let ns : c.take_out.new.self.nodes ≡ map (node_after_leaving h.config h.states c.take_out.new.self.states c.args.now) h.nodes =
+    c.take_out.ensures.nodes ∙ ap (λ xs. map (node_after_leaving h.config h.states xs c.args.now) h.nodes) (sym c.take_out.ensures.states) in
     stored-without (other_than c.read-state.result.number) c.args.now h c.take_out.new.self _ _ _ _ _ _ _ _ c.take_out.ensures.config c.take_out.ensures.states ns i i.order i.mark_made
 
 pub returns-clause-world : goal.returns-clause-world
 returns-clause-world g c =
     let h = c.self.inside.indexes in
-    let ns : c.take_out.new.self.nodes ≡ map (idled h.config h.states c.take_out.new.self.states c.args.now) h.nodes =
-    c.take_out.ensures.nodes ∙ ap (λ xs. map (idled h.config h.states xs c.args.now) h.nodes) (sym c.take_out.ensures.states) in
+    let ns : c.take_out.new.self.nodes ≡ map (node_after_leaving h.config h.states c.take_out.new.self.states c.args.now) h.nodes =
+    c.take_out.ensures.nodes ∙ ap (λ xs. map (node_after_leaving h.config h.states xs c.args.now) h.nodes) (sym c.take_out.ensures.states) in
     let q = found-number state_number c.args.number.0 c.read-state.result h.states c.read-state.ensures.value in
     world-without (other_than c.read-state.result.number) c.args.now h c.take_out.new.self c.self.inside.states_round.cursor c.self.inside.states_round.mark c.self.inside.nodes_round.cursor c.self.inside.nodes_round.mark c.self.inside.made
     c.state_count-count.ensures.rising c.take_out.ensures.states ns
