@@ -322,3 +322,12 @@ nodes-met conf s now false ts = unmet ts
         go : (b : Bool) → (if b then t else t).node ≡ t.node
         go true = refl
         go false = refl
+
+-- a packet that completes no handshake changes no tally
+pub unmet : (o : Option NodeScope) (a : Addr) (rate : Option Rate) (now : ℕ) (c : Bool) → c ≡ false → (ts : List Tally) → ts ≡ map (at_node o a (met_by rate now c)) ts
+unmet o a rate now c h [] = refl
+unmet o a rate now c h (t ∷ ts) = (λ i. same (is_at o a t) i ∷ unmet o a rate now c h ts i)
+  where
+    same : (b : Bool) → t ≡ (if b then met_by rate now c t else t)
+    same true = sym (ap (λ x. met_by rate now x t) h)
+    same false = refl

@@ -1,5 +1,5 @@
 -- Every index and count stays tied to the records: when a state leaves, when one comes, and when a packet of one comes.
-use Rattle.std.proofs.Common.{◌≡◌, ◌∙◌, ◌+◌, ◌-◌, ◌<◌, ◌==◌, ℕ, true, false, cond, Option, Some, None, List, [], ◌∷◌, ◌++◌, length, map, filter, option_map, slice_index, slice_set, length-set, refl, ap, sym, subst}
+use Rattle.std.proofs.Common.{◌≡◌, ◌∙◌, ◌+◌, ◌-◌, ◌<◌, ◌==◌, ℕ, true, false, cond, Option, Some, None, List, [], ◌∷◌, ◌++◌, length, map, filter, option_map, slice_index, slice_set, length-set, replicate, zero, suc, refl, ap, sym, subst}
 use Rattle.std.specs.BTreeMap.{is_at as is_found}
 use Rattle.std.specs.BTreeSet as tree
 use Rattle.std.specs.BTreeSet.{BTreeSet}
@@ -130,3 +130,17 @@ module _ {S : Type 0} (conf : Conf) (rs : List Placed) (keys : HashMap FlowKey E
     noded = i.noded;
     paired = λ a n. hp (a, n) ∙ i.paired a n;
   }
+
+-- ---- nothing is held
+
+pub distinct-none : IsDistinct same_key []
+unfolding IsDistinct
+distinct-none = tt
+
+pub counts-none : (n : ℕ) (counts : List ℕ) → counts ≡ replicate n 0 → AreCounts counts []
+counts-none n counts e rule w = ap (λ xs. slice_index xs rule) e ∙ zeros n rule
+  where
+    zeros : (m r : ℕ) → slice_index (replicate m 0) r ≡ 0
+    zeros zero r = refl
+    zeros (suc m) zero = refl
+    zeros (suc m) (suc r) = zeros m r

@@ -1,5 +1,6 @@
 pub mod Holdings
 pub mod Keeping
+pub mod Pieces
 pub mod Records
 pub mod Rounds
 pub mod Sourced

@@ -60,6 +60,7 @@ fn strike<S: BuildHasher>(
     ensures looks { meter.new ≡ meter.old + 1 }
     ensures rising { IsRising (state_numbers indexes.old.states) }
 {
+    // Tells that the numbers of the states rise.
     let _count = indexes.state_count();
     let state = indexes.read(number, meter);
     if is_flushed(&state, source, rule) {

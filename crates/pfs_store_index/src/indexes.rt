@@ -2,7 +2,9 @@
 
 ghost use Rattle.std.specs.Prelude.{◌≡◌, ◌+◌, ◌-◌, ◌<◌, ◌≤◌, ◌^◌, ◌==◌, ◌++◌, ◌∷◌, [], IfOk, IfSome, IsSome, None, OnErr, OnOk, Some, filter, is_some, length, map, not, option_map, slice_get, true};
 ghost use Rattle.std.specs.List.{AllByRecursion, find};
+ghost use Rattle.indexmap.specs.IndexMap.{get};
 ghost use Rattle.pfs_addr_values.specs.Keys.{key_of};
+ghost use Rattle.pfs_addr_values.specs.Sameness.{same_key};
 ghost use Rattle.pfs_conf_values.specs.Configs.{options_at};
 ghost use Rattle.pfs_store_contract.specs.Admission.{nodes_with};
 ghost use Rattle.pfs_store_contract.specs.Counts.{has_node, node_scope_of, node_states, rule_states, scope_nodes};
@@ -25,24 +27,27 @@ use crate::nodes::{Nodes, Passed, Tally};
 use crate::placing::place;
 use crate::records::Records;
 use crate::rounds::Round;
+use crate::sought::Sought;
 use crate::stepping::stepped;
 use crate::tallying::{leave, meet};
 use crate::walks::{Lifetimes, Walk};
+use indexmap::IndexMap;
 use pfs_addr_values::{Addr, FlowKey, Meter, NoMemory, Packet};
 use pfs_conf_values::{Config, RuleNo, Scope};
 use pfs_store_contract::{Node, NodeScope, State, StateNo, Touched};
 use std::alloc::{AllocError, Global};
-use std::collections::{BTreeSet, HashMap};
+use std::cell::Cell;
+use std::collections::BTreeSet;
 use std::hash::BuildHasher;
 use std::marker::Model;
 use std::ops::Bound;
 
-/// What the index by key has of a state: its number, its rule, and the place of its record. It takes 16 bytes.
+/// What the index by key has of a state: its number, its rule, and the place of its record. It takes 12 bytes.
 #[derive(Clone, Copy)]
 pub(crate) struct Entry {
     pub(crate) number: u32,
     pub(crate) rule: RuleNo,
-    pub(crate) place: usize,
+    pub(crate) place: u32,
 }
 
 /// A state before its packet, and what is told of the packet.
@@ -58,7 +63,8 @@ pub(crate) struct Renewed {
 pub(crate) struct Indexes<S: BuildHasher> {
     config: Config,
     records: Records,
-    keys: HashMap<FlowKey, Entry, S>,
+    keys: IndexMap<Sought, Entry, S>,
+    last_found: Cell<usize>,
     counts: Vec<u64>,
     nodes: Nodes<S>,
     pairs: BTreeSet<(Addr, u32)>,
@@ -93,7 +99,8 @@ impl<S: BuildHasher> Indexes<S> {
         Ok(Indexes {
             config,
             records: Records::new(alloc),
-            keys: HashMap::with_hasher(alloc, by_key),
+            keys: IndexMap::with_hasher(alloc, by_key),
+            last_found: Cell::new(0),
             counts,
             nodes: Nodes::new(alloc, by_source),
             pairs: BTreeSet::new(alloc),
@@ -128,7 +135,7 @@ impl<S: BuildHasher> Indexes<S> {
     pub(crate) fn find(&self, key: &FlowKey) -> Option<StateNo>
         ensures { result ≡ option_map state_number (state_with key.now (lists self.now.states [] [] [] 0)) }
     {
-        match self.keys.get(key) {
+        match entry_at(&self.keys, &self.last_found, key) {
             Some(entry) => Some(StateNo(u64::from(entry.number))),
             None => None,
         }
@@ -138,7 +145,7 @@ impl<S: BuildHasher> Indexes<S> {
     pub(crate) fn rule_at(&self, key: &FlowKey) -> Option<RuleNo>
         ensures { result ≡ option_map state_rule (state_with key.now (lists self.now.states [] [] [] 0)) }
     {
-        match self.keys.get(key) {
+        match entry_at(&self.keys, &self.last_found, key) {
             Some(entry) => Some(entry.rule),
             None => None,
         }
@@ -192,6 +199,7 @@ impl<S: BuildHasher> Indexes<S> {
         requires small { most < 2 ^ 32 }
         ensures { result ≡ slice_get (waiting_of source above most self.now.states) 0 }
     {
+        // Tells that the numbers of the states rise.
         let _count = self.records.len();
         match self
             .pairs
@@ -317,7 +325,7 @@ impl<S: BuildHasher> Indexes<S> {
             scope,
         )?;
         self.counts[rule] += 1;
-        let key = state.key;
+        let key = Sought { key: state.key };
         let entry = entry_of(&state, spot);
         match self.keys.insert(key, entry) {
             Ok(_) => Ok(()),
@@ -340,8 +348,9 @@ impl<S: BuildHasher> Indexes<S> {
         ensures config { self.new.config ≡ self.old.config }
         ensures looks { meter.new ≡ meter.old + 1 }
     {
+        // Tells that the numbers of the states rise.
         let _count = self.records.len();
-        match self.keys.get(&FlowKey::of(packet)) {
+        match entry_at(&self.keys, &self.last_found, &FlowKey::of(packet)) {
             Some(entry) => {
                 let place = entry.place;
                 let state = self.records.read_at(place, meter);
@@ -372,10 +381,11 @@ impl<S: BuildHasher> Indexes<S> {
         ensures nodes { self.new.nodes
             ≡ map (node_after_leaving self.old.config self.old.states (filter (other_than state.number) self.old.states) now) self.old.nodes }
     {
+        // Tells that the numbers of the states rise.
         let _count = self.records.len();
         let rule = state.rule.0 as usize;
         let scope = node_scope(&self.config, state.rule);
-        self.keys.remove(&state.key);
+        self.keys.swap_remove(&Sought { key: state.key });
         self.pairs.remove(&(state.source, state.number as u32));
         self.counts[rule] -= 1;
         leave(&mut self.nodes, scope, &state, now);
@@ -390,13 +400,49 @@ impl<S: BuildHasher> Indexes<S> {
         ensures states { self.new.states ≡ self.old.states }
         ensures nodes { self.new.nodes ≡ filter (λ n. not (n.number == node.number)) self.old.nodes }
     {
+        // Tells that the numbers of the nodes rise.
         let _count = self.nodes.len();
         self.nodes.remove(node.number);
     }
 }
 
+/// What the index by key has of a key. The key that was found last is compared first, and is not searched for again.
+fn entry_at<S: BuildHasher>(
+    keys: &IndexMap<Sought, Entry, S>,
+    last_found: &Cell<usize>,
+    key: &FlowKey,
+) -> Option<Entry>
+    ensures { result ≡ get same_key keys.now key.now }
+{
+    let sought = Sought { key: *key };
+    match entry_in(keys, last_found.get(), &sought) {
+        Some(entry) => Some(entry),
+        None => match keys.get_full(&sought) {
+            Some((place, _, entry)) => {
+                last_found.set(place);
+                Some(*entry)
+            }
+            None => None,
+        },
+    }
+}
+
+/// The entry at a place of the index by key, if it is that of the key.
+fn entry_in<S: BuildHasher>(
+    keys: &IndexMap<Sought, Entry, S>,
+    place: usize,
+    sought: &Sought,
+) -> Option<Entry>
+    ensures { IfSome result (λ e. get same_key keys.now sought.now ≡ Some e) }
+{
+    match keys.get_index(place) {
+        Some((found, entry)) => { if found == sought { Some(*entry) } else { None } }
+        None => None,
+    }
+}
+
 /// What the index by key has of a state whose record stands at this place.
-fn entry_of(state: &State, place: usize) -> Entry
+fn entry_of(state: &State, place: u32) -> Entry
     requires { state.now.number < 2 ^ 32 }
     ensures { result ≡ entry_of (placed_at place state.now) }
 {

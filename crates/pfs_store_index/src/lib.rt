@@ -14,6 +14,7 @@ mod records;
 mod retaining;
 mod rounds;
 mod scope_counts;
+mod sought;
 mod stays;
 mod stepping;
 mod store;

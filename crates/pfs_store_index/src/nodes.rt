@@ -15,6 +15,7 @@ ghost use Rattle.pfs_store_index.specs.Walks.{IsPassing};
 use crate::retaining::{is_over, kept_until};
 use crate::rounds::{Round, turned};
 use crate::scope_counts::ScopeCounts;
+use crate::sought::Tracked;
 use indexmap::IndexMap;
 use pfs_addr_values::{Addr, NoMemory};
 use pfs_conf_values::Config;
@@ -51,8 +52,8 @@ pub(crate) struct Passed {
 /// that is given.
 #[derive(Drop)]
 pub struct Nodes<S: BuildHasher> {
-    table: IndexMap<(NodeScope, Addr), Tally, S>,
-    order: BTreeMap<u64, (NodeScope, Addr)>,
+    table: IndexMap<Tracked, Tally, S>,
+    order: BTreeMap<u64, Tracked>,
     counts: ScopeCounts,
 }
 
@@ -101,7 +102,7 @@ impl<S: BuildHasher> Nodes<S> {
     pub fn get(&self, scope: NodeScope, source: Addr) -> Option<Tally>
         ensures { result ≡ find (is_tally scope source) self.now }
     {
-        self.table.get(&(scope, source)).copied()
+        self.table.get(&Tracked { scope, source }).copied()
     }
 
     /// The tally of the node of the least number above `above`, and up to `most`. It takes no memory.
@@ -157,7 +158,10 @@ impl<S: BuildHasher> Nodes<S> {
     {
         // That no count is near the greatest number is known of the order, and told here.
         let _count = self.order.len();
-        let place = (tally.node.scope, tally.node.source);
+        let place = Tracked {
+            scope: tally.node.scope,
+            source: tally.node.source,
+        };
         self.counts.make_room(tally.node.scope)?;
         self.table.reserve(1)?;
         self.order.insert(tally.node.number, place)?;
@@ -176,7 +180,11 @@ impl<S: BuildHasher> Nodes<S> {
         ensures nodes { self.new ≡ map (put_tally tally) self.old }
         ensures orderly { IsOrderly self.new }
     {
-        match self.table.get_mut(&(tally.node.scope, tally.node.source)) {
+        let place = Tracked {
+            scope: tally.node.scope,
+            source: tally.node.source,
+        };
+        match self.table.get_mut(&place) {
             Some(found) => *found = tally,
             None => unreachable!(),
         }
@@ -191,7 +199,7 @@ impl<S: BuildHasher> Nodes<S> {
         match self.order.remove(&number) {
             Some(place) => {
                 self.table.swap_remove(&place);
-                self.counts.take(place.0);
+                self.counts.take(place.scope);
             }
             None => unreachable!(),
         }
@@ -199,8 +207,8 @@ impl<S: BuildHasher> Nodes<S> {
 }
 
 fn pass_range<S: BuildHasher>(
-    table: &IndexMap<(NodeScope, Addr), Tally, S>,
-    order: &BTreeMap<u64, (NodeScope, Addr)>,
+    table: &IndexMap<Tracked, Tally, S>,
+    order: &BTreeMap<u64, Tracked>,
     config: &Config,
     round: Round,
     share: u64,

@@ -25,7 +25,7 @@ pub(crate) fn place<S: BuildHasher>(
     nodes: &mut Nodes<S>,
     state: State,
     scope: Option<NodeScope>,
-) -> Result<usize, NoMemory>
+) -> Result<u32, NoMemory>
     requires few { AllByRecursion IsFew nodes.old }
     requires above { IsAbove state.number (state_numbers (states_of records.old)) }
     requires nodes_above { IsAbove state.number (node_numbers (nodes_of nodes.old)) }

@@ -167,6 +167,7 @@ fn examine<S: BuildHasher>(
     ensures ends { result.left ≡ 0 → result.examined ≡ length (take share (waiting round.cursor round.mark (state_numbers indexes.old.states))) }
     ensures looks { meter.new ≡ meter.old + result.examined }
 {
+    // Tells that the numbers of the states rise.
     let _count = indexes.state_count();
     let walk = walk_to_due(indexes, counts, round, share, held, now, meter);
     let stayed = walk.stayed;
@@ -356,6 +357,7 @@ fn examine_node<S: BuildHasher>(indexes: &mut Indexes<S>, tally: &Tally, now: u6
     ensures until { NodeHolds indexes.old.config indexes.old.states tally.now.node.number result indexes.new.nodes }
     ensures rising { IsRising (node_numbers indexes.old.nodes) }
 {
+    // Tells that the numbers of the nodes rise.
     let _count = indexes.node_count();
     let config = indexes.config();
     let until = kept_until(config, tally);

@@ -29,7 +29,7 @@ use std::ops::Bound;
 #[derive(Drop)]
 pub struct Records {
     slab: Slab<Kept>,
-    places: BTreeMap<u64, usize>,
+    places: BTreeMap<u64, u32>,
 }
 
 impl Model for Records {
@@ -87,13 +87,13 @@ impl Records {
         ensures looks { meter.new ≡ meter.old + 1 }
     {
         match self.places.get(&number) {
-            Some(place) => look(&self.slab, *place, meter).state(),
+            Some(place) => look(&self.slab, *place as usize, meter).state(),
             None => unreachable!(),
         }
     }
 
     /// The state of the record that stands at this place: one look, and no search. It takes no memory.
-    pub fn read_at(&self, place: usize, meter: &mut Meter) -> State
+    pub fn read_at(&self, place: u32, meter: &mut Meter) -> State
         requires values_at { list_any (stands_at place) self.now ≡ true }
         requires room { meter.old < 2 ^ 64 - 1 }
         ensures value { IsRecordAt place result self.now }
@@ -101,7 +101,7 @@ impl Records {
         ensures small { result.number < 2 ^ 32 }
         ensures looks { meter.new ≡ meter.old + 1 }
     {
-        look(&self.slab, place, meter).state()
+        look(&self.slab, place as usize, meter).state()
     }
 
     /// Walks over the records that are still to be examined in a round, from the least number on: over at most `share` of
@@ -150,7 +150,7 @@ impl Records {
     }
 
     /// Writes a state into the record of its number, which stands at this place. It is no look, and takes no memory.
-    pub fn write_at(&mut self, place: usize, state: State)
+    pub fn write_at(&mut self, place: u32, state: State)
         requires placed { list_any (is_placed state.number place) self.old ≡ true }
         requires sourced { IsSourced state }
         requires small { state.number < 2 ^ 32 }
@@ -158,12 +158,12 @@ impl Records {
         ensures states { states_of self.new ≡ map (put_state state) (states_of self.old) }
         ensures rising { IsRising (state_numbers (states_of self.new)) }
     {
-        self.slab[place] = Kept::of(&state);
+        self.slab[place as usize] = Kept::of(&state);
     }
 
     /// Adds the record of a state whose number is above all others, and answers its place. `NoMemory` is answered where
-    /// memory for it is refused, and then nothing changes.
-    pub fn push(&mut self, state: &State) -> Result<usize, NoMemory>
+    /// memory for it is refused, or there is no place of 32 bits, and then nothing changes.
+    pub fn push(&mut self, state: &State) -> Result<u32, NoMemory>
         requires above { IsAbove state.now.number (state_numbers (states_of self.old)) }
         requires sourced { IsSourced state.now }
         requires small { state.now.number < 2 ^ 32 }
@@ -173,12 +173,13 @@ impl Records {
         ensures rising { IsRising (state_numbers (states_of self.new)) }
     {
         self.slab.reserve(1)?;
-        let place = self.slab.vacant_key();
+        let place = short(self.slab.vacant_key())?;
         self.places.insert(state.number, place)?;
         // The proof needs the types of a key named here.
         let key = &state.key;
         let _proto = &key.proto;
-        Ok(self.slab.insert_reserved(Kept::of(state)))
+        self.slab.insert_reserved(Kept::of(state));
+        Ok(place)
     }
 
     /// Removes the record of this number, of which there is one. It is no look, and takes no memory.
@@ -190,10 +191,20 @@ impl Records {
     {
         match self.places.remove(&number) {
             Some(place) => {
-                self.slab.remove(place);
+                self.slab.remove(place as usize);
             }
             None => unreachable!(),
         }
+    }
+}
+
+/// A place in 32 bits. `NoMemory` is answered where it does not fit.
+fn short(place: usize) -> Result<u32, NoMemory>
+    ensures { IfOk result (λ p. p ≡ place) }
+{
+    match u32::try_from(place) {
+        Ok(number) => Ok(number),
+        Err(_) => Err(NoMemory),
     }
 }
 
@@ -210,7 +221,7 @@ fn look<'a>(slab: &'a Slab<Kept>, place: usize, meter: &mut Meter) -> &'a Kept
 
 fn walk_range<T: Lifetimes>(
     slab: &Slab<Kept>,
-    places: &BTreeMap<u64, usize>,
+    places: &BTreeMap<u64, u32>,
     round: Round,
     share: u64,
     now: u64,
@@ -240,7 +251,7 @@ fn walk_range<T: Lifetimes>(
                 leaver: None,
             };
         };
-        let kept = look(slab, *place, meter);
+        let kept = look(slab, *place as usize, meter);
         let stay = stay_of(lifetimes, kept, known);
         known = Some(stay);
         match stays_until(kept, stay.seconds, now) {

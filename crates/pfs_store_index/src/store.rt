@@ -101,6 +101,7 @@ impl<S: BuildHasher> IndexStore<S> {
         ensures config { self.new.config ≡ self.old.config }
     {
         let source = packet.src();
+        // Tells that the numbers of the states rise.
         let _count = self.indexes.state_count();
         let number = self.made + 1;
         let state = State {
@@ -173,11 +174,13 @@ impl<S: BuildHasher> Store for IndexStore<S> {
     }
 
     fn touch(&mut self, _number: StateNo, packet: &Packet, now: u64, meter: &mut Meter) -> Touched {
+        // Tells that the numbers of the states rise.
         let _count = self.indexes.state_count();
         self.indexes.renew(packet, now, meter).touched
     }
 
     fn kill(&mut self, number: StateNo, now: u64, meter: &mut Meter) {
+        // Tells that the numbers of the states rise.
         let _count = self.indexes.state_count();
         let state = self.indexes.read(number.0, meter);
         self.indexes.take_out(state, now);
@@ -198,6 +201,7 @@ impl<S: BuildHasher> Store for IndexStore<S> {
     }
 
     fn watch_states(&mut self, now: u64, meter: &mut Meter) -> Watched {
+        // Tells that the numbers of the states rise.
         let _count = self.indexes.state_count();
         let read = self.counts.len();
         let counts = self.indexes.rule_counts();

@@ -37,6 +37,7 @@ pub(crate) fn join<S: BuildHasher>(
     ensures ok { OnOk result (nodes.new ≡ tallies_with_state scope state.now nodes.old) }
     ensures err { OnErr result (nodes.new ≡ nodes.old) }
 {
+    // Tells that the numbers of the nodes rise, and that no two are of one scope and source.
     let _count = nodes.len();
     match scope {
         None => Ok(()),
@@ -72,6 +73,7 @@ pub(crate) fn leave<S: BuildHasher>(
 )
     ensures { nodes.new ≡ map (at_node scope state.now.source (left_of state.now now)) nodes.old }
 {
+    // Tells that the numbers of the nodes rise, and that no two are of one scope and source.
     let _count = nodes.len();
     match scope {
         None => {}
@@ -153,11 +155,14 @@ fn meet_at<S: BuildHasher>(
     ensures nodes { nodes.new ≡ map (at_node (Some scope) source (met_by rate now completed)) nodes.old }
     ensures tally { find (is_tally scope source) nodes.new ≡ Some result }
 {
+    // Tells that the numbers of the nodes rise, and that no two are of one scope and source.
     let _count = nodes.len();
     match nodes.get(scope, source) {
         Some(tally) => {
             let met = after_packet(tally, rate, completed, now);
-            nodes.write(met);
+            if completed {
+                nodes.write(met);
+            }
             met
         }
         None => unreachable!(),
@@ -202,6 +207,7 @@ fn rate_of(config: &Config, rule: RuleNo) -> Option<Rate>
     ensures value { result ≡ (options_of config.now rule.0).max_src_conn_rate }
     ensures sound { IfSome result IsRate }
 {
+    // Tells that the options of each rule keep the load rules.
     let _count = config.item_count();
     match config.options(rule) {
         Some(options) => options.max_src_conn_rate,

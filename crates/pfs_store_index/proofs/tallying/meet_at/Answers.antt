@@ -4,7 +4,7 @@ use Rattle.std.specs.List.{find}
 use Rattle.pfs_store_index.specs.Tallies.{is_tally}
 use Rattle.pfs_store_index.specs.declared.nodes.Tally.{Tally}
 use Rattle.pfs_store_index.specs.Ties.{IsFew, IsScored, met_by}
-use Rattle.pfs_store_index.proofs.Meetings.{met-faithful}
+use Rattle.pfs_store_index.proofs.Meetings.{met-faithful, unmet}
 use Rattle.pfs_store_index.proofs.OneNode.{find-at, put-at, scored-found, tallied-at}
 use Rattle.pfs_store_index.proofs.Searches.{found-all, none-any}
 use Rattle.pfs_store_index.proofs.Stands.{rising-tallies}
@@ -27,8 +27,8 @@ write-requires g c =
     tallied-at c.args.scope c.args.source c.after_packet-met.result t c.args.nodes.now (sym c.in-Some.ensures)
     (ap (λ (u : Tally). u.node.scope) e ∙ k.scope t) (ap (λ (u : Tally). u.node.source) e ∙ k.source t) (ap (λ (u : Tally). u.node.number) e ∙ k.number t)
 
-pub returns-clause-nodes : goal.returns-clause-nodes
-returns-clause-nodes g c =
+pub returns-then-completed-clause-nodes : goal.returns-then-completed-clause-nodes
+returns-then-completed-clause-nodes g c =
     let k = met-faithful c.args.rate c.args.now c.args.completed in
     let t = c.in-Some.tally in
     let e = c.after_packet-met.ensures in
@@ -36,11 +36,19 @@ returns-clause-nodes g c =
     ∙ put-at c.args.scope c.args.source c.after_packet-met.result t (met_by c.args.rate c.args.now c.args.completed) c.args.nodes.now (rising-tallies c.args.nodes.now c.len-count.ensures.orderly.rising) c.len-count.ensures.orderly.distinct
     (sym c.in-Some.ensures) (ap (λ (u : Tally). u.node.number) e ∙ k.number t) (sym e)
 
-pub returns-clause-tally : goal.returns-clause-tally
-returns-clause-tally g c =
-    ap (λ ts. find (is_tally c.args.scope c.args.source) ts) (returns-clause-nodes g c)
+pub returns-then-completed-clause-tally : goal.returns-then-completed-clause-tally
+returns-then-completed-clause-tally g c =
+    ap (λ ts. find (is_tally c.args.scope c.args.source) ts) (returns-then-completed-clause-nodes g c)
     ∙ find-at c.args.scope c.args.source (met_by c.args.rate c.args.now c.args.completed) (met-faithful c.args.rate c.args.now c.args.completed) c.in-Some.tally c.args.nodes.now (sym c.in-Some.ensures)
     ∙ ap Some (sym c.after_packet-met.ensures)
 
 pub unreachable-requires : goal.unreachable-requires
 unreachable-requires g c = let z = none-any (is_tally c.args.scope c.args.source) c.args.nodes.now (sym c.in-None.ensures) in cc (z, c.requires.has)
+
+pub returns-else-completed-clause-nodes : goal.returns-else-completed-clause-nodes
+returns-else-completed-clause-nodes g c = unmet (Some c.args.scope) c.args.source c.args.rate c.args.now c.args.completed c.if-completed.false c.args.nodes.now
+
+pub returns-else-completed-clause-tally : goal.returns-else-completed-clause-tally
+returns-else-completed-clause-tally g c =
+    sym c.in-Some.ensures
+    ∙ ap Some (sym (c.after_packet-met.ensures ∙ ap (λ b. met_by c.args.rate c.args.now b c.in-Some.tally) c.if-completed.false))

@@ -12,10 +12,10 @@ use Rattle.pfs_store_index.proofs.indexes.Indexes.find.Goals as goal
 pub returns-in-Some : goal.returns-in-Some
 returns-in-Some g c =
     rw c.from.ensures
-    (ap (option_map (λ (e : Entry). record { 0 = e.number })) c.in-Some.ensures.value ∙ number-at c.args.key.now c.self.inside.records _ (c.self.invariant.by_key c.args.key.now)
+    (ap (option_map (λ (e : Entry). record { 0 = e.number })) c.in-Some.ensures ∙ number-at c.args.key.now c.self.inside.records _ (c.self.invariant.by_key c.args.key.now)
     ∙ ap (λ (h : Holding). option_map state_number (find (λ (s : State). same_key s.key c.args.key.now) h.states)) c.self.view_is)
 
 pub returns-in-None : goal.returns-in-None
 returns-in-None g c =
-    ap (option_map (λ (e : Entry). record { 0 = e.number })) c.in-None.ensures.value ∙ number-at c.args.key.now c.self.inside.records _ (c.self.invariant.by_key c.args.key.now)
+    ap (option_map (λ (e : Entry). record { 0 = e.number })) c.in-None.ensures ∙ number-at c.args.key.now c.self.inside.records _ (c.self.invariant.by_key c.args.key.now)
     ∙ ap (λ (h : Holding). option_map state_number (find (λ (s : State). same_key s.key c.args.key.now) h.states)) c.self.view_is

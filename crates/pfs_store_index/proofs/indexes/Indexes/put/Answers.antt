@@ -1,6 +1,7 @@
 -- Answers of Indexes::put: a state and its node have come (`nodes`), or neither has, and all stays tied.
 use Rattle.std.proofs.Common.{◌≡◌, ◌∙◌, ◌<◌, ◌≤◌, Option, None, Some, cond, length, ap, refl, subst, sym, arith, rules}
 use Rattle.std.specs.List.{find}
+use Rattle.std.specs.Map.{lookup}
 use Rattle.std.proofs.lemmas.List.{get_or_read}
 use Rattle.pfs_addr_values.specs.Sameness.{same_key}
 use Rattle.pfs_store_contract.specs.Admission.{nodes_with}
@@ -21,7 +22,7 @@ use Rattle.pfs_store_index.proofs.indexes.Indexes.put.Goals as goal
 pub invariant_of-self : goal.invariant_of-self
 invariant_of-self g c =
     tied-same c.self.inside.config c.self.inside.records c.self.inside.keys c.self.inside.counts.items c.self.inside.nodes c.self.inside.pairs c.reserve.new.self c.self.inside.pairs
-    c.self.invariant (λ k. c.reserve.ensures.entries.2 k) (λ q. refl)
+    c.self.invariant (λ k. ap (lookup (same_key k)) c.reserve.ensures.entries) (λ q. refl)
 
 pub place-requires-clause-few : goal.place-requires-clause-few
 place-requires-clause-few g c =
@@ -43,7 +44,7 @@ pub invariant_of-self-in_err-spot : goal.invariant_of-self-in_err-spot
 invariant_of-self-in_err-spot g c =
     rw (c.in_err-spot.ensures.same_records, c.in_err-spot.ensures.same_nodes)
     (tied-same c.self.inside.config c.self.inside.records c.self.inside.keys c.self.inside.counts.items c.self.inside.nodes c.self.inside.pairs c.reserve.new.self c.place.new.pairs
-    c.self.invariant (λ k. c.reserve.ensures.entries.2 k) c.in_err-spot.ensures.same_pairs)
+    c.self.invariant (λ k. ap (lookup (same_key k)) c.reserve.ensures.entries) c.in_err-spot.ensures.same_pairs)
 
 pub index_mut-requires : goal.index_mut-requires
 index_mut-requires g c =
@@ -68,7 +69,7 @@ invariant_of-self-2 g c =
     (tied-came c.self.inside.config c.self.inside.records c.self.inside.keys c.self.inside.counts.items c.self.inside.nodes c.self.inside.pairs c.insert.new.self c.place.new.pairs
     s c.in_ok-spot.spot _ c.node_scope-scope.result c.self.invariant (none-found (λ (x : State). same_key x.key c.args.state.key) c.self.inside.records f) w
     (get_or_read c.self.inside.counts.items _ _ w c.index_mut.ensures.value 0) c.requires.phase (sym c.node_scope-scope.ensures)
-    (λ k. c.in-Ok.ensures.updates.0 k ∙ (λ j. cond (same_key s.key k) (Some (c.entry_of-entry.ensures j)) (c.reserve.ensures.entries.2 k j)))
+    (λ k. c.in-Ok.ensures.updates.0 k ∙ (λ j. cond (same_key s.key k) (Some (c.entry_of-entry.ensures j)) (ap (lookup (same_key k)) c.reserve.ensures.entries j)))
     c.in_ok-spot.ensures.pairs)
 
 pub returns-clause-nodes : goal.returns-clause-nodes

@@ -27,16 +27,16 @@ use Rattle.pfs_store_index.proofs.indexes.Indexes.renew.Goals as goal
 pub read_at-state-requires-clause-held : goal.read_at-state-requires-clause-held
 read_at-state-requires-clause-held g c =
     let k = key_of c.args.packet.now in
-    let h = entry-record k c.in-Some.entry.now c.self.inside.records (c.in-Some.ensures.value ∙ ap (hash.get same_key c.self.inside.keys) c.of.ensures ∙ c.self.invariant.by_key k) in
-    read-held k c.in-Some.entry.now c.self.inside.records h
+    let h = entry-record k c.in-Some.entry c.self.inside.records (c.in-Some.ensures ∙ ap (hash.get same_key c.self.inside.keys) c.of.ensures ∙ c.self.invariant.by_key k) in
+    read-held k c.in-Some.entry c.self.inside.records h
 
 pub write_at-requires-clause-placed : goal.write_at-requires-clause-placed
 write_at-requires-clause-placed g c =
     let k = key_of c.args.packet.now in
     let rs = c.self.inside.records in
-    let h = entry-record k c.in-Some.entry.now c.self.inside.records (c.in-Some.ensures.value ∙ ap (hash.get same_key c.self.inside.keys) c.of.ensures ∙ c.self.invariant.by_key k) in
-    let q = read-is k c.in-Some.entry.now c.read_at-state.result rs h c.read_at-state.ensures.value in
-    write-held k c.in-Some.entry.now _ rs h (ap (λ (s : State). s.number) (q) ∙ sym (ap (λ (s : State). s.number) c.stepped-completed.ensures.state))
+    let h = entry-record k c.in-Some.entry c.self.inside.records (c.in-Some.ensures ∙ ap (hash.get same_key c.self.inside.keys) c.of.ensures ∙ c.self.invariant.by_key k) in
+    let q = read-is k c.in-Some.entry c.read_at-state.result rs h c.read_at-state.ensures.value in
+    write-held k c.in-Some.entry _ rs h (ap (λ (s : State). s.number) (q) ∙ sym (ap (λ (s : State). s.number) c.stepped-completed.ensures.state))
 
 pub write_at-requires-clause-sourced : goal.write_at-requires-clause-sourced
 write_at-requires-clause-sourced g c = subst IsSourced (sym c.stepped-completed.ensures.state) c.read_at-state.ensures.sourced
@@ -45,9 +45,9 @@ pub meet-met-requires-clause-has : goal.meet-met-requires-clause-has
 meet-met-requires-clause-has g c =
     let k = key_of c.args.packet.now in
     let rs = c.self.inside.records in
-    let h = entry-record k c.in-Some.entry.now c.self.inside.records (c.in-Some.ensures.value ∙ ap (hash.get same_key c.self.inside.keys) c.of.ensures ∙ c.self.invariant.by_key k) in
-    let q = read-is k c.in-Some.entry.now c.read_at-state.result rs h c.read_at-state.ensures.value in
-    let f = number-found k c.in-Some.entry.now c.read_at-state.result rs h q c.len-count.ensures.rising in
+    let h = entry-record k c.in-Some.entry c.self.inside.records (c.in-Some.ensures ∙ ap (hash.get same_key c.self.inside.keys) c.of.ensures ∙ c.self.invariant.by_key k) in
+    let q = read-is k c.in-Some.entry c.read_at-state.result rs h c.read_at-state.ensures.value in
+    let f = number-found k c.in-Some.entry c.read_at-state.result rs h q c.len-count.ensures.rising in
     all-found state_number (HasTally c.self.inside.config c.self.inside.nodes) c.read_at-state.result.number c.read_at-state.result (states_of rs) c.self.invariant.noded f
 
 pub meet-met-requires-clause-few : goal.meet-met-requires-clause-few
@@ -66,11 +66,11 @@ invariant_of-self g c =
     let k = key_of c.args.packet.now in
     let rs = c.self.inside.records in
     let s = c.read_at-state.result in
-    let h = entry-record k c.in-Some.entry.now c.self.inside.records (c.in-Some.ensures.value ∙ ap (hash.get same_key c.self.inside.keys) c.of.ensures ∙ c.self.invariant.by_key k) in
-    let q = read-is k c.in-Some.entry.now c.read_at-state.result rs h c.read_at-state.ensures.value in
-    let f = number-found k c.in-Some.entry.now s rs h q c.len-count.ensures.rising in
+    let h = entry-record k c.in-Some.entry c.self.inside.records (c.in-Some.ensures ∙ ap (hash.get same_key c.self.inside.keys) c.of.ensures ∙ c.self.invariant.by_key k) in
+    let q = read-is k c.in-Some.entry c.read_at-state.result rs h c.read_at-state.ensures.value in
+    let f = number-found k c.in-Some.entry s rs h q c.len-count.ensures.rising in
     let w : c.write_at.new.self ≡ map (renewed_record s.number c.args.packet.now c.args.now) c.self.inside.records =
-    c.write_at.ensures.records ∙ written k c.in-Some.entry.now c.args.packet.now c.args.now s _ rs h q c.len-count.ensures.rising c.stepped-completed.ensures.state in
+    c.write_at.ensures.records ∙ written k c.in-Some.entry c.args.packet.now c.args.now s _ rs h q c.len-count.ensures.rising c.stepped-completed.ensures.state in
     let m : c.meet-met.new.nodes ≡ map (at_node (node_scope_of c.self.inside.config s.rule.0) s.source (met_by (options_of c.self.inside.config s.rule.0).max_src_conn_rate c.args.now (completes_at c.args.packet.now s))) c.self.inside.nodes =
     c.meet-met.ensures.nodes ∙ ap (λ b. map (at_node (node_scope_of c.self.inside.config s.rule.0) s.source (met_by (options_of c.self.inside.config s.rule.0).max_src_conn_rate c.args.now b)) c.self.inside.nodes) c.stepped-completed.ensures.completes in
     rw (w, m)
@@ -80,19 +80,19 @@ pub returns-clause-before : goal.returns-clause-before
 returns-clause-before g c =
     let k = key_of c.args.packet.now in
     let rs = c.self.inside.records in
-    let h = entry-record k c.in-Some.entry.now c.self.inside.records (c.in-Some.ensures.value ∙ ap (hash.get same_key c.self.inside.keys) c.of.ensures ∙ c.self.invariant.by_key k) in
-    let q = read-is k c.in-Some.entry.now c.read_at-state.result rs h c.read_at-state.ensures.value in
-    ap (λ (x : Holding). find (λ (s : State). same_key s.key (key_of c.args.packet.now)) x.states) (sym c.self.view_is) ∙ state-found k c.in-Some.entry.now c.read_at-state.result rs h q
+    let h = entry-record k c.in-Some.entry c.self.inside.records (c.in-Some.ensures ∙ ap (hash.get same_key c.self.inside.keys) c.of.ensures ∙ c.self.invariant.by_key k) in
+    let q = read-is k c.in-Some.entry c.read_at-state.result rs h c.read_at-state.ensures.value in
+    ap (λ (x : Holding). find (λ (s : State). same_key s.key (key_of c.args.packet.now)) x.states) (sym c.self.view_is) ∙ state-found k c.in-Some.entry c.read_at-state.result rs h q
 
 pub returns-clause-states : goal.returns-clause-states
 returns-clause-states g c =
     let k = key_of c.args.packet.now in
     let rs = c.self.inside.records in
     let s = c.read_at-state.result in
-    let h = entry-record k c.in-Some.entry.now c.self.inside.records (c.in-Some.ensures.value ∙ ap (hash.get same_key c.self.inside.keys) c.of.ensures ∙ c.self.invariant.by_key k) in
-    let q = read-is k c.in-Some.entry.now c.read_at-state.result rs h c.read_at-state.ensures.value in
+    let h = entry-record k c.in-Some.entry c.self.inside.records (c.in-Some.ensures ∙ ap (hash.get same_key c.self.inside.keys) c.of.ensures ∙ c.self.invariant.by_key k) in
+    let q = read-is k c.in-Some.entry c.read_at-state.result rs h c.read_at-state.ensures.value in
     let w : c.write_at.new.self ≡ map (renewed_record s.number c.args.packet.now c.args.now) c.self.inside.records =
-    c.write_at.ensures.records ∙ written k c.in-Some.entry.now c.args.packet.now c.args.now s _ rs h q c.len-count.ensures.rising c.stepped-completed.ensures.state in
+    c.write_at.ensures.records ∙ written k c.in-Some.entry c.args.packet.now c.args.now s _ rs h q c.len-count.ensures.rising c.stepped-completed.ensures.state in
     ap states_of w ∙ states-renewed s.number c.args.packet.now c.args.now rs ∙ ap (λ (x : Holding). map (numbered_state_after s.number c.args.packet.now c.args.now) x.states) c.self.view_is
 
 pub returns-clause-nodes : goal.returns-clause-nodes
@@ -115,9 +115,9 @@ returns-clause-told g c =
     let tied = invariant_of-self g c in
     let k = key_of c.args.packet.now in
     let rs = c.self.inside.records in
-    let h = entry-record k c.in-Some.entry.now c.self.inside.records (c.in-Some.ensures.value ∙ ap (hash.get same_key c.self.inside.keys) c.of.ensures ∙ c.self.invariant.by_key k) in
-    let q = read-is k c.in-Some.entry.now s rs h c.read_at-state.ensures.value in
-    let f = number-found k c.in-Some.entry.now s rs h q c.len-count.ensures.rising in
+    let h = entry-record k c.in-Some.entry c.self.inside.records (c.in-Some.ensures ∙ ap (hash.get same_key c.self.inside.keys) c.of.ensures ∙ c.self.invariant.by_key k) in
+    let q = read-is k c.in-Some.entry s rs h c.read_at-state.ensures.value in
+    let f = number-found k c.in-Some.entry s rs h q c.len-count.ensures.rising in
     let has : HasTally c.self.inside.config c.self.inside.nodes s =
     all-found state_number (HasTally c.self.inside.config c.self.inside.nodes) s.number s (states_of rs) c.self.invariant.noded f in
     let n = c.meet-met.ensures.connections
@@ -133,5 +133,5 @@ returns-clause-told g c =
 pub unreachable-requires : goal.unreachable-requires
 unreachable-requires g c =
     let k = key_of c.args.packet.now in
-    none-entry k c.self.inside.records (c.in-None.ensures.value ∙ ap (hash.get same_key c.self.inside.keys) c.of.ensures ∙ c.self.invariant.by_key k)
+    none-entry k c.self.inside.records (c.in-None.ensures ∙ ap (hash.get same_key c.self.inside.keys) c.of.ensures ∙ c.self.invariant.by_key k)
     (ap (λ (x : Holding). is_some (find (λ (s : State). same_key s.key (key_of c.args.packet.now)) x.states)) c.self.view_is ∙ c.requires.held)

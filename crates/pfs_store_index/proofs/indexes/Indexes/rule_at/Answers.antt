@@ -11,10 +11,10 @@ use Rattle.pfs_store_index.proofs.indexes.Indexes.rule_at.Goals as goal
 
 pub returns-in-Some : goal.returns-in-Some
 returns-in-Some g c =
-    ap (option_map (λ (e : Entry). e.rule)) c.in-Some.ensures.value ∙ rule-at c.args.key.now c.self.inside.records _ (c.self.invariant.by_key c.args.key.now)
+    ap (option_map (λ (e : Entry). e.rule)) c.in-Some.ensures ∙ rule-at c.args.key.now c.self.inside.records _ (c.self.invariant.by_key c.args.key.now)
     ∙ ap (λ (h : Holding). option_map state_rule (find (λ (s : State). same_key s.key c.args.key.now) h.states)) c.self.view_is
 
 pub returns-in-None : goal.returns-in-None
 returns-in-None g c =
-    ap (option_map (λ (e : Entry). e.rule)) c.in-None.ensures.value ∙ rule-at c.args.key.now c.self.inside.records _ (c.self.invariant.by_key c.args.key.now)
+    ap (option_map (λ (e : Entry). e.rule)) c.in-None.ensures ∙ rule-at c.args.key.now c.self.inside.records _ (c.self.invariant.by_key c.args.key.now)
     ∙ ap (λ (h : Holding). option_map state_rule (find (λ (s : State). same_key s.key c.args.key.now) h.states)) c.self.view_is

@@ -25,8 +25,8 @@ overflow_sub-index_mut g c =
     let w : c.args.state.rule.0 < length c.self.inside.counts.items = rule-within c.self.inside.config c.self.inside.records c.self.inside.keys c.self.inside.counts.items c.self.inside.nodes c.self.inside.pairs c.args.state c.self.invariant f in
     rule-held c.args.state (states_of c.self.inside.records) c.self.inside.counts.items _ c.len-count.ensures.rising f w (get_or_read c.self.inside.counts.items _ _ w c.index_mut.ensures.value 0) c.self.invariant.by_rule
 
-pub remove-requires-3 : goal.remove-requires-3
-remove-requires-3 g c =
+pub remove-requires-2 : goal.remove-requires-2
+remove-requires-2 g c =
     let f : find (has_number state_number c.args.state.number) (states_of c.self.inside.records) ≡ Some c.args.state = ap (λ (h : Holding). find (has_number state_number c.args.state.number) h.states) c.self.view_is ∙ c.requires.held in
     find-in state_number c.args.state.number c.args.state (states_of c.self.inside.records) f
 
@@ -37,9 +37,9 @@ invariant_of-self g c =
     let w : c.args.state.rule.0 < length c.self.inside.counts.items = rule-within c.self.inside.config c.self.inside.records c.self.inside.keys c.self.inside.counts.items c.self.inside.nodes c.self.inside.pairs c.args.state c.self.invariant f in
     let at : c.leave.new.nodes ≡ map (left_at c.self.inside.config s c.args.now) c.self.inside.nodes =
     c.leave.ensures ∙ ap (λ (o : Option NodeScope). map (at_node o s.source (left_of s c.args.now)) c.self.inside.nodes) c.node_scope-scope.ensures in
-    rw (c.remove-3.ensures.records, at)
-    (tied-left c.self.inside.config c.self.inside.records c.self.inside.keys c.self.inside.counts.items c.self.inside.nodes c.self.inside.pairs c.remove.new.self c.remove-2.new.self s c.args.now _
-    c.self.invariant c.len-count.ensures.rising f (get_or_read c.self.inside.counts.items _ _ w c.index_mut.ensures.value 0) c.remove.ensures.updates.0 c.remove-2.ensures.updates.0)
+    rw (c.remove-2.ensures.records, at)
+    (tied-left c.self.inside.config c.self.inside.records c.self.inside.keys c.self.inside.counts.items c.self.inside.nodes c.self.inside.pairs c.swap_remove.new.self c.remove.new.self s c.args.now _
+    c.self.invariant c.len-count.ensures.rising f (get_or_read c.self.inside.counts.items _ _ w c.index_mut.ensures.value 0) c.swap_remove.ensures.updates.0 c.remove.ensures.updates.0)
 
 pub returns-clause-nodes : goal.returns-clause-nodes
 returns-clause-nodes g c =
