@@ -1,5 +1,5 @@
 -- A part of a list that is clipped to what there is, is the part.
-use Rattle.std.proofs.Common.{ℕ, ◌≡◌, ◌-◌, ◌≤◌, ◌<◌, ◌∙◌, Bool, true, false, nat_le, min, List, [], length, take, drop, length-drop, ap, sym, refl, arith}
+use Rattle.std.proofs.Common.{ℕ, ◌≡◌, ◌-◌, ◌≤◌, ◌∙◌, Bool, true, false, nat_le, min, List, length, take, drop, length-drop, ap, sym, refl, arith}
 use Rattle.std.proofs.lemmas.List.{take_all, drop_all}
 use Rattle.std.proofs.lemmas.Bool.Decides.{nat_tests}
 

@@ -1,1 +1,4 @@
 pub mod Clips
+pub mod Counting
+pub mod Texts
+pub mod Running

@@ -10,4 +10,5 @@ stop_status (stop.File f) = if is_outside f then 4 else 1
 stop_status stop.Moment = 1
 stop_status stop.TooMany = 1
 stop_status stop.Write = 4
+stop_status stop.Told = 4
 stop_status stop.Memory = 4

@@ -1,4 +1,6 @@
 pub mod Accounts
+pub mod Captures
 pub mod Faults
 pub mod Sorting
 pub mod Traces
+pub mod Turns

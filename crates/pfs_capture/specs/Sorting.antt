@@ -7,7 +7,7 @@ use Rattle.pfs_addr_values.specs.Prefixes.{Network, covers}
 use Rattle.pfs_addr_values.specs.declared.addresses.Addr.{Addr}
 use Rattle.pfs_addr_values.specs.declared.packets.Dir.{Dir}
 use Rattle.pfs_addr_values.specs.declared.packets.Dir.TheVariants.{In, Out}
-use Rattle.pfs_capture_packets.specs.Logs.{logged_of}
+use Rattle.pfs_capture_packets.specs.Logs.{answer_in, logged_of}
 use Rattle.pfs_capture_packets.specs.Packets.{IsCarried, then_read, packet_of}
 use Rattle.pfs_capture_packets.specs.declared.logs.Logged.{Logged}
 use Rattle.pfs_capture_packets.specs.declared.packets.IpPacket.{IpPacket}
@@ -31,10 +31,10 @@ way_of inside ifname link_type frame packet =
     if link_type == 117 then logged_of frame
     else option_map (λ dir. record { dir = dir; ifname = ifname }) (way_between (is_inside inside packet.source) (is_inside inside packet.destination))
 
--- the packet of a frame and its way, or the one reason why it is no record
+-- the packet of a frame, its way and what pf answered, or the one reason why it is no record
 abbrev pub found_in_frame : List Network → List ℕ → ℕ → List ℕ → Result Found Reason
 found_in_frame inside ifname link_type frame =
-    then_read (packet_of link_type frame) (λ packet. then_read (ok_or (way_of inside ifname link_type frame packet) reason.NeitherWay) (λ way. Ok (record { way = way; packet = packet })))
+    then_read (packet_of link_type frame) (λ packet. then_read (ok_or (way_of inside ifname link_type frame packet) reason.NeitherWay) (λ way. Ok (record { way = way; packet = packet; answer = answer_in link_type frame })))
 
 -- a packet whose ends are of one family, on an interface with a name, as a row tells it
 abbrev pub IsFound : Found → Type 0

@@ -1,29 +1,61 @@
--- The trace of a capture. (own)
-use Rattle.std.specs.Prelude.{ℕ, ◌≡◌, ◌⊎◌, ◌<◌, List, [], ◌∷◌, take, drop, max, nat_lt, Option, Some, None, Result, Ok, Err, if◌then◌else◌}
+-- The trace of a capture, and the account of its frames. (own)
+use Rattle.std.specs.Prelude.{ℕ, ◌≡◌, ◌⊎◌, ◌+◌, ◌++◌, Bool, true, false, List, [], ◌∷◌, codes, flat_map, length, take, max, nat_lt, Option, Some, None, Result, Ok, Err, if◌then◌else◌}
+use Rattle.std.specs.Bool.{MatchBool}
+use Rattle.std.specs.List.{count_by}
+use Rattle.std.specs.Option.{option_map_or}
 use Rattle.pfs_addr_values.specs.Prefixes.{Network}
-use Rattle.pfs_capture_files.specs.declared.frames.Frame.{Frame}
+use Rattle.pfs_capture_files.specs.Blocks.{is_outside}
+use Rattle.pfs_capture_files.specs.declared.faults.FileFault.{FileFault}
+use Rattle.pfs_capture_files.specs.declared.forms.Form.{Form}
 use Rattle.pfs_capture_files.specs.declared.frames.Moment.{Moment}
 use Rattle.pfs_capture_files.specs.declared.frames.Moment.TheVariants.{At, Untold, Outside}
 use Rattle.pfs_capture_packets.specs.declared.packets.Reason.{Reason}
+use Rattle.pfs_capture_packets.specs.declared.packets.Reason.TheVariants as reason
+use Rattle.pfs_capture_rows.specs.Answers.{answer_row}
 use Rattle.pfs_capture_rows.specs.Rows.{capture_row}
 use Rattle.pfs_capture_rows.specs.declared.rows.Row.{Row}
-use Rattle.pfs_capture.specs.Accounts.{frame_counted}
+use Rattle.pfs_capture.specs.Accounts.{no_frames}
+use Rattle.pfs_capture.specs.Captures.{Frames, Seen, frames_from, most_items}
 use Rattle.pfs_capture.specs.Sorting.{found_in_frame}
 use Rattle.pfs_capture.specs.declared.accounts.Account.{Account}
 use Rattle.pfs_capture.specs.declared.faults.TraceStop.{TraceStop}
 use Rattle.pfs_capture.specs.declared.faults.TraceStop.TheVariants as stop
 use Rattle.pfs_capture.specs.declared.sorting.Found.{Found}
-use Rattle.pfs_capture.specs.declared.traces.Tally.{Tally}
-
--- the bytes of a frame in what was read
-abbrev pub frame_bytes : Frame → List ℕ → List ℕ
-frame_bytes frame held = take frame.count (drop frame.from held)
 
 -- the second of a frame behind one of this second: its own, but none before that
 abbrev pub second_after : ℕ → Moment → Result ℕ TraceStop
 second_after last (At second) = if nat_lt 4294967295 second then Err stop.Moment else Ok (max second last)
 second_after last Untold = Ok last
 second_after last Outside = Err stop.Moment
+
+-- a frame in its second: a record, or why it is none
+pub record Judged : Type 0 where
+  pub second : ℕ
+  pub outcome : Result Found Reason
+
+-- the frames of a capture in their seconds, and what stops the trace before the capture's end, if anything does
+abbrev pub Run : Type 0
+Run = List Judged × Option TraceStop
+
+-- a frame in its second, and then those behind it; or the fault of its moment
+abbrev pub at_second : Result ℕ TraceStop → Result Found Reason → (ℕ → Run) → Run
+at_second (Ok second) outcome more = (record { second = second; outcome = outcome } ∷ (more second).0, (more second).1)
+at_second (Err f) outcome more = ([], Some f)
+
+-- these frames behind one of this second
+unfoldable pub judged_from : List Network → List ℕ → ℕ → List Seen → Option TraceStop → Run
+judged_from inside ifname last [] end = ([], end)
+judged_from inside ifname last (f ∷ fs) end =
+    at_second (second_after last f.moment) (found_in_frame inside ifname f.link f.octets) (λ second. judged_from inside ifname second fs end)
+
+abbrev pub judged_frames : List Network → List ℕ → ℕ → Frames → Run
+judged_frames inside ifname last frames = judged_from inside ifname last frames.0 frames.1
+
+-- all frames of a capture that begins in this form, behind its first bytes
+abbrev pub capture_run : List Network → List ℕ → Form → List ℕ → Run
+capture_run inside ifname form xs = judged_frames inside ifname 0 (frames_from most_items form xs)
+
+-- ---- the texts
 
 -- the row of a packet that was found
 abbrev pub row_from : ℕ → Found → Row
@@ -34,24 +66,106 @@ abbrev pub frame_text : ℕ → Result Found Reason → List ℕ
 frame_text second (Ok found) = capture_row (row_from second found)
 frame_text second (Err r) = []
 
--- why a frame is no record, if it is none
-abbrev pub reason_of : Result Found Reason → Option Reason
-reason_of (Ok found) = None
-reason_of (Err r) = Some r
+-- what pf answered for the record of this number, or nothing
+abbrev pub answer_text : ℕ → Result Found Reason → List ℕ
+answer_text number (Ok found) = option_map_or (λ answer. answer_row number answer) found.answer []
+answer_text number (Err r) = []
 
--- what follows from a second that a trace can tell
-abbrev pub at_second : {A : Type 0} → Result ℕ TraceStop → (ℕ → A) → Result A TraceStop
-at_second (Ok second) more = Ok (more second)
-at_second (Err f) more = Err f
+-- the trace: its header, and the rows of the frames that are records, in order
+abbrev pub trace_text : List Judged → List ℕ
+trace_text frames = codes "time,dir,if,proto,src,sport,dst,dport,flags\n" ++ flat_map (λ j. frame_text j.second j.outcome) frames
 
--- what a frame in what was read makes of a tally, and its row
-abbrev pub taken_at : ℕ → Tally → Result Found Reason → Tally × List ℕ
-taken_at second tally outcome = (record { last = second; account = frame_counted tally.account (reason_of outcome) }, frame_text second outcome)
+-- how many records there are with one frame more
+abbrev pub records_with : ℕ → Result Found Reason → ℕ
+records_with records (Ok found) = records + 1
+records_with records (Err r) = records
 
-abbrev pub frame_taken : List Network → List ℕ → Tally → Frame → List ℕ → Result (Tally × List ℕ) TraceStop
-frame_taken inside ifname tally frame held = at_second (second_after tally.last frame.moment) (λ second. taken_at second tally (found_in_frame inside ifname frame.link (frame_bytes frame held)))
+-- the answers of frames behind so many records
+unfoldable pub answers_from : ℕ → List Judged → List ℕ
+answers_from records [] = []
+answers_from records (j ∷ js) = answer_text (records + 1) j.outcome ++ answers_from (records_with records j.outcome) js
 
--- a call answers and leaves what a frame makes, unless memory was refused
-abbrev pub TakesFrame : Result (Tally × List ℕ) TraceStop → Result Tally TraceStop → List ℕ → Type 0
-TakesFrame step (Ok tally) line = step ≡ Ok (tally, line)
-TakesFrame step (Err f) line = (f ≡ stop.Memory) ⊎ (step ≡ Err f)
+-- what pf answered: a header, and a row for each record of a log
+abbrev pub answers_text : List Judged → List ℕ
+answers_text frames = codes "row,action,rule,anchor,subrule\n" ++ answers_from 0 frames
+
+-- ---- the account
+
+-- whether a frame is a record
+abbrev pub is_record : Result Found Reason → Bool
+is_record (Ok found) = true
+is_record (Err r) = false
+
+-- whether two reasons are one
+abbrev pub same_reason : Reason → Reason → Bool
+same_reason reason.LinkType reason.LinkType = true
+same_reason reason.NotIp reason.NotIp = true
+same_reason reason.LaterFragment reason.LaterFragment = true
+same_reason reason.Cut reason.Cut = true
+same_reason reason.NeitherWay reason.NeitherWay = true
+same_reason r s = false
+
+-- whether a frame is no record for this reason
+abbrev pub is_none_for : Reason → Result Found Reason → Bool
+is_none_for r (Ok found) = false
+is_none_for r (Err s) = same_reason r s
+
+-- how many frames are no record for a reason
+abbrev pub left_out : Reason → List Judged → ℕ
+left_out r frames = count_by (λ j. is_none_for r j.outcome) frames
+
+-- how many frames there are, how many of them are records, and how many are none for each reason
+abbrev pub account_of : List Judged → Account
+account_of frames = record {
+  frames = length frames;
+  records = count_by (λ j. is_record j.outcome) frames;
+  link_types = left_out reason.LinkType frames;
+  not_ip = left_out reason.NotIp frames;
+  later_fragments = left_out reason.LaterFragment frames;
+  cut = left_out reason.Cut frames;
+  neither_way = left_out reason.NeitherWay frames;
+}
+
+-- ---- what is told by the end of a run
+
+-- one text begins another
+abbrev pub BeginsText : List ℕ → List ℕ → Type 0
+BeginsText text whole = (rest : List ℕ) × (whole ≡ text ++ rest)
+
+-- both texts and the account are those of all frames of a run, which ends like this
+abbrev pub TellsAll : Run → Option TraceStop → List ℕ → List ℕ → Account → Type 0
+TellsAll run end trace answers account = (run.1 ≡ end) × (trace ≡ trace_text run.0) × (answers ≡ answers_text run.0) × (account ≡ account_of run.0)
+
+-- they are those of its first frames
+abbrev pub TellsFirst : Run → List ℕ → List ℕ → Account → Type 0
+TellsFirst run trace answers account = (k : ℕ) × (trace ≡ trace_text (take k run.0)) × (answers ≡ answers_text (take k run.0)) × (account ≡ account_of (take k run.0))
+
+-- the texts begin those of its first frames, and the account is that of these
+abbrev pub TellsFront : Run → List ℕ → List ℕ → Account → Type 0
+TellsFront run trace answers account =
+    (k : ℕ) × BeginsText trace (trace_text (take k run.0)) × BeginsText answers (answers_text (take k run.0)) × (account ≡ account_of (take k run.0))
+
+-- what is told of a run, by how the call ends: all of it, or where something around the capture fails the first of it
+abbrev pub TellsRun : Run → List ℕ → List ℕ → Account → Result Unit TraceStop → Type 0
+TellsRun run trace answers account (Ok u) = TellsAll run None trace answers account
+TellsRun run trace answers account (Err (stop.File f)) = MatchBool (is_outside f) (TellsFirst run trace answers account) (TellsAll run (Some (stop.File f)) trace answers account)
+TellsRun run trace answers account (Err stop.Moment) = TellsAll run (Some stop.Moment) trace answers account
+TellsRun run trace answers account (Err stop.TooMany) = TellsAll run (Some stop.TooMany) trace answers account
+TellsRun run trace answers account (Err stop.Write) = TellsFront run trace answers account
+TellsRun run trace answers account (Err stop.Told) = TellsFront run trace answers account
+TellsRun run trace answers account (Err stop.Memory) = TellsFirst run trace answers account
+
+-- nothing is told, not even the headers, where a file does not begin as a capture, or can't be read so far
+abbrev pub TellsNothing : List ℕ → List ℕ → Account → Type 0
+TellsNothing trace answers account = (trace ≡ []) × (answers ≡ []) × (account ≡ no_frames)
+
+-- the first read failed, or memory was refused for it
+abbrev pub FailsToStart : Result Unit TraceStop → Type 0
+FailsToStart result = (f : FileFault) × (is_outside f ≡ true) × (result ≡ Err (stop.File f))
+
+-- what is told of a capture, by how it begins and how the call ends
+abbrev pub TellsCapture : List Network → List ℕ → Result (Form × List ℕ) FileFault → List ℕ → List ℕ → Account → Result Unit TraceStop → Type 0
+TellsCapture inside ifname (Ok begun) trace answers account result =
+    TellsRun (capture_run inside ifname begun.0 begun.1) trace answers account result ⊎ (TellsNothing trace answers account × FailsToStart result)
+TellsCapture inside ifname (Err f) trace answers account result =
+    TellsNothing trace answers account × ((result ≡ Err (stop.File f)) ⊎ FailsToStart result)

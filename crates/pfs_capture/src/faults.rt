@@ -15,8 +15,10 @@ pub enum TraceStop {
     Moment,
     /// The capture has more than 1,099,511,627,776 blocks.
     TooMany,
-    /// A write took nothing or failed.
+    /// A write of the trace took nothing or failed.
     Write,
+    /// A write of what pf answered took nothing or failed.
+    Told,
     /// Memory was refused.
     Memory,
 }
@@ -28,6 +30,7 @@ impl fmt::Display for TraceStop {
             TraceStop::Moment => write!(f, "its moment is not from 0 to 4294967295"),
             TraceStop::TooMany => write!(f, "too many blocks"),
             TraceStop::Write => write!(f, "write failed"),
+            TraceStop::Told => write!(f, "--told: write failed"),
             TraceStop::Memory => write!(f, "no memory"),
         }
     }
@@ -57,6 +60,7 @@ pub fn status(stop: &TraceStop) -> u8
     match stop {
         TraceStop::File(FileFault::Read | FileFault::Memory)
         | TraceStop::Write
+        | TraceStop::Told
         | TraceStop::Memory => 4,
         TraceStop::File(_) | TraceStop::Moment | TraceStop::TooMany => 1,
     }

@@ -1,4 +1,5 @@
-//! The trace of a capture, and an account of its frames: each is one row of the trace, or is counted under one reason.
+//! The trace of a capture, what pf answered for the packets of a log, and an account of the frames: each is one row of the trace, or is
+//! counted under one reason.
 #![tactic(auto)]
 
 mod accounts;

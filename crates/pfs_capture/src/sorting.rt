@@ -5,7 +5,7 @@ ghost use Rattle.pfs_addr_values.specs.Names.{is_name, name_of};
 ghost use Rattle.pfs_capture.specs.Sorting.{IsFound, is_inside, found_in_frame, way_between, way_of};
 
 use pfs_addr_values::{Addr, Dir, IfName, Prefix, parse_ifname};
-use pfs_capture_packets::{IpPacket, Logged, Reason, read_log, read_packet};
+use pfs_capture_packets::{Answer, IpPacket, Logged, Reason, read_answer, read_log, read_packet};
 
 /// The packet of a frame, which way it goes, and on which interface.
 #[derive(Clone, Copy, Debug)]
@@ -14,6 +14,8 @@ pub struct Found {
     pub way: Logged,
     /// The packet.
     pub packet: IpPacket,
+    /// What pf answered, where the frame is of a log.
+    pub answer: Option<Answer>,
 }
 
 /// The name of an interface that this text is, 1 to 15 bytes of letters, digits, `_`, `-` and `.`; `None` for every other text.
@@ -38,7 +40,11 @@ pub fn sort(
 {
     let packet = read_packet(link_type, frame)?;
     let way = way_of(inside, ifname, link_type, frame, &packet).ok_or(Reason::NeitherWay)?;
-    Ok(Found { way, packet })
+    Ok(Found {
+        way,
+        packet,
+        answer: read_answer(link_type, frame),
+    })
 }
 
 fn way_of(

@@ -1,18 +1,23 @@
-//! The trace of a capture, row by row.
+//! The trace of a capture, row by row, and beside it what pf answered.
 
-ghost use Rattle.std.specs.Prelude.{◌≡◌, ◌<◌, ◌≤◌, ◌^◌, ◌+◌, ◌++◌, IfErr, IfOk, OnOk, true};
-ghost use Rattle.pfs_capture.specs.Accounts.{AddsUp};
-ghost use Rattle.pfs_capture.specs.Traces.{TakesFrame, frame_bytes, frame_text, reason_of, second_after, frame_taken};
-ghost use Rattle.pfs_capture.specs.Sorting.{IsFound, found_in_frame};
+ghost use Rattle.std.specs.Prelude.{◌≡◌, ◌<◌, ◌≤◌, ◌^◌, ◌+◌, ◌++◌, ℕ, List, Some, IfErr, IfOk, OnOk, true};
+ghost use Rattle.std.specs.Io.KnownBytes.{Appends};
 ghost use Rattle.pfs_addr_values.specs.Names.{is_name};
+ghost use Rattle.pfs_capture_files.specs.Forms.{start_of};
+ghost use Rattle.pfs_cli_streams.specs.Sinks.{bytes_held};
+ghost use Rattle.pfs_capture.specs.Accounts.{AddsUp, no_frames};
+ghost use Rattle.pfs_capture.specs.Captures.{frame_bytes, seen_of};
+ghost use Rattle.pfs_capture.specs.Sorting.{IsFound, found_in_frame};
+ghost use Rattle.pfs_capture.specs.Traces.{TellsCapture, answer_text, frame_text, second_after};
+ghost use Rattle.pfs_capture.specs.Turns.{Sends, TakesFrame, frame_taken, reason_of};
 
 use crate::accounts::Account;
 use crate::faults::TraceStop;
 use crate::sorting::{Found, sort};
 use pfs_addr_values::{IfName, Prefix};
-use pfs_capture_files::{Form, Frame, Item, Moment, read_item, read_start};
+use pfs_capture_files::{Frame, Item, Moment, read_item, read_start};
 use pfs_capture_packets::Reason;
-use pfs_capture_rows::{HEADER, Row, push_row};
+use pfs_capture_rows::{ANSWER_HEADER, HEADER, Row, push_answer, push_row};
 use pfs_cli_streams::{Sink, write_whole};
 use std::alloc::Global;
 use std::io::{Read, Write};
@@ -27,89 +32,127 @@ pub struct Tally {
     pub account: Account,
 }
 
+/// The texts of one frame: its row in the trace, and what pf answered. Each is empty where there is none.
+#[derive(Debug, Drop)]
+pub struct Lines {
+    pub row: Vec<u8>,
+    pub answer: Vec<u8>,
+}
+
 /// Writes the trace of a capture: its header, and a row for each frame that holds a packet which comes in or goes out, each before the
-/// next frame is read. `account` counts the frames from 0 on, also where the trace ends before the capture.
+/// next frame is read. `told` gets what pf answered: a header, and a row for each record that is of a log of pflog(4). `account` counts
+/// the frames from 0 on, also where the trace ends before the capture.
 ///
 /// A packet to an address of `inside` from elsewhere comes in, one from there to elsewhere goes out, on the interface of this name; a
 /// log of pflog(4) tells its packets' ways itself. A frame that was seen before the one in front of it has that one's second.
-/// `TraceStop` says why the trace is not whole. It takes memory for one block of the capture, and for one row.
-pub fn write_trace<R: Read, W: Write>(
+/// `TraceStop` says why the trace is not whole: of a capture that is faulty, all is told up to its fault; where a read, a write or
+/// memory fails, what is told is the first of it. It takes memory for one block of the capture, and for two rows.
+pub fn write_trace<R: Read, W: Write, T: Write>(
     alloc: Global,
     inside: &[Prefix],
     ifname: IfName,
     reader: &mut R,
     out: &mut Sink<W>,
+    told: &mut Sink<T>,
     account: &mut Account,
 ) -> Result<(), TraceStop>
     requires { is_name 15 ifname ≡ true }
-    ensures { AddsUp account.new }
+    ensures sum { AddsUp account.new }
+    ensures tells { (xs : List ℕ) → R.remaining reader.old ≡ Some xs →
+        ((t : List ℕ) × (u : List ℕ) × Appends (bytes_held W.contents out.old) (bytes_held W.contents out.new) t
+        × Appends (bytes_held T.contents told.old) (bytes_held T.contents told.new) u
+        × TellsCapture inside.now ifname (start_of xs) t u account.new result) }
 {
     *account = Account::new();
     let mut held = Vec::new(alloc);
-    let mut line = Vec::new(alloc);
-    let mut form = start(alloc, reader, &mut held)?;
-    send(out, HEADER)?;
-    let mut tally = Tally {
-        last: 0,
-        account: *account,
+    let mut lines = Lines::new(alloc);
+    let mut form = match read_start(alloc, reader, &mut held) {
+        Ok(form) => form,
+        Err(fault) => return Err(TraceStop::File(fault)),
     };
+    send(out, told, HEADER, ANSWER_HEADER)?;
+    let mut tally = Tally::new();
     for _turn in 0..MOST_ITEMS {
-        match next(reader, &mut held, &mut form)? {
-            Item::End => return Ok(()),
-            Item::Other => {}
-            Item::Frame(frame) => {
-                tally = take_frame(inside, ifname, tally, frame, &held, &mut line)?;
-                *account = tally.account;
-                send(out, &line)?;
-            }
-        }
+        let frame = match read_item(reader, &mut held, &mut form) {
+            Ok(Item::End) => return Ok(()),
+            Ok(Item::Other) => continue,
+            Ok(Item::Frame(frame)) => frame,
+            Err(fault) => return Err(TraceStop::File(fault)),
+        };
+        tally = take_frame(inside, ifname, tally, frame, &held, &mut lines)?;
+        *account = tally.account;
+        send(out, told, &lines.row, &lines.answer)?;
     }
     Err(TraceStop::TooMany)
 }
 
-fn start<R: Read>(alloc: Global, reader: &mut R, held: &mut Vec<u8>) -> Result<Form, TraceStop> {
-    match read_start(alloc, reader, held) {
-        Ok(form) => Ok(form),
-        Err(fault) => Err(TraceStop::File(fault)),
+impl Tally {
+    /// The tally of no frame.
+    fn new() -> Tally
+        ensures is { result ≡ record { last = 0; account = no_frames } }
+        ensures sum { AddsUp result.account }
+    {
+        Tally {
+            last: 0,
+            account: Account::new(),
+        }
     }
 }
 
-fn next<R: Read>(reader: &mut R, held: &mut Vec<u8>, form: &mut Form) -> Result<Item, TraceStop> {
-    match read_item(reader, held, form) {
-        Ok(item) => Ok(item),
-        Err(fault) => Err(TraceStop::File(fault)),
+impl Lines {
+    fn new(alloc: Global) -> Lines {
+        Lines {
+            row: Vec::new(alloc),
+            answer: Vec::new(alloc),
+        }
     }
 }
 
-fn send<W: Write>(out: &mut Sink<W>, bytes: &[u8]) -> Result<(), TraceStop> {
-    match write_whole(out, bytes) {
+/// Writes a row of the trace, and then one of the answers.
+fn send<W: Write, T: Write>(
+    out: &mut Sink<W>,
+    told: &mut Sink<T>,
+    row: &[u8],
+    answer: &[u8],
+) -> Result<(), TraceStop>
+    ensures { (t : List ℕ) × (u : List ℕ) × Appends (bytes_held W.contents out.old) (bytes_held W.contents out.new) t
+        × Appends (bytes_held T.contents told.old) (bytes_held T.contents told.new) u
+        × Sends row.now answer.now t u result }
+{
+    match write_whole(out, row) {
+        Ok(()) => {}
+        Err(_) => return Err(TraceStop::Write),
+    }
+    match write_whole(told, answer) {
         Ok(()) => Ok(()),
-        Err(_) => Err(TraceStop::Write),
+        Err(_) => Err(TraceStop::Told),
     }
 }
 
-/// The tally of one frame more, whose row is in the line, if it has one; else the line is empty.
+/// The tally of one frame more, whose texts are in the lines.
 fn take_frame(
     inside: &[Prefix],
     ifname: IfName,
     tally: Tally,
     frame: Frame,
     held: &[u8],
-    line: &mut Vec<u8>,
+    lines: &mut Lines,
 ) -> Result<Tally, TraceStop>
     requires few { tally.account.frames < 2 ^ 63 }
     requires sum { AddsUp tally.account }
     requires last { tally.last ≤ 4294967295 }
     requires name { is_name 15 ifname ≡ true }
-    ensures takes { TakesFrame (frame_taken inside.now ifname tally frame held.now) result line.new.items }
+    ensures takes { TakesFrame (frame_taken inside.now ifname tally (seen_of frame held.now)) result lines.new.row.items lines.new.answer.items }
     ensures sum { IfOk result (λ t. AddsUp t.account) }
     ensures one { IfOk result (λ t. (t.account.frames ≡ tally.account.frames + 1) × (t.last ≤ 4294967295)) }
 {
-    line.clear();
+    lines.row.clear();
+    lines.answer.clear();
     let second = second_after(tally.last, frame.moment)?;
     let outcome = outcome_of(inside, ifname, frame, held);
     let reason = reason_of(&outcome);
-    write_outcome(&outcome, second, line)?;
+    write_row(&outcome, second, &mut lines.row)?;
+    write_answer(&outcome, tally.account.records + 1, &mut lines.answer)?;
     Ok(Tally {
         last: second,
         account: tally.account.with(reason),
@@ -117,7 +160,7 @@ fn take_frame(
 }
 
 /// Writes the row of a frame's packet into the line, if it has one.
-fn write_outcome(
+fn write_row(
     outcome: &Result<Found, Reason>,
     second: u64,
     line: &mut Vec<u8>,
@@ -137,6 +180,27 @@ fn write_outcome(
         packet: found.packet,
     };
     match push_row(line, &row) {
+        Ok(()) => Ok(()),
+        Err(_) => Err(TraceStop::Memory),
+    }
+}
+
+/// Writes what pf answered for the record of this number into the line, if it is of a log.
+fn write_answer(
+    outcome: &Result<Found, Reason>,
+    number: u64,
+    line: &mut Vec<u8>,
+) -> Result<(), TraceStop>
+    ensures text { OnOk result (line.new.items ≡ line.old.items ++ answer_text number outcome.now) }
+    ensures fails { IfErr result (λ f. f ≡ TraceStop.Memory) }
+{
+    let Ok(found) = outcome else {
+        return Ok(());
+    };
+    let Some(answer) = &found.answer else {
+        return Ok(());
+    };
+    match push_answer(line, number, answer) {
         Ok(()) => Ok(()),
         Err(_) => Err(TraceStop::Memory),
     }

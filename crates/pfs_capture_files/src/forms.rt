@@ -123,7 +123,7 @@ fn start_blocks<R: Read>(
 {
     let head = block_head(Order::Big, buffer)?;
     let mut section = Section::new(alloc, head.order);
-    let _first = read_rest(reader, buffer, &mut section, head)?;
+    read_rest(reader, buffer, &mut section, head)?;
     Ok(Form::Blocks(section))
 }
 

@@ -4,8 +4,9 @@ use Rattle.std.specs.Prelude.{ℕ, ◌+◌, ◌==◌, List, length, take, nat_le
 use Rattle.pfs_addr_values.specs.Names.{name_of}
 use Rattle.pfs_addr_values.specs.declared.packets.Dir.{Dir}
 use Rattle.pfs_addr_values.specs.declared.packets.Dir.TheVariants.{In, Out}
+use Rattle.pfs_capture_packets.specs.declared.logs.Answer.{Answer}
 use Rattle.pfs_capture_packets.specs.declared.logs.Logged.{Logged}
-use Rattle.pfs_capture_packets.specs.Bytes.{octets_at}
+use Rattle.pfs_capture_packets.specs.Bytes.{octets_at, u32_at}
 
 -- how many bytes a text has that ends before the first zero
 abbrev pub text_length : List ℕ → ℕ
@@ -30,3 +31,19 @@ logged_of frame =
     if nat_le (0 + 61) (length frame)
     then if_some (logged_dir_at (slice_index frame 60)) (λ dir. if_some (name_at (octets_at frame 4 16)) (λ ifname. Some (record { dir = dir; ifname = ifname })))
     else None
+
+-- what pf did is the byte 2, the number of the rule the four bytes from 36 on, the name of its anchor the sixteen from 20 on, and the
+-- number of the rule in that anchor the four from 40 on
+abbrev pub logged_answer : List ℕ → Option Answer
+logged_answer frame =
+    if nat_le (0 + 61) (length frame)
+    then Some (record { action = slice_index frame 2; rule = u32_at frame 36; anchor = octets_at frame 20 16; subrule = u32_at frame 40 })
+    else None
+
+-- what pf answered for a frame of this link type: LINKTYPE_PFLOG, 117, tells it, and no other
+abbrev pub answer_in : ℕ → List ℕ → Option Answer
+answer_in link_type frame = if link_type == 117 then logged_answer frame else None
+
+-- the name of the anchor whose rule it is
+abbrev pub anchor_name : Answer → List ℕ
+anchor_name answer = take (text_length answer.anchor) answer.anchor

@@ -11,5 +11,5 @@ mod packets;
 mod walks;
 
 pub use links::Link;
-pub use logs::{Logged, read_log};
+pub use logs::{Answer, Logged, read_answer, read_log};
 pub use packets::{Carried, IpPacket, Reason, read_packet};

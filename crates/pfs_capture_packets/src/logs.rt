@@ -2,9 +2,9 @@
 
 ghost use Rattle.std.specs.Prelude.{◌≡◌, ◌==◌, ◌<◌, ◌≤◌, IfSome, length, position, true};
 ghost use Rattle.pfs_addr_values.specs.Names.{is_name};
-ghost use Rattle.pfs_capture_packets.specs.Logs.{logged_dir_at, logged_of, name_at, text_length};
+ghost use Rattle.pfs_capture_packets.specs.Logs.{anchor_name, answer_in, logged_answer, logged_dir_at, logged_of, name_at, text_length};
 
-use crate::bytes::holds;
+use crate::bytes::{holds, read_u32};
 use pfs_addr_values::{Dir, IfName, parse_ifname};
 
 /// What pf says of a packet that it logged. (pflog(4))
@@ -14,6 +14,28 @@ pub struct Logged {
     pub dir: Dir,
     /// The name of its interface.
     pub ifname: IfName,
+}
+
+/// What pf did with a packet that it logged, and by which rule. (pflog(4))
+#[derive(Clone, Copy, Debug)]
+pub struct Answer {
+    /// The number of the action: 0 passes the packet, 1 blocks it.
+    pub action: u8,
+    /// The number of the rule in the main ruleset, from 0; of a rule in an anchor, that of the anchor. 4294967295 where there is none.
+    pub rule: u32,
+    /// The name of the anchor whose rule it is, filled up with zeros; none for a rule of the main ruleset.
+    pub anchor: [u8; 16],
+    /// The number of the rule in its anchor, from 0; 4294967295 for a rule of the main ruleset.
+    pub subrule: u32,
+}
+
+impl Answer {
+    /// The name of the anchor whose rule it is, which is empty for a rule of the main ruleset.
+    pub fn anchor_name(&self) -> &[u8]
+        ensures { result.now ≡ anchor_name self.now }
+    {
+        &self.anchor[..text_length(&self.anchor)]
+    }
 }
 
 /// What the header of pflog(4) says of its packet, or `None` where the frame ends within it, where its direction is neither
@@ -28,6 +50,33 @@ pub fn read_log(frame: &[u8]) -> Option<Logged>
     let dir = dir_at(frame[60])?;
     let ifname = name_at(&frame[4..20])?;
     Some(Logged { dir, ifname })
+}
+
+/// What pf answered for the packet of a frame of this link type, or `None` where the link is no log of pflog(4) and where the frame
+/// ends within the header of one.
+pub fn read_answer(link_type: u16, frame: &[u8]) -> Option<Answer>
+    ensures { result ≡ answer_in link_type frame.now }
+{
+    if link_type != 117 {
+        return None;
+    }
+    logged_answer(frame)
+}
+
+fn logged_answer(frame: &[u8]) -> Option<Answer>
+    ensures { result ≡ logged_answer frame.now }
+{
+    if !holds(frame, 0, 61) {
+        return None;
+    }
+    let mut anchor = [0; 16];
+    anchor.copy_from_slice(&frame[20..36]);
+    Some(Answer {
+        action: frame[2],
+        rule: read_u32(frame, 36),
+        anchor,
+        subrule: read_u32(frame, 40),
+    })
 }
 
 fn dir_at(byte: u8) -> Option<Dir>

@@ -1,3 +1,4 @@
 pub mod Letters
 pub mod Protocols
 pub mod Again
+pub mod Fields

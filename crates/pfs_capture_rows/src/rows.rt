@@ -1,6 +1,9 @@
 //! The row of a packet.
 
-ghost use Rattle.std.specs.Prelude.{◌≡◌, ◌≤◌, ◌++◌, ℕ, Ok, Option, Some, OnOk, true, false, decimal};
+ghost use Rattle.std.specs.Prelude.{◌≡◌, ◌≤◌, ◌++◌, ℕ, List, [], Ok, Option, Some, OnOk, true, false, decimal};
+ghost use Rattle.csv.specs.Machine.{next_record};
+ghost use Rattle.csv.specs.Reading.{default_config};
+ghost use Rattle.csv.specs.declared.parser.State.TheVariants as state;
 ghost use Rattle.pfs_addr_values.specs.Addresses.{addr_text, same_family};
 ghost use Rattle.pfs_addr.specs.Texts.{addr_of};
 ghost use Rattle.pfs_addr_values.specs.Names.{is_name};
@@ -31,8 +34,8 @@ pub struct Row {
     pub packet: IpPacket,
 }
 
-/// Appends the row of a packet whose ends are of one family, and that was seen by the second 4294967295. A replay reads it as that
-/// packet, where no later moment stands before it.
+/// Appends the row of a packet whose ends are of one family, and that was seen by the second 4294967295. A replay reads its text as nine
+/// columns, whatever follows, and the columns as that packet, where no later moment stands before it.
 ///
 /// `NoMemory` where memory was refused; a part of the row may stand there then.
 pub fn push_row(out: &mut Vec<u8>, row: &Row) -> Result<(), NoMemory>
@@ -41,6 +44,7 @@ pub fn push_row(out: &mut Vec<u8>, row: &Row) -> Result<(), NoMemory>
     requires name { is_name 15 row.now.ifname ≡ true }
     requires carried { IsCarried row.now.packet.carried }
     ensures text { OnOk result (out.new.items ≡ out.old.items ++ capture_row row.now) }
+    ensures read { OnOk result ((rest : List ℕ) → next_record default_config state.StartRecord [] [] (capture_row row.now ++ rest) ≡ Some (row_fields row.now, state.StartRecord, rest)) }
     ensures again { OnOk result ((conf : Conf) (number : ℕ) (last : Option ℕ) → falls last row.now.second ≡ false → event_at conf number last (row_fields row.now) ≡ Ok (event_of row.now)) }
 {
     push_start(out, row)?;
@@ -126,7 +130,7 @@ fn flags_of(carried: &Carried) -> Flags
     }
 }
 
-fn push_number(out: &mut Vec<u8>, number: u64) -> Result<(), NoMemory>
+pub fn push_number(out: &mut Vec<u8>, number: u64) -> Result<(), NoMemory>
     ensures { OnOk result (out.new.items ≡ out.old.items ++ decimal number) }
 {
     let mut buffer = Buffer::new();

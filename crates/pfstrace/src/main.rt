@@ -1,5 +1,5 @@
-//! The program: it opens the capture that its words name, writes the trace of it, tells the account of its frames on standard error,
-//! and ends with the status of what stopped it.
+//! The program: it opens the capture that its words name, writes the trace of it, and to another file what pf answered, tells the account
+//! of its frames on standard error, and ends with the status of what stopped it.
 
 #![tactic(auto)]
 
@@ -24,14 +24,14 @@ fn main(rt: HostRuntime) -> ExitCode {
 fn run(rt: &HostRuntime) -> u8 {
     let words = match words(rt) {
         Ok(words) => words,
-        Err(error) => return wordless(rt, &error),
+        Err(error) => return tell_no_words(rt, &error),
     };
     let Ok(names) = names(rt, &words) else {
-        return told(rt, &TraceStop::Memory, 0);
+        return tell_stop(rt, &TraceStop::Memory, 0);
     };
     match matches(rt.alloc(), names.as_slice()) {
-        Ok(found) => traced(rt, &found),
-        Err(refusal) => refused(rt, &refusal),
+        Ok(found) => trace_found(rt, &found),
+        Err(refusal) => tell_refusal(rt, &refusal),
     }
 }
 
@@ -59,7 +59,10 @@ fn program<'a>(alloc: Global) -> Result<Command<'a>, AllocError> {
             "Example: pfstrace --inside 192.0.2.0/24,2001:db8::/32 web.pcap > trace\nWithout a file it reads standard input. A log of pflog(4) tells its packets' ways itself and needs no --inside.\nStatus: 0 done, 1 a fault in the capture, 2 words that are not understood, 4 reading, writing or memory failed.",
         )
         .arg(inside(alloc))?;
-    command.arg(interface_name(alloc))?.arg(capture(alloc))
+    command
+        .arg(interface_name(alloc))?
+        .arg(told(alloc))?
+        .arg(capture(alloc))
 }
 
 fn inside<'a>(alloc: Global) -> Arg<'a> {
@@ -79,6 +82,16 @@ fn interface_name<'a>(alloc: Global) -> Arg<'a> {
         .help("The interface of every record, em0 if it is not given.")
 }
 
+fn told<'a>(alloc: Global) -> Arg<'a> {
+    Arg::new(alloc, "told")
+        .long("told")
+        .value_name("FILE")
+        .action(ArgAction::Set)
+        .help(
+            "Of a log of pflog(4), writes there for each record its row, what pf did, and by which rule. A file of this name is replaced.",
+        )
+}
+
 fn capture<'a>(alloc: Global) -> Arg<'a> {
     Arg::new(alloc, "CAPTURE").help(
         "A capture of tcpdump or of pflogd, or any other pcap or pcapng file.",
@@ -86,26 +99,34 @@ fn capture<'a>(alloc: Global) -> Arg<'a> {
 }
 
 /// Writes the trace that the words ask for; the status.
-fn traced(rt: &HostRuntime, found: &ArgMatches<'_>) -> u8 {
+fn trace_found(rt: &HostRuntime, found: &ArgMatches<'_>) -> u8 {
     let Some(ifname) = interface(found.get_str("interface").unwrap_or("em0").as_bytes()) else {
-        return mistaken(rt, "--interface: no name of an interface");
+        return tell_mistake(rt, "--interface: no name of an interface");
     };
     let mut inside = Vec::new(rt.alloc());
     for text in found.get_strs("inside").unwrap_or(&[]) {
         let Some(prefix) = parse_prefix(text.as_bytes()) else {
-            return mistaken(rt, "--inside: no address and no prefix");
+            return tell_mistake(rt, "--inside: no address and no prefix");
         };
         if inside.push(prefix).is_err() {
-            return told(rt, &TraceStop::Memory, 0);
+            return tell_stop(rt, &TraceStop::Memory, 0);
         }
     }
+    let told = found.get_str("told");
     match found.get_str("CAPTURE") {
-        Some(name) => from_file(rt, &inside, ifname, name),
-        None => from(rt, &inside, ifname, &mut rt.reader()),
+        Some(name) if told == Some(name) => tell_mistake(rt, "--told: this is the capture"),
+        Some(name) => trace_file(rt, &inside, ifname, told, name),
+        None => trace_reader(rt, &inside, ifname, told, &mut rt.reader()),
     }
 }
 
-fn from_file(rt: &HostRuntime, inside: &[Prefix], ifname: IfName, name: &str) -> u8
+fn trace_file(
+    rt: &HostRuntime,
+    inside: &[Prefix],
+    ifname: IfName,
+    told: Option<&str>,
+    name: &str,
+) -> u8
     requires { is_name 15 ifname ≡ true }
 {
     let Ok(file) = File::open(rt, name) else {
@@ -113,33 +134,73 @@ fn from_file(rt: &HostRuntime, inside: &[Prefix], ifname: IfName, name: &str) ->
         return 4;
     };
     match BufReader::new(rt.alloc(), file) {
-        Ok(mut file) => from(rt, inside, ifname, &mut file),
-        Err(_) => told(rt, &TraceStop::Memory, 0),
+        Ok(mut file) => trace_reader(rt, inside, ifname, told, &mut file),
+        Err(_) => tell_stop(rt, &TraceStop::Memory, 0),
     }
 }
 
-/// Writes the trace of what a reader gives, and tells the account of it; the status.
-fn from<R: Read>(rt: &HostRuntime, inside: &[Prefix], ifname: IfName, reader: &mut R) -> u8
+/// Writes the trace of what a reader gives, and what pf answered to the file of this name, if one is given; the status.
+fn trace_reader<R: Read>(
+    rt: &HostRuntime,
+    inside: &[Prefix],
+    ifname: IfName,
+    told: Option<&str>,
+    reader: &mut R,
+) -> u8
+    requires { is_name 15 ifname ≡ true }
+{
+    let Some(name) = told else {
+        return trace_into(rt, inside, ifname, reader, io::sink());
+    };
+    let Ok(file) = File::create(rt, name) else {
+        let _ = eprintln!(rt; "--told: the file can't be written");
+        return 4;
+    };
+    match BufWriter::new(rt.alloc(), file) {
+        Ok(file) => trace_into(rt, inside, ifname, reader, file),
+        Err(_) => tell_stop(rt, &TraceStop::Memory, 0),
+    }
+}
+
+/// Writes the trace to standard output, and what pf answered to a writer, and tells the account; the status.
+fn trace_into<R: Read, T: Write + Drop>(
+    rt: &HostRuntime,
+    inside: &[Prefix],
+    ifname: IfName,
+    reader: &mut R,
+    told: T,
+) -> u8
     requires { is_name 15 ifname ≡ true }
 {
     let Ok(out) = BufWriter::new(rt.alloc(), io::writer(rt)) else {
-        return told(rt, &TraceStop::Memory, 0);
+        return tell_stop(rt, &TraceStop::Memory, 0);
     };
     let mut out = Sink::new(out);
+    let mut told = Sink::new(told);
     let mut account = Account::new();
-    let answer = write_trace(rt.alloc(), inside, ifname, reader, &mut out, &mut account);
+    let answer = write_trace(
+        rt.alloc(),
+        inside,
+        ifname,
+        reader,
+        &mut out,
+        &mut told,
+        &mut account,
+    );
     // At a fault the rows before it are to be seen all the same.
     let flushed = out.into_inner().flush();
+    let told_flushed = told.into_inner().flush();
     let _ = eprintln!(rt; "{account}");
     match answer {
-        Err(stop) => told(rt, &stop, account.frames),
-        Ok(()) if flushed.is_err() => told(rt, &TraceStop::Write, 0),
+        Err(stop) => tell_stop(rt, &stop, account.frames),
+        Ok(()) if flushed.is_err() => tell_stop(rt, &TraceStop::Write, 0),
+        Ok(()) if told_flushed.is_err() => tell_stop(rt, &TraceStop::Told, 0),
         Ok(()) => 0,
     }
 }
 
 /// Tells on standard error why the trace is not whole, behind so many frames; the status.
-fn told(rt: &HostRuntime, stop: &TraceStop, frames: u64) -> u8 {
+fn tell_stop(rt: &HostRuntime, stop: &TraceStop, frames: u64) -> u8 {
     let status = status(stop);
     if status == 1 {
         let _ = eprintln!(rt; "capture: behind frame {frames}: {stop}");
@@ -150,23 +211,23 @@ fn told(rt: &HostRuntime, stop: &TraceStop, frames: u64) -> u8 {
 }
 
 /// Tells a mistake in the words; the status.
-fn mistaken(rt: &HostRuntime, why: &str) -> u8 {
+fn tell_mistake(rt: &HostRuntime, why: &str) -> u8 {
     let _ = eprintln!(rt; "error: {why}");
     2
 }
 
-/// Tells that the words could not be taken: one is not UTF-8, which is a mistake in the words, or memory was refused.
-fn wordless(rt: &HostRuntime, error: &io::Error) -> u8 {
+/// Tells why there are no words to take: one is not UTF-8, which is a mistake in the words, or memory was refused; the status.
+fn tell_no_words(rt: &HostRuntime, error: &io::Error) -> u8 {
     if error.kind() == io::ErrorKind::InvalidData {
-        return mistaken(rt, "a word is not UTF-8");
+        return tell_mistake(rt, "a word is not UTF-8");
     }
-    told(rt, &TraceStop::Memory, 0)
+    tell_stop(rt, &TraceStop::Memory, 0)
 }
 
 /// Tells what `clap` says of the words: help on standard output with status 0, a mistake on standard error with status 2.
-fn refused(rt: &HostRuntime, refusal: &Error) -> u8 {
+fn tell_refusal(rt: &HostRuntime, refusal: &Error) -> u8 {
     if refusal.kind() == ErrorKind::OutOfMemory {
-        return told(rt, &TraceStop::Memory, 0);
+        return tell_stop(rt, &TraceStop::Memory, 0);
     }
     let _ = refusal.print(rt);
     if refusal.use_stderr() { 2 } else { 0 }

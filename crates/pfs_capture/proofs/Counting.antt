@@ -1,0 +1,80 @@
+-- The account of frames, and the number of the records among them, with one frame more.
+use Rattle.std.proofs.Common.{◌≡◌, ◌+◌, ◌++◌, ◌∙◌, ℕ, Bool, List, [], ◌∷◌, length, Ok, Err, refl, sym, ap, arith, length-append}
+use Rattle.std.specs.List.{count_by}
+use Rattle.std.proofs.lemmas.List.Sums.{sum_by_push, sum_by-cons}
+use Rattle.std.specs.Prelude.{Result, cond}
+use Rattle.pfs_capture_packets.specs.declared.packets.Reason.{Reason}
+use Rattle.pfs_capture_packets.specs.declared.packets.Reason.TheVariants as reason
+use Rattle.pfs_capture.specs.Accounts.{frame_counted}
+use Rattle.pfs_capture.specs.Traces.{Judged, account_of, is_none_for, is_record, left_out, records_with}
+use Rattle.pfs_capture.specs.Turns.{reason_of}
+use Rattle.pfs_capture.specs.declared.accounts.Account.{Account}
+use Rattle.pfs_capture.specs.declared.sorting.Found.{Found}
+
+-- one frame more counts as one or as none
+count-more : (p : Judged → Bool) (js : List Judged) (j : Judged) (n : ℕ) → ◌≡◌ {A = ℕ} (cond (p j) 1 0) n → count_by p js + n ≡ count_by p (js ++ j ∷ [])
+count-more p js j n e = ap (λ (k : ℕ). count_by p js + k) (sym e) ∙ sym (sum_by_push (λ x. cond (p x) 1 0) js j)
+
+count-same : (p : Judged → Bool) (js : List Judged) (j : Judged) → ◌≡◌ {A = ℕ} (cond (p j) 1 0) 0 → count_by p js ≡ count_by p (js ++ j ∷ [])
+count-same p js j e =
+    let more : count_by p js + 0 ≡ count_by p (js ++ j ∷ []) = count-more p js j 0 e in
+    omega (arith, more)
+
+length-more : (js : List Judged) (j : Judged) → length js + 1 ≡ length (js ++ j ∷ [])
+length-more js j = sym (length-append js (j ∷ []))
+
+same_account : (a b c d e f g : ℕ) (x : Account) → a ≡ x.frames → b ≡ x.records → c ≡ x.link_types → d ≡ x.not_ip → e ≡ x.later_fragments → f ≡ x.cut → g ≡ x.neither_way
+    → ◌≡◌ {A = Account} (record { frames = a; records = b; link_types = c; not_ip = d; later_fragments = e; cut = f; neither_way = g }) x
+same_account a b c d e f g x p q r s t u v = rw (p, q, r, s, t, u, v) refl
+
+left : (r : Reason) (js : List Judged) (j : Judged) → ◌≡◌ {A = ℕ} (cond (is_none_for r j.outcome) 1 0) 0 → left_out r js ≡ left_out r (js ++ j ∷ [])
+left r js j e = count-same (λ x. is_none_for r x.outcome) js j e
+
+one-left : (r : Reason) (js : List Judged) (j : Judged) → ◌≡◌ {A = ℕ} (cond (is_none_for r j.outcome) 1 0) 1 → left_out r js + 1 ≡ left_out r (js ++ j ∷ [])
+one-left r js j e = count-more (λ x. is_none_for r x.outcome) js j 1 e
+
+-- the account of one frame more is its frame counted
+pub account-more : (js : List Judged) (second : ℕ) (outcome : Result Found Reason)
+    → frame_counted (account_of js) (reason_of outcome) ≡ account_of (js ++ record { second = second; outcome = outcome } ∷ [])
+account-more js second (Ok found) =
+    let j : Judged = record { second = second; outcome = Ok found } in
+    same_account _ _ _ _ _ _ _ (account_of (js ++ j ∷ [])) (length-more js j) (count-more (λ x. is_record x.outcome) js j 1 refl)
+    (left reason.LinkType js j refl) (left reason.NotIp js j refl) (left reason.LaterFragment js j refl) (left reason.Cut js j refl) (left reason.NeitherWay js j refl)
+account-more js second (Err reason.LinkType) =
+    let j : Judged = record { second = second; outcome = Err reason.LinkType } in
+    same_account _ _ _ _ _ _ _ (account_of (js ++ j ∷ [])) (length-more js j) (count-same (λ x. is_record x.outcome) js j refl)
+    (one-left reason.LinkType js j refl) (left reason.NotIp js j refl) (left reason.LaterFragment js j refl) (left reason.Cut js j refl) (left reason.NeitherWay js j refl)
+account-more js second (Err reason.NotIp) =
+    let j : Judged = record { second = second; outcome = Err reason.NotIp } in
+    same_account _ _ _ _ _ _ _ (account_of (js ++ j ∷ [])) (length-more js j) (count-same (λ x. is_record x.outcome) js j refl)
+    (left reason.LinkType js j refl) (one-left reason.NotIp js j refl) (left reason.LaterFragment js j refl) (left reason.Cut js j refl) (left reason.NeitherWay js j refl)
+account-more js second (Err reason.LaterFragment) =
+    let j : Judged = record { second = second; outcome = Err reason.LaterFragment } in
+    same_account _ _ _ _ _ _ _ (account_of (js ++ j ∷ [])) (length-more js j) (count-same (λ x. is_record x.outcome) js j refl)
+    (left reason.LinkType js j refl) (left reason.NotIp js j refl) (one-left reason.LaterFragment js j refl) (left reason.Cut js j refl) (left reason.NeitherWay js j refl)
+account-more js second (Err reason.Cut) =
+    let j : Judged = record { second = second; outcome = Err reason.Cut } in
+    same_account _ _ _ _ _ _ _ (account_of (js ++ j ∷ [])) (length-more js j) (count-same (λ x. is_record x.outcome) js j refl)
+    (left reason.LinkType js j refl) (left reason.NotIp js j refl) (left reason.LaterFragment js j refl) (one-left reason.Cut js j refl) (left reason.NeitherWay js j refl)
+account-more js second (Err reason.NeitherWay) =
+    let j : Judged = record { second = second; outcome = Err reason.NeitherWay } in
+    same_account _ _ _ _ _ _ _ (account_of (js ++ j ∷ [])) (length-more js j) (count-same (λ x. is_record x.outcome) js j refl)
+    (left reason.LinkType js j refl) (left reason.NotIp js j refl) (left reason.LaterFragment js j refl) (left reason.Cut js j refl) (one-left reason.NeitherWay js j refl)
+
+-- how many records there are behind so many, with these frames
+unfoldable pub records_after : ℕ → List Judged → ℕ
+records_after n [] = n
+records_after n (j ∷ js) = records_after (records_with n j.outcome) js
+
+with_one : (n : ℕ) (outcome : Result Found Reason) → records_with n outcome ≡ n + cond (is_record outcome) 1 0
+with_one n (Ok found) = refl
+with_one n (Err r) = omega arith
+
+pub records_counted : (n : ℕ) (js : List Judged) → records_after n js ≡ n + count_by (λ j. is_record j.outcome) js
+unfolding records_after
+records_counted n [] = omega arith
+records_counted n (j ∷ js) =
+    let rest = records_counted (records_with n j.outcome) js in
+    let one = with_one n j.outcome in
+    let cons : count_by (λ x. is_record x.outcome) (j ∷ js) ≡ cond (is_record j.outcome) 1 0 + count_by (λ x. is_record x.outcome) js = sum_by-cons (λ x. cond (is_record x.outcome) 1 0) j js in
+    omega (arith, rest, one, cons)
