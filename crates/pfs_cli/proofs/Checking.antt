@@ -17,14 +17,6 @@ use Rattle.pfs_cli.specs.Refusing.{IsFeedFault, RefusesText, fault_by, fault_of}
 use Rattle.pfs_cli.specs.Checks.{Answers}
 use Rattle.pfs_cli.proofs.Replaying.{kept-refused}
 
--- what is told of a text without a configuration
-pub kept-told : (kept text : List ℕ) (f : LoadFault) → KeepsEnough kept text → IsFault kept f → ((conf : Conf) → Reads kept conf → f ≡ no_memory) → RefusesText text (fault_of f)
-kept-told kept text f k h only = go f.kind refl
-  where
-    go : (c : Kind) → f.kind ≡ c → RefusesText text (fault_by f c)
-    go kind.Memory e = tt
-    go c e = kept-refused kept text f k (λ m. let q : c ≡ kind.Memory = sym e ∙ ap (λ (x : LoadFault). x.kind) m in absurd cc, λ conf reads. let q : c ≡ kind.Memory = sym e ∙ ap (λ (x : LoadFault). x.kind) (only conf reads) in absurd cc, h)
-
 -- no fault of rules is one of writing
 pub refused-no_write : (f : LoadFault) → fault_of f ≢ fault.Write
 refused-no_write f = go f.kind
@@ -65,6 +57,10 @@ text-written text_of text conf reads bytes same a b (Ok u) ok err kind = (bytes,
 text-written text_of text conf reads bytes same a b (Err f) ok err kind =
     (err.0, err.1, subst (λ (x : ReplayFault). Answers text_of text err.0 (Err x)) (sym kind) (conf, reads, (err.2.0, sym same ∙ err.2.1)))
 
--- a fault of the rules that is handed on is one of the text
-pub told-refused : (text : List ℕ) (e : ReplayFault) (f : LoadFault) → RefusesText text e → e ≡ fault.Rules f → AreRefused text f
-told-refused text e f h is = rw is at h
+-- where writing failed the fault is that of writing
+pub written-kind : (r : Result Unit ReplayFault) (f : ReplayFault) → f ≢ fault.Write → IfErr r (λ x. x ≡ fault.Write) → r ≡ Err f → ⊥
+written-kind r f other kind is = other (rw is at kind)
+
+-- and a failure is counted
+pub write-failed : {P : Type 0} (r : Result Unit ReplayFault) (f : ReplayFault) → OnErr r P → r ≡ Err f → P
+write-failed r f fails is = rw is at fails

@@ -1,6 +1,8 @@
 -- From the records of a trace to a replay, and what is kept of a rules text.
-use Rattle.std.proofs.Common.{◌≡◌, ◌≢◌, ◌≤◌, ◌<◌, ◌∙◌, ℕ, List, [], length, None, Bool, true, false, refl, sym, ap, subst, arith, inl, inr}
-use Rattle.std.specs.Prelude.{IsErrAnd, Result, Ok, Err, nat_lt}
+use Rattle.std.proofs.Common.{◌≡◌, ◌≢◌, ◌≤◌, ◌<◌, ◌∙◌, ◌++◌, ℕ, List, [], length, Option, Some, None, Bool, true, false, refl, sym, ap, subst, arith, inl, inr}
+use Rattle.std.specs.Prelude.{Result, Ok, Err, nat_lt}
+use Rattle.std.specs.Fmt.{option_append}
+use Rattle.std.specs.Io.KnownBytes.{Consumes}
 use Rattle.std.proofs.lemmas.Bool.Decides.{nat_tests}
 use Rattle.std.proofs.lemmas.List.{append-nil}
 use Rattle.pfs_cli_formats.specs.Traces.{trace_of}
@@ -20,7 +22,9 @@ use Rattle.pfs_cli_streams.specs.Kept.{KeepsEnough, rules_limit}
 use Rattle.pfs_cli.specs.Rules.{AreRefused}
 use Rattle.pfs_cli_formats.specs.Reports.{AreFirstLines, BeginsReport}
 use Rattle.pfs_cli.specs.Turns.{Tells}
-use Rattle.pfs_cli.specs.Refusing.{RefusesRules, IsFeedFault}
+use Rattle.pfs_cli.specs.Halting.{IsHalt}
+use Rattle.pfs_cli.specs.declared.joined.Halt.TheVariants as halt
+use Rattle.pfs_cli.specs.Refusing.{RefusesRules, RefusesText, IsFeedFault}
 use Rattle.pfs_cli.specs.Replays.{Replays}
 
 -- a faulty trace leaves its report
@@ -93,23 +97,63 @@ kept-refused kept text f k (other, none, is) = (
   kept-fault kept text f other k is,
 )
 
--- rules that are not accepted leave nothing
-pub rules-refused : (kept text ts : List ℕ) (f : ReplayFault) → KeepsEnough kept text → RefusesRules kept f → Replays text ts [] (Err f)
-rules-refused kept text ts (fault.Rules f) k told = ((kept-refused kept text f k told).1, refl)
-rules-refused kept text ts (fault.Columns row) k told = absurd told
-rules-refused kept text ts (fault.Field row column) k told = absurd told
-rules-refused kept text ts (fault.TimeFell row) k told = absurd told
-rules-refused kept text ts (fault.Table row) k told = absurd told
-rules-refused kept text ts fault.TooManyRows k told = absurd told
-rules-refused kept text ts fault.Read k told = absurd told
-rules-refused kept text ts fault.Write k told = absurd told
-rules-refused kept text ts fault.Memory k told = inl refl
-rules-refused kept text ts fault.Endless k told = absurd told
+-- also where memory was refused
+pub kept-refuses : (kept text : List ℕ) (f : ReplayFault) → KeepsEnough kept text → RefusesRules kept f → RefusesRules text f
+kept-refuses kept text (fault.Rules f) k told = kept-refused kept text f k told
+kept-refuses kept text (fault.Columns row) k told = absurd told
+kept-refuses kept text (fault.Field row column) k told = absurd told
+kept-refuses kept text (fault.TimeFell row) k told = absurd told
+kept-refuses kept text (fault.Table row) k told = absurd told
+kept-refuses kept text fault.TooManyRows k told = absurd told
+kept-refuses kept text fault.Read k told = absurd told
+kept-refuses kept text fault.Write k told = absurd told
+kept-refuses kept text fault.Memory k told = tt
+kept-refuses kept text fault.Endless k told = absurd told
 
--- and the fault is one that the text may have
-pub rules-told : (kept text : List ℕ) (e : ReplayFault) (f : LoadFault) (r : Result Unit ReplayFault) → KeepsEnough kept text → RefusesRules kept e
-    → IsErrAnd r (λ x. x ≡ e) → r ≡ Err (fault.Rules f) → AreRefused text f
-rules-told kept text e f (Ok u) k told is told_rules = absurd is
-rules-told kept text e f (Err g) k told is told_rules =
-    let same : e ≡ fault.Rules f = cc in
-    kept-refused kept text f k (rw same at told)
+-- what loading refuses may be told of the text
+pub rules-text : (text : List ℕ) (f : ReplayFault) → RefusesRules text f → RefusesText text f
+rules-text text (fault.Rules f) told = told
+rules-text text (fault.Columns row) told = absurd told
+rules-text text (fault.Field row column) told = absurd told
+rules-text text (fault.TimeFell row) told = absurd told
+rules-text text (fault.Table row) told = absurd told
+rules-text text fault.TooManyRows told = absurd told
+rules-text text fault.Read told = absurd told
+rules-text text fault.Write told = absurd told
+rules-text text fault.Memory told = tt
+rules-text text fault.Endless told = absurd told
+
+-- and ends a joined text before its trace
+pub refuses-halt : (text : List ℕ) (f : ReplayFault) → RefusesRules text f → IsHalt (halt.Fault f)
+refuses-halt text (fault.Rules f) told = tt
+refuses-halt text (fault.Columns row) told = absurd told
+refuses-halt text (fault.Field row column) told = absurd told
+refuses-halt text (fault.TimeFell row) told = absurd told
+refuses-halt text (fault.Table row) told = absurd told
+refuses-halt text fault.TooManyRows told = absurd told
+refuses-halt text fault.Read told = absurd told
+refuses-halt text fault.Write told = absurd told
+refuses-halt text fault.Memory told = tt
+refuses-halt text fault.Endless told = absurd told
+
+-- rules that give no configuration leave nothing
+pub text-refused : (rs ts : List ℕ) (f : ReplayFault) → RefusesText rs f → Replays rs ts [] (Err f)
+text-refused rs ts (fault.Rules f) told = (told.1, refl)
+text-refused rs ts (fault.Columns row) told = absurd told
+text-refused rs ts (fault.Field row column) told = absurd told
+text-refused rs ts (fault.TimeFell row) told = absurd told
+text-refused rs ts (fault.Table row) told = absurd told
+text-refused rs ts fault.TooManyRows told = absurd told
+text-refused rs ts fault.Read told = inl refl
+text-refused rs ts fault.Write told = absurd told
+text-refused rs ts fault.Memory told = inl refl
+text-refused rs ts fault.Endless told = inl refl
+
+-- a fault of the rules that is handed on is one of the text
+pub told-refused : (text : List ℕ) (e : ReplayFault) (f : LoadFault) → RefusesText text e → e ≡ fault.Rules f → AreRefused text f
+told-refused text e f h is = rw is at h
+
+-- a lent feed gives the bytes of its first read, and then the rest
+pub lent-gives : (xs bs : List ℕ) (before after behind given : Option (List ℕ)) → before ≡ Some xs → Consumes before after bs → behind ≡ after → given ≡ option_append (Some bs) behind → given ≡ Some xs
+lent-gives xs bs before None behind given is read same g = absurd (rw is at read)
+lent-gives xs bs before (Some ys) behind given is read same g = rw same at g ∙ ap Some (sym (rw is at read))

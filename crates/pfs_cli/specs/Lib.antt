@@ -1,5 +1,6 @@
 pub mod Checks
 pub mod Faults
+pub mod Halting
 pub mod Performing
 pub mod Refusing
 pub mod Replays

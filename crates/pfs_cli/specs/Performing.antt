@@ -26,6 +26,11 @@ abbrev pub OfReplay : Job → Type 0 → Type 0
 OfReplay (job.Replay name other) P = P
 OfReplay _ P = Unit {0}
 
+-- a fact of the job that reads rules and trace from one text
+abbrev pub OfJoined : Job → Type 0 → Type 0
+OfJoined job.Joined P = P
+OfJoined _ P = Unit {0}
+
 -- a fact of the jobs that read a rules file
 abbrev pub OfRulesFile : Job → Type 0 → Type 0
 OfRulesFile job.Joined P = Unit {0}

@@ -1,21 +1,59 @@
 //! A replay of rules and a trace that stand in one text.
 
-ghost use Rattle.std.specs.Prelude.{◌≡◌, Some, Err, ◌<◌, ℕ, List};
+ghost use Rattle.std.specs.Prelude.{◌≡◌, ◌⊎◌, Some, Ok, Err, ◌<◌, ℕ, List, IfOk, IfErr, OnErr};
 ghost use Rattle.std.specs.Io.KnownBytes.{Appends};
-ghost use Rattle.pfs_cli_streams.specs.Feeds.{unread, IsSpent, read_failures};
+ghost use Rattle.pfs_cli_streams.specs.Feeds.{unread, IsSpent, reads_of, read_failures};
 ghost use Rattle.pfs_cli_streams.specs.Sinks.{bytes_held, write_failures};
 ghost use Rattle.pfs_conf.specs.declared.faults.LoadFault.{LoadFault};
 ghost use Rattle.pfs_cli.specs.Rules.{AreRefused};
 ghost use Rattle.pfs_cli.specs.Replays.{Replays};
+ghost use Rattle.pfs_cli.specs.Halting.{IsHalt, RefusesWithin, TellsWithin};
 ghost use Rattle.pfs_cli_streams.specs.Joined.{split_joined};
 
+use crate::endings::{feed_fault, finish};
 use crate::faults::ReplayFault;
-use crate::replays::{feed_fault, finish};
+use crate::records::Stop;
+use crate::replays::FIRST_READ;
 use crate::reports::write_report;
 use crate::rules::load_config;
 use pfs_cli_streams::{Feed, RulesStop, Sink, read_joined};
 use std::alloc::Global;
 use std::io::{BufReader, Read, Write};
+
+/// How a joined text ends before its trace.
+enum Halt {
+    /// Its source gave no more.
+    Source,
+    /// Its rules are refused, or memory was.
+    Fault(ReplayFault),
+}
+
+/// Reads the rules of `source`, and then replays the trace behind them.
+fn tell_joined<S: Read + Drop, W: Write>(
+    alloc: Global,
+    source: S,
+    out: &mut Sink<W>,
+) -> Result<Result<(), Stop>, Halt>
+    ensures tells { IfOk result (λ outcome. (xs : List ℕ) → S.remaining source ≡ Some xs →
+        ((t : List ℕ) × Appends (bytes_held W.contents out.old) (bytes_held W.contents out.new) t × TellsWithin (split_joined xs) t outcome)) }
+    ensures refuses { IfErr result (λ h. (xs : List ℕ) → S.remaining source ≡ Some xs → RefusesWithin (split_joined xs) h) }
+    ensures kinds { IfErr result IsHalt }
+    ensures unwritten { OnErr result (out.new ≡ out.old) }
+    ensures fails { result ≡ Ok (Err Stop.Write) → 0 < write_failures out.new }
+{
+    let Ok(mut reader) = BufReader::new(alloc, source) else {
+        return Err(Halt::Fault(ReplayFault::Memory));
+    };
+    let text = match read_joined(alloc, &mut reader) {
+        Ok(text) => text,
+        Err(RulesStop::Memory) => return Err(Halt::Fault(ReplayFault::Memory)),
+        Err(RulesStop::Source) => return Err(Halt::Source),
+    };
+    match load_config(alloc, text) {
+        Ok(config) => Ok(write_report(alloc, config, reader, out)),
+        Err(fault) => Err(Halt::Fault(fault)),
+    }
+}
 
 /// Replays the trace that follows the rules in one text, and writes its report.
 ///
@@ -23,6 +61,8 @@ use std::io::{BufReader, Read, Write};
 /// that line; without such a line the rules are all, and the trace is empty. `%%` as the last bytes
 /// is such a line. Rules that are too long are read on to the split line or the end before that is
 /// told, in bounded memory.
+///
+/// Nothing is written before the text has been read.
 ///
 /// What is written, also of entries that expire, each fault, and the memory are as `replay` says of the
 /// two parts.
@@ -34,25 +74,24 @@ pub fn replay_joined<R: Read, W: Write>(
     ensures reports { (xs : List ℕ) → unread R.remaining input.old ≡ Some xs →
         ((t : List ℕ) × Appends (bytes_held W.contents out.old) (bytes_held W.contents out.new) t × Replays (split_joined xs).0 (split_joined xs).1 t result) }
     ensures refused { (xs : List ℕ) (f : LoadFault) → unread R.remaining input.old ≡ Some xs → result ≡ Err (ReplayFault.Rules f) → AreRefused (split_joined xs).0 f }
+    ensures unwritten { (f : LoadFault) → result ≡ Err (ReplayFault.Rules f) → out.new ≡ out.old }
+    ensures input_first { (out.new ≡ out.old) ⊎ (0 < reads_of input.new) }
     ensures read { result ≡ Err ReplayFault.Read → 0 < read_failures input.new }
     ensures endless { result ≡ Err ReplayFault.Endless → IsSpent input.new }
     ensures write { result ≡ Err ReplayFault.Write → 0 < write_failures out.new }
 {
-    let Ok(mut reader) = BufReader::new(alloc, &mut *input) else {
-        return Err(ReplayFault::Memory);
+    let mut first = [0; FIRST_READ];
+    let n = match input.read(&mut first) {
+        Ok(n) => n,
+        Err(_) => return Err(feed_fault(input)),
     };
-    let text = match read_joined(alloc, &mut reader) {
-        Ok(text) => text,
-        Err(RulesStop::Memory) => return Err(ReplayFault::Memory),
-        Err(RulesStop::Source) => {
-            drop(reader);
-            return Err(feed_fault(input));
-        }
-    };
-    let config = match load_config(alloc, text) {
-        Ok(config) => config,
-        Err(fault) => return Err(fault),
-    };
-    let outcome = write_report(alloc, config, reader, out);
-    finish(outcome, input, out)
+    let mut lent = first[..n].chain(input.lend());
+    let told = tell_joined(alloc, &mut lent, out);
+    let reads = lent.into_inner().1.reads();
+    input.resume(reads);
+    match told {
+        Ok(outcome) => finish(outcome, input, out),
+        Err(Halt::Source) => Err(feed_fault(input)),
+        Err(Halt::Fault(fault)) => Err(fault),
+    }
 }

@@ -3,6 +3,7 @@
 #![tactic(auto)]
 
 mod checks;
+mod endings;
 mod faults;
 mod joined;
 mod performing;

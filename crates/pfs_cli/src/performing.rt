@@ -2,12 +2,12 @@
 
 ghost use Rattle.std.specs.Prelude.{◌≡◌, ◌⊎◌, Some, Err, ◌<◌, ◌≤◌, ◌+◌, ℕ, List, drop, true};
 ghost use Rattle.std.specs.Io.KnownBytes.{Appends};
-ghost use Rattle.pfs_cli_streams.specs.Feeds.{unread, has_ended, IsFresh, IsSpent, read_failures};
+ghost use Rattle.pfs_cli_streams.specs.Feeds.{unread, has_ended, IsFresh, IsSpent, reads_of, read_failures};
 ghost use Rattle.pfs_cli_streams.specs.Sinks.{bytes_held, write_failures};
 ghost use Rattle.pfs_conf.specs.declared.faults.LoadFault.{LoadFault};
 ghost use Rattle.pfs_cli_streams.specs.Kept.{rules_limit};
 ghost use Rattle.pfs_cli.specs.Rules.{AreRefused};
-ghost use Rattle.pfs_cli.specs.Performing.{OfReplay, OfRulesFile, Performs, ReadsRulesAlone, rules_within};
+ghost use Rattle.pfs_cli.specs.Performing.{OfJoined, OfReplay, OfRulesFile, Performs, ReadsRulesAlone, rules_within};
 
 use crate::checks::{check, print};
 use crate::faults::ReplayFault;
@@ -21,7 +21,7 @@ use std::io::{Read, Write};
 /// Does a job over the feeds that it needs: `replay_joined` of the rules' feed for `Joined`, and `check`, `print` or
 /// `replay` for the others. A feed that the job does not need is not read. What is written and answered is what that call
 /// writes and answers: of a rules file no more than 1,048,577 bytes are read, and nothing of a replay is written before
-/// its rules are read to their end.
+/// its rules are read to their end and its trace has been read.
 pub fn perform<R: Read, T: Read, W: Write>(
     alloc: Global,
     job: &Job,
@@ -35,6 +35,8 @@ pub fn perform<R: Read, T: Read, W: Write>(
     ensures refused { (rs : List ℕ) (f : LoadFault) → unread R.remaining rules.old ≡ Some rs → result ≡ Err (ReplayFault.Rules f) → AreRefused (rules_within job.now rs) f }
     ensures untouched { ReadsRulesAlone job.now (trace.new ≡ trace.old) }
     ensures rules_first { OfReplay job.now ((out.new ≡ out.old) ⊎ ((has_ended rules.new ≡ true) × (read_failures rules.new ≡ 0))) }
+    ensures trace_first { OfReplay job.now ((out.new ≡ out.old) ⊎ (0 < reads_of trace.new)) }
+    ensures input_first { OfJoined job.now ((out.new ≡ out.old) ⊎ (0 < reads_of rules.new)) }
     ensures few { OfRulesFile job.now ((rs : List ℕ) → unread R.remaining rules.old ≡ Some rs →
         (k : ℕ) × (k ≤ rules_limit + 1) × (unread R.remaining rules.new ≡ Some (drop k rs))) }
     ensures read { result ≡ Err ReplayFault.Read → (0 < read_failures rules.new) ⊎ (0 < read_failures trace.new) }

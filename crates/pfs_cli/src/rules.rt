@@ -1,12 +1,62 @@
 //! From a rules text to its configuration.
 
-ghost use Rattle.std.specs.Prelude.{◌≡◌, IfOk, IfErr};
+ghost use Rattle.std.specs.Prelude.{◌≡◌, ◌≢◌, Some, Err, ◌<◌, ◌≤◌, ◌+◌, ℕ, List, true, IfOk, IfErr, length, drop};
+ghost use Rattle.pfs_cli_streams.specs.Feeds.{unread, has_ended, IsSpent, read_failures};
+ghost use Rattle.pfs_cli_streams.specs.Kept.{KeepsEnough, rules_limit};
 ghost use Rattle.pfs_conf.specs.Reads.{Reads};
-ghost use Rattle.pfs_cli.specs.Refusing.{RefusesRules, fault_of};
+ghost use Rattle.pfs_cli.specs.Refusing.{IsFeedFault, RefusesRules, RefusesText, fault_of};
 
+use crate::endings::feed_fault;
 use crate::faults::ReplayFault;
+use pfs_cli_streams::{Feed, RulesStop, read_rules};
 use pfs_conf::{Config, Kind, LoadFault, load};
 use std::alloc::Global;
+use std::io::Read;
+
+/// The configuration of the rules text that a feed gives.
+pub(crate) fn read_config<R: Read>(
+    alloc: Global,
+    rules: &mut Feed<R>,
+) -> Result<Config, ReplayFault>
+    requires { read_failures rules.old ≡ 0 }
+    ensures ok { IfOk result (λ c. (rs : List ℕ) → unread R.remaining rules.old ≡ Some rs → Reads rs c) }
+    ensures err { IfErr result (λ f. (rs : List ℕ) → unread R.remaining rules.old ≡ Some rs → RefusesText rs f) }
+    ensures ended { IfOk result (λ c. has_ended rules.new ≡ true) }
+    ensures few { (rs : List ℕ) → unread R.remaining rules.old ≡ Some rs → (k : ℕ) × (k ≤ rules_limit + 1) × (unread R.remaining rules.new ≡ Some (drop k rs)) }
+    ensures read { result ≡ Err ReplayFault.Read → 0 < read_failures rules.new }
+    ensures endless { result ≡ Err ReplayFault.Endless → IsSpent rules.new }
+    ensures memory { result ≡ Err ReplayFault.Memory → read_failures rules.new ≡ 0 }
+    ensures sound { IfOk result (λ c. read_failures rules.new ≡ 0) }
+    ensures no_write { IfErr result (λ f. f ≢ ReplayFault.Write) }
+{
+    let text = match read_text(alloc, rules) {
+        Ok(text) => text,
+        Err(fault) => return Err(fault),
+    };
+    match load_config(alloc, text) {
+        Ok(config) => Ok(config),
+        Err(fault) => Err(fault),
+    }
+}
+
+/// The bytes of a rules text, of which no more is read than shows that it is too long.
+fn read_text<R: Read>(alloc: Global, rules: &mut Feed<R>) -> Result<Vec<u8>, ReplayFault>
+    requires { read_failures rules.old ≡ 0 }
+    ensures text { IfOk result (λ v. (rs : List ℕ) → unread R.remaining rules.old ≡ Some rs → KeepsEnough v.items rs) }
+    ensures ended { IfOk result (λ v. length v.items ≤ rules_limit → has_ended rules.new ≡ true) }
+    ensures sound { IfOk result (λ v. read_failures rules.new ≡ 0) }
+    ensures few { (rs : List ℕ) → unread R.remaining rules.old ≡ Some rs → (k : ℕ) × (k ≤ rules_limit + 1) × (unread R.remaining rules.new ≡ Some (drop k rs)) }
+    ensures kinds { IfErr result (λ f. IsFeedFault f) }
+    ensures read { result ≡ Err ReplayFault.Read → 0 < read_failures rules.new }
+    ensures endless { result ≡ Err ReplayFault.Endless → IsSpent rules.new }
+    ensures memory { result ≡ Err ReplayFault.Memory → read_failures rules.new ≡ 0 }
+{
+    match read_rules(alloc, rules) {
+        Ok(text) => Ok(text),
+        Err(RulesStop::Memory) => Err(ReplayFault::Memory),
+        Err(RulesStop::Source) => Err(feed_fault(rules)),
+    }
+}
 
 /// The configuration of a rules text.
 pub(crate) fn load_config(alloc: Global, text: Vec<u8>) -> Result<Config, ReplayFault>
@@ -15,12 +65,12 @@ pub(crate) fn load_config(alloc: Global, text: Vec<u8>) -> Result<Config, Replay
 {
     match load(alloc, text.as_slice()) {
         Ok(config) => Ok(config),
-        Err(fault) => Err(told(fault)),
+        Err(fault) => Err(of_rules(fault)),
     }
 }
 
-/// A fault of a rules text, as it is told: want of memory has a fault of its own.
-pub(crate) fn told(fault: LoadFault) -> ReplayFault
+/// The fault of a replay of rules with this fault: want of memory has a fault of its own.
+fn of_rules(fault: LoadFault) -> ReplayFault
     ensures { result ≡ fault_of fault }
 {
     match fault.kind {

@@ -1,5 +1,6 @@
 -- What a feed is, and when a read of it is a read of its reader. (own)
 use Rattle.std.specs.Prelude.{◌≡◌, ◌⊎◌, ◌<◌, ℕ, Bool, false, List, [], Option, Some, if◌then◌else◌}
+use Rattle.std.specs.Borrow.{MutBor}
 
 -- what a contract sees of a feed
 pub record FeedView (R : Type 0) : Type 0 where
@@ -12,6 +13,10 @@ pub record FeedView (R : Type 0) : Type 0 where
 -- the bytes that a feed will give: none after its end, else those of its reader
 abbrev pub unread : {R : Type 0} → (R → Option (List ℕ)) → FeedView R → Option (List ℕ)
 unread remaining f = if f.ended then Some [] else remaining f.reader
+
+-- the same of a feed whose reader is lent
+abbrev pub unread_behind : {R : Type 0} → (R → Option (List ℕ)) → FeedView (MutBor R) → Option (List ℕ)
+unread_behind remaining f = unread (λ r. remaining r.now) f
 
 -- the reader, with what was read of it taken off
 abbrev pub reader_of : {R : Type 0} → FeedView R → R

@@ -1,14 +1,25 @@
 //! A reader under a bound of reads, so that no run waits for an end that never comes.
 
-ghost use Rattle.std.specs.Prelude.{◌≡◌, ◌≢◌, ◌⊎◌, ◌+◌, ◌<◌, ◌≤◌, ◌↔◌, true, false, length, IfErr, IfOk, OnOk, OnErr, IsErr, IsTrue};
+ghost use Rattle.std.specs.Prelude.{◌≡◌, ◌≢◌, ◌⊎◌, ◌+◌, ◌<◌, ◌≤◌, ◌↔◌, ℕ, List, Option, true, false, length, IfErr, IfOk, OnOk, OnErr, IsErr, IsTrue};
 ghost use Rattle.std.specs.Io.{ReadsAtMost};
 ghost use Rattle.std.specs.Io.KnownBytes.{ReadConsumes};
 ghost use Rattle.std.specs.IoError.{error_kind};
-ghost use Rattle.pfs_cli_streams.specs.Feeds.{FeedView, unread, reader_of, bound_of, reads_of, read_failures, has_ended, IsSpent, IsFresh, MayRead, IsClosed};
+ghost use Rattle.pfs_cli_streams.specs.Feeds.{FeedView, unread, unread_behind, reader_of, bound_of, reads_of, read_failures, has_ended, IsSpent, IsFresh, MayRead, IsClosed};
 
 use std::io;
 use std::io::{Error, ErrorKind, Read};
 use std::marker::Model;
+
+/// How often a reader was read, of how many times it may be, and how the reads ended.
+#[derive(Clone, Copy, Debug)]
+pub struct Reads {
+    bound: u64,
+    made: u64,
+    failures: u64,
+    ended: bool,
+    ghost within: { made ≤ bound },
+    ghost end_was_read: { ended ≡ true → 0 < made },
+}
 
 /// A reader of which at most a given number of reads are made.
 ///
@@ -21,18 +32,13 @@ use std::marker::Model;
 #[derive(Debug, Drop)]
 pub struct Feed<R> {
     reader: R,
-    bound: u64,
-    made: u64,
-    failures: u64,
-    ended: bool,
+    reads: Reads,
 }
 
 impl<R> Model for Feed<R> {
     ghost Value = { FeedView R };
 
-    ghost view = { λ f. record { reader = f.reader; bound = f.bound; made = f.made; failures = f.failures; ended = f.ended } };
-
-    ghost invariant = { λ f. f.made ≤ f.bound };
+    ghost view = { λ f. record { reader = f.reader; bound = f.reads.bound; made = f.reads.made; failures = f.reads.failures; ended = f.reads.ended } };
 }
 
 impl<R> Feed<R> {
@@ -44,10 +50,12 @@ impl<R> Feed<R> {
     {
         Feed {
             reader,
-            bound: reads,
-            made: 0,
-            failures: 0,
-            ended: false,
+            reads: Reads {
+                bound: reads,
+                made: 0,
+                failures: 0,
+                ended: false,
+            },
         }
     }
 
@@ -55,14 +63,70 @@ impl<R> Feed<R> {
     pub fn failures(&self) -> u64
         ensures { result ≡ read_failures self.now }
     {
-        self.failures
+        self.reads.failures
     }
 
     /// Whether all reads of the bound are made, and each gave a byte.
     pub fn spent(&self) -> bool
         ensures { IsTrue result ↔ IsSpent self.now }
     {
-        self.made == self.bound && !self.ended && self.failures == 0
+        let Reads {
+            bound,
+            made,
+            failures,
+            ended,
+        } = self.reads;
+        made == bound && !ended && failures == 0
+    }
+
+    /// Lends a feed of which a read was made: what is lent reads on under the same bound, and counts its reads. The feed goes
+    /// on behind them by `resume`.
+    pub fn lend(&mut self) -> Begun<'_, R>
+        requires { 0 < reads_of self.old }
+        ensures bytes { (remaining : R → Option (List ℕ)) → unread_behind remaining result.feed ≡ unread remaining self.old }
+    {
+        Begun {
+            feed: Feed {
+                reader: &mut self.reader,
+                reads: self.reads,
+            },
+        }
+    }
+
+    /// Goes on behind these reads, which were made of its reader while it was lent.
+    pub fn resume(&mut self, reads: Reads)
+        ensures bound { bound_of self.new ≡ reads.bound }
+        ensures made { reads_of self.new ≡ reads.made }
+        ensures failures { read_failures self.new ≡ reads.failures }
+        ensures ended { has_ended self.new ≡ reads.ended }
+    {
+        self.reads = reads;
+    }
+}
+
+/// A feed that is lent, of which a read was made. Whatever is done with it, a read of its reader is counted.
+#[derive(Drop)]
+pub struct Begun<'a, R> {
+    feed: Feed<&'a mut R>,
+    ghost was_read: { 0 < reads_of feed },
+}
+
+impl<R> Begun<'_, R> {
+    /// The reads that were made of its reader: one at least.
+    pub fn reads(&self) -> Reads
+        ensures made { result.made ≡ reads_of self.now.feed }
+        ensures some { 0 < result.made }
+    {
+        self.feed.reads
+    }
+}
+
+impl<R: Read> Read for Begun<'_, R> {
+    ghost remaining = { λ b. unread_behind R.remaining b.feed };
+
+    /// Reads as the feed does.
+    fn read(&mut self, buf: &mut [u8]) -> io::Result<usize> {
+        self.feed.read(buf)
     }
 }
 
@@ -86,6 +150,8 @@ impl<R: Read> Read for Feed<R> {
         ensures same_bound { bound_of self.new ≡ bound_of self.old }
 
         // What is known after it.
+        ensures grows { reads_of self.old ≤ reads_of self.new }
+        ensures begun { OnOk result (0 < length buf.old → 0 < reads_of self.new) }
         ensures at_end { result ≡ Ok 0 → 0 < length buf.old → has_ended self.new ≡ true }
         ensures goes_on { IfOk result (λ n. 0 < n → has_ended self.new ≡ false) }
         ensures gives { OnOk result (read_failures self.new ≡ read_failures self.old) }
@@ -94,20 +160,20 @@ impl<R: Read> Read for Feed<R> {
         ensures counts { (read_failures self.new ≡ read_failures self.old)
             ⊎ (IsErr result × MayRead self.old × (0 < length buf.old) × (read_failures self.new ≡ read_failures self.old + 1)) }
     {
-        if buf.is_empty() || self.ended {
+        if buf.is_empty() || self.reads.ended {
             return Ok(0);
         }
-        if self.failures > 0 || self.made == self.bound {
+        if self.reads.failures > 0 || self.reads.made == self.reads.bound {
             return Err(Error::new(ErrorKind::Other, "the feed gives no more"));
         }
-        self.made += 1;
+        self.reads.made += 1;
         match self.reader.read(buf) {
             Ok(n) => {
-                self.ended = n == 0;
+                self.reads.ended = n == 0;
                 Ok(n)
             }
             Err(_) => {
-                self.failures += 1;
+                self.reads.failures += 1;
                 Err(Error::new(ErrorKind::Other, "the reader failed"))
             }
         }

@@ -7,7 +7,7 @@ mod sinks;
 mod splitting;
 mod writing;
 
-pub use feeds::Feed;
+pub use feeds::{Begun, Feed, Reads};
 pub use rules::{RULES_LIMIT, RulesStop, read_rules};
 pub use sinks::Sink;
 pub use splitting::read_joined;

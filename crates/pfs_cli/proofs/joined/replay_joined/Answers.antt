@@ -1,38 +1,34 @@
 -- Answers of replay_joined: what is written is the report of the two parts of the joined text (`reports`), and refused rules have their fault (`refused`).
-use Rattle.std.proofs.Common.{Err, refl, ◌≡◌, Some, ℕ, List, [], Option, MutBor}
-use Rattle.std.specs.Io.Buffered.{reader_remaining, reader_buffer, reader_inner, reader_capacity}
-use Rattle.std.specs.declared.io.buffered.BufReader.{BufReader}
-use Rattle.pfs_cli_streams.specs.Feeds.{FeedView, unread}
+use Rattle.std.proofs.Common.{◌≡◌, []}
 use Rattle.pfs_cli_streams.specs.Joined.{split_joined}
+use Rattle.pfs_cli.specs.declared.faults.ReplayFault.TheVariants as fault
 use Rattle.pfs_cli.proofs.Telling.{Appends-nothing, Appends-kept}
-use Rattle.pfs_cli.proofs.Replaying.{kept-reads, rules-refused, rules-told}
+use Rattle.pfs_cli.proofs.Replaying.{lent-gives, rules-cut, rules-text, text-refused, told-refused}
 use Rattle.pfs_cli.proofs.joined.replay_joined.Goals as goal
 
--- a new buffered reader holds what the reader under it does
-fresh_holds : {T A : Type 0} (rem : T → Option (List ℕ)) (r : BufReader T A) (inner : T) (xs : List ℕ) → reader_inner r ≡ inner → reader_buffer r ≡ [] → reader_capacity r ≡ 8192 → rem inner ≡ Some xs
-    → reader_remaining rem r ≡ Some xs
-fresh_holds rem r inner xs i b n e = rw (n, b, i, e) refl
-
 pub returns-in-Err-clause-reports : goal.returns-in-Err-clause-reports
-returns-in-Err-clause-reports g c xs e =
-    let start = fresh_holds (λ (r : MutBor (FeedView g.row.R.Denot)). unread g.R.Read.remaining r.now) c.in-Ok.reader _ xs c.in-Ok.ensures.inner c.in-Ok.ensures.empty c.in-Ok.ensures.capacity e in
-    let told = rules-refused c.in-Ok-read_joined.text.items (split_joined xs).0 (split_joined xs).1 c.in-Err.fault (c.in-Ok-read_joined.ensures.rules xs start) c.in-Err.ensures.err in
-    ([], Appends-nothing _, told)
+returns-in-Err-clause-reports g c xs e = ([], Appends-nothing _, rules-cut (split_joined xs).0 (split_joined xs).1 c.feed_fault.result c.feed_fault.ensures.kinds)
 
-pub returns-clause-reports : goal.returns-clause-reports
-returns-clause-reports g c xs e =
-    let start = fresh_holds (λ (r : MutBor (FeedView g.row.R.Denot)). unread g.R.Read.remaining r.now) c.in-Ok.reader _ xs c.in-Ok.ensures.inner c.in-Ok.ensures.empty c.in-Ok.ensures.capacity e in
-    let conf = c.in-Ok-load_config.config in
-    let known = kept-reads c.in-Ok-read_joined.text.items (split_joined xs).0 conf (c.in-Ok-read_joined.ensures.rules xs start) c.in-Ok-load_config.ensures.ok in
-    let trace = c.in-Ok-read_joined.ensures.trace xs start c.in-Ok-load_config.ensures.ok.short in
-    let (t, grown, told) = c.write_report-outcome.ensures.tells (split_joined xs).1 trace in
+pub returns-in-Ok-told-clause-reports : goal.returns-in-Ok-told-clause-reports
+returns-in-Ok-told-clause-reports g c xs e =
+    let given = lent-gives xs _ _ _ _ _ e c.in-Ok.ensures.bytes.0 (c.lend.ensures.bytes g.R.Read.remaining) c.chain-lent.ensures.bytes in
+    let (t, grown, (conf, known, told)) = c.in-Ok-told.ensures.tells xs given in
     (t, Appends-kept _ _ _ t grown c.finish.ensures.kept, c.finish.ensures.told conf (split_joined xs).0 (split_joined xs).1 t known told)
 
-pub returns-in-Err-clause-refused : goal.returns-in-Err-clause-refused
-returns-in-Err-clause-refused g c xs f e is =
-    let start = fresh_holds (λ (r : MutBor (FeedView g.row.R.Denot)). unread g.R.Read.remaining r.now) c.in-Ok.reader _ xs c.in-Ok.ensures.inner c.in-Ok.ensures.empty c.in-Ok.ensures.capacity e in
-    let fault = c.in-Err.fault in
-    rules-told c.in-Ok-read_joined.text.items (split_joined xs).0 fault f (Err fault) (c.in-Ok-read_joined.ensures.rules xs start) c.in-Err.ensures.err refl is
+pub returns-in-Err-Fault-clause-reports : goal.returns-in-Err-Fault-clause-reports
+returns-in-Err-Fault-clause-reports g c xs e =
+    let given = lent-gives xs _ _ _ _ _ e c.in-Ok.ensures.bytes.0 (c.lend.ensures.bytes g.R.Read.remaining) c.chain-lent.ensures.bytes in
+    let refused = rw c.in-Err-Fault.is at c.tell_joined-told.ensures.refuses in
+    let fault_is = rw c.in-Err-Fault.is at c.in-Err-Fault.field-0-is in
+    let told = rw fault_is at (refused xs given) in
+    let same = rw c.in-Err-Fault.is at c.tell_joined-told.ensures.unwritten in
+    ([], rw same (Appends-nothing _), text-refused (split_joined xs).0 (split_joined xs).1 c.in-Err-Fault.fault (rules-text (split_joined xs).0 c.in-Err-Fault.fault told))
 
-pub returns-clause-refused : goal.returns-clause-refused
-returns-clause-refused g c xs f e is = absurd (c.finish.ensures.no_rules f is)
+pub returns-in-Err-Fault-clause-refused : goal.returns-in-Err-Fault-clause-refused
+returns-in-Err-Fault-clause-refused g c xs f e is =
+    let given = lent-gives xs _ _ _ _ _ e c.in-Ok.ensures.bytes.0 (c.lend.ensures.bytes g.R.Read.remaining) c.chain-lent.ensures.bytes in
+    let refused = rw c.in-Err-Fault.is at c.tell_joined-told.ensures.refuses in
+    let fault_is = rw c.in-Err-Fault.is at c.in-Err-Fault.field-0-is in
+    let told = rw fault_is at (refused xs given) in
+    let same : c.in-Err-Fault.fault ≡ fault.Rules f = cc in
+    told-refused (split_joined xs).0 c.in-Err-Fault.fault f (rules-text (split_joined xs).0 c.in-Err-Fault.fault told) same

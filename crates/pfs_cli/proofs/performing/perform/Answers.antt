@@ -1,4 +1,6 @@
--- Answers of perform: a job `Replay` writes what replay reports (`performs`); each job tells its own rules refused (`refused`).
+-- Answers of perform: a job `Replay` writes what replay reports (`performs`); each job tells its own rules refused (`refused`), and what
+-- `check` and `print` leave is one record.
+use Rattle.std.proofs.Common.{inl}
 use Rattle.pfs_cli.proofs.performing.perform.Goals as goal
 
 pub returns-in-Replay-clause-performs : goal.returns-in-Replay-clause-performs
@@ -8,11 +10,47 @@ returns-in-Replay-clause-performs g c rs ts er et =
 pub returns-in-Joined-clause-refused : goal.returns-in-Joined-clause-refused
 returns-in-Joined-clause-refused g c rs f er is = rw c.in-Joined.is (c.replay_joined.ensures.refused rs f er is)
 
-pub returns-in-Check-clause-refused : goal.returns-in-Check-clause-refused
-returns-in-Check-clause-refused g c rs f er is = rw c.in-Check.is (c.check.ensures.refused rs f er is)
-
-pub returns-in-Show-clause-refused : goal.returns-in-Show-clause-refused
-returns-in-Show-clause-refused g c rs f er is = rw c.in-Show.is (c.print.ensures.refused rs f er is)
-
 pub returns-in-Replay-clause-refused : goal.returns-in-Replay-clause-refused
 returns-in-Replay-clause-refused g c rs f er is = rw c.in-Replay.is (c.replay.ensures.refused rs f er is)
+
+pub returns-in-Check-clause-performs : goal.returns-in-Check-clause-performs
+returns-in-Check-clause-performs g c rs ts er et = rw c.in-Check.is (c.check.ensures.tells.answers rs er)
+
+pub returns-in-Check-clause-refused : goal.returns-in-Check-clause-refused
+returns-in-Check-clause-refused g c rs f er is = rw c.in-Check.is (c.check.ensures.tells.refused rs f er is)
+
+pub returns-in-Check-clause-few : goal.returns-in-Check-clause-few
+returns-in-Check-clause-few g c = rw c.in-Check.is c.check.ensures.tells.few
+
+pub returns-in-Check-clause-read : goal.returns-in-Check-clause-read
+returns-in-Check-clause-read g c is = inl (c.check.ensures.tells.read is)
+
+pub returns-in-Check-clause-endless : goal.returns-in-Check-clause-endless
+returns-in-Check-clause-endless g c is = inl (c.check.ensures.tells.endless is)
+
+pub returns-in-Check-clause-write : goal.returns-in-Check-clause-write
+returns-in-Check-clause-write g c is = c.check.ensures.tells.write is
+
+pub returns-in-Check-clause-memory : goal.returns-in-Check-clause-memory
+returns-in-Check-clause-memory g c = rw c.in-Check.is c.check.ensures.tells.memory
+
+pub returns-in-Show-clause-performs : goal.returns-in-Show-clause-performs
+returns-in-Show-clause-performs g c rs ts er et = rw c.in-Show.is (c.print.ensures.tells.answers rs er)
+
+pub returns-in-Show-clause-refused : goal.returns-in-Show-clause-refused
+returns-in-Show-clause-refused g c rs f er is = rw c.in-Show.is (c.print.ensures.tells.refused rs f er is)
+
+pub returns-in-Show-clause-few : goal.returns-in-Show-clause-few
+returns-in-Show-clause-few g c = rw c.in-Show.is c.print.ensures.tells.few
+
+pub returns-in-Show-clause-read : goal.returns-in-Show-clause-read
+returns-in-Show-clause-read g c is = inl (c.print.ensures.tells.read is)
+
+pub returns-in-Show-clause-endless : goal.returns-in-Show-clause-endless
+returns-in-Show-clause-endless g c is = inl (c.print.ensures.tells.endless is)
+
+pub returns-in-Show-clause-write : goal.returns-in-Show-clause-write
+returns-in-Show-clause-write g c is = c.print.ensures.tells.write is
+
+pub returns-in-Show-clause-memory : goal.returns-in-Show-clause-memory
+returns-in-Show-clause-memory g c = rw c.in-Show.is c.print.ensures.tells.memory

@@ -8,7 +8,7 @@ use Rattle.pfs_cli.proofs.rules.load_config.Goals as goal
 
 pub returns-clause-err : goal.returns-clause-err
 returns-clause-err c =
-    subst (RefusesRules c.args.text.items) (sym c.told.ensures)
+    subst (RefusesRules c.args.text.items) (sym c.of_rules.ensures)
     (refuses c.args.text.items c.in-Err.fault
     (subst (λ (t : List ℕ). IsFault t c.in-Err.fault) c.as_slice.ensures.value c.in-Err.ensures.fault)
     (λ conf reads. c.in-Err.ensures.only conf (subst (λ (t : List ℕ). Reads t conf) (sym c.as_slice.ensures.value) reads)))

@@ -1,6 +1,6 @@
 -- Answers of finish: a run that ended, one whose flush failed, and one that stopped, as replays (`told`).
 use Rattle.pfs_cli.proofs.Replaying.{run-done, run-unflushed}
-use Rattle.pfs_cli.proofs.replays.finish.Goals as goal
+use Rattle.pfs_cli.proofs.endings.finish.Goals as goal
 
 pub returns-then-is_err-clause-told : goal.returns-then-is_err-clause-told
 returns-then-is_err-clause-told g c d rs ts t rules told = run-unflushed d rs ts t rules (rw c.in-Ok.is at told)

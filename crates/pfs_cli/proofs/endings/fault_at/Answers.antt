@@ -2,7 +2,7 @@
 use Rattle.std.proofs.Common.{refl, inr}
 use Rattle.pfs_cli.specs.declared.faults.ReplayFault.TheVariants as fault
 use Rattle.pfs_cli.proofs.Replaying.{run-fault, run-cut, run-write}
-use Rattle.pfs_cli.proofs.replays.fault_at.Goals as goal
+use Rattle.pfs_cli.proofs.endings.fault_at.Goals as goal
 
 pub returns-in-Fault-clause-told : goal.returns-in-Fault-clause-told
 returns-in-Fault-clause-told g c d rs ts t rules told = rw c.of_trace.ensures (run-fault d rs ts t c.in-Fault.fault rules (rw c.in-Fault.is at told))

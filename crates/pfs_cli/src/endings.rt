@@ -1,0 +1,75 @@
+//! How a call over a feed ends: the fault that is told, and the flush of what was written whole.
+
+ghost use Rattle.std.specs.Prelude.{◌≡◌, ◌≢◌, Err, ◌<◌, ℕ, List};
+ghost use Rattle.std.specs.Io.KnownBytes.{Keeps};
+ghost use Rattle.pfs_cli_streams.specs.Feeds.{IsSpent, read_failures};
+ghost use Rattle.pfs_cli_streams.specs.Sinks.{bytes_held, write_failures};
+ghost use Rattle.pfs_conf_values.specs.Configs.{Conf};
+ghost use Rattle.pfs_conf.specs.declared.faults.LoadFault.{LoadFault};
+ghost use Rattle.pfs_conf.specs.Reads.{Reads};
+ghost use Rattle.pfs_cli.specs.Turns.{Tells};
+ghost use Rattle.pfs_cli.specs.Refusing.{IsFeedFault};
+ghost use Rattle.pfs_cli_formats.specs.Traces.{trace_of};
+ghost use Rattle.pfs_cli.specs.Replays.{Replays};
+
+use crate::faults::{ReplayFault, of_trace};
+use crate::records::Stop;
+use pfs_cli_streams::{Feed, Sink};
+use std::io::Write;
+
+/// Why a call over this feed failed, where no fault of its own is at hand.
+pub(crate) fn feed_fault<R>(feed: &Feed<R>) -> ReplayFault
+    ensures kinds { IsFeedFault result }
+    ensures read { result ≡ ReplayFault.Read → 0 < read_failures feed.now }
+    ensures endless { result ≡ ReplayFault.Endless → IsSpent feed.now }
+    ensures memory { result ≡ ReplayFault.Memory → read_failures feed.now ≡ 0 }
+{
+    if feed.failures() > 0 {
+        ReplayFault::Read
+    } else if feed.spent() {
+        ReplayFault::Endless
+    } else {
+        ReplayFault::Memory
+    }
+}
+
+/// The fault of a run over this feed that stopped.
+pub(crate) fn fault_at<R>(stop: Stop, feed: &Feed<R>) -> ReplayFault
+    ensures told { (conf : Conf) (rs : List ℕ) (ts : List ℕ) (t : List ℕ) → Reads rs conf → Tells conf (trace_of conf ts) t (Err stop) → Replays rs ts t (Err result) }
+    ensures no_rules { (f : LoadFault) → result ≢ ReplayFault.Rules f }
+    ensures read { result ≡ ReplayFault.Read → 0 < read_failures feed.now }
+    ensures endless { result ≡ ReplayFault.Endless → IsSpent feed.now }
+    ensures write { result ≡ ReplayFault.Write → stop ≡ Stop.Write }
+{
+    match stop {
+        Stop::Fault(fault) => of_trace(fault),
+        Stop::Source => feed_fault(feed),
+        Stop::Memory => ReplayFault::Memory,
+        Stop::Write => ReplayFault::Write,
+    }
+}
+
+/// Flushes a report that is written whole, or tells why it is not.
+pub(crate) fn finish<R, W: Write>(
+    outcome: Result<(), Stop>,
+    feed: &Feed<R>,
+    out: &mut Sink<W>,
+) -> Result<(), ReplayFault>
+    requires { outcome ≡ Err (Stop.Write) → 0 < write_failures out.old }
+    ensures kept { Keeps (bytes_held W.contents out.old) (bytes_held W.contents out.new) }
+    ensures told { (conf : Conf) (rs : List ℕ) (ts : List ℕ) (t : List ℕ) → Reads rs conf → Tells conf (trace_of conf ts) t outcome → Replays rs ts t result }
+    ensures no_rules { (f : LoadFault) → result ≢ Err (ReplayFault.Rules f) }
+    ensures read { result ≡ Err ReplayFault.Read → 0 < read_failures feed.now }
+    ensures endless { result ≡ Err ReplayFault.Endless → IsSpent feed.now }
+    ensures write { result ≡ Err ReplayFault.Write → 0 < write_failures out.new }
+{
+    match outcome {
+        Ok(()) => {
+            if out.flush().is_err() {
+                return Err(ReplayFault::Write);
+            }
+            Ok(())
+        }
+        Err(stop) => Err(fault_at(stop, feed)),
+    }
+}
