@@ -37,3 +37,16 @@ JobIs found job.Joined = found ≡ None
 JobIs found (job.Check rules) = (rows : List Row) × (found ≡ Some (codes "check", rows)) × (first_of (codes "RULES") rows ≡ Some rules.now)
 JobIs found (job.Show rules) = (rows : List Row) × (found ≡ Some (codes "show", rows)) × (first_of (codes "RULES") rows ≡ Some rules.now)
 JobIs found (job.Replay rules trace) = (rows : List Row) × (found ≡ Some (codes "replay", rows)) × (first_of (codes "RULES") rows ≡ Some rules.now) × (first_of (codes "TRACE") rows ≡ Some trace.now)
+
+-- the names of the files that a job reads, where it names them
+abbrev pub rules_file : Job → Option Text
+rules_file job.Joined = None
+rules_file (job.Check rules) = Some rules.now
+rules_file (job.Show rules) = Some rules.now
+rules_file (job.Replay rules trace) = Some rules.now
+
+abbrev pub trace_file : Job → Option Text
+trace_file job.Joined = None
+trace_file (job.Check rules) = None
+trace_file (job.Show rules) = None
+trace_file (job.Replay rules trace) = Some trace.now

@@ -1,5 +1,4 @@
 //! The words of the command line, and the job that they ask for.
-
 #![tactic(auto)]
 
 mod tasks;

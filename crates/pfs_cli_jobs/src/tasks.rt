@@ -1,5 +1,8 @@
 //! What the program is asked to do.
 
+ghost use Rattle.std.specs.Prelude.{◌≡◌, option_map};
+ghost use Rattle.pfs_cli_jobs.specs.Jobs.{rules_file, trace_file};
+
 /// What the program is asked to do. Files are named as the words name them; `-` is the name of a file like any other.
 #[derive(Clone, Copy, Debug, PartialEq, Eq)]
 pub enum Job<'a> {
@@ -11,4 +14,18 @@ pub enum Job<'a> {
     Show(&'a str),
     /// `replay RULES TRACE`: the report of a trace under rules, each in a file.
     Replay(&'a str, &'a str),
+}
+
+impl<'a> Job<'a> {
+    /// The names of the rules file and of the trace file: none where the job reads standard input or nothing in place of it.
+    pub fn files(&self) -> (Option<&'a str>, Option<&'a str>)
+        ensures rules { option_map (λ name. name.now) result.0 ≡ rules_file self.now }
+        ensures trace { option_map (λ name. name.now) result.1 ≡ trace_file self.now }
+    {
+        match *self {
+            Job::Joined => (None, None),
+            Job::Check(rules) | Job::Show(rules) => (Some(rules), None),
+            Job::Replay(rules, trace) => (Some(rules), Some(trace)),
+        }
+    }
 }

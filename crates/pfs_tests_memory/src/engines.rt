@@ -5,13 +5,12 @@ ghost use Rattle.std.specs.Option.{ForSome};
 ghost use Rattle.pfs_engine_machine.specs.Runs.{AreAllowed, IsInOrder, MayCome, MayExpire};
 
 use crate::packets::{A1, A2, Sent, packet};
+use crate::telling::{Stop, answered, begin, begin_free, end, plain, refused};
 use pfs_addr_values::{Addr, NoMemory, Packet};
 use pfs_conf::{Config, RuleNo, TableNo, load};
 use pfs_engine::{Added, Arrival, Engine, Event, Exceeded, Limit, Outcome};
 use pfs_store::{IndexStore, PlainStore, Store};
-use pfs_tests_telling::{
-    CONNECTIONS, FULL, NODES, OVERLOAD, Stop, answered, begin, begin_free, end, plain, refused,
-};
+use pfs_tests_program::{CONNECTIONS, FULL, NODES, OVERLOAD};
 
 type Indexed = IndexStore;
 

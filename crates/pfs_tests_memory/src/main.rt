@@ -9,9 +9,10 @@ mod packets;
 mod programs;
 mod stores;
 mod tables;
+mod telling;
 mod texts;
 
-use pfs_tests_telling::{Stop, code_of, is_chosen};
+use crate::telling::{Stop, code_of, is_chosen};
 use std::env;
 use std::process::ExitCode;
 

@@ -3,8 +3,8 @@
 ghost use Rattle.std.specs.Prelude.{◌≡◌, true};
 ghost use Rattle.pfs_addr_values.specs.Protocols.{has_ports};
 
+use crate::telling::Stop;
 use pfs_addr_values::{Addr, Dir, Endpoint, Flags, Packet, Proto, parse_ifname};
-use pfs_tests_telling::Stop;
 
 /// Two sources.
 pub const A1: Addr = Addr::V4([198, 51, 100, 1]);

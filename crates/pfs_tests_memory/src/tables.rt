@@ -3,12 +3,11 @@
 ghost use Rattle.std.specs.Prelude.{◌≡◌, ◌<◌, length};
 
 use crate::packets::{A1, Sent, packet};
+use crate::telling::{Stop, answered, begin, begin_free, end, plain, refused};
 use pfs_addr_values::{Addr, Meter, NoMemory, Packet};
 use pfs_conf::{Config, RuleNo, TableNo, load};
 use pfs_eval::{Added, Book, Tables};
-use pfs_tests_telling::{
-    EVERYTHING, FULL, NODES, OVERLOAD, Stop, answered, begin, begin_free, end, plain, refused,
-};
+use pfs_tests_program::{EVERYTHING, FULL, NODES, OVERLOAD};
 
 /// Rules, how many entries they have, and the rule that decides on a packet of UDP.
 type Row = (&'static [u8], u64, Option<u32>);

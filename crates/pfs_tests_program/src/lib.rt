@@ -1,4 +1,5 @@
-//! Tests of the program's calls: reports, faults, jobs and streams, over readers and writers in memory.
+//! Tests of the program's calls: reports, faults, jobs and streams, over readers and writers in memory. The rules texts are handed
+//! out to the program of refused memory.
 
 #![tactic(auto)]
 
@@ -43,6 +44,7 @@ mod limits;
 mod purges;
 #[cfg(test)]
 mod reports;
+mod rules_texts;
 #[cfg(test)]
 mod runs;
 #[cfg(test)]
@@ -53,3 +55,5 @@ mod traces;
 mod verdicts;
 #[cfg(test)]
 mod words;
+
+pub use crate::rules_texts::{CONNECTIONS, EVERYTHING, FULL, NODES, OVERLOAD, SHOWN};

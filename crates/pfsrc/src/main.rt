@@ -1,6 +1,5 @@
-//! The program: it opens the files that its words name, does the job, tells a fault on standard error, and ends with the
+//! The program: it opens the files that its words name, performs the job, reports a fault on standard error, and ends with the
 //! fault's status.
-
 #![tactic(auto)]
 
 use clap::Error;
@@ -9,7 +8,7 @@ use pfs_cli::{Feed, Job, ReplayFault, Sink, job, perform, status};
 use std::alloc::AllocError;
 use std::env;
 use std::fs::File;
-use std::io::{self, BufWriter, Write};
+use std::io::{self, BufWriter, Read, StdinLock, Write};
 use std::process::ExitCode;
 
 /// The most reads of one input.
@@ -22,17 +21,17 @@ fn main(rt: HostRuntime) -> ExitCode {
 fn run(rt: &HostRuntime) -> u8 {
     let words = match words(rt) {
         Ok(words) => words,
-        Err(error) => return wordless(rt, &error),
+        Err(error) => return report_unreadable_words(rt, &error),
     };
-    let Ok(names) = names(rt, &words) else {
-        return told(rt, &ReplayFault::Memory);
+    let Ok(words) = texts_of(rt, &words) else {
+        return report_fault(rt, &ReplayFault::Memory);
     };
-    match job(rt.alloc(), names.as_slice()) {
-        Ok(job) => match done(rt, &job) {
+    match job(rt.alloc(), words.as_slice()) {
+        Ok(job) => match perform_job(rt, &job) {
             Ok(()) => 0,
-            Err(fault) => told(rt, &fault),
+            Err(fault) => report_fault(rt, &fault),
         },
-        Err(refusal) => refused(rt, &refusal),
+        Err(refusal) => report_refused_words(rt, &refusal),
     }
 }
 
@@ -42,68 +41,81 @@ fn words(rt: &HostRuntime) -> io::Result<Vec<String>> {
     Ok(words.collect(rt.alloc())?)
 }
 
-fn names<'a>(rt: &HostRuntime, words: &'a [String]) -> Result<Vec<&'a str>, AllocError> {
+fn texts_of<'a>(rt: &HostRuntime, words: &'a [String]) -> Result<Vec<&'a str>, AllocError> {
     words.iter().map(|word| word.as_str()).collect(rt.alloc())
 }
 
-/// Does the job over the files that it names, or over standard input. Both files of a replay are opened before either is
-/// read.
-fn done(rt: &HostRuntime, job: &Job) -> Result<(), ReplayFault> {
+/// Performs the job over the files that it names, and over standard input where it names none. All files are opened before one
+/// is read.
+fn perform_job(rt: &HostRuntime, job: &Job) -> Result<(), ReplayFault> {
     let Ok(out) = BufWriter::new(rt.alloc(), io::writer(rt)) else {
         return Err(ReplayFault::Memory);
     };
     let mut out = Sink::new(out);
-    let mut nothing = Feed::new(b"".as_slice(), 0);
-    let answer = match job {
-        Job::Joined => {
-            let mut input = Feed::new(rt.reader(), READS);
-            perform(rt.alloc(), job, &mut input, &mut nothing, &mut out)
-        }
-        Job::Check(rules) | Job::Show(rules) => {
-            let mut rules = Feed::new(open(rt, rules)?, READS);
-            perform(rt.alloc(), job, &mut rules, &mut nothing, &mut out)
-        }
-        Job::Replay(rules, trace) => {
-            let rules = open(rt, rules)?;
-            let trace = open(rt, trace)?;
-            perform(
-                rt.alloc(),
-                job,
-                &mut Feed::new(rules, READS),
-                &mut Feed::new(trace, READS),
-                &mut out,
-            )
-        }
-    };
+    let (rules, trace) = job.files();
+    let rules = Input::open(rt, rules)?;
+    let trace = Input::open(rt, trace)?;
+    let answer = perform(
+        rt.alloc(),
+        job,
+        &mut Feed::new(rules, READS),
+        &mut Feed::new(trace, READS),
+        &mut out,
+    );
     // At a fault nothing was flushed, and the lines before it are to be seen all the same.
     let _ = out.into_inner().flush();
     answer
 }
 
-fn open(rt: &HostRuntime, name: &str) -> Result<File, ReplayFault> {
-    File::open(rt, name).map_err(|_| ReplayFault::Read)
+/// What is read: a file, or standard input.
+#[derive(Drop)]
+enum Input {
+    File(File),
+    Standard(StdinLock<'static>),
 }
 
-/// Tells a fault on standard error; its status.
-fn told(rt: &HostRuntime, fault: &ReplayFault) -> u8 {
+impl Input {
+    /// The file of this name, or standard input where no file is named.
+    fn open(rt: &HostRuntime, name: Option<&str>) -> Result<Input, ReplayFault> {
+        match name {
+            Some(name) => match File::open(rt, name) {
+                Ok(file) => Ok(Input::File(file)),
+                Err(_) => Err(ReplayFault::Read),
+            },
+            None => Ok(Input::Standard(rt.reader())),
+        }
+    }
+}
+
+impl Read for Input {
+    fn read(&mut self, buf: &mut [u8]) -> io::Result<usize> {
+        match self {
+            Input::File(file) => file.read(buf),
+            Input::Standard(input) => input.read(buf),
+        }
+    }
+}
+
+/// Reports a fault on standard error; its status.
+fn report_fault(rt: &HostRuntime, fault: &ReplayFault) -> u8 {
     let _ = eprintln!(rt; "{fault}");
     status(fault)
 }
 
-/// Tells that the words could not be taken: one is not UTF-8, which is a mistake in the words, or memory was refused.
-fn wordless(rt: &HostRuntime, error: &io::Error) -> u8 {
+/// Reports that the words could not be read: one is not UTF-8, which is a mistake in the words, or memory was refused.
+fn report_unreadable_words(rt: &HostRuntime, error: &io::Error) -> u8 {
     if error.kind() == io::ErrorKind::InvalidData {
         let _ = eprintln!(rt; "error: a word is not UTF-8");
         return 2;
     }
-    told(rt, &ReplayFault::Memory)
+    report_fault(rt, &ReplayFault::Memory)
 }
 
-/// Tells what `clap` says of the words: help or the version on standard output with status 0, a mistake on standard error
+/// Reports what `clap` says of the words: help or the version on standard output with status 0, a mistake on standard error
 /// with status 2.
-fn refused(rt: &HostRuntime, refusal: &Error) -> u8 {
+fn report_refused_words(rt: &HostRuntime, refusal: &Error) -> u8 {
     if refusal.kind() == ErrorKind::OutOfMemory {
-        return told(rt, &ReplayFault::Memory);
+        return report_fault(rt, &ReplayFault::Memory);
     }
     let printed = refusal.print(rt);
     if refusal.use_stderr() {
@@ -111,6 +123,6 @@ fn refused(rt: &HostRuntime, refusal: &Error) -> u8 {
     }
     match printed {
         Ok(()) => 0,
-        Err(_) => told(rt, &ReplayFault::Write),
+        Err(_) => report_fault(rt, &ReplayFault::Write),
     }
 }

@@ -1,4 +1,4 @@
-//! Rules texts that more than one call begins with.
+//! Rules texts that more than one call begins with, here and in the program of refused memory.
 
 /// Every statement, and its canonical text.
 pub const EVERYTHING: &[u8] = b"set limit states 50\n\

@@ -1,0 +1,10 @@
+-- Answer of admit_first: the first state, or a refusal, leaves no handshake to come (`order`).
+use Rattle.std.proofs.Common.{subst, sym}
+use Rattle.pfs_store_contract.specs.Worlds.{IsUpToNow, World, empty_world}
+use Rattle.pfs_store_contract.proofs.MomentLaws.{world_at-up_to_now}
+use Rattle.pfs_tests_memory.proofs.stores.admit_first.Goals as goal
+
+pub returns-clause-order : goal.returns-clause-order
+returns-clause-order g c =
+    let first = subst (λ (w : World). IsUpToNow 5 w) (sym c.requires.empty) tt in
+    rw c.in_ok-admit.ensures.ok (world_at-up_to_now (g.S.Store.config c.args.store.now) (g.S.Store.world c.args.store.now) c.args.packet.now 0 5 _ first)
