@@ -80,7 +80,7 @@ impl Records {
 
     /// The state of this number, of which there is a record: one look, and one search by number. It takes no memory.
     pub fn read(&self, number: u64, meter: &mut Meter) -> State
-        requires values_at { holds_number (states_of self.now) number ≡ true }
+        requires held { holds_number (states_of self.now) number ≡ true }
         requires room { meter.old < 2 ^ 64 - 1 }
         ensures value { Some result ≡ find (λ s. s.number == number) (states_of self.now) }
         ensures small { result.number < 2 ^ 32 }
@@ -94,7 +94,7 @@ impl Records {
 
     /// The state of the record that stands at this place: one look, and no search. It takes no memory.
     pub fn read_at(&self, place: u32, meter: &mut Meter) -> State
-        requires values_at { list_any (stands_at place) self.now ≡ true }
+        requires held { list_any (stands_at place) self.now ≡ true }
         requires room { meter.old < 2 ^ 64 - 1 }
         ensures value { IsRecordAt place result self.now }
         ensures sourced { IsSourced result }
@@ -210,7 +210,7 @@ fn short(place: usize) -> Result<u32, NoMemory>
 
 /// Reads the record at a place: the one look.
 fn look<'a>(slab: &'a Slab<Kept>, place: usize, meter: &mut Meter) -> &'a Kept
-    requires values_at { ContainsKey slab.now place }
+    requires held { ContainsKey slab.now place }
     requires room { meter.old < 2 ^ 64 - 1 }
     ensures value { get slab.now place ≡ Some result.now }
     ensures looks { meter.new ≡ meter.old + 1 }
