@@ -74,7 +74,7 @@ length_segments n [] even = omega arith
 length_segments n (a ∷ []) even = absurd (omega arith)
 length_segments n (a ∷ b ∷ xs) even = omega (arith, length_segments (n - 1) xs (omega arith))
 
-segments_small : (xs : List ℕ) → All IsByte xs → AllSegments (segments_of xs)
+pub segments_small : (xs : List ℕ) → All IsByte xs → AllSegments (segments_of xs)
 segments_small [] h k = omega arith
 segments_small (a ∷ []) h k = omega arith
 segments_small (a ∷ b ∷ xs) h k =
