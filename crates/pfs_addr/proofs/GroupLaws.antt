@@ -85,7 +85,7 @@ segments_small (a ∷ b ∷ xs) h k =
 
 -- ---- the groups of a text
 
--- the groups are of sixteen bits, and no slash stands between them
+-- the groups are of sixteen bits, and no slash is between them
 record AreGood (text segments : List ℕ) : Type 0 where
   slashless : list_all is_no_slash text ≡ true
   small : All IsSegment segments

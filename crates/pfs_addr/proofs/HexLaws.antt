@@ -65,7 +65,7 @@ more_room i [] h = absurd (omega arith)
 more_room zero (x ∷ xs) h = omega arith
 more_room (suc i) (x ∷ xs) h = more_room i xs (omega arith)
 
--- groups are the first and those behind it
+-- groups are the first and those after it
 pub groups_at : (xs : List ℕ) → 1 ≤ length xs → groups_text xs ≡ hex (get_or xs 0 0) ++ flat_map (λ g. 58 ∷ hex g) (drop 1 xs)
 groups_at [] h = absurd (omega arith)
 groups_at (x ∷ xs) h = refl
@@ -87,7 +87,7 @@ short_around xs run e many tail behind =
     cond-true _ _ _ (subst (λ (r : ℕ × ℕ). nat_lt 1 r.1 ≡ true) e many)
     ∙ (ap (λ (r : ℕ × ℕ). around (take r.0 xs) (drop (r.0 + r.1) xs)) (sym e) ∙ ap (around (take run.0 xs)) (sym behind))
 
--- the first group put, and then those behind it
+-- the first group put, and then those after it
 pub groups_put : (o p q xs rest : List ℕ) → 1 ≤ length xs → rest ≡ drop 1 xs → p ≡ o ++ hex (get_or xs 0 0) → q ≡ p ++ flat_map (λ g. 58 ∷ hex g) rest → q ≡ o ++ groups_text xs
 groups_put o p q xs rest some behind hp hq =
     hq

@@ -76,7 +76,7 @@ none_set : (a b c d e f g h : Bool) → a ≡ false → b ≡ false → c ≡ fa
     → (a || b || c || d || e || f || g || h) ≡ false
 none_set a b c d e f g h p q r s t u v w = rw (p, q, r, s, t, u, v, w) refl
 
--- some letter stands for a set that is not empty
+-- a set that is not empty has some letter
 pub letters_some : (f : Flags) → (f.fin || f.syn || f.rst || f.psh || f.ack || f.urg || f.ece || f.cwr) ≡ true → (length (letters_text f) == 0) ≡ false
 letters_some f h = go (letters_text f) (λ k. ap (names_letter k) (spelled_letters f) ∙ named k (lettered f))
   where

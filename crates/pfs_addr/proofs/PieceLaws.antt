@@ -30,7 +30,7 @@ split_piece c (b ∷ bs) h =
     let other : nat_eq b c ≡ false = grind (arith, nat_tests) in
     cond-false (nat_eq b c) _ _ other ∙ ap (λ t. onto_first b t) (split_piece c bs p.1)
 
--- behind it, the byte ends it
+-- and the byte after it ends it
 pub split_more : (c : ℕ) (x rest : List ℕ) → lacks c x ≡ true → slice_split (λ b. nat_eq b c) (x ++ c ∷ rest) ≡ x ∷ slice_split (λ b. nat_eq b c) rest
 split_more c [] rest h =
     let same : nat_eq c c ≡ true = grind (arith, nat_tests) in

@@ -130,7 +130,7 @@ pub octet_four : (a b c d : ℕ) (text rest more : List ℕ) → a < 10 → b < 
     → rest ≡ (48 + d) ∷ more → read_octet text ≡ None
 octet_four a b c d text rest more ha hb hc hd is next = octet_past a b c text rest ha hb hc is (λ n same fits stop. digit_goes_on d more rest hd next stop)
 
--- std's dotted texts are the texts of addresses
+-- four numbers below 256 are bytes
 all_below : (a b c d : ℕ) → a < 256 → b < 256 → c < 256 → d < 256 → All (λ x. x < 256) (a ∷ b ∷ c ∷ d ∷ [])
 all_below a b c d h i j k = search rules
 
@@ -140,7 +140,7 @@ from_dotted text bytes h =
     subst (λ (bs : List ℕ). IsAddr (V4 bs) × (text ≡ dotted_decimal bs)) (sym h.value)
     ((refl, all_below h.a h.b h.c h.d h.fit.0 h.fit.1 h.fit.2 h.fit.3), h.spelled ∙ sym spelled)
 
--- four bytes with nothing behind them are an address
+-- four bytes with nothing after them are an address
 quad_reads : (text bytes rest : List ℕ) → Some (bytes, rest) ≡ read_ipv4 text → length rest ≡ 0 → IsAddr (V4 bytes) × (text ≡ dotted_decimal bytes)
 quad_reads text bytes [] e none =
     let (front, split, h) = read_ipv4_sound text bytes [] (sym e) in

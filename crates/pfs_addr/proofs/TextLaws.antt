@@ -1,4 +1,4 @@
--- Texts of prefixes: the cut at the first slash, the length behind it, and what its two parts write.
+-- Texts of prefixes: the cut at the first slash, the length after it, and what its two parts write.
 use Rattle.std.proofs.Common.{ℕ, List, [], ◌∷◌, ◌++◌, ◌≡◌, ◌≤◌, ◌<◌, ◌+◌, Bool, true, false, cond, nat_eq, nat_lt, Option, Some, None, length, get_or, take, drop, position, decimal, refl, sym, ap, subst, arith, inl, inr, one-add, eqb-true, ltb-true, ltb-false, lt-ltb, ◌∙◌}
 use Rattle.std.specs.List.{list_all, prefix_len}
 use Rattle.std.proofs.lemmas.Bool.{and_from, and_parts, cond-true, cond-false}
@@ -51,7 +51,7 @@ none_by n len false e h = e
 pub no_place : (text : List ℕ) → None ≡ position (λ b. nat_eq b 47) text → list_all is_no_slash text ≡ true
 no_place text h = none_plain text (none_by (prefix_len is_no_slash text) (length text) (nat_lt (prefix_len is_no_slash text) (length text)) refl h)
 
--- the parts before and behind the place of the first slash
+-- the parts before and after the place of the first slash
 pub cut_parts : (text front back behind : List ℕ) (i : ℕ) → Some i ≡ position (λ b. nat_eq b 47) text → front ≡ take i text → back ≡ drop i text → behind ≡ drop 1 back
     → (list_all is_no_slash front ≡ true) × (text ≡ front ++ 47 ∷ behind)
 cut_parts text front back behind i e hf hb hd =

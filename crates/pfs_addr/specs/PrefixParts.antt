@@ -10,7 +10,7 @@ use Rattle.pfs_addr_values.specs.Numbers.{number_of}
 abbrev pub is_no_slash : ℕ → Bool
 is_no_slash b = not (b == 47)
 
--- a zero and more behind it
+-- a zero and more after it
 abbrev pub is_padded : List ℕ → Bool
 is_padded text = nat_lt 1 (length text) && (slice_index text 0 == 48)
 
@@ -23,7 +23,7 @@ small_of (Some n) = if nat_lt n 256 then Some n else None
 unfoldable pub length_of : List ℕ → Option ℕ
 length_of text = if is_padded text then None else small_of (number_of text)
 
--- the texts before and behind a slash write a prefix when they are an address and the number of bits
+-- the texts before and after a slash write a prefix when they are an address and the number of bits
 pub record PartsText (address length : List ℕ) (p : Network) : Type 0 where
   pub addr : Addr
   pub is_addr : IsAddr addr

@@ -16,9 +16,9 @@ use std::net::Ipv6Addr;
 
 /// The address that this text is, if it is one. `None` for every other text. It takes no memory.
 ///
-/// IPv4: four decimal numbers of 0 to 255, joined by dots, without zeros in front. (RFC 791, section 3.2; RFC 6943,
+/// IPv4: four decimal numbers of 0 to 255, joined by dots, without leading zeros. (RFC 791, section 3.2; RFC 6943,
 /// section 3.1.1, the strict form) IPv6: eight groups of one to four hexadecimal digits of either case, joined by `:`,
-/// where `::` may stand once for one or more groups of zeros. (RFC 4291, section 2.2, forms 1 and 2; that no tail with
+/// where `::` may occur once, for one or more groups of zeros. (RFC 4291, section 2.2, forms 1 and 2; that no tail with
 /// dots and no zone is read is own to this profile)
 pub fn parse_addr(text: &[u8]) -> Option<Addr>
     ensures value { result ≡ addr_of text.now }
@@ -56,7 +56,7 @@ fn quad(text: &[u8]) -> Option<Addr>
     if rest.is_empty() { Some(addr) } else { None }
 }
 
-/// Four bytes in decimal with dots between them, and what stands behind them.
+/// Four bytes in decimal with dots between them, and what follows them.
 #[inline(always)]
 #[tactic(auto, unfolding(std::specs::Net::Reader::read_ipv4))]
 fn four(text: &[u8]) -> Option<(Addr, &[u8])>
@@ -80,7 +80,7 @@ fn behind_dot(text: &[u8]) -> Option<&[u8]>
     }
 }
 
-/// A number of 0 to 255 without a zero in front, and what stands behind it, which is no digit.
+/// A number of 0 to 255 without a leading zero, and what follows it, which begins with no digit.
 #[inline(always)]
 fn octet(text: &[u8]) -> Option<(u8, &[u8])>
     ensures { read_view (λ n. n) result ≡ read_octet text.now }
@@ -104,7 +104,7 @@ fn octet(text: &[u8]) -> Option<(u8, &[u8])>
     }
 }
 
-/// The digit at the front of a text, and what stands behind it.
+/// The digit at the front of a text, and what follows it.
 #[inline(always)]
 fn digit(text: &[u8]) -> Option<(u8, &[u8])>
     ensures { MatchOption result (stops text.now ≡ true) (λ p. (p.0 < 10) × (text.now ≡ (48 + p.0) ∷ p.1.now)) }
@@ -115,11 +115,12 @@ fn digit(text: &[u8]) -> Option<(u8, &[u8])>
     }
 }
 
-/// Appends the text of an address, which `parse_addr` reads as it: of IPv4 the one that it reads, at most 15 bytes. Of
-/// IPv6 the one that RFC 5952 gives, at most 39: small hexadecimal digits without zeros in front of a group, `::` for the
-/// longest run of two or more groups of zeros, of such runs the first; never with dots. (RFC 5952, section 4)
+/// Appends the text of an address, which `parse_addr` reads as that address. IPv4: the one text that `parse_addr`
+/// reads, at most 15 bytes. IPv6: the text that RFC 5952 gives, at most 39 bytes: small hexadecimal digits without
+/// leading zeros in a group, and `::` for the longest run of two or more groups of zeros, of equal runs the first;
+/// never with dots. (RFC 5952, section 4)
 ///
-/// `NoMemory` where the vector had no room for the text and its growth was refused; the vector then holds what it held.
+/// `NoMemory` where the vector had no room for the text and more memory was refused; the vector then holds what it held.
 pub fn push_addr(out: &mut Vec<u8>, addr: Addr) -> Result<(), NoMemory>
     ensures ok { OnOk result (out.new.items ≡ out.old.items ++ addr_text addr) }
     ensures err { OnErr result (out.new.items ≡ out.old.items) }
@@ -182,7 +183,7 @@ fn push_octet(out: &mut Vec<u8>, octet: u8)
     }
 }
 
-/// Groups with `:` between them, and `::` in the place of the run of zeros that is left out.
+/// Groups with `:` between them, and `::` in place of the run of zeros that is left out.
 fn push_short(out: &mut Vec<u8>, groups: [u16; 8]) -> Result<(), NoMemory>
     ensures ok { OnOk result (out.new.items ≡ out.old.items ++ hex_groups_text groups) }
     ensures err { OnErr result (out.new.items ≡ out.old.items) }
@@ -214,7 +215,7 @@ fn push_all(out: &mut Vec<u8>, groups: &[u16]) -> Result<(), NoMemory>
     Ok(())
 }
 
-/// What stands before `::`, and what stands behind it.
+/// Writes the groups before `::`, the `::`, and the groups after it.
 fn push_around(out: &mut Vec<u8>, head: &[u16], tail: &[u16]) -> Result<(), NoMemory>
     requires head { length head.now ≤ 8 }
     requires tail { length tail.now ≤ 8 }
@@ -230,7 +231,7 @@ fn push_around(out: &mut Vec<u8>, head: &[u16], tail: &[u16]) -> Result<(), NoMe
     Ok(())
 }
 
-/// Where the longest run of zeros begins, the first of that length, and how long it is.
+/// Where the longest run of zeros begins (the first of that length), and how long it is.
 fn longest_zeros(groups: &[u16]) -> (usize, usize)
     ensures value { result ≡ longest_zero_run groups.now }
     ensures within { result.0 + result.1 ≤ length groups.now }

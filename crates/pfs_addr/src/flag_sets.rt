@@ -6,8 +6,8 @@ ghost use Rattle.pfs_addr.specs.LetterSteps.{with_letter};
 
 use pfs_addr_values::{Flags, NoMemory};
 
-/// The flags that this text names: letters of `FSRPAUEW` in any order, each as often as one likes, possibly none. `None`
-/// for a text with any other byte. It takes no memory.
+/// The flags that this text names: letters of `FSRPAUEW` in any order, with repetition, possibly none. `None` for a
+/// text with any other byte. It takes no memory.
 pub fn parse_flags(text: &[u8]) -> Option<Flags>
     ensures { result ≡ flags_of text.now }
 {
@@ -45,7 +45,7 @@ fn is_letter(b: u8) -> bool
 
 /// Appends the letters of flags, in the order `FSRPAUEW`, which `parse_flags` reads as them.
 ///
-/// `NoMemory` where memory was refused; some of the letters may stand there then.
+/// `NoMemory` where memory was refused; some of the letters may have been appended then.
 #[tactic(auto, using(crate::proofs::LetterTexts::flags_again))]
 pub fn push_flags(out: &mut Vec<u8>, flags: Flags) -> Result<(), NoMemory>
     ensures ok { OnOk result (out.new.items ≡ out.old.items ++ letters_text flags) }

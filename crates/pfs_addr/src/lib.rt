@@ -1,6 +1,6 @@
-//! Addresses, prefixes, protocols, ports, flags, names, packets and the keys of states, with the texts of those that have one: how each is
-//! read, and how addresses and flags are written. The values are those of `pfs_addr_values`, handed on. Of all calls `push_addr` and
-//! `push_flags` alone take memory.
+//! Addresses, prefixes, protocols, ports, flags, names, packets and the keys of states, with the texts of those that
+//! have one: how each is read, and how addresses and flags are written. The values are those of `pfs_addr_values`,
+//! re-exported. Only `push_addr` and `push_flags` take memory.
 #![tactic(auto)]
 
 mod addresses;

@@ -5,8 +5,8 @@ ghost use Rattle.std.specs.List.{list_all};
 ghost use Rattle.std.specs.Str.Parse.{digits_value};
 ghost use Rattle.pfs_addr_values.specs.Numbers.{is_digit, number_of};
 
-/// The number that this text is, if it is one: 1 to 10 decimal digits and nothing else, so at most 9999999999. Zeros in
-/// front are read. `None` for every other text, an empty one too. It takes no memory. (pf.conf(5), GRAMMAR, "number";
+/// The number that this text is, if it is one: 1 to 10 decimal digits and nothing else, so at most 9999999999. Leading
+/// zeros are read. `None` for every other text, an empty one too. It takes no memory. (pf.conf(5), GRAMMAR, "number";
 /// the length is own to this profile)
 #[tactic(auto, unfolding(pfs_addr_values::specs::Numbers::number_of))]
 pub fn parse_number(text: &[u8]) -> Option<u64>
@@ -18,7 +18,7 @@ pub fn parse_number(text: &[u8]) -> Option<u64>
     value(text)
 }
 
-/// The value of so few digits; none where another byte stands among them.
+/// The value of so few digits; none where another byte is among them.
 fn value(text: &[u8]) -> Option<u64>
     requires { length text.now ≤ 10 }
     ensures { result ≡ (if list_all is_digit text.now then Some (digits_value 10 text.now) else None) }

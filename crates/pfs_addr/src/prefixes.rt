@@ -11,7 +11,7 @@ use crate::numbers::parse_number;
 use pfs_addr_values::Prefix;
 
 /// The prefix that this text is, if it is one: an address alone, all of whose bits count, or an address, `/` and a
-/// number of bits from 0 to the address's width, in decimal without zeros in front. The bits of the address past them
+/// number of bits from 0 to the address's width, in decimal without leading zeros. The bits of the address past them
 /// are cleared. `None` for every other text. It takes no memory. (pf.conf(5), TABLES; RFC 4632, section 3.1; that no
 /// short form of an address is read is own to this profile)
 pub fn parse_prefix(text: &[u8]) -> Option<Prefix>
@@ -44,7 +44,7 @@ fn parse_parts(address: &[u8], length: &[u8]) -> Option<Prefix>
     Some(addr.prefix(bits))
 }
 
-/// What stands before and behind the first slash.
+/// What is before and after the first slash.
 fn around_slash(text: &[u8]) -> Option<(&[u8], &[u8])>
     ensures { MatchOption result (list_all is_no_slash text.now ≡ true)
         (λ parts. (list_all is_no_slash parts.0.now ≡ true) × (text.now ≡ parts.0.now ++ 47 ∷ parts.1.now)) }

@@ -1,4 +1,4 @@
--- Texts that are not the same are told apart: for same_bytes.
+-- Texts that are not the same are found to differ: for same_bytes.
 use Rattle.std.proofs.Common.{ℕ, List, ◌≡◌, ◌≢◌, Bool, true, false, refl, sym}
 use Rattle.std.proofs.lemmas.Slice.Eq.{bytes_eq-Decides}
 use Rattle.std.specs.Bool.{Decides}

@@ -7,7 +7,7 @@ use Rattle.pfs_addr_values.specs.declared.flag_sets.Flags.{Flags}
 abbrev pub is_flag_letter : ℕ → Bool
 is_flag_letter b = (b == 70) || (b == 83) || (b == 82) || (b == 80) || (b == 65) || (b == 85) || (b == 69) || (b == 87)
 
--- whether a letter stands in a text
+-- whether a letter occurs in a text
 abbrev pub names_letter : ℕ → List ℕ → Bool
 names_letter letter text = list_any (λ b. b == letter) text
 

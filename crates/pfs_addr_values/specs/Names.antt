@@ -16,7 +16,7 @@ is_name most text = not (length text == 0) && nat_le (length text) most && list_
 abbrev pub name_of : ℕ → List ℕ → Option (List ℕ)
 name_of most text = if is_name most text then Some text else None
 
--- how a name is kept in place: its bytes, and zeros behind them
+-- how a name is kept in place: its bytes, then zeros
 pub record IsPadded (most : ℕ) (bytes : List ℕ) (len : ℕ) : Type 0 where
   pub name : is_name most (take len bytes) ≡ true
   pub size : length (take len bytes) ≡ len

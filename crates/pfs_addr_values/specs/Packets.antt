@@ -1,4 +1,4 @@
--- What a packet tells, and that its ports are 0 unless its protocol has ports.
+-- The fields of a packet, and that its ports are 0 unless its protocol has ports.
 use Rattle.std.specs.Prelude.{ℕ, List, false, ◌≡◌}
 use Rattle.pfs_addr_values.specs.Protocols.{has_ports}
 use Rattle.pfs_addr_values.specs.declared.protocols.Proto.{Proto}
@@ -11,7 +11,7 @@ use Rattle.pfs_addr_values.specs.declared.packets.TheConstants.{RUN_LIMIT}
 abbrev pub run_limit : ℕ
 run_limit = RUN_LIMIT
 
--- what a packet tells: its direction, the name of its interface, its protocol, its two ends and its flags
+-- the fields of a packet: its direction, the name of its interface, its protocol, its two ends and its flags
 pub record Header : Type 0 where
   pub dir : Dir
   pub ifname : List ℕ

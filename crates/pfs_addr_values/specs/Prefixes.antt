@@ -6,7 +6,7 @@ use Rattle.pfs_addr_values.specs.Addresses.{IsAddr, IsAddrText, same_family, wid
 use Rattle.pfs_addr_values.specs.declared.addresses.Addr.{Addr}
 use Rattle.pfs_addr_values.specs.declared.addresses.Addr.TheVariants.{V4, V6}
 
--- what a prefix tells: an address, and how many of its first bits count
+-- the fields of a prefix: an address, and how many of its first bits count
 pub record Network : Type 0 where
   pub addr : Addr
   pub bits : ℕ
@@ -39,8 +39,8 @@ pub record IsNetwork (p : Network) : Type 0 where
   pub short : p.bits ≤ width_of p.addr
   pub zeros : cleared_addr p.bits p.addr ≡ p.addr
 
--- a text writes a prefix when it is the text of an address alone, all of whose bits count, or that with a slash and the
--- number of bits in decimal behind it; the bits past them are cleared
+-- a text writes a prefix when it is the text of an address alone, all of whose bits count, or that text followed by a
+-- slash and the number of bits in decimal; the bits past them are cleared
 pub record PrefixText (text : List ℕ) (p : Network) : Type 0 where
   pub addr : Addr
   pub is_addr : IsAddr addr

@@ -1,11 +1,11 @@
-//! The one error of calls that can only fail for want of memory.
+//! The one error of calls that can only fail because memory is refused.
 
 ghost use Rattle.std.specs.Prelude.{◌≡◌};
 
 use std::alloc::{AllocError, AllocFailed};
 use thiserror::Error;
 
-/// The memory that a value would have grown by was refused. It is answered only where a growth was refused.
+/// Memory that a value needed was refused. A call returns it only where memory was refused.
 #[derive(Debug, Clone, Copy, PartialEq, Eq, Error)]
 #[error("no memory")]
 pub struct NoMemory;

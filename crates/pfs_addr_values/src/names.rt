@@ -15,7 +15,7 @@ use std::marker::Model;
 
 /// A name of 1 to `N` bytes, each a letter, a digit, `_`, `-` or `.`. It takes no memory.
 ///
-/// Clauses see the list of its bytes. (pf.conf(5), GRAMMAR; which lengths there are is told where a name is used)
+/// Clauses see the list of its bytes. (pf.conf(5), GRAMMAR; which lengths are allowed is said where a name is used)
 #[derive(Clone, Copy)]
 pub struct Name<const N: usize> {
     bytes: [u8; N],
@@ -116,7 +116,7 @@ impl<const N: usize> fmt::Debug for Name<N> {
     }
 }
 
-/// Whether two texts are the same. Names of interfaces mostly differ in their last byte, so that is compared first.
+/// Whether two texts are the same. It compares their last bytes first, since names of interfaces mostly differ there.
 #[tactic(auto, using(crate::proofs::LastBytes::unequal))]
 fn same_bytes(one: &[u8], other: &[u8]) -> bool
     ensures { result ≡ bytes_eq one.now other.now }

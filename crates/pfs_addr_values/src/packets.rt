@@ -11,8 +11,8 @@ use crate::names::IfName;
 use crate::protocols::Proto;
 use std::marker::Model;
 
-/// The most packets of a run. So a run makes at most so many states, and its trace has at most so many records. (own to this
-/// profile)
+/// The most packets of a run. So a run makes at most that many states, and its trace has at most that many records.
+/// (own to this profile)
 pub const RUN_LIMIT: u64 = 1_000_000_000;
 
 /// The way of a packet through an interface. (pf.conf(5), PARAMETERS, "in" and "out")

@@ -17,7 +17,7 @@ pub enum Job<'a> {
 }
 
 impl<'a> Job<'a> {
-    /// The names of the rules file and of the trace file: none where the job reads standard input or nothing in place of it.
+    /// The names of the rules file and of the trace file; none where the job reads standard input or nothing in place of it.
     pub fn files(&self) -> (Option<&'a str>, Option<&'a str>)
         ensures rules { option_map (λ name. name.now) result.0 ≡ rules_file self.now }
         ensures trace { option_map (λ name. name.now) result.1 ≡ trace_file self.now }

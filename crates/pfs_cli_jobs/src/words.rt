@@ -10,14 +10,14 @@ use clap::error::ErrorKind;
 use clap::{Arg, ArgMatches, Command, Error};
 use std::alloc::{AllocError, Global};
 
-/// What `--version` tells behind the program's name.
+/// What `--version` prints after the program's name.
 const VERSION: &str = "0.1.0, the limits of pf as in OpenBSD 7.4";
 
 /// The job that the words of a command line ask for: the program's name, and then nothing, `check RULES`, `show RULES` or
 /// `replay RULES TRACE`.
 ///
 /// The error is clap's, with its message: for a word that is none of these, for a file that is missing or too many, for
-/// `--help`, `help` and `--version`, which are no mistakes, and for want of memory. It takes memory.
+/// `--help`, `help` and `--version`, which are no mistakes, and where memory is refused. It takes memory.
 pub fn job<'a>(alloc: Global, words: &'a [&'a str]) -> Result<Job<'a>, Error>
     ensures { IfOk result (λ j. JobIs (subcommand_of pfsrc_app (map (λ w. w.now) words.entry.now)) j) }
 {
@@ -36,7 +36,7 @@ fn pfsrc<'a>(alloc: Global) -> Result<Command<'a>, AllocError>
     with_show(alloc)?.subcommand(replay)
 }
 
-/// (each holds at most one command over a `?`: each that is held there is dear to prove)
+/// (each holds at most one command across a `?`: each further one makes the proof costly)
 fn with_show<'a>(alloc: Global) -> Result<Command<'a>, AllocError>
     ensures { IfOk result (λ c. app_of c ≡ with_subcommand (with_subcommand program_app check_app.top) show_app.top) }
 {
@@ -140,7 +140,7 @@ fn named<'a>(alloc: Global, found: &ArgMatches<'a>, id: &str) -> Result<&'a str,
     }
 }
 
-/// What is told of a mistake in the words: want of memory is told only where memory was refused.
+/// The error for a mistake in the words. Out of memory is reported only where memory was refused.
 fn mistake(alloc: Global, kind: ErrorKind) -> Result<Error, AllocError>
     ensures { IfOk result (λ e. kind_of e ≡ kind) }
 {

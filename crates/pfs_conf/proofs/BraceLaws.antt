@@ -13,8 +13,8 @@ use Rattle.pfs_conf_tokens.specs.Grammar.{skip_lines}
 use Rattle.pfs_conf_tokens.proofs.Laws.{bind_ok, bind_err, ok_parts}
 use Rattle.pfs_conf.specs.Places.{braces_behind, ends_no_line, InBraces, so_far, over}
 
--- a reader that begins with braces open or not: with what it reads they are as they are then, and no line is ended in what it
--- goes over
+-- a reader that begins with braces open or not (`braced`) and leaves them open or not (`after`); what it goes over ends
+-- no line
 pub record Keeps {A : Type 0} (braced after : Bool) (f : List Tok → Result (A × List Tok) Refused) : Type 0 where
   pub took : (ts : List Tok) (x : A) (left : List Tok) → f ts ≡ Ok (x, left) → InBraces braced ts after left
   pub stopped : (ts left : List Tok) (w : Why) → f ts ≡ Err (stop left w) → (b : Bool) × InBraces braced ts b left
@@ -87,7 +87,7 @@ word_keeps_braces braced key.OpenBrace e = absurd cc
 word_keeps_braces braced key.CloseBrace e = absurd cc
 word_keeps_braces braced _ e = refl
 
--- so a word that is taken keeps what the reader behind it keeps
+-- so a word that is taken keeps what the reader after it keeps
 pub keeps_word : {A : Type 0} (braced after : Bool) (k : Key) (f : Reader A) → is_word_key k ≡ true → Keeps braced after f → KeepsAct braced after k (take f)
 keeps_word braced after k f e h = (word_ends_none braced k e, subst (λ (z : Bool). Keeps z after f) (word_keeps_braces braced k e) h)
 
@@ -141,7 +141,7 @@ comma_acts braced _ = keeps_done false
 keeps_next : {A : Type 0} (item : A → Reader A) → ((x : A) → Keeps true true (item x)) → (x : A) → Keeps true true (next_of item x)
 keeps_next item h x = keeps_chain comma_at (λ c. item x) (keeps_front (λ t. comma_by t.key) (λ t. comma_acts true t.key)) (λ c. h x)
 
--- a list in braces, behind the opening one
+-- a list in braces, after the opening one
 pub keeps_list : {A : Type 0} (item : A → Reader A) → ((x : A) → Keeps true true (item x)) → (x : A) → Keeps true false (list_all closes_braces item x)
 keeps_list item h x = keeps_chain (item x) (until_all closes_braces (next_of item)) (h x) (λ y. keeps_until_brace (next_of item) (keeps_next item h) y)
 

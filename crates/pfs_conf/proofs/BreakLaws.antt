@@ -1,4 +1,4 @@
--- Where reading tells that a load rule is broken, the text breaks it, and breaks none before.
+-- Where reading reports that a load rule is broken, the text breaks it, and breaks none before.
 use Rattle.std.proofs.Common.{◌≡◌, ℕ, zero, suc, ◌==◌, Bool, true, false, cond, List, length, Option, Some, None, Result, Ok, Err, refl, ap, subst, ◌∙◌, inl, inr}
 use Rattle.pfs_conf_tokens.specs.Tokens.{Tok, head}
 use Rattle.pfs_conf_tokens.specs.Reading.{rest, ends_text, Refused, stop, broken, Act, take, stay, refuse, act, on_front, done, chain, perhaps, turns, left_there, until_all, ended}
@@ -34,7 +34,7 @@ use Rattle.pfs_conf.proofs.PhraseLaws.{rule_text_is, anchor_text_is, statement_i
 use Rattle.pfs_conf.proofs.UnbrokenLaws.{Unbroken, UnbrokenAct, refused_unbroken, unbroken_done, unbroken_chain, unbroken_front, unbroken_if, unbroken_once, unbroken_perhaps, unbroken_until, unbroken_ended}
 use Rattle.pfs_conf.proofs.UnbrokenPhrases.{unbroken_verb, unbroken_parameters, unbroken_flags, unbroken_state, unbroken_settings, unbroken_parts}
 
--- ---- statements as they are written ask no load rule
+-- ---- statements as they are written check no load rule
 
 clause_acts : (v : Verb) (p : Parameters) (c : Clauses) (k : Key) → UnbrokenAct (clause_by v p c k)
 clause_acts v p c key.Flags = unbroken_once c.flags _ (unbroken_chain flags_at _ unbroken_flags (λ f. unbroken_done (record c { flags = Some f })))

@@ -169,7 +169,7 @@ unfolding anchor_parts_at
 online_anchor_parts p = online_chain (anchor_name_at p) (λ n. chain (parameters_at statement.Anchor) (λ q. chain (perhaps begins_flags flags_at) (λ f. chain (brace_at q f) (λ u. done (anchored n q f)))))
     (online_anchor_name p) parameters_then
 
--- what is told otherwise stops at the same token
+-- what is reported otherwise stops at the same token
 pub in_head_ok : {A : Type 0} (r : Result (A × List Tok) Refused) (x : A) (left : List Tok) → in_head r ≡ Ok (x, left) → r ≡ Ok (x, left)
 in_head_ok (Ok y) x left e = e
 in_head_ok (Err (stop ts w)) x left e = absurd cc

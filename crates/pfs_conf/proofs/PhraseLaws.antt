@@ -179,7 +179,7 @@ brace_is p f ts u left e = by_key (head ts).key refl e
     by_key key.OpenBrace g h = subst (λ (z : List Tok). Word key.OpenBrace ts z) (ok_parts tt u (rest ts) left h).1 (word_is key.OpenBrace ts g (λ q. cc))
     by_key _ g h = absurd (not_refused _ _ _ h)
 
--- behind the word `anchor`
+-- after the word `anchor`
 pub anchor_parts_are : (p : Progress) (whole ts : List Tok) → Word key.Anchor whole ts → (a : AnchorText) (left : List Tok) → anchor_parts_at p ts ≡ Ok (a, left) → AnchorOf p whole a left
 unfolding anchor_parts_at
 anchor_parts_are p whole ts w a left e =
@@ -222,7 +222,7 @@ name_new : {p : Progress} {ts left : List Tok} {o : Option (List ℕ)} → Ancho
 name_new unnamed = refl
 name_new (named e g f h) = h
 
--- the word itself, before what stands behind it
+-- the word itself, before what follows it
 abbrev front_word : Tok
 front_word = token 1 key.Anchor (codes "anchor")
 

@@ -48,11 +48,11 @@ told_leaves : (b : Option LoadRule) (n : ℕ) (ts : List Tok) (u : Unit {0}) (le
 told_leaves None n ts u left e = (ok_parts tt u ts left e).1
 told_leaves (Some rule) n ts u left e = absurd cc
 
--- where a token is refused, reading stops at it. (In a case for all other keys it stands in the place of a search for each.)
+-- where a token is refused, reading stops at it. (In a case for all other keys this replaces a search for each.)
 refused_there : {A : Type 0} (v : Why) (ts left : List Tok) (w : Why) → act {A = A} (refuse v) ts ≡ Err (stop left w) → ts ≡ left
 refused_there v ts left w e = cc
 
--- a line end that is wanted and lacks stops at once
+-- a line end that is wanted and missing stops at once
 ended_stops : {A : Type 0} (x : A) (ts left : List Tok) (w : Why) → ended x ts ≡ Err (stop left w) → ts ≡ left
 ended_stops x ts left w e = by_key (head ts).key e
   where
@@ -133,7 +133,7 @@ table_stops p ts left w e = elim (bind_err (new_name_at p.draft ts) (λ x. chain
 
 -- ---- statements
 
--- the token in front is one of its line, and reading stops behind it
+-- the token in front is one of its line, and reading stops after it
 behind_word : (k : Key) (ts left : List Tok) → (head ts).key ≡ k → in_line k ≡ true → Passes in_line (rest ts) left → Passes in_line ts left
 behind_word k [] left g e h = absurd (let n : in_line key.End ≡ true = ap in_line g ∙ e in cc)
 behind_word k (t ∷ ts) left g e h = over (ap in_line g ∙ e) h
@@ -215,7 +215,7 @@ text_stops ts left w e = elim (bind_err (statements_at ts) (λ x. chain (all_clo
 
 -- ---- kinds
 
--- the kind that is told is one that may be told of the token
+-- the kind that is reported is one that may be reported at the token
 pub kind_fits : (w : Why) (t : Tok) (next : Key) → IsKindAt t (kind_at w t next)
 kind_fits w t next = by_again (is_again w)
   where

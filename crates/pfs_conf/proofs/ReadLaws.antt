@@ -104,7 +104,7 @@ hosts_head : (Q : Key → Type 0) → Q key.All → Q key.From → Q key.To → 
 hosts_head Q a b c (every w) h = subst Q (sym (word_head w).0) a
 hosts_head Q a b c (sides f t) h = behind_head Q b f (behind_head Q c t h)
 
--- what stands behind an anchor's name begins with no name
+-- what follows an anchor's name begins with no name
 anchor_parameters_head : (Q : Key → Type 0) → Q key.In → Q key.Out → Q key.Quick → Q key.On → Q key.Inet → Q key.Inet6 → Q key.Proto → Q key.All → Q key.From → Q key.To
     → {ts left : List Tok} {p : Parameters} → ParametersOf statement.Anchor ts p left → Q (head left).key → Q (head ts).key
 anchor_parameters_head Q a b c d e e6 f g h i q j =
@@ -213,7 +213,7 @@ pub statements_read : {ts : List Tok} {p : Progress} {left : List Tok} → UpTo 
 unfolding statements_at
 statements_read u = up_to_reads statements_read_up u
 
--- the end of the text, behind statements that are read
+-- the end of the text, after statements that are read
 pub text_ends : (ts : List Tok) (p : Progress) (left : List Tok) → statements_at ts ≡ Ok (p, left) → p.depth ≡ 0 → text_breaks p ≡ None → text_at ts ≡ Ok (conf_of_draft p.draft, left)
 unfolding text_at
 text_ends ts p left e z k = let zero : (p.depth == 0) ≡ true = ap (λ (n : ℕ). n == 0) z in rw (e, zero, k) refl

@@ -1,4 +1,4 @@
--- Readers that ask no load rule: what they refuse, they refuse at a token.
+-- Readers that check no load rule: what they refuse, they refuse at a token.
 use Rattle.std.proofs.Common.{◌≡◌, ℕ, zero, suc, ◌&&◌, Bool, true, false, cond, leb, List, length, Option, Some, None, Result, Err, inl, inr}
 use Rattle.pfs_conf_tokens.specs.Tokens.{Tok, head}
 use Rattle.pfs_conf_tokens.specs.Reading.{rest, Refused, broken, Reader, Act, take, stay, refuse, act, on_front, done, chain, perhaps, once, turns, taken, left_there, until_all, up_to_all, comma_by, comma_at, next_of, list_all, ended_by, ended, skipping, number_between, number_by, number_at}
@@ -30,7 +30,7 @@ UnbrokenAct (take f) = Unbroken f
 UnbrokenAct (stay f) = Unbroken f
 UnbrokenAct (refuse w) = Unit {0}
 
--- where a token is refused no load rule is told. (In a case for all other keys it stands in the place of a search for each.)
+-- where a token is refused no load rule is reported. (In a case for all other keys this replaces a search for each.)
 pub refused_unbroken : {A : Type 0} (w : Why) (ts : List Tok) (rule : LoadRule) (n : ℕ) → act {A = A} (refuse w) ts ≡ Err (broken rule n) → ⊥
 refused_unbroken w ts rule n e = cc
 

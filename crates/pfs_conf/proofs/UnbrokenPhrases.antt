@@ -1,4 +1,4 @@
--- The readers of parameters, of state clauses, of options and of tables ask no load rule.
+-- The readers of parameters, of state clauses, of options and of tables check no load rule.
 use Rattle.std.proofs.Common.{ℕ, Bool, true, false, List, [], Option, Some, None, slice_index_or, slice_set}
 use Rattle.pfs_conf_tokens.specs.Tokens.{Tok}
 use Rattle.pfs_conf_tokens.specs.declared.keys.Key.{Key}

@@ -270,7 +270,7 @@ on_part_within : {ts left : List Tok} {o : Option Interface} → Perhaps (Behind
 on_part_within absent l = tt
 on_part_within (present q) l = on_within q.2 (word_lexed q.1 l)
 
--- the tokens behind direction, `log` and `quick`
+-- the tokens after direction, `log` and `quick`
 says_lexed : {A : Type 0} {value : Tok → Option A} {ts left : List Tok} {x : A} → Says value ts x left → AreLexed ts → AreLexed left
 says_lexed {left = left} q l = behind (subst AreLexed q.1 l)
   where

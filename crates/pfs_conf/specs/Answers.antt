@@ -1,4 +1,4 @@
--- What a text that is too long, and one that breaks a load rule, are answered with. (own)
+-- The faults of a text that is too long, and of one that breaks a load rule. (own)
 use Rattle.std.specs.Prelude.{◌≡◌, ◌⊎◌, Result, Ok, Err}
 use Rattle.pfs_conf_values.specs.Configs.{Conf}
 use Rattle.pfs_conf.specs.declared.faults.LoadFault.{LoadFault}
@@ -9,7 +9,7 @@ abbrev pub IsTooLong : Result Conf LoadFault → Type 0
 IsTooLong (Ok conf) = ⊥
 IsTooLong (Err given) = given ≡ too_long
 
--- the fault of a broken load rule is told, unless memory runs out before it
+-- the fault of a broken load rule is reported, unless memory runs out before it
 abbrev pub IsTold : Result Conf LoadFault → LoadFault → Type 0
 IsTold (Ok conf) e = ⊥
 IsTold (Err given) e = (given ≡ e) ⊎ (given ≡ no_memory)

@@ -16,14 +16,14 @@ use Rattle.pfs_conf.specs.Places.{IsBegun}
 use Rattle.pfs_conf.specs.Reads.{Reads}
 use Rattle.pfs_conf_values.specs.Configs.{Conf}
 
--- statements one behind another, as far as these tokens are left
+-- statements, one after another, as far as these tokens are left
 pub data Statements : Progress → List Tok → Progress → List Tok → Type 0 where
   none : {p : Progress} {ts : List Tok} → Statements p ts p ts
   before : {p q r : Progress} {ts mid left : List Tok} → StatementOf p ts q mid → Statements q mid r left → Statements p ts r left
 
--- the first load rule that a text breaks, with the line at which it is told. All statements before are read and keep the load
--- rules: then stands a rule, or the head of an anchor, that breaks one, and its line is that of its first token; or no
--- statement does, and the text as a whole breaks one
+-- the first load rule that a text breaks, with the line at which it is reported. All statements before are read and
+-- keep the load rules. Then a rule, or the head of an anchor, breaks one, and its line is that of its first token; or
+-- no statement does, and the text as a whole breaks one
 pub data Breaks (ts : List Tok) : LoadRule → ℕ → Type 0 where
   at_rule : {p : Progress} {mid left : List Tok} {broken : LoadRule} (r : RuleText) → Statements nothing ts p mid → RuleOf mid r left
       → rule_breaks p.draft r ≡ Some broken → Breaks ts broken (head mid).line
@@ -32,9 +32,10 @@ pub data Breaks (ts : List Tok) : LoadRule → ℕ → Type 0 where
   at_end : {p : Progress} {left : List Tok} {broken : LoadRule} {line : ℕ} → UpTo key.End StatementOf nothing ts p left → p.depth ≡ 0
       → text_breaks p ≡ Some (broken, line) → Breaks ts broken line
 
--- a token of a text at which reading stops. No text with the same tokens up to and including it reads as a configuration. The
--- tokens before it are statements, and heads of anchors that are still open, which keep the load rules that are asked of each
--- of them; then those of a statement that is begun, without a line end outside of the braces of a `set` or a `table`
+-- a token of a text at which reading stops. No text with the same tokens up to and including it reads as a
+-- configuration. The tokens before it are statements, and heads of anchors that are still open, which keep the load
+-- rules that are checked for each of them; then those of a statement that is begun, without a line end outside of the
+-- braces of a `set` or a `table`
 pub record StopsAt (text : List ℕ) (t : Tok) (behind : List Tok) : Type 0 where
   pub before : List Tok
   pub splits : tokens_of text ≡ before ++ t ∷ behind
@@ -44,9 +45,9 @@ pub record StopsAt (text : List ℕ) (t : Tok) (behind : List Tok) : Type 0 wher
   pub statements : Statements nothing (tokens_of text) said begun
   pub begins : IsBegun begun (t ∷ behind)
 
--- what the fault of a text may be: a growth of memory was refused; the text is too long; a load rule is the first that is
--- broken, with the line at which it is told; or reading stops at a token, whose line it has, and the kind is one that may be told
--- of that token
+-- what the fault of a text may be: memory was refused; the text is too long; a load rule is the first that is broken,
+-- with the line at which it is reported; or reading stops at a token, whose line it has, and the kind is one that may
+-- be reported at that token
 pub data IsFault (text : List ℕ) (e : LoadFault) : Type 0 where
   memory : e ≡ no_memory → IsFault text e
   long : text_limit < length text → e ≡ too_long → IsFault text e

@@ -8,13 +8,13 @@ use Rattle.pfs_conf_tokens.specs.declared.refusals.ReadError.TheVariants as erro
 use Rattle.pfs_conf_values.specs.Order.{depth_after}
 use Rattle.pfs_conf.specs.declared.progress.Progress.{Progress}
 
--- the same progress with the cursor behind what was read, or the same refusal, unless memory was refused
+-- the same progress with the cursor after what was read, or the same refusal, unless memory was refused
 abbrev pub Comes : Result (Unit {0}) ReadError → List Tok → Progress → Result (Progress × List Tok) Refused → Type 0
 Comes (Ok u) left p read = read ≡ Ok (p, left)
 Comes (Err error.Memory) left p read = Unit {0}
 Comes (Err (error.Refused e)) left p read = read ≡ Err (refusal_at e left)
 
--- the next item may stand as deep as this
+-- the next item may be as deep as this
 pub record IsAtDepth (p : Progress) : Type 0 where
   pub order : p.depth ≤ depth_after 0 p.draft.items
   pub shallow : p.depth ≤ 16

@@ -24,7 +24,7 @@ use Rattle.pfs_conf.specs.declared.phrases.AnchorText.{AnchorText}
 use Rattle.pfs_conf.specs.declared.progress.Progress.{Progress}
 use Rattle.pfs_conf.specs.Statements.{nothing, no_clauses, with_definition, with_rule, with_anchor, rule_breaks, anchor_breaks, text_breaks}
 
--- `flags` or a state clause is added to clauses that lack it
+-- `flags` or a state clause is added to clauses that do not have it
 pub data ClauseOf : Clauses → List Tok → Clauses → List Tok → Type 0 where
   flags : {c : Clauses} {ts left : List Tok} {f : FlagTest} → c.flags ≡ None → FlagsOf ts f left → ClauseOf c ts (record c { flags = Some f }) left
   state : {c : Clauses} {ts left : List Tok} {s : StateClause} → c.state ≡ None → StateOf ts s left → ClauseOf c ts (record c { state = Some s }) left
@@ -37,7 +37,7 @@ pub record RuleOf (ts : List Tok) (r : RuleText) (left : List Tok) : Type 0 wher
   pub parameters : ParametersOf statement.Rule a r.parameters b
   pub clauses : Until key.LineEnd ClauseOf no_clauses b r.clauses left
 
--- words that begin what may stand behind the name of an anchor are no names of anchors, unless they are quoted
+-- words that may begin what follows the name of an anchor are no names of anchors, unless they are quoted
 abbrev pub names_anchor : Key → Bool
 names_anchor key.Quoted = true
 names_anchor key.In = false
@@ -75,8 +75,8 @@ pub record AnchorOf (p : Progress) (ts : List Tok) (a : AnchorText) (left : List
 abbrev pub NewTableOf : Drafted → List Tok → List ℕ → List Tok → Type 0
 NewTableOf d ts name left = TableOf ts name left × (is_defined name d ≡ false)
 
--- a statement that keeps the load rules. A blank line says nothing; `}` closes an anchor; `set` and `table` stand outside of
--- anchors
+-- a statement that keeps the load rules. A blank line says nothing; `}` closes an anchor; `set` and `table` are allowed
+-- outside of anchors only
 pub data StatementOf : Progress → List Tok → Progress → List Tok → Type 0 where
   blank : {p : Progress} {ts left : List Tok} → Word key.LineEnd ts left → StatementOf p ts p left
   set : {p : Progress} {d : Drafted} {ts a b left : List Tok} → p.depth ≡ 0 → Word key.Set ts a → SettingOf p.draft a d b → Word key.LineEnd b left → StatementOf p ts (record p { draft = d }) left

@@ -1,4 +1,4 @@
--- The kinds of faults, and what a kind says of the token at which it is told. (own)
+-- The kinds of faults, and what a kind says of the token at which it is reported. (own)
 use Rattle.std.specs.Prelude.{◌≡◌, ℕ, Bool, true, false, ◌&&◌, ◌||◌, ◌==◌, List}
 use Rattle.std.specs.List.{list_any}
 use Rattle.pfs_conf_tokens.specs.Tokens.{Tok}
@@ -11,7 +11,7 @@ use Rattle.pfs_conf.specs.declared.kinds.Kind.{Kind}
 use Rattle.pfs_conf.specs.declared.kinds.Kind.TheVariants as kind
 use Rattle.pfs_conf.specs.declared.faults.LoadFault.{LoadFault}
 
--- a broken load rule is told by its own name
+-- a broken load rule is reported by its own name
 abbrev pub kind_of_rule : LoadRule → Kind
 kind_of_rule load_rule.PortWithoutProto = kind.PortWithoutProto
 kind_of_rule load_rule.StateOnBlock = kind.StateOnBlock
@@ -44,12 +44,13 @@ has_byte b text = list_any (λ c. c == b) text
 abbrev pub has_dollar : Tok → Bool
 has_dollar t = is_word_key t.key && has_byte 36 t.text
 
--- tokens that are told Unsupported wherever they stand: `{`, `(`, a word with `$`, and the words that only pf knows
+-- tokens that are reported as `Unsupported` everywhere: `{`, `(`, a word with `$`, and the words that only pf knows
 abbrev pub is_foreign : Tok → Bool
 is_foreign t = opens t.key || has_dollar t || is_unsupported_key t.key
 
--- what the kind of a fault says of its token: `Number` is told of a word that begins with a digit alone, and `Syntax` of no token
--- that is told `Unsupported` wherever it stands. Which of the four it is beyond that, the texts in examples/ and cases/ show
+-- what the kind of a fault says of its token: `Number` is reported only at a word that begins with a digit, and
+-- `Syntax` at no token that is `Unsupported` everywhere. Which of the four it is beyond that, the texts in examples/
+-- and cases/ show
 pub data IsKindAt (t : Tok) : Kind → Type 0 where
   duplicate : IsKindAt t kind.Duplicate
   number : is_number_key t.key ≡ true → IsKindAt t kind.Number
@@ -65,6 +66,6 @@ fault line k = record { line = line; kind = k }
 abbrev pub too_long : LoadFault
 too_long = fault 0 kind.TooLong
 
--- a growth of memory was refused
+-- memory was refused
 abbrev pub no_memory : LoadFault
 no_memory = fault 0 kind.Memory

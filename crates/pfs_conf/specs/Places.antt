@@ -1,4 +1,4 @@
--- The tokens of a statement that is begun and not ended, as they stand before the token at which a text cannot be read. (own)
+-- The tokens of a statement that is begun and not ended, before the token at which a text cannot be read. (own)
 use Rattle.std.specs.Prelude.{◌≡◌, Bool, true, false, List, ◌∷◌}
 use Rattle.pfs_conf_tokens.specs.Tokens.{Tok}
 use Rattle.pfs_conf_tokens.specs.Keys.{in_line, before_end}
@@ -6,7 +6,7 @@ use Rattle.pfs_conf_tokens.specs.Grammar.{Passes}
 use Rattle.pfs_conf_tokens.specs.declared.keys.Key.{Key}
 use Rattle.pfs_conf_tokens.specs.declared.keys.Key.TheVariants as key
 
--- whether braces are open behind a token
+-- whether braces are open after a token
 abbrev pub braces_behind : Bool → Key → Bool
 braces_behind braced key.OpenBrace = true
 braces_behind braced key.CloseBrace = false
@@ -29,8 +29,8 @@ has_braces key.Set = true
 has_braces key.Table = true
 has_braces _ = false
 
--- a statement is begun, from these tokens on up to where these are left: among them no line end stands outside of the braces of a
--- `set` or a `table`
+-- a statement is begun, from these tokens on up to where these are left: among them no line end is outside of the
+-- braces of a `set` or a `table`
 pub data IsBegun : List Tok → List Tok → Type 0 where
   in_a_line : {ts left : List Tok} → Passes in_line ts left → IsBegun ts left
   with_braces : {after : Bool} {t : Tok} {ts left : List Tok} → has_braces t.key ≡ true → InBraces false ts after left → IsBegun (t ∷ ts) left

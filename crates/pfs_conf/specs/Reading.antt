@@ -1,5 +1,5 @@
--- Reading statements from left to right: one definition for each reader of the code, made of the parts of pfs_conf_tokens, so that
--- each looks no further than the token in front of what it leaves. (own)
+-- Reading statements from left to right: one definition for each reader of the code, made of the parts of
+-- pfs_conf_tokens. So each looks no further than the token in front of what it leaves. (own)
 use Rattle.std.specs.Prelude.{ℕ, ◌==◌, ◌||◌, Bool, true, false, if◌then◌else◌, Option, Some, None, is_some, List, Result, Ok, Err, ◌-◌}
 use Rattle.pfs_conf_tokens.specs.Tokens.{Tok, head}
 use Rattle.pfs_conf_tokens.specs.Keys.{is_word_key, ends_line}
@@ -29,7 +29,7 @@ use Rattle.pfs_conf.specs.declared.progress.Progress.{Progress}
 use Rattle.pfs_conf.specs.Grammar.{names_anchor}
 use Rattle.pfs_conf.specs.Statements.{nothing, no_clauses, with_rule, with_anchor, with_definition, rule_breaks, anchor_breaks, text_breaks}
 
--- a broken load rule is told at a line
+-- a broken load rule is reported at a line
 abbrev pub told : Option LoadRule → ℕ → Reader (Unit {0})
 told None line ts = Ok (tt, ts)
 told (Some rule) line ts = Err (broken rule line)
@@ -42,7 +42,7 @@ with_draft d p = record { draft = d; depth = p.depth; lines = p.lines }
 abbrev pub anchor_closed : Progress → Progress
 anchor_closed p = record { draft = p.draft; depth = p.depth - 1; lines = p.lines }
 
--- a word that no statement goes on with: one that begins what is there already is told so
+-- a word that continues no statement: one that begins what is there already is reported as such
 abbrev pub why_repeated : Bool → Why
 why_repeated true = why.Again
 why_repeated false = why.Plain
@@ -63,7 +63,7 @@ unfoldable pub rule_text_at : Reader RuleText
 rule_text_at ts = chain verb_at (λ v. chain (parameters_at statement.Rule) (λ p. chain (until_all ends_line (clause_at v p) no_clauses) (λ c.
     done (record { verb = v; parameters = p; clauses = c })))) ts
 
--- a rule that begins on a line; its load rules are asked when its line end has been read
+-- a rule that begins on a line; its load rules are checked when its line end has been read
 unfoldable pub rule_line_at : ℕ → Progress → Reader Progress
 rule_line_at line p ts = chain rule_text_at (λ r. chain (told (rule_breaks p.draft r) line) (λ u. done (with_rule line r p))) ts
 
@@ -99,7 +99,7 @@ brace_by p f k = refuse (head_repeated (repeats_head p f k))
 unfoldable pub brace_at : Parameters → Option FlagTest → Reader (Unit {0})
 brace_at p f ts = on_front (λ t. brace_by p f t.key) ts
 
--- what stands behind the word `anchor`, up to the brace
+-- what follows the word `anchor`, up to the brace
 unfoldable pub anchor_parts_at : Progress → Reader AnchorText
 anchor_parts_at p ts = chain (anchor_name_at p) (λ n. chain (parameters_at statement.Anchor) (λ q. chain (perhaps begins_flags flags_at) (λ f. chain (brace_at q f) (λ u.
     done (record { name = n; parameters = q; flags = f }))))) ts
@@ -117,7 +117,7 @@ in_head (Err (broken rule line)) = Err (broken rule line)
 unfoldable pub anchor_text_at : Progress → Reader AnchorText
 anchor_text_at p ts = in_head (anchor_parts_at p ts)
 
--- an anchor that begins on a line, behind that word; its load rules are asked when its brace has been read
+-- an anchor that begins on a line, after that word; its load rules are checked when its brace has been read
 unfoldable pub anchor_at : ℕ → Progress → Reader Progress
 anchor_at line p ts = chain (anchor_text_at p) (λ a. chain (told (anchor_breaks p.depth p.draft a) line) (λ u. ended (with_anchor line a p))) ts
 
@@ -154,7 +154,7 @@ definition_at p ts = chain (new_name_at p.draft) (λ n. chain parts_at (λ parts
 
 -- ---- statements and texts
 
--- what stands outside of anchors alone
+-- what is allowed outside of anchors only
 abbrev pub outside : {A : Type 0} → ℕ → Act A → Act A
 outside depth a = if depth == 0 then a else refuse why.Inner
 
@@ -179,7 +179,7 @@ statement_at p ts = on_front (λ t. statement_by p t.line t.key) ts
 abbrev pub all_closed : ℕ → Reader (Unit {0})
 all_closed depth ts = on_front (λ t. if depth == 0 then stay (done tt) else refuse why.Plain) ts
 
--- a load rule that the text breaks is told at its line
+-- a load rule that the text breaks is reported at its line
 abbrev pub told_of : Option (LoadRule × ℕ) → Reader (Unit {0})
 told_of None ts = Ok (tt, ts)
 told_of (Some r) ts = Err (broken r.0 r.1)

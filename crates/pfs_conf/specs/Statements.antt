@@ -128,7 +128,7 @@ rule_said r d = record {
   action = rule_action r d;
 }
 
--- a rule that begins on a line is put behind the other items
+-- a rule that begins on a line is appended to the items
 abbrev pub with_rule : ℕ → RuleText → Progress → Progress
 with_rule line r p =
     record p { draft = with_item (record { depth = p.depth; what = what.Rule (rule_said r p.draft) }) (name_rule r p.draft); lines = p.lines ++ line ∷ [] }
@@ -143,7 +143,7 @@ anchor_said a d = record {
   filter = filter_said a.parameters (unwrap_or a.flags flag_test.Any) d;
 }
 
--- an anchor that begins on a line is put behind the other items, and what follows stands in it
+-- an anchor that begins on a line is appended to the items, and what follows is inside it
 abbrev pub with_anchor : ℕ → AnchorText → Progress → Progress
 with_anchor line a p = record {
   draft = with_item (record { depth = p.depth; what = what.Anchor (anchor_said a p.draft) }) (name_hosts a.parameters.hosts p.draft);
@@ -173,7 +173,7 @@ keeps_on_block _ _ = false
 abbrev pub is_full : Drafted → Bool
 is_full d = nat_le 10000 (length d.items)
 
--- the load rules of a rule, in the order in which they are asked
+-- the load rules of a rule, in the order in which they are checked
 abbrev pub rule_breaks : Drafted → RuleText → Option LoadRule
 rule_breaks d r = first_broken (
     (load_rule.PortWithoutProto, lacks_proto r.parameters)
@@ -185,7 +185,7 @@ rule_breaks d r = first_broken (
     ∷ (load_rule.TooManyRules, is_full d)
     ∷ [])
 
--- the load rules of an anchor's head: anchors stand in at most 16 others
+-- the load rules of an anchor's head: an anchor is inside at most 15 others
 abbrev pub anchor_breaks : ℕ → Drafted → AnchorText → Option LoadRule
 anchor_breaks depth d a = first_broken (
     (load_rule.PortWithoutProto, lacks_proto a.parameters)
@@ -193,8 +193,8 @@ anchor_breaks depth d a = first_broken (
     ∷ (load_rule.TooManyRules, is_full d)
     ∷ [])
 
--- the load rules of a text, with the line at which they are told: an `overload` into a `const` table at the first such rule, the
--- others at line 0
+-- the load rules of a text, with the line at which they are reported: an `overload` into a `const` table at the first
+-- such rule, the others at line 0
 abbrev pub text_breaks_by : Progress → Option ℕ → Option (LoadRule × ℕ)
 text_breaks_by p (Some n) = Some (load_rule.ConstOverload, slice_index_or p.lines n 0)
 text_breaks_by p None = option_map (λ r. (r, 0)) (first_broken (

@@ -41,10 +41,10 @@ begins_with_letter (b ∷ bs) = is_letter b
 abbrev pub is_named_value : Tok → Bool
 is_named_value t = is_word_key t.key && (begins_with_letter t.text || has_byte 58 t.text)
 
--- tokens that are told so by what was wanted there: the word behind `set`; `set` and `table` in an anchor's body; a name where
--- a host, a port or a protocol is wanted; the first token of a statement whose second is `=`, as a macro's definition; the
--- line end of an anchor before its `{`, as a call of an anchor that is loaded from elsewhere; a path where an anchor's name is
--- wanted
+-- tokens that are reported as `Unsupported` because of what was wanted there: the word after `set`; `set` and `table`
+-- in an anchor's body; a name where a host, a port or a protocol is wanted; the first token of a statement whose second
+-- is `=`, as a macro's definition; the line end of an anchor before its `{`, as a call of an anchor that is loaded from
+-- elsewhere; a path where an anchor's name is wanted
 abbrev pub is_left_out : Why → Tok → Key → Bool
 is_left_out why.Setting t next = is_word_key t.key
 is_left_out why.Inner t next = true
@@ -55,7 +55,7 @@ is_left_out why.AnchorHead t next = ends_line t.key
 is_left_out why.AnchorName t next = has_byte 47 t.text || has_byte 42 t.text
 is_left_out _ t next = false
 
--- the kind of a fault at a token, by the key of the one behind it: the first of Duplicate, Number, Unsupported and Syntax that applies
+-- the kind of a fault at a token, by the key of the next one: the first of Duplicate, Number, Unsupported and Syntax that applies
 abbrev pub kind_at : Why → Tok → Key → Kind
 kind_at w t next =
     if is_again w then kind.Duplicate
@@ -67,7 +67,7 @@ kind_at w t next =
 abbrev pub kind_of : Why → List Tok → Kind
 kind_of w ts = kind_at w (head ts) (head (rest ts)).key
 
--- the fault that a refusal tells, where reading stopped at these tokens
+-- the fault of a refusal, where reading stopped at these tokens
 abbrev pub fault_told : ReadError → List Tok → LoadFault
 fault_told error.Memory ts = no_memory
 fault_told (error.Refused (refusal.Broken rule line)) ts = fault line (kind_of_rule rule)

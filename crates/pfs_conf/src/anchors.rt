@@ -20,8 +20,8 @@ use pfs_conf_filters::{Parameters, Statement, read_flags, read_parameters};
 use pfs_conf_tokens::{Cursor, Key, ReadError, Refusal, Why};
 use pfs_conf_values::{AnchorName, FlagTest};
 
-/// Reads an anchor that begins on this line, behind its word: its head, and the line end behind the brace. Its load rules are
-/// asked when the brace has been read. (pf.conf(5), ANCHORS)
+/// Reads an anchor that begins on this line, after its word: its head, and the line end after the brace. Its load rules
+/// are checked when the brace has been read. (pf.conf(5), ANCHORS)
 #[tactic(auto, unfolding(crate::specs::Reading::anchor_at))]
 pub fn anchor(cursor: &mut Cursor, progress: &mut Progress, line: u64) -> Result<(), ReadError>
     requires lexed { AreLexed cursor.old }
@@ -43,7 +43,7 @@ pub fn anchor(cursor: &mut Cursor, progress: &mut Progress, line: u64) -> Result
     }
 }
 
-/// Puts an anchor behind the other items; what follows stands in it.
+/// Appends an anchor to the items; what follows is inside it.
 fn push_anchor(progress: &mut Progress, line: u64, text: &AnchorText) -> Result<(), NoMemory>
     requires text { IsAnchorText text.now }
     requires order { IsAtDepth progress.old }

@@ -51,7 +51,7 @@ pub fn anchor_breaks(depth: u8, draft: &Draft, text: &AnchorText) -> Option<Load
     }
 }
 
-/// The first load rule that a text as a whole breaks, and the line at which it is told. (own to this profile)
+/// The first load rule that a text as a whole breaks, and the line at which it is reported. (own to this profile)
 pub fn text_breaks(progress: &Progress) -> Option<(LoadRule, u64)>
     ensures { result ≡ text_breaks progress.now }
 {

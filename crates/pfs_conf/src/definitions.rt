@@ -14,7 +14,7 @@ use pfs_conf_tokens::{Cursor, Key, ReadError, Refusal, Why};
 use pfs_conf_values::{Entries, TableDef, TableName};
 use std::alloc::Global;
 
-/// Reads what stands behind `set`, with the line end. (pf.conf(5), OPTIONS)
+/// Reads what follows `set`, with the line end. (pf.conf(5), OPTIONS)
 #[tactic(auto, using(crate::proofs::OrderLaws::outside_in_order), unfolding(crate::specs::Reading::set_at))]
 pub fn set(cursor: &mut Cursor, progress: &mut Progress) -> Result<(), ReadError>
     requires outside { progress.old.depth ≡ 0 }
@@ -26,7 +26,7 @@ pub fn set(cursor: &mut Cursor, progress: &mut Progress) -> Result<(), ReadError
     Ok(())
 }
 
-/// Reads what stands behind `table`, with the line end. (pf.conf(5), TABLES)
+/// Reads what follows `table`, with the line end. (pf.conf(5), TABLES)
 #[tactic(auto, using(crate::proofs::OrderLaws::outside_in_order), unfolding(crate::specs::Reading::definition_at))]
 pub fn table(alloc: Global, cursor: &mut Cursor, progress: &mut Progress) -> Result<(), ReadError>
     requires outside { progress.old.depth ≡ 0 }

@@ -10,14 +10,14 @@ use std::fmt;
 /// What is wrong with a rules text. Its `Display` is the kind's name. (own to this profile)
 #[derive(Clone, Copy, Debug, PartialEq, Eq)]
 pub enum Kind {
-    /// No statement goes on with this token, and none of the following kinds says more of it.
+    /// No statement continues with this token, and none of the following kinds says more of it.
     Syntax,
     /// The token is one of pf.conf(5)'s that this profile leaves out.
     Unsupported,
     /// A number, a rate, a port or a protocol is wanted, and the token is a word that begins with a digit.
     Number,
-    /// The token begins a clause, a part or an option that the statement has already, names a table or an anchor that is
-    /// defined already, or is an entry that stands already with the other sign.
+    /// The token begins a clause, a part or an option that the statement has already, names a table or an anchor that
+    /// is defined already, or is an entry that the table has already with the other sign.
     Duplicate,
     /// `source-track global` with `max-src-conn` or `max-src-conn-rate`.
     GlobalConn,
@@ -43,7 +43,7 @@ pub enum Kind {
     TooManyEntries,
     /// More than 1,048,576 bytes.
     TooLong,
-    /// A growth of memory was refused.
+    /// Memory was refused.
     Memory,
 }
 

@@ -20,22 +20,22 @@ use std::alloc::Global;
 
 /// The configuration that a rules text says. (pf.conf(5); the subset, its limits and the load rules are own to this profile)
 ///
-/// A text has at most 1,048,576 bytes; a longer one is `TooLong`, at line 0, before all else. Statements are read in order, and
-/// the first fault is told. Where a statement cannot go on with a token, the kind is `Duplicate`, `Number`, `Unsupported` or
-/// `Syntax`, the first that applies, at the line of that token. A load rule that a rule or an anchor breaks is told at the
-/// line of its first token; one that the whole text breaks at line 0, but for an `overload` into a `const` table, which is
-/// told at the line of the first such rule. The configuration takes memory, and where that is refused `Memory` is told, at
-/// line 0.
+/// A text has at most 1,048,576 bytes; a longer one is `TooLong`, at line 0, before all else. Statements are read in
+/// order, and the first fault is reported. Where a statement cannot continue with a token, the kind is `Duplicate`,
+/// `Number`, `Unsupported` or `Syntax`, the first that applies, at the line of that token. A load rule that a rule or
+/// an anchor breaks is reported at the line of its first token. One that the whole text breaks is reported at line 0,
+/// but an `overload` into a `const` table at the line of the first such rule. The configuration takes memory; if memory
+/// runs out, the fault is `Memory`, at line 0.
 pub fn load(alloc: Global, text: &[u8]) -> Result<Config, LoadFault>
-    // What is answered is what the text reads as.
+    // What is returned is what the text reads as.
     ensures found { IfOk result (λ c. Reads text.now c) }
-    // What the text reads as is answered, unless memory runs out.
+    // What the text reads as is returned, unless memory runs out.
     ensures only { (c : Conf) → Reads text.now c → MatchResult result (λ d. d ≡ c) (λ e. e ≡ no_memory) }
-    // A text that is too long is told so, and nothing else of it.
+    // A text that is too long is reported as such, and nothing else of it.
     ensures long { text_limit < length text.now → IsTooLong result }
-    // The load rule that is the first to be broken is told, unless memory runs out.
+    // The first load rule that is broken is reported, unless memory runs out.
     ensures broken { (r : LoadRule) (n : ℕ) → length text.now ≤ text_limit → Breaks (tokens_of text.now) r n → IsTold result (fault n (kind_of_rule r)) }
-    // And whatever is told is so. Where no accepted text goes on, it is the line of a token before which all is read.
+    // Every fault that is reported is true. Where no accepted text goes on, its line is that of a token before which all is read.
     ensures fault { IfErr result (λ e. IsFault text.now e) }
 {
     read(alloc, text)

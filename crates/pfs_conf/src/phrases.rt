@@ -4,7 +4,7 @@ use pfs_conf_filters::{Parameters, Verb};
 use pfs_conf_options::StateClause;
 use pfs_conf_values::{AnchorName, FlagTest};
 
-/// What stands behind the parameters of a rule, in any order. (pf.conf(5), GRAMMAR)
+/// What follows the parameters of a rule, in any order. (pf.conf(5), GRAMMAR)
 #[derive(Debug, Clone, Copy, PartialEq, Eq)]
 pub struct Clauses {
     /// `flags`
@@ -20,7 +20,7 @@ pub struct RuleText {
     pub verb: Verb,
     /// Which packets it is asked about.
     pub parameters: Parameters,
-    /// What stands behind that.
+    /// What follows that.
     pub clauses: Clauses,
 }
 

@@ -24,7 +24,7 @@ impl Model for Lines {
 }
 
 impl Lines {
-    /// Puts the line of one more item behind the others.
+    /// Appends the line of one more item.
     pub fn push(&mut self, line: u64) -> Result<(), NoMemory>
         ensures { OnOk result (self.new ≡ self.old ++ line ∷ []) }
     {
@@ -43,7 +43,7 @@ impl Lines {
     }
 }
 
-/// What the statements say that have been read so far, and in how many anchors the next one stands.
+/// What the statements say that have been read so far, and how many anchors are around the next one.
 #[derive(Debug, Drop)]
 pub struct Progress {
     /// What they say.

@@ -18,7 +18,8 @@ use pfs_conf_filters::{Parameters, Statement, Verb, read_flags, read_parameters,
 use pfs_conf_options::state_clause;
 use pfs_conf_tokens::{Cursor, Key, ReadError, Refusal, Why};
 
-/// Reads a rule that begins on this line. Its load rules are asked when its line end has been read. (pf.conf(5), PACKET FILTERING)
+/// Reads a rule that begins on this line. Its load rules are checked when its line end has been read. (pf.conf(5),
+/// PACKET FILTERING)
 #[tactic(auto, unfolding(crate::specs::Reading::rule_line_at))]
 pub fn rule(cursor: &mut Cursor, progress: &mut Progress, line: u64) -> Result<(), ReadError>
     requires lexed { AreLexed cursor.old }
@@ -39,7 +40,7 @@ pub fn rule(cursor: &mut Cursor, progress: &mut Progress, line: u64) -> Result<(
     }
 }
 
-/// Puts a rule behind the other items.
+/// Appends a rule to the items.
 fn push_rule(progress: &mut Progress, line: u64, text: &RuleText) -> Result<(), NoMemory>
     requires text { IsRuleText text.now }
     requires order { IsAtDepth progress.old }

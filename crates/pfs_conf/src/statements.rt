@@ -1,4 +1,4 @@
-//! Statements, one behind another to the end of the text.
+//! Statements, one after another to the end of the text.
 
 ghost use Rattle.std.specs.Prelude.{◌≡◌, ◌≤◌, None, OnOk};
 ghost use Rattle.pfs_conf_settings.specs.Drafts.{conf_of_draft};
@@ -63,7 +63,7 @@ fn statements(
     Ok(progress)
 }
 
-/// Reads a statement. A blank line says nothing; `set` and `table` stand outside of anchors.
+/// Reads a statement. A blank line says nothing; `set` and `table` are allowed outside of anchors only.
 #[tactic(auto, unfolding(crate::specs::Reading::statement_at))]
 fn statement(alloc: Global, cursor: &mut Cursor, progress: &mut Progress) -> Result<(), ReadError>
     requires lexed { AreLexed cursor.old }
@@ -101,7 +101,7 @@ fn statement(alloc: Global, cursor: &mut Cursor, progress: &mut Progress) -> Res
     }
 }
 
-/// The line end behind the brace that closes an anchor.
+/// The line end after the brace that closes an anchor.
 fn close(cursor: &mut Cursor, progress: &mut Progress) -> Result<(), ReadError>
     requires open { 1 ≤ progress.old.depth }
     ensures { Comes result cursor.new progress.new (ended (anchor_closed progress.old) cursor.old) }

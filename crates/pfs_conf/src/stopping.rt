@@ -10,7 +10,7 @@ use crate::faults::LoadFault;
 use crate::kinds::Kind;
 use pfs_conf_tokens::{Cursor, Key, ReadError, Refusal, Why};
 
-/// The fault that a refusal tells, where reading stopped at the cursor.
+/// The fault of a refusal, where reading stopped at the cursor.
 pub fn fault_of(error: ReadError, cursor: &mut Cursor) -> LoadFault
     ensures { result ≡ fault_told error cursor.old }
 {
@@ -64,7 +64,7 @@ fn is_number(key: Key) -> bool
     }
 }
 
-/// A token that is told `Unsupported` wherever it stands.
+/// A token that is reported as `Unsupported` everywhere.
 fn is_foreign(cursor: &Cursor) -> bool
     ensures { result ≡ is_foreign (head cursor.now) }
 {
@@ -86,7 +86,7 @@ fn has_dollar(cursor: &Cursor) -> bool
     cursor.key().is_word() && has_byte(cursor.text(), b'$')
 }
 
-/// A token that is told so by what was wanted there.
+/// A token that is reported as `Unsupported` because of what was wanted there.
 fn is_left_out(why: Why, cursor: &mut Cursor) -> bool
     ensures { result ≡ is_left_out why (head cursor.old) (head (rest cursor.old)).key }
 {

@@ -212,7 +212,7 @@ quick_is ts x left e = by_key (head ts).key refl e
     by_key key.Quick g h = moved QuickOf ts (ok_parts true x (rest ts) left h) (quick (word_is key.Quick ts g (λ q. cc)))
     by_key _ g h = not_there h
 
--- a `quick` in front, with or without `log` behind it
+-- a `quick` in front, with or without `log` after it
 quick_then : {ts mid left : List Tok} {l : Bool} → Word key.Quick ts mid → LogOf mid l left → MarksOf statement.Rule ts (marks_of l true) left
 quick_then w silent = log_first silent (quick w)
 quick_then w (logs v list) = quick_first w (logs v list)

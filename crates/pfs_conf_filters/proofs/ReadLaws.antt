@@ -1,4 +1,4 @@
--- Each phrase of the grammar of parameters is read, if what stands behind it does not go on with it.
+-- Each phrase of the grammar of parameters is read, if what follows it does not continue it.
 --
 -- A crate above imports them as `use Rattle.pfs_conf_filters.proofs.ReadLaws.{verb_reads, parameters_read, flags_read}`.
 use Rattle.std.proofs.Common.{◌≡◌, ℕ, Bool, true, false, List, Option, Some, Ok, refl, ap, ◌∙◌}
@@ -37,7 +37,7 @@ use Rattle.pfs_conf_filters.proofs.OnlineLaws.{log_item_shrinks}
 use Rattle.pfs_conf_tokens.proofs.ValueLaws.{passed}
 use Rattle.pfs_conf_tokens.specs.Values.{in_word, table_name, table_name_at, value_at}
 
--- ---- what may stand behind
+-- ---- what may follow
 
 -- all but the words that say how a packet is blocked
 abbrev pub no_policy : Key → Bool
@@ -145,7 +145,7 @@ part_reads : {A : Type 0} (k : Key) (begins follow : Key → Bool) (f : Reader A
 part_reads k begins follow f P begun reads p s g =
     perhaps_reads_before begins follow (clause begins f) (Behind k P) (λ ts x left b e. behind_reads k begins f begun b.1 (reads b.0 x left b.2 e)) p s g
 
--- what stands in front of a part that may lack: its first key, or what stands behind it
+-- what is in front of a part that may be absent: its first key, or what follows it
 perhaps_head : {A : Type 0} (P : List Tok → A → List Tok → Type 0) (Q : Key → Type 0) → ((ts : List Tok) (x : A) (left : List Tok) → P ts x left → Q (head ts).key)
     → {ts : List Tok} {o : Option A} {left : List Tok} → Perhaps P ts o left → Q (head left).key → Q (head ts).key
 perhaps_head P Q first absent h = h
@@ -565,7 +565,7 @@ parameters_read s {ts = ts} {p = p} {left = left} w e =
     let f = hosts_head (λ k. ends_head k ≡ true) refl refl refl w.hosts b.0 in
     rw (head_reads s ts p.head w.mid w.head f, hosts_read w.hosts b.1) refl
 
--- what parameters begin with, or where they lack, what stands behind them
+-- what parameters begin with, or where they are absent, what follows them
 pub parameters_head : (Q : Key → Type 0) → Q key.In → Q key.Out → Q key.Log → Q key.Quick → Q key.On → Q key.Inet → Q key.Inet6 → Q key.Proto → Q key.All → Q key.From → Q key.To
     → {s : Statement} {ts : List Tok} {p : Parameters} {left : List Tok} → ParametersOf s ts p left → Q (head left).key → Q (head ts).key
 parameters_head Q i o l q n f g p a r t {s = s} {ts = ts} {p = x} w e =

@@ -1,4 +1,4 @@
--- The grammar of the parameters: a phrase stands in the tokens, has a value, and leaves the tokens behind it.
+-- The grammar of the parameters: a phrase begins these tokens, has a value, and leaves the tokens after it.
 -- (pf.conf(5), PARAMETERS and GRAMMAR)
 use Rattle.std.specs.Prelude.{◌≡◌, ℕ, Bool, true, false, List, ◌∷◌, Option, Some, None}
 use Rattle.pfs_conf_tokens.specs.Tokens.{Tok}
@@ -33,7 +33,7 @@ use Rattle.pfs_conf_tokens.specs.Values.{in_word, table_name}
 abbrev pub Says : {A : Type 0} → (Tok → Option A) → List Tok → A → List Tok → Type 0
 Says value ts x left = (t : Tok) × (ts ≡ t ∷ left) × (value t ≡ Some x)
 
--- a word, and a phrase behind it
+-- a word, and a phrase after it
 abbrev pub Behind : {A : Type 0} → Key → (List Tok → A → List Tok → Type 0) → List Tok → A → List Tok → Type 0
 Behind k P ts x left = (mid : List Tok) × Word k ts mid × P mid x left
 
@@ -55,14 +55,14 @@ pub data DirOf : List Tok → Dir → List Tok → Type 0 where
   inward : {ts left : List Tok} → Word key.In ts left → DirOf ts dir.In left
   outward : {ts left : List Tok} → Word key.Out ts left → DirOf ts dir.Out left
 
--- what is logged is read without effect, and may be told again
+-- what is logged is read without effect, and may be repeated
 pub data LogItemOf : Unit {0} → List Tok → Unit {0} → List Tok → Type 0 where
   all : {ts left : List Tok} → Word key.All ts left → LogItemOf tt ts tt left
   matches : {ts left : List Tok} → Word key.Matches ts left → LogItemOf tt ts tt left
   user : {ts left : List Tok} → Word key.User ts left → LogItemOf tt ts tt left
   to : {ts mid left : List Tok} {n : List ℕ} → Word key.To ts mid → Says interface_name mid n left → LogItemOf tt ts tt left
 
--- behind `log`: nothing, or a list in parentheses
+-- after `log`: nothing, or a list in parentheses
 pub data LogListOf : List Tok → List Tok → Type 0 where
   bare : {ts : List Tok} → LogListOf ts ts
   listed : {ts mid left : List Tok} → Word key.OpenParen ts mid → ListOf key.CloseParen LogItemOf tt mid tt left → LogListOf ts left
@@ -85,7 +85,7 @@ pub data NegationOf : List Tok → Bool → List Tok → Type 0 where
   affirmed : {ts : List Tok} → NegationOf ts false ts
   negated : {ts left : List Tok} → Word key.Not ts left → NegationOf ts true left
 
--- behind `on`
+-- after `on`
 pub data OnOf : List Tok → Interface → List Tok → Type 0 where
   on : {ts mid left : List Tok} {b : Bool} {n : List ℕ} → NegationOf ts b mid → Says interface_name mid n left → OnOf ts (record { name = n; negated = b }) left
 
@@ -110,12 +110,12 @@ pub data HostOf : List Tok → Host (List ℕ) → List Tok → Type 0 where
   prefix : {ts mid left : List Tok} {b : Bool} {p : Network} → NegationOf ts b mid → Says (in_plain_word prefix_of) mid p left → HostOf ts (host.Prefix p b) left
   table : {ts mid name close left : List Tok} {b : Bool} {n : List ℕ} → NegationOf ts b mid → Word key.OpenAngle mid name → Says table_name name n close → Word key.CloseAngle close left → HostOf ts (host.Table n b) left
 
--- behind `port`
+-- after `port`
 pub data PortsOf : List Tok → Ports → List Tok → Type 0 where
   plainly : {ts left : List Tok} {p : Ports} → Says (in_word ports_of) ts p left → PortsOf ts p left
   equals : {ts mid left : List Tok} {p : Ports} → Word key.Equals ts mid → Says (in_word ports_of) mid p left → PortsOf ts p left
 
--- behind `from` and `to`: a host, with ports or without, or ports alone
+-- after `from` and `to`: a host, with ports or without, or ports alone
 pub data SideOf : List Tok → Side (List ℕ) → List Tok → Type 0 where
   hosted : {ts mid left : List Tok} {h : Host (List ℕ)} {p : Option Ports} → HostOf ts h mid → Perhaps (Behind key.Port PortsOf) mid p left → SideOf ts (record { host = h; ports = p }) left
   ported : {ts left : List Tok} {p : Ports} → Behind key.Port PortsOf ts p left → SideOf ts (record { host = host.Any; ports = Some p }) left

@@ -30,7 +30,7 @@ use Rattle.pfs_addr_values.specs.Protocols.{proto_in}
 use Rattle.pfs_conf_filters.specs.Values.{in_plain_word, interface_name, ports_of, flag_test}
 use Rattle.pfs_conf_tokens.specs.Values.{in_word, table_name_at, value_at}
 
--- a part that one word begins, and what stands behind the word
+-- a part that one word begins, and what follows the word
 abbrev pub behind : {A : Type 0} → Bool → Reader A → Act A
 behind true f = take f
 behind false f = refuse why.Plain
@@ -38,7 +38,7 @@ behind false f = refuse why.Plain
 abbrev pub clause : {A : Type 0} → (Key → Bool) → Reader A → Reader A
 clause begins f ts = on_front (λ t. behind (begins t.key) f) ts
 
--- the same where it may lack
+-- the same where it may be absent
 abbrev pub part : {A : Type 0} → (Key → Bool) → Reader A → Reader (Option A)
 part begins f ts = perhaps begins (clause begins f) ts
 
@@ -126,7 +126,7 @@ log_item_by _ = refuse why.Plain
 unfoldable pub log_item_at : Unit {0} → Reader (Unit {0})
 log_item_at u ts = on_front (λ t. log_item_by t.key) ts
 
--- the list behind `log`, if there is one
+-- the list after `log`, if there is one
 abbrev pub log_list_by : Key → Act (Unit {0})
 log_list_by key.OpenParen = take (list_all closes_parens log_item_at tt)
 log_list_by _ = stay (done tt)
@@ -210,7 +210,7 @@ close_by _ = refuse why.Plain
 unfoldable pub close_at : Reader (Unit {0})
 close_at ts = on_front (λ t. close_by t.key) ts
 
--- a table or a prefix, behind its `!` if it has one
+-- a table or a prefix, after its `!` if it has one
 abbrev pub place_by : Bool → Key → Act (Host (List ℕ))
 place_by b key.OpenAngle = take (chain table_name_at (λ n. chain close_at (λ u. done (host.Table n b))))
 place_by b _ = stay (chain (value_at why.Host (in_plain_word prefix_of)) (λ p. done (host.Prefix p b)))

@@ -11,12 +11,12 @@ use pfs_addr::parse_prefix;
 use pfs_conf_tokens::{Cursor, Key, Refusal, Why, table_name, take_value};
 use pfs_conf_values::{Host, Side, TableName};
 
-/// Reads the parameters of a rule, behind its action, or of an anchor, behind its name, up to its hosts:
-/// `[in | out] [log] [quick] [on [!] IF] [inet] [proto PROTO] (all | [from HOST] [to HOST])`. All of them may lack. An
-/// anchor has no `log`, and in a rule it may stand behind `quick`. Each stands at most once, in this order; what stands
-/// behind them is left. (pf.conf(5), PARAMETERS and GRAMMAR)
+/// Reads the parameters of a rule, after its action, or of an anchor, after its name, up to its hosts:
+/// `[in | out] [log] [quick] [on [!] IF] [inet] [proto PROTO] (all | [from HOST] [to HOST])`. Each part may be absent,
+/// and occurs at most once, in this order; but in a rule `log` may also come after `quick`. An anchor has no `log`. The
+/// tokens after them are left. (pf.conf(5), PARAMETERS and GRAMMAR)
 ///
-/// Where a word behind `on`, `proto`, `port`, `from` or `to`, or in the list behind `log`, is not what is asked for
+/// Where a word after `on`, `proto`, `port`, `from` or `to`, or in the list after `log`, is not what is asked for
 /// there, the cursor stays at it, and reading stops. It takes no memory.
 #[tactic(auto, unfolding(crate::specs::Reading::parameters_at))]
 pub fn read_parameters(cursor: &mut Cursor, statement: Statement) -> Result<Parameters, Refusal>
@@ -27,7 +27,7 @@ pub fn read_parameters(cursor: &mut Cursor, statement: Statement) -> Result<Para
     Ok(Parameters { head, hosts })
 }
 
-/// `all`, or `from` and `to` with what stands behind them, each of which may lack.
+/// `all`, or `from` and `to` with what follows them, each of which may be absent.
 #[tactic(auto, unfolding(crate::specs::Reading::hosts_at))]
 fn hosts(cursor: &mut Cursor) -> Result<Hosts, Refusal>
     ensures { Gives result cursor.new (hosts_at cursor.old) }

@@ -14,7 +14,7 @@ use pfs_conf_values::FlagTest;
 /// A letter of a that is not in b is accepted; such a test fails for every packet.
 /// (pf.conf(5), PARAMETERS, "flags")
 ///
-/// Where something else stands, the cursor stays at it, and reading stops. It takes no memory.
+/// At any other token the cursor stays, and reading stops. It takes no memory.
 #[tactic(auto, unfolding(crate::specs::Reading::flags_at))]
 pub fn read_flags(cursor: &mut Cursor) -> Result<FlagTest, Refusal>
     ensures { Gives result cursor.new (flags_at cursor.old) }

@@ -15,7 +15,7 @@ use pfs_conf_values::{Family, Interface};
 /// Reads what a rule begins with: `pass`, or `block` with at most one of `drop`, `return`, `return-rst`, `return-icmp`
 /// and `return-icmp6`, which has no effect. (pf.conf(5), PACKET FILTERING)
 ///
-/// Where something else stands, the cursor stays at it, and reading stops. It takes no memory.
+/// At any other token the cursor stays, and reading stops. It takes no memory.
 #[tactic(auto, unfolding(crate::specs::Reading::verb_at))]
 pub fn read_verb(cursor: &mut Cursor) -> Result<Verb, Refusal>
     ensures { Gives result cursor.new (verb_at cursor.old) }
@@ -116,7 +116,7 @@ fn quick(cursor: &mut Cursor) -> Result<bool, Refusal>
     Ok(cursor.take(Key::Quick))
 }
 
-/// `log` with its list, if it stands there.
+/// `log` with its list, if present.
 #[tactic(auto, unfolding(crate::specs::Reading::log_at))]
 fn log(cursor: &mut Cursor) -> Result<bool, Refusal>
     ensures { Gives result cursor.new (log_at cursor.old) }
@@ -176,7 +176,7 @@ fn log_item(cursor: &mut Cursor) -> Result<(), Refusal>
     }
 }
 
-/// `on [!] IF`, if it stands there.
+/// `on [!] IF`, if present.
 #[tactic(auto, unfolding(crate::specs::Reading::on_part_at))]
 fn on_part(cursor: &mut Cursor) -> Result<Option<Interface>, Refusal>
     ensures { Gives result cursor.new (on_part_at cursor.old) }
@@ -197,7 +197,7 @@ fn interface(cursor: &mut Cursor) -> Result<Interface, Refusal>
     Ok(Interface { name, negated })
 }
 
-/// `inet` or `inet6`, if one of them stands there.
+/// `inet` or `inet6`, if present.
 #[tactic(auto, unfolding(crate::specs::Reading::family_part_at))]
 fn family_part(cursor: &mut Cursor) -> Result<Option<Family>, Refusal>
     ensures { Gives result cursor.new (family_part_at cursor.old) }

@@ -10,7 +10,7 @@ pub enum Verb {
     Pass,
     /// `block`
     Block {
-        /// Whether `drop`, `return`, `return-rst`, `return-icmp` or `return-icmp6` stands behind it.
+        /// Whether `drop`, `return`, `return-rst`, `return-icmp` or `return-icmp6` follows.
         has_policy: bool,
     },
 }
@@ -24,10 +24,10 @@ pub enum Statement {
     Anchor,
 }
 
-/// `log` and `quick`, which may stand in either order. (pf.conf(5), PARAMETERS)
+/// `log` and `quick`, in either order. (pf.conf(5), PARAMETERS)
 #[derive(Debug, Clone, Copy, PartialEq, Eq)]
 pub struct Marks {
-    /// Whether `log` is given, with or without a list. Nothing is logged: it is kept to tell a second one.
+    /// Whether `log` is given, with or without a list. Nothing is logged: it is kept to find a second one.
     pub log: bool,
     /// Whether `quick` is given.
     pub quick: bool,
@@ -53,9 +53,9 @@ pub struct Head {
 pub struct Hosts {
     /// Whether `all` is given. Then neither of the others is.
     pub all: bool,
-    /// `from` and what stands behind it.
+    /// `from` and what follows it.
     pub from: Option<Side<TableName>>,
-    /// `to` and what stands behind it.
+    /// `to` and what follows it.
     pub to: Option<Side<TableName>>,
 }
 

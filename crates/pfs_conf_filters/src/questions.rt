@@ -14,14 +14,14 @@ const ANY: Side<TableName> = Side {
 };
 
 impl Hosts {
-    /// The side behind `from`: any host at any port where it is not given.
+    /// The side after `from`: any host at any port where it is not given.
     pub fn source(&self) -> Side<TableName>
         ensures { result ≡ source_of self.now }
     {
         self.from.unwrap_or(ANY)
     }
 
-    /// The side behind `to`: any host at any port where it is not given.
+    /// The side after `to`: any host at any port where it is not given.
     pub fn destination(&self) -> Side<TableName>
         ensures { result ≡ destination_of self.now }
     {
@@ -48,10 +48,9 @@ impl Parameters {
         self.hosts.give_ports() && !has_ports
     }
 
-    /// Whether this word begins a part that these parameters have already, so that it is told as a repeated one where no
-    /// statement goes on with it: `in` and `out` begin one part, and so do `inet` and `inet6`; `port` repeats the ports of
-    /// either side.
-    /// (own to this profile)
+    /// Whether this word begins a part that these parameters have already. Where no statement continues with it, it is
+    /// then reported as repeated. `in` and `out` begin one part, and so do `inet` and `inet6`; `port` repeats the ports
+    /// of either side. (own to this profile)
     pub fn have(&self, key: Key) -> bool
         ensures { result ≡ repeats self.now key }
     {
@@ -73,7 +72,7 @@ impl Parameters {
 
 impl Verb {
     /// Whether this word says once more how packets are blocked: `drop` or one of `return`, `return-rst`, `return-icmp`
-    /// and `return-icmp6` where one of them stands already. (own to this profile)
+    /// and `return-icmp6` where one of them is given already. (own to this profile)
     pub fn has(self, key: Key) -> bool
         ensures { result ≡ repeats_policy self key }
     {

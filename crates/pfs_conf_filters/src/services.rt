@@ -12,7 +12,7 @@ use pfs_addr_values::Proto;
 use pfs_conf_tokens::{Cursor, Key, Refusal, Why, digits, key_of, split_at_byte, take_value};
 use pfs_conf_values::Ports;
 
-/// `proto PROTO`, if it stands there.
+/// `proto PROTO`, if present.
 #[tactic(auto, unfolding(crate::specs::Reading::proto_part_at))]
 pub fn proto_part(cursor: &mut Cursor) -> Result<Option<Proto>, Refusal>
     ensures { Gives result cursor.new (proto_part_at cursor.old) }
@@ -35,7 +35,7 @@ fn proto(cursor: &mut Cursor) -> Result<Proto, Refusal>
     take_value(cursor, Why::Service, proto)
 }
 
-/// `port [=] PORT`, if it stands there.
+/// `port [=] PORT`, if present.
 #[tactic(auto, unfolding(crate::specs::Reading::ports_part_at))]
 pub fn ports_part(cursor: &mut Cursor) -> Result<Option<Ports>, Refusal>
     ensures { Gives result cursor.new (ports_part_at cursor.old) }

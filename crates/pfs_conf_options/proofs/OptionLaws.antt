@@ -21,7 +21,7 @@ use Rattle.pfs_conf_values.specs.Bounds.{greatest_timeout}
 use Rattle.pfs_conf_options.specs.Reading.{track_by, track_at, rate_of, rate_found, rate_by, rate_at, name_closed_by, name_closed, table_by, table_at, flushed_by, flush_by, flush_at, overload_text_at, mark_once, timeout_by, mark_by, connection_by, option_by, option_at, state_options_at, kept_by, kept_at, kept_clause, behind_state, state_word, state_by, state_at}
 use Rattle.pfs_conf_tokens.specs.Values.{table_name_at}
 
--- ---- what stands behind an option's word
+-- ---- what follows an option's word
 
 track_acts : (k : Key) → OnlineAct inside k (track_by k)
 track_acts key.Rule = (refl, online_done track.Rule)

@@ -1,7 +1,7 @@
 -- What is read as a state clause is one, and each state clause is read: so tokens have at most one value.
 --
 -- For each phrase: `x_is`, what is read is a phrase of the grammar; `x_reads`, each phrase is read. Where a phrase ends in a
--- part that may lack, it is read before every key of `ends_x`.
+-- part that may be absent, it is read before every key of `ends_x`.
 use Rattle.std.proofs.Common.{◌≡◌, ℕ, ◌≤◌, Bool, true, false, cond, List, [], ◌∷◌, Option, Some, None, Result, Ok, refl, sym, ap, subst, ◌∙◌, leb, ◌&&◌, slice_index_or, slice_set}
 use Rattle.std.proofs.lemmas.Bool.{and_parts, leb-true, le-leb}
 use Rattle.pfs_conf_tokens.specs.Tokens.{Tok, head}
@@ -63,7 +63,7 @@ track_is ts s left e = by_key (head ts).key refl e
     by_key key.Global g h = let p = ok_parts track.Global s (rest ts) left h in rw (← p.0, ← p.1) (global (word_is key.Global ts g (λ q. cc)))
     by_key _ g h = not_there h
 
--- the keys before which `source-track` may stand
+-- the keys before which `source-track` may come
 abbrev pub ends_track : Key → Bool
 ends_track key.Rule = false
 ends_track key.Global = false
@@ -199,7 +199,7 @@ flush_is ts f left e = by_key (head ts).key refl e
     by_key key.Flush g h = behind (rest ts) (word_is key.Flush ts g (λ q. cc)) (head (rest ts)).key refl h
     by_key _ g h = not_there h
 
--- the keys before which `overload <t>` may stand
+-- the keys before which `overload <t>` may come
 abbrev pub ends_overload : Key → Bool
 ends_overload key.Flush = false
 ends_overload key.Global = false
@@ -260,7 +260,7 @@ mark_is o ts p left key.NoSync g h =
     rw (← r.0, ← r.1) (no_sync (word_is key.NoSync ts g (λ r. cc)) q.0)
 mark_is o ts p left k g h = timeout_is o ts p left k g (rule_place k) refl h
 
--- an option's value behind its word
+-- an option's value after its word
 option_value_is : {A : Type 0} (o : Options) (had : Option A) (f : Reader A) (P : List Tok → A → List Tok → Type 0) → ((ts : List Tok) (x : A) (left : List Tok) → f ts ≡ Ok (x, left) → P ts x left)
     → (put : A → Options) (ts : List Tok) (p : Options) (left : List Tok) → act (once had (take (chain f (λ x. done (put x))))) ts ≡ Ok (p, left)
     → (had ≡ None) × ((x : A) × P (rest ts) x left × (put x ≡ p))
@@ -302,7 +302,7 @@ option_is o ts p left e = by_key (head ts).key refl e
         subst (λ (z : Options). OptionOf o ts z left) q.1.2 (max_src_states q.1.0 (word_is key.MaxSrcStates ts g (λ r. cc)) q.0 q.1.1)
     by_key k g h = connection_is o ts p left k g h
 
--- the keys before which an option may stand
+-- the keys before which an option may come
 abbrev pub ends_option : Key → Bool
 ends_option key.Rule = false
 ends_option key.Global = false
@@ -401,7 +401,7 @@ kept_is ts o left e = by_key (head ts).key refl e
     by_key key.OpenParen g h = listed (word_is key.OpenParen ts g (λ q. cc)) (options_are (rest ts) o left h)
     by_key _ g h = not_there h
 
--- the keys before which a state clause may stand
+-- the keys before which a state clause may come
 abbrev pub ends_state : Key → Bool
 ends_state key.OpenParen = false
 ends_state _ = true

@@ -151,7 +151,7 @@ rule_connections_by o (Some track.Global) e = e
 rule_connections_by o (Some track.Bare) e = unstated_by (is_some o.max_src_nodes) (has_connection_limit o) (is_some o.max_src_states) true
 rule_connections_by o None e = unstated_by (is_some o.max_src_nodes) (has_connection_limit o) (is_some o.max_src_states) false
 
--- without a scope no option speaks of sources
+-- without a scope no option is about sources
 tracked_by : (nodes connections states is_bare : Bool) → is_none (cond (nodes || connections) (Some scope.Rule) (cond (states || is_bare) (Some scope.Global) None)) && (nodes || states || connections) ≡ false
 tracked_by true connections states is_bare = refl
 tracked_by false true states is_bare = refl

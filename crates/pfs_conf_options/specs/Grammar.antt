@@ -1,5 +1,5 @@
--- The state clause of a rule: which tokens write it, and what it says. Each phrase stands in the tokens, has a value, and
--- leaves the tokens behind it. (pf.conf(5), GRAMMAR and STATEFUL TRACKING OPTIONS)
+-- The state clause of a rule: which tokens write it, and what it says. Each phrase begins these tokens, has a value,
+-- and leaves the tokens after it. (pf.conf(5), GRAMMAR and STATEFUL TRACKING OPTIONS)
 use Rattle.std.specs.Prelude.{◌≡◌, ℕ, true, false, List, ◌∷◌, Option, Some, None, slice_index_or, slice_set}
 use Rattle.pfs_conf_tokens.specs.declared.keys.Key.{Key}
 use Rattle.pfs_conf_tokens.specs.declared.keys.Key.TheVariants as key
@@ -19,7 +19,7 @@ use Rattle.pfs_conf_options.specs.declared.clauses.StateClause.{StateClause}
 use Rattle.pfs_conf_options.specs.declared.clauses.StateClause.TheVariants as clause
 use Rattle.pfs_conf_options.specs.Options.{none_given, rule_place}
 
--- behind `source-track`: nothing, `rule` or `global`
+-- after `source-track`: nothing, `rule` or `global`
 pub data TrackOf : List Tok → Track → List Tok → Type 0 where
   bare : {ts : List Tok} → TrackOf ts track.Bare ts
   rule : {ts left : List Tok} → Word key.Rule ts left → TrackOf ts track.Rule left
@@ -52,13 +52,13 @@ pub data FlushOf : List Tok → Option Scope → List Tok → Type 0 where
   own : {ts left : List Tok} → Word key.Flush ts left → FlushOf ts (Some scope.Rule) left
   all : {ts mid left : List Tok} → Word key.Flush ts mid → Word key.Global mid left → FlushOf ts (Some scope.Global) left
 
--- behind `overload`
+-- after `overload`
 pub record OverloadOf (ts : List Tok) (v : OverloadText) (left : List Tok) : Type 0 where
   pub mid : List Tok
   pub table : TableOf ts v.table mid
   pub flush : FlushOf mid v.flush left
 
--- an option is added to options that lack it
+-- an option is added to options that do not have it
 pub data OptionOf : Options → List Tok → Options → List Tok → Type 0 where
   max : {o : Options} {ts mid left : List Tok} (n : ℕ) → Word key.Max ts mid → o.max ≡ None
       → Number 1 4294967295 mid n left → OptionOf o ts (record o { max = Some n }) left
@@ -81,7 +81,7 @@ pub data OptionOf : Options → List Tok → Options → List Tok → Type 0 whe
       → slice_index_or o.timeouts place None ≡ None → Number 0 (greatest_timeout place) mid n left
       → OptionOf o ts (record o { timeouts = slice_set o.timeouts place (Some n) }) left
 
--- behind `keep state`: nothing, or options in parentheses with an optional comma between two
+-- after `keep state`: nothing, or options in parentheses with an optional comma between two
 pub data KeptOf : List Tok → Options → List Tok → Type 0 where
   plainly : {ts : List Tok} → KeptOf ts none_given ts
   listed : {ts mid left : List Tok} {o : Options} → Word key.OpenParen ts mid → ListOf key.CloseParen OptionOf none_given mid o left → KeptOf ts o left

@@ -55,9 +55,9 @@ given_for name o = slice_index_or o.timeouts (place_of name) None
 abbrev pub has_connection_limit : Options → Bool
 has_connection_limit o = is_some o.max_src_conn || is_some o.max_src_conn_rate
 
--- the scope, where this is written behind `source-track`, or nothing of it. Without a stated scope: rule if `max-src-nodes`,
--- `max-src-conn` or `max-src-conn-rate` is given; else global if `max-src-states` or a bare `source-track` is; else sources are
--- not tracked (own)
+-- the scope, where this is written after `source-track`, or nothing of it. Without a stated scope: rule if
+-- `max-src-nodes`, `max-src-conn` or `max-src-conn-rate` is given; else global if `max-src-states` or a bare
+-- `source-track` is; else sources are not tracked (own)
 abbrev pub scope_by_track : Options → Option Track → Option Scope
 scope_by_track o (Some track.Rule) = Some scope.Rule
 scope_by_track o (Some track.Global) = Some scope.Global

@@ -18,9 +18,9 @@ use Rattle.pfs_conf_options.specs.declared.clauses.StateClause.{StateClause}
 use Rattle.pfs_conf_options.specs.declared.clauses.StateClause.TheVariants as clause
 use Rattle.pfs_conf_options.specs.Options.{none_given, rule_place}
 
--- ---- what stands behind an option's word
+-- ---- what follows an option's word
 
--- the word behind `source-track`, if any
+-- the word after `source-track`, if any
 abbrev pub track_by : Key → Act Track
 track_by key.Rule = take (done track.Rule)
 track_by key.Global = take (done track.Global)
@@ -44,7 +44,7 @@ rate_with None s = None
 rate_with (Some n) None = None
 rate_with (Some n) (Some s) = Some (record { limit = n; seconds = s })
 
--- the rate that the texts before and behind the slash write
+-- the rate that the texts before and after the slash write
 abbrev pub rate_parts : Option (List ℕ × List ℕ) → Option Rate
 rate_parts None = None
 rate_parts (Some parts) = rate_with (count_written 4294967 parts.0) (count_written 2147483647 parts.1)
@@ -64,7 +64,7 @@ rate_by text _ = refuse why.Number
 unfoldable pub rate_at : Reader Rate
 rate_at ts = on_front (λ t. rate_by t.text t.key) ts
 
--- the name of a table in angle brackets: behind the name, the closing bracket
+-- the name of a table in angle brackets: after the name, the closing bracket
 abbrev pub name_closed_by : List ℕ → Key → Act (List ℕ)
 name_closed_by name key.CloseAngle = take (done name)
 name_closed_by name _ = refuse why.Plain
@@ -96,7 +96,7 @@ flush_by _ = stay (done None)
 unfoldable pub flush_at : Reader (Option Scope)
 flush_at ts = on_front (λ t. flush_by t.key) ts
 
--- the table behind `overload`, and what is flushed
+-- the table after `overload`, and what is flushed
 unfoldable pub overload_text_at : Reader OverloadText
 overload_text_at ts = chain table_at (λ name. chain flush_at (λ f. done (record { table = name; flush = f }))) ts
 
@@ -152,7 +152,7 @@ option_at o ts = on_front (λ t. option_by t.key o) ts
 unfoldable pub state_options_at : Reader Options
 state_options_at ts = list_all closes_parens option_at none_given ts
 
--- behind `keep state`: options in parentheses, or none
+-- after `keep state`: options in parentheses, or none
 abbrev pub kept_by : Key → Act Options
 kept_by key.OpenParen = take state_options_at
 kept_by _ = stay (done none_given)
@@ -164,7 +164,7 @@ kept_at ts = on_front (λ t. kept_by t.key) ts
 abbrev pub kept_clause : Reader StateClause
 kept_clause ts = chain kept_at (λ o. done (clause.Keep o)) ts
 
--- the word `state`, and what stands behind it
+-- the word `state`, and what follows it
 abbrev pub behind_state : Reader StateClause → Key → Act StateClause
 behind_state f key.State = take f
 behind_state f _ = refuse why.Plain

@@ -2,7 +2,7 @@
 
 use pfs_conf_values::{Rate, RuleTimeouts, Scope, TableName};
 
-/// What stands behind `source-track`. (pf.conf(5), STATEFUL TRACKING OPTIONS, "source-track")
+/// What follows `source-track`. (pf.conf(5), STATEFUL TRACKING OPTIONS, "source-track")
 #[derive(Debug, Clone, Copy, PartialEq, Eq)]
 pub enum Track {
     /// Nothing: `source-track` alone.
@@ -22,7 +22,7 @@ pub struct OverloadText {
     pub flush: Option<Scope>,
 }
 
-/// The options of `keep state`, as they are written; each stands at most once. Each maximum is 1 to 4294967295.
+/// The options of `keep state`, as they are written; each occurs at most once. Each maximum is 1 to 4294967295.
 /// (pf.conf(5), STATEFUL TRACKING OPTIONS)
 #[derive(Debug, Clone, Copy, PartialEq, Eq)]
 pub struct Options {
@@ -47,7 +47,7 @@ pub struct Options {
     /// `no-sync`, which has no effect here.
     pub no_sync: bool,
     /// The rule's own timeouts: those of a state and `src.track` up to 2147483647 seconds, the adaptive ones up to
-    /// 4294967295 states. `interval` is none of a rule.
+    /// 4294967295 states. A rule has no `interval`.
     pub timeouts: RuleTimeouts,
 }
 

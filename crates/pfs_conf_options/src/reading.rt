@@ -1,5 +1,5 @@
-//! Readers of a state clause and its options: each reads a value at the cursor, which then stands behind it, or at the
-//! token that goes on no statement.
+//! Readers of a state clause and its options. Each reads a value at the cursor. The cursor is then after the value, or
+//! at the token that no statement accepts there.
 
 ghost use Rattle.std.specs.Prelude.{◌≡◌, ◌<◌, ◌≤◌, IfOk, IfSome, MatchBool, Ok, Err, Some};
 ghost use Rattle.pfs_conf_tokens.specs.Reading.{closes_parens, act, chain, done, once, take, until_all, next_of, list_all, number_at};
@@ -16,9 +16,9 @@ use pfs_conf_values::{Rate, Scope, TableName};
 /// Reads the state clause of a rule, at its `no` or `keep`:
 /// `no state`, or `keep state` with its options in parentheses, if any.
 ///
-/// A `(` behind `no state` is left where it is. Refused with `Why::Again` is an option that stands already, at its word;
-/// with `Why::Number` what is no number, or no rate, of the option's range; with `Why::Plain` whatever else no state
-/// clause goes on with. It takes no memory. (pf.conf(5), STATEFUL FILTERING, STATEFUL TRACKING OPTIONS)
+/// A `(` after `no state` is left where it is. It refuses an option that is given already with `Why::Again`, at its
+/// word; what is no number, or no rate, within the option's range with `Why::Number`; and anything else that continues
+/// no state clause with `Why::Plain`. It takes no memory. (pf.conf(5), STATEFUL FILTERING, STATEFUL TRACKING OPTIONS)
 pub fn state_clause(cursor: &mut Cursor) -> Result<StateClause, Refusal>
     ensures value { Gives result cursor.new (state_at cursor.old) }
     ensures within { IfOk result (λ clause. AreRead (options_given clause)) }
@@ -268,7 +268,7 @@ fn only_once(is_given: bool) -> Result<(), Refusal>
     }
 }
 
-/// What stands behind the word of an option, at that word: it is refused where the option is given already.
+/// Reads what follows the word of an option, at that word. The word is refused where the option is given already.
 fn maximum_once(cursor: &mut Cursor, given: Option<u32>) -> Result<u32, Refusal>
     ensures { Gives result cursor.new (act (once given (take (number_at 1 4294967295))) cursor.old) }
 {

@@ -59,7 +59,7 @@ clauses_read : (tables : List TableDef) (f : FlagTest) (a : Action) (line : ℕ)
     → Until key.LineEnd ClauseOf no_clauses (at line (flags_text f ++ (state_text tables a ++ 10 ∷ more))) (clauses_said tables f a) (tokens 0 false (suc line) more)
 clauses_read tables f a line more t g h = goes (flags refl (flags_read f line (state_text tables a ++ 10 ∷ more) g (state_break tables a more))) (state_reads tables f a line more t h)
 
--- a text of many parts, and what stands behind it
+-- a text of many parts, and what follows it
 rule_parts : (verb dir quick on family proto hosts test clause end more : List ℕ)
     → (verb ++ ((dir ++ (quick ++ (on ++ (family ++ (proto ++ (hosts ++ test)))))) ++ (clause ++ end))) ++ more
     ≡ verb ++ (dir ++ (quick ++ (on ++ (family ++ (proto ++ (hosts ++ (test ++ (clause ++ (end ++ more)))))))))

@@ -6,25 +6,25 @@ use Rattle.pfs_conf_tokens.specs.Tokens.{Tok}
 use Rattle.pfs_conf_show.specs.Pieces.{bracketed_list, going_on}
 use Rattle.pfs_conf_round_trip.proofs.Pieces.{at, mark_space}
 
--- the texts of items lead from one value to another: each is read as an item, in front of what may stand behind one
+-- the texts of items lead from one value to another: each is read as an item, in front of what may follow one
 pub data Chain {A : Type 0} (Item : A → List Tok → A → List Tok → Type 0) (Fits : ℕ → List ℕ → Type 0) : List (List ℕ) → A → A → Type 0 where
   done : {a : A} → Chain Item Fits [] a a
   next : {a b c : A} {x : List ℕ} {xs : List (List ℕ)} → ((line : ℕ) (more : List ℕ) → Fits line more → Item a (at line (x ++ more)) b (at line more))
       → Chain Item Fits xs b c → Chain Item Fits (x ∷ xs) a c
 
--- two lists one behind the other
+-- two lists one after the other
 pub both : {A : Type 0} {Item : A → List Tok → A → List Tok → Type 0} {Fits : ℕ → List ℕ → Type 0} {a b c : A} {xs ys : List (List ℕ)}
     → Chain Item Fits xs a b → Chain Item Fits ys b c → Chain Item Fits (xs ++ ys) a c
 both done q = q
 both (next i p) q = next i (both p q)
 
--- what may stand behind an item: a comma, and what closes the list
+-- what may follow an item: a comma, and what closes the list
 pub record Closing {A : Type 0} (Item : A → List Tok → A → List Tok → Type 0) (Fits : ℕ → List ℕ → Type 0) (closer : Key) (closing : List ℕ) : Type 0 where
   pub comma_fits : (line : ℕ) (more : List ℕ) → Fits line (44 ∷ 32 ∷ more)
   pub closing_fits : (line : ℕ) (more : List ℕ) → Fits line (closing ++ more)
   pub closes : (line : ℕ) (more : List ℕ) → Word closer (at line (closing ++ more)) (at line more)
 
--- what stands behind an item fits: the next item, or the end of the list
+-- what follows an item fits: the next item, or the end of the list
 behind_fits : {A : Type 0} (Item : A → List Tok → A → List Tok → Type 0) (Fits : ℕ → List ℕ → Type 0) (closer : Key) (opening closing : List ℕ) → Closing Item Fits closer closing
     → (xs : List (List ℕ)) (line : ℕ) (more : List ℕ) → Fits line (going_on opening true xs ++ (closing ++ more))
 behind_fits Item Fits closer opening closing h [] line more = h.closing_fits line more

@@ -44,7 +44,7 @@ name_again most w h = cond-true (is_name most w) (Some w) None h
 name_byte_quote : (b : ℕ) → is_name_byte b ≡ true → goes_on run.Quote b ≡ true
 name_byte_quote b h = grind (arith, nat_tests)
 
--- a name may stand in quotes
+-- a name may be in quotes
 pub name_quoted : (w : List ℕ) → list_all is_name_byte w ≡ true → list_all (goes_on run.Quote) w ≡ true
 name_quoted [] h = refl
 name_quoted (b ∷ w) h =
@@ -99,7 +99,7 @@ key_of_word w =
     let g = is_word_key in
     key_passes g w refl refl (all_pass g w statement_words refl) (all_pass g w option_words refl) (all_pass g w named_words refl) (all_pass g w foreign_words refl)
 
--- the words of a table behind its first
+-- the words of a table after its first
 abbrev tail_of : List (List ℕ × Key) → List (List ℕ × Key)
 tail_of [] = []
 tail_of (entry ∷ entries) = entries

@@ -81,7 +81,7 @@ named_again limits timeouts tables items t lt =
 
 -- ---- a table that is defined next
 
--- what holds of all behind, holds of this one
+-- what holds of all that follow, holds of this one
 of_this : (P : List ℕ → Type 0) (before rest : List TableDef) (t : TableDef) → AllByRecursion P (table_names (before ++ t ∷ rest)) → P t.name
 of_this P [] rest t h = h.0
 of_this P (x ∷ before) rest t h = of_this P before rest t h.1

@@ -31,7 +31,7 @@ digits_avoid c (d ∷ ds) lt h =
     let one : not (d == c) ≡ true = grind (arith, nat_tests) in
     and_from (not (d == c)) (list_all (λ b. not (b == c)) ds) one (digits_avoid c ds lt p.1)
 
--- bytes among which one does not stand are no word that begins with it
+-- bytes that do not include one are no word that begins with it
 pub no_word : (c : ℕ) (v w : List ℕ) → list_all (λ b. not (b == c)) w ≡ true → bytes_eq w (c ∷ v) ≡ false
 no_word c v [] h = refl
 no_word c v (b ∷ w) h =
@@ -52,7 +52,7 @@ prefix_whole p (b ∷ w) h =
     let rest = prefix_whole p w q.1 in
     cond-true (p b) (1 + prefix_len p w) 0 q.0 ∙ omega (arith, rest)
 
--- a word is not split at a byte that does not stand in it
+-- a word is not split at a byte that it does not have
 pub split_around_none : (byte : ℕ) (w : List ℕ) → list_all (λ b. not (b == byte)) w ≡ true → split_around byte w ≡ None
 unfolding split_around
 split_around_none byte w h =

@@ -38,7 +38,7 @@ use Rattle.pfs_conf_round_trip.proofs.Lists.{Chain, Closing, both, bracketed_mor
 use Rattle.pfs_conf_round_trip.proofs.Names.{key_of_word, name_again}
 use Rattle.pfs_conf_round_trip.proofs.Pieces.{at, decimal_all, mark, mark_behind, number, text_append, word, word_between, word_first, word_number, word_space}
 
--- what may stand behind an option
+-- what may follow an option
 abbrev Fits : ℕ → List ℕ → Type 0
 Fits line more = breaks more ≡ true
 

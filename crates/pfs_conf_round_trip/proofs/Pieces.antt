@@ -1,4 +1,4 @@
--- The tokens of small pieces of a text, behind other tokens of their line: a word, a mark, a number.
+-- The tokens of small pieces of a text, after other tokens of their line: a word, a mark, a number.
 use Rattle.std.proofs.Common.{◌≡◌, ◌≤◌, ◌<◌, ◌^◌, ℕ, suc, Bool, true, false, List, [], ◌∷◌, ◌++◌, refl, sym, ap, ◌∙◌, arith, append-nil, append_assoc}
 use Rattle.std.specs.Prelude.{decimal}
 use Rattle.std.specs.List.{list_all}
@@ -12,7 +12,7 @@ use Rattle.pfs_conf_tokens.specs.Tokens.{Tok, token}
 use Rattle.pfs_conf_tokens.specs.Words.{key_of_text}
 use Rattle.pfs_conf_tokens.proofs.ShownLaws.{breaks, decimal_text, is_word_text, key_of_decimal, line_then, mark_then, number_of-decimal, space_then, word_then}
 
--- the tokens of a text behind others of its line
+-- the tokens of a text after others of its line
 abbrev pub at : ℕ → List ℕ → List Tok
 at line text = tokens 0 true line text
 
@@ -22,16 +22,16 @@ at line text = tokens 0 true line text
 pub word_first : (busy : Bool) (line : ℕ) (w more : List ℕ) {k : Key} → is_word_text w ≡ true → breaks more ≡ true → key_of_text w ≡ k → Word k (tokens 0 busy line (w ++ more)) (at line more)
 word_first busy line w more h b e = (token line (key_of_text w) w, word_then busy line w more h b, e)
 
--- a word behind a space
+-- a word after a space
 pub word : (line : ℕ) (w more : List ℕ) {k : Key} → is_word_text w ≡ true → breaks more ≡ true → key_of_text w ≡ k → Word k (at line (32 ∷ (w ++ more))) (at line more)
 word line w more h b e = (token line (key_of_text w) w, space_then true line (w ++ more) ∙ word_then true line w more h b, e)
 
--- a word and the space behind it
+-- a word and the space after it
 pub word_space : (busy : Bool) (line : ℕ) (w more : List ℕ) {k : Key} → is_word_text w ≡ true → key_of_text w ≡ k → Word k (tokens 0 busy line (w ++ 32 ∷ more)) (at line more)
 word_space busy line w more h e =
     (token line (key_of_text w) w, word_then busy line w (32 ∷ more) h refl ∙ ap (λ (z : List Tok). token line (key_of_text w) w ∷ z) (space_then true line more), e)
 
--- a word and the space behind it, in front of a number
+-- a word and the space after it, in front of a number
 pub word_number : (line : ℕ) (w : List ℕ) (n : ℕ) (more : List ℕ) {k : Key} → is_word_text w ≡ true → key_of_text w ≡ k → Word k (at line ((w ++ 32 ∷ decimal n) ++ more)) (at line (decimal n ++ more))
 word_number line w n more h e =
     let p = word_space true line w (decimal n ++ more) h e in
@@ -48,11 +48,11 @@ word_between line w more h e =
 pub mark : (busy : Bool) (line b : ℕ) (more : List ℕ) → is_mark b ≡ true → Word (mark_key b) (tokens 0 busy line (b ∷ more)) (at line more)
 mark busy line b more h = (token line (mark_key b) (b ∷ []), mark_then busy line b more h, refl)
 
--- a mark behind a space
+-- a mark after a space
 pub mark_behind : (line b : ℕ) (more : List ℕ) → is_mark b ≡ true → Word (mark_key b) (at line (32 ∷ b ∷ more)) (at line more)
 mark_behind line b more h = (token line (mark_key b) (b ∷ []), space_then true line (b ∷ more) ∙ mark_then true line b more h, refl)
 
--- a mark and the space behind it
+-- a mark and the space after it
 pub mark_space : (busy : Bool) (line b : ℕ) (more : List ℕ) → is_mark b ≡ true → Word (mark_key b) (tokens 0 busy line (b ∷ 32 ∷ more)) (at line more)
 mark_space busy line b more h =
     (token line (mark_key b) (b ∷ []), mark_then busy line b (32 ∷ more) h ∙ ap (λ (z : List Tok). token line (mark_key b) (b ∷ []) ∷ z) (space_then true line more), refl)
@@ -79,7 +79,7 @@ decimal_all n h = text_all (decimal n) (decimal_text n h)
 pub all_append : (p : ℕ → Bool) (v w : List ℕ) → list_all p v ≡ true → list_all p w ≡ true → list_all p (v ++ w) ≡ true
 all_append p v w h g = list_all-append p v w ∙ and_from (list_all p v) (list_all p w) h g
 
--- a word with more bytes behind it is a word
+-- a word with more bytes after it is a word
 pub text_append : (v w : List ℕ) → is_word_text v ≡ true → list_all is_word_byte w ≡ true → is_word_text (v ++ w) ≡ true
 text_append [] w h g = absurd cc
 text_append (b ∷ v) w h g =

@@ -43,7 +43,7 @@ apart (b ∷ v) (c ∷ w) h g =
     go true e rest other f = let differ : (b == c) ≡ false = grind (arith, nat_tests) in and_left (b == c) (bytes_eq v w) differ
     go false e rest other f = and_right (b == c) (bytes_eq v w) (rest f)
 
--- the words of a table in which no colon stands
+-- the words of a table that have no colon
 colonless : (w : List ℕ) (entries : List (List ℕ × Key)) → has_colon w ≡ true → list_all (λ (entry : List ℕ × Key). not (has_colon entry.0)) entries ≡ true
     → list_all (passes is_plain_word w) entries ≡ true
 colonless w [] h g = refl
@@ -73,7 +73,7 @@ colon_in_front (b ∷ v) w h = go (b == 58) (colon_in_front v w) h
 
 -- ---- the texts of addresses
 
--- the text of an address: a word, and with any bytes behind it none of the grammar's own
+-- the text of an address: a word, and with any bytes after it none of the grammar's own
 record IsAddrWord (w : List ℕ) : Type 0 where
   text : is_word_text w ≡ true
   plain : (behind : List ℕ) → is_plain_word (key_of_text (w ++ behind)) ≡ true

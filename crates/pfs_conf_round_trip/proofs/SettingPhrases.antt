@@ -27,14 +27,14 @@ use Rattle.pfs_conf_show.specs.Settings.{limit_texts, limits_text, timeout_text,
 use Rattle.pfs_conf_round_trip.proofs.Lists.{Chain, Closing, bracketed_more, done, listed_again, next}
 use Rattle.pfs_conf_round_trip.proofs.Pieces.{at, line_end, mark_behind, mark_between, number, word_first, word_number, word_space}
 
--- ---- what may stand among line ends
+-- ---- what may be among line ends
 
--- no line end stands in front
+-- no line end is in front
 pub stays : (ts : List Tok) (t : Tok) (left : List Tok) → ts ≡ t ∷ left → ends_line t.key ≡ false → skip_lines ts ≡ ts
 unfolding skip_lines
 stays ts t left e h = ap skip_lines e ∙ (cond-false (ends_line t.key) (skip_lines left) (t ∷ left) h ∙ sym e)
 
--- what may stand behind an item in braces
+-- what may follow an item in braces
 abbrev pub Lined : ℕ → List ℕ → Type 0
 Lined line more = (breaks more ≡ true) × (skip_lines (at line more) ≡ at line more)
 

@@ -40,7 +40,7 @@ use Rattle.pfs_conf_round_trip.proofs.Pieces.{at, line_end, mark, word_space}
 use Rattle.pfs_conf_round_trip.proofs.RulesAgain.{anchor_again, anchor_kept, anchor_name, rule_again, rule_kept, rule_name}
 use Rattle.pfs_conf_round_trip.proofs.TablePhrases.{parts_read}
 
--- from here on statements stand up to the end of the text, each anchor is closed, and then this has been said
+-- from here on there are statements up to the end of the text, each anchor is closed, and then this has been said
 pub record Ends (whole : Drafted) (p : Progress) (ts : List Tok) : Type 0 where
   pub said : Progress
   pub left : List Tok
@@ -91,7 +91,7 @@ table_reads d t line lines more h new =
       new,
     ) (parts_read t.is_const t.entries line more h.networks h.distinct) (line_end true line more)))
 
--- the tables that are left, behind those that are defined
+-- the tables that are left, after those that are defined
 pub tables_read : (whole : Drafted) (limits : Limits) (timeouts : List (Option ℕ)) (before rest : List TableDef) (more : List ℕ) → All IsTable rest
     → IsDistinct bytes_eq (table_names (before ++ rest)) → EndsFrom whole (drafted limits timeouts (before ++ rest) []) 0 more
     → EndsFrom whole (drafted limits timeouts before []) 0 (flat_map table_text rest ++ more)
@@ -131,7 +131,7 @@ braces_read whole d (suc n) depth more h e line lines =
 end_reads : (d : Drafted) → EndsFrom d d 0 []
 end_reads d line lines = record { said = reached d 0 lines; left = tokens 0 false line []; statements = stands (ap (λ (z : List Tok). (head z).key) (end_then line)); all_closed = refl; says = refl }
 
--- the line of an item is read, and the item stands behind the others
+-- the line of an item is read, and the item is appended to the others
 item_line : (limits : Limits) (timeouts : List (Option ℕ)) (tables : List TableDef) (before : List Item) (i : Item) (line : ℕ) (lines : List ℕ) (more : List ℕ)
     → All IsTable tables → AreNumbered tables → IsItem (length tables) i → length before < 10000 → repeats_name i before ≡ false
     → (ls : List ℕ) × StatementOf (reached (drafted limits timeouts tables before) i.depth lines) (tokens 0 false line (what_text tables i.what ++ more))
@@ -164,7 +164,7 @@ item_line limits timeouts tables before i line lines more t names h few fresh = 
           subst S same (anchor (anchor_phrase tables a) (anchor_reads tables (reached d depth lines) a line more t k.1 f) (anchor_kept tables a depth d k.1 k.0 few) (line_end true line more)),
         )
 
--- the items that are left, behind those that are read
+-- the items that are left, after those that are read
 pub items_read : (limits : Limits) (timeouts : List (Option ℕ)) (tables : List TableDef) (before rest : List Item) (depth : ℕ) → All IsTable tables
     → AreNumbered tables → All (IsItem (length tables)) rest → length (before ++ rest) ≤ 10000 → IsPreorder depth rest → AreNamedOnce before rest
     → EndsFrom (drafted limits timeouts tables (before ++ rest)) (drafted limits timeouts tables before) depth (items_text tables depth rest)

@@ -1,4 +1,4 @@
--- The lines of tables are read again, behind the name of the table.
+-- The lines of tables are read again, after the name of the table.
 use Rattle.std.proofs.Common.{◌≡◌, ℕ, Bool, true, false, All, List, [], ◌∷◌, ◌++◌, map, Some, None, refl, sym, ap, subst, ◌∙◌, arith, append_assoc, append-nil}
 use Rattle.std.specs.Prelude.{codes, ◌&&◌, ◌==◌}
 use Rattle.std.specs.List.{AllByRecursion, IsDistinct}
@@ -45,7 +45,7 @@ prefix_front line p more h b =
 not_front : (line : ℕ) (more : List ℕ) → skip_lines (at line (33 ∷ more)) ≡ at line (33 ∷ more)
 not_front line more = stays (at line (33 ∷ more)) (token line key.Not (33 ∷ [])) (at line more) (mark_then true line 33 more refl) refl
 
--- no line end stands in front of an entry
+-- no line end is in front of an entry
 entry_front : (line : ℕ) (p : Network) (negation : Bool) (more : List ℕ) → IsNetwork p → breaks more ≡ true
     → skip_lines (at line (entry_text (p, negation) ++ more)) ≡ at line (entry_text (p, negation) ++ more)
 entry_front line p true more h b = not_front line (prefix_text p ++ more)
@@ -79,7 +79,7 @@ give_entry before p negation h new line more f =
       behind = sym f.1;
     }
 
--- ---- that no prefix stands twice
+-- ---- that no prefix occurs twice
 
 pub bytes_sym : (a b : List ℕ) → bytes_eq a b ≡ bytes_eq b a
 bytes_sym [] [] = refl
@@ -103,7 +103,7 @@ network_sym p q =
 prefixes : List TextEntry → List Network
 prefixes es = map (λ (e : TextEntry). e.0) es
 
--- what holds of all behind, holds of this one
+-- what holds of all that follow, holds of this one
 of_this : (P : Network → Type 0) (before rest : List TextEntry) (e : TextEntry) → AllByRecursion P (map (λ (x : TextEntry). x.0) (before ++ e ∷ rest)) → P e.0
 of_this P [] rest e h = h.0
 of_this P (x ∷ before) rest e h = of_this P before rest e h.1
@@ -153,7 +153,7 @@ parts_break : (es : List TextEntry) (more : List ℕ) → breaks (bracketed_list
 parts_break [] more = refl
 parts_break (e ∷ es) more = refl
 
--- `const` and the entries, behind the name of a table
+-- `const` and the entries, after the name of a table
 pub parts_read : (c : Bool) (es : List TextEntry) (line : ℕ) (more : List ℕ) → All (λ (e : TextEntry). IsNetwork e.0) es → IsDistinct same_network (map (λ (e : TextEntry). e.0) es)
     → PartsOf (at line (const_text c ++ (bracketed_list (codes " { ") (codes " }") (map entry_text es) ++ 10 ∷ more))) (parts_said c es) (at line (10 ∷ more))
 parts_read false es line more h d = entries_parts false es line more h d

@@ -112,7 +112,7 @@ whole_again conf h = ap (λ (ts : List ℕ). conf_of conf.limits ts conf.tables 
 setting_read : (d e : Drafted) (lines : List ℕ) (ts left : List Tok) → SettingLine d ts e left → StatementOf (reached d 0 lines) ts (reached e 0 lines) left
 setting_read d e lines ts left s = set refl s.set s.setting s.ended
 
--- behind `set limit`
+-- after `set limit`
 abbrev limited : Conf → Drafted
 limited conf = record empty_draft { limits = conf.limits }
 

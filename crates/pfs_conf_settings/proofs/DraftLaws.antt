@@ -38,7 +38,7 @@ IsDraft_with_tables d n k more = record {
 abbrev pub with_items : List Item → Drafted → Drafted
 with_items items d = record { limits = d.limits; timeouts = d.timeouts; tables = d.tables; defined = d.defined; items = items }
 
--- so the items behind a push leave a draft, whether it was refused or not
+-- so the items after a push leave a draft, whether it was refused or not
 pub IsDraft_pushed : {E : Type 0} (d e : Drafted) (i : Item) (after : List Item) (r : Result (Unit {0}) E) → d ≡ e → IsDraft d
     → length e.items < 10000 → i.depth ≤ depth_after 0 e.items → IsItem (length e.tables) i → repeats_name i e.items ≡ false
     → OnOk r (after ≡ d.items ++ i ∷ []) → OnErr r (after ≡ d.items) → IsDraft (with_items after d)

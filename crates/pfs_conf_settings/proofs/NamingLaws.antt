@@ -1,4 +1,4 @@
--- Tables by their names: a new one behind the others, the number of each, and one put in another's place.
+-- Tables by their names: a new one after the others, the number of each, and one put in another's place.
 use Rattle.std.proofs.Common.{◌≡◌, ◌∙◌, ◌<◌, ◌+◌, ◌||◌, ℕ, suc, Bool, true, false, not, nat_lt, subst, List, [], ◌∷◌, ◌++◌, length, get_or, set, refl, ap, sym, arith, length-append, None}
 use Rattle.std.specs.List.{IsDistinct, list_any, position_or_len}
 use Rattle.std.specs.Prelude.{position}
@@ -20,7 +20,7 @@ pub undefined_table_IsTable : (name : List ℕ) → is_name 31 name ≡ true →
 unfolding IsDistinct
 undefined_table_IsTable name h = record { name = h; networks = λ k d l. absurd (omega arith); distinct = tt }
 
--- a table of a new name behind the others
+-- a table of a new name after the others
 pub IsNaming_push : (keys : List (List ℕ)) (tables : List TableDef) (defined : List Bool) (name : List ℕ)
     → IsNaming keys tables defined → is_named name tables ≡ false → is_name 31 name ≡ true
     → IsNaming (insert_key bytes_eq keys name) (tables ++ undefined_table name ∷ []) (defined ++ false ∷ [])
@@ -53,7 +53,7 @@ place_found name (k ∷ ks) h = go (bytes_eq name k) refl (place_found name ks)
         (omega arith) ∙ sym (cond-true (not (bytes_eq name k)) (1 + position_or_len (bytes_eq name) ks) 0 (ap not e)) in
         subst (λ n. (n < length (k ∷ ks)) × (get_or (k ∷ ks) n [] ≡ name)) at (omega arith, found.1)
 
--- else it is behind them
+-- else it is after them
 place_fresh : (name : List ℕ) (ks : List (List ℕ)) → list_any (bytes_eq name) ks ≡ false → position_or_len (bytes_eq name) ks ≡ length ks
 place_fresh name [] h = refl
 place_fresh name (k ∷ ks) h = go (bytes_eq name k) refl (place_fresh name ks)

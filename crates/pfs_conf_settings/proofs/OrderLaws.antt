@@ -5,7 +5,7 @@ use Rattle.std.proofs.lemmas.List.{append-nil}
 use Rattle.pfs_conf_values.specs.Order.{AreNamedOnce, IsPreorder, depth_after, next_depth, repeats_name}
 use Rattle.pfs_conf_values.specs.declared.items.Item.{Item}
 
--- behind an item at the end, the next may be as deep as that item allows
+-- after an item at the end, the next may be as deep as that item allows
 pub depth_after_push : (most : ℕ) (items : List Item) (i : Item) → depth_after most (items ++ i ∷ []) ≡ next_depth i
 depth_after_push most [] i = refl
 depth_after_push most (x ∷ items) i = depth_after_push (next_depth x) items i
@@ -21,7 +21,7 @@ AreNamedOnce_push before [] i h fresh = (ap (λ xs. repeats_name i xs) (sym (app
 AreNamedOnce_push before (x ∷ items) i h fresh =
     (h.0, AreNamedOnce_push (before ++ x ∷ []) items i h.1 (ap (λ xs. repeats_name i xs) (append_assoc before (x ∷ []) items) ∙ fresh))
 
--- behind a push
+-- after a push
 pub depth_after_pushed : {E : Type 0} (items : List Item) (i : Item) (after : List Item) (r : Result (Unit {0}) E) → OnOk r (after ≡ items ++ i ∷ [])
     → OnOk r (depth_after 0 after ≡ next_depth i)
 depth_after_pushed items i after (Ok x) h = ap (depth_after 0) h ∙ depth_after_push 0 items i

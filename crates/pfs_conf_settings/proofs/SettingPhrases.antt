@@ -1,4 +1,4 @@
--- What is read behind `set` is a setting of the grammar, and these are read.
+-- What is read after `set` is a setting of the grammar, and these are read.
 use Rattle.std.proofs.Common.{◌≡◌, ℕ, Bool, true, false, List, [], ◌∷◌, Option, Some, None, Ok, refl, sym, ap, subst}
 use Rattle.pfs_conf_tokens.specs.declared.keys.Key.{Key}
 use Rattle.pfs_conf_tokens.specs.declared.keys.Key.TheVariants as key
@@ -140,7 +140,7 @@ lined_time_reads : {d e : Drafted} {ts left : List Tok} → (AmongLines (TimeOf 
 unfolding lined_time_at
 lined_time_reads {e = e} q = rw (time_reads q.item) (ap (λ (z : List Tok). Ok (e, z)) (sym q.behind))
 
--- what begins a pair, behind line ends or not
+-- what begins a pair, after line ends or not
 abbrev Begins : Key → Type 0
 Begins k = (closes_braces k ≡ false) × (true ≡ true) × (no_comma k ≡ true)
 

@@ -54,7 +54,7 @@ pub entry_shrinks : (entries : List TextEntry) (negated : Bool) → Shrinks (ent
 unfolding entry_at
 entry_shrinks entries negated = front_shrinks inside (λ t. entry_by entries negated t) (λ t. entry_taking entries negated t)
 
--- line ends behind an entry
+-- line ends after an entry
 online_behind : (entries : List TextEntry) → Online across (skipping (done entries))
 online_behind entries = online_skipping (done entries) (online_done entries)
 

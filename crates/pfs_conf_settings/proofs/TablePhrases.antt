@@ -71,7 +71,7 @@ entry_is es n ts more left e = go (is_word_key (head ts).key) refl e
         record { is_word = g; p = q.0; says = q.1; enters = q.2; behind = q.3 }
     go false g h = absurd cc
 
--- a word stands in front
+-- a word is in front
 word_front : (ts : List Tok) → is_word_key (head ts).key ≡ true → ts ≡ head ts ∷ rest ts
 word_front [] e = absurd cc
 word_front (t ∷ ts) e = refl
@@ -164,7 +164,7 @@ entry_reads {es = es} {n = n} {p = p} {ts = ts} {more = more} {left = left} w en
     ap (λ (z : List Tok). act (entry_by es n (head z)) z) w.1
     ∙ (ap (λ (b : Act (List TextEntry)). act b (w.0 ∷ left)) (cond-true (is_word_key w.0.key) _ _ w.2 ∙ (ap (entries_with es n) w.3 ∙ entered_reads en)))
 
--- behind line ends there are none
+-- after line ends there are none
 skip_twice : (ts : List Tok) → skip_lines (skip_lines ts) ≡ skip_lines ts
 skip_twice ts = sym (skip_stays (skip_lines ts) (skip_head ts))
 
@@ -180,7 +180,7 @@ unfolding lined_entry_at
 lined_entry_reads {es = es} {ts = ts} {more = more} q =
     rw (signed_reads ts q.sign q.prefix) (rw (entry_reads q.prefix q.enters) (ap (λ (z : List Tok). Ok (more, z)) (sym q.behind)))
 
--- what begins an entry, behind line ends or not
+-- what begins an entry, after line ends or not
 abbrev Begins : Key → Type 0
 Begins k = (closes_braces k ≡ false) × (true ≡ true) × (no_comma k ≡ true)
 

@@ -58,7 +58,7 @@ is_defined name d = is_defined_in name (tables_of d)
 abbrev pub with_table : TableDef → Drafted → Drafted
 with_table t d = with_tables (defining t (tables_of d)) d
 
--- a rule, or the head of an anchor, is put behind the others
+-- a rule, or the head of an anchor, is appended to the items
 abbrev pub with_item : Item → Drafted → Drafted
 with_item i d = record d { items = d.items ++ i ∷ [] }
 

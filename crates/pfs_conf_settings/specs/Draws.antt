@@ -7,7 +7,7 @@ use Rattle.pfs_conf_tokens.specs.Giving.{refusal_at}
 use Rattle.pfs_conf_tokens.specs.declared.refusals.Refusal.{Refusal}
 use Rattle.pfs_conf_settings.specs.Drafts.{Drafted}
 
--- the same draft with the cursor behind what was read, or the same refusal
+-- the same draft with the cursor after what was read, or the same refusal
 abbrev pub Draws : Result Unit Refusal → List Tok → Drafted → Result (Drafted × List Tok) Refused → Type 0
 Draws (Ok u) left d read = read ≡ Ok (d, left)
 Draws (Err e) left d read = read ≡ Err (refusal_at e left)

@@ -7,7 +7,7 @@ use Rattle.pfs_conf_tokens.specs.Giving.{refusal_at}
 use Rattle.pfs_conf_tokens.specs.declared.refusals.ReadError.{ReadError}
 use Rattle.pfs_conf_tokens.specs.declared.refusals.ReadError.TheVariants as error
 
--- the same value with the cursor behind what was read, or the same refusal, unless memory was refused
+-- the same value with the cursor after what was read, or the same refusal, unless memory was refused
 abbrev pub Extends : {X : Type 0} → Result Unit ReadError → List Tok → X → Result (X × List Tok) Refused → Type 0
 Extends (Ok u) left x read = read ≡ Ok (x, left)
 Extends (Err error.Memory) left x read = Unit {0}

@@ -13,7 +13,7 @@ pub record IsNaming (keys : List (List ℕ)) (tables : List TableDef) (defined :
   pub sizes : length defined ≡ length tables
   pub each : All IsTable tables
 
--- what holds of a draft behind each statement
+-- what holds of a draft after each statement
 pub record IsDraft (d : Drafted) : Type 0 where
   pub limits : AreLimits d.limits
   pub timeouts : (place : ℕ) → IfSome (slice_index_or d.timeouts place None) (IsTimeout place)

@@ -1,5 +1,5 @@
--- The grammar of what stands behind `set`. Line ends are ignored between any two tokens in braces: a part of the grammar
--- there stands behind the line ends in front of it. (pf.conf(5), GRAMMAR and OPTIONS)
+-- The grammar of what follows `set`. Line ends are ignored between any two tokens in braces: each part of the grammar
+-- there comes after any line ends in front of it. (pf.conf(5), GRAMMAR and OPTIONS)
 use Rattle.std.specs.Prelude.{◌≡◌, ℕ, Bool, true, false, Some, List, ◌∷◌}
 use Rattle.pfs_conf_tokens.specs.declared.keys.Key.TheVariants as key
 use Rattle.pfs_conf_tokens.specs.Tokens.{Tok}
@@ -11,7 +11,7 @@ use Rattle.pfs_conf_settings.specs.Drafts.{Drafted, with_limit, with_timeout}
 use Rattle.pfs_conf_values.specs.Bounds.{least_timeout, greatest_timeout}
 use Rattle.pfs_conf_values.specs.Timeouts.{place_of}
 
--- a number; in braces behind line ends
+-- a number; in braces after line ends
 pub data ValueOf (low high : ℕ) : Bool → List Tok → ℕ → List Tok → Type 0 where
   plain : {ts left : List Tok} {n : ℕ} → Number low high ts n left → ValueOf low high false ts n left
   lined : {ts left : List Tok} {n : ℕ} → Number low high (skip_lines ts) n left → ValueOf low high true ts n left
@@ -33,7 +33,7 @@ pub data TimeOf (inside : Bool) : Drafted → List Tok → Drafted → List Tok 
   icmp_first : {d : Drafted} {ts mid left : List Tok} {n : ℕ} → Word key.IcmpFirst ts mid → ValueOf 0 2147483647 inside mid n left → TimeOf inside d ts d left
   icmp_error : {d : Drafted} {ts mid left : List Tok} {n : ℕ} → Word key.IcmpError ts mid → ValueOf 0 2147483647 inside mid n left → TimeOf inside d ts d left
 
--- an item behind line ends, and the line ends behind it
+-- an item after line ends, and the line ends after it
 pub record AmongLines {A : Type 0} (Item : A → List Tok → A → List Tok → Type 0) (a : A) (ts : List Tok) (c : A) (left : List Tok) : Type 0 where
   pub mid : List Tok
   pub item : Item a (skip_lines ts) c mid

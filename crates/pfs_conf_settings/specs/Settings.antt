@@ -32,7 +32,7 @@ timeout_named key.AdaptiveStart = Some timeout.AdaptiveStart
 timeout_named key.AdaptiveEnd = Some timeout.AdaptiveEnd
 timeout_named _ = None
 
--- a number, behind line ends where it stands in braces
+-- a number, in braces after any line ends
 unfoldable pub bounded_at : Bool → ℕ → ℕ → Reader ℕ
 bounded_at true low high ts = skipping (number_at low high) ts
 bounded_at false low high ts = number_at low high ts
@@ -100,7 +100,7 @@ times_by d _ = stay (time_at false d)
 unfoldable pub times_at : Drafted → Reader Drafted
 times_at d ts = on_front (λ t. times_by d t.key) ts
 
--- what stands behind `set`
+-- what follows `set`
 abbrev pub settings_by : Drafted → Key → Act Drafted
 settings_by d key.Limit = take (limits_at d)
 settings_by d key.Timeout = take (times_at d)

@@ -1,5 +1,5 @@
--- The grammar of a table's parts. Line ends are ignored between any two tokens in the braces: a part of the grammar there
--- stands behind the line ends in front of it. (pf.conf(5), GRAMMAR and TABLES)
+-- The grammar of a table's parts. Line ends are ignored between any two tokens in the braces: each part of the grammar
+-- there comes after any line ends in front of it. (pf.conf(5), GRAMMAR and TABLES)
 use Rattle.std.specs.Prelude.{◌≡◌, Bool, true, false, Some, None, List, [], ◌∷◌, ◌++◌}
 use Rattle.pfs_conf_tokens.specs.declared.keys.Key.TheVariants as key
 use Rattle.pfs_conf_tokens.specs.Tokens.{Tok}
@@ -14,7 +14,7 @@ pub data SignOf : List Tok → Bool → List Tok → Type 0 where
   plain : {ts : List Tok} → SignOf ts false ts
   negated : {ts left : List Tok} → Word key.Not ts left → SignOf ts true left
 
--- an entry is put behind the others, or stands there already with the same sign
+-- an entry is appended to the others, or is there already with the same sign
 pub data Enters (entries : List TextEntry) (negated : Bool) (p : Network) : List TextEntry → Type 0 where
   comes : sign_of entries p ≡ None → Enters entries negated p (entries ++ (p, negated) ∷ [])
   stands : sign_of entries p ≡ Some negated → Enters entries negated p entries

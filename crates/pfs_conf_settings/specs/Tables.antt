@@ -12,7 +12,7 @@ use Rattle.pfs_conf_values.specs.Entries.{TextEntry, sign_of}
 use Rattle.pfs_conf_settings.specs.declared.tables.Parts.{Parts}
 use Rattle.pfs_conf_settings.specs.TableGrammar.{no_parts}
 
--- whether a `!` stands in front
+-- whether a `!` is in front
 abbrev pub sign_by : Key → Act Bool
 sign_by key.Not = take (done true)
 sign_by _ = stay (done false)
@@ -26,7 +26,7 @@ is_same_sign true true = true
 is_same_sign false false = true
 is_same_sign _ _ = false
 
--- an entry that stands already is held once with the same sign, and is refused with the other
+-- an entry that is there already is held once if it has the same sign, and is refused if it has the other
 abbrev pub again : List TextEntry → Bool → Bool → Act (List TextEntry)
 again entries true true = take (done entries)
 again entries false false = take (done entries)
@@ -50,7 +50,7 @@ entry_at entries negated ts = on_front (λ t. entry_by entries negated t) ts
 unfoldable pub lined_entry_at : List TextEntry → Reader (List TextEntry)
 lined_entry_at entries ts = skipping (chain sign_at (λ negated. skipping (chain (entry_at entries negated) (λ more. skipping (done more))))) ts
 
--- the entries in braces, behind the opening one
+-- the entries in braces, after the opening one
 abbrev pub entries_by : Key → Act (List TextEntry)
 entries_by key.CloseBrace = take (done [])
 entries_by _ = stay (list_all closes_braces lined_entry_at [])

@@ -19,11 +19,11 @@ use pfs_conf_values::{
 use std::alloc::Global;
 use std::marker::Model;
 
-/// What the statements say that have been read so far. Each statement is put into it when its load rules have been asked;
-/// the rules of the whole text are asked at last, and then it is finished.
+/// What the statements say that have been read so far. Each statement is put into it when its load rules have been
+/// checked. The rules of the whole text are checked last, and then it is finished.
 ///
-/// Clauses see a `Drafted`. `NoMemory` is answered where memory for what a statement says is refused, and then the draft
-/// is as before.
+/// Clauses see a `Drafted`. A call returns `NoMemory` where memory for what a statement says is refused; the draft is
+/// then as before.
 #[derive(Debug, Drop)]
 pub struct Draft {
     limits: Limits,
@@ -46,7 +46,7 @@ impl Model for Draft {
 
 impl Draft {
     /// The draft of a text of which nothing has been read: the default limits, no timeout set, no tables and items. Its
-    /// hasher was fed with nothing; for a stranger's text take `with_hasher`. It takes no memory.
+    /// hasher was fed with nothing; for a stranger's text use `with_hasher`. It takes no memory.
     pub fn new(alloc: Global) -> Draft
         ensures { result ≡ empty_draft }
     {
@@ -126,14 +126,14 @@ impl Draft {
         self.items.len() as u32
     }
 
-    /// Whether an anchor of this name stands already in the body, of this depth, in which the next item stands.
+    /// Whether the body in which the next item will be, of this depth, has an anchor of this name already.
     pub fn has_sibling(&self, depth: u8, name: &AnchorName) -> bool
         ensures { result ≡ has_sibling depth name.now self.now.items }
     {
         has_sibling(&self.items, depth, name)
     }
 
-    /// Puts a rule behind the other items, inside so many anchors, which takes memory. There may be 10,000 items.
+    /// Appends a rule to the items, inside so many anchors, which takes memory. At most 10,000 items are allowed.
     /// (pf.conf(5), PACKET FILTERING)
     pub fn push_rule(&mut self, depth: u8, rule: Rule) -> Result<(), NoMemory>
         requires few { length self.old.items < 10000 }
@@ -150,8 +150,8 @@ impl Draft {
         })
     }
 
-    /// Puts the head of an anchor behind the other items, inside so many other anchors, which takes memory. There may be
-    /// 10,000 items. (pf.conf(5), ANCHORS)
+    /// Appends the head of an anchor to the items, inside so many other anchors, which takes memory. At most 10,000
+    /// items are allowed. (pf.conf(5), ANCHORS)
     pub fn push_anchor(&mut self, depth: u8, anchor: Anchor) -> Result<(), NoMemory>
         requires few { length self.old.items < 10000 }
         requires order { depth ≤ depth_after 0 self.old.items }
@@ -212,7 +212,7 @@ impl Draft {
         count_entries(self.tables.tables()) > u64::from(self.limits.table_entries)
     }
 
-    /// What a text says that ends here: what it does not set has its default. It takes no memory.
+    /// What a text says that ends here; what it does not set has its default. It takes no memory.
     pub fn finish(self) -> Config
         requires pair { has_broken_pair self ≡ false }
         requires overloads { const_overload self ≡ None }

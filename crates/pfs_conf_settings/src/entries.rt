@@ -9,8 +9,8 @@ use pfs_conf_values::{Entries, RulesHasher};
 use std::alloc::Global;
 use std::marker::Model;
 
-/// The entries of a table that is being read, in the order in which they stand first: prefixes, no two the same, each with
-/// whether a `!` stands before it.
+/// The entries of a table that is being read, in the order in which they first occur: prefixes, no two the same, each
+/// with whether a `!` is before it.
 ///
 /// Clauses see a list of pairs. (pf.conf(5), TABLES)
 #[derive(Drop)]
@@ -46,20 +46,20 @@ impl EntryDraft {
         self.map.get(&prefix).copied()
     }
 
-    /// Puts an entry behind the others, whose prefix none of them has. `NoMemory` is answered where the memory for it is
-    /// refused, and then they are as before.
+    /// Appends an entry whose prefix none of the others has. It returns `NoMemory` where memory for it is refused; the
+    /// entries are then as before.
     pub fn add(&mut self, prefix: Prefix, negated: bool) -> Result<(), NoMemory>
         requires { sign_of self.old prefix ≡ None }
         ensures ok { OnOk result (self.new ≡ self.old ++ (prefix, negated) ∷ []) }
         ensures err { OnErr result (self.new ≡ self.old) }
     {
-        // This call tells the proof that the bits past its length are zero.
+        // This call states to the proof that the bits past its length are zero.
         let _bits = prefix.bits();
         self.map.insert(prefix, negated)?;
         Ok(())
     }
 
-    /// The entries, all read. `NoMemory` is answered where memory for them is refused.
+    /// The entries, all read. It returns `NoMemory` where memory for them is refused.
     pub fn finish(&self, alloc: Global) -> Result<Entries, NoMemory>
         ensures { IfOk result (λ e. e ≡ self.now) }
     {

@@ -63,8 +63,8 @@ impl NamedTables {
         }
     }
 
-    /// The number of the table of this name, which is named from now on; 4294967295 for all tables that are named behind as
-    /// many others. `NoMemory` is answered where memory for one more table is refused, and then nothing changes.
+    /// The number of the table of this name, which is named from now on; 4294967295 for every table after the first
+    /// 4294967295. It returns `NoMemory` where memory for one more table is refused; nothing changes then.
     pub fn number_of(&mut self, name: TableName) -> Result<TableNo, NoMemory>
         requires { is_name 31 name ≡ true }
         ensures answer { IfOk result (λ t. t.0 ≡ table_number (place_in name self.old.tables)) }
@@ -90,7 +90,7 @@ impl NamedTables {
         }
     }
 
-    /// Puts a table of a new name behind the others, and answers its place.
+    /// Appends a table of a new name, and returns its place.
     fn add(&mut self, name: TableName) -> Result<usize, NoMemory>
         requires fresh { is_named name self.old.tables ≡ false }
         requires name { is_name 31 name ≡ true }
@@ -113,14 +113,14 @@ impl NamedTables {
         Ok(place)
     }
 
-    /// Defines the table of its name. `NoMemory` is answered as by `number_of`.
+    /// Defines the table of its name. It returns `NoMemory` as `number_of` does.
     pub fn define(&mut self, table: TableDef) -> Result<(), NoMemory>
         requires { is_name 31 table.name ≡ true }
         ensures more { length self.old.tables ≤ length self.new.tables }
         ensures ok { OnOk result (self.new ≡ defining table self.old) }
         ensures err { OnErr result (self.new ≡ self.old) }
     {
-        // This call tells the proof that its entries are prefixes, no two the same.
+        // This call states to the proof that its entries are prefixes, no two the same.
         let _count = table.entries.len();
         let place = self.place_of(table.name)?;
         self.tables[place] = table;
@@ -134,7 +134,7 @@ impl NamedTables {
         ensures each { All IsTable self.tables }
         ensures names { IsDistinct bytes_eq (table_names self.tables) }
     {
-        // This call tells the proof that no two names are the same.
+        // This call states to the proof that no two names are the same.
         let _count = self.names.len();
         let NamedTables {
             names: _,

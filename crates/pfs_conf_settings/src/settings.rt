@@ -1,4 +1,4 @@
-//! What stands behind the word `set`.
+//! What follows the word `set`.
 
 ghost use Rattle.std.specs.Prelude.{◌≡◌, ◌≤◌, Some, IfOk};
 ghost use Rattle.pfs_conf_tokens.specs.Reading.{closes_braces, act, number_at, until_all, next_of};
@@ -10,13 +10,13 @@ use crate::drafts::Draft;
 use pfs_conf_tokens::{Cursor, Key, Refusal, Why, number, skip_lines};
 use pfs_conf_values::{LimitName, TimeoutName};
 
-/// Reads what stands behind the word `set`, up to the line end, which stays, and sets it: a later value replaces an
-/// earlier one.
+/// Reads what follows the word `set`, up to the line end, which stays, and sets it: a later value replaces an earlier one.
 ///
-/// It refuses, with the cursor at that token, what goes on no `set` statement: behind `set` stands `limit` or `timeout`,
-/// and then one pair of a name and a number, or a list of them in braces, in which line ends are ignored. `frags`,
-/// `frag`, `tcp.tsdiff`, `icmp.first` and `icmp.error` are read without effect. Where it refuses, what was read before the
-/// refused token may have been set. It takes no memory. (pf.conf(5), OPTIONS, "set limit" and "set timeout")
+/// It refuses what continues no `set` statement, with the cursor at that token. `set` is followed by `limit` or
+/// `timeout`, and then by one pair of a name and a number, or by a list of them in braces, in which line ends are
+/// ignored. `frags`, `frag`, `tcp.tsdiff`, `icmp.first` and `icmp.error` are read without effect. Where it refuses,
+/// what was read before the refused token may have been set. It takes no memory. (pf.conf(5), OPTIONS, "set limit" and
+/// "set timeout")
 #[tactic(auto, unfolding(crate::specs::Settings::settings_at))]
 pub fn read_settings(cursor: &mut Cursor, draft: &mut Draft) -> Result<(), Refusal>
     ensures { Draws result cursor.new draft.new (settings_at draft.old cursor.old) }
@@ -187,7 +187,7 @@ fn set_timeout(
     Ok(())
 }
 
-/// A number, behind line ends where it stands in braces.
+/// A number, in braces after any line ends.
 #[tactic(auto, unfolding(crate::specs::Settings::bounded_at))]
 fn value(cursor: &mut Cursor, inside: bool, low: u32, high: u32) -> Result<u32, Refusal>
     ensures value { Gives result cursor.new (bounded_at inside low high cursor.old) }

@@ -13,7 +13,7 @@ use pfs_conf_tokens::{Cursor, Key, ReadError, Refusal, Why, skip_lines};
 use pfs_conf_values::{Entries, RulesHasher};
 use std::alloc::Global;
 
-/// The parts of a table's definition that stand behind its name. (pf.conf(5), TABLES)
+/// The parts of a table's definition that follow its name. (pf.conf(5), TABLES)
 #[derive(Debug, Drop)]
 pub struct Parts {
     /// `persist`, which is read without effect.
@@ -26,12 +26,12 @@ pub struct Parts {
     pub entries: Option<Entries>,
 }
 
-/// Reads the parts of a table's definition, behind its name and up to the line end, which stays.
+/// Reads the parts of a table's definition, after its name and up to the line end, which stays.
 ///
-/// It refuses, with the cursor at that token, a part that stands already, what is no part, an entry that is no prefix, and
-/// an entry that stands already with the other sign. An entry that stands already with the same sign is held once. Line
-/// ends in the braces are ignored. It takes memory for the entries. Its hasher was fed with nothing; for a stranger's text
-/// take `read_parts_with`. (pf.conf(5), TABLES)
+/// It refuses, with the cursor at that token, a part that is there already, what is no part, an entry that is no
+/// prefix, and an entry that is there already with the other sign. An entry that is there already with the same sign is
+/// held once. Line ends in the braces are ignored. It takes memory for the entries. Its hasher was fed with nothing;
+/// for a stranger's text use `read_parts_with`. (pf.conf(5), TABLES)
 pub fn read_parts(alloc: Global, cursor: &mut Cursor) -> Result<Parts, ReadError>
     ensures { GivesOrMemory result cursor.new (parts_at cursor.old) }
 {
@@ -138,7 +138,7 @@ fn entries(alloc: Global, hasher: RulesHasher, cursor: &mut Cursor) -> Result<En
     }
 }
 
-/// The entries in braces, behind the opening one.
+/// The entries in braces, after the opening one.
 #[tactic(auto, unfolding(crate::specs::Tables::braced_entries_at))]
 fn braced_entries(
     alloc: Global,

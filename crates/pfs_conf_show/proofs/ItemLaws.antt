@@ -27,7 +27,7 @@ items_next tables depth (suc n) (j ∷ items) i h =
     up : (m : ℕ) → suc (m + 1) ≡ suc m + 1
     up m = omega arith
 
--- behind the last item only the open anchors are left
+-- after the last item only the open anchors are left
 pub items_end : (tables : List TableDef) (depth n : ℕ) (items : List Item) → length items ≤ n → items_text tables depth (drop n items) ≡ braces_text depth
 items_end tables depth zero [] h = refl
 items_end tables depth (suc n) [] h = refl

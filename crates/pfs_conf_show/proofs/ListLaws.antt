@@ -33,12 +33,12 @@ pub begun_after_push : (begun : Bool) (xs : List (List ℕ)) (x : List ℕ) → 
 begun_after_push begun [] x = refl
 begun_after_push begun (y ∷ xs) x = refl
 
--- ---- what is written one behind the other
+-- ---- what is written one after the other
 
 pub behind : (o a b : List ℕ) {o1 o2 : List ℕ} → o1 ≡ o ++ a → o2 ≡ o1 ++ b → o2 ≡ o ++ (a ++ b)
 behind o a b e f = f ∙ (ap (λ (z : List ℕ). z ++ b) e ∙ append_assoc o a b)
 
--- the items of one list behind those of another
+-- the items of one list after those of another
 pub goes_on : (opening : List ℕ) (begun now : Bool) (xs ys : List (List ℕ)) (o o1 o2 : List ℕ) → o1 ≡ o ++ going_on opening begun xs → now ≡ begun_after begun xs
     → o2 ≡ o1 ++ going_on opening now ys → o2 ≡ o ++ going_on opening begun (xs ++ ys)
 goes_on opening begun now xs ys o o1 o2 e h f =
@@ -95,7 +95,7 @@ line o o1 o2 o3 words list e f g =
 four : (w1 w2 w3 w4 : List ℕ) → (codes " { " ++ w1) ++ ((codes ", " ++ w2) ++ ((codes ", " ++ w3) ++ (codes ", " ++ w4))) ≡ going_on (codes " { ") false (w1 ∷ w2 ∷ w3 ∷ w4 ∷ [])
 four w1 w2 w3 w4 = simp (append_assoc, append-nil)
 
--- one item behind what is written, with the value that is meant
+-- one item after what is written, with the value that is meant
 item : (o o1 before word : List ℕ) (n m : ℕ) → o1 ≡ o ++ (before ++ word_and_number word n) → n ≡ m → o1 ≡ o ++ (before ++ word_and_number word m)
 item o o1 before word n m e h = e ∙ ap (λ (k : ℕ). o ++ (before ++ word_and_number word k)) h
 
@@ -125,7 +125,7 @@ pub step_at : {X : Type 0} (opening : List ℕ) (f : X → List ℕ) (xs : List 
 step_at opening f xs i e old o1 o2 o3 b h g k l m =
     list_step opening f xs i e old o1 o3 b (f e) (slice_get_within xs i e h) g k (sym (ap f (get_or_from_slice_get xs i e e h))) (behind o1 (separator opening b) (f e) l m)
 
--- one element more of a list whose texts stand one behind the other
+-- one element more of a list whose texts follow one another
 pub text_at : {X : Type 0} (f : X → List ℕ) (xs : List X) (i : ℕ) (e : X) (old o1 o2 : List ℕ) → slice_get xs i ≡ Some e
     → o1 ≡ old ++ flat_map f (take i xs) → o2 ≡ o1 ++ f e → o2 ≡ old ++ flat_map f (take (i + 1) xs)
 text_at f xs i e old o1 o2 h g k =

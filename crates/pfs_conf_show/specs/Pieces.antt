@@ -1,9 +1,9 @@
--- Small pieces of the canonical text: numbers behind words, lists, prefixes. (own)
+-- Small pieces of the canonical text: numbers after words, lists, prefixes. (own)
 use Rattle.std.specs.Prelude.{ℕ, Bool, true, false, if◌then◌else◌, ◌==◌, List, [], ◌∷◌, ◌++◌, Option, Some, None, codes, decimal}
 use Rattle.pfs_addr_values.specs.Addresses.{addr_text, width_of}
 use Rattle.pfs_addr_values.specs.Prefixes.{Network}
 
--- a word and a number behind it
+-- a word and a number after it
 abbrev pub word_and_number : List ℕ → ℕ → List ℕ
 word_and_number word n = word ++ (codes " " ++ decimal n)
 

@@ -43,8 +43,8 @@ abbrev pub braces_text : ℕ → List ℕ
 braces_text zero = []
 braces_text (suc n) = codes "}\n" ++ braces_text n
 
--- items in order, inside so many anchors: an item that stands outside of some of them has their closing lines before it,
--- and at the end all that are left are closed
+-- items in order, inside so many anchors: an item outside of some of them has their closing lines before it, and at the
+-- end all that are left are closed
 abbrev pub items_text : List TableDef → ℕ → List Item → List ℕ
 items_text tables depth [] = braces_text depth
 items_text tables depth (i ∷ items) = braces_text (depth - i.depth) ++ (what_text tables i.what ++ items_text tables (next_depth i) items)

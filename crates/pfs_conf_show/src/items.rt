@@ -17,8 +17,8 @@ use std::alloc::Global;
 /// feed, words are one space apart, and no line is indented. Equal configurations have equal texts, and a text of at most
 /// 1,048,576 bytes whose `adaptive.end` is at most 4294967295 reads as the same configuration again.
 ///
-/// It takes memory for the text, and time in proportion to its length. `NoMemory` where the text's growth was refused.
-/// (pf.conf(5), GRAMMAR, for the words; the form is own to this profile)
+/// It takes memory for the text, and time in proportion to its length. `NoMemory` where memory for the text was
+/// refused. (pf.conf(5), GRAMMAR, for the words; the form is own to this profile)
 pub fn show(alloc: Global, config: &Config) -> Result<Vec<u8>, NoMemory>
     ensures { IfOk result (λ v. v.items ≡ text_of config.now) }
 {
@@ -42,8 +42,8 @@ fn push_items(out: &mut Vec<u8>, config: &Config) -> Result<(), NoMemory>
     push_braces(out, depth)
 }
 
-/// An item, where so many anchors are open, with the braces that close those in which it does not stand. The answer says how
-/// many are open behind it.
+/// Closes the anchors that the item is not in, and writes the item. `depth` anchors are open before it; the answer is
+/// how many are open after it.
 fn push_item(out: &mut Vec<u8>, config: &Config, depth: u8, item: &Item) -> Result<u8, NoMemory>
     requires { item.now.depth ≤ 16 }
     ensures text { OnOk result (out.new.items ≡ out.old.items

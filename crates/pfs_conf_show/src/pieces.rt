@@ -57,7 +57,7 @@ fn is_whole(prefix: Prefix) -> bool
     prefix.bits() == prefix.addr().width()
 }
 
-/// What stands before an item of a list that has begun or not.
+/// What comes before an item of a list that has begun or not.
 pub fn push_separator(out: &mut Vec<u8>, opening: &[u8], begun: bool) -> Result<(), NoMemory>
     ensures { OnOk result (out.new.items ≡ out.old.items ++ separator opening.now begun) }
 {
@@ -65,7 +65,7 @@ pub fn push_separator(out: &mut Vec<u8>, opening: &[u8], begun: bool) -> Result<
     Ok(())
 }
 
-/// What stands behind the items of a list, if there are any.
+/// What follows the items of a list, if there are any.
 pub fn push_closing(out: &mut Vec<u8>, closing: &[u8], begun: bool) -> Result<(), NoMemory>
     ensures { OnOk result (out.new.items ≡ out.old.items ++ closed_by closing.now begun) }
 {

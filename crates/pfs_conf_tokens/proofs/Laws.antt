@@ -2,8 +2,8 @@
 --
 -- A crate above imports them as `use Rattle.pfs_conf_tokens.proofs.Laws.{online_chain, ..}`.
 --
--- `Online r f` says that the reader f looks no further than the token in front of what it leaves, and what it goes over. Each
--- part of specs/Reading.antt keeps it, so a production takes two or three lines:
+-- `Online r f` says that the reader f looks no further than the token in front of what it leaves, and which tokens it
+-- may pass. Each part of specs/Reading.antt keeps this, so a production takes two or three lines:
 --
 --     dir_taking : (k : Key) → Taking inside k (dir_by k)
 --     dir_taking key.In = (refl, online_done dir.In)
@@ -14,8 +14,8 @@
 --     unfolding dir_at
 --     online_dir = online_taking (λ t. dir_by t.key) (λ t. dir_taking t.key)
 --
--- What follows from it, once for a whole text: reading that stops at a token stops there whatever stands behind that token
--- (`no_text`), and the tokens before it are told by their keys (`stops_at`).
+-- What follows from it, once for a whole text: reading that stops at a token stops there whatever follows that token
+-- (`no_text`), and each token before it has a key that the reader may pass (`stops_at`).
 use Rattle.std.proofs.Common.{◌≡◌, ℕ, zero, suc, ◌+◌, ◌≤◌, ◌<◌, Bool, true, false, cond, List, [], ◌∷◌, ◌++◌, length, Option, Some, None, Result, Ok, Err, refl, sym, ap, subst, ◌∙◌, arith, inl, inr, ◌⊎◌, length-append}
 use Rattle.pfs_conf_tokens.specs.Tokens.{Tok, head}
 use Rattle.pfs_conf_tokens.specs.Reading.{rest, Refused, stop, Reader, ◌>>=◌, Act, take, stay, refuse, act, on_front, done, chain, perhaps, once, turns, taken, left_there, until_all, up_to_all, ended_by, ended, load_rule_reader}
@@ -54,7 +54,7 @@ ok_parts {A} x y ts us e =
     let p : ◌≡◌ {A = A × List Tok} (x, ts) (y, us) = ok_is (x, ts) (y, us) e in
     (ap (λ (q : A × List Tok). q.0) p, ap (λ (q : A × List Tok). q.1) p)
 
--- where a token is refused nothing is read. (In a case for all other keys it stands in the place of a search for each.)
+-- where a token is refused nothing is read. (In a case for all other keys this replaces a search for each.)
 pub not_refused : {A : Type 0} (w : Why) (ts : List Tok) (x : A × List Tok) → act (refuse w) ts ≡ Ok x → ⊥
 not_refused w ts x e = cc
 
@@ -126,7 +126,7 @@ pub passes_less : {p : Key → Bool} {a b : List Tok} → Passes p a b → lengt
 passes_less stays = omega arith
 passes_less (over e h) = let l = passes_less h in omega arith
 
--- ---- what is refused at a token is refused whatever stands behind that token
+-- ---- what is refused at a token is refused whatever follows that token
 
 -- two lists of tokens are the same up to where these are left
 pub data Share : List Tok → List Tok → List Tok → List Tok → Type 0 where
@@ -174,7 +174,7 @@ online_done {r = r} y = record {
   err = λ ts w t m e m'. absurd cc;
 }
 
--- a load rule is told at its line, and is no stop at a token
+-- a broken load rule is reported at its line, and is no stop at a token
 pub online_judged : {A : Type 0} {r : Reach} (rule : LoadRule) (is_broken : Bool) (n : ℕ) (x : A) → Online r (load_rule_reader rule is_broken n x)
 online_judged rule false n x = online_done x
 online_judged rule true n x = record { took = λ ts y left e. absurd cc; stopped = λ ts left w e. absurd cc; ok = λ ts y t m e m'. absurd cc; err = λ ts w t m e m'. absurd cc }
@@ -333,7 +333,7 @@ chain_shrinks r f g s h = record {
       omega arith;
 }
 
--- or one behind it does
+-- or one after it does
 pub chain_shrinks_behind : {A B : Type 0} (r : Reach) (f : Reader A) (g : A → Reader B) → Online r f → ((a : A) → Shrinks (g a)) → Shrinks (chain f g)
 chain_shrinks_behind r f g h s = record {
   less = λ ts x left e.
@@ -343,7 +343,7 @@ chain_shrinks_behind r f g h s = record {
       omega arith;
 }
 
--- ---- phrases that may lack
+-- ---- phrases that may be absent
 
 if_online : {A : Type 0} (r : Reach) (k : Key) (b : Bool) (x y : Act A) → OnlineAct r k x → OnlineAct r k y → OnlineAct r k (cond b x y)
 if_online r k true x y p q = p
@@ -385,7 +385,7 @@ turns_go_on stops last step a b ts left h e s =
     let l : length left < length ts = (h a).less ts b left s in
     rw (e, s) (fuel_enough stops last step (length ts) (suc (length left)) b left h l (omega arith))
 
--- what the answers of a loop cite: a step is read, the closing token stands there, a step is refused
+-- what the answers of a loop cite: a step is read, the closing token is in front, a step is refused
 pub until_goes_on : {A : Type 0} (stops : Key → Bool) (step : A → Reader A) (a b : A) (ts left : List Tok) → ((a : A) → Shrinks (step a))
     → stops (head ts).key ≡ false → step a ts ≡ Ok (b, left)
     → until_all stops step a ts ≡ until_all stops step b left
@@ -512,7 +512,7 @@ share_append : (pre r r' x : List Tok) → Share (pre ++ r) x r r' → x ≡ pre
 share_append [] r r' x s = share_whole s refl
 share_append (t ∷ pre) r r' x s = let n = share_next s t pre refl in n.1 ∙ ap (λ (z : List Tok). t ∷ z) (share_append pre r r' n.0 n.2)
 
--- what stops at a token stops there whatever stands behind it: no tokens with the same front are read
+-- what stops at a token stops there whatever follows it: no tokens with the same front are read
 pub no_text : {A : Type 0} (r : Reach) (f : Reader A) → Online r f → (pre : List Tok) (t : Tok) (m m' : List Tok) (w : Why) (x : A) (left : List Tok)
     → f (pre ++ t ∷ m) ≡ Err (stop (t ∷ m) w) → f (pre ++ t ∷ m') ≡ Ok (x, left) → ⊥
 no_text r f h pre t m m' w x left e k =
@@ -537,12 +537,12 @@ stopping_no_end inside e = cc
 stopping_no_end line e = cc
 stopping_no_end across e = cc
 
--- where reading stops: a token, the tokens before it told by their keys, and those behind it
+-- where reading stops: a token, the tokens before it, whose keys the reader may pass, and those after it
 pub stops_at : {A : Type 0} (r : Reach) (f : Reader A) → Online r f → (ts left : List Tok) (w : Why) → f ts ≡ Err (stop left w) → HasEnd ts
     → (pre : List Tok) × (t : Tok) × (m : List Tok) × (left ≡ t ∷ m) × (ts ≡ pre ++ t ∷ m) × AllKeys (stopping r) pre × HasEnd left
 stops_at r f h ts left w e has = passes_apart (stopping_no_end r) (h.stopped ts left w e) has
 
--- and what is left behind what was read
+-- and what is left after what was read
 pub leaves : {A : Type 0} (r : Reach) (f : Reader A) → Online r f → (ts : List Tok) (x : A) (left : List Tok) → f ts ≡ Ok (x, left) → HasEnd ts
     → (pre : List Tok) × (t : Tok) × (m : List Tok) × (left ≡ t ∷ m) × (ts ≡ pre ++ t ∷ m) × AllKeys (taking r) pre × HasEnd left
 leaves r f h ts x left e has = passes_apart (end_not r) (h.took ts x left e) has

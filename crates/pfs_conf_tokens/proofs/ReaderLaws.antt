@@ -18,7 +18,7 @@ use Rattle.pfs_conf_tokens.proofs.Laws.{passes_then, passes_less, bind_ok, ok_pa
 
 -- ---- keys
 
--- a word stands in a line
+-- a word is a token of a line
 pub word_in_line : (k : Key) → is_word_key k ≡ true → in_line k ≡ true
 word_in_line key.LineEnd e = absurd cc
 word_in_line key.End e = absurd cc
@@ -30,7 +30,7 @@ timeout_in_line key.LineEnd place e = absurd cc
 timeout_in_line key.End place e = absurd cc
 timeout_in_line _ place e = refl
 
--- what stops a loop stands within its reach, and is one key
+-- what stops a loop is within its reach, and is one key
 pub closes_parens_in_line : (k : Key) → closes_parens k ≡ true → in_line k ≡ true
 closes_parens_in_line key.CloseParen e = refl
 closes_parens_in_line _ e = absurd (clash e)
@@ -59,7 +59,7 @@ pub line_end_key : (k : Key) → ends_line k ≡ true → k ≡ key.LineEnd
 line_end_key key.LineEnd e = refl
 line_end_key _ e = absurd (clash e)
 
--- the key in front of a word, and what is behind it
+-- the key in front of a word, and what is after it
 pub word_head : {k : Key} {ts left : List Tok} → Word k ts left → ((head ts).key ≡ k) × (rest ts ≡ left)
 word_head {k} {ts} {left} w = rw w.1 (w.2, refl)
 
@@ -145,7 +145,7 @@ lines_shared (u ∷ ts) us t m m' e s = turn (λ q. lines_shared ts us t m m' e 
     turn h true g q = let p = h q in (u ∷ p.0, next p.1, rw g p.2)
     turn h false g q = (us, q, sym (skip_stays us e))
 
--- a reader behind line ends goes across lines
+-- a reader after line ends goes across lines
 pub online_skipping : {A : Type 0} (f : Reader A) → Online across f → Online across (skipping f)
 online_skipping f h = record {
   took = λ ts x left e. passes_then (lines_passes ts) (h.took (skip_lines ts) x left e);
@@ -165,7 +165,7 @@ skipping_shrinks f s = record { less = λ ts x left e. let l1 = passes_less (lin
 
 -- ---- words
 
--- a token that is no end stands in front
+-- a token that is no end is in front
 pub word_is : (k : Key) (ts : List Tok) → (head ts).key ≡ k → (key.End ≡ k → ⊥) → Word k ts (rest ts)
 word_is k [] e n = absurd (n e)
 word_is k (t ∷ ts) e n = (t, refl, e)
@@ -211,11 +211,11 @@ number_reads low high {n = n} w =
     let b : leb n high ≡ true = le-leb n high w.5 in
     rw (w.1, w.2, w.3, a, b) refl
 
--- a number stands at a key of its own
+-- a number has a key of its own
 pub number_head : {low high : ℕ} {ts : List Tok} {n : ℕ} {left : List Tok} → Number low high ts n left → (head ts).key ≡ key.Number
 number_head w = rw w.1 w.2
 
--- ---- phrases that may lack
+-- ---- phrases that may be absent
 
 pub perhaps_is : {A : Type 0} (starts : Key → Bool) (f : Reader A) (P : List Tok → A → List Tok → Type 0)
     → ((ts : List Tok) (x : A) (left : List Tok) → f ts ≡ Ok (x, left) → P ts x left)
@@ -231,7 +231,7 @@ perhaps_is {A} starts f P is ts o left e = choose (starts (head ts).key) e
         let p = ok_parts None o ts left h in
         subst (λ (z : Option A). Perhaps P ts z left) p.0 (subst (λ (z : List Tok). Perhaps P ts None z) p.1 absent)
 
--- read, where a phrase that is present begins with a key that starts it, and nothing that starts it stands behind
+-- read, where a phrase that is present begins with a key that starts it, and nothing that starts it follows
 pub perhaps_reads : {A : Type 0} (starts : Key → Bool) (f : Reader A) (P : List Tok → A → List Tok → Type 0)
     → ((ts : List Tok) (x : A) (left : List Tok) → P ts x left → (starts (head ts).key ≡ true) × (f ts ≡ Ok (x, left)))
     → {ts : List Tok} {o : Option A} {left : List Tok} → Perhaps P ts o left → starts (head left).key ≡ false → perhaps starts f ts ≡ Ok (o, left)
@@ -245,7 +245,7 @@ pub perhaps_reads_before : {A : Type 0} (starts follow : Key → Bool) (f : Read
 perhaps_reads_before starts follow f P reads absent s g = rw s refl
 perhaps_reads_before starts follow f P reads (present {ts} {left} {x} p) s g = let r = reads ts x left p g in rw (r.0, r.1) refl
 
--- a key that neither begins the phrase nor stands behind it is not in front
+-- a key that neither begins the phrase nor follows it is not in front
 pub perhaps_avoids : {A : Type 0} (g : Key → Bool) (P : List Tok → A → List Tok → Type 0)
     → ((ts : List Tok) (x : A) (left : List Tok) → P ts x left → g (head ts).key ≡ false)
     → {ts : List Tok} {o : Option A} {left : List Tok} → Perhaps P ts o left → g (head left).key ≡ false → g (head ts).key ≡ false

@@ -1,7 +1,7 @@
--- What is written is read again as tokens: each piece of a text, whatever stands behind it.
+-- What is written is read again as tokens: each piece of a text, whatever follows it.
 --
--- Each law gives the tokens of a piece with any bytes behind it, so the tokens of a line are these laws joined by `∙`, each
--- `ap` behind the tokens before it. `busy` says whether the line has tokens already.
+-- Each law gives the tokens of a piece followed by any bytes. So the tokens of a line are these laws joined by `∙`,
+-- each under `ap` of the tokens before it. `busy` says whether the line has tokens already.
 use Rattle.std.proofs.Common.{◌≡◌, ℕ, zero, suc, ◌+◌, ◌-◌, ◌*◌, ◌≤◌, ◌<◌, ◌^◌, Bool, true, false, cond, List, [], ◌∷◌, ◌++◌, length, take, drop, position, Some, refl, sym, ap, ◌∙◌, arith, ◌&&◌, ◌||◌, ◌==◌, not, leb, ltb, rules, length-append, append-nil}
 use Rattle.std.specs.Prelude.{decimal}
 use Rattle.std.specs.Char.{is_ascii_digit}
@@ -183,7 +183,7 @@ prefix_before byte (b ∷ front) behind e =
     let h = prefix_before byte front behind p.1 in
     cond-true (not (b == byte)) _ _ p.0 ∙ omega (arith, h)
 
--- two parts with the byte between them that stands not in the first are split there
+-- two parts joined by a byte that does not occur in the first are split there
 pub split_around_append : (byte : ℕ) (front behind : List ℕ) → list_all (λ b. not (b == byte)) front ≡ true → split_around byte (front ++ byte ∷ behind) ≡ Some (front, behind)
 unfolding split_around
 split_around_append byte front behind e =

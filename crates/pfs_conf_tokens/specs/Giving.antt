@@ -12,7 +12,7 @@ abbrev pub refusal_at : Refusal → List Tok → Refused
 refusal_at (refusal.Stop w) left = stop left w
 refusal_at (refusal.Broken rule line) left = broken rule line
 
--- the same value with the cursor behind it, or the same refusal with the cursor at the token that goes on no statement
+-- the same value with the cursor after it, or the same refusal with the cursor at the token that no statement accepts there
 abbrev pub Gives : {X : Type 0} → Result X Refusal → List Tok → Result (X × List Tok) Refused → Type 0
 Gives (Ok x) left read = read ≡ Ok (x, left)
 Gives (Err e) left read = read ≡ Err (refusal_at e left)

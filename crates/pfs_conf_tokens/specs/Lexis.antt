@@ -44,7 +44,7 @@ unfoldable pub run_of : Run → List ℕ → ℕ
 run_of r [] = 0
 run_of r (b ∷ bs) = if goes_on r b then suc (run_of r bs) else 0
 
--- a byte stands in front
+-- a byte is in front
 abbrev pub in_front : ℕ → List ℕ → Bool
 in_front b [] = false
 in_front b (c ∷ cs) = c == b
@@ -60,15 +60,15 @@ piece line b bs =
     else if b == 34 && is_closed bs then token line key.Quoted (take (run_of run.Quote bs) bs)
     else token line (mark_key b) (b ∷ [])
 
--- how many bytes behind b belong to it
+-- how many bytes after b belong to it
 abbrev pub bytes_behind : ℕ → List ℕ → ℕ
 bytes_behind b bs =
     if is_word_byte b then run_of run.Word bs
     else if b == 34 && is_closed bs then suc (run_of run.Quote bs)
     else 0
 
--- the tokens of the bytes behind the first n, which are part of something already; busy: the line has tokens.
--- The end of the text ends a line that has tokens. A backslash directly before a line feed stands for a space. A comment
+-- the tokens of the bytes after the first n, which are part of something already; busy: the line has tokens.
+-- The end of the text ends a line that has tokens. A backslash directly before a line feed counts as a space. A comment
 -- goes up to the line feed. A line feed ends the line.
 unfoldable pub tokens : ℕ → Bool → ℕ → List ℕ → List Tok
 tokens n busy line [] = if busy then token line key.LineEnd [] ∷ token line key.End [] ∷ [] else token line key.End [] ∷ []

@@ -1,20 +1,20 @@
 -- Reading from left to right: the parts from which the definition of each reader is built. (own)
 --
--- A reader takes the tokens that are left and gives a value with the tokens behind it, or says why not. The definition of
--- each reader of the code is `unfoldable` and is made of these parts alone: so what holds of all of them, that reading looks
--- no further than the token in front of what it leaves, holds of it (proofs/Laws.antt).
+-- A reader takes the tokens that are left and gives a value with the tokens after it, or says why not. The definition
+-- of each reader of the code is `unfoldable` and is made of these parts alone. So what holds of all of them, that
+-- reading looks no further than the token in front of what it leaves, holds of it (proofs/Laws.antt).
 --
 --     done x                     reads nothing and gives x
 --     chain f g                  reads f, then g of what f gave
---     on_front (λ t. by t.key)   goes by the token in front: `take f` reads f behind it, `stay f` reads f at it, `refuse w` stops
+--     on_front (λ t. by t.key)   goes by the token in front: `take f` reads f after it, `stay f` reads f at it, `refuse w` stops
 --     perhaps starts f           reads f if the key in front starts it, and gives Some of its value, else None
 --     once o a                   does a if o is None; what is there already is refused with `Again`
 --     until_all stops step x     steps from x on, up to a token that stops them, which is taken too
 --     up_to_all stops step x     the same, and that token stays: for the end of the text, which is never taken
 --     list_all stops item x      one item or more, with at most a comma between two, up to a token that stops them, which is taken
 --     ended x                    the end of the line
---     skipping f                 reads f behind any line ends
---     judged rule broken line x  gives x unless the load rule is broken; tells the line then
+--     skipping f                 reads f after any line ends
+--     judged rule broken line x  gives x unless the load rule is broken; else the rule and the line
 use Rattle.std.specs.Prelude.{ℕ, zero, suc, Bool, true, false, List, length, Option, Some, None, Result, Ok, Err, nat_le, ◌&&◌, if◌then◌else◌, [], ◌∷◌}
 use Rattle.pfs_conf_tokens.specs.declared.keys.Key.{Key}
 use Rattle.pfs_conf_tokens.specs.declared.keys.Key.TheVariants as key
@@ -25,13 +25,13 @@ use Rattle.pfs_conf_tokens.specs.Tokens.{Tok, head}
 use Rattle.pfs_conf_tokens.specs.Numbers.{number_written}
 use Rattle.pfs_conf_tokens.specs.Grammar.{skip_lines}
 
--- why nothing is read: no accepted statement goes on with the first of these tokens, or a load rule is broken, by the line
--- of its statement
+-- why nothing is read: no accepted statement continues with the first of these tokens, or a load rule is broken, by the
+-- line of its statement
 pub data Refused : Type 0 where
   stop : List Tok → Why → Refused
   broken : LoadRule → ℕ → Refused
 
--- the tokens behind the one in front
+-- the tokens after the one in front
 abbrev pub rest : List Tok → List Tok
 rest [] = []
 rest (t ∷ ts) = ts
@@ -58,7 +58,7 @@ abbrev pub ◌>>=◌ : {A B : Type 0} → Result A Refused → (A → Result B R
 (Ok x) >>= f = f x
 (Err e) >>= f = Err e
 
--- what the token in front leads to: it is taken and reading goes on behind it, or reading goes on at it, or it is refused
+-- what the token in front leads to: it is taken and reading goes on after it, or reading goes on at it, or it is refused
 pub data Act (A : Type 0) : Type 0 where
   take : (List Tok → Result (A × List Tok) Refused) → Act A
   stay : (List Tok → Result (A × List Tok) Refused) → Act A
@@ -79,7 +79,7 @@ done x ts = Ok (x, ts)
 abbrev pub chain : {A B : Type 0} → Reader A → (A → Reader B) → Reader B
 chain f g ts = f ts >>= λ x. g x.0 x.1
 
--- a phrase that may lack, by the keys that begin it
+-- a phrase that may be absent, by the keys that begin it
 abbrev pub perhaps : {A : Type 0} → (Key → Bool) → Reader A → Reader (Option A)
 perhaps starts f ts = on_front (λ t. if starts t.key then stay (chain f (λ x. done (Some x))) else stay (done None)) ts
 
@@ -119,7 +119,7 @@ comma_at ts = on_front (λ t. comma_by t.key) ts
 abbrev pub next_of : {A : Type 0} → (A → Reader A) → A → Reader A
 next_of item a ts = chain comma_at (λ c. item a) ts
 
--- one item or more, an optional comma between two and none behind the last, up to what closes the list
+-- one item or more, an optional comma between two and none after the last, up to what closes the list
 abbrev pub list_all : {A : Type 0} → (Key → Bool) → (A → Reader A) → A → Reader A
 list_all stops item a ts = chain (item a) (until_all stops (next_of item)) ts
 

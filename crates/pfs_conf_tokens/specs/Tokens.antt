@@ -11,7 +11,7 @@ pub record Tok : Type 0 where
 abbrev pub token : ℕ → Key → List ℕ → Tok
 token line k text = record { line = line; key = k; text = text }
 
--- the token in front; behind all tokens, an end
+-- the token in front; after all tokens, an end
 abbrev pub head : List Tok → Tok
 head [] = token 0 key.End []
 head (t ∷ ts) = t

@@ -11,7 +11,7 @@ use Rattle.pfs_conf_tokens.specs.Reading.{Act, Reader, done, on_front, refuse, t
 abbrev pub in_word : {A : Type 0} → (List ℕ → Option A) → Tok → Option A
 in_word value t = if is_word_key t.key then value t.text else None
 
--- a word that says a value is taken; where another token stands, this was wanted
+-- a word that says a value is taken; at another token, this was wanted
 abbrev pub valued : {A : Type 0} → Why → Option A → Act A
 valued w None = refuse w
 valued w (Some x) = take (done x)

@@ -13,7 +13,7 @@ use std::marker::Model;
 
 /// A place in a rules text. It reads the bytes as it goes, and takes no memory.
 ///
-/// Clauses see the list of the tokens from there on, of which the last is the end of the text. Behind that one no token
+/// Clauses see the list of the tokens from there on, of which the last is the end of the text. After that one no token
 /// is left, and the token in front is an end again.
 #[derive(Drop)]
 pub struct Cursor<'a> {
@@ -57,7 +57,7 @@ impl<'a> Cursor<'a> {
         }
     }
 
-    /// The line of the token in front: 1 plus the line feeds before it. Behind the end it is 0.
+    /// The line of the token in front: 1 plus the line feeds before it. After the end it is 0.
     pub fn line(&self) -> u64
         ensures { result ≡ (head self.now).line }
     {

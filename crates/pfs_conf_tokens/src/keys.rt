@@ -2,8 +2,8 @@
 
 /// What a token of a rules text is. (pf.conf(5), GRAMMAR)
 ///
-/// Each word that the grammar knows has a key of its own. Where the grammar asks for a name, any word may stand, a word
-/// of the grammar and a number too: see [`Key::is_word`].
+/// Each word that the grammar knows has a key of its own. Where the grammar asks for a name, any word is allowed, a
+/// word of the grammar and a number too: see [`Key::is_word`].
 #[derive(Clone, Copy, Debug, PartialEq, Eq)]
 pub enum Key {
     /// `set`
@@ -184,7 +184,7 @@ pub enum Key {
     Number,
     /// Any other word.
     Name,
-    /// A quoted string; the text is what stands between the quotes.
+    /// A quoted string; the text is what is between the quotes.
     Quoted,
     /// `{`
     OpenBrace,
@@ -208,8 +208,8 @@ pub enum Key {
     LineEnd,
     /// The end of the text.
     End,
-    /// A byte that nothing accepts: no printable ASCII, a quote that is not closed on its line, or a backslash that
-    /// stands not directly before a line feed.
+    /// A byte that nothing accepts: no printable ASCII, a quote that is not closed on its line, or a backslash that is
+    /// not directly before a line feed.
     Bad,
 }
 
@@ -218,7 +218,7 @@ impl Key {
     ghost use Rattle.pfs_conf_tokens.specs.Keys.{is_word_key, is_unsupported_key, timeout_place};
 
     /// Whether the token is a word: of the grammar, of pf alone, a number, or any other. Where a name is asked for, any
-    /// word may stand. (pf.conf(5), GRAMMAR)
+    /// word is allowed. (pf.conf(5), GRAMMAR)
     pub fn is_word(self) -> bool
         ensures { result ≡ is_word_key self }
     {
@@ -240,8 +240,8 @@ impl Key {
         }
     }
 
-    /// Whether the token is a word that pf.conf(5) knows and this profile has in no place where it could be wanted as
-    /// itself, as `match`, `set` or `user`: at such a word a text is said to be unsupported. (own to this profile)
+    /// Whether the token is a word that pf.conf(5) knows and that this profile accepts nowhere as itself, as `match`,
+    /// `set` or `user`: a text with such a word is reported as unsupported. (own to this profile)
     pub fn is_unsupported(self) -> bool
         ensures { result ≡ is_unsupported_key self }
     {

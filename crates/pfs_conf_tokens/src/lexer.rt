@@ -1,4 +1,4 @@
-//! Tokens from bytes: the first token of a text, and what is left behind it.
+//! Tokens from bytes: the first token of a text, and what is left after it.
 
 ghost use Rattle.std.specs.Prelude.{◌≡◌, ◌+◌, ◌<◌, ◌≤◌, ◌^◌, ◌∷◌, List, [], true, drop, length, IsTrue, MatchOption};
 ghost use Rattle.pfs_conf_tokens.specs.Lexis.{is_mark, mark_key, is_word_byte, is_space, goes_on, run_of, is_closed, piece, bytes_behind, tokens, in_front};
@@ -11,7 +11,7 @@ use crate::words::key_of;
 /// The most bytes of a rules text. (own to this profile)
 pub const TEXT_LIMIT: usize = 1_048_576;
 
-/// What bytes that stand together may be: a word, a comment, or the inside of a quoted string.
+/// What a run of bytes may be: a word, a comment, or the inside of a quoted string.
 #[derive(Clone, Copy, Debug, PartialEq, Eq)]
 pub enum Run {
     Word,
@@ -87,11 +87,11 @@ fn mark_key(b: u8) -> Key
     }
 }
 
-/// The token in front of a text, and what is behind it.
+/// The token in front of a text, and what is after it.
 #[derive(Drop)]
 pub struct Scan<'a> {
     pub token: Token<'a>,
-    /// The bytes behind the token.
+    /// The bytes after the token.
     pub rest: &'a [u8],
     /// The line that they begin on.
     pub line: u64,
@@ -112,7 +112,7 @@ fn is_closed(bytes: &[u8]) -> bool
     }
 }
 
-/// The token that begins with `b`, and how many of the bytes behind `b` are part of it.
+/// The token that begins with `b`, and how many of the bytes after `b` are part of it.
 fn piece<'a>(line: u64, text: &'a [u8], b: u8, behind: &'a [u8]) -> (Token<'a>, usize)
     requires { text.now ≡ b ∷ behind.now }
     ensures token { result.0 ≡ piece line b behind.now }
@@ -142,7 +142,7 @@ fn split_front(bytes: &[u8]) -> Option<(u8, &[u8])>
     }
 }
 
-/// The token that begins with `b`, and what is left behind it.
+/// The token that begins with `b`, and what is left after it.
 fn scan_piece<'a>(line: u64, text: &'a [u8], b: u8, behind: &'a [u8]) -> Scan<'a>
     requires { text.now ≡ b ∷ behind.now }
     ensures tokens { tokens_of_scan result ≡ piece line b behind.now ∷ tokens 0 true line (drop (bytes_behind b behind.now) behind.now) }

@@ -1,4 +1,4 @@
-//! Numbers, and what stands between the parts of a statement.
+//! Numbers, and what separates the parts of a statement.
 
 ghost use Rattle.std.specs.Prelude.{◌≡◌, ◌<◌, ◌==◌, length, position, IfSome, MatchOption, Some, None};
 ghost use Rattle.pfs_conf_tokens.specs.Numbers.{number_written, split_around};
@@ -28,7 +28,7 @@ pub fn digits(text: &[u8]) -> Option<u64>
     Some(number)
 }
 
-/// Reads a number from `low` to `high`. Where none stands, the cursor stays, and a number is said to be wanted.
+/// Reads a number from `low` to `high`. At any other token the cursor stays, and the refusal says that a number was wanted.
 #[tactic(auto, unfolding(crate::specs::Reading::number_at))]
 pub fn number(cursor: &mut Cursor, low: u64, high: u64) -> Result<u64, Refusal>
     ensures { Gives result cursor.new (number_at low high cursor.old) }
@@ -52,7 +52,7 @@ fn place_of(text: &[u8], byte: u8) -> Option<usize>
     text.iter().position(|b| *b == byte)
 }
 
-/// The parts of a text before and behind the first byte of this value, which stands in neither; None where it is absent.
+/// The parts of a text before and after the first byte of this value, which is in neither; None where it is absent.
 #[tactic(auto, unfolding(crate::specs::Numbers::split_around))]
 pub fn split_at_byte(text: &[u8], byte: u8) -> Option<(&[u8], &[u8])>
     ensures { MatchOption result (split_around byte text.now ≡ None)

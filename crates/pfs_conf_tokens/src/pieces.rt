@@ -36,7 +36,7 @@ impl<'a> Token<'a> {
         self.key
     }
 
-    /// The line that it stands on: 1 plus the line feeds before it.
+    /// The line that it is on: 1 plus the line feeds before it.
     pub fn line(&self) -> u64
         ensures { result ≡ self.now.line }
     {

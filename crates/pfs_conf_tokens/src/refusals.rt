@@ -2,14 +2,14 @@
 
 use std::alloc::{AllocError, AllocFailed};
 
-/// What was wanted where reading stops. With the token that stands there it decides the kind of the fault.
+/// What was wanted where reading stops. Together with the token there it decides the kind of the fault.
 /// (own to this profile)
 #[derive(Clone, Copy, Debug, PartialEq, Eq)]
 pub enum Why {
     /// Nothing of the following.
     Plain,
     /// The token begins a clause, a part or an option that the statement has already, names a table or an anchor that
-    /// is defined already, or is an entry that stands already with the other sign.
+    /// is defined already, or is an entry that the table has already with the other sign.
     Again,
     /// A number, or a rate, which is two numbers.
     Number,
@@ -17,11 +17,11 @@ pub enum Why {
     Service,
     /// A host, or an entry of a table.
     Host,
-    /// The word behind `set`.
+    /// The word after `set`.
     Setting,
     /// The first token of a statement.
     Statement,
-    /// A statement that may stand in the body of an anchor.
+    /// A statement that is allowed in the body of an anchor.
     Inner,
     /// The name of an anchor.
     AnchorName,
@@ -59,7 +59,7 @@ pub enum LoadRule {
 /// Why a reader refuses.
 #[derive(Clone, Copy, Debug, PartialEq, Eq)]
 pub enum Refusal {
-    /// No accepted statement goes on with the token at the cursor.
+    /// No accepted statement continues with the token at the cursor.
     Stop(Why),
     /// A load rule is broken, by the line of the statement's first token (0: by the text as a whole).
     Broken(LoadRule, u64),
@@ -68,7 +68,7 @@ pub enum Refusal {
 /// Why a reader that takes memory gives nothing.
 #[derive(Debug, Drop)]
 pub enum ReadError {
-    /// A growth was refused.
+    /// Memory was refused.
     Memory,
     /// The text is refused.
     Refused(Refusal),

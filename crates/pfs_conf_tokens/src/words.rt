@@ -40,7 +40,7 @@ fn starts_with_digit(word: &[u8]) -> bool
     }
 }
 
-/// The key of the word in a table of words, if it stands there.
+/// The key of the word in a table of words, if the table has it.
 fn find_word(words: &[(&'static [u8], Key)], word: &[u8]) -> Option<Key>
     ensures { result ≡ lookup (bytes_eq word.now) (map (λ e. (e.0.now, e.1)) words.now) }
 {

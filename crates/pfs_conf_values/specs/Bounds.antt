@@ -1,5 +1,5 @@
--- What may stand for the numbers of a rule: timeouts, rates and adaptive pairs; where ports may be asked for; and whose sources are shared.
--- (pf.conf(5), OPTIONS and STATEFUL TRACKING OPTIONS)
+-- The bounds of a rule's numbers: timeouts, rates and adaptive pairs; where ports may be asked for; and whose sources
+-- are shared. (pf.conf(5), OPTIONS and STATEFUL TRACKING OPTIONS)
 use Rattle.std.specs.Prelude.{ℕ, ◌≤◌, ◌&&◌, ◌==◌, not, nat_le, nat_lt, Bool, true, false, if◌then◌else◌, Option, Some, None}
 use Rattle.pfs_addr_values.specs.Protocols.{has_ports}
 use Rattle.pfs_addr_values.specs.declared.protocols.Proto.{Proto}

@@ -65,7 +65,7 @@ any_side = record { host = host.Any; ports = None }
 abbrev pub any_packet : Filter
 any_packet = record { dir = None; on = None; family = None; proto = None; from = any_side; to = any_side; flags = flag_test.Any }
 
--- what stands for a rule where none is
+-- what is given for a rule where none is
 abbrev pub no_rule : Rule
 no_rule = record { quick = false; filter = any_packet; action = action.Block }
 

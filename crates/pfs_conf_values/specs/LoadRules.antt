@@ -98,7 +98,7 @@ pub record IsFilter (tables : ℕ) (f : Filter) : Type 0 where
 abbrev pub limits_connections : StateOptions → Bool
 limits_connections o = is_some o.max_src_conn || is_some o.max_src_conn_rate
 
--- whether an option speaks of the sources of a rule
+-- whether an option is about the sources of a rule
 abbrev pub limits_sources : StateOptions → Bool
 limits_sources o = is_some o.max_src_nodes || is_some o.max_src_states || limits_connections o
 

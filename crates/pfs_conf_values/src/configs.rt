@@ -19,9 +19,9 @@ use std::marker::Model;
 
 /// What an accepted rules text says: limits, timeouts, tables and items, with defaults filled in.
 ///
-/// Clauses see a `Conf`. Every one keeps `IsConfig`, the load rules; `limit`, `item_count` and `table_count` tell it to
-/// callers, and `item`, `rule`, `options` and `table` what they give keeps of it. No reader takes memory, and each takes
-/// constant time but for `table_named`, which goes through the tables.
+/// Clauses see a `Conf`. Every one keeps `IsConfig`, the load rules; `limit`, `item_count` and `table_count` state them
+/// to callers, and `item`, `rule`, `options` and `table` state what they give keeps of them. No reader takes memory.
+/// Each takes constant time but for `table_named`, which goes through the tables.
 #[derive(Debug, Drop)]
 pub struct Config {
     limits: Limits,
@@ -71,8 +71,8 @@ impl Config {
         self.items.len() as u32
     }
 
-    /// The rule or anchor of this number, if there is one: they are numbered from 0 in the order of the text, those inside
-    /// an anchor behind it. It keeps the load rules.
+    /// The rule or anchor of this number, if there is one. They are numbered from 0 in the order of the text; those
+    /// inside an anchor follow it. It keeps the load rules.
     pub fn item(&self, number: u32) -> Option<&Item>
         ensures value { option_copied result ≡ slice_get self.now.items number }
         ensures kept { IfSome (option_copied result) (IsItem (length self.now.tables)) }
@@ -154,7 +154,7 @@ impl Config {
         u64::from(self.limits.get(name))
     }
 
-    /// The value of a timeout: seconds, of the adaptive two states.
+    /// The value of a timeout: seconds, but states for the two adaptive ones.
     pub fn timeout(&self, name: TimeoutName) -> u64
         ensures value { result ≡ timeout_of self.now name }
         ensures sound { IsConfig self.now }
@@ -178,9 +178,9 @@ impl Config {
         self.options(number)?.scope
     }
 
-    /// The seconds for which a source node of a rule that tracks sources is kept after its last state left. Of a node of
-    /// the rule alone they are the greater of `src.track`, the rule's or else the global one, and of the seconds of its
-    /// `max-src-conn-rate`; of a node that rules share the global `src.track`. (own to this profile)
+    /// The seconds for which a source node of a rule that tracks sources is kept after its last state left. For a node
+    /// of the rule alone: the greater of `src.track` (the rule's, or else the global one) and the seconds of its
+    /// `max-src-conn-rate`. For a node that rules share: the global `src.track`. (own to this profile)
     pub fn retention(&self, number: RuleNo) -> u64
         requires { IsSome (scope_of self.now number.0) }
         ensures { result ≡ retention_of self.now number.0 }
@@ -202,7 +202,7 @@ impl Config {
         self.items.hash(state);
     }
 
-    /// An equal configuration in memory of its own. `NoMemory` is answered where that memory is refused.
+    /// An equal configuration in memory of its own. It returns `NoMemory` where that memory is refused.
     pub fn copy(&self) -> Result<Config, NoMemory>
         ensures { IfOk result (λ c. c ≡ self.now) }
     {

@@ -23,7 +23,7 @@ pub enum Family {
 pub struct Interface {
     /// The name that is written.
     pub name: IfName,
-    /// Whether a `!` stands before it.
+    /// Whether a `!` is before it.
     pub negated: bool,
 }
 
@@ -37,19 +37,19 @@ pub enum Host<T> {
     Prefix {
         /// The prefix.
         prefix: Prefix,
-        /// Whether a `!` stands before it.
+        /// Whether a `!` is before it.
         negated: bool,
     },
     /// The addresses for which a table answers yes, or with `!` the others.
     Table {
         /// The table.
         table: T,
-        /// Whether a `!` stands before it.
+        /// Whether a `!` is before it.
         negated: bool,
     },
 }
 
-/// The ports from `low` to `high`, both among them.
+/// The ports from `low` to `high`, both included.
 #[derive(Debug, Clone, Copy, PartialEq, Eq, Hash)]
 pub struct Ports {
     /// The least port.
@@ -58,7 +58,7 @@ pub struct Ports {
     pub high: u16,
 }
 
-/// A host with its ports, as it stands behind `from` or `to`.
+/// A host with its ports, as written after `from` or `to`.
 #[derive(Debug, Clone, Copy, PartialEq, Eq, Hash)]
 pub struct Side<T> {
     /// The addresses.

@@ -7,8 +7,8 @@ ghost use Rattle.pfs_conf_values.specs.Hashing.{after_conf, after_text};
 use crate::configs::Config;
 use std::hash::{BuildHasher, DefaultHasher, Hasher};
 
-/// The hasher of an index whose keys a stranger chooses: SipHash that was fed with the rules. Each key goes on from a copy
-/// of it, so who does not know the rules cannot choose keys that fall together. (own to this profile)
+/// The hasher of an index whose keys a stranger chooses: SipHash that was fed with the rules. Each key goes on from a
+/// copy of it. So a sender who does not know the rules cannot choose keys with the same hash. (own to this profile)
 #[derive(Debug, Clone, Copy)]
 pub struct RulesHasher {
     begun: DefaultHasher,

@@ -1,4 +1,4 @@
-//! Rules and anchors, in the order in which they stand in the text.
+//! Rules and anchors, in the order of the text.
 
 use crate::actions::Action;
 use crate::filters::Filter;

@@ -12,8 +12,8 @@ use std::alloc::Global;
 use std::hash::{DefaultHasher, Hash};
 use std::marker::Model;
 
-/// The entries of a table, in the order in which they stand first: prefixes, no two the same, each with whether a `!`
-/// stands before it.
+/// The entries of a table, in the order in which they first occur: prefixes, no two the same, each with whether a `!`
+/// is before it.
 ///
 /// Clauses see a list of pairs. (pf.conf(5), TABLES)
 #[derive(Debug, Drop)]
@@ -60,7 +60,7 @@ impl Entries {
         Entries { list }
     }
 
-    /// How many there are. It tells that their prefixes are prefixes, no two the same.
+    /// How many there are. It states that their prefixes are prefixes, no two the same.
     pub fn len(&self) -> usize
         ensures value { result ≡ length self.now }
         ensures small { result < 2 ^ 63 }
@@ -77,7 +77,7 @@ impl Entries {
         self.list.get(place).copied()
     }
 
-    /// The same entries in memory of their own. `NoMemory` is answered where that memory is refused.
+    /// The same entries in memory of their own. It returns `NoMemory` where that memory is refused.
     pub fn copy(&self) -> Result<Entries, NoMemory>
         ensures { IfOk result (λ e. e ≡ self.now) }
     {
@@ -96,7 +96,7 @@ impl TableDef {
         self.entries.list.hash(state);
     }
 
-    /// The same table in memory of its own. `NoMemory` is answered where that memory is refused.
+    /// The same table in memory of its own. It returns `NoMemory` where that memory is refused.
     pub fn copy(&self) -> Result<TableDef, NoMemory>
         ensures { IfOk result (λ t. t ≡ self.now) }
     {
@@ -108,7 +108,7 @@ impl TableDef {
     }
 }
 
-/// The same tables in memory of their own. `NoMemory` is answered where that memory is refused.
+/// The same tables in memory of their own. It returns `NoMemory` where that memory is refused.
 pub fn copy_tables(alloc: Global, tables: &[TableDef]) -> Result<Vec<TableDef>, NoMemory>
     ensures { IfOk result (λ v. v.items ≡ tables.now) }
 {

@@ -45,7 +45,7 @@ impl DatagramPhase {
         }
     }
 
-    /// The phase after a later packet. `forward` tells a packet in the direction of the one that made the state.
+    /// The phase after a later packet. `forward`: the packet goes in the direction of the one that made the state.
     pub(crate) fn step(self, forward: bool) -> DatagramPhase
         ensures { result ≡ udp_step self forward }
     {

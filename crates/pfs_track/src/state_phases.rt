@@ -32,7 +32,7 @@ impl StatePhase {
         }
     }
 
-    /// The phase after a later packet, and whether the handshake completes at it. `forward` tells a packet in the
+    /// The phase after a later packet, and whether the handshake completes at it. `forward`: the packet goes in the
     /// direction, in or out, of the one that made the state. It takes no memory.
     pub fn step(self, forward: bool, flags: Flags) -> (StatePhase, bool)
         ensures phase { result.0 ≡ phase_after self forward flags }

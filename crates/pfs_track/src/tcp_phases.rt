@@ -33,7 +33,7 @@ impl TcpPhase {
         }
     }
 
-    /// The phase after a later packet, and whether the handshake completes at it. `forward` tells a packet in the
+    /// The phase after a later packet, and whether the handshake completes at it. `forward`: the packet goes in the
     /// direction of the one that made the state.
     pub(crate) fn step(self, forward: bool, flags: Flags) -> (TcpPhase, bool)
         ensures phase { result.0 ≡ tcp_step self forward flags }

@@ -56,8 +56,8 @@ pub(crate) struct Peers {
     pub completes: bool,
 }
 
-/// What a packet makes of the ranks of the maker and the other peer. `forward` tells a packet in the direction of the
-/// one that made the state: its sender is the maker.
+/// What a packet makes of the ranks of the maker and the other peer. `forward`: the packet goes in the direction of the
+/// one that made the state, so its sender is the maker.
 pub(crate) fn meet(forward: bool, flags: Flags, maker: TcpRank, other: TcpRank) -> Peers
     ensures { result ≡ peers_after forward flags maker other }
 {
@@ -78,8 +78,8 @@ pub(crate) fn meet(forward: bool, flags: Flags, maker: TcpRank, other: TcpRank) 
     }
 }
 
-/// What a packet makes of the ranks of its sender and its receiver: SYN acts first, then FIN, ACK and RST. `forward`
-/// tells a packet in the direction of the one that made the state. (own to this profile)
+/// What a packet makes of the ranks of its sender and its receiver: SYN acts first, then FIN, ACK and RST. `forward`:
+/// the packet goes in the direction of the one that made the state. (own to this profile)
 fn act(forward: bool, flags: Flags, sender: TcpRank, receiver: TcpRank) -> Ends
     ensures { result ≡ ends_after_packet forward flags sender receiver }
 {

@@ -1,4 +1,4 @@
--- Answers of push_groups: the first group and the others behind it are the text of all.
+-- Answers of push_groups: the first group and the others after it are the text of all.
 use Rattle.std.proofs.Common.{◌-◌, arith, length}
 use Rattle.pfs_addr.proofs.HexLaws.{all_left, groups_put, groups_length}
 use Rattle.pfs_addr.proofs.addresses.push_groups.Goals as goal

@@ -1,4 +1,4 @@
--- Answers of push_more: there is room for each colon and for each group behind it.
+-- Answers of push_more: there is room for each colon and for each group after it.
 use Rattle.std.proofs.Common.{arith}
 use Rattle.pfs_addr.proofs.HexLaws.{more_room}
 use Rattle.pfs_addr.proofs.addresses.push_more.Goals as goal

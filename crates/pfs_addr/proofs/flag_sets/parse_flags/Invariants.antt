@@ -1,4 +1,4 @@
--- Invariant of parse_flags: those that are left are letters if all are, and with them the flags come to those of the text.
+-- Invariant of parse_flags: the letters left are flags' letters if all are; with them the flags become those of the text.
 use Rattle.std.proofs.Common.{◌≡◌, drop}
 use Rattle.std.specs.List.{list_all}
 use Rattle.pfs_addr_values.specs.FlagSets.{is_flag_letter}

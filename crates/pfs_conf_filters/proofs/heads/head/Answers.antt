@@ -1,4 +1,4 @@
--- Answers of head: the parts stand in their order, and the protocol behind the one family.
+-- Answers of head: the parts come in their order, and the protocol after the one family.
 use Rattle.std.proofs.Common.{rules}
 use Rattle.pfs_conf_filters.specs.Reading.{head_at}
 use Rattle.pfs_conf_filters.proofs.heads.head.Goals as goal

@@ -1,4 +1,4 @@
--- Answer of interface: an interface is negated where a `!` stands before its name.
+-- Answer of interface: an interface is negated where a `!` is before its name.
 use Rattle.std.proofs.Common.{rules}
 use Rattle.pfs_conf_filters.specs.Reading.{negation_at, on_at}
 use Rattle.pfs_conf_filters.proofs.heads.interface.Goals as goal

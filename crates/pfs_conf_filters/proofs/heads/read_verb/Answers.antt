@@ -1,4 +1,4 @@
--- Answer of read_verb: behind `block` a policy may stand.
+-- Answer of read_verb: after `block` a policy may follow.
 use Rattle.std.proofs.Common.{rules}
 use Rattle.pfs_conf_filters.specs.Reading.{verb_at}
 use Rattle.pfs_conf_filters.proofs.heads.read_verb.Goals as goal

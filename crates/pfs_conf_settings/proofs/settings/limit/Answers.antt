@@ -1,4 +1,4 @@
--- Answer of limit: the number of states is set where its word stands.
+-- Answer of limit: the number of states is set at its word.
 use Rattle.std.proofs.Common.{rules}
 use Rattle.pfs_conf_settings.specs.Settings.{set_limit_at}
 use Rattle.pfs_conf_settings.proofs.settings.limit.Goals as goal

@@ -1,4 +1,4 @@
--- Answers of push_item: the braces of the anchors that close stand before the item.
+-- Answers of push_item: the braces of the anchors that close come before the item.
 use Rattle.std.proofs.Common.{arith}
 use Rattle.std.proofs.lemmas.Grind.{common_steps}
 use Rattle.pfs_conf_show.proofs.items.push_item.Goals as goal

@@ -1,4 +1,4 @@
--- Answer of push_tables: one table more is written behind those before it.
+-- Answer of push_tables: one table more is written after those before it.
 use Rattle.std.proofs.Common.{◌∙◌, ◌<◌, ap, sym, arith, length}
 use Rattle.pfs_conf_show.specs.Tables.{table_text}
 use Rattle.pfs_conf_show.proofs.ItemLaws.{is_there}

@@ -1,4 +1,4 @@
--- Answers of Name::padded: the bytes of the text with zeros behind them are a name, and the one of that text.
+-- Answers of Name::padded: the bytes of the text followed by zeros are a name, and the one of that text.
 use Rattle.std.proofs.Common.{◌∙◌, ◌++◌, ap, length, take, drop, replicate}
 use Rattle.std.proofs.Math.Seq.{take-append_seam}
 use Rattle.pfs_addr_values.proofs.Laying.{padded_of}

@@ -1,4 +1,4 @@
--- Answer of EntryDraft::finish: with the entry at a place behind them, the entries so far are one more.
+-- Answer of EntryDraft::finish: with the entry at the next place, the entries so far are one more.
 use Rattle.std.proofs.Common.{◌≡◌, ◌∙◌, ◌++◌, [], ◌∷◌, ℕ, List, Some, ap, sym, take, ◌+◌}
 use Rattle.std.specs.Prelude.{slice_get}
 use Rattle.std.proofs.lemmas.List.{take_more}
