@@ -1,5 +1,5 @@
 -- Answers of Nodes::remove: the node is there, leaves (`nodes`), and is counted no more; all are `orderly`.
-use Rattle.std.proofs.Common.{◌≡◌, ◌∙◌, ap, filter, sym}
+use Rattle.std.proofs.Common.{◌∙◌, ap, filter, sym}
 use Rattle.indexmap.specs.IndexMap.{get}
 use Rattle.pfs_store_index.specs.Keeping.{NodeIsAt, number_of_node, same_source, source_of_node, tally_in}
 use Rattle.pfs_store_index.specs.Tallies.{other_node}
