@@ -8,6 +8,7 @@ ghost use Rattle.std.specs.Option.{ForSome};
 ghost use Rattle.pfs_engine_machine.specs.Runs.{MayCome, MayExpire};
 
 use csv::{ByteRecord, Reader, ReaderBuilder};
+use pfs_addr_values::RUN_LIMIT;
 use pfs_cli_formats::{EndLine, TraceFault, has_columns, push_end, push_row, read_event};
 use pfs_conf::{Config, LoadFault, TableNo, load};
 use pfs_engine::{Arrival, Engine, Event, Outcome};
@@ -157,7 +158,7 @@ fn go_through<R: Read, S: Store, T: Store, W: Write>(
     if !next(reader, &mut fields)? || !has_columns(&fields) {
         return Err(Stop::Trace(TraceFault::Columns(0)));
     }
-    for rows in 0..1_000_000_000u64 {
+    for rows in 0..RUN_LIMIT {
         line.clear();
         if !next(reader, &mut fields)? {
             push_end(&mut line, &end_line(rows, plain)).map_err(|_| Stop::Memory)?;
@@ -196,7 +197,7 @@ fn take_both<S: Store, T: Store>(
 }
 
 fn take<S: Store>(engine: &mut Engine<S>, event: &Event) -> Result<Outcome, Stop> {
-    if !is_in_time(engine.last(), event.time) || engine.taken() >= 1_000_000_000 {
+    if !is_in_time(engine.last(), event.time) || engine.taken() >= RUN_LIMIT {
         return Err(Stop::Event);
     }
     if !may_come(engine.config(), &event.what) {

@@ -14,6 +14,7 @@ use Rattle.csv.specs.declared.parser.State.{State}
 use Rattle.csv.specs.declared.reader.Reader.{Reader}
 use Rattle.csv.specs.declared.reader.Trim.TheVariants as trim
 use Rattle.csv.proofs.ReadFacts.{rows-more, rows-end}
+use Rattle.pfs_addr_values.specs.Packets.{run_limit}
 use Rattle.pfs_conf_values.specs.Configs.{Conf}
 use Rattle.pfs_engine_machine.specs.declared.events.Event.{Event}
 use Rattle.pfs_engine_machine.specs.Machine.{Machine, start, step, outcomes_of, machine_after}
@@ -24,7 +25,7 @@ use Rattle.pfs_cli.specs.declared.records.Stop.{Stop}
 use Rattle.pfs_cli.specs.declared.records.Stop.TheVariants as stop
 use Rattle.pfs_cli_formats.specs.Events.{event_at, is_header}
 use Rattle.pfs_cli_formats.specs.Lines.{row_text}
-use Rattle.pfs_cli_formats.specs.Traces.{Fields, Trace, row_limit, events_from, events_of, trace_of}
+use Rattle.pfs_cli_formats.specs.Traces.{Fields, Trace, events_from, events_of, trace_of}
 use Rattle.pfs_cli_formats.specs.Reading.{records_left}
 use Rattle.pfs_cli_formats.specs.Reports.{lines_from, lines_of, end_line_of, report, report_of, AreFirstLines, BeginsReport}
 use Rattle.pfs_cli.specs.Turns.{Tells, WritesLine, TakesEvent, TakesRecord}
@@ -55,23 +56,23 @@ Appends-kept (Some xs) (Some ys) (Some zs) bs p q = q ∙ p
 abbrev pub behind : List Event → Trace → Trace
 behind es trace = (es ++ trace.0, trace.1)
 
-below-limit : (rows : ℕ) → rows < 1000000000 → nat_lt rows row_limit ≡ true
+below-limit : (rows : ℕ) → rows < run_limit → nat_lt rows run_limit ≡ true
 below-limit rows h = grind (arith, nat_tests)
 
-at-limit : (rows : ℕ) → 1000000000 ≤ rows → nat_lt rows row_limit ≡ false
+at-limit : (rows : ℕ) → run_limit ≤ rows → nat_lt rows run_limit ≡ false
 at-limit rows h = grind (arith, nat_tests)
 
-events_from-more : (conf : Conf) (rows : ℕ) (last : Option ℕ) (f : Fields) (fs : List Fields) (e : Event) → rows < 1000000000 → event_at conf (rows + 1) last f ≡ Ok e
+events_from-more : (conf : Conf) (rows : ℕ) (last : Option ℕ) (f : Fields) (fs : List Fields) (e : Event) → rows < run_limit → event_at conf (rows + 1) last f ≡ Ok e
     → events_from conf rows last (f ∷ fs) ≡ behind (e ∷ []) (events_from conf (rows + 1) (Some e.time) fs)
 unfolding events_from
 events_from-more conf rows last f fs e h q = rw (below-limit rows h, q) refl
 
-events_from-fault : (conf : Conf) (rows : ℕ) (last : Option ℕ) (f : Fields) (fs : List Fields) (m : TraceFault) → rows < 1000000000 → event_at conf (rows + 1) last f ≡ Err m
+events_from-fault : (conf : Conf) (rows : ℕ) (last : Option ℕ) (f : Fields) (fs : List Fields) (m : TraceFault) → rows < run_limit → event_at conf (rows + 1) last f ≡ Err m
     → events_from conf rows last (f ∷ fs) ≡ ([], Some m)
 unfolding events_from
 events_from-fault conf rows last f fs m h q = rw (below-limit rows h, q) refl
 
-events_from-limit : (conf : Conf) (rows : ℕ) (last : Option ℕ) (f : Fields) (fs : List Fields) → 1000000000 ≤ rows → events_from conf rows last (f ∷ fs) ≡ ([], Some fault.TooManyRows)
+events_from-limit : (conf : Conf) (rows : ℕ) (last : Option ℕ) (f : Fields) (fs : List Fields) → run_limit ≤ rows → events_from conf rows last (f ∷ fs) ≡ ([], Some fault.TooManyRows)
 unfolding events_from
 events_from-limit conf rows last f fs h = rw (at-limit rows h) refl
 
@@ -134,7 +135,7 @@ lines-more : (conf : Conf) (seen : List Event) (rows : ℕ) (m : Machine) (e : E
 lines-more conf seen rows m e n h = lines_of-more conf seen e ∙ rw (n, ← h) refl
 
 pub so_far-more : {S : Type 0} (rem : S → Option (List ℕ)) (conf : Conf) (trace : Trace) (before now after : Option (List ℕ)) (rows : ℕ) (m v : Machine) (a b : Reader S) (f : Fields) (e : Event) (t : List ℕ)
-    → ToldSoFar rem conf trace before now rows m a → a.config ≡ default_config → rows < 1000000000 → ReadRecord rem a b true f
+    → ToldSoFar rem conf trace before now rows m a → a.config ≡ default_config → rows < run_limit → ReadRecord rem a b true f
     → event_at conf (rows + 1) m.last f ≡ Ok e → Appends now after t → TakesEvent conf (rows + 1) m e t (Ok tt) v
     → ToldSoFar rem conf trace before after (rows + 1) v b
 so_far-more rem conf trace before now after rows m v a b f e t h config few r judged grown (text, held) =
@@ -209,7 +210,7 @@ ends-end rem conf trace before now after rows m a b f (Err stop.Write) t h confi
     )
 
 pub ends-limit : {S : Type 0} (rem : S → Option (List ℕ)) (conf : Conf) (trace : Trace) (before now : Option (List ℕ)) (rows : ℕ) (m : Machine) (a b : Reader S) (f : Fields) → ToldSoFar rem conf trace before now rows m a
-    → a.config ≡ default_config → ReadRecord rem a b true f → 1000000000 ≤ rows → Ends conf trace before now (Err (stop.Fault fault.TooManyRows))
+    → a.config ≡ default_config → ReadRecord rem a b true f → run_limit ≤ rows → Ends conf trace before now (Err (stop.Fault fault.TooManyRows))
 ends-limit rem conf trace before now rows m a b f h config r many =
     let (z, at_z, next) = read-more rem a b f h.left config h.source r in
     let all : trace ≡ (h.seen, Some fault.TooManyRows) =
@@ -255,7 +256,7 @@ cut-line text t line more k e =
 
 -- the turn of a record that does not come to its end
 pub ends-record : {S : Type 0} (rem : S → Option (List ℕ)) (conf : Conf) (trace : Trace) (before now after : Option (List ℕ)) (rows : ℕ) (m v : Machine) (a b : Reader S) (f : Fields) (stopped : Stop) (t : List ℕ)
-    → ToldSoFar rem conf trace before now rows m a → a.config ≡ default_config → ReadRecord rem a b true f → rows < 1000000000
+    → ToldSoFar rem conf trace before now rows m a → a.config ≡ default_config → ReadRecord rem a b true f → rows < run_limit
     → Appends now after t → TakesRecord conf (rows + 1) m f t (Err stopped) v → Ends conf trace before after (Err stopped)
 ends-record rem conf trace before now after rows m v a b f (stop.Fault u) t h config r few grown how =
     let (z, at_z, next) = read-more rem a b f h.left config h.source r in
@@ -284,7 +285,7 @@ pub record Running {S : Type 0} (rem : S → Option (List ℕ)) (begun : Reader 
   pub config : rdr.config ≡ default_config
   pub flexible : rdr.flexible ≡ true
   pub rules : v.config ≡ first.config
-  pub within : rows ≤ 1000000000
+  pub within : rows ≤ run_limit
   pub taken : v.taken ≤ rows
   pub so_far : (xs : List ℕ) → source_of rem begun ≡ Some xs
       → ToldSoFar rem first.config (events_from first.config 0 None (records_left default_config begun.state xs)) before now rows v.machine rdr

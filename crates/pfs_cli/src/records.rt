@@ -5,6 +5,7 @@ ghost use Rattle.std.specs.Io.KnownBytes.{Appends};
 ghost use Rattle.csv.specs.Reading.{Ready, source_of, reader_trim, reader_config, reader_state, default_config, is_flexible, has_failed};
 ghost use Rattle.csv.specs.declared.reader.Trim.TheVariants as trim;
 ghost use Rattle.csv.specs.Records.{fields_of};
+ghost use Rattle.pfs_addr_values.specs.Packets.{run_limit};
 ghost use Rattle.pfs_cli_streams.specs.Sinks.{bytes_held, write_failures as failures_of};
 ghost use Rattle.pfs_cli_formats.specs.Lines.{row_text, end_text};
 ghost use Rattle.std.specs.Option.{ForSome};
@@ -16,15 +17,13 @@ ghost use Rattle.pfs_cli_formats.specs.Reading.{records_of, records_left};
 ghost use Rattle.pfs_cli_formats.specs.Traces.{events_of, events_from};
 
 use csv::{ByteRecord, Reader, ReaderBuilder};
+use pfs_addr_values::RUN_LIMIT;
 use pfs_cli_formats::{EndLine, TraceFault, has_columns, push_end, push_row, read_event};
 use pfs_cli_streams::{Sink, write_whole};
 use pfs_engine::{Engine, Event, Outcome};
 use pfs_store_contract::Store;
 use std::alloc::Global;
 use std::io::{Read, Write};
-
-/// The most records that a trace may have after its header.
-const ROW_LIMIT: u64 = 1_000_000_000;
 
 /// Why the records stop before their end.
 #[derive(Clone, Copy, Debug, PartialEq, Eq)]
@@ -102,7 +101,7 @@ fn take_event<H: Store, W: Write>(
 ) -> Result<(), Stop>
     requires order { ForSome engine.old.machine.last (λ m. m ≤ event.now.time) }
     requires moment { event.now.time < 2 ^ 32 }
-    requires room { engine.old.taken < 1000000000 }
+    requires room { engine.old.taken < run_limit }
     requires table { MayCome engine.old.config event.now.what }
     ensures config { engine.new.config ≡ engine.old.config }
     ensures taken { engine.new.taken ≤ engine.old.taken + 1 }
@@ -124,7 +123,7 @@ fn take_record<H: Store, W: Write>(
     line: &mut Vec<u8>,
     out: &mut Sink<W>,
 ) -> Result<(), Stop>
-    requires room { engine.old.taken < 1000000000 }
+    requires room { engine.old.taken < run_limit }
     ensures config { engine.new.config ≡ engine.old.config }
     ensures taken { engine.new.taken ≤ engine.old.taken + 1 }
     ensures takes { (t : List ℕ) × Appends (bytes_held W.contents out.old) (bytes_held W.contents out.new) t
@@ -157,13 +156,13 @@ fn tell_rows<H: Store, S: Read, W: Write>(
     ensures fails { result ≡ Err (Stop.Write) → 0 < failures_of out.new }
     ensures source { result ≡ Err (Stop.Source) → has_failed reader.new ≡ true }
 {
-    for rows in 0..=ROW_LIMIT {
+    for rows in 0..=RUN_LIMIT {
         match reader.read_byte_record(fields) {
             Ok(true) => {}
             Ok(false) => return write_end(end_line(rows, engine), line, out),
             Err(_) => return Err(Stop::Source),
         }
-        if rows == ROW_LIMIT {
+        if rows == RUN_LIMIT {
             return Err(Stop::Fault(TraceFault::TooManyRows));
         }
         match take_record(rows + 1, fields, engine, line, out) {

@@ -1,5 +1,5 @@
 -- The line of a record is its parts, one appended after the other: for push_row.
-use Rattle.std.proofs.Common.{ℕ, List, [], ◌≡◌, ◌++◌, ◌∙◌, Option, Some, None, codes, append_assoc, ap, decimal, refl, sym}
+use Rattle.std.proofs.Common.{ℕ, List, ◌≡◌, ◌++◌, ◌∙◌, Option, Some, None, codes, append_assoc, ap, decimal, refl, sym}
 use Rattle.pfs_conf_values.specs.declared.items.RuleNo.{RuleNo}
 use Rattle.pfs_engine_machine.specs.declared.events.Outcome.{Outcome}
 use Rattle.pfs_engine_machine.specs.declared.events.Outcome.TheVariants as outcome

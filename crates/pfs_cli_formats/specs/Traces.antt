@@ -1,6 +1,7 @@
 -- The events of a trace under a configuration, up to its first faulty record. (own)
 use Rattle.std.specs.Prelude.{◌+◌, ℕ, List, [], ◌∷◌, Option, Some, None, Result, Ok, Err, if◌then◌else◌, nat_lt}
 use Rattle.csv.specs.Reading.{records, default_config, strip_bom}
+use Rattle.pfs_addr_values.specs.Packets.{run_limit}
 use Rattle.pfs_conf_values.specs.Configs.{Conf}
 use Rattle.pfs_engine_machine.specs.declared.events.Event.{Event}
 use Rattle.pfs_cli_formats.specs.declared.faults.TraceFault.{TraceFault}
@@ -11,10 +12,6 @@ use Rattle.pfs_cli_formats.specs.Events.{event_at, is_header}
 abbrev pub Fields : Type 0
 Fields = List (List ℕ)
 
--- the most records that a trace may have after its header
-abbrev pub row_limit : ℕ
-row_limit = 1000000000
-
 -- the events before the first faulty record, and what is wrong with that one, if there is one
 abbrev pub Trace : Type 0
 Trace = List Event × Option TraceFault
@@ -24,11 +21,11 @@ abbrev pub ahead_of : Result Event TraceFault → (Event → Trace) → Trace
 ahead_of (Ok e) more = (e ∷ (more e).0, (more e).1)
 ahead_of (Err f) more = ([], Some f)
 
--- the events of the records after so many rows, the last of them at this moment
+-- the events of the records after so many rows, the last of them at this moment; rows are at most as many as the packets of a run
 unfoldable pub events_from : Conf → ℕ → Option ℕ → List Fields → Trace
 events_from conf rows last [] = ([], None)
 events_from conf rows last (r ∷ rs) =
-    ahead_of (if nat_lt rows row_limit then event_at conf (rows + 1) last r else Err fault.TooManyRows) (λ e. events_from conf (rows + 1) (Some e.time) rs)
+    ahead_of (if nat_lt rows run_limit then event_at conf (rows + 1) last r else Err fault.TooManyRows) (λ e. events_from conf (rows + 1) (Some e.time) rs)
 
 -- the events of a trace's records: the first is the header
 unfoldable pub events_of : Conf → List Fields → Trace

@@ -1,5 +1,6 @@
 -- What an engine is to its callers, and what it keeps.
 use Rattle.std.specs.Prelude.{ℕ, ◌≡◌, ◌≤◌, List, Option}
+use Rattle.pfs_addr_values.specs.Packets.{run_limit}
 use Rattle.pfs_eval.specs.Entries.{Entry}
 use Rattle.pfs_eval.specs.Holdings.{Holdings}
 use Rattle.pfs_conf_values.specs.Configs.{Conf, limit_of}
@@ -29,6 +30,6 @@ pub record IsWhole (conf store : Conf) (book : List Item) (tables : Holdings) (m
   pub limit : tables.limit ≡ limit_of conf limit_name.TableEntries
   pub kept : IsKept conf machine.held (moment_of machine.last)
   pub made : machine.held.world.made ≤ taken
-  pub few : taken ≤ 1000000000
+  pub few : taken ≤ run_limit
   pub moments : moment_of machine.first ≤ moment_of machine.last
   pub config : IsConfig conf

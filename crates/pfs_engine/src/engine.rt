@@ -3,7 +3,7 @@
 ghost use Rattle.std.specs.Prelude.{◌≡◌, ◌+◌, ◌*◌, ◌<◌, ◌≤◌, ◌^◌, ◌++◌, true, false, length, None, Some, Ok, IfOk, IsOk, IsSome, OnErr, OnOk};
 ghost use Rattle.std.specs.Option.{ForSome};
 ghost use Rattle.pfs_addr_values.specs.Keys.{key_of};
-ghost use Rattle.pfs_addr_values.specs.Packets.{Header};
+ghost use Rattle.pfs_addr_values.specs.Packets.{Header, run_limit};
 ghost use Rattle.pfs_store_contract.specs.Purging.{node_share, state_share};
 ghost use Rattle.pfs_store_contract.specs.Worlds.{empty_world, state_with};
 ghost use Rattle.pfs_conf_values.specs.Configs.{scope_of};
@@ -21,7 +21,7 @@ ghost use Rattle.pfs_engine_machine.specs.Visits.{AreVisits};
 use crate::packets::{Meters, answer};
 use crate::purges::purge_due;
 use crate::works::Work;
-use pfs_addr_values::{Meter, NoMemory, Packet};
+use pfs_addr_values::{Meter, NoMemory, Packet, RUN_LIMIT};
 use pfs_conf_values::{Config, LimitName, TableNo};
 use pfs_engine_machine::{Arrival, Event, Outcome};
 use pfs_eval::{Book, Tables};
@@ -178,7 +178,7 @@ impl<S: Store> Engine<S> {
     /// (pf.conf(5), STATEFUL FILTERING and STATEFUL TRACKING OPTIONS)
     pub fn packet(&mut self, packet: &Packet) -> Result<Outcome, NoMemory>
         requires started { IsSome self.old.machine.last }
-        requires room { self.old.taken < 1000000000 }
+        requires room { self.old.taken < run_limit }
         ensures ok { IfOk result (λ o. (o, self.new.machine.held) ≡ answer_to_packet self.old.config self.old.machine.held packet.now (moment_of self.old.machine.last)) }
         ensures err { OnErr result (self.new.machine ≡ self.old.machine) }
         ensures first { self.new.machine.first ≡ self.old.machine.first }
@@ -264,7 +264,7 @@ impl<S: Store> Engine<S> {
     pub fn step(&mut self, event: &Event) -> Result<Outcome, NoMemory>
         requires order { ForSome self.old.machine.last (λ m. m ≤ event.now.time) }
         requires moment { event.now.time < 2 ^ 32 }
-        requires room { self.old.taken < 1000000000 }
+        requires room { self.old.taken < run_limit }
         requires table { MayCome self.old.config event.now.what }
         ensures ok { IfOk result (λ o. (o, self.new.machine) ≡ step self.old.config self.old.machine event.now) }
         ensures err { OnErr result ((packet : Header) × IsRefusedIn self.old.config self.old.machine event.now packet self.new.machine) }
@@ -291,7 +291,7 @@ impl<S: Store> Engine<S> {
     /// event's packet, which needs memory then, at the event's moment.
     pub fn run(&mut self, events: &[Event], outcomes: &mut Vec<Outcome>) -> Result<(), NoMemory>
         requires order { IsInOrder self.old.machine.last events.now }
-        requires room { self.old.taken + length events.now ≤ 1000000000 }
+        requires room { self.old.taken + length events.now ≤ run_limit }
         requires tables { AreAllowed self.old.config events.now }
         ensures outcomes { OnOk result (outcomes.new.items ≡ outcomes.old.items ++ outcomes_of self.old.config self.old.machine events.now) }
         ensures machine { OnOk result (self.new.machine ≡ machine_after self.old.config self.old.machine events.now) }
@@ -301,7 +301,7 @@ impl<S: Store> Engine<S> {
         ensures config { self.new.config ≡ self.old.config }
     {
         // What an engine keeps is known from here, also where there is no event.
-        prove!(self.taken <= 1_000_000_000);
+        prove!(self.taken <= RUN_LIMIT);
         for event in events {
             if outcomes.reserve(1).is_err() {
                 return Err(NoMemory);
@@ -317,7 +317,7 @@ impl<S: Store> Engine<S> {
 
 /// How many packets were answered after this one: one more, unless memory was refused.
 fn taken_after(taken: u64, outcome: &Result<Outcome, NoMemory>) -> u64
-    requires { taken < 1000000000 }
+    requires { taken < run_limit }
     ensures ok { IfOk outcome.now (λ o. result ≡ taken + 1) }
     ensures err { OnErr outcome.now (result ≡ taken) }
 {

@@ -3,6 +3,7 @@
 ghost use Rattle.std.specs.Prelude.{◌≡◌, ◌≤◌, ◌<◌, ◌^◌, true, false, None, Some, filter, length, option_map, IfOk, IsOk, OnErr, OnOk};
 ghost use Rattle.std.specs.Option.{ForSome, option_copied};
 ghost use Rattle.pfs_addr_values.specs.Keys.{key_of};
+ghost use Rattle.pfs_addr_values.specs.Packets.{run_limit};
 ghost use Rattle.pfs_conf_values.specs.Configs.{Conf, limit_of, options_at, options_of};
 ghost use Rattle.pfs_conf_values.specs.LoadRules.{AreOptions};
 ghost use Rattle.pfs_conf_values.specs.Bounds.{IsRate};
@@ -119,7 +120,7 @@ fn complete_handshake<S: Store>(
     requires made_for { S.config store.old ≡ config.now }
     requires limit { tables.old.limit ≡ limit_of config.now LimitName.TableEntries }
     requires held { holds_number (S.world store.old).states number.0 ≡ true }
-    requires looks { looks.old ≤ 1000000000 }
+    requires looks { looks.old ≤ run_limit }
     requires room { touched.now.completed ≡ true → HasRoomFor tables.old (options_of config.now touched.now.rule.0).overload }
     ensures answer { (result, held_of (S.world store.new) tables.new.entries)
         ≡ answer_of_touch config.now (held_of (S.world store.old) tables.old.entries) number.0 now touched.now }

@@ -2,6 +2,7 @@
 
 ghost use Rattle.std.specs.Prelude.{List, ◌≡◌, ◌≤◌, ◌<◌, ◌+◌, false, true, None, Some, IfOk, IsOk, IsSome, OnErr};
 ghost use Rattle.pfs_addr_values.specs.Keys.{key_of};
+ghost use Rattle.pfs_addr_values.specs.Packets.{run_limit};
 ghost use Rattle.pfs_eval.specs.Entries.{Entry};
 ghost use Rattle.pfs_conf_values.specs.Configs.{limit_of, options_at};
 ghost use Rattle.pfs_store_contract.specs.Calls.{packet_limit};
@@ -43,7 +44,7 @@ pub(crate) fn answer<S: Store>(
     requires book { book.now ≡ config.now.items }
     requires limit { tables.old.limit ≡ limit_of config.now LimitName.TableEntries }
     requires kept { IsKept config.now (held_of (S.world store.old) tables.old.entries) now }
-    requires room { (S.world store.old).made < 1000000000 }
+    requires room { (S.world store.old).made < run_limit }
     requires visits { meters.old.visits ≡ 0 }
     requires looks { meters.old.looks ≡ 0 }
     ensures ok { IfOk result (λ o. (o, held_of (S.world store.new) tables.new.entries)
@@ -88,7 +89,7 @@ fn by_rules<S: Store>(
     requires made_for { S.config store.old ≡ config.now }
     requires book { book.now ≡ config.now.items }
     requires fresh { state_with (key_of packet.now) (S.world store.old) ≡ None }
-    requires room { (S.world store.old).made < 1000000000 }
+    requires room { (S.world store.old).made < run_limit }
     requires visits { visits.old ≡ 0 }
     ensures ok { IfOk result (λ o. (o, held_of (S.world store.new) tables.now.entries)
         ≡ answer_of_rule config.now (held_of (S.world store.old) tables.now.entries) packet.now now
@@ -115,7 +116,7 @@ fn by_action<S: Store>(
 ) -> Result<Outcome, NoMemory>
     requires made_for { S.config store.old ≡ config.now }
     requires fresh { state_with (key_of packet.now) (S.world store.old) ≡ None }
-    requires room { (S.world store.old).made < 1000000000 }
+    requires room { (S.world store.old).made < run_limit }
     ensures ok { IfOk result (λ o. (tables : List (List Entry)) → (o, held_of (S.world store.new) tables)
         ≡ answer_of_rule config.now (held_of (S.world store.old) tables) packet.now now (Some rule.0)) }
     ensures world { OnErr result (S.world store.new ≡ S.world store.old) }

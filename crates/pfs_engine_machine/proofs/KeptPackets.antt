@@ -1,7 +1,7 @@
 -- A packet keeps what every machine keeps.
 use Rattle.std.proofs.Common.{◌≡◌, ◌≤◌, ◌<◌, ◌+◌, ℕ, Option, None, Some, List, Result, Ok, Err, IfOk, OnErr, IsSome, ap, arith, refl, subst, sym}
 use Rattle.pfs_addr_values.specs.Keys.{key_of}
-use Rattle.pfs_addr_values.specs.Packets.{Header}
+use Rattle.pfs_addr_values.specs.Packets.{Header, run_limit}
 use Rattle.pfs_eval.specs.Entries.{Entry}
 use Rattle.pfs_conf_values.specs.Configs.{Conf, rule_of}
 use Rattle.pfs_conf_values.specs.Invariants.{IsConfig}
@@ -83,7 +83,7 @@ made_result conf w after tables entries p now before taken (Ok o) ok same_world 
     omega (arith, is, made_answered conf (held_of w tables) p now, one_more, h)
 made_result conf w after tables entries p now before taken (Err x) ok same_world one_more same h = omega (arith, ap (λ (v : World). v.made) same_world, same, h)
 
-pub few_result : {E : Type 0} (before taken : ℕ) (r : Result Outcome E) → before < 1000000000 → IfOk r (λ o. taken ≡ before + 1) → OnErr r (taken ≡ before) → taken ≤ 1000000000
+pub few_result : {E : Type 0} (before taken : ℕ) (r : Result Outcome E) → before < run_limit → IfOk r (λ o. taken ≡ before + 1) → OnErr r (taken ≡ before) → taken ≤ run_limit
 few_result before taken (Ok o) h one_more same = omega (arith, one_more, h)
 few_result before taken (Err x) h one_more same = omega (arith, same, h)
 

@@ -2,6 +2,7 @@
 
 ghost use Rattle.std.specs.Prelude.{◌≡◌, ◌+◌, ◌<◌, ◌≤◌, ◌^◌, [], Bool, false, true, None, Some, IfOk, IsOk, IsSome, OnErr, length, option_map};
 ghost use Rattle.pfs_addr_values.specs.Keys.{key_of};
+ghost use Rattle.pfs_addr_values.specs.Packets.{run_limit};
 ghost use Rattle.pfs_conf_values.specs.Configs.{Conf, options_at};
 ghost use Rattle.pfs_store_contract.specs.Calls.{packet_limit, answer_at, world_at, source_states, world_flushed, flushed_count, world_killed, node_slice_of, state_slice_of, touch_of, world_touched, state_number, state_rule};
 ghost use Rattle.pfs_store_contract.specs.Purging.{node_slice, state_slice};
@@ -67,7 +68,7 @@ pub trait Store {
     ) -> Result<Result<StateNo, Limit>, NoMemory>
         requires fresh { state_with (key_of packet.now) (world self.old) ≡ None }
         requires keeps { IsSome (options_at (config self.old) rule.0) }
-        requires room { (world self.old).made < 1000000000 }
+        requires room { (world self.old).made < run_limit }
         ensures answer { IfOk result (λ a.
             a ≡ answer_at (world self.old) (packet_limit (config self.old) (world self.old) packet.now rule.0)) }
         ensures ok { IfOk result (λ a. world self.new
@@ -91,7 +92,7 @@ pub trait Store {
             ≡ world_touched (config self.old) (world self.old) packet.now now (state_with (key_of packet.now) (world self.old)) }
         ensures looks { counts ≡ true → meter.new ≡ meter.old + 1 }
         ensures uncounted { counts ≡ false → meter.new ≡ meter.old }
-        ensures most { meter.new ≤ meter.old + 1000000000 }
+        ensures most { meter.new ≤ meter.old + run_limit }
         ensures config { config self.new ≡ config self.old };
 
     /// Takes out the state of this number, which is held. A node that loses its last state has been idle since `now`. It looks
@@ -102,7 +103,7 @@ pub trait Store {
         ensures world { world self.new ≡ world_killed (config self.old) (world self.old) number.0 now }
         ensures looks { counts ≡ true → meter.new ≡ meter.old + 1 }
         ensures uncounted { counts ≡ false → meter.new ≡ meter.old }
-        ensures most { meter.new ≤ meter.old + 1000000000 }
+        ensures most { meter.new ≤ meter.old + run_limit }
         ensures config { config self.new ≡ config self.old };
 
     /// Takes out the states of a source, all of them or those of one rule, and answers how many they are. A node that loses
@@ -115,7 +116,7 @@ pub trait Store {
         ensures looks { counts ≡ true → meter.old + result ≤ meter.new }
         ensures few_looks { counts ≡ true → meter.new ≤ meter.old + source_states source (world self.old).states }
         ensures uncounted { counts ≡ false → meter.new ≡ meter.old }
-        ensures most { meter.new ≤ meter.old + 1000000000 }
+        ensures most { meter.new ≤ meter.old + run_limit }
         ensures config { config self.new ≡ config self.old };
 
     /// Examines the next states of the round, or the first of a new one: of L, the limit of states, and `interval` at most
@@ -128,7 +129,7 @@ pub trait Store {
         ensures world { world self.new ≡ state_slice (config self.old) (world self.old) now }
         ensures looks { counts ≡ true → meter.new ≡ meter.old + result.examined }
         ensures uncounted { counts ≡ false → meter.new ≡ meter.old }
-        ensures most { meter.new ≤ meter.old + 1000000000 }
+        ensures most { meter.new ≤ meter.old + run_limit }
         ensures config { config self.new ≡ config self.old };
 
     /// Examines the next source nodes of their round, or the first of a new one, at most so many as `purge_states` does by
@@ -150,7 +151,7 @@ pub trait Store {
         ensures over { result.over ≡ true → (world self.new).pending_states ≡ [] }
         ensures looks { counts ≡ true → meter.new ≡ meter.old + result.slice.examined }
         ensures uncounted { counts ≡ false → meter.new ≡ meter.old }
-        ensures most { meter.new ≤ meter.old + 1000000000 }
+        ensures most { meter.new ≤ meter.old + run_limit }
         ensures config { config self.new ≡ config self.old }
     {
         Watched {

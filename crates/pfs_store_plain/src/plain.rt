@@ -1,6 +1,7 @@
 //! A store over plain lists.
 
 ghost use Rattle.std.specs.Prelude.{◌≡◌, ◌+◌, ◌<◌, ◌≤◌, [], ◌∷◌, ◌++◌, false, IfOk, IsOk, IsSome, None, OnErr, OnOk, length, vec_capacity};
+ghost use Rattle.pfs_addr_values.specs.Packets.{run_limit};
 ghost use Rattle.pfs_conf_values.specs.Configs.{options_at};
 ghost use Rattle.pfs_store_contract.specs.Admission.{world_after_admission, nodes_with};
 ghost use Rattle.pfs_store_contract.specs.Calls.{packet_limit};
@@ -73,7 +74,7 @@ impl PlainStore {
 
     /// The state of a packet that meets no limit, and its source's node.
     fn place(&mut self, packet: &Packet, rule: RuleNo, now: u64) -> Result<StateNo, AllocError>
-        requires room { self.old.world.made < 1000000000 }
+        requires room { self.old.world.made < run_limit }
         ensures answer { IfOk result (λ number. number.0 ≡ self.old.world.made + 1) }
         ensures ok { OnOk result (self.new.world ≡ world_after_admission self.old.config self.old.world packet.now rule.0 now) }
         ensures err { OnErr result (self.new.world ≡ self.old.world) }

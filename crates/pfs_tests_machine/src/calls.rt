@@ -3,7 +3,7 @@
 ghost use Rattle.std.specs.Prelude.{◌≡◌};
 ghost use Rattle.pfs_store_contract.specs.Worlds.{IsUpToNow};
 
-use pfs_addr_values::{Addr, FlowKey, Meter, Packet};
+use pfs_addr_values::{Addr, FlowKey, Meter, Packet, RUN_LIMIT};
 use pfs_conf::{Config, RuleNo};
 use pfs_store_contract::{Limit, Slice, StateNo, Store, Touched, Watched};
 use std::process::Abort;
@@ -27,7 +27,7 @@ pub fn admit<S: Store>(
         return Err("its key is held".into());
     }
     assert!(rt; config.options(rule).is_some());
-    assert!(rt; store.made() < 1_000_000_000);
+    assert!(rt; store.made() < RUN_LIMIT);
     Ok(store.admit(packet, rule, now)?)
 }
 

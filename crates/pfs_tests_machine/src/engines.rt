@@ -6,7 +6,7 @@ ghost use Rattle.pfs_engine_machine.specs.Runs.{AreAllowed, IsInOrder, MayCome, 
 
 use crate::scripts::{Case, Script};
 use crate::tallied::Tallied;
-use pfs_addr_values::Packet;
+use pfs_addr_values::{Packet, RUN_LIMIT};
 use pfs_conf::{Config, TableNo, load};
 use pfs_engine::{Arrival, Engine, Event, Outcome};
 use pfs_store::IndexStore;
@@ -84,7 +84,7 @@ pub fn take<S: Store>(
     engine: &mut Engine<S>,
     packet: &Packet,
 ) -> Result<Outcome, Fail> {
-    assert!(rt; engine.last().is_some() && engine.taken() < 1_000_000_000);
+    assert!(rt; engine.last().is_some() && engine.taken() < RUN_LIMIT);
     Ok(engine.packet(packet)?)
 }
 
@@ -141,7 +141,7 @@ fn steps<S: Store + Drop>(
     let mut engine = engine;
     for (event, outcome) in script.events.iter().zip(&script.outcomes) {
         assert!(rt; is_in_time(engine.last(), event.time));
-        assert!(rt; engine.taken() < 1_000_000_000);
+        assert!(rt; engine.taken() < RUN_LIMIT);
         assert!(rt; may_come(engine.config(), &event.what));
         same!(rt; engine.step(event)?, *outcome, (case.shows, event));
     }
@@ -159,7 +159,7 @@ fn runs<S: Store + Drop>(
     let mut engine = engine;
     let mut outcomes = Vec::new(rt.alloc());
     assert!(rt; is_in_order(engine.last(), &script.events));
-    assert!(rt; engine.taken() == 0 && script.events.len() <= 1_000_000_000);
+    assert!(rt; engine.taken() == 0 && script.events.len() as u64 <= RUN_LIMIT);
     assert!(rt; are_allowed(engine.config(), &script.events));
     engine.run(&script.events, &mut outcomes)?;
     same!(rt; outcomes, script.outcomes, case.shows);

@@ -6,7 +6,7 @@ ghost use Rattle.pfs_engine_machine.specs.Runs.{AreAllowed, IsInOrder, MayCome, 
 
 use crate::packets::{A1, A2, Sent, packet};
 use crate::telling::{Stop, answered, begin, begin_free, end, plain, refused};
-use pfs_addr_values::{Addr, NoMemory, Packet};
+use pfs_addr_values::{Addr, NoMemory, Packet, RUN_LIMIT};
 use pfs_conf::{Config, RuleNo, TableNo, load};
 use pfs_engine::{Added, Arrival, Engine, Event, Exceeded, Limit, Outcome};
 use pfs_store::{IndexStore, PlainStore, Store};
@@ -307,7 +307,7 @@ fn take<S: Store>(
     let (time, sent, source, port, wanted) = *row;
     let packet = packet(sent, source, port)?;
     let taken = engine.taken();
-    if engine.last().is_none() || taken >= 1_000_000_000 {
+    if engine.last().is_none() || taken >= RUN_LIMIT {
         return Err(Stop::Input);
     }
     let before = held(engine);
@@ -353,7 +353,7 @@ fn step<S: Store>(
 ) -> Result<bool, Stop> {
     let event = event_of(row)?;
     let taken = engine.taken();
-    if !is_in_time(engine.last(), event.time) || taken >= 1_000_000_000 {
+    if !is_in_time(engine.last(), event.time) || taken >= RUN_LIMIT {
         return Err(Stop::Input);
     }
     if !may_come(engine.config(), &event.what) {

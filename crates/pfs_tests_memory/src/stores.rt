@@ -4,7 +4,7 @@ ghost use Rattle.std.specs.Prelude.{◌≡◌};
 
 use crate::packets::{A1, A2, Sent, packet};
 use crate::telling::{Stop, answered, begin, begin_free, end, plain, refused, wrong};
-use pfs_addr_values::{Addr, FlowKey, Meter, NoMemory, Packet};
+use pfs_addr_values::{Addr, FlowKey, Meter, NoMemory, Packet, RUN_LIMIT};
 use pfs_conf::{Config, RuleNo, load};
 use pfs_store::{IndexStore, Limit, PlainStore, StateNo, Store};
 use pfs_tests_program::{EVERYTHING, NODES};
@@ -237,7 +237,7 @@ fn admit_one<S: Store>(
 {
     if store.find(&FlowKey::of(packet)).is_some()
         || config.options(rule).is_none()
-        || store.made() >= 1_000_000_000
+        || store.made() >= RUN_LIMIT
     {
         return Err(Stop::Input);
     }

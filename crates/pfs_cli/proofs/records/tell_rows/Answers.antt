@@ -1,6 +1,7 @@
 -- Answers of tell_rows: one record more, and at each end the lines of the records so far (`tells`).
 use Rattle.std.proofs.Common.{refl, arith, subst, ◌<◌, ◌+◌, ◌∙◌, ℕ, List, inl, Err}
 use Rattle.csv.specs.Records.{fields_of}
+use Rattle.pfs_addr_values.specs.Packets.{run_limit}
 use Rattle.pfs_cli.specs.Turns.{WritesLine}
 use Rattle.pfs_cli.proofs.Telling.{so_far-start, so_far-more, ends-source, ends-end, ends-limit, ends-record, failed-read, TakesRecord-rules}
 use Rattle.pfs_cli.proofs.records.tell_rows.Goals as goal
@@ -23,7 +24,7 @@ loop-rows-preserved g c =
     let r = rw c.in-Ok-true.field-0-test at (c.in-Ok-true.ensures.reads inv.plain inv.ready) in
     let (t, grown, took) = c.in-Ok.ensures.takes in
     let (e, judged, takes) = rw inv.rules at took in
-    let few : c.loop-rows.rows < 1000000000 = omega arith in
+    let few : c.loop-rows.rows < run_limit = omega arith in
     record {
       plain = r.3 ∙ inv.plain;
       ready = inl (c.in-Ok-true.ensures.ready inv.plain);
@@ -54,8 +55,8 @@ returns-in-Ok-false-clause-tells g c xs s =
     ends-end g.S.Read.remaining c.args.engine.now.config _ _ _ _ c.loop-rows.rows c.loop-rows.engine.machine c.loop-rows.reader c.read_byte_record.new.self
     (fields_of c.read_byte_record.new.row) c.write_end.result t (inv.so_far xs s) inv.config r grown how
 
-pub returns-then-rows-eq-ROW_LIMIT-clause-tells : goal.returns-then-rows-eq-ROW_LIMIT-clause-tells
-returns-then-rows-eq-ROW_LIMIT-clause-tells g c xs s =
+pub returns-then-rows-eq-RUN_LIMIT-clause-tells : goal.returns-then-rows-eq-RUN_LIMIT-clause-tells
+returns-then-rows-eq-RUN_LIMIT-clause-tells g c xs s =
     let inv = c.loop-rows.invariant in
     let r = rw c.in-Ok-true.field-0-test at (c.in-Ok-true.ensures.reads inv.plain inv.ready) in
     ends-limit g.S.Read.remaining c.args.engine.now.config _ _ _ c.loop-rows.rows c.loop-rows.engine.machine c.loop-rows.reader c.read_byte_record.new.self
@@ -68,6 +69,6 @@ returns-in-Err-take_record-clause-tells g c xs s =
     let (t, grown, took) = c.in-Err-take_record.ensures.takes in
     let takes = TakesRecord-rules c.args.engine.now.config _ (c.loop-rows.rows + 1) c.loop-rows.engine.machine (fields_of c.read_byte_record.new.row) t
     (Err c.in-Err-take_record.stop) c.take_record.new.engine.machine inv.rules took in
-    let few : c.loop-rows.rows < 1000000000 = omega arith in
+    let few : c.loop-rows.rows < run_limit = omega arith in
     ends-record g.S.Read.remaining c.args.engine.now.config _ _ _ _ c.loop-rows.rows c.loop-rows.engine.machine c.take_record.new.engine.machine c.loop-rows.reader c.read_byte_record.new.self
     (fields_of c.read_byte_record.new.row) c.in-Err-take_record.stop t (inv.so_far xs s) inv.config r few grown takes

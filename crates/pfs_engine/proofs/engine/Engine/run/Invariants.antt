@@ -1,5 +1,6 @@
 -- Invariant of Engine::run: outcomes and machine are those of the events so far; the others are in order.
 use Rattle.std.proofs.Common.{◌≡◌, ◌≤◌, ◌+◌, ◌++◌, length, take, drop}
+use Rattle.pfs_addr_values.specs.Packets.{run_limit}
 use Rattle.pfs_engine_machine.specs.Kept.{IsWithinLimits}
 use Rattle.pfs_engine_machine.specs.Runs.{AreAllowed, IsInOrder, packets_in}
 use Rattle.pfs_engine_machine.specs.Machine.{machine_after, outcomes_of}
@@ -18,5 +19,5 @@ invariant-loop-event g l =
       allowed : AreAllowed conf (drop l.event-index l.events);
       order : IsInOrder l.self.machine.last (drop l.event-index l.events);
       taken : l.self.taken ≡ l.fn.self.taken + packets_in (take l.event-index l.events);
-      room : l.self.taken + length (drop l.event-index l.events) ≤ 1000000000;
+      room : l.self.taken + length (drop l.event-index l.events) ≤ run_limit;
     }
