@@ -1,5 +1,6 @@
 pub mod Bodies
 pub mod Bounds
+pub mod Counting
 pub mod Cuts
 pub mod Deciding
 pub mod Distinct
@@ -8,6 +9,7 @@ pub mod LinesMade
 pub mod Narrowest
 pub mod Paths
 pub mod Rooms
+pub mod SameAsked
 pub mod SameFlags
 pub mod Skipping
 pub mod TextTables

@@ -47,7 +47,7 @@ same_sets f g h =
     let cwr : f.cwr ≡ g.cwr = same_bit _ _ (rest _ _ h6) in
     same_fields fin syn rst psh ack urg ece cwr
 
-same_when : (f g : FlagTest) → same_test f g ≡ true → f ≡ g
+pub same_when : (f g : FlagTest) → same_test f g ≡ true → f ≡ g
 same_when Any Any h = refl
 same_when Any (Exactly c d) h = cc
 same_when (Exactly a b) Any h = cc
@@ -60,7 +60,7 @@ bit_itself false = refl
 set_itself : (f : Flags) → same_flags f f ≡ true
 set_itself f = rw (bit_itself f.fin, bit_itself f.syn, bit_itself f.rst, bit_itself f.psh, bit_itself f.ack, bit_itself f.urg, bit_itself f.ece, bit_itself f.cwr) refl
 
-test_itself : (f : FlagTest) → same_test f f ≡ true
+pub test_itself : (f : FlagTest) → same_test f f ≡ true
 test_itself Any = refl
 test_itself (Exactly a b) = rw (set_itself a, set_itself b) refl
 

@@ -46,13 +46,22 @@ pub record MayGoOn (m : Item → Bool) (items : List Item) (stop p q : ℕ) : Ty
   pub fewer : 1 + length (walked m stop (rest_of m items q)) ≤ length (walked m stop (rest_of m items p))
   pub forward : p < q
 
+-- the place of an item
+abbrev pub here : List Item → ℕ → Item → Place
+here items p i = place_at (back p [] items) p i (drop (p + 1) items)
+
+-- behind an item that does not match, a walk goes on behind its body
+pub miss-on : (m : Item → Bool) (items : List Item) (stop p : ℕ) (i : Item) → slice_get items p ≡ Some i → stop ≤ i.depth
+    → m i ≡ false → walked m stop (rest_of m items p) ≡ here items p i ∷ walked m stop (rest_of m items (place_behind items p i))
+miss-on m items stop p i at d e =
+    ap (walked m stop) (rest-jump m items p i at e) ∙ walked-miss m stop (here items p i) _ d (no_match _ _ e)
+
 one_on : (m : Item → Bool) (items : List Item) (stop p : ℕ) (i : Item) → slice_get items p ≡ Some i → stop ≤ i.depth
     → m i ≡ false → MayGoOn m items stop p (place_behind items p i)
 one_on m items stop p i at d e =
-    let x = place_at (back p [] items) p i (drop (p + 1) items) in
+    let x = here items p i in
     let miss : is_hit m x ≡ false = no_match _ _ e in
-    let step : walked m stop (rest_of m items p) ≡ x ∷ walked m stop (rest_of m items (place_behind items p i)) = ap (walked m stop)
-    (rest-jump m items p i at e) ∙ walked-miss m stop x _ d miss in
+    let step = miss-on m items stop p i at d e in
     record {
       found = λ f. ap (found_of m f) step ∙ found-miss m f x _ miss;
       matches = ap (matching m) step ∙ matching-miss m x _ e;
@@ -70,7 +79,7 @@ both_on m items stop p q r h k = record {
 }
 
 -- items that ask the same at a parameter agree there
-same-holds : (tables : List (List Entry)) (packet : Header) (k : Parameter) (f g : Filter) → IsSame k f g
+pub same-holds : (tables : List (List Entry)) (packet : Header) (k : Parameter) (f g : Filter) → IsSame k f g
     → holds_at tables packet k f ≡ holds_at tables packet k g
 same-holds tables packet parameter.Interface f g e = ap (λ r. interface_holds r packet.ifname) e
 same-holds tables packet parameter.Direction f g e = ap (λ r. dir_holds r packet.dir) e
@@ -83,7 +92,7 @@ same-holds tables packet parameter.DestinationPort f g e = ap (λ r. ports_hold 
 same-holds tables packet parameter.Flags f g e = ap (λ r. flags_hold r packet.proto packet.flags) e
 
 -- an item that fails on a parameter does not match
-fails : (tables : List (List Entry)) (packet : Header) (k : Parameter) (i : Item)
+pub fails : (tables : List (List Entry)) (packet : Header) (k : Parameter) (i : Item)
     → holds_at tables packet k (filter_of i.what) ≡ false → matches_item tables packet i ≡ false
 unfolding matches_item
 fails tables packet parameter.Interface i e = no_first _ _ (no_first _ _ (no_first _ _ (no_first _ _ (no_first _ _ (no_first _ _ (no_first _ _ (no_match _ _ e)))))))
@@ -109,7 +118,7 @@ same-sym parameter.SourcePort f g e = sym e
 same-sym parameter.DestinationPort f g e = sym e
 same-sym parameter.Flags f g e = sym e
 
-same-trans : (k : Parameter) (f g h : Filter) → IsSame k f g → IsSame k g h → IsSame k f h
+pub same-trans : (k : Parameter) (f g h : Filter) → IsSame k f g → IsSame k g h → IsSame k f h
 same-trans parameter.Interface f g h d e = d ∙ e
 same-trans parameter.Direction f g h d e = d ∙ e
 same-trans parameter.Family f g h d e = d ∙ e
@@ -138,50 +147,72 @@ skip_next k items p b q i j s h l e same =
       first = λ x at on. s.first x at (passed-same k i j x e same on);
     }
 
--- a walk goes on at the skip, if it does from the next item of the body
-skip_step : (tables : List (List Entry)) (packet : Header) (k : Parameter) (items : List Item) (stop p q : ℕ) (i : Item)
-    → IsSkip k items p i q → slice_get items p ≡ Some i → stop ≤ i.depth
-    → holds_at tables packet k (filter_of i.what) ≡ false
-    → ((b : ℕ) (j : Item) → p < b → IsSkip k items b j q → slice_get items b ≡ Some j → stop ≤ j.depth
-    → holds_at tables packet k (filter_of j.what) ≡ false → MayGoOn (matches_item tables packet) items stop b q)
-    → MayGoOn (matches_item tables packet) items stop p q
-skip_step tables packet k items stop p q i s at d h rest = by (cases_order (place_behind items p i) q)
-  where
-    m : Item → Bool
-    m = matches_item tables packet
+-- what holds of an item that goes on at q directly behind its body
+abbrev pub HoldsLast : (ℕ → Item → Type 0) → Parameter → List Item → ℕ → Type 0
+HoldsLast P k items q = (p : ℕ) (i : Item) → IsSkip k items p i q → slice_get items p ≡ Some i → place_behind items p i ≡ q → P p i
 
+-- what holds of an item, if it does of the next one of its body, which asks the same
+abbrev pub HoldsMore : (ℕ → Item → Type 0) → Parameter → List Item → Type 0
+HoldsMore P k items =
+    (p : ℕ) (i j : Item) → slice_get items p ≡ Some i → slice_get items (place_behind items p i) ≡ Some j → j.depth ≡ i.depth
+    → IsSame k (filter_of i.what) (filter_of j.what) → P (place_behind items p i) j → P p i
+
+skip_step : (P : ℕ → Item → Type 0) (k : Parameter) (items : List Item) (p q : ℕ) (i : Item) → HoldsLast P k items q
+    → HoldsMore P k items → IsSkip k items p i q → slice_get items p ≡ Some i
+    → ((b : ℕ) (j : Item) → p < b → IsSkip k items b j q → slice_get items b ≡ Some j → P b j) → P p i
+skip_step P k items p q i last more s at rest = by (cases_order (place_behind items p i) q)
+  where
     b : ℕ
     b = place_behind items p i
 
-    own : MayGoOn m items stop p b
-    own = one_on m items stop p i at d (fails tables packet k i h)
+    ahead : p < b
+    ahead = omega arith
 
-    on : (j : Item) → slice_get items b ≡ Some j → b < q → IsPassed k i j → MayGoOn m items stop p q
+    on : (j : Item) → slice_get items b ≡ Some j → b < q → IsPassed k i j → P p i
     on j there l (inl deeper) = absurd (omega (arith, deeper, ends-behind items p i j there))
-    on j there l (inr h2) =
-        let again = sym (same-holds tables packet k (filter_of i.what) (filter_of j.what) h2.1) ∙ h in
-        both_on m items stop p b q own
-        (rest b j own.forward (skip_next k items p b q i j s own.forward l h2.0 h2.1) there (omega (arith, d, h2.0)) again)
+    on j there l (inr h) = more p i j at there h.0 h.1 (rest b j ahead (skip_next k items p b q i j s ahead l h.0 h.1) there)
 
-    by : (b ≡ q) ⊎ ((b < q) ⊎ (q < b)) → MayGoOn m items stop p q
-    by (inl e) = subst (λ r. MayGoOn m items stop p r) e own
+    by : (b ≡ q) ⊎ ((b < q) ⊎ (q < b)) → P p i
+    by (inl e) = last p i s at e
     by (inr (inl l)) =
         let there = some_at items b (omega (arith, l, s.within)) in
-        on there.0 there.1 l (s.passed b there.0 own.forward l there.1)
+        on there.0 there.1 l (s.passed b there.0 ahead l there.1)
     by (inr (inr g)) =
         let there = some_at items q (omega (arith, g, behind-within items p i at)) in
         absurd (s.first there.0 there.1 (inl (deeper-inside items p q i there.0 s.behind g there.1)))
 
-skip_within : (n : ℕ) (tables : List (List Entry)) (packet : Header) (k : Parameter) (items : List Item) (stop p q : ℕ) (i : Item)
-    → q ≤ p + n → IsSkip k items p i q → slice_get items p ≡ Some i → stop ≤ i.depth
-    → holds_at tables packet k (filter_of i.what) ≡ false → MayGoOn (matches_item tables packet) items stop p q
-skip_within zero tables packet k items stop p q i few s at d h = absurd (omega (arith, few, s.behind))
-skip_within (suc n) tables packet k items stop p q i few s at d h =
-    skip_step tables packet k items stop p q i s at d h
-    (λ b j l t there e f. skip_within n tables packet k items stop b q j (omega (arith, few, l)) t there e f)
+skip_within : (n : ℕ) (P : ℕ → Item → Type 0) (k : Parameter) (items : List Item) (p q : ℕ) (i : Item) → HoldsLast P k items q
+    → HoldsMore P k items → q ≤ p + n → IsSkip k items p i q → slice_get items p ≡ Some i → P p i
+skip_within zero P k items p q i last more few s at = absurd (omega (arith, few, s.behind))
+skip_within (suc n) P k items p q i last more few s at =
+    skip_step P k items p q i last more s at
+    (λ b j l t there. skip_within n P k items b q j last more (omega (arith, few, l)) t there)
+
+-- what a skip passes over, item by item of one body: what holds of the last of them holds of each
+pub over_skip : (P : ℕ → Item → Type 0) (k : Parameter) (items : List Item) (p q : ℕ) (i : Item) → HoldsLast P k items q
+    → HoldsMore P k items → IsSkip k items p i q → slice_get items p ≡ Some i → P p i
+over_skip P k items p q i last more s at = skip_within q P k items p q i last more (omega arith) s at
 
 -- a walk goes on at the skip of the parameter that an item fails on
 pub skip-on : (tables : List (List Entry)) (packet : Header) (k : Parameter) (items : List Item) (stop p q : ℕ) (i : Item)
     → IsSkip k items p i q → slice_get items p ≡ Some i → stop ≤ i.depth
     → holds_at tables packet k (filter_of i.what) ≡ false → MayGoOn (matches_item tables packet) items stop p q
-skip-on tables packet k items stop p q i s at d h = skip_within q tables packet k items stop p q i (omega arith) s at d h
+skip-on tables packet k items stop p q i s at d h = over_skip GoesOn k items p q i last more s at d h
+  where
+    m : Item → Bool
+    m = matches_item tables packet
+
+    GoesOn : ℕ → Item → Type 0
+    GoesOn p i = stop ≤ i.depth → holds_at tables packet k (filter_of i.what) ≡ false → MayGoOn m items stop p q
+
+    own : (p : ℕ) (i : Item) → slice_get items p ≡ Some i → stop ≤ i.depth → holds_at tables packet k (filter_of i.what) ≡ false
+        → MayGoOn m items stop p (place_behind items p i)
+    own p i at d h = one_on m items stop p i at d (fails tables packet k i h)
+
+    last : HoldsLast GoesOn k items q
+    last p i s at e d h = subst (λ r. MayGoOn m items stop p r) e (own p i at d h)
+
+    more : HoldsMore GoesOn k items
+    more p i j at there e same on d h =
+        let again = sym (same-holds tables packet k (filter_of i.what) (filter_of j.what) same) ∙ h in
+        both_on m items stop p (place_behind items p i) q (own p i at d h) (on (omega (arith, d, e)) again)

@@ -1,9 +1,31 @@
--- The most and the fewest comparisons of items with a packet that an evaluation needs.
-use Rattle.std.specs.Prelude.{ℕ, ◌+◌, if◌then◌else◌, Bool, ◌&&◌, ◌==◌, not, nat_lt, List, [], ◌∷◌, length, filter}
-use Rattle.std.specs.List.{take_while}
+-- How many items an evaluation compares with a packet, and how many at most and at least. (own)
+use Rattle.std.specs.Prelude.{ℕ, ◌+◌, if◌then◌else◌, Bool, false, ◌&&◌, ◌==◌, not, nat_lt, Option, Some, None, List, [], ◌∷◌, length, filter}
+use Rattle.std.specs.List.{dedup, take_while}
+use Rattle.pfs_addr_values.specs.Packets.{Header}
 use Rattle.pfs_conf_values.specs.declared.items.Item.{Item}
 use Rattle.pfs_conf_values.specs.Depths.{is_rule}
+use Rattle.pfs_eval.specs.Entries.{Entry}
+use Rattle.pfs_eval.specs.Matching.{filter_of, matches_item}
+use Rattle.pfs_eval.specs.Parameters.{asks_same, failing_at}
 use Rattle.pfs_eval.specs.Verdict.{Place, cut}
+use Rattle.pfs_eval.specs.declared.comparing.Parameter.{Parameter}
+
+-- ---- the comparisons (pf's skip steps)
+
+-- the item j is left behind with the item i, which fails on a parameter: it is of the same body, and asks the same there
+abbrev pub is_left_on : Option Parameter → Item → Item → Bool
+is_left_on None i j = false
+is_left_on (Some k) i j = (i.depth == j.depth) && asks_same k (filter_of i.what) (filter_of j.what)
+
+-- a packet leaves x behind with y, which was compared last
+abbrev pub is_left_with : List (List Entry) → Header → Place → Place → Bool
+is_left_with tables p x y = is_left_on (failing_at tables p (filter_of y.item.what)) y.item x.item
+
+-- how many items are compared: those before the cut, but for each that is left behind with the one compared last
+unfoldable pub visits_of : List (List Entry) → Header → List Item → ℕ
+visits_of tables p items = length (dedup (is_left_with tables p) (cut (matches_item tables p) items))
+
+-- ---- the most and the fewest
 
 -- the number of items of this depth
 abbrev pub count_at : ℕ → List Item → ℕ

@@ -5,7 +5,7 @@ ghost use Rattle.pfs_conf_values.specs.Order.{IsPreorder};
 ghost use Rattle.pfs_conf_values.specs.declared.items.Item.{Item};
 ghost use Rattle.pfs_eval.specs.Matching.{matches_item};
 ghost use Rattle.pfs_eval.specs.Verdict.{IsRuleAt, cut, verdict};
-ghost use Rattle.pfs_eval.specs.Visits.{visit_bound, visit_floor};
+ghost use Rattle.pfs_eval.specs.Visits.{visit_bound, visit_floor, visits_of};
 
 use crate::lines::{Line, item_at, lines};
 use crate::tables::Tables;
@@ -50,16 +50,19 @@ impl Book {
     /// evaluation, and a quick anchor ends it where it is left if a rule inside it matched. The items of an anchor are
     /// compared only with packets that match it. Without a rule, the packet passes without a state.
     ///
-    /// An item that fails on a parameter is left behind together with those after it that ask the same there.
+    /// An item that fails on a parameter is left behind together with those after it, in the same body, that ask the same
+    /// there.
     ///
-    /// The meter rises by one for each item that is compared with the packet: at most by the number of main items and of
-    /// the direct items of each anchor that matches before the end, at least by the number of items that match before it.
-    /// It takes no memory. (pf.conf(5), PACKET FILTERING and ANCHORS; the bounds are own to this profile)
+    /// The meter rises by one for each item that is compared with the packet, which are all before the end but those left
+    /// behind: at most by the number of main items and of the direct items of each anchor that matches before the end, at
+    /// least by the number of items that match before it. It takes no memory. (pf.conf(5), PACKET FILTERING and ANCHORS; the
+    /// visits are own to this profile)
     #[tactic(auto, using(crate::proofs::Bounds::bounds))]
     pub fn decide(&self, tables: &Tables, packet: &Packet, meter: &mut Meter) -> Option<RuleNo>
         requires { meter.old ≤ 2 ^ 63 }
         ensures verdict { option_map (λ r. r.0) result ≡ verdict (matches_item tables.now.entries packet.now) self.now }
         ensures rule { IfSome result (λ r. IsRuleAt self.now r.0) }
+        ensures visits { meter.new ≡ meter.old + visits_of tables.now.entries packet.now self.now }
         ensures least { meter.old + visit_floor (matches_item tables.now.entries packet.now) self.now ≤ meter.new }
         ensures most { meter.new ≤ meter.old + visit_bound (matches_item tables.now.entries packet.now) self.now }
     {
@@ -70,6 +73,7 @@ impl Book {
     fn walk(&self, tables: &Tables, packet: &Packet, meter: &mut Meter) -> Option<u32>
         requires { meter.old ≤ 2 ^ 63 }
         ensures verdict { result ≡ verdict (matches_item tables.now.entries packet.now) self.now }
+        ensures visits { meter.new ≡ meter.old + visits_of tables.now.entries packet.now self.now }
         ensures least { meter.old + visit_floor (matches_item tables.now.entries packet.now) self.now ≤ meter.new }
         ensures most { meter.new ≤ meter.old + length (cut (matches_item tables.now.entries packet.now) self.now) }
         ensures preorder { IsPreorder 0 self.now }

@@ -2,7 +2,7 @@
 
 ghost use Rattle.std.specs.Prelude.{◌≡◌, ◌+◌, ◌-◌, ◌<◌, ◌^◌, ◌↔◌, IsTrue, MatchOption, false, true};
 ghost use Rattle.pfs_eval.specs.Matching.{common_flags, dir_holds, family_holds, filter_holds, filter_of, flags_hold, host_holds, interface_holds, ports_hold, prefix_holds, proto_holds, same_flags, turned_if};
-ghost use Rattle.pfs_eval.specs.Parameters.{IsSame, holds_at, same_test};
+ghost use Rattle.pfs_eval.specs.Parameters.{IsSame, failing_at, holds_at, same_test};
 
 use crate::tables::Tables;
 use pfs_addr_values::{Addr, Dir, Flags, Meter, Packet, Prefix, Proto};
@@ -54,6 +54,7 @@ impl Asked {
     pub fn failing(&self, tables: &Tables, packet: &Packet, visits: &mut Meter) -> Option<Parameter>
         requires { visits.old < 2 ^ 64 - 1 }
         ensures answer { MatchOption result (filter_holds tables.now.entries packet.now self.now.filter ≡ true) (λ k. holds_at tables.now.entries packet.now k self.now.filter ≡ false) }
+        ensures first { result ≡ failing_at tables.now.entries packet.now self.now.filter }
         ensures visit { visits.new ≡ visits.old + 1 }
     {
         visits.tick();
@@ -80,8 +81,10 @@ impl Asked {
 }
 
 /// The first parameter that does not hold.
+#[tactic(auto, unfolding(crate::specs::Parameters::failing_at))]
 fn first_failing(tables: &Tables, packet: &Packet, filter: &Filter) -> Option<Parameter>
-    ensures { MatchOption result (filter_holds tables.now.entries packet.now filter.now ≡ true) (λ k. holds_at tables.now.entries packet.now k filter.now ≡ false) }
+    ensures first { result ≡ failing_at tables.now.entries packet.now filter.now }
+    ensures answer { MatchOption result (filter_holds tables.now.entries packet.now filter.now ≡ true) (λ k. holds_at tables.now.entries packet.now k filter.now ≡ false) }
 {
     if !interface_holds(&filter.on, packet) {
         return Some(Parameter::Interface);
