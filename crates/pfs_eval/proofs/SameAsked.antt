@@ -3,7 +3,7 @@ use Rattle.std.proofs.Common.{◌≡◌, Bool, true, Option, Some, None, refl, a
 use Rattle.std.specs.Option.{option_eq}
 use Rattle.pfs_conf_values.specs.declared.filters.Filter.{Filter}
 use Rattle.pfs_eval.specs.Matching.{same_dir, is_same_proto}
-use Rattle.pfs_eval.specs.Parameters.{IsSame, asks_same, same_family, same_host, same_interface, same_ports, same_test}
+use Rattle.pfs_eval.specs.Parameters.{IsSame, asks_same, is_same_family, same_host, same_interface, same_ports, same_test}
 use Rattle.pfs_eval.specs.declared.comparing.Parameter.{Parameter}
 use Rattle.pfs_eval.specs.declared.comparing.Parameter.TheVariants as parameter
 use Rattle.pfs_eval.proofs.SameFlags.{same_when, test_itself}
@@ -32,7 +32,7 @@ interfaces = record { equal = λ a b h. search rules; itself = λ a. search rule
 directions : Tests same_dir
 directions = record { equal = λ a b h. search rules; itself = λ a. search rules }
 
-families : Tests same_family
+families : Tests is_same_family
 families = record { equal = λ a b h. search rules; itself = λ a. search rules }
 
 protocols : Tests is_same_proto
@@ -55,7 +55,7 @@ pub asked_same : (k : Parameter) (f g : Filter) → asks_same k f g ≡ true →
 unfolding asks_same
 asked_same parameter.Interface f g h = (options same_interface interfaces).equal f.on g.on h
 asked_same parameter.Direction f g h = (options same_dir directions).equal f.dir g.dir h
-asked_same parameter.Family f g h = (options same_family families).equal f.family g.family h
+asked_same parameter.Family f g h = (options is_same_family families).equal f.family g.family h
 asked_same parameter.Protocol f g h = (options is_same_proto protocols).equal f.proto g.proto h
 asked_same parameter.SourceHost f g h = hosts.equal f.from.host g.from.host h
 asked_same parameter.DestinationHost f g h = hosts.equal f.to.host g.to.host h
@@ -67,7 +67,7 @@ pub same_asked : (k : Parameter) (f g : Filter) → IsSame k f g → asks_same k
 unfolding asks_same
 same_asked parameter.Interface f g e = again (option_eq same_interface) (options same_interface interfaces) f.on g.on e
 same_asked parameter.Direction f g e = again (option_eq same_dir) (options same_dir directions) f.dir g.dir e
-same_asked parameter.Family f g e = again (option_eq same_family) (options same_family families) f.family g.family e
+same_asked parameter.Family f g e = again (option_eq is_same_family) (options is_same_family families) f.family g.family e
 same_asked parameter.Protocol f g e = again (option_eq is_same_proto) (options is_same_proto protocols) f.proto g.proto e
 same_asked parameter.SourceHost f g e = again same_host hosts f.from.host g.from.host e
 same_asked parameter.DestinationHost f g e = again same_host hosts f.to.host g.to.host e

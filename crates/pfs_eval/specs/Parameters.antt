@@ -65,10 +65,10 @@ same_test _ _ = false
 abbrev pub same_interface : Interface → Interface → Bool
 same_interface i j = bytes_eq i.name j.name && beq i.negated j.negated
 
-abbrev pub same_family : Family → Family → Bool
-same_family Inet Inet = true
-same_family Inet6 Inet6 = true
-same_family _ _ = false
+abbrev pub is_same_family : Family → Family → Bool
+is_same_family Inet Inet = true
+is_same_family Inet6 Inet6 = true
+is_same_family _ _ = false
 
 abbrev pub same_host : Host TableNo → Host TableNo → Bool
 same_host host.Any host.Any = true
@@ -83,7 +83,7 @@ same_ports p q = (p.low == q.low) && (p.high == q.high)
 unfoldable pub asks_same : Parameter → Filter → Filter → Bool
 asks_same parameter.Interface f g = option_eq same_interface f.on g.on
 asks_same parameter.Direction f g = option_eq same_dir f.dir g.dir
-asks_same parameter.Family f g = option_eq same_family f.family g.family
+asks_same parameter.Family f g = option_eq is_same_family f.family g.family
 asks_same parameter.Protocol f g = option_eq is_same_proto f.proto g.proto
 asks_same parameter.SourceHost f g = same_host f.from.host g.from.host
 asks_same parameter.DestinationHost f g = same_host f.to.host g.to.host
