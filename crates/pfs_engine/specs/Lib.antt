@@ -1,3 +1,4 @@
+pub mod Calls
 pub mod Packets
 pub mod Rooms
 pub mod Views

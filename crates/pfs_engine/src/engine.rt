@@ -2,21 +2,18 @@
 
 ghost use Rattle.std.specs.Prelude.{◌≡◌, ◌+◌, ◌*◌, ◌<◌, ◌≤◌, ◌^◌, ◌++◌, true, false, length, None, Some, Ok, IfOk, IsOk, IsSome, OnErr, OnOk};
 ghost use Rattle.std.specs.Option.{ForSome};
-ghost use Rattle.pfs_addr_values.specs.Keys.{key_of};
 ghost use Rattle.pfs_addr_values.specs.Packets.{Header, run_limit};
 ghost use Rattle.pfs_store_contract.specs.Purging.{node_share, state_share};
-ghost use Rattle.pfs_store_contract.specs.Worlds.{empty_world, state_with};
+ghost use Rattle.pfs_store_contract.specs.Worlds.{empty_world};
 ghost use Rattle.pfs_conf_values.specs.Configs.{scope_of};
 ghost use Rattle.pfs_conf_values.specs.declared.actions.Scope.TheVariants as Scope;
 ghost use Rattle.pfs_conf_values.specs.declared.items.RuleNo.{RuleNo};
-ghost use Rattle.pfs_store_contract.specs.declared.records.Limit.{Limit};
 ghost use Rattle.pfs_engine_machine.specs.Kept.{IsWithinLimits, IsWithinShared, moment_of};
-ghost use Rattle.pfs_engine_machine.specs.Looks.{AreLooks, states_beside};
-ghost use Rattle.pfs_engine_machine.specs.Refusals.{IsFree, IsDropped};
+ghost use Rattle.pfs_engine_machine.specs.Refusals.{IsFree};
 ghost use Rattle.pfs_engine_machine.specs.Machine.{machine_at_moment, answer_to_packet, due, entries_held, answer_to_expire, nodes_held, start, states_held, step, machine_after, outcomes_of};
 ghost use Rattle.pfs_engine_machine.specs.Runs.{MayCome, MayExpire, AreAllowed, IsInOrder, IsRefusedIn, IsStopped, packets_in, packets_of};
 ghost use Rattle.pfs_engine_machine.specs.Shares.{most_nodes, most_states};
-ghost use Rattle.pfs_engine_machine.specs.Visits.{AreVisits};
+ghost use Rattle.pfs_engine.specs.Calls.{IsCounted, IsRefusedAtLimits, IsWorkOfPacket, Keeps};
 
 use crate::packets::{Meters, answer};
 use crate::purges::purge_due;
@@ -181,18 +178,9 @@ impl<S: Store> Engine<S> {
         requires room { self.old.taken < run_limit }
         ensures ok { IfOk result (λ o. (o, self.new.machine.held) ≡ answer_to_packet self.old.config self.old.machine.held packet.now (moment_of self.old.machine.last)) }
         ensures err { OnErr result (self.new.machine ≡ self.old.machine) }
-        ensures first { self.new.machine.first ≡ self.old.machine.first }
-        ensures last { self.new.machine.last ≡ self.old.machine.last }
-        ensures limits { IsWithinLimits self.new.config self.new.machine.held }
-        ensures config { self.new.config ≡ self.old.config }
-        ensures taken { OnOk result (self.new.taken ≡ self.old.taken + 1) }
-        ensures not_taken { OnErr result (self.new.taken ≡ self.old.taken) }
-
-        // A state is refused exactly where a limit is met; then nothing has changed.
-        ensures refused { (rule : RuleNo) (limit : Limit) →
-            IsDropped self.old.config self.old.machine.held packet.now rule.0 limit → result ≡ Ok (Outcome.Drop rule limit) }
-        ensures refused_only { (rule : RuleNo) (limit : Limit) → result ≡ Ok (Outcome.Drop rule limit) →
-            IsDropped self.old.config self.old.machine.held packet.now rule.0 limit × (self.new.machine ≡ self.old.machine) }
+        ensures keeps { Keeps self.old self.new }
+        ensures taken { IsCounted result self.old.taken self.new.taken }
+        ensures refused { IsRefusedAtLimits self.old.config packet.now result self.old.machine self.new.machine }
 
         // Of a new state of a rule with shared source nodes, directly after it.
         ensures shared { (rule : RuleNo) → result ≡ Ok (Outcome.New rule) → scope_of self.old.config rule.0 ≡ Some Scope.Global →
@@ -201,17 +189,7 @@ impl<S: Store> Engine<S> {
         // Memory is asked for only where a state is made, or a TCP packet is one of a rule with `overload`.
         ensures free { IsFree self.old.config packet.now
             (answer_to_packet self.old.config self.old.machine.held packet.now (moment_of self.old.machine.last)).0 → IsOk result }
-
-        ensures visits { AreVisits self.old.config self.old.machine.held packet.now (state_with (key_of packet.now) self.old.machine.held.world) self.new.work.visits }
-        ensures slices { self.new.work.slices ≡ 0 }
-        ensures most_states { self.new.work.most_states ≡ 0 }
-        ensures most_nodes { self.new.work.most_nodes ≡ 0 }
-
-        // Where the store counts looks, by what came of it.
-        ensures looks { S.counts ≡ true → IfOk result (λ o. AreLooks self.old.config
-            (states_beside self.old.machine.held.world (state_with (key_of packet.now) self.old.machine.held.world)) o self.new.work.looks) }
-        ensures no_looks { S.counts ≡ true → OnErr result (self.new.work.looks ≡ 0) }
-        ensures uncounted { S.counts ≡ false → self.new.work.looks ≡ 0 }
+        ensures work { IsWorkOfPacket S.counts self.old.config self.old.machine.held packet.now result self.new.work }
     {
         let mut meters = Meters {
             visits: Meter::new(),
@@ -241,10 +219,7 @@ impl<S: Store> Engine<S> {
         requires table { MayExpire self.old.config table.0 }
         ensures answer { (Outcome.Expire result, self.new.machine.held)
             ≡ answer_to_expire self.old.machine.held (moment_of self.old.machine.first) (moment_of self.old.machine.last) table.0 seconds }
-        ensures first { self.new.machine.first ≡ self.old.machine.first }
-        ensures last { self.new.machine.last ≡ self.old.machine.last }
-        ensures limits { IsWithinLimits self.new.config self.new.machine.held }
-        ensures config { self.new.config ≡ self.old.config }
+        ensures keeps { Keeps self.old self.new }
         ensures taken { self.new.taken ≡ self.old.taken }
         ensures work { self.new.work ≡ self.old.work }
     {

@@ -1,5 +1,5 @@
--- Answers of Engine::packet: what an engine keeps, and its clauses `refused_only`, `shared`, `limits` and `free`.
-use Rattle.std.proofs.Common.{◌≡◌, ◌∙◌, ap, arith, subst, sym}
+-- Answers of Engine::packet: what an engine keeps, and its clauses `keeps`, `refused`, `shared` and `free`.
+use Rattle.std.proofs.Common.{◌≡◌, ◌∙◌, ap, arith, rules, subst, sym}
 use Rattle.pfs_engine_machine.specs.Kept.{IsKept, moment_of}
 use Rattle.pfs_engine_machine.specs.Machine.{Held, held_of}
 use Rattle.pfs_engine.specs.Views.{View, machine_at}
@@ -35,8 +35,25 @@ invariant_of-self g c =
       config = i.config;
     }
 
-pub returns-clause-refused_only : goal.returns-clause-refused_only
-returns-clause-refused_only g c =
+pub returns-clause-keeps : goal.returns-clause-keeps
+returns-clause-keeps g c =
+    let inside = c.self.inside in
+    let i = c.self.invariant in
+    let w = g.S.Store.world inside.store in
+    let after = g.S.Store.world c.answer-outcome.new.store in
+    let entries = c.answer-outcome.new.tables.entries in
+    let a = c.answer-outcome.ensures in
+    let moment : c.unwrap_or-now.result ≡ moment_of inside.last = c.unwrap_or-now.ensures in
+    let before = subst (IsKept inside.config (held_of w inside.tables.entries)) (sym moment) i.kept in
+    record {
+      config = ap (λ (v : View). v.config) c.self.view_is;
+      first = ap (λ (v : View). v.machine.first) c.self.view_is;
+      last = ap (λ (v : View). v.machine.last) c.self.view_is;
+      limits = (kept_result inside.config w after inside.tables.entries entries c.args.packet.now c.unwrap_or-now.result c.answer-outcome.result i.config before a.ok a.world a.entries).limits;
+    }
+
+pub returns-clause-refused : goal.returns-clause-refused
+returns-clause-refused g c =
     let inside = c.self.inside in
     let after = held_of (g.S.Store.world c.answer-outcome.new.store) c.answer-outcome.new.tables.entries in
     let before = held_of (g.S.Store.world inside.store) inside.tables.entries in
@@ -44,9 +61,12 @@ returns-clause-refused_only g c =
     let same_machine = ap (λ (v : View). v.machine) c.self.view_is in
     let same_config = ap (λ (v : View). v.config) c.self.view_is in
     let refused = refused_result inside.config c.args.self.now.machine.held before after c.args.packet.now c.unwrap_or-now.result c.answer-outcome.result same_held c.answer-outcome.ensures.ok in
-    rw (sym same_config) (λ rule limit e.
-    let told = refused rule limit e in
-    (told.0, ap (λ (h : Held). machine_at h.world h.tables inside.first inside.last) told.1 ∙ same_machine))
+    record {
+      met = search rules;
+      only = rw (sym same_config) (λ rule limit e.
+          let told = refused rule limit e in
+          (told.0, ap (λ (h : Held). machine_at h.world h.tables inside.first inside.last) told.1 ∙ same_machine));
+    }
 
 pub returns-clause-shared : goal.returns-clause-shared
 returns-clause-shared g c =
@@ -61,18 +81,6 @@ returns-clause-shared g c =
     let same_held = ap (λ (v : View). v.machine.held) c.self.view_is in
     let same_config = ap (λ (v : View). v.config) c.self.view_is in
     rw (sym same_config) (shared_result inside.config c.args.self.now.machine.held before after c.args.packet.now now c.answer-outcome.result same_held i.config kept a.ok)
-
-pub returns-clause-limits : goal.returns-clause-limits
-returns-clause-limits g c =
-    let inside = c.self.inside in
-    let i = c.self.invariant in
-    let w = g.S.Store.world inside.store in
-    let after = g.S.Store.world c.answer-outcome.new.store in
-    let entries = c.answer-outcome.new.tables.entries in
-    let a = c.answer-outcome.ensures in
-    let moment : c.unwrap_or-now.result ≡ moment_of inside.last = c.unwrap_or-now.ensures in
-    let before = subst (IsKept inside.config (held_of w inside.tables.entries)) (sym moment) i.kept in
-    (kept_result inside.config w after inside.tables.entries entries c.args.packet.now c.unwrap_or-now.result c.answer-outcome.result i.config before a.ok a.world a.entries).limits
 
 pub returns-clause-free : goal.returns-clause-free
 returns-clause-free g c =
