@@ -1,15 +1,17 @@
 -- What a call of an engine keeps, counts and costs.
-use Rattle.std.specs.Prelude.{ℕ, ◌≡◌, ◌+◌, Bool, true, false, Result, Ok, IfOk, OnOk, OnErr}
+use Rattle.std.specs.Prelude.{ℕ, ◌≡◌, ◌≤◌, ◌+◌, ◌*◌, Bool, true, false, List, length, Result, Ok, IfOk, OnOk, OnErr}
 use Rattle.pfs_addr_values.specs.Keys.{key_of}
 use Rattle.pfs_addr_values.specs.Packets.{Header}
 use Rattle.pfs_conf_values.specs.Configs.{Conf}
 use Rattle.pfs_conf_values.specs.declared.items.RuleNo.{RuleNo}
-use Rattle.pfs_store_contract.specs.Worlds.{state_with}
+use Rattle.pfs_store_contract.specs.Purging.{node_share, state_share}
+use Rattle.pfs_store_contract.specs.Worlds.{World, state_with}
 use Rattle.pfs_store_contract.specs.declared.records.Limit.{Limit}
 use Rattle.pfs_engine_machine.specs.Kept.{IsWithinLimits}
 use Rattle.pfs_engine_machine.specs.Looks.{AreLooks, states_beside}
 use Rattle.pfs_engine_machine.specs.Machine.{Held, Machine}
 use Rattle.pfs_engine_machine.specs.Refusals.{IsDropped}
+use Rattle.pfs_engine_machine.specs.Shares.{most_nodes, most_states}
 use Rattle.pfs_engine_machine.specs.Visits.{AreVisits}
 use Rattle.pfs_engine_machine.specs.declared.events.Outcome.{Outcome}
 use Rattle.pfs_engine_machine.specs.declared.events.Outcome.TheVariants as outcome
@@ -24,22 +26,38 @@ pub record Keeps (before after : View) : Type 0 where
   pub limits : IsWithinLimits after.config after.machine.held
 
 -- one packet more was taken, or none where memory was refused
-pub record IsCounted {X E : Type 0} (answer : Result X E) (before after : ℕ) : Type 0 where
+pub record CountsPacket {X E : Type 0} (answer : Result X E) (before after : ℕ) : Type 0 where
   pub ok : OnOk answer (after ≡ before + 1)
   pub err : OnErr answer (after ≡ before)
 
 -- a state is refused exactly where a limit is met; then nothing has changed
-pub record IsRefusedAtLimits {E : Type 0} (conf : Conf) (p : Header) (answer : Result Outcome E) (before after : Machine) : Type 0 where
+pub record IsRefusedAtLimits {E : Type 0} (conf : Conf) (p : Header) (answer : Result Outcome E) (before after : Machine)
+    : Type 0 where
   pub met : (rule : RuleNo) (limit : Limit) → IsDropped conf before.held p rule.0 limit → answer ≡ Ok (outcome.Drop rule limit)
-  pub only : (rule : RuleNo) (limit : Limit) → answer ≡ Ok (outcome.Drop rule limit) → IsDropped conf before.held p rule.0 limit × (after ≡ before)
+  pub only : (rule : RuleNo) (limit : Limit) → answer ≡ Ok (outcome.Drop rule limit)
+      → IsDropped conf before.held p rule.0 limit × (after ≡ before)
 
 -- the work of a packet: the items that it is compared with, and no slice; the looks, where the store counts them, by what came of
 -- it, and none where memory was refused
-pub record IsWorkOfPacket {E : Type 0} (counts : Bool) (conf : Conf) (h : Held) (p : Header) (answer : Result Outcome E) (work : Work) : Type 0 where
+pub record IsWorkOfPacket {E : Type 0} (counts : Bool) (conf : Conf) (h : Held) (p : Header) (answer : Result Outcome E) (work : Work)
+    : Type 0 where
   pub visits : AreVisits conf h p (state_with (key_of p) h.world) work.visits
   pub slices : work.slices ≡ 0
   pub most_states : work.most_states ≡ 0
   pub most_nodes : work.most_nodes ≡ 0
-  pub looks : counts ≡ true → IfOk answer (λ o. AreLooks conf (states_beside h.world (state_with (key_of p) h.world)) o work.looks)
+  pub looks : counts ≡ true → IfOk answer (λ o.
+      AreLooks conf (states_beside h.world (state_with (key_of p) h.world)) o work.looks)
   pub no_looks : counts ≡ true → OnErr answer (work.looks ≡ 0)
+  pub uncounted : counts ≡ false → work.looks ≡ 0
+
+-- the work of seconds that pass: two slices in each, with the most that one of states and one of nodes examines, within their
+-- shares; the looks are those of that slice of states, where the store counts them; and no item is compared
+pub record IsWorkOfSeconds (counts : Bool) (conf : Conf) (w : World) (seconds : List ℕ) (work : Work) : Type 0 where
+  pub slices : work.slices ≡ 2 * length seconds
+  pub most_states : work.most_states ≡ most_states conf w seconds
+  pub most_nodes : work.most_nodes ≡ most_nodes conf w seconds
+  pub states_share : work.most_states ≤ state_share conf
+  pub nodes_share : work.most_nodes ≤ node_share conf
+  pub visits : work.visits ≡ 0
+  pub looks : counts ≡ true → work.looks ≡ work.most_states
   pub uncounted : counts ≡ false → work.looks ≡ 0

@@ -3,7 +3,6 @@
 ghost use Rattle.std.specs.Prelude.{◌≡◌, ◌+◌, ◌*◌, ◌<◌, ◌≤◌, ◌^◌, ◌++◌, true, false, length, None, Some, Ok, IfOk, IsOk, IsSome, OnErr, OnOk};
 ghost use Rattle.std.specs.Option.{ForSome};
 ghost use Rattle.pfs_addr_values.specs.Packets.{Header, run_limit};
-ghost use Rattle.pfs_store_contract.specs.Purging.{node_share, state_share};
 ghost use Rattle.pfs_store_contract.specs.Worlds.{empty_world};
 ghost use Rattle.pfs_conf_values.specs.Configs.{scope_of};
 ghost use Rattle.pfs_conf_values.specs.declared.actions.Scope.TheVariants as Scope;
@@ -12,8 +11,7 @@ ghost use Rattle.pfs_engine_machine.specs.Kept.{IsWithinLimits, IsWithinShared, 
 ghost use Rattle.pfs_engine_machine.specs.Refusals.{IsFree};
 ghost use Rattle.pfs_engine_machine.specs.Machine.{machine_at_moment, answer_to_packet, due, entries_held, answer_to_expire, nodes_held, start, states_held, step, machine_after, outcomes_of};
 ghost use Rattle.pfs_engine_machine.specs.Runs.{MayCome, MayExpire, AreAllowed, IsInOrder, IsRefusedIn, IsStopped, packets_in, packets_of};
-ghost use Rattle.pfs_engine_machine.specs.Shares.{most_nodes, most_states};
-ghost use Rattle.pfs_engine.specs.Calls.{IsCounted, IsRefusedAtLimits, IsWorkOfPacket, Keeps};
+ghost use Rattle.pfs_engine.specs.Calls.{CountsPacket, IsRefusedAtLimits, IsWorkOfPacket, IsWorkOfSeconds, Keeps};
 
 use crate::packets::{Meters, answer};
 use crate::purges::purge_due;
@@ -152,14 +150,8 @@ impl<S: Store> Engine<S> {
         requires order { ForSome self.old.machine.last (λ last. last ≤ now) }
         requires moment { now < 2 ^ 32 }
         ensures machine { self.new.machine ≡ machine_at_moment self.old.config self.old.machine now }
-        ensures slices { self.new.work.slices ≡ 2 * length (due self.old.machine.last now) }
-        ensures most_states { self.new.work.most_states ≡ most_states self.old.config self.old.machine.held.world (due self.old.machine.last now) }
-        ensures most_nodes { self.new.work.most_nodes ≡ most_nodes self.old.config self.old.machine.held.world (due self.old.machine.last now) }
-        ensures visits { self.new.work.visits ≡ 0 }
-        ensures looks { S.counts ≡ true → self.new.work.looks ≡ self.new.work.most_states }
-        ensures uncounted { S.counts ≡ false → self.new.work.looks ≡ 0 }
-        ensures states_share { self.new.work.most_states ≤ state_share self.old.config }
-        ensures nodes_share { self.new.work.most_nodes ≤ node_share self.old.config }
+        ensures work { IsWorkOfSeconds S.counts self.old.config self.old.machine.held.world
+            (due self.old.machine.last now) self.new.work }
         ensures limits { IsWithinLimits self.new.config self.new.machine.held }
         ensures config { self.new.config ≡ self.old.config }
         ensures taken { self.new.taken ≡ self.old.taken }
@@ -176,10 +168,11 @@ impl<S: Store> Engine<S> {
     pub fn packet(&mut self, packet: &Packet) -> Result<Outcome, NoMemory>
         requires started { IsSome self.old.machine.last }
         requires room { self.old.taken < run_limit }
-        ensures ok { IfOk result (λ o. (o, self.new.machine.held) ≡ answer_to_packet self.old.config self.old.machine.held packet.now (moment_of self.old.machine.last)) }
+        ensures ok { IfOk result (λ o. (o, self.new.machine.held)
+            ≡ answer_to_packet self.old.config self.old.machine.held packet.now (moment_of self.old.machine.last)) }
         ensures err { OnErr result (self.new.machine ≡ self.old.machine) }
         ensures keeps { Keeps self.old self.new }
-        ensures taken { IsCounted result self.old.taken self.new.taken }
+        ensures taken { CountsPacket result self.old.taken self.new.taken }
         ensures refused { IsRefusedAtLimits self.old.config packet.now result self.old.machine self.new.machine }
 
         // Of a new state of a rule with shared source nodes, directly after it.
