@@ -1,6 +1,6 @@
 //! The engine: a machine over any store, with the rules made ready.
 
-ghost use Rattle.std.specs.Prelude.{◌≡◌, ◌+◌, ◌*◌, ◌<◌, ◌≤◌, ◌^◌, ◌++◌, true, false, length, None, Some, Ok, IfOk, IsOk, IsSome, OnErr, OnOk};
+ghost use Rattle.std.specs.Prelude.{◌≡◌, ◌+◌, ◌<◌, ◌≤◌, ◌^◌, ◌++◌, length, None, Some, Ok, IfOk, IsOk, IsSome, OnErr, OnOk};
 ghost use Rattle.std.specs.Option.{ForSome};
 ghost use Rattle.pfs_addr_values.specs.Packets.{Header, run_limit};
 ghost use Rattle.pfs_store_contract.specs.Worlds.{empty_world};
