@@ -8,7 +8,7 @@ use Rattle.pfs_conf_values.specs.declared.items.Item.{Item}
 use Rattle.pfs_eval.specs.declared.comparing.Parameter.{Parameter}
 use Rattle.pfs_eval.specs.declared.lines.Line.{Line}
 use Rattle.pfs_eval.specs.declared.skips.Skips.{Skips}
-use Rattle.pfs_eval.specs.Lines.{AreLinesFrom, EachLine, IsLine, back, stop_depth_of}
+use Rattle.pfs_eval.specs.Lines.{AreLines, AreLinesFrom, EachLine, IsLine, back, items_of, stop_depth_of}
 use Rattle.pfs_eval.specs.Matching.{filter_of}
 use Rattle.pfs_eval.specs.Parameters.{IsSame}
 use Rattle.pfs_eval.specs.Skips.{AreSkipsOf, IsJoined, IsPassed, IsSkip, body_length, skip_of}
@@ -31,6 +31,22 @@ item_of items lines p line a there =
     let inside = slice_get_within lines p line there in
     let found = some_at items p (omega (arith, inside, a.long)) in
     record { item = found.0; at = found.1; is = a.each p found.0 line found.1 there }
+
+pub depth_of : {items : List Item} {p : ℕ} {i : Item} {line : Line} → IsLine items p i line → line.item.depth ≡ i.depth
+depth_of l = ap (λ (x : Item). x.depth) l.item
+
+-- the items of all lines
+each_item : (items : List Item) (lines : List Line) → length lines ≡ length items
+    → ((p : ℕ) (i : Item) (line : Line) → slice_get items p ≡ Some i → slice_get lines p ≡ Some line → line.item ≡ i) → items_of lines ≡ items
+each_item [] [] e h = refl
+each_item [] (l ∷ ls) e h = absurd (omega (arith, e))
+each_item (i ∷ is) [] e h = absurd (omega (arith, e))
+each_item (i ∷ is) (l ∷ ls) e h =
+    ap (λ x. x ∷ items_of ls) (h 0 i l refl refl)
+    ∙ ap (λ xs. i ∷ xs) (each_item is ls (omega (arith, e)) (λ p j k at there. h (suc p) j k at there))
+
+pub items-are : {items : List Item} {lines : List Line} → AreLines items lines → items_of lines ≡ items
+items-are {items} {lines} a = each_item items lines a.long (λ p i line at there. (a.each p i line at there).item)
 
 -- ---- one more line, and a line that is written anew
 
@@ -78,7 +94,7 @@ each-more items lines new p i line e long at is each q j other here there = by (
 
 -- a line with other skips
 abbrev pub with_skips : Line → Skips → Line
-with_skips line s = record { asked = line.asked; skips = s; next = line.next; depth = line.depth; stop_depth = line.stop_depth; is_rule = line.is_rule }
+with_skips line s = record { skips = s; next = line.next; stop_depth = line.stop_depth; item = line.item }
 
 each-set : (items : List Item) (lines : List Line) (p : ℕ) (line : Line) (s : Skips) → EachLine items lines
     → slice_get lines p ≡ Some line → EachLine items (set lines p (with_skips line s))
@@ -89,7 +105,7 @@ each-set items lines p line s each old q i found here there = by (get-set lines 
     by (inr k) =
         let at : slice_get items p ≡ Some i = ap (slice_get items) (sym k.0) ∙ here in
         let l = each p i line at old in
-        let made : IsLine items p i (with_skips line s) = record { asked = l.asked; next = l.next; depth = l.depth; stop = l.stop; rule = l.rule } in
+        let made : IsLine items p i (with_skips line s) = record { item = l.item; next = l.next; stop = l.stop } in
         is_line items q p i i found _ k.0 k.1 here at made
 
 skips-set : (items : List Item) (lines : List Line) (p : ℕ) (line : Line) (s : Skips) → AreLinesFrom (p + 1) items lines
@@ -180,8 +196,8 @@ none_past xs p x h at = let within = slice_get_within xs p x at in grind (arith,
 
 -- behind the body of the item of a line
 behind_of : (items : List Item) (p q : ℕ) (i : Item) (line : Line) → IsLine items p i line
-    → q ≡ p + 1 + body_length line.depth (drop (p + 1) items) → place_behind items p i ≡ q
-behind_of items p q i line l e = sym (e ∙ ap (λ d. p + 1 + body_length d (drop (p + 1) items)) l.depth)
+    → q ≡ p + 1 + body_length line.item.depth (drop (p + 1) items) → place_behind items p i ≡ q
+behind_of items p q i line l e = sym (e ∙ ap (λ (x : Item). p + 1 + body_length x.depth (drop (p + 1) items)) l.item)
 
 -- an item goes on behind its body, where what stands there ends the body or asks another thing
 near : (items : List Item) (p q : ℕ) (i : Item) (k : Parameter) → slice_get items p ≡ Some i → place_behind items p i ≡ q
@@ -210,8 +226,8 @@ far items p b q i j k e there d same s = record {
 
 -- an item that no other follows in its body
 pub skips-alone : {n : ℕ} (items : List Item) (lines : List Line) (p q : ℕ) (line : Line) (s : Skips) → AreLinesFrom n items lines
-    → slice_get lines p ≡ Some line → q ≡ p + 1 + body_length line.depth (drop (p + 1) items)
-    → ((next : Line) → slice_get lines q ≡ Some next → next.depth ≡ line.depth → ⊥)
+    → slice_get lines p ≡ Some line → q ≡ p + 1 + body_length line.item.depth (drop (p + 1) items)
+    → ((next : Line) → slice_get lines q ≡ Some next → next.item.depth ≡ line.item.depth → ⊥)
     → ((k : Parameter) → skip_of s k ≡ q) → AreSkipsOf items p s
 skips-alone items lines p q line s a there e alone h i at k =
     let l = a.each p i line at there in
@@ -223,17 +239,17 @@ skips-alone items lines p q line s a there e alone h i at k =
     ends j here (inr h2) low =
         let next = some_at lines q (omega (arith, a.long, slice_get_within items q j here)) in
         let m = a.each q j next.0 here next.1 in
-        alone next.0 next.1 (m.depth ∙ h2.0 ∙ sym ((a.each p i line at there).depth))
+        alone next.0 next.1 (depth_of m ∙ h2.0 ∙ sym (depth_of (a.each p i line at there)))
 
 -- an item that another one follows
 pub skips-joined : {n : ℕ} (items : List Item) (lines : List Line) (p q : ℕ) (line next : Line) (s : Skips) → AreLinesFrom n items lines
     → n ≤ q → slice_get lines p ≡ Some line → slice_get lines q ≡ Some next
-    → q ≡ p + 1 + body_length line.depth (drop (p + 1) items) → next.depth ≡ line.depth
-    → ((k : Parameter) → IsJoined k line.asked.filter next.asked.filter q (skip_of next.skips k) (skip_of s k))
+    → q ≡ p + 1 + body_length line.item.depth (drop (p + 1) items) → next.item.depth ≡ line.item.depth
+    → ((k : Parameter) → IsJoined k (filter_of line.item.what) (filter_of next.item.what) q (skip_of next.skips k) (skip_of s k))
     → AreSkipsOf items p s
 skips-joined items lines p q line next s a ahead there then e d h i at k =
-    by (subst (λ f. IsJoined k f (filter_of j.item.what) q (skip_of next.skips k) (skip_of s k)) l.asked
-    (subst (λ f. IsJoined k line.asked.filter f q (skip_of next.skips k) (skip_of s k)) j.is.asked (h k)))
+    by (subst (λ (x : Item). IsJoined k (filter_of x.what) (filter_of j.item.what) q (skip_of next.skips k) (skip_of s k)) l.item
+    (subst (λ (x : Item). IsJoined k (filter_of line.item.what) (filter_of x.what) q (skip_of next.skips k) (skip_of s k)) j.is.item (h k)))
   where
     l : IsLine items p i line
     l = a.each p i line at there
@@ -245,7 +261,7 @@ skips-joined items lines p q line next s a ahead there then e d h i at k =
     b = behind_of items p q i line l e
 
     deep : j.item.depth ≡ i.depth
-    deep = sym j.is.depth ∙ d ∙ l.depth
+    deep = sym (depth_of j.is) ∙ d ∙ depth_of l
 
     other : (IsSame k (filter_of i.what) (filter_of j.item.what) → ⊥) → (x : Item) → slice_get items q ≡ Some x → IsPassed k i x → ⊥
     other ne x here (inl deeper) = omega (arith, deeper, ends-behind items p i x (ap (slice_get items) b ∙ here))

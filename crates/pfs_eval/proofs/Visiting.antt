@@ -18,7 +18,7 @@ use Rattle.pfs_eval.specs.declared.lines.Line.{Line}
 use Rattle.pfs_eval.specs.declared.walks.Walk.{Walk}
 use Rattle.pfs_eval.proofs.Paths.{rest_of, rest-at, rest-next, rest-end, some_same}
 use Rattle.pfs_eval.proofs.Cuts.{walked, cut-walked, verdict-walked, found_of, found-cons, found-end, walked-less, walked-on, walked-end}
-use Rattle.pfs_eval.proofs.LinesMade.{item_of}
+use Rattle.pfs_eval.proofs.LinesMade.{depth_of, item_of}
 use Rattle.pfs_eval.proofs.Counting.{behind_none, none_left, skip-counts}
 use Rattle.pfs_eval.proofs.Skipping.{MayGoOn, here, matching, skip-on, walked-miss}
 
@@ -132,7 +132,7 @@ match_cases same m items w i line count first alone at l d e h true true f g =
     let x = here items w.place i in
     let hit : is_hit m x ≡ true = and_true _ _ f e in
     let w' : Walk = record { place = line.next; stop_depth = max w.stop_depth line.stop_depth; found = Some w.place } in
-    let is : walk_after w line None ≡ w' = cond-true _ _ _ (l.rule ∙ f) in
+    let is : walk_after w line None ≡ w' = cond-true _ _ _ (ap (λ (x : Item). is_rule x.what) l.item ∙ f) in
     let out : line.next ≡ length items = l.next ∙ cond-true _ _ _ (and_true _ _ f g) in
     let ends : walked m w'.stop_depth (rest_of m items line.next) ≡ [] = ap (walked m w'.stop_depth)
     (rest-end m items line.next (omega (arith, out))) ∙ walked-end m w'.stop_depth in
@@ -144,7 +144,7 @@ match_cases same m items w i line count first alone at l d e h true false f g =
     let x = here items w.place i in
     let hit : is_hit m x ≡ true = and_true _ _ f e in
     let w' : Walk = record { place = line.next; stop_depth = max w.stop_depth line.stop_depth; found = Some w.place } in
-    let is : walk_after w line None ≡ w' = cond-true _ _ _ (l.rule ∙ f) in
+    let is : walk_after w line None ≡ w' = cond-true _ _ _ (ap (λ (x : Item). is_rule x.what) l.item ∙ f) in
     let on : line.next ≡ w.place + 1 = l.next ∙ cond-false _ _ _ (and_false _ _ g) in
     let next = ap (walked m w.stop_depth) (rest-next m items w.place i at e)
     ∙ walked-hit m w.stop_depth x _ d hit g
@@ -156,7 +156,7 @@ match_cases same m items w i line count first alone at l d e h false q f g =
     let x = here items w.place i in
     let miss : is_hit m x ≡ false = no_rule _ _ f in
     let w' : Walk = record { place = line.next; stop_depth = w.stop_depth; found = w.found } in
-    let is : walk_after w line None ≡ w' = cond-false _ _ _ (l.rule ∙ f) in
+    let is : walk_after w line None ≡ w' = cond-false _ _ _ (ap (λ (x : Item). is_rule x.what) l.item ∙ f) in
     let on : line.next ≡ w.place + 1 = l.next ∙ cond-false _ _ _ (no_rule _ _ f) in
     let next = ap (walked m w.stop_depth) (rest-next m items w.place i at e)
     ∙ walked-miss m w.stop_depth x _ d miss
@@ -165,14 +165,14 @@ match_cases same m items w i line count first alone at l d e h false q f g =
     (left-step same m items w w' count first x alone next (sym (cond-false _ _ _ miss)) h)
 
 further : (items : List Item) (w : Walk) (i : Item) (line : Line) → IsLine items w.place i line → w.place < length items
-    → (b r q : Bool) → line.is_rule ≡ b → is_rule i.what ≡ r → is_quick i.what ≡ q → w.place < (walk_after w line None).place
+    → (b r q : Bool) → is_rule line.item.what ≡ b → is_rule i.what ≡ r → is_quick i.what ≡ q → w.place < (walk_after w line None).place
 further items w i line l n b r q e f g = by b (r && q) e (ap (λ k. k && is_quick i.what) f ∙ ap (λ k. r && k) g)
   where
     ahead : (c : Bool) → (is_rule i.what && is_quick i.what) ≡ c → w.place < line.next
     ahead true k = let out : line.next ≡ length items = l.next ∙ cond-true _ _ _ k in omega (arith, out)
     ahead false k = let on : line.next ≡ w.place + 1 = l.next ∙ cond-false _ _ _ k in omega (arith, on)
 
-    by : (b c : Bool) → line.is_rule ≡ b → (is_rule i.what && is_quick i.what) ≡ c → w.place < (walk_after w line None).place
+    by : (b c : Bool) → is_rule line.item.what ≡ b → (is_rule i.what && is_quick i.what) ≡ c → w.place < (walk_after w line None).place
     by true c h k = rw h (ahead c k)
     by false c h k = rw h (ahead c k)
 
@@ -183,8 +183,8 @@ pub record IsVisit (same : Place → Place → Bool) (m : Item → Bool) (items 
 
 -- what the comparison of what an item asks with a packet tells
 pub record Tells (tables : List (List Entry)) (packet : Header) (line : Line) (failed : Option Parameter) : Type 0 where
-  pub first : failed ≡ failing_at tables packet line.asked.filter
-  pub answer : MatchOption failed (filter_holds tables packet line.asked.filter ≡ true) (λ k. holds_at tables packet k line.asked.filter ≡ false)
+  pub first : failed ≡ failing_at tables packet (filter_of line.item.what)
+  pub answer : MatchOption failed (filter_holds tables packet (filter_of line.item.what) ≡ true) (λ k. holds_at tables packet k (filter_of line.item.what) ≡ false)
 
 matching_item : (tables : List (List Entry)) (packet : Header) (i : Item) → filter_holds tables packet (filter_of i.what) ≡ true
     → matches_item tables packet i ≡ true
@@ -199,38 +199,38 @@ visit_by : (tables : List (List Entry)) (packet : Header) (items : List Item) (w
 visit_by tables packet items w i line None count first at l d s t h =
     let m = matches_item tables packet in
     let same = is_left_with tables packet in
-    let e = matching_item tables packet i (subst (λ f. filter_holds tables packet f ≡ true) l.asked t.answer) in
-    let on = sym (t.first ∙ ap (failing_at tables packet) l.asked) in
+    let e = matching_item tables packet i (subst (λ (x : Item). filter_holds tables packet (filter_of x.what) ≡ true) l.item t.answer) in
+    let on = sym (t.first ∙ ap (λ (x : Item). failing_at tables packet (filter_of x.what)) l.item) in
     let alone : (y : Place) → same y (here items w.place i) ≡ false = λ y. none_left tables packet y (here items w.place i) on in
     record {
       left = match_cases same m items w i line count first alone at l d e h (is_rule i.what) (is_quick i.what) refl refl;
-      forward = further items w i line l (slice_get_within items w.place i at) line.is_rule (is_rule i.what) (is_quick i.what) refl refl refl;
+      forward = further items w i line l (slice_get_within items w.place i at) (is_rule line.item.what) (is_rule i.what) (is_quick i.what) refl refl refl;
     }
 visit_by tables packet items w i line (Some k) count first at l d s t h =
     let m = matches_item tables packet in
     let same = is_left_with tables packet in
     let q = skip_of line.skips k in
-    let e = subst (λ f. holds_at tables packet k f ≡ false) l.asked t.answer in
+    let e = subst (λ (x : Item). holds_at tables packet k (filter_of x.what) ≡ false) l.item t.answer in
     let on = skip-on tables packet k items w.stop_depth w.place q i (s i at k) at d e in
-    let counts = skip-counts tables packet k items w.stop_depth w.place q i (s i at k) at d e (sym (t.first ∙ ap (failing_at tables packet) l.asked)) in
+    let counts = skip-counts tables packet k items w.stop_depth w.place q i (s i at k) at d e (sym (t.first ∙ ap (λ (x : Item). failing_at tables packet (filter_of x.what)) l.item)) in
     record { left = left-skip same m items w q count first on counts h; forward = on.forward }
 
 pub visit : (tables : List (List Entry)) (packet : Header) (items : List Item) (lines : List Line) (w w' : Walk)
     (tested line : Line) (failed : Option Parameter) (count count' first : ℕ)
     → AreLines items lines → slice_get lines w.place ≡ Some tested → slice_get lines w.place ≡ Some line
-    → w.stop_depth ≤ tested.depth → Tells tables packet line failed → w' ≡ walk_after w line failed
+    → w.stop_depth ≤ tested.item.depth → Tells tables packet line failed → w' ≡ walk_after w line failed
     → count' ≡ count + 1 → IsLeft (is_left_with tables packet) (matches_item tables packet) items w count first
     → IsVisit (is_left_with tables packet) (matches_item tables packet) items w w' count' first
 visit tables packet items lines w w' tested line failed count count' first a there at deep t ew ec h =
     let i = item_of items lines w.place line a at in
-    let d : w.stop_depth ≤ line.depth = subst (λ (l : Line). w.stop_depth ≤ l.depth) (some_same (sym there ∙ at)) deep in
-    rw (ew, ec) (visit_by tables packet items w i.item line failed count first i.at i.is (omega (arith, d, i.is.depth)) (a.skips w.place line (omega arith) at) t h)
+    let d : w.stop_depth ≤ line.item.depth = subst (λ (l : Line). w.stop_depth ≤ l.item.depth) (some_same (sym there ∙ at)) deep in
+    rw (ew, ec) (visit_by tables packet items w i.item line failed count first i.at i.is (omega (arith, d, depth_of i.is)) (a.skips w.place line (omega arith) at) t h)
 
 -- ---- the end
 
 -- where the walk ends: behind the last line, or at an item that is not deep enough
 abbrev pub IsEnd : List Line → Walk → Type 0
-IsEnd lines w = (length lines ≤ w.place) ⊎ ((line : Line) × (slice_get lines w.place ≡ Some line) × (line.depth < w.stop_depth))
+IsEnd lines w = (length lines ≤ w.place) ⊎ ((line : Line) × (slice_get lines w.place ≡ Some line) × (line.item.depth < w.stop_depth))
 
 nothing_left : (m : Item → Bool) (items : List Item) (lines : List Line) (w : Walk) → AreLines items lines → IsEnd lines w
     → walked m w.stop_depth (rest_of m items w.place) ≡ []
@@ -239,7 +239,7 @@ nothing_left m items lines w a (inl past) = ap (walked m w.stop_depth)
 nothing_left m items lines w a (inr k) =
     let i = item_of items lines w.place k.0 a k.1 in
     ap (walked m w.stop_depth) (rest-at m items w.place i.item i.at)
-    ∙ walked-less m w.stop_depth _ _ (omega (arith, k.2, i.is.depth))
+    ∙ walked-less m w.stop_depth _ _ (omega (arith, k.2, depth_of i.is))
 
 pub walk_end : {tables : List (List Entry)} {packet : Header} {items : List Item} {lines : List Line} {w : Walk} {count first : ℕ}
     → AreLines items lines → IsEnd lines w → IsLeft (is_left_with tables packet) (matches_item tables packet) items w count first

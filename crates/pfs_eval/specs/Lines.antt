@@ -1,10 +1,9 @@
--- What a walk over items reads of each of them.
-use Rattle.std.specs.Prelude.{ℕ, suc, zero, ◌≡◌, ◌≤◌, ◌+◌, ◌&&◌, max, if◌then◌else◌, Option, Some, None, List, [], ◌∷◌, length, slice_get}
+-- Items, and what a walk over them reads of each.
+use Rattle.std.specs.Prelude.{ℕ, suc, zero, ◌≡◌, ◌≤◌, ◌+◌, ◌&&◌, max, if◌then◌else◌, Option, Some, None, List, [], ◌∷◌, length, map, slice_get}
 use Rattle.pfs_conf_values.specs.Depths.{is_rule}
 use Rattle.pfs_conf_values.specs.Order.{IsPreorder}
 use Rattle.pfs_conf_values.specs.declared.items.Item.{Item}
 use Rattle.pfs_conf_values.specs.declared.items.ItemKind.{ItemKind}
-use Rattle.pfs_eval.specs.Matching.{filter_of}
 use Rattle.pfs_eval.specs.Skips.{AreSkipsOf, skip_of}
 use Rattle.pfs_eval.specs.Verdict.{enclosing, is_quick}
 use Rattle.pfs_eval.specs.declared.comparing.Parameter.{Parameter}
@@ -29,11 +28,13 @@ next_place items p what = if is_rule what && is_quick what then length items els
 
 -- the line of the item i at p, but for its skips
 pub record IsLine (items : List Item) (p : ℕ) (i : Item) (line : Line) : Type 0 where
-  pub asked : line.asked.filter ≡ filter_of i.what
+  pub item : line.item ≡ i
   pub next : line.next ≡ next_place items p i.what
-  pub depth : line.depth ≡ i.depth
   pub stop : line.stop_depth ≡ stop_depth_of (enclosing i.depth (back p [] items))
-  pub rule : line.is_rule ≡ is_rule i.what
+
+-- the items of lines
+abbrev pub items_of : List Line → List Item
+items_of lines = map (λ (l : Line). l.item) lines
 
 -- each of these lines is that of its item
 abbrev pub EachLine : List Item → List Line → Type 0
@@ -55,6 +56,6 @@ AreLines items lines = AreLinesFrom 0 items lines
 abbrev pub walk_after : Walk → Line → Option Parameter → Walk
 walk_after w line (Some k) = record { place = skip_of line.skips k; stop_depth = w.stop_depth; found = w.found }
 walk_after w line None =
-    if line.is_rule
+    if is_rule line.item.what
     then record { place = line.next; stop_depth = max w.stop_depth line.stop_depth; found = Some w.place }
     else record { place = line.next; stop_depth = w.stop_depth; found = w.found }

@@ -2,37 +2,36 @@
 
 ghost use Rattle.std.specs.Prelude.{◌≡◌, ◌+◌, ◌-◌, ◌≤◌, ◌<◌, ◌^◌, All, IfOk, IfSome, length, option_map};
 ghost use Rattle.pfs_conf_values.specs.Order.{IsPreorder};
-ghost use Rattle.pfs_conf_values.specs.declared.items.Item.{Item};
 ghost use Rattle.pfs_eval.specs.Matching.{matches_item};
 ghost use Rattle.pfs_eval.specs.Verdict.{IsRuleAt, cut, verdict};
 ghost use Rattle.pfs_eval.specs.Visits.{visit_bound, visit_floor, visits_of};
 
-use crate::lines::{Line, item_at, lines};
+use crate::comparing::failing;
+use crate::lines::{Line, lines};
 use crate::tables::Tables;
 use crate::walks::Walk;
 use pfs_addr_values::{Meter, NoMemory, Packet};
-use pfs_conf_values::{Config, Item, RuleNo};
-use std::alloc::{AllocError, Global};
+use pfs_conf_values::{Config, RuleNo};
+use std::alloc::Global;
 use std::marker::Model;
 
 /// The rules and anchors of a configuration, made ready for evaluation. Clauses see the list of its items.
 /// (pf.conf(5), PACKET FILTERING and ANCHORS)
 #[derive(Drop)]
 pub struct Book {
-    items: Vec<Item>,
     lines: Vec<Line>,
 }
 
 impl Model for Book {
     ghost use Rattle.std.specs.Prelude.{List};
     ghost use Rattle.pfs_conf_values.specs.declared.items.Item.{Item};
-    ghost use Rattle.pfs_eval.specs.Lines.{AreLines};
+    ghost use Rattle.pfs_eval.specs.Lines.{AreLines, items_of};
 
     ghost Value = { List Item };
 
-    ghost view = { λ b. b.items.items };
+    ghost view = { λ b. items_of b.lines.items };
 
-    ghost invariant = { λ b. AreLines b.items.items b.lines.items };
+    ghost invariant = { λ b. AreLines (items_of b.lines.items) b.lines.items };
 }
 
 impl Book {
@@ -41,7 +40,6 @@ impl Book {
         ensures { IfOk result (λ b. b ≡ config.now.items) }
     {
         Ok(Book {
-            items: items(alloc, config)?,
             lines: lines(alloc, config)?,
         })
     }
@@ -85,10 +83,10 @@ impl Book {
             found: None,
         };
         while (walk.place as usize) < lines.len()
-            && walk.stop_depth <= lines[walk.place as usize].depth
+            && walk.stop_depth <= lines[walk.place as usize].item.depth
         {
             let line = &lines[walk.place as usize];
-            let failed = line.asked.failing(tables, packet, meter);
+            let failed = failing(&line.item.what, tables, packet, meter);
             walk = walk.on(line, failed);
         }
         walk.found
@@ -102,16 +100,4 @@ fn rule_no(found: Option<u32>) -> Option<RuleNo>
         Some(place) => Some(RuleNo(place)),
         None => None,
     }
-}
-
-/// The items of a configuration.
-fn items(alloc: Global, config: &Config) -> Result<Vec<Item>, AllocError>
-    ensures { IfOk result (λ v. v.items ≡ config.now.items) }
-{
-    let count = config.item_count();
-    let mut items = Vec::with_capacity(alloc, count as usize)?;
-    for place in 0..count {
-        items.extend_from_slice(&[*item_at(config, place)])?;
-    }
-    Ok(items)
 }

@@ -1,4 +1,4 @@
-//! What an item asks of packets, and the one way to compare it with a packet, which is counted as a visit.
+//! What items ask of packets, and the one way to compare an item with a packet, which is counted as a visit.
 
 ghost use Rattle.std.specs.Prelude.{◌≡◌, ◌+◌, ◌-◌, ◌<◌, ◌^◌, ◌↔◌, IsTrue, MatchOption, false, true};
 ghost use Rattle.pfs_eval.specs.Matching.{common_flags, dir_holds, family_holds, filter_holds, filter_of, flags_hold, host_holds, interface_holds, ports_hold, prefix_holds, proto_holds, same_flags, turned_if};
@@ -31,52 +31,48 @@ pub enum Parameter {
     Flags,
 }
 
-/// What an item asks of packets.
-#[derive(Clone, Copy)]
-pub struct Asked {
-    filter: Filter,
+/// Visits an item: compares what it asks with a packet. The answer is the first parameter that does not hold of the packet, or
+/// `None` where each that is given holds, so that the item matches. (pf.conf(5), PARAMETERS)
+pub fn failing(
+    what: &ItemKind,
+    tables: &Tables,
+    packet: &Packet,
+    visits: &mut Meter,
+) -> Option<Parameter>
+    requires { visits.old < 2 ^ 64 - 1 }
+    ensures answer { MatchOption result (filter_holds tables.now.entries packet.now (filter_of what.now) ≡ true) (λ k. holds_at tables.now.entries packet.now k (filter_of what.now) ≡ false) }
+    ensures first { result ≡ failing_at tables.now.entries packet.now (filter_of what.now) }
+    ensures visit { visits.new ≡ visits.old + 1 }
+{
+    visits.tick();
+    first_failing(tables, packet, filter_of(what))
 }
 
-impl Asked {
-    /// What this rule or anchor asks.
-    pub fn of(what: &ItemKind) -> Asked
-        ensures { result.filter ≡ filter_of what.now }
-    {
-        let filter = match what {
-            ItemKind::Rule(rule) => rule.filter,
-            ItemKind::Anchor(anchor) => anchor.filter,
-        };
-        Asked { filter }
+/// Whether two items ask the same at a parameter: it is written the same in both, negation included.
+pub fn ask_same(one: &ItemKind, two: &ItemKind, parameter: Parameter) -> bool
+    ensures { IsTrue result ↔ IsSame parameter (filter_of one.now) (filter_of two.now) }
+{
+    let (one, two) = (filter_of(one), filter_of(two));
+    match parameter {
+        Parameter::Interface => one.on == two.on,
+        Parameter::Direction => one.dir == two.dir,
+        Parameter::Family => one.family == two.family,
+        Parameter::Protocol => one.proto == two.proto,
+        Parameter::SourceHost => one.from.host == two.from.host,
+        Parameter::DestinationHost => one.to.host == two.to.host,
+        Parameter::SourcePort => one.from.ports == two.from.ports,
+        Parameter::DestinationPort => one.to.ports == two.to.ports,
+        Parameter::Flags => same_test(one.flags, two.flags),
     }
+}
 
-    /// Visits: compares what is asked with a packet. The answer is the first parameter that does not hold of the packet, or
-    /// `None` where each that is given holds, so that the item matches. (pf.conf(5), PARAMETERS)
-    pub fn failing(&self, tables: &Tables, packet: &Packet, visits: &mut Meter) -> Option<Parameter>
-        requires { visits.old < 2 ^ 64 - 1 }
-        ensures answer { MatchOption result (filter_holds tables.now.entries packet.now self.now.filter ≡ true) (λ k. holds_at tables.now.entries packet.now k self.now.filter ≡ false) }
-        ensures first { result ≡ failing_at tables.now.entries packet.now self.now.filter }
-        ensures visit { visits.new ≡ visits.old + 1 }
-    {
-        visits.tick();
-        first_failing(tables, packet, &self.filter)
-    }
-
-    /// Whether two items ask the same at a parameter: it is written the same in both, negation included.
-    pub fn is_same(&self, other: &Asked, parameter: Parameter) -> bool
-        ensures { IsTrue result ↔ IsSame parameter self.now.filter other.now.filter }
-    {
-        let (one, two) = (&self.filter, &other.filter);
-        match parameter {
-            Parameter::Interface => one.on == two.on,
-            Parameter::Direction => one.dir == two.dir,
-            Parameter::Family => one.family == two.family,
-            Parameter::Protocol => one.proto == two.proto,
-            Parameter::SourceHost => one.from.host == two.from.host,
-            Parameter::DestinationHost => one.to.host == two.to.host,
-            Parameter::SourcePort => one.from.ports == two.from.ports,
-            Parameter::DestinationPort => one.to.ports == two.to.ports,
-            Parameter::Flags => same_test(one.flags, two.flags),
-        }
+/// What this rule or anchor asks.
+fn filter_of(what: &ItemKind) -> &Filter
+    ensures { result.now ≡ filter_of what.now }
+{
+    match what {
+        ItemKind::Rule(rule) => &rule.filter,
+        ItemKind::Anchor(anchor) => &anchor.filter,
     }
 }
 

@@ -1,4 +1,4 @@
-//! What a walk reads of each item of a book.
+//! The items of a book, and what a walk reads of each.
 
 ghost use Rattle.std.specs.Prelude.{◌≡◌, ◌+◌, ◌<◌, ◌≤◌, ℕ, [], IfOk, Some, drop, if◌then◌else◌, length, max, nat_le, slice_get, slice_index};
 ghost use Rattle.pfs_conf_values.specs.Invariants.{IsConfig};
@@ -7,27 +7,24 @@ ghost use Rattle.pfs_eval.specs.Lines.{AreLines, AreLinesFrom, IsLine, back, nex
 ghost use Rattle.pfs_eval.specs.Skips.{AreSkipsOf, body_length};
 ghost use Rattle.pfs_eval.specs.Verdict.{enclosing, is_quick};
 
-use crate::comparing::Asked;
 use crate::skips::Skips;
 use pfs_conf_values::{Config, Item, ItemKind};
 use std::alloc::{AllocError, Global};
 
-/// What a walk reads of an item: what is compared, and where the walk goes on.
+/// An item, and where a walk goes on from it.
+///
+/// The fields lie in memory as they stand here: what a walk reads most comes first.
 #[derive(Clone, Copy)]
 pub struct Line {
-    /// What the item asks of packets.
-    pub asked: Asked,
-    /// Where a walk goes on if one of its parameters fails.
+    /// Where a walk goes on if one of the item's parameters fails.
     pub skips: Skips,
     /// Where a walk goes on if the item matches: at the next item, or behind the last one where it is a quick rule.
     pub next: u32,
-    /// The number of anchors around the item.
-    pub depth: u8,
     /// If the item is a rule and matches, the walk ends at the first item of lesser depth than this: one more than the
     /// depth of the innermost quick anchor around the item, or 0 if none is quick.
     pub stop_depth: u8,
-    /// Whether the item is a rule, and no anchor.
-    pub is_rule: bool,
+    /// The item.
+    pub item: Item,
 }
 
 /// The lines of a configuration's items.
@@ -65,12 +62,10 @@ fn short_line(config: &Config, place: u32, item: &Item, stop_depth: u8) -> Line
 {
     let next = next_place(config, place, &item.what);
     Line {
-        asked: Asked::of(&item.what),
         skips: Skips::all_to(body_end(config, place + 1, item.depth)),
         next,
-        depth: item.depth,
         stop_depth,
-        is_rule: is_rule(&item.what),
+        item: *item,
     }
 }
 
@@ -91,11 +86,11 @@ fn skips_at(config: &Config, lines: &[Line], place: u32) -> Skips
     ensures { AreSkipsOf config.now.items place result }
 {
     let line = &lines[place as usize];
-    let behind = body_end(config, place + 1, line.depth);
+    let behind = body_end(config, place + 1, line.item.depth);
     match lines.get(behind as usize) {
         Some(next) => {
-            if next.depth == line.depth {
-                Skips::joined(&line.asked, &next.asked, behind, &next.skips)
+            if next.item.depth == line.item.depth {
+                Skips::joined(&line.item.what, &next.item.what, behind, &next.skips)
             } else {
                 Skips::all_to(behind)
             }
@@ -154,7 +149,7 @@ fn inside(item: &Item, stop_depth: u8) -> u8
 }
 
 /// Whether this is a rule, and no anchor.
-fn is_rule(what: &ItemKind) -> bool
+pub fn is_rule(what: &ItemKind) -> bool
     ensures { result ≡ is_rule what.now }
 {
     matches!(what, ItemKind::Rule(_))

@@ -1,10 +1,12 @@
 //! Skip steps: for each parameter, where a walk goes on from an item that fails on it.
 
 ghost use Rattle.std.specs.Prelude.{◌≡◌};
+ghost use Rattle.pfs_eval.specs.Matching.{filter_of};
 ghost use Rattle.pfs_eval.specs.Skips.{IsJoined};
 ghost use Rattle.pfs_eval.specs.declared.comparing.Parameter.{Parameter};
 
-use crate::comparing::{Asked, Parameter};
+use crate::comparing::{Parameter, ask_same};
+use pfs_conf_values::ItemKind;
 
 /// For each parameter, the place of the next item of the same body that asks another thing there, or the end of the body:
 /// where a walk goes on from an item that fails on it. (pf's skip steps)
@@ -69,8 +71,8 @@ impl Skips {
 
     /// The skips of an item, from those of the next item of its body, which stands at `place`: as far as these where both
     /// ask the same, and to that place where they do not.
-    pub fn joined(item: &Asked, next: &Asked, place: u32, further: &Skips) -> Skips
-        ensures { (k : Parameter) → IsJoined k item.now.filter next.now.filter place (skip_of further.now k) (skip_of result k) }
+    pub fn joined(item: &ItemKind, next: &ItemKind, place: u32, further: &Skips) -> Skips
+        ensures { (k : Parameter) → IsJoined k (filter_of item.now) (filter_of next.now) place (skip_of further.now k) (skip_of result k) }
     {
         Skips {
             interface: further.past(item, next, place, Parameter::Interface),
@@ -86,10 +88,10 @@ impl Skips {
     }
 
     /// The skip at one parameter of an item, where these are the skips of the next one, which stands at `place`.
-    fn past(&self, item: &Asked, next: &Asked, place: u32, parameter: Parameter) -> u32
-        ensures { IsJoined parameter item.now.filter next.now.filter place (skip_of self.now parameter) result }
+    fn past(&self, item: &ItemKind, next: &ItemKind, place: u32, parameter: Parameter) -> u32
+        ensures { IsJoined parameter (filter_of item.now) (filter_of next.now) place (skip_of self.now parameter) result }
     {
-        if item.is_same(next, parameter) {
+        if ask_same(item, next, parameter) {
             self.to(parameter)
         } else {
             place

@@ -3,7 +3,7 @@
 ghost use Rattle.std.specs.Prelude.{◌≡◌};
 
 use crate::comparing::Parameter;
-use crate::lines::Line;
+use crate::lines::{Line, is_rule};
 
 /// Where a walk stands.
 #[derive(Clone, Copy)]
@@ -29,7 +29,7 @@ impl Walk {
                 ..self
             };
         }
-        if !line.is_rule {
+        if !is_rule(&line.item.what) {
             return Walk {
                 place: line.next,
                 ..self

@@ -4,6 +4,7 @@ ghost use Rattle.std.specs.Prelude.{◌≡◌, ℕ, Bool, false};
 ghost use Rattle.pfs_addr_values.specs.declared.flag_sets.Flags.{Flags};
 ghost use Rattle.pfs_conf_values.specs.declared.timeouts.TimeoutName.{TimeoutName};
 ghost use Rattle.pfs_track.specs.Phases.{NeverFalls, CompletesOnce, StaysComplete};
+ghost use Rattle.pfs_track.specs.declared.datagrams.Stage.{Stage};
 
 use crate::datagrams::{DatagramPhase, Stage};
 use crate::tcp_phases::TcpPhase;
@@ -122,61 +123,50 @@ impl Phases for Tcp {
     ghost stays_complete = { tcp_step-complete };
 }
 
-impl Phases for Udp {
-    type Phase = DatagramPhase;
+/// A protocol without a handshake: its phases are those of datagrams, and its timeouts its own.
+pub(crate) trait Datagrams {
+    // the timeout of each stage
+    ghost timeout_at: { Stage → TimeoutName };
 
-    ghost use Rattle.std.specs.Prelude.{false, refl};
-    ghost use Rattle.std.proofs.lemmas.Bool.{false≢true};
-    ghost use Rattle.pfs_track.specs.Datagrams.{first_datagram, udp_step, udp_slot};
-    ghost use Rattle.pfs_track.specs.PhaseLaws.{traffic_number, udp_step-maker, udp_step-other};
+    /// The timeout that holds at a stage.
+    fn timeout_at(stage: Stage) -> TimeoutName
+        ensures { result ≡ timeout_at stage };
+}
 
-    ghost first = { first_datagram };
+impl Datagrams for Udp {
+    ghost use Rattle.pfs_track.specs.Datagrams.{udp_slot};
 
-    ghost after = { λ p forward flags. udp_step p forward };
+    ghost timeout_at = { udp_slot };
 
-    ghost completes = { λ p forward flags. false };
-
-    ghost timeout = { λ p. udp_slot p.stage };
-
-    ghost maker_rank = { λ p. traffic_number p.maker };
-
-    ghost other_rank = { λ p. traffic_number p.other };
-
-    ghost is_complete = { λ p. false };
-
-    fn first() -> DatagramPhase {
-        DatagramPhase::new()
-    }
-
-    fn step(phase: DatagramPhase, forward: bool, _flags: Flags) -> (DatagramPhase, bool) {
-        (phase.step(forward), false)
-    }
-
-    fn slot(phase: DatagramPhase) -> TimeoutName {
-        match phase.stage() {
+    fn timeout_at(stage: Stage) -> TimeoutName {
+        match stage {
             Stage::First => TimeoutName::UdpFirst,
             Stage::Single => TimeoutName::UdpSingle,
             Stage::Multiple => TimeoutName::UdpMultiple,
         }
     }
-
-    ghost maker_never_falls = { λ p forward flags. udp_step-maker p forward };
-
-    ghost other_never_falls = { λ p forward flags. udp_step-other p forward };
-
-    ghost begins_incomplete = { refl };
-
-    ghost completes_once = { λ p forward flags h. absurd (false≢true h) };
-
-    ghost stays_complete = { λ p forward flags h. h };
 }
 
-impl Phases for Other {
+impl Datagrams for Other {
+    ghost use Rattle.pfs_track.specs.Datagrams.{other_slot};
+
+    ghost timeout_at = { other_slot };
+
+    fn timeout_at(stage: Stage) -> TimeoutName {
+        match stage {
+            Stage::First => TimeoutName::OtherFirst,
+            Stage::Single => TimeoutName::OtherSingle,
+            Stage::Multiple => TimeoutName::OtherMultiple,
+        }
+    }
+}
+
+impl<P: Datagrams> Phases for P {
     type Phase = DatagramPhase;
 
     ghost use Rattle.std.specs.Prelude.{false, refl};
     ghost use Rattle.std.proofs.lemmas.Bool.{false≢true};
-    ghost use Rattle.pfs_track.specs.Datagrams.{first_datagram, udp_step, other_slot};
+    ghost use Rattle.pfs_track.specs.Datagrams.{first_datagram, udp_step};
     ghost use Rattle.pfs_track.specs.PhaseLaws.{traffic_number, udp_step-maker, udp_step-other};
 
     ghost first = { first_datagram };
@@ -185,7 +175,7 @@ impl Phases for Other {
 
     ghost completes = { λ p forward flags. false };
 
-    ghost timeout = { λ p. other_slot p.stage };
+    ghost timeout = { λ p. P.timeout_at p.stage };
 
     ghost maker_rank = { λ p. traffic_number p.maker };
 
@@ -202,11 +192,7 @@ impl Phases for Other {
     }
 
     fn slot(phase: DatagramPhase) -> TimeoutName {
-        match phase.stage() {
-            Stage::First => TimeoutName::OtherFirst,
-            Stage::Single => TimeoutName::OtherSingle,
-            Stage::Multiple => TimeoutName::OtherMultiple,
-        }
+        P::timeout_at(phase.stage())
     }
 
     ghost maker_never_falls = { λ p forward flags. udp_step-maker p forward };

@@ -4,9 +4,7 @@ use Rattle.pfs_eval.proofs.lines.short_line.Goals as goal
 
 pub returns : goal.returns
 returns c = record {
-  asked = c.of.ensures;
+  item = refl;
   next = c.next_place-next.ensures;
-  depth = refl;
   stop = c.requires.stop;
-  rule = c.is_rule.ensures;
 }

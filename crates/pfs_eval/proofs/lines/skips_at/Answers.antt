@@ -21,7 +21,7 @@ returns-else-next-line c =
     let at = looked_up lines c.body_end-behind.result c.in-Some.next.now (c.in-Some.ensures.lookup.0, c.in-Some.ensures.lookup.1) in
     skips-alone c.args.config.now.items lines c.args.place c.body_end-behind.result c.index-lines-place.result c.all_to.result c.requires.lines
     (slice_get_read lines _ c.args.place _ refl within c.index-lines-place.is) c.body_end-behind.ensures.value
-    (λ next there d. c.if-next-line.false (ap (λ (l : Line). l.depth) (some_same (sym at ∙ there)) ∙ d)) c.all_to.ensures
+    (λ next there d. c.if-next-line.false (ap (λ (l : Line). l.item.depth) (some_same (sym at ∙ there)) ∙ d)) c.all_to.ensures
 
 pub returns-in-None : goal.returns-in-None
 returns-in-None c =
