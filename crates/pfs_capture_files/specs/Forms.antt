@@ -33,7 +33,7 @@ what_begins head =
     if length head == 0 then Err fault.Empty
     else (if nat_lt (length head) 12 then Err fault.NotCapture else start_of_magic (u32_in Big head 0))
 
--- what one turn of reading finds: the form as it is known afterwards, the item, the bytes in which a frame stands, and what is left
+-- what one turn of reading finds: the form as it is known afterwards, the item, the bytes in which a frame is, and what is left
 pub record Turn : Type 0 where
   pub form : Form
   pub item : Item
@@ -69,7 +69,7 @@ abbrev pub turn_of : Form → List ℕ → Result Turn FileFault
 turn_of (form.Classic order link) xs = record_turn order link xs
 turn_of (form.Blocks known) xs = block_turn known xs
 
--- a call answers and leaves what the turn finds, unless a read failed or memory was refused
+-- a call returns and leaves what the turn finds, unless a read failed or memory was refused
 abbrev pub ReadsItem : Result Turn FileFault → Result Item FileFault → Form → List ℕ → Option (List ℕ) → Type 0
 ReadsItem turn (Ok found) after held left =
     (ys : List ℕ) × (left ≡ Some ys) × (turn ≡ Ok (record { form = after; item = found; held = held; left = ys }))
@@ -79,7 +79,7 @@ ReadsItem turn (Err f) after held left = is_outside f ≡ false → turn ≡ Err
 abbrev pub classic_form : Order → List ℕ → Result Form FileFault
 classic_form order rest = if nat_lt (length rest) 12 then Err fault.Cut else Ok (form.Classic order (u32_in order rest 8 % 65536))
 
--- how a pcap file begins behind its first twelve bytes, and what is left
+-- how a pcap file goes on after its first twelve bytes, and what is left
 abbrev pub classic_start : Order → List ℕ → Result (Form × List ℕ) FileFault
 classic_start order xs = then_known (classic_form order (take 12 xs)) (λ f. Ok (f, drop 12 xs))
 
@@ -88,7 +88,7 @@ abbrev pub blocks_start : List ℕ → List ℕ → Result (Form × List ℕ) Fi
 blocks_start first xs =
     then_known (block_head Big first) (λ head. then_known (rest_turn (record { order = head.order; interfaces = [] }) head xs) (λ t. Ok (t.form, t.left)))
 
--- how a file begins behind its first twelve bytes
+-- how a file goes on after its first twelve bytes
 abbrev pub start_at : Start → List ℕ → Result (Form × List ℕ) FileFault
 start_at (start.Classic order) xs = classic_start order (drop 12 xs)
 start_at start.Blocks xs = blocks_start (take 12 xs) (drop 12 xs)
@@ -97,7 +97,7 @@ start_at start.Blocks xs = blocks_start (take 12 xs) (drop 12 xs)
 abbrev pub start_of : List ℕ → Result (Form × List ℕ) FileFault
 start_of xs = then_known (what_begins (take 12 xs)) (λ s. start_at s xs)
 
--- a call answers and leaves how a capture begins, unless a read failed or memory was refused
+-- a call returns and leaves how a capture begins, unless a read failed or memory was refused
 abbrev pub Begins : Result (Form × List ℕ) FileFault → Result Form FileFault → Option (List ℕ) → Type 0
 Begins begin (Ok f) left = (ys : List ℕ) × (left ≡ Some ys) × (begin ≡ Ok (f, ys))
 Begins begin (Err f) left = is_outside f ≡ false → begin ≡ Err f

@@ -173,7 +173,7 @@ impl Section {
     }
 }
 
-/// How many bytes stand in front of a block's last length.
+/// How many bytes are in front of a block's last length.
 fn front(rest: &[u8]) -> usize
     ensures is { result ≡ length rest.now - 4 }
     ensures within { result ≤ length rest.now }

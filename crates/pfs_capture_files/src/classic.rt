@@ -7,7 +7,7 @@ use crate::faults::FileFault;
 use crate::frames::{Frame, MOST_OF_FRAME, Moment};
 use crate::orders::{Order, read_u32};
 
-/// The frame that a record's header tells, whose bytes follow it.
+/// The frame that a record's header describes, whose bytes follow it.
 pub fn record_frame(order: Order, link: u16, head: &[u8]) -> Result<Frame, FileFault>
     ensures is { result ≡ record_frame order link head.now }
     ensures few { IfOk result (λ f. f.count ≤ 262144) }

@@ -5,7 +5,7 @@ ghost use Rattle.pfs_capture_rows.specs.FlagLetters.{row_letter, row_letters};
 
 use pfs_addr_values::{Flags, NoMemory};
 
-/// Appends the letters of flags, in the order FSRPAUEW. `NoMemory` where memory was refused; some of them may stand there then.
+/// Appends the letters of flags, in the order FSRPAUEW. `NoMemory` where memory was refused; some may have been appended then.
 pub fn push_letters(out: &mut Vec<u8>, flags: Flags) -> Result<(), NoMemory>
     ensures { OnOk result (out.new.items ≡ out.old.items ++ row_letters flags) }
 {

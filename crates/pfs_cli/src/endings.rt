@@ -1,4 +1,4 @@
-//! How a call over a feed ends: the fault that is told, and the flush of what was written whole.
+//! How a call over a feed ends: the fault that is reported, and the flush of what was written whole.
 
 ghost use Rattle.std.specs.Prelude.{◌≡◌, ◌≢◌, Err, ◌<◌, ℕ, List};
 ghost use Rattle.std.specs.Io.KnownBytes.{Keeps};
@@ -49,7 +49,7 @@ pub(crate) fn fault_at<R>(stop: Stop, feed: &Feed<R>) -> ReplayFault
     }
 }
 
-/// Flushes a report that is written whole, or tells why it is not.
+/// Flushes a report that is written whole, or returns why it is not.
 pub(crate) fn finish<R, W: Write>(
     outcome: Result<(), Stop>,
     feed: &Feed<R>,

@@ -34,7 +34,7 @@ note_text (outcome.Kill r limits overload killed) = codes " overload=" ++ (overl
 note_text (outcome.Expire removed) = codes " removed=" ++ decimal removed
 note_text _ = []
 
--- before a rule's number stands `@`, and `-` where there is no rule
+-- `@` comes before a rule's number; `-` is written where there is no rule
 abbrev pub rule_sign : Option RuleNo → List ℕ
 rule_sign (Some r) = codes "@"
 rule_sign None = codes "-"
@@ -44,6 +44,6 @@ abbrev pub number_text : Option RuleNo → List ℕ
 number_text (Some r) = decimal r.0
 number_text None = []
 
--- what stands between the row of a line and the number of its rule
+-- what is between the row of a line and the number of its rule
 abbrev pub lead_of : Outcome → List ℕ
 lead_of o = codes " " ++ (word_of o ++ (codes " " ++ rule_sign (rule_by o)))

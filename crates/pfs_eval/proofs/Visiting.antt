@@ -1,4 +1,4 @@
--- What a walk has left behind each visit.
+-- What a walk has left after each visit.
 use Rattle.std.proofs.Common.{◌≡◌, ℕ, ◌+◌, ◌<◌, ◌≤◌, max, Bool, true, false, ◌&&◌, cond, List, [], ◌∷◌, length, filter, drop, slice_get, Option, Some, None, MatchOption, refl, ap, sym, ◌∙◌, arith, subst, ◌⊎◌, inl, inr}
 use Rattle.std.proofs.lemmas.Option.{slice_get_within}
 use Rattle.std.proofs.lemmas.Bool.{cond-true, cond-false}
@@ -164,7 +164,7 @@ pub record IsVisit (m : Item → Bool) (items : List Item) (w w' : Walk) (count 
   pub left : IsLeft m items w' count first
   pub forward : w.place < w'.place
 
--- what the comparison of what an item asks with a packet tells
+-- what the comparison of what an item asks with a packet gives
 abbrev pub Tells : List (List Entry) → Header → Line → Option Parameter → Type 0
 Tells tables packet line failed =
     MatchOption failed (filter_holds tables packet line.asked.filter ≡ true)
@@ -206,7 +206,7 @@ visit tables packet items lines w w' tested line failed count count' first a the
 
 -- ---- the end
 
--- where the walk ends: behind the last line, or at an item that is not deep enough
+-- where the walk ends: after the last line, or at an item that is not deep enough
 abbrev pub IsEnd : List Line → Walk → Type 0
 IsEnd lines w = (length lines ≤ w.place) ⊎ ((line : Line) × (slice_get lines w.place ≡ Some line) × (line.depth < w.stop_depth))
 

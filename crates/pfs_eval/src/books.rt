@@ -50,7 +50,7 @@ impl Book {
     /// evaluation, and a quick anchor ends it where it is left if a rule inside it matched. The items of an anchor are
     /// compared only with packets that match it. Without a rule, the packet passes without a state.
     ///
-    /// An item that fails on a parameter is left behind together with those after it that ask the same there.
+    /// An item that fails on a parameter is passed over together with those after it that ask the same there.
     ///
     /// The meter rises by one for each item that is compared with the packet: at most by the number of main items and of
     /// the direct items of each anchor that matches before the end, at least by the number of items that match before it.

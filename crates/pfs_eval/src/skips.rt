@@ -67,7 +67,7 @@ impl Skips {
         }
     }
 
-    /// The skips of an item, from those of the next item of its body, which stands at `place`: as far as these where both
+    /// The skips of an item, from those of the next item of its body, which is at `place`: as far as these where both
     /// ask the same, and to that place where they do not.
     pub fn joined(item: &Asked, next: &Asked, place: u32, further: &Skips) -> Skips
         ensures { (k : Parameter) → IsJoined k item.now.filter next.now.filter place (skip_of further.now k) (skip_of result k) }
@@ -85,7 +85,7 @@ impl Skips {
         }
     }
 
-    /// The skip at one parameter of an item, where these are the skips of the next one, which stands at `place`.
+    /// The skip at one parameter of an item, where these are the skips of the next one, which is at `place`.
     fn past(&self, item: &Asked, next: &Asked, place: u32, parameter: Parameter) -> u32
         ensures { IsJoined parameter item.now.filter next.now.filter place (skip_of self.now parameter) result }
     {

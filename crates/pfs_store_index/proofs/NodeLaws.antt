@@ -112,7 +112,7 @@ orderly T es k = record {
   distinct = distinct-held T es k.ordered k.placed;
 }
 
--- ---- counts of scopes, which the order alone tells
+-- ---- counts of scopes, which follow from the order alone
 
 abbrev pub in_order : NodeScope → List (ℕ × (NodeScope × Addr)) → ℕ
 in_order s es = length (filter (λ (e : ℕ × (NodeScope × Addr)). same_scope e.1.0 s) es)
@@ -326,7 +326,7 @@ none-rising = tt
 pub orderly-nil : IsOrderly []
 orderly-nil = record { rising = none-rising; distinct = IsDistinct-nil }
 
--- ---- what the calls hand on
+-- ---- what the calls pass on
 
 pub noted-reserved : {S : Type 0} (m m' : IndexMap (NodeScope × Addr) Tally S) (es : List (ℕ × (NodeScope × Addr))) (rules rules' : List ℕ) (global global' : ℕ) → m'.entries ≡ m.entries
     → SameCounts (count_of rules global) (count_of rules' global') → IsNoted (get same_place m) es rules global → IsNoted (get same_place m') es rules' global'

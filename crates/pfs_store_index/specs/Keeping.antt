@@ -54,7 +54,7 @@ place_of_node t = (t.node.scope, t.node.source)
 abbrev pub same_place : NodeScope × Addr → NodeScope × Addr → Bool
 same_place a b = same_scope a.0 b.0 && same_addr a.1 b.1
 
--- the nodes are kept, each node that is found stands in the order, and the counts are those of the scopes
+-- the nodes are kept, each node that is found is in the order, and the counts are those of the scopes
 pub record IsNoted (at : NodeScope × Addr → Option Tally) (es : List (ℕ × (NodeScope × Addr))) (rules : List ℕ) (global : ℕ) : Type 0 where
   pub kept : AreInPlace number_of_node place_of_node at es
   pub found : (place : NodeScope × Addr) (t : Tally) → at place ≡ Some t → lookup (is_at (nat_cmp t.node.number)) es ≡ Some place
