@@ -46,8 +46,8 @@ pub struct Lines {
 /// A packet to an address of `inside` from elsewhere comes in, one from there to elsewhere goes out, on the interface
 /// of this name; a log of pflog(4) has its packets' ways itself. A frame that was seen before the one in front of it
 /// has that one's second. `TraceStop` says why the trace is not whole. Of a faulty capture all is written up to its
-/// fault; where a read, a write or memory fails, only the first part is written. It takes memory for one block of the
-/// capture, and for two rows.
+/// fault; where a read or a write fails or memory is refused, only its first part is written. It takes memory for one
+/// block of the capture, and for two rows.
 pub fn write_trace<R: Read, W: Write, T: Write>(
     alloc: Global,
     inside: &[Prefix],

@@ -31,10 +31,9 @@ enum Start {
 
 /// Reads how a capture begins. `buffer` is for what is read, and what it held is given up.
 ///
-/// It returns `FileFault::Empty`, `FileFault::Gzip` or `FileFault::NotCapture` for a file that is no capture,
-/// `FileFault::Cut` for one that ends too early, `FileFault::Block` or `FileFault::TooLong` for a first block that is
-/// none, `FileFault::Read` where a read failed, and `FileFault::Memory` where memory was refused. (pcap, section 4;
-/// pcapng, section 4.1)
+/// It returns `FileFault::Empty`, `FileFault::Gzip` or `FileFault::NotCapture` for a file that is no capture, `FileFault::Cut`
+/// for one that ends too early, `FileFault::Block` or `FileFault::TooLong` for a first block that is none, `FileFault::Read`
+/// where a read failed, and `FileFault::Memory` where memory was refused. (pcap, section 4; pcapng, section 4.1)
 pub fn read_start<R: Read>(
     alloc: Global,
     reader: &mut R,
@@ -49,13 +48,12 @@ pub fn read_start<R: Read>(
     }
 }
 
-/// Reads the next item of a capture whose form is known. Of a frame, `buffer` holds its bytes afterwards, among others;
-/// what it held is given up.
+/// Reads the next item of a capture whose form is known. Of a frame, `buffer` holds its bytes afterwards, among
+/// others; what it held is given up.
 ///
 /// It returns `FileFault::Cut` where the file ends within the item, `FileFault::TooLong`, `FileFault::Block`,
-/// `FileFault::Interfaces` or `FileFault::Resolution` where the item is none that is read, `FileFault::Read` where a
-/// read failed, and `FileFault::Memory` where memory was refused; then nothing more can be read. (pcap, section 5;
-/// pcapng, section 3.1)
+/// `FileFault::Interfaces` or `FileFault::Resolution` where the item is none that is read, `FileFault::Read` where a read failed,
+/// and `FileFault::Memory` where memory was refused; then nothing more can be read. (pcap, section 5; pcapng, section 3.1)
 pub fn read_item<R: Read>(
     reader: &mut R,
     buffer: &mut Vec<u8>,

@@ -68,9 +68,8 @@ carried_at packet place = carried_by (proto_of (place.kind % 256)) packet place.
 abbrev pub found_at : Layer → List ℕ → Place → Result Carried Reason
 found_at which packet first = then_read (walk_from (length packet) which packet first) (λ place. carried_at packet place)
 
--- where a packet ends that says that it has so many bytes after its first ones, of those that were captured: what a
--- link fills up is none of it. With 0 it says no length, as where a network card cuts it, or where it is a jumbogram
--- (RFC 2675, section 3).
+-- where a packet ends that says that it has so many bytes after its first ones, of those that were captured: what a link fills
+-- up is none of it. With 0 it says no length, as where a network card cuts it, or where it is a jumbogram (RFC 2675, section 3).
 abbrev pub own_length : ℕ → ℕ → ℕ → ℕ
 own_length captured before told = if told == 0 then captured else min captured (before + told)
 

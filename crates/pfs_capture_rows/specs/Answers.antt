@@ -20,8 +20,8 @@ rule_column number = if number == 4294967295 then [] else decimal number
 abbrev pub hex_digit : ℕ → ℕ
 hex_digit n = if nat_lt n 10 then 48 + n else 55 + n
 
--- a letter, a digit, `_`, `-`, `.` or `/` is written as it is, any other byte as `%` and two digits in base 16 (RFC
--- 3986, section 2.1)
+-- a letter, a digit, `_`, `-`, `.` or `/` is written as it is, any other byte as `%` and two digits in
+-- base 16 (RFC 3986, section 2.1)
 abbrev pub anchor_byte : ℕ → List ℕ
 anchor_byte b = if is_name_byte b || (b == 47) then b ∷ [] else 37 ∷ hex_digit (b / 16) ∷ hex_digit (b % 16) ∷ []
 

@@ -17,7 +17,7 @@ use crate::records::Stop;
 use pfs_cli_streams::{Feed, Sink};
 use std::io::Write;
 
-/// Why a call over this feed failed, where no fault of its own is at hand.
+/// Why a call over this feed failed, where it has no fault of its own.
 pub(crate) fn feed_fault<R>(feed: &Feed<R>) -> ReplayFault
     ensures kinds { IsFeedFault result }
     ensures read { result ≡ ReplayFault.Read → 0 < read_failures feed.now }

@@ -21,10 +21,9 @@ use std::io::{Read, Write};
 pub(crate) const FIRST_READ: usize = 8192;
 
 /// Replays the trace under the rules, and writes its report: a line for each record, and a last line with what is held.
-/// Every accepted rules text runs, and a record of every protocol is taken; those of ICMP are skipped. A record
-/// `expire` takes the entries that are old enough out of its table, and its line says how many left. Each line is
-/// written before the next record is read, and the whole is flushed once, at its end. `rules` and `out` are as `new`
-/// gives them.
+/// Every accepted rules text runs, and a record of every protocol is taken; those of ICMP are skipped. A record `expire`
+/// takes the entries that are old enough out of its table, and its line says how many left. Each line is written before
+/// the next record is read, and the whole is flushed once, at its end. `rules` and `out` are as `new` gives them.
 ///
 /// A fault of the rules is reported before any of the trace. Nothing is written before the rules are read to their end
 /// and the trace has been read at least once. Of rules that are too long no more than 1,048,577 bytes are read.

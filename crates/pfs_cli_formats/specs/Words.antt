@@ -28,7 +28,7 @@ rule_by (outcome.Kill r limits overload killed) = Some r
 rule_by outcome.Skip = None
 rule_by (outcome.Expire removed) = None
 
--- a line of killed states goes on with the overload and how many were killed, one of entries that expired with how many left
+-- a line of killed states continues with the overload and how many were killed, one of entries that expired with how many left
 abbrev pub note_text : Outcome → List ℕ
 note_text (outcome.Kill r limits overload killed) = codes " overload=" ++ (overload_word overload ++ (codes " killed=" ++ decimal killed))
 note_text (outcome.Expire removed) = codes " removed=" ++ decimal removed

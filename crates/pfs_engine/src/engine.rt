@@ -172,10 +172,9 @@ impl<S: Store> Engine<S> {
         self.last = Some(now);
     }
 
-    /// Takes a packet at the last moment, whatever its protocol: it is one of a held state, or the rules decide on it.
-    /// Fewer than 1,000,000,000 packets were taken before. `NoMemory` where memory was refused for a new state, or for
-    /// the entry of an overload table; then nothing that is held has changed. (pf.conf(5), STATEFUL FILTERING and
-    /// STATEFUL TRACKING OPTIONS)
+    /// Takes a packet at the last moment, whatever its protocol: it is one of a held state, or the rules decide on it. Fewer
+    /// than 1,000,000,000 packets were taken before. `NoMemory` where memory was refused for a new state, or for the entry of
+    /// an overload table; then nothing that is held has changed. (pf.conf(5), STATEFUL FILTERING and STATEFUL TRACKING OPTIONS)
     pub fn packet(&mut self, packet: &Packet) -> Result<Outcome, NoMemory>
         requires started { IsSome self.old.machine.last }
         requires room { self.old.taken < 1000000000 }
@@ -232,11 +231,10 @@ impl<S: Store> Engine<S> {
         outcome
     }
 
-    /// Takes out of a table, at the last moment, the entries that were added so many seconds before it or earlier;
-    /// those that the rules text says count as added at the first moment. It returns how many left. The table is one of
-    /// the configuration's, and not `const`. It goes through the entries of that table, takes no memory, and is no
-    /// packet: what was taken, and the work of the latest call, stay. (pfctl(8), "-T expire"; which moments count is
-    /// own to this profile)
+    /// Takes out of a table, at the last moment, the entries that were added so many seconds before it or earlier; those
+    /// that the rules text says count as added at the first moment. It returns how many left. The table is one of the
+    /// configuration's, and not `const`. It goes through the entries of that table, takes no memory, and is no packet: what
+    /// was taken, and the work of the latest call, stay. (pfctl(8), "-T expire"; which moments count is own to this profile)
     pub fn expire(&mut self, table: TableNo, seconds: u64) -> u64
         requires started { IsSome self.old.machine.last }
         requires table { MayExpire self.old.config table.0 }
@@ -258,10 +256,9 @@ impl<S: Store> Engine<S> {
     /// Fewer than 1,000,000,000 packets were taken before, and entries are taken out of a table of the configuration's that is
     /// not `const`. The outcome is what `packet` answers, `Skip`, or `Expire` with how many entries `expire` took out.
     ///
-    /// `NoMemory` where memory was refused to a packet that needs it: for a new state, or for the entry of an overload
-    /// table. Then the purges due are done, the engine is at the event's moment, and nothing else has changed. A skip,
-    /// and entries that leave, take no memory. (pf.conf(5), STATEFUL FILTERING and STATEFUL TRACKING OPTIONS; pfctl(8),
-    /// "-T expire")
+    /// `NoMemory` where memory was refused to a packet that needs it: for a new state, or for the entry of an overload table.
+    /// Then the purges due are done, the engine is at the event's moment, and nothing else has changed. A skip, and entries
+    /// that leave, take no memory. (pf.conf(5), STATEFUL FILTERING and STATEFUL TRACKING OPTIONS; pfctl(8), "-T expire")
     #[tactic(auto, unfolding(pfs_engine_machine::specs::Machine::step))]
     pub fn step(&mut self, event: &Event) -> Result<Outcome, NoMemory>
         requires order { ForSome self.old.machine.last (λ m. m ≤ event.now.time) }

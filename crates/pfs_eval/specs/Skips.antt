@@ -13,8 +13,8 @@ use Rattle.pfs_eval.specs.declared.skips.Skips.{Skips}
 abbrev pub body_length : ℕ → List Item → ℕ
 body_length depth items = prefix_len (λ (i : Item). nat_lt depth i.depth) items
 
--- a walk that leaves the item i for its parameter k passes over the item j after it: j is deeper, or it is of the same
--- body and asks the same there
+-- a walk that leaves the item i for its parameter k passes over the item j after it: j is deeper, or it is of the
+-- same body and asks the same there
 abbrev pub IsPassed : Parameter → Item → Item → Type 0
 IsPassed k i j = (i.depth < j.depth) ⊎ ((j.depth ≡ i.depth) × IsSame k (filter_of i.what) (filter_of j.what))
 

@@ -28,8 +28,8 @@ impl Lengths {
         }
     }
 
-    /// The fewest bits, from a number on, that a prefix of this address's family leaves out or left out, or one more
-    /// than the address has bits.
+    /// The fewest bits, from a number on, that a prefix of this address's family leaves out or left out, or one
+    /// more than the address has bits.
     #[inline(always)]
     pub fn next(&self, addr: Addr, from: u8) -> u8
         requires from { from ≤ width_of addr + 1 }

@@ -96,10 +96,9 @@ impl Tables {
         self.tables[table.0 as usize].has_room()
     }
 
-    /// Takes memory for one more entry of a table, unless it fits already or the entries are at their limit. After `Ok`
-    /// the next `add_host` to that table is no error, whatever is called on other tables between, except `expire`:
-    /// after it, a limit that was met may be free again. No entry changes, and no other table's room. `NoMemory` where
-    /// memory was refused.
+    /// Takes memory for one more entry of a table, unless it fits already or the entries are at their limit. After `Ok` the
+    /// next `add_host` to that table is no error, whatever is called on other tables between, except `expire`: after it, a
+    /// limit that was met may be free again. No entry changes, and no other table's room. `NoMemory` where memory was refused.
     pub fn make_room(&mut self, table: TableNo) -> Result<(), NoMemory>
         requires { table.0 < length self.old.entries }
         ensures entries { self.new.entries ≡ self.old.entries }

@@ -58,8 +58,7 @@ pub trait Store {
     ///
     /// `NoMemory` where no limit is met and memory for them was refused; where a limit is met no memory is taken. In
     /// both cases what is held is unchanged. Fewer than 1,000,000,000 states were made before. It looks at no record.
-    /// (pf.conf(5), OPTIONS, "set limit", and STATEFUL TRACKING OPTIONS; the order of the limits is own to this
-    /// profile)
+    /// (pf.conf(5), OPTIONS, "set limit", and STATEFUL TRACKING OPTIONS; the order of the limits is own to this profile)
     fn admit(
         &mut self,
         packet: &Packet,
@@ -179,8 +178,7 @@ pub trait Store {
     }
 
     /// Passes over some of so many seconds in which nothing leaves, and returns over how many. Both rounds go on by so
-    /// many slices, as if each of them had been done. A kind of store that cannot returns 0. It looks at no record.
-    /// (own)
+    /// many slices, as if each of them had been done. A kind of store that cannot returns 0. It looks at no record. (own)
     fn pass_over(&mut self, seconds: u64) -> u64
         ensures most { result ≤ seconds }
         ensures world { world self.new ≡ world_after_quiet (config self.old) result (world self.old) }

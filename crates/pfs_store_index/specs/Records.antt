@@ -51,7 +51,7 @@ IsRecordAt place s records = AllByRecursion (λ (p : Placed). p.place ≡ place 
 abbrev pub leaves_number : ℕ → Placed → Bool
 leaves_number number p = not (p.state.number == number)
 
--- the state of a number, written in the place of the one that has it
+-- the state of a number, written in place of the one that has it
 abbrev pub put_state : State → State → State
 put_state state s = if s.number == state.number then state else s
 

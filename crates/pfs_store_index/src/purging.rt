@@ -293,8 +293,7 @@ pub(crate) fn walk_nodes<S: BuildHasher>(
     }
 }
 
-/// Examines the next nodes of a round, so many at most: passes by those that stay in one walk, and examines the one
-/// after them.
+/// Examines the next nodes of a round, so many at most: passes by those that stay in one walk, and examines the one after them.
 fn examine_nodes<S: BuildHasher>(
     indexes: &mut Indexes<S>,
     round: Round,

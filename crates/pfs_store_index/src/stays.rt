@@ -44,8 +44,8 @@ pub(crate) fn stay_of<T: Lifetimes>(lifetimes: &T, kept: &Kept, known: Option<St
     }
 }
 
-/// Up to when the state of a record stays that may stay so many seconds, or an earlier moment; none where it has
-/// expired at the second `now`.
+/// Up to when the state of a record stays that may stay so many seconds, or an earlier moment; none where it
+/// has expired at the second `now`.
 pub(crate) fn stays_until(kept: &Kept, seconds: u64, now: u64) -> Option<u64>
     ensures none { result ≡ None → is_expired seconds kept.now.last now ≡ true }
     ensures some { IfSome result (λ until. is_expired seconds kept.now.last now ≡ false) }

@@ -66,8 +66,8 @@ impl IndexStore {
 }
 
 impl<S: BuildHasher> IndexStore<S> {
-    /// An empty store as `new` makes it, but with other hashers: the index by key has the first of these, and that of
-    /// the source nodes the second.
+    /// An empty store as `new` makes it, but with other hashers: the index by key has the first of these, and that
+    /// of the source nodes the second.
     pub fn with_hashers(
         alloc: Global,
         config: &Config,

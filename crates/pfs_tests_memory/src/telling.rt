@@ -79,7 +79,7 @@ pub fn plain(rt: &HostRuntime, is_right: bool) -> Result<bool, Stop> {
     Ok(true)
 }
 
-/// It answered out of memory, and all that must then hold does.
+/// It returned out of memory, and all that must then hold holds.
 pub fn refused(rt: &HostRuntime, is_right: bool) -> Result<bool, Stop> {
     if is_right {
         println!(rt; "refused")?;
