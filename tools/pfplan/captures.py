@@ -8,6 +8,8 @@ import argparse
 import contextlib
 import ipaddress
 import os
+import re
+import shutil
 import subprocess
 import sys
 import tempfile
@@ -28,13 +30,14 @@ from .words import Network, Parser, file, interface, networks
 DESCRIPTION = """Makes a trace of a capture, by ./pfstrace where the repository has it, else by tshark.
 
 Standard error says how many packets came and how many records were made, and why the others could not be: later fragments (of a
-fragmented packet its first, which has the ports, is taken), what is not IP, and packets neither in nor out. A packet whose moment
-is before that of the one in front gets the moment of that one. ICMP is a record: the program says skip.
+fragmented packet its first, which has the ports, is taken), what is not IP, and packets neither in nor out. A record
+whose moment is before that of the one in front gets the moment of that one, and is counted. ICMP is a record: the program says skip.
 A pflog has only the packets that rules log, often the first of a state: a trace of it lacks all others."""
+ANSWERS = "row,action,rule,anchor,subrule"
 FIELDS = (
     "frame.time_epoch", "frame.protocols", "ip.src", "ip.dst", "ip.proto", "ip.frag_offset", "tcp.srcport", "tcp.dstport", "tcp.flags",
     "udp.srcport", "udp.dstport", "ipv6.src", "ipv6.dst", "ipv6.nxt", "ipv6.fraghdr.offset", "pflog.dir", "pflog.ifname", "pflog.action",
-    "pflog.rulenr", "sll.pkttype",
+    "pflog.rulenr", "pflog.ruleset", "pflog.subrulenr", "sll.pkttype",
 )  # fmt: skip
 NOT_IP = "not IP"
 LATER = "later fragment"
@@ -49,11 +52,12 @@ _BETWEEN = ("ipv6.", "ah", "mipv6", "hip", "shim6")
 _NUMBERS = {"tcp": 6, "udp": 17, "icmpv6": 58, "ip": 4, "ipv6": 41, "gre": 47, "esp": 50, "sctp": 132, "dccp": 33, "ospf": 89, "pim": 103}
 _ENDED = {4: Status.FAILED, 70: Status.NOT_BUILT}
 _NAMES = {6: "tcp", 17: "udp", 1: "icmp", 58: "icmp6"}
+_ACTIONS = {"0": "pass", "1": "block", "12": "match"}
 
 
 @dataclass(frozen=True, slots=True)
 class Packet:
-    """The outermost IP packet of a frame; ports and flags are empty where its protocol has none."""
+    """The outermost IP packet of a frame; ports and flags are empty where its protocol has none, and what pf answered but for a pflog."""
 
     time: str
     protocol: int
@@ -64,8 +68,7 @@ class Packet:
     flags: str = ""
     direction: str = ""
     interface: str = ""
-    action: str = ""
-    rule: str = ""
+    answer: str = ""
 
 
 @dataclass(slots=True)
@@ -134,7 +137,7 @@ def _with_ports(value: dict[str, str], source: str, target: str, number: int) ->
         return CUT
     return Packet(
         value["frame.time_epoch"], number, _address(source), _address(target), *ports, _letters(flags), _direction(value), value["pflog.ifname"],
-        {"0": "pass", "1": "block"}.get(value["pflog.action"], value["pflog.action"]), value["pflog.rulenr"],
+        _answer(value),
     )  # fmt: skip
 
 
@@ -152,6 +155,14 @@ def _letters(flags: str) -> str:
     """The flags of a number as tshark writes it, 0x0012."""
     value = int(flags, 16) if flags else 0
     return "".join(letter for bit, letter in enumerate(LETTERS) if value >> bit & 1)
+
+
+def _answer(value: dict[str, str]) -> str:
+    """What pf answered, as a row of pfstrace's has it behind its number (docs/FORMATS.md); nothing where the frame is of no pflog."""
+    action = value["pflog.action"]
+    rule, subrule = ("" if value[it] in ("-1", "4294967295") else value[it] for it in ("pflog.rulenr", "pflog.subrulenr"))
+    anchor = re.sub(r"[^\w./-]", lambda it: f"%{ord(it[0]):02X}", value["pflog.ruleset"], flags=re.ASCII)
+    return f"{_ACTIONS.get(action, action)},{rule},{anchor},{subrule}" if action else ""
 
 
 def _direction(value: dict[str, str]) -> str:
@@ -184,8 +195,8 @@ class Maker:
             return None
         moment = self._moment(packet.time)
         self.account.records += 1
-        if self._told and packet.action:
-            self._told.write(f"{self.account.records}\t{packet.action}\t{packet.rule}\n")
+        if self._told and packet.answer:
+            self._told.write(f"{self.account.records},{packet.answer}\n")
         name = self._name or packet.interface or "em0"
         ends = f"{packet.source},{packet.source_port},{packet.target},{packet.target_port}"
         return f"{moment},{direction},{name},{_NAMES.get(packet.protocol, packet.protocol)},{ends},{packet.flags}\n"
@@ -284,9 +295,11 @@ def make_trace(capture: Path, inside: Sequence[Network], trace: Path | None, *, 
     """Writes the trace of a capture, and answers the lines of the account. Trouble where the capture is refused; then nothing is written."""
     if str(capture) != "-":
         check_capture(capture)
-    if reader() == "tshark" or told:
-        return _by_tshark(capture, inside, trace, name, told, is_zero)
-    return _by_pfstrace(capture, inside, trace, name, is_zero)
+        for word, written in (("--out", trace), ("--told", told)):
+            if written and os.path.realpath(written) == os.path.realpath(capture):
+                raise Trouble(f"{word}: this is the capture")
+    make = _by_tshark if reader() == "tshark" else _by_pfstrace
+    return make(capture, inside, trace, name, told, is_zero)
 
 
 def _by_tshark(capture: Path, inside: Sequence[Network], trace: Path | None, name: str | None, told: Path | None, is_zero: bool) -> list[str]:
@@ -295,21 +308,32 @@ def _by_tshark(capture: Path, inside: Sequence[Network], trace: Path | None, nam
         out = stack.enter_context(whole_file(trace))
         maker = Maker(inside, name, is_zero=is_zero, told=beside)
         lines, _ = stack.enter_context(_running(tshark_words(str(capture)), str(capture)))
+        if beside:
+            beside.write(f"{ANSWERS}\n")
         out.write(f"{HEADER}\n")
         out.writelines(records_of(lines, maker, str(capture)))
     return list(maker.account.lines())
 
 
-def _by_pfstrace(capture: Path, inside: Sequence[Network], trace: Path | None, name: str | None, is_zero: bool) -> list[str]:
+def _by_pfstrace(capture: Path, inside: Sequence[Network], trace: Path | None, name: str | None, told: Path | None, is_zero: bool) -> list[str]:
     _check_pfstrace(reader())
     words = [reader(), *(["--inside", ",".join(map(str, inside))] if inside else []), *(["--interface", name] if name else [])]
     # a name that begins with a hyphen is no option behind a folder's
-    words += [] if str(capture) == "-" else [f"./{capture}" if str(capture).startswith("-") else str(capture)]
+    named = [] if str(capture) == "-" else [f"./{capture}" if str(capture).startswith("-") else str(capture)]
     with contextlib.ExitStack() as stack:
+        answers = stack.enter_context(_answers(told)) if told else ""
         out = stack.enter_context(whole_file(trace))
-        lines, account = stack.enter_context(_running(words, str(capture)))
+        lines, account = stack.enter_context(_running([*words, *(["--told", answers] if answers else []), *named], str(capture)))
         out.writelines(from_zero(lines) if is_zero else lines)
     return account
+
+
+@contextlib.contextmanager
+def _answers(told: Path) -> Iterator[str]:
+    """The name of a file for pfstrace to write pf's answers to, which are in `told` once all has ended well."""
+    with whole_file(told) as whole, tempfile.NamedTemporaryFile("r", encoding="latin-1", prefix="pfplan-") as file:
+        yield file.name
+        shutil.copyfileobj(file, whole)
 
 
 def _check_pfstrace(program: str) -> None:
@@ -344,7 +368,7 @@ def add_words(parser: Parser) -> None:
     )  # fmt: skip
     parser.add_argument("--ifconfig", type=file, metavar="FILE", help="what ifconfig prints on the firewall, in place of --inside")
     parser.add_argument("--interface", "--if", type=interface, metavar="NAME", help="the interface of every record (that of a pflog, else em0)")
-    parser.add_argument("--told", type=file, metavar="FILE", help="for a pflog: writes there, for each record, its row, what pf did, and by which rule")
+    parser.add_argument("--told", type=file, metavar="FILE", help=f"for a pflog: writes there what pf answered for each record, as {ANSWERS}")
     parser.add_argument("--zero", action="store_true", help="moments count from that of the first record; else they are those of the capture, since 1970")
     parser.add_argument("--out", type=file, metavar="FILE", help="where the trace goes (standard output)")
 

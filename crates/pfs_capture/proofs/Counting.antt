@@ -1,12 +1,12 @@
 -- The account of frames, and the number of the records among them, with one frame more.
-use Rattle.std.proofs.Common.{◌≡◌, ◌+◌, ◌++◌, ◌∙◌, ℕ, Bool, List, [], ◌∷◌, length, Ok, Err, refl, sym, ap, arith, length-append}
+use Rattle.std.proofs.Common.{◌≡◌, ◌+◌, ◌++◌, ◌∙◌, ℕ, Bool, true, false, List, [], ◌∷◌, length, Ok, Err, refl, sym, ap, arith, length-append}
 use Rattle.std.specs.List.{count_by}
 use Rattle.std.proofs.lemmas.List.Sums.{sum_by_push, sum_by-cons}
-use Rattle.std.specs.Prelude.{Result, cond}
+use Rattle.std.specs.Prelude.{Result, cond, ◌&&◌}
 use Rattle.pfs_capture_packets.specs.declared.packets.Reason.{Reason}
 use Rattle.pfs_capture_packets.specs.declared.packets.Reason.TheVariants as reason
 use Rattle.pfs_capture.specs.Accounts.{frame_counted}
-use Rattle.pfs_capture.specs.Traces.{Judged, account_of, is_none_for, is_record, left_out, records_with}
+use Rattle.pfs_capture.specs.Traces.{Judged, account_of, is_late_record, is_none_for, is_record, left_out, records_with}
 use Rattle.pfs_capture.specs.Turns.{reason_of}
 use Rattle.pfs_capture.specs.declared.accounts.Account.{Account}
 use Rattle.pfs_capture.specs.declared.sorting.Found.{Found}
@@ -23,9 +23,9 @@ count-same p js j e =
 length-more : (js : List Judged) (j : Judged) → length js + 1 ≡ length (js ++ j ∷ [])
 length-more js j = sym (length-append js (j ∷ []))
 
-same_account : (a b c d e f g : ℕ) (x : Account) → a ≡ x.frames → b ≡ x.records → c ≡ x.link_types → d ≡ x.not_ip → e ≡ x.later_fragments → f ≡ x.cut → g ≡ x.neither_way
-    → ◌≡◌ {A = Account} (record { frames = a; records = b; link_types = c; not_ip = d; later_fragments = e; cut = f; neither_way = g }) x
-same_account a b c d e f g x p q r s t u v = rw (p, q, r, s, t, u, v) refl
+same_account : (a b c d e f g h : ℕ) (x : Account) → a ≡ x.frames → b ≡ x.records → c ≡ x.link_types → d ≡ x.not_ip → e ≡ x.later_fragments → f ≡ x.cut → g ≡ x.neither_way → h ≡ x.late
+    → ◌≡◌ {A = Account} (record { frames = a; records = b; link_types = c; not_ip = d; later_fragments = e; cut = f; neither_way = g; late = h }) x
+same_account a b c d e f g h x p q r s t u v w = rw (p, q, r, s, t, u, v, w) refl
 
 left : (r : Reason) (js : List Judged) (j : Judged) → ◌≡◌ {A = ℕ} (cond (is_none_for r j.outcome) 1 0) 0 → left_out r js ≡ left_out r (js ++ j ∷ [])
 left r js j e = count-same (λ x. is_none_for r x.outcome) js j e
@@ -33,33 +33,41 @@ left r js j e = count-same (λ x. is_none_for r x.outcome) js j e
 one-left : (r : Reason) (js : List Judged) (j : Judged) → ◌≡◌ {A = ℕ} (cond (is_none_for r j.outcome) 1 0) 1 → left_out r js + 1 ≡ left_out r (js ++ j ∷ [])
 one-left r js j e = count-more (λ x. is_none_for r x.outcome) js j 1 e
 
+-- a record more counts as late where it is
+late-more : (js : List Judged) (j : Judged) → is_record j.outcome ≡ true → count_by is_late_record js + cond j.is_late 1 0 ≡ count_by is_late_record (js ++ j ∷ [])
+late-more js j e = count-more is_late_record js j (cond j.is_late 1 0) (ap (λ (b : Bool). cond (b && j.is_late) 1 0) e)
+
+-- what is no record does not
+late-same : (js : List Judged) (j : Judged) → is_record j.outcome ≡ false → count_by is_late_record js ≡ count_by is_late_record (js ++ j ∷ [])
+late-same js j e = count-same is_late_record js j (ap (λ (b : Bool). cond (b && j.is_late) 1 0) e)
+
 -- the account of one frame more is its frame counted
-pub account-more : (js : List Judged) (second : ℕ) (outcome : Result Found Reason)
-    → frame_counted (account_of js) (reason_of outcome) ≡ account_of (js ++ record { second = second; outcome = outcome } ∷ [])
-account-more js second (Ok found) =
-    let j : Judged = record { second = second; outcome = Ok found } in
-    same_account _ _ _ _ _ _ _ (account_of (js ++ j ∷ [])) (length-more js j) (count-more (λ x. is_record x.outcome) js j 1 refl)
-    (left reason.LinkType js j refl) (left reason.NotIp js j refl) (left reason.LaterFragment js j refl) (left reason.Cut js j refl) (left reason.NeitherWay js j refl)
-account-more js second (Err reason.LinkType) =
-    let j : Judged = record { second = second; outcome = Err reason.LinkType } in
-    same_account _ _ _ _ _ _ _ (account_of (js ++ j ∷ [])) (length-more js j) (count-same (λ x. is_record x.outcome) js j refl)
-    (one-left reason.LinkType js j refl) (left reason.NotIp js j refl) (left reason.LaterFragment js j refl) (left reason.Cut js j refl) (left reason.NeitherWay js j refl)
-account-more js second (Err reason.NotIp) =
-    let j : Judged = record { second = second; outcome = Err reason.NotIp } in
-    same_account _ _ _ _ _ _ _ (account_of (js ++ j ∷ [])) (length-more js j) (count-same (λ x. is_record x.outcome) js j refl)
-    (left reason.LinkType js j refl) (one-left reason.NotIp js j refl) (left reason.LaterFragment js j refl) (left reason.Cut js j refl) (left reason.NeitherWay js j refl)
-account-more js second (Err reason.LaterFragment) =
-    let j : Judged = record { second = second; outcome = Err reason.LaterFragment } in
-    same_account _ _ _ _ _ _ _ (account_of (js ++ j ∷ [])) (length-more js j) (count-same (λ x. is_record x.outcome) js j refl)
-    (left reason.LinkType js j refl) (left reason.NotIp js j refl) (one-left reason.LaterFragment js j refl) (left reason.Cut js j refl) (left reason.NeitherWay js j refl)
-account-more js second (Err reason.Cut) =
-    let j : Judged = record { second = second; outcome = Err reason.Cut } in
-    same_account _ _ _ _ _ _ _ (account_of (js ++ j ∷ [])) (length-more js j) (count-same (λ x. is_record x.outcome) js j refl)
-    (left reason.LinkType js j refl) (left reason.NotIp js j refl) (left reason.LaterFragment js j refl) (one-left reason.Cut js j refl) (left reason.NeitherWay js j refl)
-account-more js second (Err reason.NeitherWay) =
-    let j : Judged = record { second = second; outcome = Err reason.NeitherWay } in
-    same_account _ _ _ _ _ _ _ (account_of (js ++ j ∷ [])) (length-more js j) (count-same (λ x. is_record x.outcome) js j refl)
-    (left reason.LinkType js j refl) (left reason.NotIp js j refl) (left reason.LaterFragment js j refl) (left reason.Cut js j refl) (one-left reason.NeitherWay js j refl)
+pub account-more : (js : List Judged) (second : ℕ) (is_late : Bool) (outcome : Result Found Reason)
+    → frame_counted (account_of js) is_late (reason_of outcome) ≡ account_of (js ++ record { second = second; is_late = is_late; outcome = outcome } ∷ [])
+account-more js second is_late (Ok found) =
+    let j : Judged = record { second = second; is_late = is_late; outcome = Ok found } in
+    same_account _ _ _ _ _ _ _ _ (account_of (js ++ j ∷ [])) (length-more js j) (count-more (λ x. is_record x.outcome) js j 1 refl)
+    (left reason.LinkType js j refl) (left reason.NotIp js j refl) (left reason.LaterFragment js j refl) (left reason.Cut js j refl) (left reason.NeitherWay js j refl) (late-more js j refl)
+account-more js second is_late (Err reason.LinkType) =
+    let j : Judged = record { second = second; is_late = is_late; outcome = Err reason.LinkType } in
+    same_account _ _ _ _ _ _ _ _ (account_of (js ++ j ∷ [])) (length-more js j) (count-same (λ x. is_record x.outcome) js j refl)
+    (one-left reason.LinkType js j refl) (left reason.NotIp js j refl) (left reason.LaterFragment js j refl) (left reason.Cut js j refl) (left reason.NeitherWay js j refl) (late-same js j refl)
+account-more js second is_late (Err reason.NotIp) =
+    let j : Judged = record { second = second; is_late = is_late; outcome = Err reason.NotIp } in
+    same_account _ _ _ _ _ _ _ _ (account_of (js ++ j ∷ [])) (length-more js j) (count-same (λ x. is_record x.outcome) js j refl)
+    (left reason.LinkType js j refl) (one-left reason.NotIp js j refl) (left reason.LaterFragment js j refl) (left reason.Cut js j refl) (left reason.NeitherWay js j refl) (late-same js j refl)
+account-more js second is_late (Err reason.LaterFragment) =
+    let j : Judged = record { second = second; is_late = is_late; outcome = Err reason.LaterFragment } in
+    same_account _ _ _ _ _ _ _ _ (account_of (js ++ j ∷ [])) (length-more js j) (count-same (λ x. is_record x.outcome) js j refl)
+    (left reason.LinkType js j refl) (left reason.NotIp js j refl) (one-left reason.LaterFragment js j refl) (left reason.Cut js j refl) (left reason.NeitherWay js j refl) (late-same js j refl)
+account-more js second is_late (Err reason.Cut) =
+    let j : Judged = record { second = second; is_late = is_late; outcome = Err reason.Cut } in
+    same_account _ _ _ _ _ _ _ _ (account_of (js ++ j ∷ [])) (length-more js j) (count-same (λ x. is_record x.outcome) js j refl)
+    (left reason.LinkType js j refl) (left reason.NotIp js j refl) (left reason.LaterFragment js j refl) (one-left reason.Cut js j refl) (left reason.NeitherWay js j refl) (late-same js j refl)
+account-more js second is_late (Err reason.NeitherWay) =
+    let j : Judged = record { second = second; is_late = is_late; outcome = Err reason.NeitherWay } in
+    same_account _ _ _ _ _ _ _ _ (account_of (js ++ j ∷ [])) (length-more js j) (count-same (λ x. is_record x.outcome) js j refl)
+    (left reason.LinkType js j refl) (left reason.NotIp js j refl) (left reason.LaterFragment js j refl) (left reason.Cut js j refl) (one-left reason.NeitherWay js j refl) (late-same js j refl)
 
 -- how many records there are after so many, with these frames
 unfoldable pub records_after : ℕ → List Judged → ℕ

@@ -18,7 +18,7 @@ use Rattle.pfs_capture_files.specs.declared.frames.Moment.TheVariants.{At, Untol
 use Rattle.pfs_capture.specs.Accounts.{frame_counted, no_frames}
 use Rattle.pfs_capture.specs.Captures.{Frames, Seen, at_turn, frames_from, most_items, seen_of}
 use Rattle.pfs_capture.specs.Sorting.{found_in_frame}
-use Rattle.pfs_capture.specs.Traces.{BeginsText, Judged, Run, TellsAll, TellsCapture, TellsFirst, TellsFront, TellsRun, account_of, answer_text, answers_text, at_second, judged_frames, judged_from, capture_run, second_after, trace_text}
+use Rattle.pfs_capture.specs.Traces.{BeginsText, Judged, Run, TellsAll, TellsCapture, TellsFirst, TellsFront, TellsRun, account_of, answer_text, answers_text, at_second, judged_at, judged_frames, judged_from, capture_run, second_after, trace_text}
 use Rattle.pfs_capture.specs.Turns.{IsFront, Sends, Taken, TakesFrame, at_told, frame_taken, reason_of, taken_at}
 use Rattle.pfs_capture.specs.declared.accounts.Account.{Account}
 use Rattle.pfs_capture.specs.declared.faults.TraceStop.{TraceStop}
@@ -60,14 +60,14 @@ unfolding judged_from
 judged-none inside ifname last end = refl
 
 judged-more : (inside : List Network) (ifname : List ℕ) (last second : ℕ) (f : Seen) (fs : List Seen) (end : Option TraceStop) → second_after last f.moment ≡ Ok second
-    → judged_from inside ifname last (f ∷ fs) end ≡ behind (record { second = second; outcome = found_in_frame inside ifname f.link f.octets } ∷ []) (judged_from inside ifname second fs end)
+    → judged_from inside ifname last (f ∷ fs) end ≡ behind (judged_at inside ifname f second ∷ []) (judged_from inside ifname second fs end)
 unfolding judged_from
-judged-more inside ifname last second f fs end e = ap (λ (r : Result ℕ TraceStop). at_second r (found_in_frame inside ifname f.link f.octets) (λ s. judged_from inside ifname s fs end)) e
+judged-more inside ifname last second f fs end e = ap (λ (r : Result ℕ TraceStop). at_second r (λ s. judged_at inside ifname f s) (λ s. judged_from inside ifname s fs end)) e
 
 judged-fault : (inside : List Network) (ifname : List ℕ) (last : ℕ) (f : Seen) (fs : List Seen) (end : Option TraceStop) (g : TraceStop) → second_after last f.moment ≡ Err g
     → judged_from inside ifname last (f ∷ fs) end ≡ ([], Some g)
 unfolding judged_from
-judged-fault inside ifname last f fs end g e = ap (λ (r : Result ℕ TraceStop). at_second r (found_in_frame inside ifname f.link f.octets) (λ s. judged_from inside ifname s fs end)) e
+judged-fault inside ifname last f fs end g e = ap (λ (r : Result ℕ TraceStop). at_second r (λ s. judged_at inside ifname f s) (λ s. judged_from inside ifname s fs end)) e
 
 -- ---- what is written
 
@@ -223,10 +223,10 @@ pub record Counted {S : Type 0} (rem : S → Option (List ℕ)) (inside : List N
 split-frame : (inside : List Network) (ifname : List ℕ) (run : Run) (seen : List Judged) (turn last second : ℕ) (form form2 : Form) (frame : Frame) (left held ys : List ℕ)
     → turn < most_items → run ≡ behind seen (judged_frames inside ifname last (frames_from (most_items - turn) form left))
     → turn_of form left ≡ Ok (record { form = form2; item = item.Frame frame; held = held; left = ys }) → second_after last frame.moment ≡ Ok second
-    → run ≡ behind (seen ++ record { second = second; outcome = found_in_frame inside ifname frame.link (seen_of frame held).octets } ∷ []) (judged_frames inside ifname second (frames_from (most_items - (turn + 1)) form2 ys))
+    → run ≡ behind (seen ++ judged_at inside ifname (seen_of frame held) second ∷ []) (judged_frames inside ifname second (frames_from (most_items - (turn + 1)) form2 ys))
 split-frame inside ifname run seen turn last second form form2 frame left held ys few split found told =
     let more = frames_from (most_items - (turn + 1)) form2 ys in
-    let j : Judged = record { second = second; outcome = found_in_frame inside ifname frame.link (seen_of frame held).octets } in
+    let j : Judged = judged_at inside ifname (seen_of frame held) second in
     split
     ∙ (ap (λ (fs : Frames). behind seen (judged_frames inside ifname last fs)) (left-turn most_items turn form left _ few found)
     ∙ (ap (λ (r : Run). behind seen r) (judged-more inside ifname last second (seen_of frame held) more.0 more.1 told)
@@ -239,8 +239,8 @@ pub counted : {S : Type 0} (rem : S → Option (List ℕ)) (inside : List Networ
     → Counted rem inside ifname run before now before2 now2 (turn + 1) tally2 form2 b row answer
 counted rem inside ifname run before now before2 now2 turn tally tally2 form form2 held a b frame row answer h few (ys, source, found) takes =
     let outcome = found_in_frame inside ifname frame.link (seen_of frame held).octets in
-    let (second, told, taken) = told-ok (second_after tally.last frame.moment) (λ s. taken_at s tally outcome) _ takes in
-    let j : Judged = record { second = second; outcome = outcome } in
+    let (second, told, taken) = told-ok (second_after tally.last frame.moment) (λ s. taken_at tally (judged_at inside ifname (seen_of frame held) s)) _ takes in
+    let j : Judged = judged_at inside ifname (seen_of frame held) second in
     let last : second ≡ tally2.last = ap (λ (t : Taken). t.tally.last) taken in
     record {
       seen = h.seen;
@@ -252,7 +252,7 @@ counted rem inside ifname run before now before2 now2 turn tally tally2 form for
       row_more = trace-more h.seen j ∙ ap (λ (t : List ℕ). trace_text h.seen ++ t) (ap (λ (t : Taken). t.row) taken);
       answer_more = answers-more h.seen j
           ∙ ap (λ (t : List ℕ). answers_text h.seen ++ t) (ap (λ (a : Account). answer_text (a.records + 1) outcome) (sym h.counts) ∙ ap (λ (t : Taken). t.answer) taken);
-      counts = sym (ap (λ (t : Taken). t.tally.account) taken) ∙ (ap (λ (a : Account). frame_counted a (reason_of outcome)) h.counts ∙ account-more h.seen second outcome);
+      counts = sym (ap (λ (t : Taken). t.tally.account) taken) ∙ (ap (λ (a : Account). frame_counted a j.is_late (reason_of outcome)) h.counts ∙ account-more h.seen second j.is_late outcome);
       split = split-frame inside ifname run h.seen turn tally.last second form form2 frame h.left held ys few h.split found told
           ∙ ap (λ (s : ℕ). behind (h.seen ++ j ∷ []) (judged_frames inside ifname s (frames_from (most_items - (turn + 1)) form2 ys))) last;
     }
@@ -268,8 +268,7 @@ ends-frame rem inside ifname run before now before2 now2 turn tally form form2 h
     subst (λ (g : TraceStop). Ends run before now before2 now2 tally.account (Err g)) (sym memory)
     (trace_text h.seen, answers_text h.seen, h.trace, h.answers, tells-first run more h.seen tally.account h.split h.counts)
 ends-frame rem inside ifname run before now before2 now2 turn tally form form2 held a b frame f row answer h few (ys, source, found) (inr stopped) =
-    let outcome = found_in_frame inside ifname frame.link (seen_of frame held).octets in
-    let told = told-err (second_after tally.last frame.moment) (λ s. taken_at s tally outcome) f stopped in
+    let told = told-err (second_after tally.last frame.moment) (λ s. taken_at tally (judged_at inside ifname (seen_of frame held) s)) f stopped in
     let moment : f ≡ stop.Moment = moment-err tally.last frame.moment f told in
     let more = frames_from (most_items - (turn + 1)) form2 ys in
     let all : run ≡ (h.seen, Some f) =

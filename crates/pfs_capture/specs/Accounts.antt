@@ -1,22 +1,26 @@
 -- The account of a capture's frames. (own)
-use Rattle.std.specs.Prelude.{◌≡◌, ◌+◌, Option, Some, None}
+use Rattle.std.specs.Prelude.{◌≡◌, ◌≤◌, ◌+◌, Bool, if◌then◌else◌, Option, Some, None}
 use Rattle.pfs_capture_packets.specs.declared.packets.Reason.{Reason}
 use Rattle.pfs_capture_packets.specs.declared.packets.Reason.TheVariants as reason
 use Rattle.pfs_capture.specs.declared.accounts.Account.{Account}
 
--- each frame is a record, or is counted under exactly one reason
+-- each frame is a record, or is counted under exactly one reason; and each late record is a record
 abbrev pub AddsUp : Account → Type 0
-AddsUp a = a.frames ≡ a.records + a.link_types + a.not_ip + a.later_fragments + a.cut + a.neither_way
+AddsUp a = (a.frames ≡ a.records + a.link_types + a.not_ip + a.later_fragments + a.cut + a.neither_way) × (a.late ≤ a.records)
 
 -- the account of no frame
 abbrev pub no_frames : Account
-no_frames = record { frames = 0; records = 0; link_types = 0; not_ip = 0; later_fragments = 0; cut = 0; neither_way = 0 }
+no_frames = record { frames = 0; records = 0; link_types = 0; not_ip = 0; later_fragments = 0; cut = 0; neither_way = 0; late = 0 }
+
+-- one record more, and where it is late one late record
+abbrev pub record_counted : Account → Bool → Account
+record_counted a is_late = record a { frames = a.frames + 1; records = a.records + 1; late = a.late + (if is_late then 1 else 0) }
 
 -- one frame more, which is a record, or is none for a reason
-abbrev pub frame_counted : Account → Option Reason → Account
-frame_counted a None = record a { frames = a.frames + 1; records = a.records + 1 }
-frame_counted a (Some reason.LinkType) = record a { frames = a.frames + 1; link_types = a.link_types + 1 }
-frame_counted a (Some reason.NotIp) = record a { frames = a.frames + 1; not_ip = a.not_ip + 1 }
-frame_counted a (Some reason.LaterFragment) = record a { frames = a.frames + 1; later_fragments = a.later_fragments + 1 }
-frame_counted a (Some reason.Cut) = record a { frames = a.frames + 1; cut = a.cut + 1 }
-frame_counted a (Some reason.NeitherWay) = record a { frames = a.frames + 1; neither_way = a.neither_way + 1 }
+abbrev pub frame_counted : Account → Bool → Option Reason → Account
+frame_counted a is_late None = record_counted a is_late
+frame_counted a is_late (Some reason.LinkType) = record a { frames = a.frames + 1; link_types = a.link_types + 1 }
+frame_counted a is_late (Some reason.NotIp) = record a { frames = a.frames + 1; not_ip = a.not_ip + 1 }
+frame_counted a is_late (Some reason.LaterFragment) = record a { frames = a.frames + 1; later_fragments = a.later_fragments + 1 }
+frame_counted a is_late (Some reason.Cut) = record a { frames = a.frames + 1; cut = a.cut + 1 }
+frame_counted a is_late (Some reason.NeitherWay) = record a { frames = a.frames + 1; neither_way = a.neither_way + 1 }

@@ -1,5 +1,5 @@
 -- The trace of a capture, and the account of its frames. (own)
-use Rattle.std.specs.Prelude.{ℕ, ◌≡◌, ◌⊎◌, ◌+◌, ◌++◌, Bool, true, false, List, [], ◌∷◌, codes, flat_map, length, take, max, nat_lt, Option, Some, None, Result, Ok, Err, if◌then◌else◌}
+use Rattle.std.specs.Prelude.{ℕ, ◌≡◌, ◌⊎◌, ◌+◌, ◌++◌, ◌&&◌, Bool, true, false, List, [], ◌∷◌, codes, flat_map, length, take, max, nat_lt, Option, Some, None, Result, Ok, Err, if◌then◌else◌}
 use Rattle.std.specs.Bool.{MatchBool}
 use Rattle.std.specs.List.{count_by}
 use Rattle.std.specs.Option.{option_map_or}
@@ -28,25 +28,36 @@ second_after last (At second) = if nat_lt 4294967295 second then Err stop.Moment
 second_after last Untold = Ok last
 second_after last Outside = Err stop.Moment
 
--- a frame in its second: a record, or why it is none
+-- whether a frame was seen before this second, by its own moment
+abbrev pub is_before : Moment → ℕ → Bool
+is_before (At own) second = nat_lt own second
+is_before Untold second = false
+is_before Outside second = false
+
+-- a frame in its second, whether it was seen before that, and whether it is a record or why it is none
 pub record Judged : Type 0 where
   pub second : ℕ
+  pub is_late : Bool
   pub outcome : Result Found Reason
+
+-- a frame of a capture in this second
+abbrev pub judged_at : List Network → List ℕ → Seen → ℕ → Judged
+judged_at inside ifname f second = record { second = second; is_late = is_before f.moment second; outcome = found_in_frame inside ifname f.link f.octets }
 
 -- the frames of a capture in their seconds, and what stops the trace before the capture's end, if anything does
 abbrev pub Run : Type 0
 Run = List Judged × Option TraceStop
 
--- a frame in its second, and then those after it; or the fault of its moment
-abbrev pub at_second : Result ℕ TraceStop → Result Found Reason → (ℕ → Run) → Run
-at_second (Ok second) outcome more = (record { second = second; outcome = outcome } ∷ (more second).0, (more second).1)
-at_second (Err f) outcome more = ([], Some f)
+-- a frame in its second, and then those behind it; or the fault of its moment
+abbrev pub at_second : Result ℕ TraceStop → (ℕ → Judged) → (ℕ → Run) → Run
+at_second (Ok second) judged more = (judged second ∷ (more second).0, (more second).1)
+at_second (Err f) judged more = ([], Some f)
 
 -- these frames after one of this second
 unfoldable pub judged_from : List Network → List ℕ → ℕ → List Seen → Option TraceStop → Run
 judged_from inside ifname last [] end = ([], end)
 judged_from inside ifname last (f ∷ fs) end =
-    at_second (second_after last f.moment) (found_in_frame inside ifname f.link f.octets) (λ second. judged_from inside ifname second fs end)
+    at_second (second_after last f.moment) (λ second. judged_at inside ifname f second) (λ second. judged_from inside ifname second fs end)
 
 abbrev pub judged_frames : List Network → List ℕ → ℕ → Frames → Run
 judged_frames inside ifname last frames = judged_from inside ifname last frames.0 frames.1
@@ -96,6 +107,10 @@ abbrev pub is_record : Result Found Reason → Bool
 is_record (Ok found) = true
 is_record (Err r) = false
 
+-- whether a record was seen before the second of its row
+abbrev pub is_late_record : Judged → Bool
+is_late_record j = is_record j.outcome && j.is_late
+
 -- whether two reasons are one
 abbrev pub same_reason : Reason → Reason → Bool
 same_reason reason.LinkType reason.LinkType = true
@@ -114,7 +129,7 @@ is_none_for r (Err s) = same_reason r s
 abbrev pub left_out : Reason → List Judged → ℕ
 left_out r frames = count_by (λ j. is_none_for r j.outcome) frames
 
--- how many frames there are, how many of them are records, and how many are none for each reason
+-- how many frames there are, how many of them are records, how many are none for each reason, and how many records are late
 abbrev pub account_of : List Judged → Account
 account_of frames = record {
   frames = length frames;
@@ -124,6 +139,7 @@ account_of frames = record {
   later_fragments = left_out reason.LaterFragment frames;
   cut = left_out reason.Cut frames;
   neither_way = left_out reason.NeitherWay frames;
+  late = count_by is_late_record frames;
 }
 
 -- ---- what is written by the end of a run

@@ -4,8 +4,7 @@ use Rattle.pfs_addr_values.specs.Prefixes.{Network}
 use Rattle.pfs_capture_packets.specs.declared.packets.Reason.{Reason}
 use Rattle.pfs_capture.specs.Accounts.{frame_counted}
 use Rattle.pfs_capture.specs.Captures.{Seen}
-use Rattle.pfs_capture.specs.Sorting.{found_in_frame}
-use Rattle.pfs_capture.specs.Traces.{answer_text, frame_text, second_after}
+use Rattle.pfs_capture.specs.Traces.{Judged, answer_text, frame_text, judged_at, second_after}
 use Rattle.pfs_capture.specs.declared.faults.TraceStop.{TraceStop}
 use Rattle.pfs_capture.specs.declared.faults.TraceStop.TheVariants as stop
 use Rattle.pfs_capture.specs.declared.sorting.Found.{Found}
@@ -23,11 +22,11 @@ pub record Taken : Type 0 where
   pub answer : List ℕ
 
 -- a frame in its second
-abbrev pub taken_at : ℕ → Tally → Result Found Reason → Taken
-taken_at second tally outcome = record {
-  tally = record { last = second; account = frame_counted tally.account (reason_of outcome) };
-  row = frame_text second outcome;
-  answer = answer_text (tally.account.records + 1) outcome;
+abbrev pub taken_at : Tally → Judged → Taken
+taken_at tally j = record {
+  tally = record { last = j.second; account = frame_counted tally.account j.is_late (reason_of j.outcome) };
+  row = frame_text j.second j.outcome;
+  answer = answer_text (tally.account.records + 1) j.outcome;
 }
 
 -- what follows from a second that a trace can have
@@ -37,7 +36,7 @@ at_told (Err f) more = Err f
 
 -- what a frame makes
 abbrev pub frame_taken : List Network → List ℕ → Tally → Seen → Result Taken TraceStop
-frame_taken inside ifname tally seen = at_told (second_after tally.last seen.moment) (λ second. taken_at second tally (found_in_frame inside ifname seen.link seen.octets))
+frame_taken inside ifname tally seen = at_told (second_after tally.last seen.moment) (λ second. taken_at tally (judged_at inside ifname seen second))
 
 -- a call returns and leaves what a frame makes, unless memory was refused
 abbrev pub TakesFrame : Result Taken TraceStop → Result Tally TraceStop → List ℕ → List ℕ → Type 0

@@ -6,7 +6,8 @@ ghost use Rattle.pfs_capture.specs.Accounts.{AddsUp, frame_counted, no_frames};
 use pfs_capture_packets::Reason;
 use std::fmt;
 
-/// How many frames of a capture were read, and what became of them. Each is a record, or is counted under exactly one reason.
+/// How many frames of a capture were read, and what became of them. Each is a record, or is counted under exactly one reason. A record
+/// that was seen before the frame in front of it is counted as late besides.
 #[derive(Clone, Copy, Debug, PartialEq, Eq)]
 pub struct Account {
     /// The frames that were read.
@@ -23,6 +24,8 @@ pub struct Account {
     pub cut: u64,
     /// Those whose packet neither comes in nor goes out.
     pub neither_way: u64,
+    /// The records that were seen before the frame in front of them, and have its second.
+    pub late: u64,
 }
 
 impl Account {
@@ -39,20 +42,24 @@ impl Account {
             later_fragments: 0,
             cut: 0,
             neither_way: 0,
+            late: 0,
         }
     }
 
-    /// The account of one frame more, which is a record, or is none for this reason.
-    pub fn with(self, reason: Option<Reason>) -> Account
+    /// The account of one frame more, which is a record, or is none for this reason; and whether it was seen before the frame in front.
+    pub fn with(self, reason: Option<Reason>, is_late: bool) -> Account
         requires few { self.frames < 2 ^ 63 }
         requires sum { AddsUp self }
-        ensures is { result ≡ frame_counted self reason }
+        ensures is { result ≡ frame_counted self is_late reason }
         ensures sum { AddsUp result }
     {
         let mut account = self;
         account.frames += 1;
         match reason {
-            None => account.records += 1,
+            None => {
+                account.records += 1;
+                account.late += u64::from(is_late);
+            }
             Some(Reason::LinkType) => account.link_types += 1,
             Some(Reason::NotIp) => account.not_ip += 1,
             Some(Reason::LaterFragment) => account.later_fragments += 1,
@@ -76,6 +83,7 @@ impl fmt::Display for Account {
             ", cut before their ports {}, neither in nor out {}",
             self.cut, self.neither_way
         )?;
-        write!(f, ", of a link type that is not read {}", self.link_types)
+        write!(f, ", of a link type that is not read {}", self.link_types)?;
+        write!(f, "; records seen before the frame in front {}", self.late)
     }
 }

@@ -41,6 +41,7 @@ fn fault_text(fault: FileFault) -> &'static str {
         FileFault::Empty => "the file is empty",
         FileFault::Gzip => "the file is packed by gzip: unpack it first",
         FileFault::NotCapture => "the file is no capture: it begins neither as pcap nor as pcapng",
+        FileFault::Version => "its version is none that is read",
         FileFault::Cut => "the file ends within it",
         FileFault::TooLong => "it is longer than any that is read",
         FileFault::Block => "its block is none of pcapng",

@@ -8,7 +8,7 @@ ghost use Rattle.pfs_cli_streams.specs.Sinks.{bytes_held};
 ghost use Rattle.pfs_capture.specs.Accounts.{AddsUp, no_frames};
 ghost use Rattle.pfs_capture.specs.Captures.{frame_bytes, seen_of};
 ghost use Rattle.pfs_capture.specs.Sorting.{IsFound, found_in_frame};
-ghost use Rattle.pfs_capture.specs.Traces.{TellsCapture, answer_text, frame_text, second_after};
+ghost use Rattle.pfs_capture.specs.Traces.{TellsCapture, answer_text, frame_text, is_before, second_after};
 ghost use Rattle.pfs_capture.specs.Turns.{Sends, TakesFrame, frame_taken, reason_of};
 
 use crate::accounts::Account;
@@ -43,11 +43,11 @@ pub struct Lines {
 /// Each row is written before the next frame is read. `told` gets what pf answered: a header, and a row for each record
 /// that is of a log of pflog(4). `account` counts the frames from 0 on, also where the trace ends before the capture.
 ///
-/// A packet to an address of `inside` from elsewhere comes in, one from there to elsewhere goes out, on the interface
-/// of this name; a log of pflog(4) has its packets' ways itself. A frame that was seen before the one in front of it
-/// has that one's second. `TraceStop` says why the trace is not whole. Of a faulty capture all is written up to its
-/// fault; where a read or a write fails or memory is refused, only its first part is written. It takes memory for one
-/// block of the capture, and for two rows.
+/// A packet to an address of `inside` from elsewhere comes in, one from there to elsewhere goes out, on the interface of this name; a
+/// log of pflog(4) tells its packets' ways itself. A frame that was seen before the one in front of it has that one's second, and is
+/// counted as late if it is a record.
+/// `TraceStop` says why the trace is not whole: of a capture that is faulty, all is told up to its fault; where a read, a write or
+/// memory fails, what is told is the first of it. It takes memory for one block of the capture, and for two rows.
 pub fn write_trace<R: Read, W: Write, T: Write>(
     alloc: Global,
     inside: &[Prefix],
@@ -156,7 +156,9 @@ fn take_frame(
     write_answer(&outcome, tally.account.records + 1, &mut lines.answer)?;
     Ok(Tally {
         last: second,
-        account: tally.account.with(reason),
+        account: tally
+            .account
+            .with(reason, is_before(frame.moment, second)),
     })
 }
 
@@ -228,6 +230,16 @@ fn second_after(last: u64, moment: Moment) -> Result<u64, TraceStop>
         Moment::At(second) => Ok(second.max(last)),
         Moment::Untold => Ok(last),
         Moment::Outside => Err(TraceStop::Moment),
+    }
+}
+
+/// Whether a frame was seen before this second.
+fn is_before(moment: Moment, second: u64) -> bool
+    ensures { result ≡ is_before moment second }
+{
+    match moment {
+        Moment::At(own) => own < second,
+        Moment::Untold | Moment::Outside => false,
     }
 }
 

@@ -1,5 +1,5 @@
 -- The blocks of a pcapng file (pcapng, sections 3.1, 4.1 to 4.4).
-use Rattle.std.specs.Prelude.{ℕ, ◌≡◌, Bool, true, false, ◌-◌, ◌%◌, ◌==◌, ◌||◌, ◌++◌, not, List, [], ◌∷◌, length, take, nat_lt, Result, Ok, Err, if◌then◌else◌, ok_or, slice_get}
+use Rattle.std.specs.Prelude.{ℕ, ◌≡◌, Bool, true, false, ◌-◌, ◌%◌, ◌==◌, ◌&&◌, ◌||◌, ◌++◌, not, List, [], ◌∷◌, length, take, nat_lt, Result, Ok, Err, if◌then◌else◌, ok_or, slice_get}
 use Rattle.pfs_capture_files.specs.declared.orders.Order.{Order}
 use Rattle.pfs_capture_files.specs.declared.orders.Order.TheVariants.{Big, Little}
 use Rattle.pfs_capture_files.specs.declared.interfaces.Interface.{Interface}
@@ -35,6 +35,17 @@ block_head order head =
     if nat_lt (length head) 12 then Err fault.Cut
     else then_known (order_of_block order (u32_in order head 0) head) (λ own. sized_head own head)
 
+-- the versions of a section: 1.0, and 1.2, which is read as 1.0 (section 4.1)
+abbrev pub is_version : ℕ → ℕ → Bool
+is_version major minor = (major == 1) && ((minor == 0) || (minor == 2))
+
+-- a section without interfaces, by what follows the byte order in its block: the two numbers of its version, and its length in eight
+-- bytes, which is not used
+abbrev pub with_section : Order → List ℕ → Result (Known × Item) FileFault
+with_section order body =
+    if nat_lt (length body) 12 then Err fault.Block
+    else (if is_version (u16_in order body 0) (u16_in order body 2) then Ok (record { order = order; interfaces = [] }, item.Other) else Err fault.Version)
+
 -- one interface more, of 1,024 at most (own)
 abbrev pub with_interface : Known → Interface → Result (Known × Item) FileFault
 with_interface known interface =
@@ -63,7 +74,7 @@ held_in known head rest =
 -- one
 abbrev pub body_item : Known → BlockHead → List ℕ → Result (Known × Item) FileFault
 body_item known head rest =
-    if head.kind == 0x0a0d0d0a then Ok (record { order = head.order; interfaces = [] }, item.Other)
+    if head.kind == 0x0a0d0d0a then with_section head.order (body_of rest)
     else (if head.kind == 1 then then_known (interface_of head.order head.half (body_of rest)) (λ i. with_interface known i)
     else then_known (held_in known head rest) (λ held. Ok (known, held)))
 

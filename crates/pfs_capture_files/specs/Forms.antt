@@ -3,6 +3,8 @@ use Rattle.std.specs.Prelude.{ℕ, ◌≡◌, ◌/◌, ◌%◌, ◌==◌, ◌||�
 use Rattle.pfs_capture_files.specs.declared.orders.Order.{Order}
 use Rattle.pfs_capture_files.specs.declared.orders.Order.TheVariants.{Big, Little}
 use Rattle.pfs_capture_files.specs.declared.blocks.BlockHead.{BlockHead}
+use Rattle.pfs_capture_files.specs.declared.classic.FileHeader.{FileHeader}
+use Rattle.pfs_capture_files.specs.declared.classic.Lengths.{Lengths}
 use Rattle.pfs_capture_files.specs.declared.frames.Frame.{Frame}
 use Rattle.pfs_capture_files.specs.declared.frames.Item.{Item}
 use Rattle.pfs_capture_files.specs.declared.frames.Item.TheVariants as item
@@ -12,18 +14,22 @@ use Rattle.pfs_capture_files.specs.declared.forms.Start.{Start}
 use Rattle.pfs_capture_files.specs.declared.forms.Start.TheVariants as start
 use Rattle.pfs_capture_files.specs.declared.faults.FileFault.{FileFault}
 use Rattle.pfs_capture_files.specs.declared.faults.FileFault.TheVariants as fault
-use Rattle.pfs_capture_files.specs.Orders.{u32_in}
+use Rattle.pfs_capture_files.specs.Orders.{u16_in, u32_in}
 use Rattle.pfs_capture_files.specs.Known.{Known}
 use Rattle.pfs_capture_files.specs.Interfaces.{then_known}
-use Rattle.pfs_capture_files.specs.Classic.{record_frame}
+use Rattle.pfs_capture_files.specs.Classic.{lengths_of, record_frame}
 use Rattle.pfs_capture_files.specs.Blocks.{block_head, body_item, is_outside}
+
+-- how a pcap file begins by its version, whose numbers stand behind its first (pcap, section 4)
+abbrev pub start_of_version : Order → List ℕ → Result Start FileFault
+start_of_version order head = then_known (lengths_of (u16_in order head 4) (u16_in order head 6)) (λ lengths. Ok (start.Classic order lengths))
 
 -- what a file begins with: pcap in either byte order, of microseconds or of nanoseconds (pcap, section 4), a section's block (pcapng,
 -- section 4.1), or gzip's mark (RFC 1952, section 2.3.1)
-abbrev pub start_of_magic : ℕ → Result Start FileFault
-start_of_magic magic =
-    if (magic == 0xa1b2c3d4) || (magic == 0xa1b23c4d) then Ok (start.Classic Big)
-    else (if (magic == 0xd4c3b2a1) || (magic == 0x4d3cb2a1) then Ok (start.Classic Little)
+abbrev pub start_of_magic : ℕ → List ℕ → Result Start FileFault
+start_of_magic magic head =
+    if (magic == 0xa1b2c3d4) || (magic == 0xa1b23c4d) then start_of_version Big head
+    else (if (magic == 0xd4c3b2a1) || (magic == 0x4d3cb2a1) then start_of_version Little head
     else (if magic == 0x0a0d0d0a then Ok start.Blocks
     else (if magic / 65536 == 0x1f8b then Err fault.Gzip else Err fault.NotCapture)))
 
@@ -31,7 +37,7 @@ start_of_magic magic =
 abbrev pub what_begins : List ℕ → Result Start FileFault
 what_begins head =
     if length head == 0 then Err fault.Empty
-    else (if nat_lt (length head) 12 then Err fault.NotCapture else start_of_magic (u32_in Big head 0))
+    else (if nat_lt (length head) 12 then Err fault.NotCapture else start_of_magic (u32_in Big head 0) head)
 
 -- what one turn of reading finds: the form as it is known afterwards, the item, the bytes in which a frame is, and what is left
 pub record Turn : Type 0 where
@@ -53,20 +59,20 @@ block_turn known xs =
     else then_known (block_head known.order (take 12 xs)) (λ head. rest_turn known head (drop 12 xs))
 
 -- a record of a pcap file whose header is read
-abbrev pub frame_turn : Order → Frame → List ℕ → Result Turn FileFault
-frame_turn order frame xs =
+abbrev pub frame_turn : FileHeader → Frame → List ℕ → Result Turn FileFault
+frame_turn header frame xs =
     if nat_lt (length (take frame.count xs)) frame.count then Err fault.Cut
-    else Ok (record { form = form.Classic order frame.link; item = item.Frame frame; held = take frame.count xs; left = drop frame.count xs })
+    else Ok (record { form = form.Classic header; item = item.Frame frame; held = take frame.count xs; left = drop frame.count xs })
 
 -- a record of a pcap file, which ends where no record begins
-abbrev pub record_turn : Order → ℕ → List ℕ → Result Turn FileFault
-record_turn order link xs =
-    if length (take 16 xs) == 0 then Ok (record { form = form.Classic order link; item = item.End; held = take 16 xs; left = drop 16 xs })
-    else then_known (record_frame order link (take 16 xs)) (λ frame. frame_turn order frame (drop 16 xs))
+abbrev pub record_turn : FileHeader → List ℕ → Result Turn FileFault
+record_turn header xs =
+    if length (take 16 xs) == 0 then Ok (record { form = form.Classic header; item = item.End; held = take 16 xs; left = drop 16 xs })
+    else then_known (record_frame header (take 16 xs)) (λ frame. frame_turn header frame (drop 16 xs))
 
 -- the next item of a capture
 abbrev pub turn_of : Form → List ℕ → Result Turn FileFault
-turn_of (form.Classic order link) xs = record_turn order link xs
+turn_of (form.Classic header) xs = record_turn header xs
 turn_of (form.Blocks known) xs = block_turn known xs
 
 -- a call returns and leaves what the turn finds, unless a read failed or memory was refused
@@ -76,12 +82,14 @@ ReadsItem turn (Ok found) after held left =
 ReadsItem turn (Err f) after held left = is_outside f ≡ false → turn ≡ Err f
 
 -- a pcap file's header ends with the link's type, in the lower half of its last number (pcap, section 4)
-abbrev pub classic_form : Order → List ℕ → Result Form FileFault
-classic_form order rest = if nat_lt (length rest) 12 then Err fault.Cut else Ok (form.Classic order (u32_in order rest 8 % 65536))
+abbrev pub classic_form : Order → Lengths → List ℕ → Result Form FileFault
+classic_form order lengths rest =
+    if nat_lt (length rest) 12 then Err fault.Cut
+    else Ok (form.Classic (record { order = order; lengths = lengths; link = u32_in order rest 8 % 65536 }))
 
--- how a pcap file goes on after its first twelve bytes, and what is left
-abbrev pub classic_start : Order → List ℕ → Result (Form × List ℕ) FileFault
-classic_start order xs = then_known (classic_form order (take 12 xs)) (λ f. Ok (f, drop 12 xs))
+-- how a pcap file begins behind its first twelve bytes, and what is left
+abbrev pub classic_start : Order → Lengths → List ℕ → Result (Form × List ℕ) FileFault
+classic_start order lengths xs = then_known (classic_form order lengths (take 12 xs)) (λ f. Ok (f, drop 12 xs))
 
 -- how a pcapng file begins by its first twelve bytes and what follows, and what is left
 abbrev pub blocks_start : List ℕ → List ℕ → Result (Form × List ℕ) FileFault
@@ -90,7 +98,7 @@ blocks_start first xs =
 
 -- how a file goes on after its first twelve bytes
 abbrev pub start_at : Start → List ℕ → Result (Form × List ℕ) FileFault
-start_at (start.Classic order) xs = classic_start order (drop 12 xs)
+start_at (start.Classic order lengths) xs = classic_start order lengths (drop 12 xs)
 start_at start.Blocks xs = blocks_start (take 12 xs) (drop 12 xs)
 
 -- how a capture begins: its form, and what is left

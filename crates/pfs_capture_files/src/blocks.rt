@@ -1,7 +1,7 @@
 //! The blocks of a pcapng file.
 
 ghost use Rattle.std.specs.Prelude.{◌≡◌, ◌-◌, ◌≤◌, [], IfOk, length};
-ghost use Rattle.pfs_capture_files.specs.Blocks.{TakesItem, with_interface, block_head, body_item, held_in, described_at, order_of_block, order_of_magic};
+ghost use Rattle.pfs_capture_files.specs.Blocks.{TakesItem, with_interface, block_head, body_item, held_in, described_at, is_version, order_of_block, order_of_magic, with_section};
 
 use crate::faults::FileFault;
 use crate::frames::{Item, enhanced_frame, simple_frame};
@@ -117,17 +117,28 @@ impl Section {
         ensures { TakesItem (body_item self.old head rest.now) result self.new }
     {
         match head.kind {
-            SECTION => {
-                self.order = head.order;
-                self.interfaces.clear();
-                Ok(Item::Other)
-            }
+            SECTION => self.begin(head.order, &rest[..front(rest)]),
             1 => {
                 let interface = interface_of(head.order, head.half, &rest[..front(rest)])?;
                 self.add(interface)
             }
             _ => self.held(head, rest),
         }
+    }
+
+    /// Begins a section, by its byte order and what its block holds behind that: its version, and how long it is.
+    fn begin(&mut self, order: Order, body: &[u8]) -> Result<Item, FileFault>
+        ensures { TakesItem (with_section order body.now) result self.new }
+    {
+        if body.len() < 12 {
+            return Err(FileFault::Block);
+        }
+        if !is_version(read_u16(order, body, 0), read_u16(order, body, 2)) {
+            return Err(FileFault::Version);
+        }
+        self.order = order;
+        self.interfaces.clear();
+        Ok(Item::Other)
     }
 
     fn add(&mut self, interface: Interface) -> Result<Item, FileFault>
@@ -173,7 +184,14 @@ impl Section {
     }
 }
 
-/// How many bytes are in front of a block's last length.
+/// Whether sections of this version are read.
+fn is_version(major: u16, minor: u16) -> bool
+    ensures { result ≡ is_version major minor }
+{
+    major == 1 && (minor == 0 || minor == 2)
+}
+
+/// How many bytes stand in front of a block's last length.
 fn front(rest: &[u8]) -> usize
     ensures is { result ≡ length rest.now - 4 }
     ensures within { result ≤ length rest.now }

@@ -1,29 +1,76 @@
-//! The records of a pcap file.
+//! The header of a pcap file, and its records.
 
 ghost use Rattle.std.specs.Prelude.{◌≡◌, ◌≤◌, IfOk, length};
-ghost use Rattle.pfs_capture_files.specs.Classic.{record_frame};
+ghost use Rattle.pfs_capture_files.specs.Classic.{kept_in, lengths_of, record_frame};
 
 use crate::faults::FileFault;
 use crate::frames::{Frame, MOST_OF_FRAME, Moment};
 use crate::orders::{Order, read_u32};
 
-/// The frame that a record's header describes, whose bytes follow it.
-pub fn record_frame(order: Order, link: u16, head: &[u8]) -> Result<Frame, FileFault>
-    ensures is { result ≡ record_frame order link head.now }
+/// Which of the two lengths of a record is that of the bytes that were kept.
+#[derive(Clone, Copy, Debug, PartialEq, Eq)]
+pub enum Lengths {
+    /// The first.
+    KeptFirst,
+    /// The last.
+    KeptLast,
+    /// The lesser one.
+    KeptLess,
+}
+
+/// What the header of a pcap file tells of its records.
+#[derive(Clone, Copy, Debug, PartialEq, Eq)]
+pub struct FileHeader {
+    /// The byte order of their numbers.
+    pub order: Order,
+    /// Which of their lengths is that of the bytes kept.
+    pub lengths: Lengths,
+    /// The type of their link.
+    pub link: u16,
+}
+
+/// Which length of a record is that of the bytes kept, in a file of this version. `FileFault::Version` tells a version that is not read.
+pub fn lengths_of(major: u16, minor: u16) -> Result<Lengths, FileFault>
+    ensures { result ≡ lengths_of major minor }
+{
+    match (major, minor) {
+        (2, 4) => Ok(Lengths::KeptFirst),
+        (2, 3) => Ok(Lengths::KeptLess),
+        (2, 0..=2) | (543, 0) => Ok(Lengths::KeptLast),
+        _ => Err(FileFault::Version),
+    }
+}
+
+/// The frame that a record's header tells, whose bytes follow it.
+pub fn record_frame(header: FileHeader, head: &[u8]) -> Result<Frame, FileFault>
+    ensures is { result ≡ record_frame header head.now }
     ensures few { IfOk result (λ f. f.count ≤ 262144) }
-    ensures link { IfOk result (λ f. f.link ≡ link) }
 {
     if head.len() < 16 {
         return Err(FileFault::Cut);
     }
-    let count = read_u32(order, head, 8);
+    let count = kept_in(header, head);
     if count > MOST_OF_FRAME {
         return Err(FileFault::TooLong);
     }
     Ok(Frame {
-        link,
-        moment: Moment::At(u64::from(read_u32(order, head, 0))),
+        link: header.link,
+        moment: Moment::At(u64::from(read_u32(header.order, head, 0))),
         from: 0,
         count: count as usize,
     })
+}
+
+/// How many bytes of its frame a record keeps.
+fn kept_in(header: FileHeader, head: &[u8]) -> u32
+    requires { 16 ≤ length head.now }
+    ensures { result ≡ kept_in header head.now }
+{
+    let first = read_u32(header.order, head, 8);
+    let last = read_u32(header.order, head, 12);
+    match header.lengths {
+        Lengths::KeptFirst => first,
+        Lengths::KeptLast => last,
+        Lengths::KeptLess => first.min(last),
+    }
 }

@@ -11,6 +11,8 @@ pub enum FileFault {
     Gzip,
     /// The file begins as no capture does.
     NotCapture,
+    /// The file, or a section of it, is of a version that is not read.
+    Version,
     /// The file ends in a frame, or in a block.
     Cut,
     /// A frame is of more than 262,144 bytes, or a block of more than 524,288.

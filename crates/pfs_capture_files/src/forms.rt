@@ -1,23 +1,23 @@
 //! The two forms of capture files.
 
-ghost use Rattle.std.specs.Prelude.{◌≡◌, ◌≤◌, ℕ, List, Some};
+ghost use Rattle.std.specs.Prelude.{◌≡◌, ◌≤◌, ℕ, List, Some, length};
 ghost use Rattle.pfs_capture_files.specs.declared.forms.Form.TheVariants as form;
-ghost use Rattle.pfs_capture_files.specs.Forms.{Begins, ReadsItem, block_turn, blocks_start, classic_form, classic_start, frame_turn, record_turn, rest_turn, start_of, start_of_magic, turn_of, what_begins};
+ghost use Rattle.pfs_capture_files.specs.Forms.{Begins, ReadsItem, block_turn, blocks_start, classic_form, classic_start, frame_turn, record_turn, rest_turn, start_of, start_of_magic, start_of_version, turn_of, what_begins};
 
 use crate::blocks::{BlockHead, SECTION, Section, block_head};
-use crate::classic::record_frame;
+use crate::classic::{FileHeader, Lengths, lengths_of, record_frame};
 use crate::faults::FileFault;
 use crate::filling::fill;
 use crate::frames::{Frame, Item};
-use crate::orders::{Order, read_u32};
+use crate::orders::{Order, read_u16, read_u32};
 use std::alloc::Global;
 use std::io::Read;
 
 /// The form of a capture file, and what is known of it while it is read.
 #[derive(Debug, Drop)]
 pub enum Form {
-    /// pcap: the byte order of its numbers, and the type of its link.
-    Classic(Order, u16),
+    /// pcap: what its header tells.
+    Classic(FileHeader),
     /// pcapng: its section.
     Blocks(Section),
 }
@@ -25,15 +25,15 @@ pub enum Form {
 /// What a file is by its first bytes.
 #[derive(Clone, Copy, Debug)]
 enum Start {
-    Classic(Order),
+    Classic(Order, Lengths),
     Blocks,
 }
 
 /// Reads how a capture begins. `buffer` is for what is read, and what it held is given up.
 ///
-/// It returns `FileFault::Empty`, `FileFault::Gzip` or `FileFault::NotCapture` for a file that is no capture, `FileFault::Cut`
-/// for one that ends too early, `FileFault::Block` or `FileFault::TooLong` for a first block that is none, `FileFault::Read`
-/// where a read failed, and `FileFault::Memory` where memory was refused. (pcap, section 4; pcapng, section 4.1)
+/// `FileFault::Empty`, `FileFault::Gzip` and `FileFault::NotCapture` tell a file that is no capture, `FileFault::Version` one of a version
+/// that is not read, `FileFault::Cut` one that ends too early, `FileFault::Block` and `FileFault::TooLong` a first block that is none,
+/// `FileFault::Read` a read that failed, `FileFault::Memory` want of memory. (pcap, section 4; pcapng, section 4.1)
 pub fn read_start<R: Read>(
     alloc: Global,
     reader: &mut R,
@@ -43,7 +43,7 @@ pub fn read_start<R: Read>(
 {
     fill(reader, buffer, 12)?;
     match what_begins(buffer)? {
-        Start::Classic(order) => start_classic(reader, buffer, order),
+        Start::Classic(order, lengths) => start_classic(reader, buffer, order, lengths),
         Start::Blocks => start_blocks(alloc, reader, buffer),
     }
 }
@@ -51,9 +51,9 @@ pub fn read_start<R: Read>(
 /// Reads the next item of a capture whose form is known. Of a frame, `buffer` holds its bytes afterwards, among
 /// others; what it held is given up.
 ///
-/// It returns `FileFault::Cut` where the file ends within the item, `FileFault::TooLong`, `FileFault::Block`,
-/// `FileFault::Interfaces` or `FileFault::Resolution` where the item is none that is read, `FileFault::Read` where a read failed,
-/// and `FileFault::Memory` where memory was refused; then nothing more can be read. (pcap, section 5; pcapng, section 3.1)
+/// `FileFault::Cut` is answered where the file ends within the item, `FileFault::TooLong`, `FileFault::Block`, `FileFault::Version`,
+/// `FileFault::Interfaces` and `FileFault::Resolution` where it is none that is read, `FileFault::Read` where a read failed and
+/// `FileFault::Memory` where memory was refused; then nothing more can be read. (pcap, section 5; pcapng, section 3.1)
 pub fn read_item<R: Read>(
     reader: &mut R,
     buffer: &mut Vec<u8>,
@@ -62,7 +62,7 @@ pub fn read_item<R: Read>(
     ensures { (xs : List ℕ) → R.remaining reader.old ≡ Some xs → ReadsItem (turn_of form.old xs) result form.new buffer.new.items (R.remaining reader.new) }
 {
     match form {
-        Form::Classic(order, link) => next_record(reader, buffer, *order, *link),
+        Form::Classic(header) => next_record(reader, buffer, *header),
         Form::Blocks(section) => next_block(reader, buffer, section),
     }
 }
@@ -76,19 +76,30 @@ fn what_begins(head: &[u8]) -> Result<Start, FileFault>
     if head.len() < 12 {
         return Err(FileFault::NotCapture);
     }
-    start_of_magic(read_u32(Order::Big, head, 0))
+    start_of_magic(read_u32(Order::Big, head, 0), head)
 }
 
-fn start_of_magic(magic: u32) -> Result<Start, FileFault>
-    ensures { result ≡ start_of_magic magic }
+/// What a file is by the number that it begins with, and its first twelve bytes.
+fn start_of_magic(magic: u32, head: &[u8]) -> Result<Start, FileFault>
+    requires { 12 ≤ length head.now }
+    ensures { result ≡ start_of_magic magic head.now }
 {
     match magic {
-        0xa1b2_c3d4 | 0xa1b2_3c4d => Ok(Start::Classic(Order::Big)),
-        0xd4c3_b2a1 | 0x4d3c_b2a1 => Ok(Start::Classic(Order::Little)),
+        0xa1b2_c3d4 | 0xa1b2_3c4d => start_of_version(Order::Big, head),
+        0xd4c3_b2a1 | 0x4d3c_b2a1 => start_of_version(Order::Little, head),
         SECTION => Ok(Start::Blocks),
         _ if magic / 65_536 == 0x1f8b => Err(FileFault::Gzip),
         _ => Err(FileFault::NotCapture),
     }
+}
+
+/// How a pcap file begins by its version, which stands behind its first number.
+fn start_of_version(order: Order, head: &[u8]) -> Result<Start, FileFault>
+    requires { 12 ≤ length head.now }
+    ensures { result ≡ start_of_version order head.now }
+{
+    let lengths = lengths_of(read_u16(order, head, 4), read_u16(order, head, 6))?;
+    Ok(Start::Classic(order, lengths))
 }
 
 /// Reads the second half of a pcap file's header.
@@ -96,21 +107,26 @@ fn start_classic<R: Read>(
     reader: &mut R,
     buffer: &mut Vec<u8>,
     order: Order,
+    lengths: Lengths,
 ) -> Result<Form, FileFault>
-    ensures { (xs : List ℕ) → R.remaining reader.old ≡ Some xs → Begins (classic_start order xs) result (R.remaining reader.new) }
+    ensures { (xs : List ℕ) → R.remaining reader.old ≡ Some xs → Begins (classic_start order lengths xs) result (R.remaining reader.new) }
 {
     fill(reader, buffer, 12)?;
-    classic_form(order, buffer)
+    classic_form(order, lengths, buffer)
 }
 
-fn classic_form(order: Order, rest: &[u8]) -> Result<Form, FileFault>
-    ensures { result ≡ classic_form order rest.now }
+fn classic_form(order: Order, lengths: Lengths, rest: &[u8]) -> Result<Form, FileFault>
+    ensures { result ≡ classic_form order lengths rest.now }
 {
     if rest.len() < 12 {
         return Err(FileFault::Cut);
     }
     let link = read_u32(order, rest, 8) % 65_536;
-    Ok(Form::Classic(order, link as u16))
+    Ok(Form::Classic(FileHeader {
+        order,
+        lengths,
+        link: link as u16,
+    }))
 }
 
 /// Reads what follows the first twelve bytes of a section's block.
@@ -131,28 +147,27 @@ fn start_blocks<R: Read>(
 fn next_record<R: Read>(
     reader: &mut R,
     buffer: &mut Vec<u8>,
-    order: Order,
-    link: u16,
+    header: FileHeader,
 ) -> Result<Item, FileFault>
-    ensures { (xs : List ℕ) → R.remaining reader.old ≡ Some xs → ReadsItem (record_turn order link xs) result (form.Classic order link) buffer.new.items (R.remaining reader.new) }
+    ensures { (xs : List ℕ) → R.remaining reader.old ≡ Some xs → ReadsItem (record_turn header xs) result (form.Classic header) buffer.new.items (R.remaining reader.new) }
 {
     fill(reader, buffer, 16)?;
     if buffer.is_empty() {
         return Ok(Item::End);
     }
-    let frame = record_frame(order, link, buffer)?;
-    read_frame(reader, buffer, order, frame)
+    let frame = record_frame(header, buffer)?;
+    read_frame(reader, buffer, header, frame)
 }
 
 /// Reads the bytes of a record whose header is read.
 fn read_frame<R: Read>(
     reader: &mut R,
     buffer: &mut Vec<u8>,
-    order: Order,
+    header: FileHeader,
     frame: Frame,
 ) -> Result<Item, FileFault>
     requires { frame.count ≤ 524288 }
-    ensures { (xs : List ℕ) → R.remaining reader.old ≡ Some xs → ReadsItem (frame_turn order frame xs) result (form.Classic order frame.link) buffer.new.items (R.remaining reader.new) }
+    ensures { (xs : List ℕ) → R.remaining reader.old ≡ Some xs → ReadsItem (frame_turn header frame xs) result (form.Classic header) buffer.new.items (R.remaining reader.new) }
 {
     fill(reader, buffer, frame.count)?;
     if buffer.len() < frame.count {

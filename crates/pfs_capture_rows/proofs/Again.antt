@@ -5,11 +5,13 @@ use Rattle.std.specs.Str.{bytes_eq}
 use Rattle.std.proofs.lemmas.Bool.{cond-true, le-leb}
 use Rattle.std.proofs.lemmas.Map.Entries.{option_filter}
 use Rattle.pfs_addr_values.specs.Addresses.{addr_text, same_family}
+use Rattle.pfs_addr_values.specs.FlagSets.{letters_text}
 use Rattle.pfs_addr_values.specs.Names.{is_name}
 use Rattle.pfs_addr_values.specs.Protocols.{proto_in}
 use Rattle.pfs_addr_values.specs.declared.packets.Dir.{Dir}
 use Rattle.pfs_addr_values.specs.declared.packets.Dir.TheVariants.{In, Out}
 use Rattle.pfs_addr.specs.Texts.{addr_of}
+use Rattle.pfs_addr.proofs.LetterTexts.{flags_again}
 use Rattle.pfs_addr.proofs.NumberLaws.{number_of-decimal}
 use Rattle.pfs_conf_values.specs.Configs.{Conf}
 use Rattle.pfs_cli_formats.specs.Events.{dir_of, event_at, falls, flags_for, number_to, port_for}
@@ -18,9 +20,7 @@ use Rattle.pfs_capture_packets.specs.Packets.{IsCarried}
 use Rattle.pfs_capture_packets.specs.declared.packets.Carried.{Carried}
 use Rattle.pfs_capture_packets.specs.declared.packets.Carried.TheVariants.{Tcp, Udp, Other}
 use Rattle.pfs_capture_rows.specs.declared.rows.Row.{Row}
-use Rattle.pfs_capture_rows.specs.FlagLetters.{row_letters}
 use Rattle.pfs_capture_rows.specs.Rows.{dir_name, event_of, flags_of_carried, from_port, port_text, proto_carried, proto_name, row_fields, to_port}
-use Rattle.pfs_capture_rows.proofs.Letters.{flags_again}
 use Rattle.pfs_capture_rows.proofs.Protocols.{proto_again, proto_known}
 
 number_again : (most n : ℕ) → n ≤ most → most < 10 ^ 10 → number_to most (decimal n) ≡ Some n
@@ -50,7 +50,7 @@ to_again (Tcp from to flags) h = number_again 65535 to h.1 (omega arith)
 to_again (Udp from to) h = number_again 65535 to h.1 (omega arith)
 to_again (Other n) h = refl
 
-letters_again : (c : Carried) → flags_for (proto_carried c) (row_letters (flags_of_carried c)) ≡ Some (flags_of_carried c)
+letters_again : (c : Carried) → flags_for (proto_carried c) (letters_text (flags_of_carried c)) ≡ Some (flags_of_carried c)
 letters_again (Tcp from to flags) = flags_again flags
 letters_again (Udp from to) = refl
 letters_again (Other n) = refl

@@ -15,20 +15,21 @@ use Rattle.csv.specs.Writing.{default_writer, field_text, fields_text, is_blank,
 use Rattle.csv.specs.declared.parser.State.TheVariants as st
 use Rattle.csv.proofs.RoundTrip.{read-write-many}
 use Rattle.pfs_addr_values.specs.Addresses.{IsAddr, addr_text}
+use Rattle.pfs_addr_values.specs.FlagSets.{letters_text}
 use Rattle.pfs_addr_values.specs.Names.{is_name, is_name_byte}
 use Rattle.pfs_addr_values.specs.Numbers.{is_digit}
 use Rattle.pfs_addr_values.specs.declared.addresses.Addr.{Addr}
 use Rattle.pfs_addr_values.specs.declared.addresses.Addr.TheVariants.{V4, V6}
 use Rattle.pfs_addr_values.specs.declared.packets.Dir.{Dir}
 use Rattle.pfs_addr_values.specs.declared.packets.Dir.TheVariants.{In, Out}
+use Rattle.pfs_addr.proofs.GroupLaws.{segments_small}
+use Rattle.pfs_addr.proofs.LetterTexts.{letters_all}
 use Rattle.pfs_addr.proofs.NumberLaws.{decimal_digits}
 use Rattle.pfs_capture_packets.specs.Packets.{IsCarried}
 use Rattle.pfs_capture_packets.specs.declared.packets.Carried.{Carried}
 use Rattle.pfs_capture_packets.specs.declared.packets.Carried.TheVariants.{Tcp, Udp, Other}
-use Rattle.pfs_capture_rows.specs.FlagLetters.{row_letters}
 use Rattle.pfs_capture_rows.specs.Rows.{capture_row, dir_name, flags_of_carried, from_port, port_text, proto_name, row_dir, row_fields, row_proto, to_port}
 use Rattle.pfs_capture_rows.specs.declared.rows.Row.{Row}
-use Rattle.pfs_capture_rows.proofs.Letters.{letters_all}
 
 -- a byte that means nothing to a reader of rows: no comma, no quote, no end of a line
 abbrev is_plain : ℕ → Bool
@@ -68,16 +69,6 @@ hex_plain (b ∷ w) h =
     ] in
     and_from (is_plain b) (list_all is_plain w) one (hex_plain w (All-tail IsHexOrColon b w h))
 
-groups_fit : (bytes : List ℕ) → All (λ b. b < 256) bytes → AllSegments (segments_of bytes)
-groups_fit [] h k = omega arith
-groups_fit (a ∷ []) h k = omega arith
-groups_fit (a ∷ b ∷ bytes) h k =
-    let rest = All-tail (λ x. x < 256) a (b ∷ bytes) h in
-    let high : a < 256 = All-head (λ x. x < 256) a (b ∷ bytes) h in
-    let low : b < 256 = All-head (λ x. x < 256) b bytes rest in
-    let later = groups_fit bytes (All-tail (λ x. x < 256) b bytes rest) in
-    elim k as (λ j. get_or ((a * 256 + b) ∷ segments_of bytes) j 0 < 2 ^ 16) [ zero ↦ omega arith | suc j ↦ later j ]
-
 pub address_plain : (a : Addr) → IsAddr a → list_all is_plain (addr_text a) ≡ true
 address_plain (V4 (a ∷ b ∷ c ∷ d ∷ [])) h =
     let at : (i : ℕ) → i < 4 → get_or (a ∷ b ∷ c ∷ d ∷ []) i 0 < 256 = λ i lt. All-get_or (λ x. x < 256) (a ∷ b ∷ c ∷ d ∷ []) i 0 lt h.1 in
@@ -86,7 +77,7 @@ address_plain (V4 (a ∷ b ∷ c ∷ d ∷ [])) h =
     (both_plain (46 ∷ decimal b) (46 ∷ (decimal c ++ 46 ∷ decimal d)) (one b (at 1 (omega arith)))
     (both_plain (46 ∷ decimal c) (46 ∷ decimal d) (one c (at 2 (omega arith))) (one d (at 3 (omega arith)))))
 address_plain (V4 _) h = absurd (omega arith)
-address_plain (V6 bytes) h = hex_plain (addr_text (V6 bytes)) (All-hex_groups_text (segments_of bytes) (groups_fit bytes h.1))
+address_plain (V6 bytes) h = hex_plain (addr_text (V6 bytes)) (All-hex_groups_text (segments_of bytes) (segments_small bytes h.1))
 
 -- ---- the other columns
 
@@ -174,7 +165,7 @@ row_joined second dir ifname proto source sport destination dport flags = simp a
 
 pub row_is : (row : Row) → capture_row row ≡ joined (decimal row.second) (dir_name row.dir ∷ row.ifname ∷ proto_name row.packet.carried
     ∷ addr_text row.packet.source ∷ port_text (from_port row.packet.carried) ∷ addr_text row.packet.destination ∷ port_text (to_port row.packet.carried)
-    ∷ row_letters (flags_of_carried row.packet.carried) ∷ [])
+    ∷ letters_text (flags_of_carried row.packet.carried) ∷ [])
 row_is row = rw (dir_is row.dir, proto_is row.packet.carried) (row_joined _ _ _ _ _ _ _ _ _)
 
 pub row_read : (row : Row) → row.second ≤ 4294967295 → is_name 15 row.ifname ≡ true → IsCarried row.packet.carried

@@ -1,4 +1,3 @@
-pub mod Letters
 pub mod Protocols
 pub mod Again
 pub mod Fields

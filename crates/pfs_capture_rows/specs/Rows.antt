@@ -4,6 +4,7 @@ use Rattle.std.specs.Fmt.{decimal}
 use Rattle.std.specs.Option.{option_map_or}
 use Rattle.pfs_addr_values.specs.Addresses.{addr_text}
 use Rattle.pfs_addr_values.specs.declared.addresses.Addr.{Addr}
+use Rattle.pfs_addr_values.specs.FlagSets.{letters_text}
 use Rattle.pfs_addr_values.specs.declared.flag_sets.Flags.{Flags}
 use Rattle.pfs_addr_values.specs.declared.packets.Dir.{Dir}
 use Rattle.pfs_addr_values.specs.declared.packets.Dir.TheVariants.{In, Out}
@@ -16,7 +17,6 @@ use Rattle.pfs_engine_machine.specs.declared.events.Arrival.TheVariants as arriv
 use Rattle.pfs_capture_packets.specs.declared.packets.Carried.{Carried}
 use Rattle.pfs_capture_packets.specs.declared.packets.Carried.TheVariants.{Tcp, Udp, Other}
 use Rattle.pfs_capture_rows.specs.declared.rows.Row.{Row}
-use Rattle.pfs_capture_rows.specs.FlagLetters.{row_letters}
 
 -- whether a packet comes in or goes out, with the commas around it
 abbrev pub row_dir : Dir → List ℕ
@@ -68,7 +68,7 @@ capture_row row =
     start_text row
     ++ (row_end row.packet.source (from_port row.packet.carried)
     ++ (row_end row.packet.destination (to_port row.packet.carried)
-    ++ (row_letters (flags_of_carried row.packet.carried) ++ codes "\n")))
+    ++ (letters_text (flags_of_carried row.packet.carried) ++ codes "\n")))
 
 -- ---- what a replay reads
 
@@ -87,7 +87,7 @@ row_fields row =
     decimal row.second ∷ dir_name row.dir ∷ row.ifname ∷ proto_name row.packet.carried
     ∷ addr_text row.packet.source ∷ port_text (from_port row.packet.carried)
     ∷ addr_text row.packet.destination ∷ port_text (to_port row.packet.carried)
-    ∷ row_letters (flags_of_carried row.packet.carried) ∷ []
+    ∷ letters_text (flags_of_carried row.packet.carried) ∷ []
 
 -- the protocol of what is carried
 abbrev pub proto_carried : Carried → Proto

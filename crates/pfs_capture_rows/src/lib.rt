@@ -2,7 +2,6 @@
 #![tactic(auto)]
 
 mod answers;
-mod flag_letters;
 mod rows;
 
 pub use answers::{ANSWER_HEADER, push_answer};

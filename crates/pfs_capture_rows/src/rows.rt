@@ -12,9 +12,8 @@ ghost use Rattle.pfs_conf_values.specs.Configs.{Conf};
 ghost use Rattle.pfs_cli_formats.specs.Events.{event_at, falls};
 ghost use Rattle.pfs_capture_rows.specs.Rows.{row_dir, row_end, event_of, flags_of_carried, from_port, port_text, row_proto, row_fields, capture_row, start_text, to_port};
 
-use crate::flag_letters::push_letters;
 use itoa::Buffer;
-use pfs_addr::push_addr;
+use pfs_addr::{push_addr, push_flags};
 use pfs_addr_values::{Addr, Dir, Flags, IfName, NoMemory, Proto};
 use pfs_capture_packets::{Carried, IpPacket};
 
@@ -50,7 +49,7 @@ pub fn push_row(out: &mut Vec<u8>, row: &Row) -> Result<(), NoMemory>
     push_start(out, row)?;
     push_end(out, row.packet.source, from_port(&row.packet.carried))?;
     push_end(out, row.packet.destination, to_port(&row.packet.carried))?;
-    push_letters(out, flags_of(&row.packet.carried))?;
+    push_flags(out, flags_of(&row.packet.carried))?;
     out.extend_from_slice(b"\n")?;
     Ok(())
 }

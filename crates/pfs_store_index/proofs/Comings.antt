@@ -7,7 +7,7 @@ use Rattle.std.proofs.lemmas.Grind.{get_or-set_at}
 use Rattle.std.proofs.lemmas.Map.Keys.{IsDistinct-head, IsDistinct-tail, IsDistinct-cons}
 use Rattle.pfs_addr_values.proofs.SameLaws.{same_addr_self, same_addr_true, same_key_true}
 use Rattle.pfs_addr_values.specs.Keys.{first_end, second_end}
-use Rattle.pfs_addr_values.specs.Packets.{Header}
+use Rattle.pfs_addr_values.specs.Packets.{Header, run_limit}
 use Rattle.pfs_addr_values.specs.Sameness.{same_key}
 use Rattle.pfs_addr_values.specs.declared.addresses.Addr.{Addr}
 use Rattle.pfs_addr_values.specs.declared.packets.Dir.{Dir}
@@ -353,7 +353,7 @@ ruled-came counts i v s xs w h =
 
 -- ---- the counts can rise
 
-pub few-counted : (conf : Conf) (xs : List State) (t : Tally) → length xs ≤ 1000000000 → IsCounted conf xs t → IsFew t
+pub few-counted : (conf : Conf) (xs : List State) (t : Tally) → length xs ≤ run_limit → IsCounted conf xs t → IsFew t
 few-counted conf xs t l h =
     let e : t.states ≡ node_states conf t.node.scope t.node.source xs = ap (λ (u : Tally). u.states) h in
     let d : t.connections ≡ node_connections conf t.node.scope t.node.source xs = ap (λ (u : Tally). u.connections) h in

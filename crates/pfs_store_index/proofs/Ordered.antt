@@ -1,5 +1,5 @@
 -- Values at places, found by their rising numbers: one is found, one leaves, one is written, one comes.
-use Rattle.std.proofs.Common.{length, suc, ◌≡◌, ◌≢◌, ℕ, ◌<◌, ◌==◌, Bool, true, false, cond, not, Option, Some, None, List, [], ◌∷◌, ◌++◌, map, refl, sym, ap, ◌∙◌, arith, filter, slice_get}
+use Rattle.std.proofs.Common.{length, suc, ◌≡◌, ◌≢◌, ℕ, ◌<◌, ◌==◌, Bool, true, false, cond, not, Option, Some, None, List, [], ◌∷◌, ◌++◌, map, refl, sym, ap, subst, ◌∙◌, arith, filter, slice_get}
 use Rattle.std.specs.List.{list_any, find, AllByRecursion}
 use Rattle.std.specs.List.Sorted.{IsStrictlySortedBy}
 use Rattle.std.specs.Ordering.{nat_cmp}
@@ -112,22 +112,22 @@ pub record IsUpdated {P V : Type 0} (T U : P → Option V) (p : P) (w : Option V
   pub changed : U p ≡ w
   pub others : (q : P) → q ≢ p → U q ≡ T q
 
-module _ {P V : Type 0} (num : V → ℕ) (pl : V → P) where
+module _ {P V : Type 0} (num : V → ℕ) (At : V → P → Type 0) where
   -- the value that a look-up leads to
-  pub found : (T : P → Option V) (n : ℕ) (p : P) (es : List (ℕ × P)) → AllByRecursion (IsPlaced num pl T) es → lookup (is_at (nat_cmp n)) es ≡ Some p → IsPlaced num pl T (n, p)
+  pub found : (T : P → Option V) (n : ℕ) (p : P) (es : List (ℕ × P)) → AllByRecursion (IsPlaced num At T) es → lookup (is_at (nat_cmp n)) es ≡ Some p → IsPlaced num At T (n, p)
   found T n p [] h l = absurd cc
   found T n p (e ∷ es) (h, hs) l = go (found T n p es hs) (is_at (nat_cmp n) e.0) refl
     where
-      go : (lookup (is_at (nat_cmp n)) es ≡ Some p → IsPlaced num pl T (n, p)) → (b : Bool) → is_at (nat_cmp n) e.0 ≡ b → IsPlaced num pl T (n, p)
+      go : (lookup (is_at (nat_cmp n)) es ≡ Some p → IsPlaced num At T (n, p)) → (b : Bool) → is_at (nat_cmp n) e.0 ≡ b → IsPlaced num At T (n, p)
       go more true t =
           let l' : Some e.1 ≡ Some p = (rw t at l) in
           let q : e.1 ≡ p = cc in
           let k = at_same n e.0 t in
-          (h.0, sym (ap T q) ∙ h.1, h.2 ∙ sym k, h.3 ∙ q)
+          (h.0, sym (ap T q) ∙ h.1, h.2 ∙ sym k, subst (At h.0) q h.3)
       go more false t = more (rw t at l)
 
   -- the first value of a number is that at its place
-  pub find_placed : (T : P → Option V) (n : ℕ) (es : List (ℕ × P)) (p : P) → AllByRecursion (IsPlaced num pl T) es → lookup (is_at (nat_cmp n)) es ≡ Some p
+  pub find_placed : (T : P → Option V) (n : ℕ) (es : List (ℕ × P)) (p : P) → AllByRecursion (IsPlaced num At T) es → lookup (is_at (nat_cmp n)) es ≡ Some p
       → find (λ (v : V). num v == n) (values_at T es) ≡ T p
   find_placed T n [] p h l = absurd cc
   find_placed T n (e ∷ es) p (h, hs) l = go (find_placed T n es p hs) (is_at (nat_cmp n) e.0) refl
@@ -146,7 +146,7 @@ module _ {P V : Type 0} (num : V → ℕ) (pl : V → P) where
           rw (h.1, y) (more (rw t at l))
 
   -- none has a number that no look-up finds
-  pub none_placed : (T : P → Option V) (n : ℕ) (es : List (ℕ × P)) → AllByRecursion (IsPlaced num pl T) es → lookup (is_at (nat_cmp n)) es ≡ None
+  pub none_placed : (T : P → Option V) (n : ℕ) (es : List (ℕ × P)) → AllByRecursion (IsPlaced num At T) es → lookup (is_at (nat_cmp n)) es ≡ None
       → list_any (λ (v : V). num v == n) (values_at T es) ≡ false
   none_placed T n [] h l = refl
   none_placed T n (e ∷ es) (h, hs) l = go (none_placed T n es hs) (is_at (nat_cmp n) e.0) refl
@@ -159,14 +159,27 @@ module _ {P V : Type 0} (num : V → ℕ) (pl : V → P) where
           let y : (num h.0 == n) ≡ false = grind (arith, nat_tests, d, h.2) in
           rw (h.1, y) (more (rw t at l))
 
-  pub in_none : (T : P → Option V) (n : ℕ) (es : List (ℕ × P)) → AllByRecursion (IsPlaced num pl T) es → lookup (is_at (nat_cmp n)) es ≡ None
+  pub in_none : (T : P → Option V) (n : ℕ) (es : List (ℕ × P)) → AllByRecursion (IsPlaced num At T) es → lookup (is_at (nat_cmp n)) es ≡ None
       → list_any (λ (v : V). num v == n) (values_at T es) ≡ true → ⊥
   in_none T n es h l i = let f = none_placed T n es h l in absurd (cc (f, i))
 
+  -- a value that passes a test has its place
+  pub in_place : (test : V → Bool) (T : P → Option V) (es : List (ℕ × P)) → AllByRecursion (IsPlaced num At T) es → list_any test (values_at T es) ≡ true
+      → (v : V) × (p : P) × (test v ≡ true) × At v p
+  in_place test T [] h a = absurd (cc a)
+  in_place test T (e ∷ es) (h, hs) a =
+      let a' : list_any test (h.0 ∷ values_at T es) ≡ true = (rw h.1 at a) in
+      go (in_place test T es hs) a' (test h.0) refl
+    where
+      go : (list_any test (values_at T es) ≡ true → (v : V) × (p : P) × (test v ≡ true) × At v p) → list_any test (h.0 ∷ values_at T es) ≡ true → (b : Bool) → test h.0 ≡ b
+          → (v : V) × (p : P) × (test v ≡ true) × At v p
+      go more a' true t = (h.0, e.1, t, h.3)
+      go more a' false t = more (rw t at a')
+
   -- the entry of a value that passes a test of its number and place
   pub look-placed : (test : V → Bool) (T : P → Option V) (n : ℕ) (p : P) (es : List (ℕ × P))
-      → ((v : V) → test v ≡ true → (num v ≡ n) × (pl v ≡ p))
-      → IsStrictlySortedBy nat_cmp (keys_of es) → AllByRecursion (IsPlaced num pl T) es → list_any test (values_at T es) ≡ true → lookup (is_at (nat_cmp n)) es ≡ Some p
+      → ((v : V) → test v ≡ true → (num v ≡ n) × ((q : P) → At v q → q ≡ p))
+      → IsStrictlySortedBy nat_cmp (keys_of es) → AllByRecursion (IsPlaced num At T) es → list_any test (values_at T es) ≡ true → lookup (is_at (nat_cmp n)) es ≡ Some p
   look-placed test T n p [] s o h a = absurd (cc a)
   look-placed test T n p (e ∷ es) s o (h, hs) a =
       let a' : list_any test (h.0 ∷ values_at T es) ≡ true = (rw h.1 at a) in
@@ -176,7 +189,7 @@ module _ {P V : Type 0} (num : V → ℕ) (pl : V → P) where
           → lookup (is_at (nat_cmp n)) (e ∷ es) ≡ Some p
       go more a' true t =
           let f = s h.0 t in
-          rw (at_self n e.0 (sym f.0 ∙ h.2)) (ap Some (sym h.3 ∙ f.1))
+          rw (at_self n e.0 (sym f.0 ∙ h.2)) (ap Some (f.1 e.1 h.3))
       go more a' false t =
           let l = more (rw t at a') in
           let d = lookup-past e.0 n p es (sorted_head nat_cmp e.0 (keys_of es) o) l in
@@ -184,15 +197,15 @@ module _ {P V : Type 0} (num : V → ℕ) (pl : V → P) where
           rw (at_other n e.0 k) l
 
   -- the numbers of the values are the keys
-  pub numbers-held : (T : P → Option V) (es : List (ℕ × P)) → AllByRecursion (IsPlaced num pl T) es → map num (values_at T es) ≡ keys_of es
+  pub numbers-held : (T : P → Option V) (es : List (ℕ × P)) → AllByRecursion (IsPlaced num At T) es → map num (values_at T es) ≡ keys_of es
   numbers-held T [] h = refl
   numbers-held T (e ∷ es) (h, hs) = rw h.1 (cc (h.2, numbers-held T es hs))
 
-  pub length-held : (T : P → Option V) (es : List (ℕ × P)) → AllByRecursion (IsPlaced num pl T) es → length (values_at T es) ≡ length es
+  pub length-held : (T : P → Option V) (es : List (ℕ × P)) → AllByRecursion (IsPlaced num At T) es → length (values_at T es) ≡ length es
   length-held T [] h = refl
   length-held T (e ∷ es) (h, hs) = rw h.1 (ap suc (length-held T es hs))
 
-  pub rising-held : (T : P → Option V) (es : List (ℕ × P)) → AreInPlace num pl T es → IsStrictlySortedBy nat_cmp (map num (values_at T es))
+  pub rising-held : (T : P → Option V) (es : List (ℕ × P)) → AreInPlace num At T es → IsStrictlySortedBy nat_cmp (map num (values_at T es))
   rising-held T es k = rw (numbers-held T es k.placed) k.ordered
 
   -- ---- a change at a place that no entry of these has
@@ -204,7 +217,7 @@ module _ {P V : Type 0} (num : V → ℕ) (pl : V → P) where
   held-same T U [] h = refl
   held-same T U (e ∷ es) (h, hs) = rw (h, held-same T U es hs)
 
-  pub placed-same : (T U : P → Option V) (es : List (ℕ × P)) → AllByRecursion (IsSame T U) es → AllByRecursion (IsPlaced num pl T) es → AllByRecursion (IsPlaced num pl U) es
+  pub placed-same : (T U : P → Option V) (es : List (ℕ × P)) → AllByRecursion (IsSame T U) es → AllByRecursion (IsPlaced num At T) es → AllByRecursion (IsPlaced num At U) es
   placed-same T U [] h p = tt
   placed-same T U (e ∷ es) (h, hs) (p, ps) = ((p.0, h ∙ p.1, p.2, p.3), placed-same T U es hs ps)
 
@@ -216,41 +229,41 @@ module _ {P V : Type 0} (num : V → ℕ) (pl : V → P) where
   pub held-all : (T U : P → Option V) (es : List (ℕ × P)) → ((q : P) → U q ≡ T q) → values_at U es ≡ values_at T es
   held-all T U es h = held-same T U es (same-all T U es h)
 
-  pub kept-all : (T U : P → Option V) (es : List (ℕ × P)) → ((q : P) → U q ≡ T q) → AreInPlace num pl T es → AreInPlace num pl U es
+  pub kept-all : (T U : P → Option V) (es : List (ℕ × P)) → ((q : P) → U q ≡ T q) → AreInPlace num At T es → AreInPlace num At U es
   kept-all T U es h k = record { placed = placed-same T U es (same-all T U es h) k.placed; ordered = k.ordered }
 
   -- a vacant place is none of theirs
-  pub same-vacant : (T U : P → Option V) (p : P) (w : Option V) (es : List (ℕ × P)) → T p ≡ None → IsUpdated T U p w → AllByRecursion (IsPlaced num pl T) es → AllByRecursion (IsSame T U) es
+  pub same-vacant : (T U : P → Option V) (p : P) (w : Option V) (es : List (ℕ × P)) → T p ≡ None → IsUpdated T U p w → AllByRecursion (IsPlaced num At T) es → AllByRecursion (IsSame T U) es
   same-vacant T U p w [] v u h = tt
   same-vacant T U p w (e ∷ es) v u (h, hs) =
       (u.others e.1 (λ q. let a : T e.1 ≡ None = ap T q ∙ v in absurd (cc (a, h.1))), same-vacant T U p w es v u hs)
 
   -- nor is the place of another number
-  pub same-other : (T U : P → Option V) (p : P) (n : ℕ) (w : Option V) (es : List (ℕ × P)) → IsPlaced num pl T (n, p) → IsUpdated T U p w → AllByRecursion (IsOther n) es → AllByRecursion (IsPlaced num pl T) es → AllByRecursion (IsSame T U) es
+  pub same-other : (T U : P → Option V) (p : P) (n : ℕ) (w : Option V) (es : List (ℕ × P)) → IsPlaced num At T (n, p) → IsUpdated T U p w → AllByRecursion (IsOther n) es → AllByRecursion (IsPlaced num At T) es → AllByRecursion (IsSame T U) es
   same-other T U p n w [] r u o h = tt
   same-other T U p n w (e ∷ es) r u (o, os) (h, hs) =
       (u.others e.1 (λ q. let a : T e.1 ≡ Some r.0 = ap T q ∙ r.1 in let b : h.0 ≡ r.0 = cc (a, h.1) in let k : num h.0 ≡ num r.0 = ap num b in o (sym r.2 ∙ sym k ∙ h.2)), same-other T U p n w es r u os hs)
 
   -- ---- an entry is taken out
 
-  pub placed-removed : (test : ℕ → Bool) (T : P → Option V) (es : List (ℕ × P)) → AllByRecursion (IsPlaced num pl T) es → AllByRecursion (IsPlaced num pl T) (remove_entry test es)
+  pub placed-removed : (test : ℕ → Bool) (T : P → Option V) (es : List (ℕ × P)) → AllByRecursion (IsPlaced num At T) es → AllByRecursion (IsPlaced num At T) (remove_entry test es)
   placed-removed test T [] h = tt
   placed-removed test T (e ∷ es) (h, hs) = go (placed-removed test T es hs) (test e.0) refl
     where
-      go : AllByRecursion (IsPlaced num pl T) (remove_entry test es) → (b : Bool) → test e.0 ≡ b → AllByRecursion (IsPlaced num pl T) (remove_entry test (e ∷ es))
+      go : AllByRecursion (IsPlaced num At T) (remove_entry test es) → (b : Bool) → test e.0 ≡ b → AllByRecursion (IsPlaced num At T) (remove_entry test (e ∷ es))
       go more true t = rw t hs
       go more false t = rw t (h, more)
 
   abbrev pub is_other : ℕ → V → Bool
   is_other n v = not (num v == n)
 
-  pub filter-others : (n : ℕ) (T : P → Option V) (es : List (ℕ × P)) → AllByRecursion (IsOther n) es → AllByRecursion (IsPlaced num pl T) es → filter (is_other n) (values_at T es) ≡ values_at T es
+  pub filter-others : (n : ℕ) (T : P → Option V) (es : List (ℕ × P)) → AllByRecursion (IsOther n) es → AllByRecursion (IsPlaced num At T) es → filter (is_other n) (values_at T es) ≡ values_at T es
   filter-others n T [] o h = refl
   filter-others n T (e ∷ es) (o, os) (h, hs) =
       let y : (num h.0 == n) ≡ false = grind (arith, nat_tests, o, h.2) in
       rw (h.1, y) (ap (λ xs. h.0 ∷ xs) (filter-others n T es os hs))
 
-  pub filter-removed : (n : ℕ) (T : P → Option V) (es : List (ℕ × P)) → IsStrictlySortedBy nat_cmp (keys_of es) → AllByRecursion (IsPlaced num pl T) es
+  pub filter-removed : (n : ℕ) (T : P → Option V) (es : List (ℕ × P)) → IsStrictlySortedBy nat_cmp (keys_of es) → AllByRecursion (IsPlaced num At T) es
       → values_at T (remove_entry (is_at (nat_cmp n)) es) ≡ filter (is_other n) (values_at T es)
   filter-removed n T [] o h = refl
   filter-removed n T (e ∷ es) o (h, hs) = go (filter-removed n T es (sorted_tail nat_cmp e.0 (keys_of es) o) hs) (is_at (nat_cmp n) e.0) refl
@@ -267,15 +280,15 @@ module _ {P V : Type 0} (num : V → ℕ) (pl : V → P) where
           let y : (num h.0 == n) ≡ false = grind (arith, nat_tests, d, h.2) in
           rw (t, h.1, y) (ap (λ xs. h.0 ∷ xs) more)
 
-  pub same-removed : (T U : P → Option V) (p : P) (n : ℕ) (es : List (ℕ × P)) → IsPlaced num pl T (n, p) → IsUpdated T U p None → AreInPlace num pl T es → AllByRecursion (IsSame T U) (remove_entry (is_at (nat_cmp n)) es)
+  pub same-removed : (T U : P → Option V) (p : P) (n : ℕ) (es : List (ℕ × P)) → IsPlaced num At T (n, p) → IsUpdated T U p None → AreInPlace num At T es → AllByRecursion (IsSame T U) (remove_entry (is_at (nat_cmp n)) es)
   same-removed T U p n es r u k = same-other T U p n None _ r u (others-removed n es k.ordered) (placed-removed _ T es k.placed)
 
-  pub held-removed : (T U : P → Option V) (p : P) (n : ℕ) (es fs : List (ℕ × P)) → lookup (is_at (nat_cmp n)) es ≡ Some p → IsUpdated T U p None → AreInPlace num pl T es
+  pub held-removed : (T U : P → Option V) (p : P) (n : ℕ) (es fs : List (ℕ × P)) → lookup (is_at (nat_cmp n)) es ≡ Some p → IsUpdated T U p None → AreInPlace num At T es
       → fs ≡ remove_entry (is_at (nat_cmp n)) es → values_at U fs ≡ filter (is_other n) (values_at T es)
   held-removed T U p n es fs l u k e = rw e (held-same T U _ (same-removed T U p n es (found T n p es k.placed l) u k) ∙ filter-removed n T es k.ordered k.placed)
 
-  pub kept-removed : (T U : P → Option V) (p : P) (n : ℕ) (es fs : List (ℕ × P)) → lookup (is_at (nat_cmp n)) es ≡ Some p → IsUpdated T U p None → AreInPlace num pl T es
-      → fs ≡ remove_entry (is_at (nat_cmp n)) es → IsStrictlySortedBy nat_cmp (keys_of fs) → AreInPlace num pl U fs
+  pub kept-removed : (T U : P → Option V) (p : P) (n : ℕ) (es fs : List (ℕ × P)) → lookup (is_at (nat_cmp n)) es ≡ Some p → IsUpdated T U p None → AreInPlace num At T es
+      → fs ≡ remove_entry (is_at (nat_cmp n)) es → IsStrictlySortedBy nat_cmp (keys_of fs) → AreInPlace num At U fs
   kept-removed T U p n es fs l u k e o = record {
     placed = rw e (placed-same T U _ (same-removed T U p n es (found T n p es k.placed l) u k) (placed-removed _ T es k.placed));
     ordered = o;
@@ -283,7 +296,7 @@ module _ {P V : Type 0} (num : V → ℕ) (pl : V → P) where
 
   -- ---- a value takes the place of another, where a function changes this one and no other
 
-  pub map-others : (f : V → V) (n : ℕ) (T : P → Option V) (es : List (ℕ × P)) → ((v : V) → (num v == n) ≡ false → f v ≡ v) → AllByRecursion (IsOther n) es → AllByRecursion (IsPlaced num pl T) es → map f (values_at T es) ≡ values_at T es
+  pub map-others : (f : V → V) (n : ℕ) (T : P → Option V) (es : List (ℕ × P)) → ((v : V) → (num v == n) ≡ false → f v ≡ v) → AllByRecursion (IsOther n) es → AllByRecursion (IsPlaced num At T) es → map f (values_at T es) ≡ values_at T es
   map-others f n T [] s o h = refl
   map-others f n T (e ∷ es) s (o, os) (h, hs) =
       let y : (num h.0 == n) ≡ false = grind (arith, nat_tests, o, h.2) in
@@ -293,7 +306,7 @@ module _ {P V : Type 0} (num : V → ℕ) (pl : V → P) where
 
   pub held-written : (f : V → V) (T U : P → Option V) (p : P) (n : ℕ) (w : V) (es : List (ℕ × P))
       → ((v : V) → (num v == n) ≡ false → f v ≡ v) → ((v : V) → T p ≡ Some v → f v ≡ w)
-      → lookup (is_at (nat_cmp n)) es ≡ Some p → IsPlaced num pl T (n, p) → IsUpdated T U p (Some w) → IsStrictlySortedBy nat_cmp (keys_of es) → AllByRecursion (IsPlaced num pl T) es
+      → lookup (is_at (nat_cmp n)) es ≡ Some p → IsPlaced num At T (n, p) → IsUpdated T U p (Some w) → IsStrictlySortedBy nat_cmp (keys_of es) → AllByRecursion (IsPlaced num At T) es
       → values_at U es ≡ map f (values_at T es)
   held-written f T U p n w [] s m l r u o h = refl
   held-written f T U p n w (e ∷ es) s m l r u o (h, hs) =
@@ -317,48 +330,48 @@ module _ {P V : Type 0} (num : V → ℕ) (pl : V → P) where
           let m' = more (rw i at l) in
           rw (now, h.1, z) (ap (λ xs. h.0 ∷ xs) m')
 
-  pub placed-written : (T U : P → Option V) (p : P) (n : ℕ) (w : V) (es : List (ℕ × P)) → num w ≡ n → pl w ≡ p → lookup (is_at (nat_cmp n)) es ≡ Some p → IsPlaced num pl T (n, p) → IsUpdated T U p (Some w) → IsStrictlySortedBy nat_cmp (keys_of es) → AllByRecursion (IsPlaced num pl T) es
-      → AllByRecursion (IsPlaced num pl U) es
+  pub placed-written : (T U : P → Option V) (p : P) (n : ℕ) (w : V) (es : List (ℕ × P)) → num w ≡ n → At w p → lookup (is_at (nat_cmp n)) es ≡ Some p → IsPlaced num At T (n, p) → IsUpdated T U p (Some w) → IsStrictlySortedBy nat_cmp (keys_of es) → AllByRecursion (IsPlaced num At T) es
+      → AllByRecursion (IsPlaced num At U) es
   placed-written T U p n w [] a b l r u o h = tt
   placed-written T U p n w (e ∷ es) a b l r u o (h, hs) =
       go (λ l'. placed-written T U p n w es a b l' r u (sorted_tail nat_cmp e.0 (keys_of es) o) hs) (is_at (nat_cmp n) e.0) refl
     where
-      go : (lookup (is_at (nat_cmp n)) es ≡ Some p → AllByRecursion (IsPlaced num pl U) es) → (c : Bool) → is_at (nat_cmp n) e.0 ≡ c → AllByRecursion (IsPlaced num pl U) (e ∷ es)
+      go : (lookup (is_at (nat_cmp n)) es ≡ Some p → AllByRecursion (IsPlaced num At U) es) → (c : Bool) → is_at (nat_cmp n) e.0 ≡ c → AllByRecursion (IsPlaced num At U) (e ∷ es)
       go more true i =
           let k = at_same n e.0 i in
           let hd = sorted_head nat_cmp e.0 (keys_of es) o in
           let os = others-sorted n es (rw k hd) in
           let l' : Some e.1 ≡ Some p = (rw i at l) in
           let q : e.1 ≡ p = cc in
-          ((w, ap U q ∙ u.changed, a ∙ k, b ∙ sym q), placed-same T U es (same-other T U p n (Some w) es r u os hs) hs)
+          ((w, ap U q ∙ u.changed, a ∙ k, subst (At w) (sym q) b), placed-same T U es (same-other T U p n (Some w) es r u os hs) hs)
       go more false i =
           let d = at_apart n e.0 i in
           ((h.0, (same-other T U p n (Some w) (e ∷ []) r u (d, tt) (h, tt)).0 ∙ h.1, h.2, h.3), more (rw i at l))
 
   pub view-written : (f : V → V) (T U : P → Option V) (p : P) (n : ℕ) (w : V) (es : List (ℕ × P))
       → ((v : V) → (num v == n) ≡ false → f v ≡ v) → ((v : V) → T p ≡ Some v → f v ≡ w)
-      → lookup (is_at (nat_cmp n)) es ≡ Some p → IsUpdated T U p (Some w) → AreInPlace num pl T es → values_at U es ≡ map f (values_at T es)
+      → lookup (is_at (nat_cmp n)) es ≡ Some p → IsUpdated T U p (Some w) → AreInPlace num At T es → values_at U es ≡ map f (values_at T es)
   view-written f T U p n w es s m l u k = held-written f T U p n w es s m l (found T n p es k.placed l) u k.ordered k.placed
 
-  pub kept-written : (T U : P → Option V) (p : P) (n : ℕ) (w : V) (es : List (ℕ × P)) → num w ≡ n → pl w ≡ p → lookup (is_at (nat_cmp n)) es ≡ Some p → IsUpdated T U p (Some w) → AreInPlace num pl T es → AreInPlace num pl U es
+  pub kept-written : (T U : P → Option V) (p : P) (n : ℕ) (w : V) (es : List (ℕ × P)) → num w ≡ n → At w p → lookup (is_at (nat_cmp n)) es ≡ Some p → IsUpdated T U p (Some w) → AreInPlace num At T es → AreInPlace num At U es
   kept-written T U p n w es a b l u k = record { placed = placed-written T U p n w es a b l (found T n p es k.placed l) u k.ordered k.placed; ordered = k.ordered }
 
   -- ---- a value at the end
 
-  pub below-keys : (n : ℕ) (T : P → Option V) (es : List (ℕ × P)) → AllByRecursion (IsPlaced num pl T) es → AllByRecursion (λ k. k < n) (map num (values_at T es)) → AllByRecursion (λ k. k < n) (keys_of es)
+  pub below-keys : (n : ℕ) (T : P → Option V) (es : List (ℕ × P)) → AllByRecursion (IsPlaced num At T) es → AllByRecursion (λ k. k < n) (map num (values_at T es)) → AllByRecursion (λ k. k < n) (keys_of es)
   below-keys n T es h a = rw (numbers-held T es h) at a
 
-  placed-push : (T : P → Option V) (e : ℕ × P) (es : List (ℕ × P)) → AllByRecursion (IsPlaced num pl T) es → IsPlaced num pl T e → AllByRecursion (IsPlaced num pl T) (es ++ e ∷ [])
+  placed-push : (T : P → Option V) (e : ℕ × P) (es : List (ℕ × P)) → AllByRecursion (IsPlaced num At T) es → IsPlaced num At T e → AllByRecursion (IsPlaced num At T) (es ++ e ∷ [])
   placed-push T e [] h p = (p, tt)
   placed-push T e (f ∷ es) (h, hs) p = (h, placed-push T e es hs p)
 
-  pub held-pushed : (T U : P → Option V) (p : P) (v : V) (es fs : List (ℕ × P)) → T p ≡ None → IsUpdated T U p (Some v) → AreInPlace num pl T es → AllByRecursion (λ k. k < num v) (map num (values_at T es)) → fs ≡ insert_entry nat_cmp es (num v) p
+  pub held-pushed : (T U : P → Option V) (p : P) (v : V) (es fs : List (ℕ × P)) → T p ≡ None → IsUpdated T U p (Some v) → AreInPlace num At T es → AllByRecursion (λ k. k < num v) (map num (values_at T es)) → fs ≡ insert_entry nat_cmp es (num v) p
       → values_at U fs ≡ values_at T es ++ v ∷ []
   held-pushed T U p v es fs n u k a e =
       rw (e, insert-last (num v) p es (below-keys (num v) T es k.placed a), filter_map-append, u.changed, held-same T U es (same-vacant T U p (Some v) es n u k.placed)) refl
 
-  pub kept-pushed : (T U : P → Option V) (p : P) (v : V) (es fs : List (ℕ × P)) → T p ≡ None → IsUpdated T U p (Some v) → AreInPlace num pl T es → AllByRecursion (λ k. k < num v) (map num (values_at T es)) → pl v ≡ p → fs ≡ insert_entry nat_cmp es (num v) p
-      → IsStrictlySortedBy nat_cmp (keys_of fs) → AreInPlace num pl U fs
+  pub kept-pushed : (T U : P → Option V) (p : P) (v : V) (es fs : List (ℕ × P)) → T p ≡ None → IsUpdated T U p (Some v) → AreInPlace num At T es → AllByRecursion (λ k. k < num v) (map num (values_at T es)) → At v p → fs ≡ insert_entry nat_cmp es (num v) p
+      → IsStrictlySortedBy nat_cmp (keys_of fs) → AreInPlace num At U fs
   kept-pushed T U p v es fs n u k a b e o = record {
     placed = rw (e, insert-last (num v) p es (below-keys (num v) T es k.placed a)) (placed-push U (num v, p) es (placed-same T U es (same-vacant T U p (Some v) es n u k.placed) k.placed) (v, u.changed, refl, b));
     ordered = o;
@@ -366,13 +379,13 @@ module _ {P V : Type 0} (num : V → ℕ) (pl : V → P) where
 
   -- ---- the next number
 
-  pub first_between : (a m : ℕ) (T : P → Option V) (k : ℕ) (p : P) (rest es : List (ℕ × P)) → AllByRecursion (IsPlaced num pl T) es → (k, p) ∷ rest ≡ entries_between nat_cmp (Excluded a) (Included m) es
+  pub first_between : (a m : ℕ) (T : P → Option V) (k : ℕ) (p : P) (rest es : List (ℕ × P)) → AllByRecursion (IsPlaced num At T) es → (k, p) ∷ rest ≡ entries_between nat_cmp (Excluded a) (Included m) es
       → Some k ≡ slice_get (filter (between a m) (map num (values_at T es))) 0
   first_between a m T k p rest es h e =
       let q : k ∷ keys_of rest ≡ filter (between a m) (keys_of es) = ap keys_of e ∙ keys-between a m es in
       rw (numbers-held T es h) (ap (λ (xs : List ℕ). slice_get xs 0) q)
 
-  pub none_between : (a m : ℕ) (T : P → Option V) (es : List (ℕ × P)) → AllByRecursion (IsPlaced num pl T) es → [] ≡ entries_between nat_cmp (Excluded a) (Included m) es
+  pub none_between : (a m : ℕ) (T : P → Option V) (es : List (ℕ × P)) → AllByRecursion (IsPlaced num At T) es → [] ≡ entries_between nat_cmp (Excluded a) (Included m) es
       → None ≡ slice_get (filter (between a m) (map num (values_at T es))) 0
   none_between a m T es h e =
       let q : [] ≡ filter (between a m) (keys_of es) = ap keys_of e ∙ keys-between a m es in
@@ -380,21 +393,19 @@ module _ {P V : Type 0} (num : V → ℕ) (pl : V → P) where
 
   -- ---- the value at a place
 
-  -- a value that a test finds by its place
-  pub find-vacant : (test : V → Bool) (T : P → Option V) (p : P) (es : List (ℕ × P)) → ((v : V) → test v ≡ true → pl v ≡ p)
-      → T p ≡ None → AllByRecursion (IsPlaced num pl T) es → find test (values_at T es) ≡ None
-  find-vacant test T p [] s n h = refl
-  find-vacant test T p (e ∷ es) s n (h, hs) = go (find-vacant test T p es s n hs) (test h.0) refl
+  -- none passes a test, where none that stands anywhere does
+  pub find-vacant : (test : V → Bool) (T : P → Option V) (es : List (ℕ × P)) → ((v : V) (q : P) → test v ≡ true → At v q → ⊥)
+      → AllByRecursion (IsPlaced num At T) es → find test (values_at T es) ≡ None
+  find-vacant test T [] s h = refl
+  find-vacant test T (e ∷ es) s (h, hs) = go (find-vacant test T es s hs) (test h.0) refl
     where
       go : find test (values_at T es) ≡ None → (b : Bool) → test h.0 ≡ b → find test (values_at T (e ∷ es)) ≡ None
-      go more true t =
-          let q : e.1 ≡ p = sym h.3 ∙ s h.0 t in
-          let a : T e.1 ≡ None = ap T q ∙ n in
-          absurd (cc (a, h.1))
+      go more true t = absurd (s h.0 e.1 t h.3)
       go more false t = rw (h.1, t) more
 
-  pub find-held : (test : V → Bool) (T : P → Option V) (p : P) (v : V) (es : List (ℕ × P)) → ((v : V) → test v ≡ true → pl v ≡ p) → ((v : V) → pl v ≡ p → test v ≡ true)
-      → T p ≡ Some v → lookup (is_at (nat_cmp (num v))) es ≡ Some p → AllByRecursion (IsPlaced num pl T) es → find test (values_at T es) ≡ Some v
+  -- a value that a test finds by its place
+  pub find-held : (test : V → Bool) (T : P → Option V) (p : P) (v : V) (es : List (ℕ × P)) → ((u : V) (q : P) → test u ≡ true → At u q → q ≡ p) → test v ≡ true
+      → T p ≡ Some v → lookup (is_at (nat_cmp (num v))) es ≡ Some p → AllByRecursion (IsPlaced num At T) es → find test (values_at T es) ≡ Some v
   find-held test T p v [] s c n l h = absurd cc
   find-held test T p v (e ∷ es) s c n l (h, hs) = go (λ l'. find-held test T p v es s c n l' hs) (test h.0) refl
     where
@@ -402,13 +413,15 @@ module _ {P V : Type 0} (num : V → ℕ) (pl : V → P) where
       skip true i t =
           let l' : Some e.1 ≡ Some p = (rw i at l) in
           let q : e.1 ≡ p = cc in
-          let y = c h.0 (h.3 ∙ q) in
-          absurd (cc (y, t))
+          let a : T e.1 ≡ Some v = ap T q ∙ n in
+          let y : v ≡ h.0 = cc (a, h.1) in
+          let z : test h.0 ≡ true = ap test (sym y) ∙ c in
+          absurd (cc (z, t))
       skip false i t = rw i at l
 
       go : (lookup (is_at (nat_cmp (num v))) es ≡ Some p → find test (values_at T es) ≡ Some v) → (b : Bool) → test h.0 ≡ b → find test (values_at T (e ∷ es)) ≡ Some v
       go more true t =
-          let q : e.1 ≡ p = sym h.3 ∙ s h.0 t in
+          let q : e.1 ≡ p = s h.0 e.1 t h.3 in
           let a : T e.1 ≡ Some v = ap T q ∙ n in
           rw (h.1, t) (sym h.1 ∙ a)
       go more false t = let m = more (skip (is_at (nat_cmp (num v)) e.0) refl t) in rw (h.1, t) m

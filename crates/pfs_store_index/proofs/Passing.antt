@@ -42,8 +42,8 @@ module _ {P V : Type 0} where
       each-more (OfValue R at) above last most k p rest es o (head-in last most k p rest es x) x (each-weaker Q R f at above last es u)
       (λ w h. let q : w ≡ v = cc (h, g) in subst R (sym q) r)
 
-module _ {P V : Type 0} (number : V → ℕ) (place : V → P) where
-  pub each-value : (Q : V → Type 0) (at : P → Option V) (a m : ℕ) (es : List (ℕ × P)) → AllByRecursion (IsPlaced number place at) es → Each (OfValue Q at) a m es
+module _ {P V : Type 0} (number : V → ℕ) (At : V → P → Type 0) where
+  pub each-value : (Q : V → Type 0) (at : P → Option V) (a m : ℕ) (es : List (ℕ × P)) → AllByRecursion (IsPlaced number At at) es → Each (OfValue Q at) a m es
       → AllByRecursion (λ (v : V). between a m (number v) ≡ true → Q v) (values_at at es)
   each-value Q at a m [] h w = tt
   each-value Q at a m (e ∷ es) (h, hs) (w, ws) = rw h.1 (here, each-value Q at a m es hs ws)
@@ -52,7 +52,7 @@ module _ {P V : Type 0} (number : V → ℕ) (place : V → P) where
       here b = w (ap (between a m) (sym h.2) ∙ b) h.0 h.1
 
   -- the walk so far
-  pub is-passing : (test : V → Bool) (at : P → Option V) (es left : List (ℕ × P)) (above last most share stayed : ℕ) → AreInPlace number place at es
+  pub is-passing : (test : V → Bool) (at : P → Option V) (es left : List (ℕ × P)) (above last most share stayed : ℕ) → AreInPlace number At at es
       → Walking (OfValue (λ (v : V). test v ≡ false) at) es left above last most stayed → stayed ≤ share → IsPassing number test (values_at at es) above most share stayed last
   is-passing test at es left above last most share stayed k w s = record {
     from = w.from;
@@ -65,7 +65,7 @@ module _ {P V : Type 0} (number : V → ℕ) (place : V → P) where
   }
     where
       numbers : map number (values_at at es) ≡ keys_of es
-      numbers = numbers-held number place at es k.placed
+      numbers = numbers-held number At at es k.placed
 
       split : filter (between above most) (keys_of es) ≡ filter (between above last) (keys_of es) ++ filter (between last most) (keys_of es)
       split = split-keys above last most es k.ordered w.from w.to

@@ -10,7 +10,7 @@ use Rattle.slab.proofs.SlabLemmas.{Updates-with_value}
 use Rattle.pfs_store_contract.specs.Calls.{other_than}
 use Rattle.pfs_store_contract.specs.Purging.{state_numbers}
 use Rattle.pfs_store_contract.specs.declared.records.State.{State}
-use Rattle.pfs_store_index.specs.Keeping.{values_at, IsPlaced, AreInPlace, number_in, place_of_record, record_in}
+use Rattle.pfs_store_index.specs.Keeping.{values_at, IsPlaced, AreInPlace, number_in, RecordIsAt, record_in}
 use Rattle.pfs_store_index.specs.Records.{IsRecordAt, IsRising, Placed, is_placed, leaves_number, placed_at, put, put_state, stands_at, states_of}
 use Rattle.pfs_store_index.proofs.Ordered.{IsUpdated, find_placed, found, kept-written, look-placed, rising-held, view-written}
 
@@ -82,8 +82,8 @@ pub state_at : (o : Option State) (p : ℕ) (v : Placed) → option_map (placed_
 state_at None p v h = absurd (cc h)
 state_at (Some s) p v h = ap (option_map (λ (q : Placed). q.state)) h
 
--- a record at a place is there
-pub stands : (place : ℕ) (s : Slab State) (es : List (ℕ × ℕ)) → AllByRecursion (IsPlaced number_in place_of_record (record_in s)) es → list_any (stands_at place) (values_at (record_in s) es) ≡ true → ContainsKey s place
+-- a record that stands at a place is there
+pub stands : (place : ℕ) (s : Slab State) (es : List (ℕ × ℕ)) → AllByRecursion (IsPlaced number_in RecordIsAt (record_in s)) es → list_any (stands_at place) (values_at (record_in s) es) ≡ true → ContainsKey s place
 stands place s [] h a = absurd (cc a)
 stands place s (e ∷ es) (h, hs) a =
     let a' : list_any (stands_at place) (h.0 ∷ values_at (record_in s) es) ≡ true = (rw h.1 at a) in
@@ -96,7 +96,7 @@ stands place s (e ∷ es) (h, hs) a =
     go more a' false t = more (rw t at a')
 
 -- and the state at a place is that of each record there
-pub records-at : (place : ℕ) (st : State) (s : Slab State) (es : List (ℕ × ℕ)) → get s place ≡ Some st → AllByRecursion (IsPlaced number_in place_of_record (record_in s)) es → IsRecordAt place st (values_at (record_in s) es)
+pub records-at : (place : ℕ) (st : State) (s : Slab State) (es : List (ℕ × ℕ)) → get s place ≡ Some st → AllByRecursion (IsPlaced number_in RecordIsAt (record_in s)) es → IsRecordAt place st (values_at (record_in s) es)
 records-at place st s [] g h = tt
 records-at place st s (e ∷ es) g (h, hs) = rw h.1 (here, records-at place st s es g hs)
   where
@@ -107,51 +107,53 @@ records-at place st s (e ∷ es) g (h, hs) = rw h.1 (here, records-at place st s
         cc
 
 -- the state of a number is that at its place
-pub read-value : (n : ℕ) (s : Slab State) (es : List (ℕ × ℕ)) (p : ℕ) (st : State) → AllByRecursion (IsPlaced number_in place_of_record (record_in s)) es → lookup (is_at (nat_cmp n)) es ≡ Some p → get s p ≡ Some st
+pub read-value : (n : ℕ) (s : Slab State) (es : List (ℕ × ℕ)) (p : ℕ) (st : State) → AllByRecursion (IsPlaced number_in RecordIsAt (record_in s)) es → lookup (is_at (nat_cmp n)) es ≡ Some p → get s p ≡ Some st
     → Some st ≡ find (λ (x : State). x.number == n) (states_of (values_at (record_in s) es))
 read-value n s es p st h l g =
-    let f = find_placed number_in place_of_record (record_in s) n es p h l in
+    let f = find_placed number_in RecordIsAt (record_in s) n es p h l in
     let r : record_in s p ≡ Some (placed_at p st) = ap (option_map (placed_at p)) g in
     sym (find-states n (values_at (record_in s) es) ∙ ap (option_map (λ (q : Placed). q.state)) (f ∙ r))
 
-pub rising-states : (s : Slab State) (es : List (ℕ × ℕ)) → AreInPlace number_in place_of_record (record_in s) es → IsRising (state_numbers (states_of (values_at (record_in s) es)))
-rising-states s es k = rw (numbers-states (values_at (record_in s) es)) (rising-held number_in place_of_record (record_in s) es k)
+pub rising-states : (s : Slab State) (es : List (ℕ × ℕ)) → AreInPlace number_in RecordIsAt (record_in s) es → IsRising (state_numbers (states_of (values_at (record_in s) es)))
+rising-states s es k = rw (numbers-states (values_at (record_in s) es)) (rising-held number_in RecordIsAt (record_in s) es k)
 
 -- ---- a record is written
 
-pub placed_true : (n p : ℕ) (v : Placed) → is_placed n p v ≡ true → (number_in v ≡ n) × (place_of_record v ≡ p)
-placed_true n p v h = (grind (arith, nat_tests), grind (arith, nat_tests))
+pub placed_true : (n p : ℕ) (v : Placed) → is_placed n p v ≡ true → (number_in v ≡ n) × ((q : ℕ) → RecordIsAt v q → q ≡ p)
+placed_true n p v h =
+    let a : v.place ≡ p = grind (arith, nat_tests) in
+    (grind (arith, nat_tests), λ q e. sym e ∙ a)
 
 pub put-elsewhere : (st : State) (v : Placed) → (number_in v == st.number) ≡ false → put st v ≡ v
 put-elsewhere st v t = rw t refl
 
-pub put-here : (s : Slab State) (p : ℕ) (st : State) → IsPlaced number_in place_of_record (record_in s) (st.number, p) → (v : Placed) → record_in s p ≡ Some v → put st v ≡ placed_at p st
+pub put-here : (s : Slab State) (p : ℕ) (st : State) → IsPlaced number_in RecordIsAt (record_in s) (st.number, p) → (v : Placed) → record_in s p ≡ Some v → put st v ≡ placed_at p st
 put-here s p st r v h =
     let e : v ≡ r.0 = cc (h, r.1) in
     let k : number_in v ≡ st.number = ap number_in e ∙ r.2 in
     let y : (number_in v == st.number) ≡ true = grind (arith, nat_tests, k) in
-    rw y (ap (λ q. placed_at q st) (ap place_of_record e ∙ r.3))
+    rw y (ap (λ q. placed_at q st) (ap (λ (q : Placed). q.place) e ∙ r.3))
 
 abbrev pub Stands : Slab State → List (ℕ × ℕ) → ℕ → State → Type 0
 Stands s es p st = list_any (is_placed st.number p) (values_at (record_in s) es) ≡ true
 
-at_number : (s : Slab State) (es : List (ℕ × ℕ)) (p : ℕ) (st : State) → AreInPlace number_in place_of_record (record_in s) es → Stands s es p st → lookup (is_at (nat_cmp st.number)) es ≡ Some p
-at_number s es p st k a = look-placed number_in place_of_record (is_placed st.number p) (record_in s) st.number p es (placed_true st.number p) k.ordered k.placed a
+at_number : (s : Slab State) (es : List (ℕ × ℕ)) (p : ℕ) (st : State) → AreInPlace number_in RecordIsAt (record_in s) es → Stands s es p st → lookup (is_at (nat_cmp st.number)) es ≡ Some p
+at_number s es p st k a = look-placed number_in RecordIsAt (is_placed st.number p) (record_in s) st.number p es (placed_true st.number p) k.ordered k.placed a
 
-pub has-written : (s : Slab State) (es : List (ℕ × ℕ)) (p : ℕ) (st : State) → AreInPlace number_in place_of_record (record_in s) es → Stands s es p st → ContainsKey s p
+pub has-written : (s : Slab State) (es : List (ℕ × ℕ)) (p : ℕ) (st : State) → AreInPlace number_in RecordIsAt (record_in s) es → Stands s es p st → ContainsKey s p
 has-written s es p st k a =
-    let f = found number_in place_of_record (record_in s) st.number p es k.placed (at_number s es p st k a) in
+    let f = found number_in RecordIsAt (record_in s) st.number p es k.placed (at_number s es p st k a) in
     has_place s p f.0 f.1
 
-with_record : (s : Slab State) (es : List (ℕ × ℕ)) (p : ℕ) (st : State) → AreInPlace number_in place_of_record (record_in s) es → Stands s es p st → IsUpdated (record_in s) (record_in (with_value s p st)) p (Some (placed_at p st))
+with_record : (s : Slab State) (es : List (ℕ × ℕ)) (p : ℕ) (st : State) → AreInPlace number_in RecordIsAt (record_in s) es → Stands s es p st → IsUpdated (record_in s) (record_in (with_value s p st)) p (Some (placed_at p st))
 with_record s es p st k a = updated s (with_value s p st) p (Some st) (Updates-with_value s p st (has-written s es p st k a))
 
-pub kept-put : (s : Slab State) (es : List (ℕ × ℕ)) (p : ℕ) (st : State) → AreInPlace number_in place_of_record (record_in s) es → Stands s es p st → AreInPlace number_in place_of_record (record_in (with_value s p st)) es
+pub kept-put : (s : Slab State) (es : List (ℕ × ℕ)) (p : ℕ) (st : State) → AreInPlace number_in RecordIsAt (record_in s) es → Stands s es p st → AreInPlace number_in RecordIsAt (record_in (with_value s p st)) es
 kept-put s es p st k a =
-    kept-written number_in place_of_record (record_in s) (record_in (with_value s p st)) p st.number (placed_at p st) es refl refl (at_number s es p st k a) (with_record s es p st k a) k
+    kept-written number_in RecordIsAt (record_in s) (record_in (with_value s p st)) p st.number (placed_at p st) es refl refl (at_number s es p st k a) (with_record s es p st k a) k
 
-pub view-put : (s : Slab State) (es : List (ℕ × ℕ)) (p : ℕ) (st : State) → AreInPlace number_in place_of_record (record_in s) es → Stands s es p st → values_at (record_in (with_value s p st)) es ≡ map (put st) (values_at (record_in s) es)
+pub view-put : (s : Slab State) (es : List (ℕ × ℕ)) (p : ℕ) (st : State) → AreInPlace number_in RecordIsAt (record_in s) es → Stands s es p st → values_at (record_in (with_value s p st)) es ≡ map (put st) (values_at (record_in s) es)
 view-put s es p st k a =
     let l = at_number s es p st k a in
-    let f = found number_in place_of_record (record_in s) st.number p es k.placed l in
-    view-written number_in place_of_record (put st) (record_in s) (record_in (with_value s p st)) p st.number (placed_at p st) es (put-elsewhere st) (put-here s p st f) l (with_record s es p st k a) k
+    let f = found number_in RecordIsAt (record_in s) st.number p es k.placed l in
+    view-written number_in RecordIsAt (put st) (record_in s) (record_in (with_value s p st)) p st.number (placed_at p st) es (put-elsewhere st) (put-here s p st f) l (with_record s es p st k a) k

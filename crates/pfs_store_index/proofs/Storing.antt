@@ -3,7 +3,7 @@ use Rattle.std.proofs.Common.{◌≡◌, ◌∙◌, ◌+◌, ◌-◌, ◌<◌, �
 use Rattle.std.specs.List.{AllByRecursion}
 use Rattle.std.proofs.lemmas.Bool.Decides.{nat_tests}
 use Rattle.std.proofs.lemmas.Option.{slice_get_past}
-use Rattle.pfs_addr_values.specs.Packets.{Header}
+use Rattle.pfs_addr_values.specs.Packets.{Header, run_limit}
 use Rattle.pfs_addr_values.specs.declared.addresses.Addr.{Addr}
 use Rattle.pfs_conf_values.specs.Configs.{Conf}
 use Rattle.pfs_conf_values.specs.declared.actions.Rate.{Rate}
@@ -287,7 +287,7 @@ world-came s h h' c m c' m' made places i n e f =
     ∙ numbers-with h.nodes (made + 1) s.source (node_scope_of h.config s.rule.0) (λ ks. waiting c' m' ks ≡ waiting c' m' (node_numbers h.nodes)) refl (waiting-came c' m' made (node_numbers h.nodes) i.node_mark_made)) j)
     (made + 1))
 
-pub stored-came : (s : State) (h h' : Holding) (c m c' m' made places : ℕ) → made < 1000000000 → IsStored h c m c' m' made places → s.number ≡ made + 1 → h'.config ≡ h.config
+pub stored-came : (s : State) (h h' : Holding) (c m c' m' made places : ℕ) → made < run_limit → IsStored h c m c' m' made places → s.number ≡ made + 1 → h'.config ≡ h.config
     → h'.states ≡ h.states ++ s ∷ [] → h'.nodes ≡ nodes_with h.nodes (made + 1) s.source (node_scope_of h.config s.rule.0) → IsStored h' c m c' m' (made + 1) places
 stored-came s h h' c m c' m' made places l i n g e f = record {
   order = i.order;

@@ -12,7 +12,7 @@ use Rattle.std.proofs.lemmas.Map.Keys.{sorted_head, sorted_tail}
 use Rattle.slab.specs.Slab.{Slab, get, ContainsKey}
 use Rattle.pfs_store_contract.specs.Purging.{state_numbers}
 use Rattle.pfs_store_contract.specs.declared.records.State.{State}
-use Rattle.pfs_store_index.specs.Keeping.{AreInPlace, IsPlaced, values_at, number_in, place_of_record, record_in}
+use Rattle.pfs_store_index.specs.Keeping.{AreInPlace, IsPlaced, values_at, number_in, RecordIsAt, record_in}
 use Rattle.pfs_store_index.specs.Records.{between, states_of}
 use Rattle.pfs_store_index.specs.Walks.{IsLeaver, IsWalk, StayUntil}
 use Rattle.pfs_store_index.proofs.Ordered.{found, less_apart, look-between, numbers-held, range_between}
@@ -248,7 +248,7 @@ Stays passes slab e = (s : State) → get slab e.1 ≡ Some s → passes s ≡ f
 abbrev pub OfState : (State → Type 0) → Slab State → ℕ × ℕ → Type 0
 OfState Q slab e = (s : State) → get slab e.1 ≡ Some s → Q s
 
-each-state : (Q : State → Type 0) (slab : Slab State) (a m : ℕ) (es : List (ℕ × ℕ)) → AllByRecursion (IsPlaced number_in place_of_record (record_in slab)) es → Each (OfState Q slab) a m es
+each-state : (Q : State → Type 0) (slab : Slab State) (a m : ℕ) (es : List (ℕ × ℕ)) → AllByRecursion (IsPlaced number_in RecordIsAt (record_in slab)) es → Each (OfState Q slab) a m es
     → AllByRecursion (λ (s : State). between a m s.number ≡ true → Q s) (states_of (values_at (record_in slab) es))
 each-state Q slab a m [] h w = tt
 each-state Q slab a m (e ∷ es) (h, hs) (w, ws) = rw h.1 (here, each-state Q slab a m es hs ws)
@@ -262,7 +262,7 @@ each-state Q slab a m (e ∷ es) (h, hs) (w, ws) = rw h.1 (here, each-state Q sl
 abbrev pub Until : (State → ℕ) → Slab State → ℕ → ℕ × ℕ → Type 0
 Until moment slab until = OfState (λ (s : State). until ≤ moment s) slab
 
-pub until-states : (moment : State → ℕ) (slab : Slab State) (above last until : ℕ) (es : List (ℕ × ℕ)) → AreInPlace number_in place_of_record (record_in slab) es
+pub until-states : (moment : State → ℕ) (slab : Slab State) (above last until : ℕ) (es : List (ℕ × ℕ)) → AreInPlace number_in RecordIsAt (record_in slab) es
     → Each (Until moment slab until) above last es → StayUntil moment (states_of (values_at (record_in slab) es)) above last until
 until-states moment slab above last until es k u = each-state (λ (s : State). until ≤ moment s) slab above last es k.placed u
 
@@ -274,15 +274,15 @@ until-less moment slab above last until less (e ∷ es) h (u, us) =
 
 -- one state more stays
 pub until-more : (moment : State → ℕ) (slab : Slab State) (es rest : List (ℕ × ℕ)) (above last most stayed until m k p : ℕ) (st : State) (passes : State → Bool)
-    → AreInPlace number_in place_of_record (record_in slab) es → Walking (Stays passes slab) es ((k, p) ∷ rest) above last most stayed
+    → AreInPlace number_in RecordIsAt (record_in slab) es → Walking (Stays passes slab) es ((k, p) ∷ rest) above last most stayed
     → get slab p ≡ Some st → m ≤ moment st → Each (Until moment slab until) above last es → Each (Until moment slab (min until m)) above k es
 until-more moment slab es rest above last most stayed until m k p st passes kept w g h u =
     each-more (Until moment slab (min until m)) above last most k p rest es kept.ordered (head-in last most k p rest es w.rest) w.rest
     (until-less moment slab above last until (min until m) es (omega arith) u)
     (λ s e. let q : s ≡ st = cc (e, g) in let x = ap moment q in omega (arith, h, x))
 
-pub numbers-keys : (slab : Slab State) (es : List (ℕ × ℕ)) → AllByRecursion (IsPlaced number_in place_of_record (record_in slab)) es → state_numbers (states_of (values_at (record_in slab) es)) ≡ keys_of es
-numbers-keys slab es h = numbers-states (values_at (record_in slab) es) ∙ numbers-held number_in place_of_record (record_in slab) es h
+pub numbers-keys : (slab : Slab State) (es : List (ℕ × ℕ)) → AllByRecursion (IsPlaced number_in RecordIsAt (record_in slab)) es → state_numbers (states_of (values_at (record_in slab) es)) ≡ keys_of es
+numbers-keys slab es h = numbers-states (values_at (record_in slab) es) ∙ numbers-held number_in RecordIsAt (record_in slab) es h
 
 pub split-keys : {P : Type 0} (above last most : ℕ) (es : List (ℕ × P)) → IsStrictlySortedBy nat_cmp (keys_of es) → above ≤ last → last ≤ most
     → filter (between above most) (keys_of es) ≡ filter (between above last) (keys_of es) ++ filter (between last most) (keys_of es)
@@ -292,7 +292,7 @@ split-keys above last most es o p q =
 
 -- the walk ends here
 pub is-walk : (passes : State → Bool) (slab : Slab State) (es left : List (ℕ × ℕ)) (above last most share stayed : ℕ) (leaver : Option State)
-    → AreInPlace number_in place_of_record (record_in slab) es → Walking (Stays passes slab) es left above last most stayed → stayed ≤ share
+    → AreInPlace number_in RecordIsAt (record_in slab) es → Walking (Stays passes slab) es left above last most stayed → stayed ≤ share
     → IsLeaver passes (states_of (values_at (record_in slab) es)) last most stayed share leaver
     → IsWalk passes (states_of (values_at (record_in slab) es)) above most share stayed last leaver
 is-walk passes slab es left above last most share stayed leaver k w s l = record {
@@ -317,11 +317,11 @@ is-walk passes slab es left above last most share stayed leaver k w s l = record
 
 -- the state of the next entry leaves
 pub next-leaves : (passes : State → Bool) (slab : Slab State) (es rest : List (ℕ × ℕ)) (last most share stayed k p : ℕ) (st : State)
-    → AreInPlace number_in place_of_record (record_in slab) es → (k, p) ∷ rest ≡ span last most es → get slab p ≡ Some st → passes st ≡ true → stayed < share
+    → AreInPlace number_in RecordIsAt (record_in slab) es → (k, p) ∷ rest ≡ span last most es → get slab p ≡ Some st → passes st ≡ true → stayed < share
     → IsLeaver passes (states_of (values_at (record_in slab) es)) last most stayed share (Some st)
 next-leaves passes slab es rest last most share stayed k p st kept x g t s =
     let l = look-between last most k p rest es kept.ordered (x ∙ sym (span-entries last most es)) in
-    let f = found number_in place_of_record (record_in slab) k p es kept.placed l in
+    let f = found number_in RecordIsAt (record_in slab) k p es kept.placed l in
     let a : get slab p ≡ Some f.0.state = state_at (get slab p) p f.0 f.1 in
     let b : st ≡ f.0.state = cc (a, g) in
     let n : st.number ≡ k = ap (λ (y : State). y.number) b ∙ f.2 in
@@ -336,7 +336,7 @@ next-leaves passes slab es rest last most share stayed k p st kept x g t s =
 
 -- and none is left
 pub none-leaves : (passes : State → Bool) (slab : Slab State) (es : List (ℕ × ℕ)) (last most share stayed : ℕ)
-    → AreInPlace number_in place_of_record (record_in slab) es → [] ≡ span last most es → IsLeaver passes (states_of (values_at (record_in slab) es)) last most stayed share None
+    → AreInPlace number_in RecordIsAt (record_in slab) es → [] ≡ span last most es → IsLeaver passes (states_of (values_at (record_in slab) es)) last most stayed share None
 none-leaves passes slab es last most share stayed kept x s =
     rw (numbers-keys slab es kept.placed) (sym (ap keys_of x ∙ span-keys last most es))
 
@@ -344,10 +344,10 @@ pub share-used : (passes : State → Bool) (states : List State) (last most shar
 share-used passes states last most share stayed h s = absurd (omega (arith, h, s))
 
 -- the place of the next entry has a record
-pub next-there : (slab : Slab State) (es rest : List (ℕ × ℕ)) (last most k p : ℕ) → AreInPlace number_in place_of_record (record_in slab) es → (k, p) ∷ rest ≡ span last most es → ContainsKey slab p
+pub next-there : (slab : Slab State) (es rest : List (ℕ × ℕ)) (last most k p : ℕ) → AreInPlace number_in RecordIsAt (record_in slab) es → (k, p) ∷ rest ≡ span last most es → ContainsKey slab p
 next-there slab es rest last most k p kept x =
     let l = look-between last most k p rest es kept.ordered (x ∙ sym (span-entries last most es)) in
-    let f = found number_in place_of_record (record_in slab) k p es kept.placed l in
+    let f = found number_in RecordIsAt (record_in slab) k p es kept.placed l in
     has_place slab p f.0 f.1
 
 -- the one state at a place does not pass

@@ -20,10 +20,10 @@ use Rattle.pfs_store_index.specs.declared.nodes.Tally.{Tally}
 abbrev pub values_at : {P V : Type 0} → (P → Option V) → List (ℕ × P) → List V
 values_at {P} at es = filter_map (λ (e : ℕ × P). at e.1) es
 
-module _ {P V : Type 0} (number : V → ℕ) (place : V → P) where
-  -- at the place of an entry is a value of the entry's number and place
+module _ {P V : Type 0} (number : V → ℕ) (StandsAt : V → P → Type 0) where
+  -- at the place of an entry is a value of the entry's number, which stands there
   abbrev pub IsPlaced : (P → Option V) → ℕ × P → Type 0
-  IsPlaced at e = (v : V) × (at e.1 ≡ Some v) × (number v ≡ e.0) × (place v ≡ e.1)
+  IsPlaced at e = (v : V) × (at e.1 ≡ Some v) × (number v ≡ e.0) × StandsAt v e.1
 
   -- each entry has its value, and their numbers rise
   pub record AreInPlace (at : P → Option V) (es : List (ℕ × P)) : Type 0 where
@@ -35,8 +35,9 @@ module _ {P V : Type 0} (number : V → ℕ) (place : V → P) where
 abbrev pub number_in : Placed → ℕ
 number_in p = p.state.number
 
-abbrev pub place_of_record : Placed → ℕ
-place_of_record p = p.place
+-- the record says that this is its place
+abbrev pub RecordIsAt : Placed → ℕ → Type 0
+RecordIsAt p place = p.place ≡ place
 
 abbrev pub record_in : Slab State → ℕ → Option Placed
 record_in slab place = option_map (placed_at place) (get slab place)
@@ -47,17 +48,33 @@ abbrev pub number_of_node : Tally → ℕ
 number_of_node t = t.node.number
 
 -- the scope and the source by which a node is found
-abbrev pub place_of_node : Tally → NodeScope × Addr
-place_of_node t = (t.node.scope, t.node.source)
+abbrev pub source_of_node : Tally → NodeScope × Addr
+source_of_node t = (t.node.scope, t.node.source)
 
 -- what `==` says of two scopes with sources
-abbrev pub same_place : NodeScope × Addr → NodeScope × Addr → Bool
-same_place a b = same_scope a.0 b.0 && same_addr a.1 b.1
+abbrev pub same_source : NodeScope × Addr → NodeScope × Addr → Bool
+same_source a b = same_scope a.0 b.0 && same_addr a.1 b.1
 
--- the nodes are kept, each node that is found is in the order, and the counts are those of the scopes
-pub record IsNoted (at : NodeScope × Addr → Option Tally) (es : List (ℕ × (NodeScope × Addr))) (rules : List ℕ) (global : ℕ) : Type 0 where
-  pub kept : AreInPlace number_of_node place_of_node at es
-  pub found : (place : NodeScope × Addr) (t : Tally) → at place ≡ Some t → lookup (is_at (nat_cmp t.node.number)) es ≡ Some place
+abbrev pub tally_in : Slab Tally → ℕ → Option Tally
+tally_in slab place = get slab place
+
+-- the table has this place for the scope and the source of the node
+abbrev pub NodeIsAt : (NodeScope × Addr → Option ℕ) → Tally → ℕ → Type 0
+NodeIsAt table t place = table (source_of_node t) ≡ Some place
+
+-- the node may stand at any place
+abbrev pub Anywhere : Tally → ℕ → Type 0
+Anywhere t place = Unit {0}
+
+-- at this place is a node of this scope and source, and it stands in the order
+abbrev pub IsFoundAt : (ℕ → Option Tally) → List (ℕ × ℕ) → NodeScope × Addr → ℕ → Type 0
+IsFoundAt at es source place =
+    (t : Tally) × (at place ≡ Some t) × (source_of_node t ≡ source) × (lookup (is_at (nat_cmp t.node.number)) es ≡ Some place)
+
+-- the nodes are kept, where the table leads to are the nodes that it is asked for, and the counts are those of the scopes
+pub record IsNoted (table : NodeScope × Addr → Option ℕ) (at : ℕ → Option Tally) (es : List (ℕ × ℕ)) (rules : List ℕ) (global : ℕ) : Type 0 where
+  pub kept : AreInPlace number_of_node (NodeIsAt table) at es
+  pub found : (source : NodeScope × Addr) (place : ℕ) → table source ≡ Some place → IsFoundAt at es source place
   pub counted : (scope : NodeScope) → count_of rules global scope ≡ scope_nodes scope (nodes_of (values_at at es))
 
 -- ---- counts of scopes

@@ -1,6 +1,7 @@
 -- A store of what is held, and of two rounds of the purge, each of which is two numbers. (own)
 use Rattle.std.specs.Prelude.{ℕ, ◌≡◌, ◌≤◌, Bool, false, if◌then◌else◌, is_some, List, length, slice_index}
 use Rattle.std.specs.List.{AllByRecursion}
+use Rattle.pfs_addr_values.specs.Packets.{run_limit}
 use Rattle.pfs_conf_values.specs.Configs.{Conf, rule_timeout_of}
 use Rattle.pfs_conf_values.specs.declared.items.RuleNo.{RuleNo}
 use Rattle.pfs_conf_values.specs.declared.timeouts.TimeoutName.{TimeoutName}
@@ -49,7 +50,7 @@ pub record IsStored (h : Holding) (cursor mark node_cursor node_mark made room :
   pub mark_made : mark ≤ made
   pub node_order : node_cursor ≤ node_mark
   pub node_mark_made : node_mark ≤ made
-  pub few : made ≤ 1000000000
+  pub few : made ≤ run_limit
   pub numbered : IsNumbered made (state_numbers h.states)
   pub node_numbered : IsNumbered made (node_numbers h.nodes)
   pub places : room ≤ length h.config.items

@@ -1,6 +1,7 @@
 //! The states of a source are flushed: a walk over its own states alone.
 
 ghost use Rattle.std.specs.Prelude.{◌≡◌, ◌+◌, ◌-◌, ◌<◌, ◌≤◌, ◌^◌, filter, length, map, true};
+ghost use Rattle.pfs_addr_values.specs.Packets.{run_limit};
 ghost use Rattle.pfs_store_contract.specs.Calls.{source_states, stays_unflushed};
 ghost use Rattle.pfs_store_contract.specs.Leaving.{node_after_leaving, is_flushed};
 ghost use Rattle.pfs_store_contract.specs.Purging.{state_numbers};
@@ -27,7 +28,7 @@ pub(crate) fn flush<S: BuildHasher>(
 )
     requires numbered { IsNumbered made (state_numbers indexes.old.states) }
     requires small { made < 2 ^ 32 }
-    requires few { length indexes.old.states ≤ 1000000000 }
+    requires few { length indexes.old.states ≤ run_limit }
     requires room { meter.old ≤ 2 ^ 63 }
     ensures config { indexes.new.config ≡ indexes.old.config }
     ensures states { indexes.new.states ≡ filter (stays_unflushed source rule) indexes.old.states }

@@ -4,6 +4,7 @@ ghost use Rattle.std.specs.Prelude.{◌≡◌, ◌+◌, ◌-◌, ◌<◌, ◌≤
 ghost use Rattle.std.specs.List.{AllByRecursion, find};
 ghost use Rattle.indexmap.specs.IndexMap.{get};
 ghost use Rattle.pfs_addr_values.specs.Keys.{key_of};
+ghost use Rattle.pfs_addr_values.specs.Packets.{run_limit};
 ghost use Rattle.pfs_addr_values.specs.Sameness.{same_key};
 ghost use Rattle.pfs_conf_values.specs.Configs.{options_at};
 ghost use Rattle.pfs_store_contract.specs.Admission.{nodes_with};
@@ -305,7 +306,7 @@ impl<S: BuildHasher> Indexes<S> {
         requires phase { IsUncompleted state }
         requires sourced { IsSourced state }
         requires small { state.number < 2 ^ 32 }
-        requires few { length self.old.states ≤ 1000000000 }
+        requires few { length self.old.states ≤ run_limit }
         ensures config { self.new.config ≡ self.old.config }
         ensures states { OnOk result (self.new.states ≡ self.old.states ++ state ∷ []) }
         ensures nodes { OnOk result (self.new.nodes
@@ -337,7 +338,7 @@ impl<S: BuildHasher> Indexes<S> {
     pub(crate) fn renew(&mut self, packet: &Packet, now: u64, meter: &mut Meter) -> Renewed
         requires held { is_some (state_with (key_of packet.now) (lists self.old.states [] [] [] 0)) ≡ true }
         requires order { IsUpToNow now (lists [] self.old.nodes [] [] 0) }
-        requires few { length self.old.states ≤ 1000000000 }
+        requires few { length self.old.states ≤ run_limit }
         requires room { meter.old < 2 ^ 64 - 1 }
         ensures before { state_with (key_of packet.now) (lists self.old.states [] [] [] 0) ≡ Some result.before }
         ensures states { self.new.states ≡ map (numbered_state_after result.before.number packet.now now) self.old.states }

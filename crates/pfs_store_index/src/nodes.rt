@@ -2,17 +2,17 @@
 
 ghost use Rattle.std.specs.Prelude.{◌≡◌, ◌<◌, ◌≤◌, ◌++◌, ◌∷◌, [], IfSome, None, OnErr, OnOk, Some, filter, length, map, option_map, slice_get, true};
 ghost use Rattle.std.specs.List.{AllByRecursion, find, list_any};
-ghost use Rattle.indexmap.specs.IndexMap.{get};
 ghost use Rattle.pfs_store_contract.specs.Counts.{scope_nodes};
 ghost use Rattle.pfs_store_contract.specs.Purging.{node_numbers};
 ghost use Rattle.pfs_store_contract.specs.Quiet.{round_after_slices};
-ghost use Rattle.pfs_store_index.specs.Keeping.{AreInPlace, values_at, number_of_node, place_of_node, same_place};
+ghost use Rattle.pfs_store_index.specs.Keeping.{Anywhere, AreInPlace, number_of_node, tally_in, values_at};
 ghost use Rattle.pfs_store_index.specs.Records.{IsAbove, between};
 ghost use Rattle.pfs_store_index.specs.Staying.{IsKeptUntil, is_past};
 ghost use Rattle.pfs_store_index.specs.Tallies.{IsOrderly, IsTallied, has_node_number, is_tally, nodes_of, other_node, put_tally};
 ghost use Rattle.pfs_store_index.specs.Walks.{IsPassing};
 
-use crate::retaining::{is_over, kept_until};
+use crate::records::short;
+use crate::retaining::stays_until;
 use crate::rounds::{Round, turned};
 use crate::scope_counts::ScopeCounts;
 use crate::sought::Tracked;
@@ -20,6 +20,7 @@ use indexmap::IndexMap;
 use pfs_addr_values::{Addr, NoMemory};
 use pfs_conf_values::Config;
 use pfs_store_contract::{Node, NodeScope};
+use slab::Slab;
 use std::alloc::Global;
 use std::collections::BTreeMap;
 use std::hash::BuildHasher;
@@ -52,8 +53,9 @@ pub(crate) struct Passed {
 /// that is given.
 #[derive(Drop)]
 pub struct Nodes<S: BuildHasher> {
-    table: IndexMap<Tracked, Tally, S>,
-    order: BTreeMap<u64, Tracked>,
+    slab: Slab<Tally>,
+    order: BTreeMap<u64, u32>,
+    table: IndexMap<Tracked, u32, S>,
     counts: ScopeCounts,
 }
 
@@ -61,13 +63,13 @@ impl<S: BuildHasher> Model for Nodes<S> {
     ghost use Rattle.std.specs.Prelude.{List};
     ghost use Rattle.indexmap.specs.IndexMap.{get};
     ghost use Rattle.pfs_store_index.specs.declared.nodes.Tally.{Tally};
-    ghost use Rattle.pfs_store_index.specs.Keeping.{values_at, IsNoted, same_place};
+    ghost use Rattle.pfs_store_index.specs.Keeping.{IsNoted, same_source, tally_in, values_at};
 
     ghost Value = { List Tally };
 
-    ghost view = { λ n. values_at (get same_place n.table) n.order.entries };
+    ghost view = { λ n. values_at (tally_in n.slab) n.order.entries };
 
-    ghost invariant = { λ n. IsNoted (get same_place n.table) n.order.entries n.counts.rules.items n.counts.global };
+    ghost invariant = { λ n. IsNoted (get same_source n.table) (tally_in n.slab) n.order.entries n.counts.rules.items n.counts.global };
 }
 
 impl<S: BuildHasher> Nodes<S> {
@@ -77,8 +79,9 @@ impl<S: BuildHasher> Nodes<S> {
         ensures orderly { IsOrderly result }
     {
         Nodes {
-            table: IndexMap::with_hasher(alloc, hasher),
+            slab: Slab::new(alloc),
             order: BTreeMap::new(alloc),
+            table: IndexMap::with_hasher(alloc, hasher),
             counts: ScopeCounts::new(alloc),
         }
     }
@@ -102,7 +105,10 @@ impl<S: BuildHasher> Nodes<S> {
     pub fn get(&self, scope: NodeScope, source: Addr) -> Option<Tally>
         ensures { result ≡ find (is_tally scope source) self.now }
     {
-        self.table.get(&Tracked { scope, source }).copied()
+        match self.table.get(&Tracked { scope, source }) {
+            Some(place) => self.slab.get(*place as usize).copied(),
+            None => None,
+        }
     }
 
     /// The tally of the node of the least number above `above`, and up to `most`. It takes no memory.
@@ -117,7 +123,7 @@ impl<S: BuildHasher> Nodes<S> {
             .range((Bound::Excluded(above), Bound::Included(most)))
             .next()
         {
-            Some((_, place)) => self.table.get(place).copied(),
+            Some((_, place)) => self.slab.get(*place as usize).copied(),
             None => None,
         }
     }
@@ -129,7 +135,7 @@ impl<S: BuildHasher> Nodes<S> {
         ensures passing { IsPassing number_of_node (is_past config.now now) self.now round.cursor round.mark share result.stayed result.last }
         ensures until { AllByRecursion (λ t. between round.cursor result.last (number_of_node t) ≡ true → IsKeptUntil config.now result.until t) self.now }
     {
-        pass_range(&self.table, &self.order, config, round, share, now)
+        pass_range(&self.slab, &self.order, config, round, share, now)
     }
 
     /// The round after so many slices, while no node comes or goes: each passes by the next numbers of the round, `share` at
@@ -158,15 +164,18 @@ impl<S: BuildHasher> Nodes<S> {
     {
         // This call states to the proof that no count is near the greatest number, which follows from the order.
         let _count = self.order.len();
-        let place = Tracked {
+        let source = Tracked {
             scope: tally.node.scope,
             source: tally.node.source,
         };
         self.counts.make_room(tally.node.scope)?;
         self.table.reserve(1)?;
+        self.slab.reserve(1)?;
+        let place = short(self.slab.vacant_key())?;
         self.order.insert(tally.node.number, place)?;
-        match self.table.insert(place, tally) {
+        match self.table.insert(source, place) {
             Ok(_) => {
+                self.slab.insert_reserved(tally);
                 self.counts.add(tally.node.scope);
                 Ok(())
             }
@@ -180,12 +189,12 @@ impl<S: BuildHasher> Nodes<S> {
         ensures nodes { self.new ≡ map (put_tally tally) self.old }
         ensures orderly { IsOrderly self.new }
     {
-        let place = Tracked {
+        let source = Tracked {
             scope: tally.node.scope,
             source: tally.node.source,
         };
-        match self.table.get_mut(&place) {
-            Some(found) => *found = tally,
+        match self.table.get(&source) {
+            Some(place) => self.slab[*place as usize] = tally,
             None => unreachable!(),
         }
     }
@@ -198,26 +207,30 @@ impl<S: BuildHasher> Nodes<S> {
     {
         match self.order.remove(&number) {
             Some(place) => {
-                self.table.swap_remove(&place);
-                self.counts.take(place.scope);
+                let node = self.slab.remove(place as usize).node;
+                self.table.swap_remove(&Tracked {
+                    scope: node.scope,
+                    source: node.source,
+                });
+                self.counts.take(node.scope);
             }
             None => unreachable!(),
         }
     }
 }
 
-fn pass_range<S: BuildHasher>(
-    table: &IndexMap<Tracked, Tally, S>,
-    order: &BTreeMap<u64, Tracked>,
+fn pass_range(
+    slab: &Slab<Tally>,
+    order: &BTreeMap<u64, u32>,
     config: &Config,
     round: Round,
     share: u64,
     now: u64,
 ) -> Passed
-    requires kept { AreInPlace number_of_node place_of_node (get same_place table.now) order.now.entries }
+    requires kept { AreInPlace number_of_node Anywhere (tally_in slab.now) order.now.entries }
     requires range { round.cursor ≤ round.mark }
-    ensures passing { IsPassing number_of_node (is_past config.now now) (values_at (get same_place table.now) order.now.entries) round.cursor round.mark share result.stayed result.last }
-    ensures until { AllByRecursion (λ t. between round.cursor result.last (number_of_node t) ≡ true → IsKeptUntil config.now result.until t) (values_at (get same_place table.now) order.now.entries) }
+    ensures passing { IsPassing number_of_node (is_past config.now now) (values_at (tally_in slab.now) order.now.entries) round.cursor round.mark share result.stayed result.last }
+    ensures until { AllByRecursion (λ t. between round.cursor result.last (number_of_node t) ≡ true → IsKeptUntil config.now result.until t) (values_at (tally_in slab.now) order.now.entries) }
 {
     let mut rest = order.range((Bound::Excluded(round.cursor), Bound::Included(round.mark)));
     let mut stayed = 0;
@@ -227,13 +240,13 @@ fn pass_range<S: BuildHasher>(
         let Some((number, place)) = rest.next() else {
             break;
         };
-        let Some(tally) = table.get(place) else {
+        let Some(tally) = slab.get(*place as usize) else {
             break;
         };
-        if is_over(config, tally, now) {
+        let Some(moment) = stays_until(config, tally, now) else {
             break;
-        }
-        until = until.min(kept_until(config, tally));
+        };
+        until = until.min(moment);
         stayed += 1;
         last = *number;
     }

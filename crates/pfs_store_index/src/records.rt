@@ -7,7 +7,7 @@ ghost use Rattle.pfs_store_contract.specs.Calls.{other_than};
 ghost use Rattle.pfs_store_contract.specs.Purging.{state_numbers};
 ghost use Rattle.pfs_store_contract.specs.Quiet.{round_after_slices};
 ghost use Rattle.pfs_store_contract.specs.Worlds.{holds_number};
-ghost use Rattle.pfs_store_index.specs.Keeping.{AreInPlace, values_at, number_in, place_of_record, record_in};
+ghost use Rattle.pfs_store_index.specs.Keeping.{AreInPlace, RecordIsAt, number_in, record_in, values_at};
 ghost use Rattle.pfs_store_index.specs.Sourced.{IsSourced};
 ghost use Rattle.pfs_store_index.specs.Walks.{IsWalk, StayUntil, end_of, state_has_expired, looks_of};
 ghost use Rattle.pfs_store_index.specs.Records.{IsAbove, IsRecordAt, IsRising, between, is_placed, leaves_number, placed_at, put, put_state, stands_at, states_of};
@@ -35,13 +35,13 @@ pub struct Records {
 impl Model for Records {
     ghost use Rattle.std.specs.Prelude.{List};
     ghost use Rattle.pfs_store_index.specs.Records.{Placed};
-    ghost use Rattle.pfs_store_index.specs.Keeping.{AreInPlace, values_at, number_in, place_of_record, record_in};
+    ghost use Rattle.pfs_store_index.specs.Keeping.{AreInPlace, RecordIsAt, number_in, record_in, values_at};
 
     ghost Value = { List Placed };
 
     ghost view = { λ r. values_at (record_in r.slab) r.places.entries };
 
-    ghost invariant = { λ r. AreInPlace number_in place_of_record (record_in r.slab) r.places.entries };
+    ghost invariant = { λ r. AreInPlace number_in RecordIsAt (record_in r.slab) r.places.entries };
 }
 
 impl Records {
@@ -198,8 +198,8 @@ impl Records {
     }
 }
 
-/// A place in 32 bits. It returns `NoMemory` where it does not fit.
-fn short(place: usize) -> Result<u32, NoMemory>
+/// A place in 32 bits. `NoMemory` is answered where it does not fit.
+pub(crate) fn short(place: usize) -> Result<u32, NoMemory>
     ensures { IfOk result (λ p. p ≡ place) }
 {
     match u32::try_from(place) {
@@ -228,7 +228,7 @@ fn walk_range<T: Lifetimes>(
     lifetimes: &T,
     meter: &mut Meter,
 ) -> Walk
-    requires kept { AreInPlace number_in place_of_record (record_in slab.now) places.now.entries }
+    requires kept { AreInPlace number_in RecordIsAt (record_in slab.now) places.now.entries }
     requires range { round.cursor ≤ round.mark }
     requires room { meter.old + share < 2 ^ 64 }
     ensures walk { IsWalk (state_has_expired (T.lifetime lifetimes.now) now) (states_of (values_at (record_in slab.now) places.now.entries)) round.cursor round.mark share

@@ -1,6 +1,6 @@
 //! How long source nodes are kept.
 
-ghost use Rattle.std.specs.Prelude.{◌≡◌};
+ghost use Rattle.std.specs.Prelude.{◌≡◌, false, true, IfSome, None};
 ghost use Rattle.pfs_conf_values.specs.Configs.{rule_retention};
 ghost use Rattle.pfs_store_contract.specs.Purging.{node_retention};
 ghost use Rattle.pfs_store_index.specs.Staying.{IsKeptUntil, is_past};
@@ -18,6 +18,20 @@ pub(crate) fn kept_until(config: &Config, tally: &Tally) -> u64
         tally.node.idle.saturating_add(retention)
     } else {
         u64::MAX
+    }
+}
+
+/// Up to when a node stays, as long as it gets no state and loses none; none where it leaves at a second.
+pub(crate) fn stays_until(config: &Config, tally: &Tally, now: u64) -> Option<u64>
+    ensures none { result ≡ None → is_past config.now now tally.now ≡ true }
+    ensures some { IfSome result (λ until. is_past config.now now tally.now ≡ false) }
+    ensures until { IfSome result (λ until. IsKeptUntil config.now until tally.now) }
+{
+    let until = kept_until(config, tally);
+    if until <= now && is_over(config, tally, now) {
+        None
+    } else {
+        Some(until)
     }
 }
 

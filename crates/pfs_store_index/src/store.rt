@@ -2,6 +2,7 @@
 
 ghost use Rattle.std.specs.Prelude.{◌≡◌, ◌+◌, ◌<◌, IfOk, IsSome, None, OnErr, OnOk, true};
 ghost use Rattle.pfs_addr_values.specs.Keys.{key_of};
+ghost use Rattle.pfs_addr_values.specs.Packets.{run_limit};
 ghost use Rattle.pfs_conf_values.specs.Configs.{options_at};
 ghost use Rattle.pfs_store_contract.specs.Admission.{world_after_admission};
 ghost use Rattle.pfs_store_contract.specs.Worlds.{empty_world, state_with};
@@ -94,7 +95,7 @@ impl<S: BuildHasher> IndexStore<S> {
     fn make(&mut self, packet: &Packet, rule: RuleNo, now: u64) -> Result<StateNo, NoMemory>
         requires fresh { state_with (key_of packet.now) self.old.world ≡ None }
         requires keeps { IsSome (options_at self.old.config rule.0) }
-        requires room { self.old.world.made < 1000000000 }
+        requires room { self.old.world.made < run_limit }
         ensures number { IfOk result (λ n. n.0 ≡ self.old.world.made + 1) }
         ensures ok { OnOk result (self.new.world ≡ world_after_admission self.old.config self.old.world packet.now rule.0 now) }
         ensures err { OnErr result (self.new.world ≡ self.old.world) }

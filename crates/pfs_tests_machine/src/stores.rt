@@ -394,6 +394,10 @@ fn states_leave_by_number_and_by_source(rt: HostRuntime) -> Result<(), Fail> {
     tell(&rt, rules, LEAVING)
 }
 
+/// A slice examines two states and one node
+const SLICES: &[u8] = b"set limit { states 6, src-nodes 4 }\n\
+    set timeout { src.track 20, interval 5, udp.first 5 }\npass keep state (source-track rule)";
+
 const ROUNDS: &[Row] = &[
     (5, Step::Admit(A1, 1, 0, Ok(1))),
     (5, Step::Admit(A1, 2, 0, Ok(2))),
@@ -417,9 +421,33 @@ const ROUNDS: &[Row] = &[
 /// source of the fourth is idle since then, the other one since moment 12
 #[test]
 fn a_slice_examines_its_share_of_a_round(rt: HostRuntime) -> Result<(), Fail> {
-    let rules = b"set limit { states 6, src-nodes 4 }\n\
-        set timeout { src.track 20, interval 5, udp.first 5 }\npass keep state (source-track rule)";
-    tell(&rt, rules, ROUNDS)
+    tell(&rt, SLICES, ROUNDS)
+}
+
+const RETURNING: &[Row] = &[
+    (5, Step::Admit(A1, 1, 0, Ok(1))),
+    (5, Step::Admit(A2, 2, 0, Ok(2))),
+    (6, Step::Kill(1)),
+    (10, Step::Kill(2)),
+    (26, Step::Nodes(1, 1)),
+    (26, Step::Admit(A1, 3, 0, Ok(3))),
+    (26, Step::Held(1, 2, 3)),
+    (27, Step::Nodes(1, 0)),
+    (30, Step::Nodes(1, 1)),
+    (31, Step::Nodes(1, 0)),
+    (31, Step::Kill(3)),
+    (32, Step::Admit(A2, 4, 0, Ok(4))),
+    (33, Step::Kill(4)),
+    (51, Step::Nodes(1, 1)),
+    (53, Step::Nodes(1, 1)),
+    (53, Step::Held(0, 0, 4)),
+];
+
+/// The first source leaves and comes again, where the second one is held: its new number is the greater one, so that the second
+/// is examined before it at moment 30
+#[test]
+fn a_source_that_comes_again_is_examined_by_its_new_number(rt: HostRuntime) -> Result<(), Fail> {
+    tell(&rt, SLICES, RETURNING)
 }
 
 const PASSED: &[Row] = &[
@@ -450,9 +478,7 @@ const PASSED: &[Row] = &[
 #[test]
 fn seconds_are_passed_over_by_rounds(rt: HostRuntime) -> Result<(), Fail> {
     let alloc = rt.alloc();
-    let rules = b"set limit { states 6, src-nodes 4 }\n\
-        set timeout { src.track 20, interval 5, udp.first 5 }\npass keep state (source-track rule)";
-    let config = configured(alloc, UNSCALED, rules)?;
+    let config = configured(alloc, UNSCALED, SLICES)?;
     let mut indexed = IndexStore::new(alloc, &config)?;
     follow(&rt, &mut indexed, &config, PASSED)
 }

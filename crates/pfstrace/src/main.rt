@@ -17,6 +17,9 @@ use std::fs::File;
 use std::io::{self, BufReader, BufWriter, Read, Write};
 use std::process::ExitCode;
 
+/// What `--version` prints after the program's name.
+const VERSION: &str = "0.1.0";
+
 fn main(rt: HostRuntime) -> ExitCode {
     ExitCode::from(run(&rt))
 }
@@ -52,6 +55,7 @@ fn matches<'a>(alloc: Global, words: &'a [&'a str]) -> Result<ArgMatches<'a>, Er
 /// The command line of the program.
 fn program<'a>(alloc: Global) -> Result<Command<'a>, AllocError> {
     let command = Command::new(alloc, "pfstrace")
+        .version(VERSION)
         .about(
             "Writes a trace for pfsrc of a capture, pcap or pcapng, and tells on standard error what became of its frames.",
         )

@@ -5,7 +5,7 @@ import unittest
 from dataclasses import dataclass
 from pathlib import Path
 
-from ..captures import FIELDS, Maker, Packet, packet_of, records_of, tshark_words
+from ..captures import ANSWERS, FIELDS, Maker, Packet, packet_of, records_of, tshark_words
 from ..errors import Trouble
 from ..inputs import HEADER
 from ..words import networks
@@ -64,7 +64,7 @@ class Captures(FolderCase):
                     lines = (DATA / row.name / "fields").read_text("utf-8").splitlines()
                     made = f"{HEADER}\n" + "".join(records_of(lines, maker, row.name))
                     told.seek(0)
-                    said = told.read()
+                    said = f"{ANSWERS}\n" + told.read()
                 self.assertEqual(made, (DATA / row.name / "trace").read_text("utf-8"))
                 self.assertEqual(list(maker.account.lines()), (DATA / row.name / "account").read_text("utf-8").splitlines())
                 if (DATA / row.name / "told").exists():
@@ -99,6 +99,18 @@ class Captures(FolderCase):
             self.assertEqual((packet.protocol, packet.source_port, packet.flags), (6, "1", "SEW"))
         self.assertEqual(packet_of(six("eth:ethertype:ipv6:ipv6.fraghdr:data", "44", ipv6_fraghdr_offset="100")), "later fragment")
 
+    def test_answers(self) -> None:
+        rows: tuple[tuple[dict[str, str], str], ...] = (
+            ({"pflog_action": "1", "pflog_rulenr": "7", "pflog_ruleset": "ftp/, x~", "pflog_subrulenr": "2"}, "block,7,ftp/%2C%20x%7E,2"),
+            ({"pflog_action": "12", "pflog_rulenr": "3", "pflog_subrulenr": "-1"}, "match,3,,"),
+            ({"pflog_action": "8", "pflog_rulenr": "-1", "pflog_subrulenr": "-1"}, "8,,,"),
+            ({}, ""),
+        )
+        for values, answer in rows:
+            packet = packet_of(four("pflog:ip:gre", "47", **values))
+            assert isinstance(packet, Packet)
+            self.assertEqual(packet.answer, answer)
+
     def test_what_is_cut(self) -> None:
         self.assertEqual(packet_of(four("eth:ethertype:ip:tcp", "6", tcp_srcport="1", tcp_dstport="2")), "cut before its ports or flags")
         self.assertEqual(packet_of(four("eth:ethertype:ip:data", "17")), "cut before its ports or flags")
@@ -106,7 +118,7 @@ class Captures(FolderCase):
     def test_bad_lines(self) -> None:
         good = fields(frame_time_epoch="1", frame_protocols="eth:ethertype:arp")
         rows: tuple[tuple[list[str], str], ...] = (
-            ((DATA / "cut_fields/fields").read_text("utf-8").splitlines(), "packet 2: not the 20 fields"),
+            ((DATA / "cut_fields/fields").read_text("utf-8").splitlines(), "packet 2: not the 22 fields"),
             ([good, fields(frame_time_epoch="12:34:56")], "packet 2: the moment is no number"),
             ([four("eth:ip:udp", "17", udp_srcport="1", udp_dstport="2").replace("1700000000", "4294967296")], "packet 1: the moment is past"),
             ([], "no packets in the capture"),
@@ -168,15 +180,32 @@ class Command(FolderCase):
         self.assertNotIn("trace", self.left())
 
     def test_pfstrace(self) -> None:
-        script = self.folder / "pfstrace"
         words = "--inside 192.0.2.0/24,2001:db8::/32 --interface vlan3"
-        said = f"time,dir\\n5,in\\n7,out\\n"
-        script.write_text(f"#!/bin/sh\ntest \"$1\" = --help && exit 0\necho 'trace: 2 packets' >&2\nprintf '{said}'\necho \"$*\" > words\n", encoding="utf-8")
-        script.chmod(0o755)
+        env = self.pfstrace("echo 'trace: 2 packets' >&2; printf 'time,dir\\n5,in\\n7,out\\n'; echo \"$*\" > words")
         given = ("--inside", "192.0.2.0/24", "--inside", "2001:db8::/32", "--if", "vlan3", "--zero")
-        done = pfplan("trace", self.capture, *given, env={"PFSTRACE": str(script)}, cwd=self.folder)
+        done = pfplan("trace", self.capture, *given, env=env, cwd=self.folder)
         self.assertEqual((done.status, done.out, done.err), (0, "time,dir\n0,in\n2,out\n", "trace: 2 packets\n"))
         self.assertEqual((self.folder / "words").read_text("utf-8"), f"{words} {self.capture}\n")
+
+    def pfstrace(self, script: str) -> dict[str, str]:
+        """A pfstrace that is a script, as the environment names it."""
+        program = self.write("pfstrace", f"#!/bin/sh\ntest \"$1\" = --help && exit 0\n{script}\n")
+        program.chmod(0o755)
+        return {"PFSTRACE": str(program)}
+
+    def test_told_by_pfstrace(self) -> None:
+        env = self.pfstrace(f"printf '{ANSWERS}\\n1,block,7,a,0\\n' > \"$2\"; echo \"$1 $3\" > words; printf 'time,dir\\n5,in\\n'")
+        done = pfplan("trace", self.capture, "--told", "told", "--out", "trace", env=env, cwd=self.folder)
+        self.assertEqual((done.status, done.out, done.err), (0, "", ""))
+        self.assertEqual((self.folder / "told").read_text("utf-8"), f"{ANSWERS}\n1,block,7,a,0\n")
+        self.assertEqual((self.folder / "words").read_text("utf-8"), f"--told {self.capture}\n")
+
+    def test_told_of_a_fault(self) -> None:
+        told = self.write("told", "what stood there")
+        env = self.pfstrace(f"echo {ANSWERS} > \"$2\"; echo 'capture: behind frame 1: the file ends within it' >&2; exit 1")
+        done = pfplan("trace", self.capture, "--told", told, "--out", "trace", env=env, cwd=self.folder)
+        self.assertEqual((done.status, done.err), (1, f"pfplan trace: {self.capture}: pfstrace: capture: behind frame 1: the file ends within it\n"))
+        self.assertEqual((told.read_text("utf-8"), self.left()), ("what stood there", ["$(touch here) a=b.pcap", "pfstrace", "told"]))
 
     def test_no_tshark(self) -> None:
         env = {"PATH": str(self.folder), "PFSTRACE": "tshark"}
@@ -189,6 +218,8 @@ class Command(FolderCase):
             (("--inside", "192.0.2.300"), "--inside: '192.0.2.300' is no prefix"),
             (("--outside", "192.0.2.0/24"), "'--outside': no such word; is --out meant? (pfplan trace --help)"),
             (("--if", "any"), "--interface/--if: 'any' is no name of an interface"),
+            (("--out", self.capture), "--out: this is the capture"),
+            (("--told", self.capture), "--told: this is the capture"),
         ):
             done = pfplan("trace", self.capture, *words)
             self.assertEqual((done.status, done.out, done.err), (2, "", f"pfplan trace: {why}\n"))

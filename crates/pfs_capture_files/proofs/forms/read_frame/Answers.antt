@@ -7,5 +7,5 @@ pub returns : goal.returns
 returns g c xs e = (
   drop c.args.frame.count xs,
   c.in_ok-fill.ensures.rest xs e,
-  frame_whole c.args.order c.args.frame xs c.fill.new.buffer.items (c.in_ok-fill.ensures.bytes xs e) (omega arith),
+  frame_whole c.args.header c.args.frame xs c.fill.new.buffer.items (c.in_ok-fill.ensures.bytes xs e) (omega arith),
 )

@@ -1,7 +1,6 @@
 -- Answers of pass_range: one more that stays, and the end (`passing`, `until`).
 use Rattle.std.proofs.Common.{◌≡◌, Some, false, arith, sym}
-use Rattle.indexmap.specs.IndexMap.{get}
-use Rattle.pfs_store_index.specs.Keeping.{number_of_node, place_of_node, same_place}
+use Rattle.pfs_store_index.specs.Keeping.{Anywhere, number_of_node, tally_in}
 use Rattle.pfs_store_index.specs.Staying.{IsKeptUntil, is_past}
 use Rattle.pfs_store_index.specs.declared.nodes.Tally.{Tally}
 use Rattle.pfs_store_index.proofs.Passing.{OfValue, each-value, each-value-more, is-passing, kept-less, one-value}
@@ -9,61 +8,61 @@ use Rattle.pfs_store_index.proofs.Walking.{each-empty, walking-init, walking-ste
 use Rattle.pfs_store_index.proofs.nodes.pass_range.Goals as goal
 
 pub loop-stayed-init : goal.loop-stayed-init
-loop-stayed-init g c = record {
-  walking = walking-init (OfValue (λ (t : Tally). is_past c.args.config.now c.args.now t ≡ false) (get same_place c.args.table.now)) c.args.order.now.entries c.range-rest.result c.args.round.cursor c.args.round.mark c.requires.range (c.range-rest.ensures.between tt);
-  until = each-empty (OfValue (IsKeptUntil c.args.config.now _) (get same_place c.args.table.now)) c.args.round.cursor c.args.order.now.entries;
+loop-stayed-init c = record {
+  walking = walking-init (OfValue (λ (t : Tally). is_past c.args.config.now c.args.now t ≡ false) (tally_in c.args.slab.now)) c.args.order.now.entries c.range-rest.result c.args.round.cursor c.args.round.mark c.requires.range (c.range-rest.ensures.between tt);
+  until = each-empty (OfValue (IsKeptUntil c.args.config.now _) (tally_in c.args.slab.now)) c.args.round.cursor c.args.order.now.entries;
   share = omega arith;
 }
 
 pub loop-stayed-preserved : goal.loop-stayed-preserved
-loop-stayed-preserved g c =
+loop-stayed-preserved c =
     let w = (rw c.in-Some.ensures.steps at c.loop-stayed.invariant.walking) in
-    let v : get same_place c.args.table.now c.in-Some.place.now ≡ Some c.in-Some-get.tally.now = sym c.in-Some-get.ensures.value in
+    let v : tally_in c.args.slab.now c.in-Some.place.now ≡ Some c.in-Some-get.tally.now = sym c.in-Some-get.ensures in
     record {
-      walking = walking-step (OfValue (λ (t : Tally). is_past c.args.config.now c.args.now t ≡ false) (get same_place c.args.table.now)) c.args.order.now.entries c.next.new.self c.args.round.cursor c.loop-stayed.last c.args.round.mark c.loop-stayed.stayed c.in-Some.number.now c.in-Some.place.now
+      walking = walking-step (OfValue (λ (t : Tally). is_past c.args.config.now c.args.now t ≡ false) (tally_in c.args.slab.now)) c.args.order.now.entries c.next.new.self c.args.round.cursor c.loop-stayed.last c.args.round.mark c.loop-stayed.stayed c.in-Some.number.now c.in-Some.place.now
           c.requires.kept.ordered w
-          (one-value (λ (t : Tally). is_past c.args.config.now c.args.now t ≡ false) (get same_place c.args.table.now) (c.in-Some.number.now, c.in-Some.place.now) c.in-Some-get.tally.now v (sym c.if-is_over.ensures));
+          (one-value (λ (t : Tally). is_past c.args.config.now c.args.now t ≡ false) (tally_in c.args.slab.now) (c.in-Some.number.now, c.in-Some.place.now) c.in-Some-get.tally.now v c.in-Some-stays_until.ensures.some);
       until = each-value-more (IsKeptUntil c.args.config.now c.loop-stayed.until) (IsKeptUntil c.args.config.now c.min-until.result)
           (λ t h. kept-less c.args.config.now c.loop-stayed.until c.min-until.result t (omega (arith, c.min-until.ensures)) h)
-          (get same_place c.args.table.now) c.args.round.cursor c.loop-stayed.last c.args.round.mark c.in-Some.number.now c.in-Some.place.now c.in-Some-get.tally.now c.next.new.self c.args.order.now.entries
+          (tally_in c.args.slab.now) c.args.round.cursor c.loop-stayed.last c.args.round.mark c.in-Some.number.now c.in-Some.place.now c.in-Some-get.tally.now c.next.new.self c.args.order.now.entries
           c.requires.kept.ordered w.rest v
-          (kept-less c.args.config.now c.kept_until.result c.min-until.result c.in-Some-get.tally.now (omega (arith, c.min-until.ensures)) c.kept_until.ensures)
+          (kept-less c.args.config.now c.in-Some-stays_until.moment c.min-until.result c.in-Some-get.tally.now (omega (arith, c.min-until.ensures)) c.in-Some-stays_until.ensures.until)
           c.loop-stayed.invariant.until;
       share = omega arith;
     }
 
 pub returns-in_default-clause-passing : goal.returns-in_default-clause-passing
-returns-in_default-clause-passing g c =
-    is-passing number_of_node place_of_node (is_past c.args.config.now c.args.now) (get same_place c.args.table.now) c.args.order.now.entries c.loop-stayed.rest c.args.round.cursor c.loop-stayed.last c.args.round.mark c.args.share c.loop-stayed.stayed
+returns-in_default-clause-passing c =
+    is-passing number_of_node Anywhere (is_past c.args.config.now c.args.now) (tally_in c.args.slab.now) c.args.order.now.entries c.loop-stayed.rest c.args.round.cursor c.loop-stayed.last c.args.round.mark c.args.share c.loop-stayed.stayed
     c.requires.kept c.loop-stayed.invariant.walking c.loop-stayed.invariant.share
 
 pub returns-in_default-clause-until : goal.returns-in_default-clause-until
-returns-in_default-clause-until g c =
-    each-value number_of_node place_of_node (IsKeptUntil c.args.config.now c.loop-stayed.until) (get same_place c.args.table.now) c.args.round.cursor c.loop-stayed.last c.args.order.now.entries c.requires.kept.placed c.loop-stayed.invariant.until
+returns-in_default-clause-until c =
+    each-value number_of_node Anywhere (IsKeptUntil c.args.config.now c.loop-stayed.until) (tally_in c.args.slab.now) c.args.round.cursor c.loop-stayed.last c.args.order.now.entries c.requires.kept.placed c.loop-stayed.invariant.until
 
 pub returns-in_default-get-clause-passing : goal.returns-in_default-get-clause-passing
-returns-in_default-get-clause-passing g c =
-    is-passing number_of_node place_of_node (is_past c.args.config.now c.args.now) (get same_place c.args.table.now) c.args.order.now.entries c.loop-stayed.rest c.args.round.cursor c.loop-stayed.last c.args.round.mark c.args.share c.loop-stayed.stayed
+returns-in_default-get-clause-passing c =
+    is-passing number_of_node Anywhere (is_past c.args.config.now c.args.now) (tally_in c.args.slab.now) c.args.order.now.entries c.loop-stayed.rest c.args.round.cursor c.loop-stayed.last c.args.round.mark c.args.share c.loop-stayed.stayed
     c.requires.kept c.loop-stayed.invariant.walking c.loop-stayed.invariant.share
 
 pub returns-in_default-get-clause-until : goal.returns-in_default-get-clause-until
-returns-in_default-get-clause-until g c =
-    each-value number_of_node place_of_node (IsKeptUntil c.args.config.now c.loop-stayed.until) (get same_place c.args.table.now) c.args.round.cursor c.loop-stayed.last c.args.order.now.entries c.requires.kept.placed c.loop-stayed.invariant.until
+returns-in_default-get-clause-until c =
+    each-value number_of_node Anywhere (IsKeptUntil c.args.config.now c.loop-stayed.until) (tally_in c.args.slab.now) c.args.round.cursor c.loop-stayed.last c.args.order.now.entries c.requires.kept.placed c.loop-stayed.invariant.until
 
-pub returns-then-is_over-clause-passing : goal.returns-then-is_over-clause-passing
-returns-then-is_over-clause-passing g c =
-    is-passing number_of_node place_of_node (is_past c.args.config.now c.args.now) (get same_place c.args.table.now) c.args.order.now.entries c.loop-stayed.rest c.args.round.cursor c.loop-stayed.last c.args.round.mark c.args.share c.loop-stayed.stayed
+pub returns-in_default-stays_until-clause-passing : goal.returns-in_default-stays_until-clause-passing
+returns-in_default-stays_until-clause-passing c =
+    is-passing number_of_node Anywhere (is_past c.args.config.now c.args.now) (tally_in c.args.slab.now) c.args.order.now.entries c.loop-stayed.rest c.args.round.cursor c.loop-stayed.last c.args.round.mark c.args.share c.loop-stayed.stayed
     c.requires.kept c.loop-stayed.invariant.walking c.loop-stayed.invariant.share
 
-pub returns-then-is_over-clause-until : goal.returns-then-is_over-clause-until
-returns-then-is_over-clause-until g c =
-    each-value number_of_node place_of_node (IsKeptUntil c.args.config.now c.loop-stayed.until) (get same_place c.args.table.now) c.args.round.cursor c.loop-stayed.last c.args.order.now.entries c.requires.kept.placed c.loop-stayed.invariant.until
+pub returns-in_default-stays_until-clause-until : goal.returns-in_default-stays_until-clause-until
+returns-in_default-stays_until-clause-until c =
+    each-value number_of_node Anywhere (IsKeptUntil c.args.config.now c.loop-stayed.until) (tally_in c.args.slab.now) c.args.round.cursor c.loop-stayed.last c.args.order.now.entries c.requires.kept.placed c.loop-stayed.invariant.until
 
 pub returns-after-loop-stayed-clause-passing : goal.returns-after-loop-stayed-clause-passing
-returns-after-loop-stayed-clause-passing g c =
-    is-passing number_of_node place_of_node (is_past c.args.config.now c.args.now) (get same_place c.args.table.now) c.args.order.now.entries c.loop-stayed.rest c.args.round.cursor c.loop-stayed.last c.args.round.mark c.args.share c.loop-stayed.stayed
+returns-after-loop-stayed-clause-passing c =
+    is-passing number_of_node Anywhere (is_past c.args.config.now c.args.now) (tally_in c.args.slab.now) c.args.order.now.entries c.loop-stayed.rest c.args.round.cursor c.loop-stayed.last c.args.round.mark c.args.share c.loop-stayed.stayed
     c.requires.kept c.loop-stayed.invariant.walking c.loop-stayed.invariant.share
 
 pub returns-after-loop-stayed-clause-until : goal.returns-after-loop-stayed-clause-until
-returns-after-loop-stayed-clause-until g c =
-    each-value number_of_node place_of_node (IsKeptUntil c.args.config.now c.loop-stayed.until) (get same_place c.args.table.now) c.args.round.cursor c.loop-stayed.last c.args.order.now.entries c.requires.kept.placed c.loop-stayed.invariant.until
+returns-after-loop-stayed-clause-until c =
+    each-value number_of_node Anywhere (IsKeptUntil c.args.config.now c.loop-stayed.until) (tally_in c.args.slab.now) c.args.round.cursor c.loop-stayed.last c.args.order.now.entries c.requires.kept.placed c.loop-stayed.invariant.until

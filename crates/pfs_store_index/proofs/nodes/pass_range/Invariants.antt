@@ -1,7 +1,6 @@
 -- Invariant of pass_range: those passed so far all stay, and the rest is still to come.
 use Rattle.std.proofs.Common.{◌≡◌, ◌≤◌, ◌-◌, false}
-use Rattle.indexmap.specs.IndexMap.{get}
-use Rattle.pfs_store_index.specs.Keeping.{same_place}
+use Rattle.pfs_store_index.specs.Keeping.{tally_in}
 use Rattle.pfs_store_index.specs.Staying.{IsKeptUntil, is_past}
 use Rattle.pfs_store_index.specs.declared.nodes.Tally.{Tally}
 use Rattle.pfs_store_index.proofs.Passing.{OfValue}
@@ -9,11 +8,11 @@ use Rattle.pfs_store_index.proofs.Walking.{Each, Walking}
 use Rattle.pfs_store_index.proofs.nodes.pass_range.Given as goal
 
 abbrev pub invariant-loop-stayed : goal.invariant-loop-stayed
-invariant-loop-stayed g l = record {
-  walking : Walking (OfValue (λ (t : Tally). is_past l.config l.now t ≡ false) (get same_place l.table)) l.order.entries l.rest l.fn.round.cursor l.last l.fn.round.mark l.stayed;
-  until : Each (OfValue (IsKeptUntil l.config l.until) (get same_place l.table)) l.fn.round.cursor l.last l.order.entries;
+invariant-loop-stayed l = record {
+  walking : Walking (OfValue (λ (t : Tally). is_past l.config l.now t ≡ false) (tally_in l.slab)) l.order.entries l.rest l.fn.round.cursor l.last l.fn.round.mark l.stayed;
+  until : Each (OfValue (IsKeptUntil l.config l.until) (tally_in l.slab)) l.fn.round.cursor l.last l.order.entries;
   share : l.stayed ≤ l.share;
 }
 
 abbrev pub decreases-loop-stayed : goal.decreases-loop-stayed
-decreases-loop-stayed g l = l.share - l.stayed
+decreases-loop-stayed l = l.share - l.stayed

@@ -1,5 +1,5 @@
 -- Answer of Indexes::new: with nothing held, each index and each count is that of the records.
-use Rattle.std.proofs.Common.{◌≡◌, ◌∙◌, [], ap, map, option_map, rules, subst, sym}
+use Rattle.std.proofs.Common.{◌∙◌, ap, map, option_map, rules, subst, sym}
 use Rattle.std.specs.List.{IsDistinct, find}
 use Rattle.std.specs.Map.{lookup}
 use Rattle.pfs_addr_values.specs.Sameness.{same_key}

@@ -3,6 +3,7 @@ use Rattle.std.proofs.Common.{◌≡◌, ◌∙◌, ◌<◌, ◌≤◌, Option, 
 use Rattle.std.specs.List.{find}
 use Rattle.std.specs.Map.{lookup}
 use Rattle.std.proofs.lemmas.List.{get_or_read}
+use Rattle.pfs_addr_values.specs.Packets.{run_limit}
 use Rattle.pfs_addr_values.specs.Sameness.{same_key}
 use Rattle.pfs_store_contract.specs.Admission.{nodes_with}
 use Rattle.pfs_store_contract.specs.Counts.{is_of_rule, node_scope_of}
@@ -26,7 +27,7 @@ invariant_of-self g c =
 
 pub place-requires-clause-few : goal.place-requires-clause-few
 place-requires-clause-few g c =
-    let l : length (states_of c.self.inside.records) ≤ 1000000000 = omega (arith, ap (λ (h : Holding). length h.states) c.self.view_is, c.requires.few) in
+    let l : length (states_of c.self.inside.records) ≤ run_limit = omega (arith, ap (λ (h : Holding). length h.states) c.self.view_is, c.requires.few) in
     all-weaker (IsCounted c.self.inside.config (states_of c.self.inside.records)) IsFew (λ t h. few-counted c.self.inside.config (states_of c.self.inside.records) t l h) c.self.inside.nodes c.self.invariant.counted
 
 pub place-requires-clause-above : goal.place-requires-clause-above

@@ -3,6 +3,7 @@ use Rattle.std.proofs.Common.{◌≡◌, ◌∙◌, ◌≤◌, is_some, [], leng
 use Rattle.std.specs.HashMap as hash
 use Rattle.std.specs.List.{find, list_any}
 use Rattle.pfs_addr_values.specs.Keys.{key_of}
+use Rattle.pfs_addr_values.specs.Packets.{run_limit}
 use Rattle.pfs_addr_values.specs.Sameness.{same_key}
 use Rattle.pfs_conf_values.specs.Configs.{Conf, options_of}
 use Rattle.pfs_store_contract.specs.Counts.{node_scope_of}
@@ -52,7 +53,7 @@ meet-met-requires-clause-has g c =
 
 pub meet-met-requires-clause-few : goal.meet-met-requires-clause-few
 meet-met-requires-clause-few g c =
-    let l : length (states_of c.self.inside.records) ≤ 1000000000 = omega (arith, ap (λ (h : Holding). length h.states) c.self.view_is, c.requires.few) in
+    let l : length (states_of c.self.inside.records) ≤ run_limit = omega (arith, ap (λ (h : Holding). length h.states) c.self.view_is, c.requires.few) in
     all-weaker (IsCounted c.self.inside.config (states_of c.self.inside.records)) IsFew (λ t h. few-counted c.self.inside.config (states_of c.self.inside.records) t l h) c.self.inside.nodes c.self.invariant.counted
 
 pub meet-met-requires-clause-scored : goal.meet-met-requires-clause-scored

@@ -3,4 +3,4 @@ use Rattle.pfs_store_index.proofs.NodeLaws.{orderly-nil}
 use Rattle.pfs_store_index.proofs.nodes.Nodes.new.Goals as goal
 
 pub returns-clause-orderly : goal.returns-clause-orderly
-returns-clause-orderly g c = rw c.new.ensures.empty orderly-nil
+returns-clause-orderly g c = rw c.new-2.ensures.empty orderly-nil

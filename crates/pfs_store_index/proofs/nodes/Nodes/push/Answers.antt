@@ -1,59 +1,96 @@
 -- Answers of Nodes::push: a new node goes last and is counted (`ok`), or room is refused; all are `orderly`.
-use Rattle.std.proofs.Common.{◌≡◌, ◌∙◌, ◌++◌, ◌∷◌, [], None, Some, ap, arith}
+use Rattle.std.proofs.Common.{◌≡◌, ◌∙◌, ◌++◌, ◌∷◌, [], None, Some, ap, arith, refl, sym}
 use Rattle.indexmap.specs.IndexMap.{get}
-use Rattle.pfs_store_index.specs.Keeping.{values_at, number_of_node, place_of_node, same_place}
-use Rattle.pfs_store_index.proofs.Ordered.{held-pushed}
-use Rattle.pfs_store_index.proofs.NodeLaws.{few-noted, get-noted, held-reserved, noted-pushed, noted-reserved, numbers-nodes, orderly, updated-table}
+use Rattle.pfs_store_index.specs.Keeping.{NodeIsAt, number_of_node, same_source, source_of_node, tally_in, values_at}
+use Rattle.pfs_store_index.proofs.Ordered.{IsUpdated, held-all, held-pushed}
+use Rattle.pfs_store_index.proofs.NodeLaws.{few-noted, grown-slab, none-noted, noted-pushed, noted-reserved, numbers-nodes, orderly, updated-slab, updated-table}
 use Rattle.pfs_store_index.proofs.nodes.Nodes.push.Goals as goal
 
 pub returns-in_err-make_room-clause-orderly : goal.returns-in_err-make_room-clause-orderly
 returns-in_err-make_room-clause-orderly g c =
-    orderly (get same_place c.self.inside.table) c.self.inside.order.entries c.self.invariant.kept
+    orderly (get same_source c.self.inside.table) (tally_in c.self.inside.slab) c.self.inside.order.entries c.self.invariant.kept
 
 pub invariant_of-self-in_err-reserve : goal.invariant_of-self-in_err-reserve
 invariant_of-self-in_err-reserve g c =
-    noted-reserved c.self.inside.table c.reserve.new.self c.self.inside.order.entries c.self.inside.counts.rules.items c.make_room.new.self.rules.items c.self.inside.counts.global c.make_room.new.self.global c.reserve.ensures.entries c.make_room.ensures.counts c.self.invariant
+    noted-reserved c.self.inside.table c.reserve.new.self (tally_in c.self.inside.slab) (tally_in c.self.inside.slab) c.self.inside.order.entries c.self.inside.counts.rules.items c.make_room.new.self.rules.items c.self.inside.counts.global c.make_room.new.self.global
+    c.reserve.ensures.entries (λ p. refl) c.make_room.ensures.counts c.self.invariant
 
 pub returns-in_err-reserve-clause-orderly : goal.returns-in_err-reserve-clause-orderly
 returns-in_err-reserve-clause-orderly g c =
-    orderly (get same_place c.reserve.new.self) c.self.inside.order.entries (invariant_of-self-in_err-reserve g c).kept
+    orderly (get same_source c.reserve.new.self) (tally_in c.self.inside.slab) c.self.inside.order.entries (invariant_of-self-in_err-reserve g c).kept
+
+pub invariant_of-self-in_err-reserve-2 : goal.invariant_of-self-in_err-reserve-2
+invariant_of-self-in_err-reserve-2 g c =
+    noted-reserved c.self.inside.table c.reserve.new.self (tally_in c.self.inside.slab) (tally_in c.reserve-2.new.self) c.self.inside.order.entries c.self.inside.counts.rules.items c.make_room.new.self.rules.items c.self.inside.counts.global c.make_room.new.self.global
+    c.reserve.ensures.entries (grown-slab c.self.inside.slab c.reserve-2.new.self _ c.reserve-2.ensures.rest_kept) c.make_room.ensures.counts c.self.invariant
+
+pub returns-in_err-reserve-2-clause-orderly : goal.returns-in_err-reserve-2-clause-orderly
+returns-in_err-reserve-2-clause-orderly g c =
+    orderly (get same_source c.reserve.new.self) (tally_in c.reserve-2.new.self) c.self.inside.order.entries (invariant_of-self-in_err-reserve-2 g c).kept
+
+pub invariant_of-self-in_err-place : goal.invariant_of-self-in_err-place
+invariant_of-self-in_err-place g c =
+    noted-reserved c.self.inside.table c.reserve.new.self (tally_in c.self.inside.slab) (tally_in c.reserve-2.new.self) c.self.inside.order.entries c.self.inside.counts.rules.items c.make_room.new.self.rules.items c.self.inside.counts.global c.make_room.new.self.global
+    c.reserve.ensures.entries (grown-slab c.self.inside.slab c.reserve-2.new.self _ c.reserve-2.ensures.rest_kept) c.make_room.ensures.counts c.self.invariant
+
+pub returns-in_err-place-clause-orderly : goal.returns-in_err-place-clause-orderly
+returns-in_err-place-clause-orderly g c =
+    orderly (get same_source c.reserve.new.self) (tally_in c.reserve-2.new.self) c.self.inside.order.entries (invariant_of-self-in_err-place g c).kept
 
 pub invariant_of-self-in_err-insert : goal.invariant_of-self-in_err-insert
 invariant_of-self-in_err-insert g c =
-    let k = noted-reserved c.self.inside.table c.reserve.new.self c.self.inside.order.entries c.self.inside.counts.rules.items c.make_room.new.self.rules.items c.self.inside.counts.global c.make_room.new.self.global c.reserve.ensures.entries c.make_room.ensures.counts c.self.invariant in
+    let k = noted-reserved c.self.inside.table c.reserve.new.self (tally_in c.self.inside.slab) (tally_in c.reserve-2.new.self) c.self.inside.order.entries c.self.inside.counts.rules.items c.make_room.new.self.rules.items c.self.inside.counts.global c.make_room.new.self.global
+    c.reserve.ensures.entries (grown-slab c.self.inside.slab c.reserve-2.new.self _ c.reserve-2.ensures.rest_kept) c.make_room.ensures.counts c.self.invariant in
     rw c.in_err-insert.ensures.err k
 
 pub returns-in_err-insert-clause-orderly : goal.returns-in_err-insert-clause-orderly
 returns-in_err-insert-clause-orderly g c =
-    orderly (get same_place c.reserve.new.self) c.insert.new.self.entries (invariant_of-self-in_err-insert g c).kept
+    orderly (get same_source c.reserve.new.self) (tally_in c.reserve-2.new.self) c.insert.new.self.entries (invariant_of-self-in_err-insert g c).kept
 
 pub add-requires-clause-few : goal.add-requires-clause-few
 add-requires-clause-few g c =
-    let f = few-noted (get same_place c.self.inside.table) c.self.inside.order.entries c.self.inside.counts.rules.items c.self.inside.counts.global c.self.invariant c.args.tally.node.scope in
+    let f = few-noted (get same_source c.self.inside.table) (tally_in c.self.inside.slab) c.self.inside.order.entries c.self.inside.counts.rules.items c.self.inside.counts.global c.self.invariant c.args.tally.node.scope in
     let s = c.make_room.ensures.counts c.args.tally.node.scope in
     omega (arith, f, s, c.len-count.ensures.len, c.len-count.ensures.small)
 
 pub invariant_of-self-in-Ok : goal.invariant_of-self-in-Ok
 invariant_of-self-in-Ok g c =
-    let r = c.reserve.ensures.entries in
-    let k = noted-reserved c.self.inside.table c.reserve.new.self c.self.inside.order.entries c.self.inside.counts.rules.items c.make_room.new.self.rules.items c.self.inside.counts.global c.make_room.new.self.global r c.make_room.ensures.counts c.self.invariant in
-    let w : values_at (get same_place c.reserve.new.self) c.self.inside.order.entries ≡ c.args.self.now = held-reserved c.self.inside.table c.reserve.new.self c.self.inside.order.entries r ∙ c.self.view_is in
-    let n : get same_place c.reserve.new.self (place_of_node c.args.tally) ≡ None = get-noted c.args.tally.node.scope c.args.tally.node.source (get same_place c.reserve.new.self) c.self.inside.order.entries c.make_room.new.self.rules.items c.make_room.new.self.global k ∙ rw w c.requires.absent in
-    let u = updated-table (get same_place c.reserve.new.self) (get same_place c.insert-2.new.self) (place_of_node c.args.tally) (Some c.args.tally) c.in-Ok.ensures.updates.0 in
-    noted-pushed (get same_place c.reserve.new.self) (get same_place c.insert-2.new.self) c.args.tally c.self.inside.order.entries c.insert.new.self.entries
+    let t = c.args.tally in
+    let es = c.self.inside.order.entries in
+    let p = c.in_ok-place.place in
+    let grown = grown-slab c.self.inside.slab c.reserve-2.new.self _ c.reserve-2.ensures.rest_kept in
+    let k = noted-reserved c.self.inside.table c.reserve.new.self (tally_in c.self.inside.slab) (tally_in c.reserve-2.new.self) es c.self.inside.counts.rules.items c.make_room.new.self.rules.items c.self.inside.counts.global c.make_room.new.self.global
+    c.reserve.ensures.entries grown c.make_room.ensures.counts c.self.invariant in
+    let w : values_at (tally_in c.reserve-2.new.self) es ≡ c.args.self.now =
+    held-all number_of_node (NodeIsAt (get same_source c.reserve.new.self)) (tally_in c.self.inside.slab) (tally_in c.reserve-2.new.self) es grown ∙ c.self.view_is in
+    let q : p ≡ c.insert_reserved.result = c.in_ok-place.ensures ∙ c.vacant_key.ensures.value ∙ sym c.insert_reserved.ensures.key in
+    let v : tally_in c.reserve-2.new.self p ≡ None = ap (tally_in c.reserve-2.new.self) q ∙ c.insert_reserved.ensures.was_vacant in
+    let u : IsUpdated (tally_in c.reserve-2.new.self) (tally_in c.insert_reserved.new.self) p (Some t) =
+    updated-slab c.reserve-2.new.self c.insert_reserved.new.self p (Some t) (rw (sym q) at c.insert_reserved.ensures.updates) in
+    let n : get same_source c.reserve.new.self (source_of_node t) ≡ None =
+    none-noted (get same_source c.reserve.new.self) (tally_in c.reserve-2.new.self) es c.make_room.new.self.rules.items c.make_room.new.self.global k t.node.scope t.node.source (rw w c.requires.absent) in
+    let m = updated-table (get same_source c.reserve.new.self) (get same_source c.insert-2.new.self) (source_of_node t) (Some p) c.in-Ok.ensures.updates.0 in
+    noted-pushed (get same_source c.reserve.new.self) (get same_source c.insert-2.new.self) (tally_in c.reserve-2.new.self) (tally_in c.insert_reserved.new.self) t p es c.insert.new.self.entries
     c.make_room.new.self.rules.items c.add.new.self.rules.items c.make_room.new.self.global c.add.new.self.global
-    n u (rw w c.requires.above) c.in_ok-insert.ensures.entries c.in_ok-insert.ensures.ordered c.in_ok-insert.ensures.updates.0 c.add.ensures k
+    n m v u (rw w c.requires.above) c.in_ok-insert.ensures.entries c.in_ok-insert.ensures.ordered c.in_ok-insert.ensures.updates.0 c.add.ensures k
 
 pub returns-clause-ok : goal.returns-clause-ok
 returns-clause-ok g c =
-    let r = c.reserve.ensures.entries in
-    let k = noted-reserved c.self.inside.table c.reserve.new.self c.self.inside.order.entries c.self.inside.counts.rules.items c.make_room.new.self.rules.items c.self.inside.counts.global c.make_room.new.self.global r c.make_room.ensures.counts c.self.invariant in
-    let w : values_at (get same_place c.reserve.new.self) c.self.inside.order.entries ≡ c.args.self.now = held-reserved c.self.inside.table c.reserve.new.self c.self.inside.order.entries r ∙ c.self.view_is in
-    let n : get same_place c.reserve.new.self (place_of_node c.args.tally) ≡ None = get-noted c.args.tally.node.scope c.args.tally.node.source (get same_place c.reserve.new.self) c.self.inside.order.entries c.make_room.new.self.rules.items c.make_room.new.self.global k ∙ rw w c.requires.absent in
-    let u = updated-table (get same_place c.reserve.new.self) (get same_place c.insert-2.new.self) (place_of_node c.args.tally) (Some c.args.tally) c.in-Ok.ensures.updates.0 in
-    held-pushed number_of_node place_of_node (get same_place c.reserve.new.self) (get same_place c.insert-2.new.self) (place_of_node c.args.tally) c.args.tally c.self.inside.order.entries c.insert.new.self.entries
-    n u k.kept (rw w (rw (numbers-nodes c.args.self.now) at c.requires.above)) c.in_ok-insert.ensures.entries
-    ∙ ap (λ xs. xs ++ c.args.tally ∷ []) w
+    let t = c.args.tally in
+    let es = c.self.inside.order.entries in
+    let p = c.in_ok-place.place in
+    let grown = grown-slab c.self.inside.slab c.reserve-2.new.self _ c.reserve-2.ensures.rest_kept in
+    let k = noted-reserved c.self.inside.table c.reserve.new.self (tally_in c.self.inside.slab) (tally_in c.reserve-2.new.self) es c.self.inside.counts.rules.items c.make_room.new.self.rules.items c.self.inside.counts.global c.make_room.new.self.global
+    c.reserve.ensures.entries grown c.make_room.ensures.counts c.self.invariant in
+    let w : values_at (tally_in c.reserve-2.new.self) es ≡ c.args.self.now =
+    held-all number_of_node (NodeIsAt (get same_source c.reserve.new.self)) (tally_in c.self.inside.slab) (tally_in c.reserve-2.new.self) es grown ∙ c.self.view_is in
+    let q : p ≡ c.insert_reserved.result = c.in_ok-place.ensures ∙ c.vacant_key.ensures.value ∙ sym c.insert_reserved.ensures.key in
+    let v : tally_in c.reserve-2.new.self p ≡ None = ap (tally_in c.reserve-2.new.self) q ∙ c.insert_reserved.ensures.was_vacant in
+    let u : IsUpdated (tally_in c.reserve-2.new.self) (tally_in c.insert_reserved.new.self) p (Some t) =
+    updated-slab c.reserve-2.new.self c.insert_reserved.new.self p (Some t) (rw (sym q) at c.insert_reserved.ensures.updates) in
+    held-pushed number_of_node (NodeIsAt (get same_source c.reserve.new.self)) (tally_in c.reserve-2.new.self) (tally_in c.insert_reserved.new.self) p t es c.insert.new.self.entries
+    v u k.kept (rw w (rw (numbers-nodes c.args.self.now) at c.requires.above)) c.in_ok-insert.ensures.entries
+    ∙ ap (λ xs. xs ++ t ∷ []) w
 
 pub returns-clause-orderly : goal.returns-clause-orderly
-returns-clause-orderly g c = orderly (get same_place c.insert-2.new.self) c.insert.new.self.entries (invariant_of-self-in-Ok g c).kept
+returns-clause-orderly g c = orderly (get same_source c.insert-2.new.self) (tally_in c.insert_reserved.new.self) c.insert.new.self.entries (invariant_of-self-in-Ok g c).kept

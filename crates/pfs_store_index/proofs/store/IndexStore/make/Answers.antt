@@ -1,5 +1,6 @@
 -- Answers of IndexStore's make: a new number is above all others, and the world then is as defined (`ok`).
 use Rattle.std.proofs.Common.{◌≡◌, ◌∙◌, ◌+◌, ◌<◌, ◌++◌, ◌∷◌, [], ap, refl, sym, arith}
+use Rattle.pfs_addr_values.specs.Packets.{run_limit}
 use Rattle.pfs_store_contract.specs.Admission.{world_after_admission, new_state, nodes_with}
 use Rattle.pfs_store_contract.specs.Counts.{node_scope_of}
 use Rattle.pfs_store_contract.specs.Plain.{Plain}
@@ -31,7 +32,7 @@ put-requires-clause-sourced g c =
 pub invariant_of-self : goal.invariant_of-self
 invariant_of-self g c =
     let s : State = record { number = c.self.inside.made + 1; key = c.of.result; dir = c.dir.result; source = c.src-source.result; rule = c.args.rule; phase = c.first.result; last = c.args.now } in
-    let l : c.self.inside.made < 1000000000 = omega (arith, ap (λ (p : Plain). p.world.made) c.self.view_is, c.requires.room) in
+    let l : c.self.inside.made < run_limit = omega (arith, ap (λ (p : Plain). p.world.made) c.self.view_is, c.requires.room) in
     stored-came s c.self.inside.indexes c.put.new.self c.self.inside.states_round.cursor c.self.inside.states_round.mark c.self.inside.nodes_round.cursor c.self.inside.nodes_round.mark c.self.inside.made _ l c.self.invariant refl
     c.in-Ok.ensures.config c.in-Ok.ensures.states c.in-Ok.ensures.nodes
 
