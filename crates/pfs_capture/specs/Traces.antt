@@ -48,7 +48,7 @@ judged_at inside ifname f second = record { second = second; is_late = is_before
 abbrev pub Run : Type 0
 Run = List Judged × Option TraceStop
 
--- a frame in its second, and then those behind it; or the fault of its moment
+-- a frame in its second, and then those after it; or the fault of its moment
 abbrev pub at_second : Result ℕ TraceStop → (ℕ → Judged) → (ℕ → Run) → Run
 at_second (Ok second) judged more = (judged second ∷ (more second).0, (more second).1)
 at_second (Err f) judged more = ([], Some f)

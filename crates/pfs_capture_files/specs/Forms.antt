@@ -20,7 +20,7 @@ use Rattle.pfs_capture_files.specs.Interfaces.{then_known}
 use Rattle.pfs_capture_files.specs.Classic.{lengths_of, record_frame}
 use Rattle.pfs_capture_files.specs.Blocks.{block_head, body_item, is_outside}
 
--- how a pcap file begins by its version, whose numbers stand behind its first (pcap, section 4)
+-- how a pcap file begins by its version, whose numbers follow its first (pcap, section 4)
 abbrev pub start_of_version : Order → List ℕ → Result Start FileFault
 start_of_version order head = then_known (lengths_of (u16_in order head 4) (u16_in order head 6)) (λ lengths. Ok (start.Classic order lengths))
 
@@ -87,7 +87,7 @@ classic_form order lengths rest =
     if nat_lt (length rest) 12 then Err fault.Cut
     else Ok (form.Classic (record { order = order; lengths = lengths; link = u32_in order rest 8 % 65536 }))
 
--- how a pcap file begins behind its first twelve bytes, and what is left
+-- how a pcap file goes on after its first twelve bytes, and what is left
 abbrev pub classic_start : Order → Lengths → List ℕ → Result (Form × List ℕ) FileFault
 classic_start order lengths xs = then_known (classic_form order lengths (take 12 xs)) (λ f. Ok (f, drop 12 xs))
 

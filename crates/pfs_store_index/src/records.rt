@@ -198,7 +198,7 @@ impl Records {
     }
 }
 
-/// A place in 32 bits. `NoMemory` is answered where it does not fit.
+/// A place in 32 bits. It returns `NoMemory` where it does not fit.
 pub(crate) fn short(place: usize) -> Result<u32, NoMemory>
     ensures { IfOk result (λ p. p ≡ place) }
 {
