@@ -69,7 +69,7 @@ account-more js second is_late (Err reason.NeitherWay) =
     same_account _ _ _ _ _ _ _ _ (account_of (js ++ j ∷ [])) (length-more js j) (count-same (λ x. is_record x.outcome) js j refl)
     (left reason.LinkType js j refl) (left reason.NotIp js j refl) (left reason.LaterFragment js j refl) (left reason.Cut js j refl) (one-left reason.NeitherWay js j refl) (late-same js j refl)
 
--- how many records there are behind so many, with these frames
+-- how many records there are after so many, with these frames
 unfoldable pub records_after : ℕ → List Judged → ℕ
 records_after n [] = n
 records_after n (j ∷ js) = records_after (records_with n j.outcome) js

@@ -1,4 +1,4 @@
--- What stands between two items of a capture, and how a run ends.
+-- What holds between two items of a capture, and how a run ends.
 use Rattle.std.proofs.Common.{◌≡◌, ◌≤◌, ◌<◌, ◌+◌, ◌-◌, ◌++◌, ◌∙◌, ℕ, suc, Bool, true, false, List, [], ◌∷◌, length, take, drop, Option, Some, None, Ok, Err, inl, inr, refl, sym, ap, arith, subst, append-nil, append_assoc, nat_lt, max}
 use Rattle.std.specs.Prelude.{Result, ◌⊎◌, codes, if◌then◌else◌}
 use Rattle.std.specs.Bool.{MatchBool}
@@ -69,7 +69,7 @@ judged-fault : (inside : List Network) (ifname : List ℕ) (last : ℕ) (f : See
 unfolding judged_from
 judged-fault inside ifname last f fs end g e = ap (λ (r : Result ℕ TraceStop). at_second r (λ s. judged_at inside ifname f s) (λ s. judged_from inside ifname s fs end)) e
 
--- ---- what is told
+-- ---- what is written
 
 -- the frames that begin a run are its first ones
 first-frames : (run more : Run) (seen : List Judged) → run ≡ behind seen more → take (length seen) run.0 ≡ seen
@@ -100,7 +100,7 @@ tells-front run more seen account t u e counts trace answers =
       counts ∙ ap account_of first,
     )
 
--- a fault of the file that is told with all frames, or one of what is around it with the first
+-- a fault of the file, with which all frames are written, or one of what is around it, with the first of them
 tells-file : (run : Run) (trace answers : List ℕ) (account : Account) (f : FileFault) (b : Bool) → is_outside f ≡ b
     → TellsFirst run trace answers account → (b ≡ false → TellsAll run (Some (stop.File f)) trace answers account)
     → MatchBool b (TellsFirst run trace answers account) (TellsAll run (Some (stop.File f)) trace answers account)
@@ -188,7 +188,7 @@ ends-many rem inside ifname run before now before2 now2 turn tally form a h many
 
 -- ---- a frame
 
--- a second that was told, or the fault of a moment
+-- a second that the trace can have, or the fault of a moment
 told-ok : (r : Result ℕ TraceStop) (more : ℕ → Taken) (x : Taken) → at_told r more ≡ Ok x → (s : ℕ) × (r ≡ Ok s) × (more s ≡ x)
 told-ok (Ok s) more x e = (s, refl, cc e)
 told-ok (Err f) more x e = absurd (cc e)
@@ -219,7 +219,7 @@ pub record Counted {S : Type 0} (rem : S → Option (List ℕ)) (inside : List N
   pub counts : tally.account ≡ account_of more
   pub split : run ≡ behind more (judged_frames inside ifname tally.last (frames_from (most_items - turn) form left))
 
--- the run goes on behind a frame
+-- the run goes on after a frame
 split-frame : (inside : List Network) (ifname : List ℕ) (run : Run) (seen : List Judged) (turn last second : ℕ) (form form2 : Form) (frame : Frame) (left held ys : List ℕ)
     → turn < most_items → run ≡ behind seen (judged_frames inside ifname last (frames_from (most_items - turn) form left))
     → turn_of form left ≡ Ok (record { form = form2; item = item.Frame frame; held = held; left = ys }) → second_after last frame.moment ≡ Ok second
@@ -295,7 +295,7 @@ so_far-frame rem inside ifname run before now after before2 now2 after2 turn tal
   split = h.split;
 }
 
--- a front behind a text begins it
+-- a front after a text begins it
 front-begins : (text t line whole : List ℕ) → IsFront t line → whole ≡ text ++ line → BeginsText (text ++ t) whole
 front-begins text t line whole (k, cut) e =
     let line_is : line ≡ t ++ drop k line = sym (take-append-drop k line) ∙ ap (λ (x : List ℕ). x ++ drop k line) (sym cut) in
@@ -341,7 +341,7 @@ sends-these a b row answer t u result p q sends = subst (λ (x : List ℕ). Send
 
 -- ---- the beginning
 
--- what is told of a capture that begins like this
+-- what is written of a capture that begins like this
 abbrev pub Captured : List Network → List ℕ → Result (Form × List ℕ) FileFault → Option (List ℕ) → Option (List ℕ) → Option (List ℕ) → Option (List ℕ) → Account → Result Unit TraceStop → Type 0
 Captured inside ifname begin before now before2 now2 account result =
     (t : List ℕ) × (u : List ℕ) × Appends before now t × Appends before2 now2 u × TellsCapture inside ifname begin t u account result

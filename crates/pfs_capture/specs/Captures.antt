@@ -27,13 +27,13 @@ seen_of frame held = record { link = frame.link; moment = frame.moment; octets =
 abbrev pub Frames : Type 0
 Frames = List Seen × Option TraceStop
 
--- an item's frame, if it holds one, and then those behind it; none is behind the end
+-- an item's frame, if it holds one, and then those after it; none is after the end
 abbrev pub at_item : Item → List ℕ → Frames → Frames
 at_item item.End held more = ([], None)
 at_item item.Other held more = more
 at_item (item.Frame f) held more = (seen_of f held ∷ more.0, more.1)
 
--- what a turn finds, and then what is behind it; or its fault
+-- what a turn finds, and then what follows it; or its fault
 abbrev pub at_turn : Result Turn FileFault → (Form → List ℕ → Frames) → Frames
 at_turn (Ok turn) more = at_item turn.item turn.held (more turn.form turn.left)
 at_turn (Err f) more = ([], Some (stop.File f))

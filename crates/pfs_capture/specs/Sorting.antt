@@ -25,7 +25,7 @@ way_between false true = Some In
 way_between true false = Some Out
 way_between from to = None
 
--- the way of a frame's packet and its interface: a log of packets (LINKTYPE_PFLOG, 117) tells them itself
+-- the way of a frame's packet and its interface: a log of packets (LINKTYPE_PFLOG, 117) has them itself
 abbrev pub way_of : List Network → List ℕ → ℕ → List ℕ → IpPacket → Option Logged
 way_of inside ifname link_type frame packet =
     if link_type == 117 then logged_of frame
@@ -36,6 +36,6 @@ abbrev pub found_in_frame : List Network → List ℕ → ℕ → List ℕ → R
 found_in_frame inside ifname link_type frame =
     then_read (packet_of link_type frame) (λ packet. then_read (ok_or (way_of inside ifname link_type frame packet) reason.NeitherWay) (λ way. Ok (record { way = way; packet = packet; answer = answer_in link_type frame })))
 
--- a packet whose ends are of one family, on an interface with a name, as a row tells it
+-- a packet whose ends are of one family, on an interface with a name, as a row has it
 abbrev pub IsFound : Found → Type 0
 IsFound f = (same_family f.packet.source f.packet.destination ≡ true) × (is_name 15 f.way.ifname ≡ true) × IsCarried f.packet.carried

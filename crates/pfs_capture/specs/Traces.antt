@@ -22,7 +22,7 @@ use Rattle.pfs_capture.specs.declared.faults.TraceStop.{TraceStop}
 use Rattle.pfs_capture.specs.declared.faults.TraceStop.TheVariants as stop
 use Rattle.pfs_capture.specs.declared.sorting.Found.{Found}
 
--- the second of a frame behind one of this second: its own, but none before that
+-- the second of a frame after one of this second: its own, but none before that
 abbrev pub second_after : ℕ → Moment → Result ℕ TraceStop
 second_after last (At second) = if nat_lt 4294967295 second then Err stop.Moment else Ok (max second last)
 second_after last Untold = Ok last
@@ -48,12 +48,12 @@ judged_at inside ifname f second = record { second = second; is_late = is_before
 abbrev pub Run : Type 0
 Run = List Judged × Option TraceStop
 
--- a frame in its second, and then those behind it; or the fault of its moment
+-- a frame in its second, and then those after it; or the fault of its moment
 abbrev pub at_second : Result ℕ TraceStop → (ℕ → Judged) → (ℕ → Run) → Run
 at_second (Ok second) judged more = (judged second ∷ (more second).0, (more second).1)
 at_second (Err f) judged more = ([], Some f)
 
--- these frames behind one of this second
+-- these frames after one of this second
 unfoldable pub judged_from : List Network → List ℕ → ℕ → List Seen → Option TraceStop → Run
 judged_from inside ifname last [] end = ([], end)
 judged_from inside ifname last (f ∷ fs) end =
@@ -62,7 +62,7 @@ judged_from inside ifname last (f ∷ fs) end =
 abbrev pub judged_frames : List Network → List ℕ → ℕ → Frames → Run
 judged_frames inside ifname last frames = judged_from inside ifname last frames.0 frames.1
 
--- all frames of a capture that begins in this form, behind its first bytes
+-- all frames of a capture that begins in this form, after its first bytes
 abbrev pub capture_run : List Network → List ℕ → Form → List ℕ → Run
 capture_run inside ifname form xs = judged_frames inside ifname 0 (frames_from most_items form xs)
 
@@ -91,7 +91,7 @@ abbrev pub records_with : ℕ → Result Found Reason → ℕ
 records_with records (Ok found) = records + 1
 records_with records (Err r) = records
 
--- the answers of frames behind so many records
+-- the answers of frames after so many records
 unfoldable pub answers_from : ℕ → List Judged → List ℕ
 answers_from records [] = []
 answers_from records (j ∷ js) = answer_text (records + 1) j.outcome ++ answers_from (records_with records j.outcome) js
@@ -142,7 +142,7 @@ account_of frames = record {
   late = count_by is_late_record frames;
 }
 
--- ---- what is told by the end of a run
+-- ---- what is written by the end of a run
 
 -- one text begins another
 abbrev pub BeginsText : List ℕ → List ℕ → Type 0
@@ -161,7 +161,7 @@ abbrev pub TellsFront : Run → List ℕ → List ℕ → Account → Type 0
 TellsFront run trace answers account =
     (k : ℕ) × BeginsText trace (trace_text (take k run.0)) × BeginsText answers (answers_text (take k run.0)) × (account ≡ account_of (take k run.0))
 
--- what is told of a run, by how the call ends: all of it, or where something around the capture fails the first of it
+-- what is written of a run, by how the call ends: all of it, or only its first part where something around the capture fails
 abbrev pub TellsRun : Run → List ℕ → List ℕ → Account → Result Unit TraceStop → Type 0
 TellsRun run trace answers account (Ok u) = TellsAll run None trace answers account
 TellsRun run trace answers account (Err (stop.File f)) = MatchBool (is_outside f) (TellsFirst run trace answers account) (TellsAll run (Some (stop.File f)) trace answers account)
@@ -171,7 +171,7 @@ TellsRun run trace answers account (Err stop.Write) = TellsFront run trace answe
 TellsRun run trace answers account (Err stop.Told) = TellsFront run trace answers account
 TellsRun run trace answers account (Err stop.Memory) = TellsFirst run trace answers account
 
--- nothing is told, not even the headers, where a file does not begin as a capture, or can't be read so far
+-- nothing is written, not even the headers, where a file does not begin as a capture, or can't be read so far
 abbrev pub TellsNothing : List ℕ → List ℕ → Account → Type 0
 TellsNothing trace answers account = (trace ≡ []) × (answers ≡ []) × (account ≡ no_frames)
 
@@ -179,7 +179,7 @@ TellsNothing trace answers account = (trace ≡ []) × (answers ≡ []) × (acco
 abbrev pub FailsToStart : Result Unit TraceStop → Type 0
 FailsToStart result = (f : FileFault) × (is_outside f ≡ true) × (result ≡ Err (stop.File f))
 
--- what is told of a capture, by how it begins and how the call ends
+-- what is written of a capture, by how it begins and how the call ends
 abbrev pub TellsCapture : List Network → List ℕ → Result (Form × List ℕ) FileFault → List ℕ → List ℕ → Account → Result Unit TraceStop → Type 0
 TellsCapture inside ifname (Ok begun) trace answers account result =
     TellsRun (capture_run inside ifname begun.0 begun.1) trace answers account result ⊎ (TellsNothing trace answers account × FailsToStart result)

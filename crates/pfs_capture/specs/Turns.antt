@@ -29,7 +29,7 @@ taken_at tally j = record {
   answer = answer_text (tally.account.records + 1) j.outcome;
 }
 
--- what follows from a second that a trace can tell
+-- what follows from a second that a trace can have
 abbrev pub at_told : Result ℕ TraceStop → (ℕ → Taken) → Result Taken TraceStop
 at_told (Ok second) more = Ok (more second)
 at_told (Err f) more = Err f
@@ -38,7 +38,7 @@ at_told (Err f) more = Err f
 abbrev pub frame_taken : List Network → List ℕ → Tally → Seen → Result Taken TraceStop
 frame_taken inside ifname tally seen = at_told (second_after tally.last seen.moment) (λ second. taken_at tally (judged_at inside ifname seen second))
 
--- a call answers and leaves what a frame makes, unless memory was refused
+-- a call returns and leaves what a frame makes, unless memory was refused
 abbrev pub TakesFrame : Result Taken TraceStop → Result Tally TraceStop → List ℕ → List ℕ → Type 0
 TakesFrame step (Ok tally) row answer = step ≡ Ok (record { tally = tally; row = row; answer = answer })
 TakesFrame step (Err f) row answer = (f ≡ stop.Memory) ⊎ (step ≡ Err f)

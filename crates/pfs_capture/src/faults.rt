@@ -9,9 +9,9 @@ use std::{error, fmt};
 /// Why a trace ends before its capture does.
 #[derive(Clone, Copy, Debug, PartialEq, Eq)]
 pub enum TraceStop {
-    /// The capture is none, or ends or breaks off in the item behind the frames that were read.
+    /// The file is no capture, or ends or breaks off in the item after the frames that were read.
     File(FileFault),
-    /// The frame behind those that were read was seen before the second 0 or after the second 4294967295.
+    /// The frame after those that were read was seen before the second 0 or after the second 4294967295.
     Moment,
     /// The capture has more than 1,099,511,627,776 blocks.
     TooMany,

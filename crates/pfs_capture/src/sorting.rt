@@ -26,8 +26,8 @@ pub fn interface(text: &[u8]) -> Option<IfName>
     parse_ifname(text)
 }
 
-/// The packet of a frame of this link type with its way, or the one reason for which it is no record. A log of packets tells the way
-/// itself; else what goes to an address inside comes in, and what goes away from one goes out, on the interface of this name.
+/// The packet of a frame of this link type with its way, or the one reason for which it is no record. A log of packets has the
+/// way itself. Else what goes to an address inside comes in, and what goes away from one goes out, on the interface of this name.
 pub fn sort(
     inside: &[Prefix],
     ifname: IfName,

@@ -1,4 +1,4 @@
-//! The trace of a capture, row by row, and beside it what pf answered.
+//! The trace of a capture, row by row, and in another file what pf answered.
 
 ghost use Rattle.std.specs.Prelude.{◌≡◌, ◌<◌, ◌≤◌, ◌^◌, ◌+◌, ◌++◌, ℕ, List, Some, IfErr, IfOk, OnOk, true};
 ghost use Rattle.std.specs.Io.KnownBytes.{Appends};
@@ -39,15 +39,15 @@ pub struct Lines {
     pub answer: Vec<u8>,
 }
 
-/// Writes the trace of a capture: its header, and a row for each frame that holds a packet which comes in or goes out, each before the
-/// next frame is read. `told` gets what pf answered: a header, and a row for each record that is of a log of pflog(4). `account` counts
-/// the frames from 0 on, also where the trace ends before the capture.
+/// Writes the trace of a capture: its header, and a row for each frame that holds a packet which comes in or goes out.
+/// Each row is written before the next frame is read. `told` gets what pf answered: a header, and a row for each record
+/// that is of a log of pflog(4). `account` counts the frames from 0 on, also where the trace ends before the capture.
 ///
-/// A packet to an address of `inside` from elsewhere comes in, one from there to elsewhere goes out, on the interface of this name; a
-/// log of pflog(4) tells its packets' ways itself. A frame that was seen before the one in front of it has that one's second, and is
-/// counted as late if it is a record.
-/// `TraceStop` says why the trace is not whole: of a capture that is faulty, all is told up to its fault; where a read, a write or
-/// memory fails, what is told is the first of it. It takes memory for one block of the capture, and for two rows.
+/// A packet to an address of `inside` from elsewhere comes in, one from there to elsewhere goes out, on the interface
+/// of this name; a log of pflog(4) has its packets' ways itself. A frame that was seen before the one in front of it
+/// has that one's second, and is counted as late if it is a record. `TraceStop` says why the trace is not whole. Of a
+/// faulty capture all is written up to its fault; where a read or a write fails or memory is refused, only its first
+/// part is written. It takes memory for one block of the capture, and for two rows.
 pub fn write_trace<R: Read, W: Write, T: Write>(
     alloc: Global,
     inside: &[Prefix],
@@ -219,7 +219,7 @@ fn reason_of(outcome: &Result<Found, Reason>) -> Option<Reason>
     }
 }
 
-/// The second of a frame, behind one of this second.
+/// The second of a frame, after one of this second.
 fn second_after(last: u64, moment: Moment) -> Result<u64, TraceStop>
     requires { last ≤ 4294967295 }
     ensures is { result ≡ second_after last moment }

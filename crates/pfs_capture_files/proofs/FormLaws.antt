@@ -1,4 +1,4 @@
--- A record whose bytes are all there is the frame that its header tells.
+-- A record whose bytes are all there is the frame that its header describes.
 use Rattle.std.proofs.Common.{ℕ, ◌≡◌, ◌≤◌, List, length, take, drop, Ok, sym, ap, ◌∙◌, arith, nat_lt, false}
 use Rattle.std.proofs.lemmas.Bool.{cond-false, le-ltb}
 use Rattle.pfs_capture_files.specs.declared.classic.FileHeader.{FileHeader}

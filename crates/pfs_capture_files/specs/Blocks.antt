@@ -13,7 +13,7 @@ use Rattle.pfs_capture_files.specs.Known.{Known}
 use Rattle.pfs_capture_files.specs.Interfaces.{then_known, interface_of}
 use Rattle.pfs_capture_files.specs.Frames.{enhanced_frame, simple_frame}
 
--- the byte order that a section's block tells (section 4.1)
+-- the byte order that a section's block says (section 4.1)
 abbrev pub order_of_magic : ℕ → Result Order FileFault
 order_of_magic magic = if magic == 0x1a2b3c4d then Ok Big else (if magic == 0x4d3c2b1a then Ok Little else Err fault.Block)
 
@@ -84,7 +84,7 @@ is_outside fault.Read = true
 is_outside fault.Memory = true
 is_outside f = false
 
--- what a call answers and leaves is what the definition gives, unless memory was refused
+-- what a call returns and leaves is what the definition gives, unless memory was refused
 abbrev pub TakesItem : Result (Known × Item) FileFault → Result Item FileFault → Known → Type 0
 TakesItem step (Ok held) after = step ≡ Ok (after, held)
 TakesItem step (Err f) after = is_outside f ≡ false → step ≡ Err f

@@ -18,7 +18,7 @@ lengths_of major minor =
     else (if (major == 2) && (minor == 3) then Ok KeptLess
     else (if ((major == 2) && nat_lt minor 3) || ((major == 543) && (minor == 0)) then Ok KeptLast else Err fault.Version))
 
--- the length of these two that tells the bytes kept
+-- the length of these two that is that of the bytes kept
 abbrev pub kept_of_both : Lengths → ℕ → ℕ → ℕ
 kept_of_both KeptFirst first last = first
 kept_of_both KeptLast first last = last

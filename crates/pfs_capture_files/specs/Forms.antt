@@ -20,7 +20,7 @@ use Rattle.pfs_capture_files.specs.Interfaces.{then_known}
 use Rattle.pfs_capture_files.specs.Classic.{lengths_of, record_frame}
 use Rattle.pfs_capture_files.specs.Blocks.{block_head, body_item, is_outside}
 
--- how a pcap file begins by its version, whose numbers stand behind its first (pcap, section 4)
+-- how a pcap file begins by its version, whose numbers follow its first (pcap, section 4)
 abbrev pub start_of_version : Order → List ℕ → Result Start FileFault
 start_of_version order head = then_known (lengths_of (u16_in order head 4) (u16_in order head 6)) (λ lengths. Ok (start.Classic order lengths))
 
@@ -39,7 +39,7 @@ what_begins head =
     if length head == 0 then Err fault.Empty
     else (if nat_lt (length head) 12 then Err fault.NotCapture else start_of_magic (u32_in Big head 0) head)
 
--- what one turn of reading finds: the form as it is known afterwards, the item, the bytes in which a frame stands, and what is left
+-- what one turn of reading finds: the form as it is known afterwards, the item, the bytes in which a frame is, and what is left
 pub record Turn : Type 0 where
   pub form : Form
   pub item : Item
@@ -75,7 +75,7 @@ abbrev pub turn_of : Form → List ℕ → Result Turn FileFault
 turn_of (form.Classic header) xs = record_turn header xs
 turn_of (form.Blocks known) xs = block_turn known xs
 
--- a call answers and leaves what the turn finds, unless a read failed or memory was refused
+-- a call returns and leaves what the turn finds, unless a read failed or memory was refused
 abbrev pub ReadsItem : Result Turn FileFault → Result Item FileFault → Form → List ℕ → Option (List ℕ) → Type 0
 ReadsItem turn (Ok found) after held left =
     (ys : List ℕ) × (left ≡ Some ys) × (turn ≡ Ok (record { form = after; item = found; held = held; left = ys }))
@@ -87,7 +87,7 @@ classic_form order lengths rest =
     if nat_lt (length rest) 12 then Err fault.Cut
     else Ok (form.Classic (record { order = order; lengths = lengths; link = u32_in order rest 8 % 65536 }))
 
--- how a pcap file begins behind its first twelve bytes, and what is left
+-- how a pcap file goes on after its first twelve bytes, and what is left
 abbrev pub classic_start : Order → Lengths → List ℕ → Result (Form × List ℕ) FileFault
 classic_start order lengths xs = then_known (classic_form order lengths (take 12 xs)) (λ f. Ok (f, drop 12 xs))
 
@@ -96,7 +96,7 @@ abbrev pub blocks_start : List ℕ → List ℕ → Result (Form × List ℕ) Fi
 blocks_start first xs =
     then_known (block_head Big first) (λ head. then_known (rest_turn (record { order = head.order; interfaces = [] }) head xs) (λ t. Ok (t.form, t.left)))
 
--- how a file begins behind its first twelve bytes
+-- how a file goes on after its first twelve bytes
 abbrev pub start_at : Start → List ℕ → Result (Form × List ℕ) FileFault
 start_at (start.Classic order lengths) xs = classic_start order lengths (drop 12 xs)
 start_at start.Blocks xs = blocks_start (take 12 xs) (drop 12 xs)
@@ -105,7 +105,7 @@ start_at start.Blocks xs = blocks_start (take 12 xs) (drop 12 xs)
 abbrev pub start_of : List ℕ → Result (Form × List ℕ) FileFault
 start_of xs = then_known (what_begins (take 12 xs)) (λ s. start_at s xs)
 
--- a call answers and leaves how a capture begins, unless a read failed or memory was refused
+-- a call returns and leaves how a capture begins, unless a read failed or memory was refused
 abbrev pub Begins : Result (Form × List ℕ) FileFault → Result Form FileFault → Option (List ℕ) → Type 0
 Begins begin (Ok f) left = (ys : List ℕ) × (left ≡ Some ys) × (begin ≡ Ok (f, ys))
 Begins begin (Err f) left = is_outside f ≡ false → begin ≡ Err f

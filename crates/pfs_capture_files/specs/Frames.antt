@@ -13,7 +13,7 @@ use Rattle.pfs_capture_files.specs.Orders.{u32_in}
 abbrev pub most_of_frame : ℕ
 most_of_frame = 262144
 
--- a second that a trace can tell, or none
+-- a second that a trace can have, or none
 abbrev pub within_range : ℕ → Moment
 within_range second = if nat_le second 4294967295 then At second else Outside
 
@@ -25,8 +25,8 @@ frame_moment interface units =
     else (if nat_lt (units / max interface.units 1) (18446744073709551616 - interface.offset) then Outside
     else within_range (units / max interface.units 1 - (18446744073709551616 - interface.offset)))
 
--- an enhanced packet block has behind its interface the upper and the lower half of its moment, how many bytes were kept, how many
--- there were, and those that were kept
+-- an enhanced packet block has, after its interface, the upper and the lower half of its moment, how many bytes were
+-- kept, how many there were, and those that were kept
 abbrev pub enhanced_frame : Order → Interface → List ℕ → Result Frame FileFault
 enhanced_frame order interface body =
     if nat_lt (length body) 16 then Err fault.Block
@@ -38,7 +38,7 @@ enhanced_frame order interface body =
 abbrev pub kept_of : Interface → ℕ → ℕ
 kept_of interface told = if interface.kept == 0 then told else min told interface.kept
 
--- a simple packet block has behind the number of the frame's bytes those that were kept, and no moment
+-- a simple packet block has, after the number of the frame's bytes, those that were kept, and no moment
 abbrev pub simple_frame : Interface → ℕ → List ℕ → Result Frame FileFault
 simple_frame interface told body =
     if nat_lt most_of_frame (kept_of interface told) then Err fault.TooLong

@@ -8,7 +8,7 @@ abbrev pub u16_in : Order → List ℕ → ℕ → ℕ
 u16_in Big bytes at = slice_index bytes at * 256 + slice_index bytes (at + 1)
 u16_in Little bytes at = slice_index bytes (at + 1) * 256 + slice_index bytes at
 
--- a number of two halves, in the order in which they stand, the lower of which is below this
+-- a number of two halves, in the order in which they are written, the lower of which is below this
 abbrev pub halves_joined : ℕ → Order → ℕ → ℕ → ℕ
 halves_joined half Big front back = front * half + back
 halves_joined half Little front back = back * half + front

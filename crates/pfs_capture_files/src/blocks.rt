@@ -126,7 +126,7 @@ impl Section {
         }
     }
 
-    /// Begins a section, by its byte order and what its block holds behind that: its version, and how long it is.
+    /// Begins a section, by its byte order and what its block holds after that: its version, and how long it is.
     fn begin(&mut self, order: Order, body: &[u8]) -> Result<Item, FileFault>
         ensures { TakesItem (with_section order body.now) result self.new }
     {
@@ -191,7 +191,7 @@ fn is_version(major: u16, minor: u16) -> bool
     major == 1 && (minor == 0 || minor == 2)
 }
 
-/// How many bytes stand in front of a block's last length.
+/// How many bytes are in front of a block's last length.
 fn front(rest: &[u8]) -> usize
     ensures is { result ≡ length rest.now - 4 }
     ensures within { result ≤ length rest.now }

@@ -18,7 +18,7 @@ pub enum Lengths {
     KeptLess,
 }
 
-/// What the header of a pcap file tells of its records.
+/// What the header of a pcap file says of its records.
 #[derive(Clone, Copy, Debug, PartialEq, Eq)]
 pub struct FileHeader {
     /// The byte order of their numbers.
@@ -29,7 +29,8 @@ pub struct FileHeader {
     pub link: u16,
 }
 
-/// Which length of a record is that of the bytes kept, in a file of this version. `FileFault::Version` tells a version that is not read.
+/// Which length of a record is that of the bytes kept, in a file of this version. It returns `FileFault::Version` for a
+/// version that is not read.
 pub fn lengths_of(major: u16, minor: u16) -> Result<Lengths, FileFault>
     ensures { result ≡ lengths_of major minor }
 {
@@ -41,7 +42,7 @@ pub fn lengths_of(major: u16, minor: u16) -> Result<Lengths, FileFault>
     }
 }
 
-/// The frame that a record's header tells, whose bytes follow it.
+/// The frame that a record's header describes, whose bytes follow it.
 pub fn record_frame(header: FileHeader, head: &[u8]) -> Result<Frame, FileFault>
     ensures is { result ≡ record_frame header head.now }
     ensures few { IfOk result (λ f. f.count ≤ 262144) }

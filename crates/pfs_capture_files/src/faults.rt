@@ -17,7 +17,7 @@ pub enum FileFault {
     Cut,
     /// A frame is of more than 262,144 bytes, or a block of more than 524,288.
     TooLong,
-    /// A block is shorter than what it tells, or names an interface that is not there.
+    /// A block is shorter than it says, or names an interface that is not there.
     Block,
     /// A section has more than 1,024 interfaces.
     Interfaces,

@@ -5,8 +5,8 @@ ghost use Rattle.std.specs.Prelude.{◌≡◌, ◌⊎◌, ◌≤◌, ℕ, List, 
 use crate::faults::FileFault;
 use std::io::Read;
 
-/// Reads so many bytes into the buffer, in the place of what it held, or fewer where the file ends before.
-/// `FileFault::Read` is answered where a read fails, `FileFault::Memory` where memory is refused.
+/// Reads so many bytes into the buffer, in place of what it held, or fewer where the file ends before. It returns
+/// `FileFault::Read` where a read fails, `FileFault::Memory` where memory is refused.
 pub fn fill<R: Read>(reader: &mut R, buffer: &mut Vec<u8>, count: usize) -> Result<(), FileFault>
     requires { count ≤ 524288 }
     ensures bytes { OnOk result ((xs : List ℕ) → R.remaining reader.old ≡ Some xs → buffer.new.items ≡ take count xs) }

@@ -16,7 +16,7 @@ use std::io::Read;
 /// The form of a capture file, and what is known of it while it is read.
 #[derive(Debug, Drop)]
 pub enum Form {
-    /// pcap: what its header tells.
+    /// pcap: what its header says.
     Classic(FileHeader),
     /// pcapng: its section.
     Blocks(Section),
@@ -31,9 +31,10 @@ enum Start {
 
 /// Reads how a capture begins. `buffer` is for what is read, and what it held is given up.
 ///
-/// `FileFault::Empty`, `FileFault::Gzip` and `FileFault::NotCapture` tell a file that is no capture, `FileFault::Version` one of a version
-/// that is not read, `FileFault::Cut` one that ends too early, `FileFault::Block` and `FileFault::TooLong` a first block that is none,
-/// `FileFault::Read` a read that failed, `FileFault::Memory` want of memory. (pcap, section 4; pcapng, section 4.1)
+/// It returns `FileFault::Empty`, `FileFault::Gzip` or `FileFault::NotCapture` for a file that is no capture,
+/// `FileFault::Version` for one of a version that is not read, `FileFault::Cut` for one that ends too early,
+/// `FileFault::Block` or `FileFault::TooLong` for a first block that is none, `FileFault::Read` where a read failed, and
+/// `FileFault::Memory` where memory was refused. (pcap, section 4; pcapng, section 4.1)
 pub fn read_start<R: Read>(
     alloc: Global,
     reader: &mut R,
@@ -48,12 +49,13 @@ pub fn read_start<R: Read>(
     }
 }
 
-/// Reads the next item of a capture whose form is known. Of a frame, `buffer` holds its bytes afterwards, among others; what it
-/// held is given up.
+/// Reads the next item of a capture whose form is known. Of a frame, `buffer` holds its bytes afterwards, among
+/// others; what it held is given up.
 ///
-/// `FileFault::Cut` is answered where the file ends within the item, `FileFault::TooLong`, `FileFault::Block`, `FileFault::Version`,
-/// `FileFault::Interfaces` and `FileFault::Resolution` where it is none that is read, `FileFault::Read` where a read failed and
-/// `FileFault::Memory` where memory was refused; then nothing more can be read. (pcap, section 5; pcapng, section 3.1)
+/// It returns `FileFault::Cut` where the file ends within the item, `FileFault::TooLong`, `FileFault::Block`,
+/// `FileFault::Version`, `FileFault::Interfaces` or `FileFault::Resolution` where the item is none that is read,
+/// `FileFault::Read` where a read failed, and `FileFault::Memory` where memory was refused; then nothing more can be
+/// read. (pcap, section 5; pcapng, section 3.1)
 pub fn read_item<R: Read>(
     reader: &mut R,
     buffer: &mut Vec<u8>,
@@ -93,7 +95,7 @@ fn start_of_magic(magic: u32, head: &[u8]) -> Result<Start, FileFault>
     }
 }
 
-/// How a pcap file begins by its version, which stands behind its first number.
+/// How a pcap file begins by its version, which follows its first number.
 fn start_of_version(order: Order, head: &[u8]) -> Result<Start, FileFault>
     requires { 12 ≤ length head.now }
     ensures { result ≡ start_of_version order head.now }

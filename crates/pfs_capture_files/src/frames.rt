@@ -10,7 +10,7 @@ use crate::orders::{Order, read_u32};
 /// The most bytes of a frame.
 pub const MOST_OF_FRAME: u32 = 262_144;
 
-/// The last second that a trace can tell.
+/// The last second that a trace can have.
 const LAST_SECOND: u64 = 4_294_967_295;
 
 /// When a frame was seen.
@@ -18,7 +18,7 @@ const LAST_SECOND: u64 = 4_294_967_295;
 pub enum Moment {
     /// In this second since 1970, at most 4294967295.
     At(u64),
-    /// Its block does not tell.
+    /// Its block does not say.
     Untold,
     /// In none from 0 to 4294967295.
     Outside,
@@ -37,7 +37,7 @@ pub struct Frame {
     pub count: usize,
 }
 
-/// What stands next in a file.
+/// What is next in a file.
 #[derive(Clone, Copy, Debug, PartialEq, Eq)]
 pub enum Item {
     /// Its end.
@@ -97,7 +97,7 @@ pub fn simple_frame(interface: &Interface, told: u32, body: &[u8]) -> Result<Fra
     })
 }
 
-/// The second of a moment that is told in an interface's units.
+/// The second of a moment that is given in an interface's units.
 fn moment_of(interface: &Interface, units: u64) -> Moment
     ensures { result ≡ frame_moment interface.now units }
 {

@@ -38,7 +38,7 @@ pub fn interface_of(order: Order, link: u16, body: &[u8]) -> Result<Interface, F
     })
 }
 
-/// How many units a second has: a million where no option tells it.
+/// How many units a second has: a million where no option says it.
 fn units_told(order: Order, body: &[u8]) -> Result<u64, FileFault>
     ensures { result ≡ units_told order body.now }
 {
@@ -49,7 +49,7 @@ fn units_told(order: Order, body: &[u8]) -> Result<u64, FileFault>
     }
 }
 
-/// How many units a second has by the byte that tells it.
+/// How many units a second has, by the byte that says it.
 #[tactic(auto, using(crate::proofs::Powers::tens, crate::proofs::Powers::twos))]
 fn units_of(byte: u8) -> Result<u64, FileFault>
     ensures { result ≡ units_of byte }
@@ -63,7 +63,7 @@ fn units_of(byte: u8) -> Result<u64, FileFault>
     Err(FileFault::Resolution)
 }
 
-/// How many seconds are to be added: none where no option tells it.
+/// How many seconds are to be added: none where no option says it.
 fn offset_of(order: Order, body: &[u8]) -> u64
     ensures { result ≡ offset_of order body.now }
 {

@@ -1,4 +1,4 @@
--- What stands behind a header: RFC 4302, section 2, RFC 8200, section 4, and the labels of a link.
+-- What follows a header: RFC 4302, section 2, RFC 8200, section 4, and the labels of a link.
 use Rattle.std.specs.Prelude.{ℕ, ◌+◌, ◌*◌, ◌/◌, ◌==◌, ◌||◌, List, Bool, length, nat_le, if◌then◌else◌, slice_index}
 use Rattle.pfs_capture_packets.specs.declared.walks.Layer.{Layer}
 use Rattle.pfs_capture_packets.specs.declared.walks.Layer.TheVariants as layer
@@ -9,7 +9,7 @@ use Rattle.pfs_capture_packets.specs.declared.packets.Reason.TheVariants as reas
 use Rattle.pfs_capture_packets.specs.Bytes.{u16_at}
 use Rattle.pfs_capture_packets.specs.Labels.{behind_label}
 
--- the header that begins so many bytes behind this one, which names its protocol in its first byte
+-- the header that begins so many bytes after this one, which names its protocol in its first byte
 abbrev pub next_header : List ℕ → Place → ℕ → Next
 next_header bytes place size = On (record { kind = slice_index bytes place.at; at = place.at + size })
 
@@ -24,9 +24,9 @@ behind_authentication bytes place =
 abbrev pub is_extension : ℕ → Bool
 is_extension kind = (kind == 0) || (kind == 43) || (kind == 44) || (kind == 60)
 
--- an extension header is as long as its second byte says, in words of eight bytes less one (RFC 8200, sections 4.3, 4.4 and 4.6),
--- but a fragment's header is of eight bytes; behind it the headers go on in the first fragment alone, whose offset, the upper 13 bits
--- of its third and fourth byte, is 0 (section 4.5)
+-- an extension header is as long as its second byte says, in words of eight bytes less one (RFC 8200, sections 4.3, 4.4
+-- and 4.6), but a fragment's header is of eight bytes; after it the headers go on in the first fragment alone, whose
+-- offset, the upper 13 bits of its third and fourth byte, is 0 (section 4.5)
 abbrev pub behind_extension : List ℕ → Place → Next
 behind_extension bytes place =
     if is_extension place.kind
@@ -37,7 +37,7 @@ behind_extension bytes place =
     else Stop reason.Cut)
     else behind_authentication bytes place
 
--- where the walk of a layer goes from a header: behind IPv4's own header stand authentication headers alone (RFC 4302, section 3.1)
+-- where the walk of a layer goes from a header: only authentication headers follow IPv4's own header (RFC 4302, section 3.1)
 abbrev pub header_behind : Layer → List ℕ → Place → Next
 header_behind layer.Link bytes place = behind_label bytes place
 header_behind layer.Ip4 bytes place = behind_authentication bytes place

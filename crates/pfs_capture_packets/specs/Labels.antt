@@ -20,7 +20,7 @@ kind_of_ppp protocol =
     else (if protocol == 0x0281 then 0x8847
     else (if protocol == 0x0283 then 0x8848 else 0)))
 
--- a header of so many bytes, behind which something of a kind begins, unless the frame ends within it
+-- a header of so many bytes, after which something of a kind begins, unless the frame ends within it
 abbrev pub on_behind : List ℕ → Place → ℕ → ℕ → Next
 on_behind frame place size kind = if nat_le (place.at + size) (length frame) then On (record { kind = kind; at = place.at + size }) else Stop reason.Cut
 
@@ -42,7 +42,7 @@ behind_switched frame place =
     else On (record { kind = kind_of_version (slice_index frame (place.at + 4)); at = place.at + 4 }))
     else Stop reason.Cut
 
--- behind a tag of a virtual network (0x8100, 0x88a8), a session of PPP (0x8864, RFC 2516, section 4) or a label (0x8847, 0x8848,
+-- after a tag of a virtual network (0x8100, 0x88a8), a session of PPP (0x8864, RFC 2516, section 4) or a label (0x8847, 0x8848,
 -- RFC 5332, section 2); anything else is what the frame holds
 abbrev pub behind_label : List ℕ → Place → Next
 behind_label frame place =

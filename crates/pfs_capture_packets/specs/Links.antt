@@ -22,7 +22,7 @@ link_of n =
 abbrev pub kind_of_family : ℕ → ℕ
 kind_of_family family = if family == 2 then 0x0800 else (if (family == 24) || (family == 28) || (family == 30) then 0x86dd else 0)
 
--- behind a header of so many bytes, whose EtherType begins at this place
+-- after a header of so many bytes, whose EtherType begins at this place
 abbrev pub place_behind_header : List ℕ → ℕ → ℕ → Result Place Reason
 place_behind_header frame size at = if nat_le (0 + size) (length frame) then Ok (record { kind = u16_at frame at; at = size }) else Err reason.Cut
 
@@ -48,7 +48,7 @@ log_place frame =
     else Ok (record { kind = kind_of_family (slice_index frame 1); at = (slice_index frame 0 + 3) / 4 * 4 }))
     else Err reason.Cut
 
--- what stands behind a link's header, and where: Ethernet has two addresses before its EtherType (IEEE 802.3, clause 3.2.6),
+-- what follows a link's header, and where: Ethernet has two addresses before its EtherType (IEEE 802.3, clause 3.2.6),
 -- LINKTYPE_LINUX_SLL has its protocol last, LINKTYPE_LINUX_SLL2 first
 abbrev pub first_place : Link → List ℕ → Result Place Reason
 first_place link.Ethernet frame = place_behind_header frame 14 12

@@ -40,7 +40,7 @@ logged_answer frame =
     then Some (record { action = slice_index frame 2; rule = u32_at frame 36; anchor = octets_at frame 20 16; subrule = u32_at frame 40 })
     else None
 
--- what pf answered for a frame of this link type: LINKTYPE_PFLOG, 117, tells it, and no other
+-- what pf answered for a frame of this link type: only LINKTYPE_PFLOG, 117, has it
 abbrev pub answer_in : ℕ → List ℕ → Option Answer
 answer_in link_type frame = if link_type == 117 then logged_answer frame else None
 

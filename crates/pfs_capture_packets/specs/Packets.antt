@@ -64,17 +64,17 @@ IsCarried (Other n) = (n < 256) × (n ≢ 6) × (n ≢ 17)
 abbrev pub carried_at : List ℕ → Place → Result Carried Reason
 carried_at packet place = carried_by (proto_of (place.kind % 256)) packet place.at
 
--- what is carried behind the headers that follow a packet's own
+-- what is carried after the headers that follow a packet's own
 abbrev pub found_at : Layer → List ℕ → Place → Result Carried Reason
 found_at which packet first = then_read (walk_from (length packet) which packet first) (λ place. carried_at packet place)
 
--- where a packet ends that tells so many bytes behind its first ones, of those that were captured: what a link fills up is none of
--- it. Of 0 it tells no length, as where a network card cuts it, or where it is a jumbogram (RFC 2675, section 3).
+-- where a packet ends that says that it has so many bytes after its first ones, of those that were captured: what a link fills
+-- up is none of it. With 0 it says no length, as where a network card cuts it, or where it is a jumbogram (RFC 2675, section 3).
 abbrev pub own_length : ℕ → ℕ → ℕ → ℕ
 own_length captured before told = if told == 0 then captured else min captured (before + told)
 
--- The packet behind an IPv4 header. Its length in words of four bytes is in the lower half of the first byte, at least 5; the offset
--- of a fragment in the lower 13 bits of the seventh and eighth. (RFC 791, section 3.1)
+-- The packet after an IPv4 header. Its length in words of four bytes is in the lower half of the first byte, at least
+-- 5; the offset of a fragment is in the lower 13 bits of the seventh and eighth. (RFC 791, section 3.1)
 abbrev pub ipv4_in : List ℕ → Result IpPacket Reason
 ipv4_in packet =
     if nat_lt (length packet) 20 then Err reason.Cut
@@ -84,7 +84,7 @@ ipv4_in packet =
     (λ carried. Ok (record { source = v4_at packet 12; destination = v4_at packet 16; carried = carried }))
     else Err reason.LaterFragment))
 
--- the packet behind an IPv6 header, of 40 bytes (RFC 8200, section 3)
+-- the packet after an IPv6 header, of 40 bytes (RFC 8200, section 3)
 abbrev pub ipv6_in : List ℕ → Result IpPacket Reason
 ipv6_in packet =
     if nat_lt (length packet) 40 then Err reason.Cut
@@ -100,7 +100,7 @@ framed_packet_at frame place =
     then (if place.kind == 0x0800 then ipv4_in (drop place.at frame) else (if place.kind == 0x86dd then ipv6_in (drop place.at frame) else Err reason.NotIp))
     else Err reason.Cut
 
--- the packet in a frame of a link, behind the link's header and all tags and labels
+-- the packet in a frame of a link, after the link's header and all tags and labels
 abbrev pub packet_in : Link → List ℕ → Result IpPacket Reason
 packet_in link frame = then_read (first_place link frame) (λ first. then_read (walk_from (length frame) layer.Link frame first) (λ place. framed_packet_at frame place))
 

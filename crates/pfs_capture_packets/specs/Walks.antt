@@ -1,4 +1,4 @@
--- The walk from header to header, each of which takes bytes, so that there are fewer than the frame has bytes. (own)
+-- The walk from header to header. Each takes bytes, so there are fewer headers than the frame has bytes. (own)
 use Rattle.std.specs.Prelude.{ℕ, zero, suc, List, Result, Ok, Err}
 use Rattle.pfs_capture_packets.specs.declared.walks.Layer.{Layer}
 use Rattle.pfs_capture_packets.specs.declared.walks.Place.{Place}

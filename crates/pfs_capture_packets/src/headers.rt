@@ -1,4 +1,4 @@
-//! What stands behind a header of each layer.
+//! What follows a header of each layer.
 
 ghost use Rattle.std.specs.Prelude.{◌≡◌};
 ghost use Rattle.pfs_capture_packets.specs.Headers.{header_behind, behind_authentication, behind_extension};
@@ -20,7 +20,7 @@ pub fn behind(layer: Layer, bytes: &[u8], place: Place) -> Next
     }
 }
 
-/// Behind an authentication header, whose length counts words of four bytes less two.
+/// After an authentication header, whose length counts words of four bytes less two.
 fn behind_authentication(bytes: &[u8], place: Place) -> Next
     ensures { result ≡ behind_authentication bytes.now place }
 {
@@ -38,8 +38,8 @@ fn behind_authentication(bytes: &[u8], place: Place) -> Next
     })
 }
 
-/// Behind an extension header, whose length counts words of eight bytes less one. Behind a fragment's header the rest stands
-/// in the first fragment alone.
+/// After an extension header, whose length counts words of eight bytes less one. After a fragment's header the rest
+/// follows in the first fragment alone.
 fn behind_extension(bytes: &[u8], place: Place) -> Next
     ensures { result ≡ behind_extension bytes.now place }
 {

@@ -7,7 +7,7 @@ use crate::bytes::{holds, read_u16};
 use crate::packets::Reason;
 use crate::walks::{Next, Place};
 
-/// Behind a tag or a label of any kind.
+/// After a tag or a label of any kind.
 pub fn behind_label(frame: &[u8], place: Place) -> Next
     ensures { result ≡ behind_label frame.now place }
 {
@@ -19,7 +19,7 @@ pub fn behind_label(frame: &[u8], place: Place) -> Next
     }
 }
 
-/// Behind a tag of a virtual network.
+/// After a tag of a virtual network.
 fn behind_tag(frame: &[u8], place: Place) -> Next
     ensures { result ≡ behind_tag frame.now place }
 {
@@ -32,7 +32,7 @@ fn behind_tag(frame: &[u8], place: Place) -> Next
     })
 }
 
-/// Behind the header of a PPPoE session, and PPP's protocol.
+/// After the header of a PPPoE session, and PPP's protocol.
 fn behind_session(frame: &[u8], place: Place) -> Next
     ensures { result ≡ behind_session frame.now place }
 {
@@ -45,7 +45,7 @@ fn behind_session(frame: &[u8], place: Place) -> Next
     })
 }
 
-/// Behind an entry of a stack of MPLS labels. What follows the last entry tells its version in its first bits.
+/// After an entry of a stack of MPLS labels. What follows the last entry has its version in its first bits.
 fn behind_switched(frame: &[u8], place: Place) -> Next
     ensures { result ≡ behind_switched frame.now place }
 {
@@ -63,7 +63,7 @@ fn behind_switched(frame: &[u8], place: Place) -> Next
     Next::On(Place { kind, at })
 }
 
-/// The EtherType of what PPP carries, 0 where no packet can stand in it.
+/// The EtherType of what PPP carries, 0 where that can be no packet.
 fn kind_of_ppp(protocol: u16) -> u16
     ensures { result ≡ kind_of_ppp protocol }
 {

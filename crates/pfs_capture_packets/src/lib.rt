@@ -1,5 +1,5 @@
-//! From a frame of a capture to the outermost IP packet in it. Nothing behind that packet's own header, its options and its
-//! ports is looked at. None of these calls takes memory.
+//! From a frame of a capture to the outermost IP packet in it. Nothing after that packet's own header, its options and
+//! its ports is looked at. None of these calls takes memory.
 #![tactic(auto)]
 
 mod bytes;

@@ -42,7 +42,7 @@ impl Link {
     }
 }
 
-/// What stands behind a link's header, and where.
+/// What follows a link's header, and where.
 pub fn first_place(link: Link, frame: &[u8]) -> Result<Place, Reason>
     ensures { result ≡ first_place link frame.now }
 {
@@ -56,7 +56,7 @@ pub fn first_place(link: Link, frame: &[u8]) -> Result<Place, Reason>
     }
 }
 
-/// Behind a header of so many bytes, which has an EtherType at this place.
+/// After a header of so many bytes, which has an EtherType at this place.
 fn framed(frame: &[u8], size: usize, at: usize) -> Result<Place, Reason>
     requires { at + 2 ≤ size }
     ensures { result ≡ place_behind_header frame.now size at }

@@ -1,4 +1,4 @@
-//! The packet that a frame holds, or why it is none that a trace tells.
+//! The packet that a frame holds, or why it is none that a trace has.
 
 ghost use Rattle.std.specs.Prelude.{◌≡◌, ◌+◌, ◌≤◌, IfOk, length, true};
 ghost use Rattle.pfs_addr_values.specs.Addresses.{same_family};
@@ -48,9 +48,9 @@ pub struct IpPacket {
 
 /// The outermost IP packet of a frame of this link type, or the reason for which the frame is no record.
 ///
-/// Nothing in a payload, a tunnel or an error of ICMP is looked at. Each reason but `Reason::NeitherWay` is answered where the
-/// definition gives it; a header whose length is too small to be one is `Reason::NotIp`. (RFC 791, section 3.1; RFC 8200,
-/// sections 3 and 4; RFC 9293, section 3.1; RFC 768)
+/// Nothing in a payload, a tunnel or an error of ICMP is looked at. It returns each reason but `Reason::NeitherWay`
+/// where the definition gives it; a header whose length is too small to be one is `Reason::NotIp`. (RFC 791, section
+/// 3.1; RFC 8200, sections 3 and 4; RFC 9293, section 3.1; RFC 768)
 pub fn read_packet(link_type: u16, frame: &[u8]) -> Result<IpPacket, Reason>
     ensures is { result ≡ packet_of link_type frame.now }
     ensures family { IfOk result (λ p. same_family p.source p.destination ≡ true) }
@@ -133,7 +133,7 @@ fn ipv6_in(packet: &[u8]) -> Result<IpPacket, Reason>
     })
 }
 
-/// Where a packet ends that has so many bytes behind its first ones, within what was captured of it.
+/// Where a packet ends that has so many bytes after its first ones, within what was captured of it.
 fn own_length(packet: &[u8], before: usize, told: u16) -> usize
     requires { before ≤ 40 }
     ensures is { result ≡ own_length (length packet.now) before told }
@@ -145,7 +145,7 @@ fn own_length(packet: &[u8], before: usize, told: u16) -> usize
     packet.len().min(before + usize::from(told))
 }
 
-/// What is carried behind the headers that follow the packet's own.
+/// What is carried after the headers that follow the packet's own.
 fn found_at(layer: Layer, packet: &[u8], first: Place) -> Result<Carried, Reason>
     ensures is { result ≡ found_at layer packet.now first }
     ensures carried { IfOk result IsCarried }

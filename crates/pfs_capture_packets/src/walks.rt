@@ -12,9 +12,9 @@ use crate::packets::Reason;
 pub enum Layer {
     /// Tags and labels between a link's header and a packet.
     Link,
-    /// Authentication headers behind an IPv4 header.
+    /// Authentication headers after an IPv4 header.
     Ip4,
-    /// Extension headers behind an IPv6 header.
+    /// Extension headers after an IPv6 header.
     Ip6,
 }
 
@@ -30,7 +30,7 @@ pub struct Place {
 /// Where a walk goes from a header.
 #[derive(Clone, Copy, Debug)]
 pub enum Next {
-    /// On to the header behind it.
+    /// On to the next header.
     On(Place),
     /// Nowhere: this is what is looked for.
     Here,

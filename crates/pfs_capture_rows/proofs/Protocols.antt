@@ -19,7 +19,7 @@ digits_avoid c (d ∷ ds) lt h =
     let one : not (d == c) ≡ true = grind (arith, nat_tests) in
     and_from (not (d == c)) (list_all (λ b. not (b == c)) ds) one (digits_avoid c ds lt p.1)
 
--- bytes among which one does not stand are no word that begins with it
+-- bytes that do not include one are no word that begins with it
 pub no_word : (c : ℕ) (v w : List ℕ) → list_all (λ b. not (b == c)) w ≡ true → bytes_eq w (c ∷ v) ≡ false
 no_word c v [] h = refl
 no_word c v (b ∷ w) h =

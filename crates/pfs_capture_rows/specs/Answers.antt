@@ -12,7 +12,7 @@ action_word action =
     else (if action == 1 then codes "block"
     else (if action == 12 then codes "match" else decimal action))
 
--- the number of a rule; nothing where there is none, which is told as 4294967295
+-- the number of a rule; nothing where there is none, for which the log has 4294967295
 abbrev pub rule_column : ℕ → List ℕ
 rule_column number = if number == 4294967295 then [] else decimal number
 
@@ -20,11 +20,12 @@ rule_column number = if number == 4294967295 then [] else decimal number
 abbrev pub hex_digit : ℕ → ℕ
 hex_digit n = if nat_lt n 10 then 48 + n else 55 + n
 
--- a letter, a digit, `_`, `-`, `.` or `/` stands for itself, any other byte is `%` and two digits in base 16 (RFC 3986, section 2.1)
+-- a letter, a digit, `_`, `-`, `.` or `/` is written as it is, any other byte as `%` and two digits in
+-- base 16 (RFC 3986, section 2.1)
 abbrev pub anchor_byte : ℕ → List ℕ
 anchor_byte b = if is_name_byte b || (b == 47) then b ∷ [] else 37 ∷ hex_digit (b / 16) ∷ hex_digit (b % 16) ∷ []
 
--- the name of an anchor, in which no byte stands that means something to a reader of rows
+-- the name of an anchor, without bytes that mean something to a reader of rows
 abbrev pub anchor_column : List ℕ → List ℕ
 anchor_column name = flat_map anchor_byte name
 

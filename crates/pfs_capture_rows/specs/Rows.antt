@@ -54,7 +54,7 @@ flags_of_carried (Other n) = no_flags
 abbrev pub port_text : Option ℕ → List ℕ
 port_text port = option_map_or (λ n. decimal n) port []
 
--- an end, and the comma behind it
+-- an end, and the comma after it
 abbrev pub row_end : Addr → Option ℕ → List ℕ
 row_end addr port = addr_text addr ++ (codes "," ++ (port_text port ++ codes ","))
 

@@ -12,7 +12,7 @@ pub const ANSWER_HEADER: &[u8] = b"row,action,rule,anchor,subrule\n";
 
 /// Appends the row of what pf answered for the packet in the row of this number in a trace, from 1.
 ///
-/// `NoMemory` where memory was refused; a part of the row may stand there then.
+/// `NoMemory` where memory was refused; a part of the row may have been appended then.
 pub fn push_answer(out: &mut Vec<u8>, number: u64, answer: &Answer) -> Result<(), NoMemory>
     ensures { OnOk result (out.new.items ≡ out.old.items ++ answer_row number answer.now) }
 {

@@ -20,7 +20,7 @@ use pfs_capture_packets::{Carried, IpPacket};
 /// The first row of a trace, which names its columns.
 pub const HEADER: &[u8] = b"time,dir,if,proto,src,sport,dst,dport,flags\n";
 
-/// A packet of a capture, as a trace tells it.
+/// A packet of a capture, as a trace has it.
 #[derive(Clone, Copy, Debug)]
 pub struct Row {
     /// The second in which it was seen.
@@ -33,10 +33,10 @@ pub struct Row {
     pub packet: IpPacket,
 }
 
-/// Appends the row of a packet whose ends are of one family, and that was seen by the second 4294967295. A replay reads its text as nine
-/// columns, whatever follows, and the columns as that packet, where no later moment stands before it.
+/// Appends the row of a packet whose ends are of one family, and that was seen by the second 4294967295. A replay reads
+/// its text as nine columns, whatever follows, and the columns as that packet, where no later moment comes before it.
 ///
-/// `NoMemory` where memory was refused; a part of the row may stand there then.
+/// `NoMemory` where memory was refused; a part of the row may have been appended then.
 pub fn push_row(out: &mut Vec<u8>, row: &Row) -> Result<(), NoMemory>
     requires family { same_family row.now.packet.source row.now.packet.destination ≡ true }
     requires second { row.now.second ≤ 4294967295 }

@@ -1,4 +1,4 @@
--- What is told of a rules text alone.
+-- What is reported of a rules text alone.
 use Rattle.std.proofs.Common.{◌∙◌, ◌≡◌, ◌≢◌, ◌++◌, ℕ, List, [], Option, Result, Ok, Err, refl, sym, ap, subst, inl, inr}
 use Rattle.std.specs.Prelude.{OnOk, OnErr, IfErr}
 use Rattle.std.specs.Io.KnownBytes.{Appends}
@@ -29,7 +29,7 @@ refused-no_write f = go f.kind
 pub feed-no_write : (f : ReplayFault) → IsFeedFault f → f ≢ fault.Write
 feed-no_write f h e = elim h [ inl r ↦ absurd cc | inr s ↦ elim s [ inl r ↦ absurd cc | inr r ↦ absurd cc ] ]
 
--- what reading stops with may be told of any text
+-- what reading stops with may be reported of any text
 pub feed-refused : (text : List ℕ) (f : ReplayFault) → IsFeedFault f → RefusesText text f
 feed-refused text f h = elim h [
   | inl r ↦ subst (RefusesText text) (sym r) tt

@@ -72,7 +72,7 @@ kept-long kept text k many false test =
     let same : length kept ≡ length text = ap length (k.0 few) in
     absurd (omega arith)
 
--- a fault of what is kept of a text may be told of the text
+-- a fault of what is kept of a text may be reported of the text
 pub kept-fault : (kept text : List ℕ) (f : LoadFault) → f ≢ no_memory → KeepsEnough kept text → IsFault kept f → IsFault text f
 kept-fault kept text f other k (memory e) = absurd (other e)
 kept-fault kept text f other k (long many e) = long (kept-long kept text k many (nat_lt rules_limit (length text)) refl) e
@@ -110,7 +110,7 @@ kept-refuses kept text fault.Write k told = absurd told
 kept-refuses kept text fault.Memory k told = tt
 kept-refuses kept text fault.Endless k told = absurd told
 
--- what loading refuses may be told of the text
+-- what loading refuses may be reported of the text
 pub rules-text : (text : List ℕ) (f : ReplayFault) → RefusesRules text f → RefusesText text f
 rules-text text (fault.Rules f) told = told
 rules-text text (fault.Columns row) told = absurd told
@@ -149,7 +149,7 @@ text-refused rs ts fault.Write told = absurd told
 text-refused rs ts fault.Memory told = inl refl
 text-refused rs ts fault.Endless told = inl refl
 
--- a fault of the rules that is handed on is one of the text
+-- a fault of the rules that is passed on is one of the text
 pub told-refused : (text : List ℕ) (e : ReplayFault) (f : LoadFault) → RefusesText text e → e ≡ fault.Rules f → AreRefused text f
 told-refused text e f h is = rw is at h
 

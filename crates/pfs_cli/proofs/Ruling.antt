@@ -1,4 +1,4 @@
--- What is told of a text whose rules are refused.
+-- What is reported of a text whose rules are refused.
 use Rattle.std.proofs.Common.{◌≡◌, ◌∙◌, ℕ, List, refl, sym, ap}
 use Rattle.pfs_conf_values.specs.Configs.{Conf}
 use Rattle.pfs_conf.specs.Kinds.{no_memory}
@@ -9,7 +9,7 @@ use Rattle.pfs_conf.specs.declared.kinds.Kind.{Kind}
 use Rattle.pfs_conf.specs.declared.kinds.Kind.TheVariants as kind
 use Rattle.pfs_cli.specs.Refusing.{RefusesRules, fault_by, fault_of}
 
--- a fault of the text, if it is told of a text with a configuration only where memory runs out
+-- a fault of the text, if for a text with a configuration it is reported only where memory runs out
 pub refuses : (text : List ℕ) (f : LoadFault) → IsFault text f → ((conf : Conf) → Reads text conf → f ≡ no_memory) → RefusesRules text (fault_of f)
 refuses text f is only = go f.kind refl
   where

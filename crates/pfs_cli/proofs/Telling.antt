@@ -1,4 +1,4 @@
--- What stands between two records of a run, and how a run ends.
+-- What holds between two records of a run, and how a run ends.
 use borrow.Author.Tests.{clash}
 use Rattle.std.proofs.Common.{◌≡◌, ◌≤◌, ◌<◌, ◌+◌, ◌++◌, ◌∙◌, ℕ, List, [], ◌∷◌, length, take, drop, Option, Some, None, true, false, refl, sym, ap, arith, subst, append_assoc, length-append}
 use Rattle.std.specs.Prelude.{Result, Ok, Err, nat_lt}

@@ -1,4 +1,4 @@
--- What is told of a rules text alone: its counts, or its canonical text. (own)
+-- What is reported of a rules text alone: its counts, or its canonical text. (own)
 use Rattle.std.specs.Prelude.{◌≡◌, ◌++◌, ◌<◌, ◌≤◌, ◌+◌, ℕ, List, [], codes, drop, length, Option, Some, Result, Ok, Err}
 use Rattle.std.specs.Fmt.{decimal}
 use Rattle.std.specs.Io.KnownBytes.{Appends}
@@ -36,7 +36,7 @@ abbrev pub wanted_text : Wanted → Conf → List ℕ
 wanted_text wanted.Counts = counts_text
 wanted_text wanted.CanonicalText = text_of
 
--- what a call that tells of a rules text alone leaves in its feed and its sink, and answers
+-- what a call that reports on a rules text alone leaves in its feed and its sink, and returns
 pub record TellsRules {R W : Type 0} (remaining : R → Option (List ℕ)) (contents : W → Option (List ℕ)) (text : Conf → List ℕ)
     (before after : FeedView R) (held left : SinkView W) (result : Result Unit ReplayFault) : Type 0 where
   -- the text that is wanted, as far as the result says
@@ -46,7 +46,7 @@ pub record TellsRules {R W : Type 0} (remaining : R → Option (List ℕ)) (cont
   pub refused : (rs : List ℕ) (f : LoadFault) → unread remaining before ≡ Some rs → result ≡ Err (fault.Rules f) → AreRefused rs f
   -- no more is read than is needed
   pub few : (rs : List ℕ) → unread remaining before ≡ Some rs → (k : ℕ) × (k ≤ rules_limit + 1) × (unread remaining after ≡ Some (drop k rs))
-  -- no fault is told of a reader or a writer that did not have it
+  -- no fault is reported of a reader or a writer that did not have it
   pub read : result ≡ Err fault.Read → 0 < read_failures after
   pub endless : result ≡ Err fault.Endless → IsSpent after
   pub write : result ≡ Err fault.Write → 0 < write_failures left

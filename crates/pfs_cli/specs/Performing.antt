@@ -8,8 +8,8 @@ use Rattle.pfs_cli.specs.Checks.{Answers, counts_text}
 use Rattle.pfs_cli_streams.specs.Joined.{split_joined}
 use Rattle.pfs_cli.specs.Replays.{Replays}
 
--- without words rules and trace stand in the one text that is read; `check` tells the counts of the rules, `show` their
--- canonical text; `replay` takes a text of each
+-- without words, rules and trace are in the one text that is read; `check` reports the counts of the rules, `show`
+-- their canonical text; `replay` takes a text of each
 abbrev pub Performs : Job → List ℕ → List ℕ → List ℕ → Result Unit ReplayFault → Type 0
 Performs job.Joined rules trace text result = Replays (split_joined rules).0 (split_joined rules).1 text result
 Performs (job.Check name) rules trace text result = Answers counts_text rules text result

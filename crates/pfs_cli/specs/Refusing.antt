@@ -1,4 +1,4 @@
--- What the reading of a rules text ends with where it gives no configuration, as the calls hand it on. (own)
+-- What the reading of a rules text ends with where it gives no configuration, as the calls pass it on. (own)
 use Rattle.std.specs.Prelude.{◌≡◌, ◌⊎◌, ℕ, List}
 use Rattle.pfs_conf.specs.declared.kinds.Kind.{Kind}
 use Rattle.pfs_conf.specs.declared.kinds.Kind.TheVariants as kind
@@ -7,7 +7,7 @@ use Rattle.pfs_cli.specs.declared.faults.ReplayFault.{ReplayFault}
 use Rattle.pfs_cli.specs.declared.faults.ReplayFault.TheVariants as fault
 use Rattle.pfs_cli.specs.Rules.{AreRefused}
 
--- what may be told of a rules text without a configuration, or that is not read to its end
+-- what may be reported of a rules text without a configuration, or that is not read to its end
 abbrev pub RefusesText : List ℕ → ReplayFault → Type 0
 RefusesText rules (fault.Rules f) = AreRefused rules f
 RefusesText rules fault.Read = Unit {0}
@@ -15,7 +15,7 @@ RefusesText rules fault.Endless = Unit {0}
 RefusesText rules fault.Memory = Unit {0}
 RefusesText rules _ = ⊥
 
--- the fault of a replay for a fault of its rules; want of memory is told as such
+-- the fault of a replay for a fault of its rules; out of memory is reported as such
 abbrev pub fault_by : LoadFault → Kind → ReplayFault
 fault_by f kind.Memory = fault.Memory
 fault_by f _ = fault.Rules f
@@ -23,12 +23,12 @@ fault_by f _ = fault.Rules f
 abbrev pub fault_of : LoadFault → ReplayFault
 fault_of f = fault_by f f.kind
 
--- what may be told of a rules text in place of its machine: a fault of it, or that memory was refused
+-- what may be reported of a rules text in place of its machine: a fault of it, or that memory was refused
 abbrev pub RefusesRules : List ℕ → ReplayFault → Type 0
 RefusesRules rules (fault.Rules f) = AreRefused rules f
 RefusesRules rules fault.Memory = Unit {0}
 RefusesRules rules _ = ⊥
 
--- what a feed that gives no more may be told as
+-- what a feed that gives no more may be reported as
 abbrev pub IsFeedFault : ReplayFault → Type 0
 IsFeedFault f = (f ≡ fault.Read) ⊎ (f ≡ fault.Endless) ⊎ (f ≡ fault.Memory)

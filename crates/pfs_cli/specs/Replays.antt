@@ -18,9 +18,9 @@ abbrev pub WritesLines : List ℕ → List ℕ → List ℕ → Type 0
 WritesLines rules bytes text =
     (text ≡ []) ⊎ ((conf : Conf) × Reads rules conf × AreFirstLines conf (trace_of conf bytes) text × BeginsReport conf (trace_of conf bytes) text)
 
--- what is written, by how the replay ends. Rules are told only of a text that reads as no configuration, and leave
--- nothing; a faulty trace, and one without a fault, its report; a failed read, an endless reader or refused memory the
--- lines of the first records; a failed write a front of the report.
+-- what is written, by how the replay ends. A fault of the rules is reported only for a text that reads as no
+-- configuration, and leaves nothing; a faulty trace, and one without a fault, its report; a failed read, an endless
+-- reader or refused memory the lines of the first records; a failed write a front of the report.
 abbrev pub Replays : List ℕ → List ℕ → List ℕ → Result Unit ReplayFault → Type 0
 Replays rules bytes text (Ok u) = WritesReport rules bytes text None
 Replays rules bytes text (Err (fault.Rules f)) = ((conf : Conf) → Reads rules conf → ⊥) × (text ≡ [])

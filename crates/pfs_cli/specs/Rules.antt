@@ -6,6 +6,6 @@ use Rattle.pfs_conf.specs.Kinds.{no_memory}
 use Rattle.pfs_conf.specs.Reads.{Reads}
 use Rattle.pfs_conf.specs.Faults.{IsFault}
 
--- a text without a configuration, and a fault that it may be told with; want of memory is told by a fault of its own
+-- a text without a configuration, and a fault that may be reported of it; out of memory has a fault of its own
 abbrev pub AreRefused : List ℕ → LoadFault → Type 0
 AreRefused text f = (f ≢ no_memory) × ((conf : Conf) → Reads text conf → ⊥) × IsFault text f

@@ -1,4 +1,4 @@
-//! What is told of a rules text alone.
+//! What is reported of a rules text alone.
 
 ghost use Rattle.std.specs.Prelude.{◌≡◌, ◌++◌, ◌<◌, ℕ, List, IfOk, IfErr, OnOk, OnErr, string_bytes};
 ghost use Rattle.std.specs.Io.KnownBytes.{Appends, Keeps};
@@ -24,11 +24,11 @@ enum Wanted {
     CanonicalText,
 }
 
-/// Tells whether a rules text is accepted: writes `ok items=I tables=T entries=E` and a line feed, the numbers of rules and
-/// anchors, of tables and of table entries, and flushes it.
+/// Reports whether a rules text is accepted: writes `ok items=I tables=T entries=E` and a line feed, the numbers of
+/// rules and anchors, of tables and of table entries, and flushes it.
 ///
-/// No more than 1,048,577 bytes are read. The faults are those of rules, of reading, of writing and of memory; at each what
-/// was written is a front of the line, and at all but `Write` it is nothing. It takes memory.
+/// No more than 1,048,577 bytes are read. The faults are those of rules, of reading, of writing and of memory. At each,
+/// what was written is a front of the line; at all but `Write` it is nothing. It takes memory.
 pub fn check<R: Read, W: Write>(
     alloc: Global,
     rules: &mut Feed<R>,
@@ -40,8 +40,8 @@ pub fn check<R: Read, W: Write>(
     tell_rules(alloc, Wanted::Counts, rules, out)
 }
 
-/// Writes the canonical text of a rules text, and flushes it. What is read, the faults and the memory are as `check` says,
-/// with this text in place of the line.
+/// Writes the canonical text of a rules text, and flushes it. What is read, the faults and the memory are as for
+/// `check`, with this text in place of the line.
 pub fn print<R: Read, W: Write>(
     alloc: Global,
     rules: &mut Feed<R>,
@@ -84,7 +84,7 @@ fn text_wanted(alloc: Global, wanted: Wanted, config: &Config) -> Result<Vec<u8>
     }
 }
 
-/// The line that tells what a configuration has.
+/// The line with the counts of a configuration.
 fn counts_line(alloc: Global, config: &Config) -> Result<String, AllocError>
     ensures { IfOk result (λ s. string_bytes s ≡ counts_text config.now) }
 {

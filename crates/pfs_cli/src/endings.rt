@@ -1,4 +1,4 @@
-//! How a call over a feed ends: the fault that is told, and the flush of what was written whole.
+//! How a call over a feed ends: the fault that is reported, and the flush of what was written whole.
 
 ghost use Rattle.std.specs.Prelude.{◌≡◌, ◌≢◌, Err, ◌<◌, ℕ, List};
 ghost use Rattle.std.specs.Io.KnownBytes.{Keeps};
@@ -17,7 +17,7 @@ use crate::records::Stop;
 use pfs_cli_streams::{Feed, Sink};
 use std::io::Write;
 
-/// Why a call over this feed failed, where no fault of its own is at hand.
+/// Why a call over this feed failed, where it has no fault of its own.
 pub(crate) fn feed_fault<R>(feed: &Feed<R>) -> ReplayFault
     ensures kinds { IsFeedFault result }
     ensures read { result ≡ ReplayFault.Read → 0 < read_failures feed.now }
@@ -49,7 +49,7 @@ pub(crate) fn fault_at<R>(stop: Stop, feed: &Feed<R>) -> ReplayFault
     }
 }
 
-/// Flushes a report that is written whole, or tells why it is not.
+/// Flushes a report that is written whole, or returns why it is not.
 pub(crate) fn finish<R, W: Write>(
     outcome: Result<(), Stop>,
     feed: &Feed<R>,

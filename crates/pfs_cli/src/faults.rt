@@ -12,8 +12,7 @@ use std::{error, fmt};
 pub enum ReplayFault {
     /// The rules text is not accepted.
     Rules(LoadFault),
-    /// The record of this row has not nine fields; row 0 is the header, which is not as it must be
-    /// or is not there.
+    /// The record of this row does not have nine fields. Row 0 is the header, which is not as it must be or is not there.
     Columns(u64),
     /// The field of this row and column is not accepted.
     Field(u64, u8),

@@ -1,4 +1,4 @@
-//! A replay of rules and a trace that stand in one text.
+//! A replay of rules and a trace that are in one text.
 
 ghost use Rattle.std.specs.Prelude.{◌≡◌, ◌⊎◌, Some, Ok, Err, ◌<◌, ℕ, List, IfOk, IfErr, OnErr};
 ghost use Rattle.std.specs.Io.KnownBytes.{Appends};
@@ -28,7 +28,7 @@ enum Halt {
     Fault(ReplayFault),
 }
 
-/// Reads the rules of `source`, and then replays the trace behind them.
+/// Reads the rules of `source`, and then replays the trace after them.
 fn tell_joined<S: Read + Drop, W: Write>(
     alloc: Global,
     source: S,
@@ -57,10 +57,9 @@ fn tell_joined<S: Read + Drop, W: Write>(
 
 /// Replays the trace that follows the rules in one text, and writes its report.
 ///
-/// The rules are the bytes before the first line that is exactly `%%`, and the trace is what follows
-/// that line; without such a line the rules are all, and the trace is empty. `%%` as the last bytes
-/// is such a line. Rules that are too long are read on to the split line or the end before that is
-/// told, in bounded memory.
+/// The rules are the bytes before the first line that is exactly `%%`, and the trace is what follows that line. Without
+/// such a line the rules are all, and the trace is empty. `%%` as the last bytes is such a line. Rules that are too
+/// long are read on to the split line or the end before that is reported, in bounded memory.
 ///
 /// Nothing is written before the text has been read.
 ///

@@ -222,7 +222,7 @@ pub(crate) fn tell_records<H: Store, S: Read + Drop, W: Write>(
     let mut reader = ReaderBuilder::new()
         .flexible(true)
         .from_reader(alloc, source);
-    // With a header row at hand, which is empty, the reader keeps no copy of the first record.
+    // With a header row given, which is empty, the reader keeps no copy of the first record.
     if reader.set_byte_headers(ByteRecord::new(alloc)).is_err() {
         return Err(Stop::Memory);
     }

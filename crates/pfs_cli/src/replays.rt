@@ -20,27 +20,25 @@ use std::io::{Read, Write};
 /// The most bytes of the first read of a trace, which is made before anything is written.
 pub(crate) const FIRST_READ: usize = 8192;
 
-/// Replays the trace under the rules, and writes its report: a line for each record, and a last line
-/// with what is held. Every accepted rules text runs, and a record of every protocol is taken; those of
-/// ICMP are skipped. By a record `expire` the entries that are old enough leave its table, and its line
-/// tells how many. Each line is written before the next record is read, and the whole is flushed once,
-/// at its end. `rules` and `out` are as `new` gives them.
+/// Replays the trace under the rules, and writes its report: a line for each record, and a last line with what is held.
+/// Every accepted rules text runs, and a record of every protocol is taken; those of ICMP are skipped. A record `expire`
+/// takes the entries that are old enough out of its table, and its line says how many left. Each line is written before
+/// the next record is read, and the whole is flushed once, at its end. `rules` and `out` are as `new` gives them.
 ///
-/// The rules are told before anything of the trace. Nothing is written before they are read to
-/// their end and the trace has been read, and of rules that are too long no more than 1,048,577 bytes are read.
+/// A fault of the rules is reported before any of the trace. Nothing is written before the rules are read to their end
+/// and the trace has been read at least once. Of rules that are too long no more than 1,048,577 bytes are read.
 ///
 /// At a fault there is no flush. What is written then:
 ///
 /// - `Rules`: nothing.
-/// - `Columns`, `Field`, `TimeFell`, `Table`, `TooManyRows`, asked of each record in this order but for the
-///   last, which is asked first: the lines of the records before, which is the report of such a
-///   trace.
+/// - `Columns`, `Field`, `TimeFell`, `Table`, `TooManyRows`: the lines of the records before, which is the report of such a
+///   trace. Each record is checked for these in this order, but for the last, which is checked first.
 /// - `Read`, `Endless`, `Memory`: in the rules nothing, in the trace the lines of the first records.
 /// - `Write`: a front of the report.
 ///
-/// `Read` is told only where a reader failed, `Endless` only where a feed is spent, and `Write` only
-/// where the writer failed. Memory is taken for the rules, for the states, the source nodes and the
-/// table entries that are held, and for one record and one line, however long the trace is.
+/// `Read` is reported only where a reader failed, `Endless` only where a feed is spent, and `Write` only where the
+/// writer failed. Memory is taken for the rules, for the states, the source nodes and the table entries that are held,
+/// and for one record and one line, however long the trace is.
 pub fn replay<R: Read, T: Read, W: Write>(
     alloc: Global,
     rules: &mut Feed<R>,
@@ -61,7 +59,7 @@ pub fn replay<R: Read, T: Read, W: Write>(
     ensures trace_first { (out.new ≡ out.old) ⊎ (0 < reads_of trace.new) }
     ensures few { (rs : List ℕ) → unread R.remaining rules.old ≡ Some rs → (k : ℕ) × (k ≤ rules_limit + 1) × (unread R.remaining rules.new ≡ Some (drop k rs)) }
 
-    // No fault is told of a reader or a writer that did not have it.
+    // No fault is reported of a reader or a writer that did not have it.
     ensures read { result ≡ Err ReplayFault.Read → (0 < read_failures rules.new) ⊎ (0 < read_failures trace.new) }
     ensures endless { result ≡ Err ReplayFault.Endless → IsSpent rules.new ⊎ IsSpent trace.new }
     ensures write { result ≡ Err ReplayFault.Write → 0 < write_failures out.new }

@@ -17,7 +17,7 @@ use pfs_store_index::IndexStore;
 use std::alloc::Global;
 use std::io::{Read, Write};
 
-/// The store of a replay; here alone is it said what kind it is.
+/// The store of a replay; only this line names its kind.
 type TraceStore = IndexStore;
 
 /// Reads the trace of `source`, and writes its report under a configuration: the line of each record
@@ -29,7 +29,7 @@ type TraceStore = IndexStore;
 /// - `Fault`: the lines of the records before the first faulty one, whose fault it is; of a faulty header
 ///   none.
 /// - `Source`, `Memory`: the lines of the first records.
-/// - `Write`: a front of the report. It is told only where `out` has counted a failure.
+/// - `Write`: a front of the report. It is reported only where `out` has counted a failure.
 ///
 /// Memory is taken for the states, the source nodes and the table entries that are held, and for one
 /// record and one line, however long the trace is.

@@ -39,7 +39,7 @@ pub(crate) fn read_config<R: Read>(
     }
 }
 
-/// The bytes of a rules text, of which no more is read than shows that it is too long.
+/// The bytes of a rules text. Of one that is too long, no more is read than shows this.
 fn read_text<R: Read>(alloc: Global, rules: &mut Feed<R>) -> Result<Vec<u8>, ReplayFault>
     requires { read_failures rules.old ≡ 0 }
     ensures text { IfOk result (λ v. (rs : List ℕ) → unread R.remaining rules.old ≡ Some rs → KeepsEnough v.items rs) }
@@ -69,7 +69,7 @@ pub(crate) fn load_config(alloc: Global, text: Vec<u8>) -> Result<Config, Replay
     }
 }
 
-/// The fault of a replay of rules with this fault: want of memory has a fault of its own.
+/// The fault of a replay of rules with this fault: out of memory has a fault of its own.
 fn of_rules(fault: LoadFault) -> ReplayFault
     ensures { result ≡ fault_of fault }
 {

@@ -25,7 +25,7 @@ regroup : (space word sign number rest : List ℕ)
     → (space ++ (word ++ (space ++ sign))) ++ (number ++ rest) ≡ space ++ (word ++ (space ++ ((sign ++ number) ++ rest)))
 regroup space word sign number rest = simp append_assoc
 
--- what is behind the row
+-- what follows the row
 behind : (o : Outcome) → lead_of o ++ (number_text (rule_by o) ++ (note_text o ++ codes "\n")) ≡ codes " " ++ (outcome_text o ++ codes "\n")
 behind o =
     let end : List ℕ = note_text o ++ codes "\n" in

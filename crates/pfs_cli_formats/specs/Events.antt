@@ -1,4 +1,4 @@
--- The event that one record of a trace tells, or what is wrong with it. (own)
+-- The event of one record of a trace, or what is wrong with it. (own)
 use Rattle.std.specs.Prelude.{ℕ, ◌-◌, Bool, false, List, [], ◌∷◌, codes, length, Option, Some, None, Result, Ok, Err, ◌==◌, nat_le, nat_lt, not, if◌then◌else◌, ok_or, option_map, slice_get, unwrap_or}
 use Rattle.std.specs.Option.{option_map_or}
 use Rattle.std.proofs.lemmas.Map.Entries.{option_filter}
@@ -74,7 +74,7 @@ ends_at row proto fields =
     in_column row 8 (port_for proto (column_of fields 8)) (λ dport.
     Ok (record { addr = src; port = sport }, record { addr = dst; port = dport })))))
 
--- a packet, or none where a record is skipped: of ICMP a trace does not tell enough
+-- a packet, or none where a record is skipped: of ICMP a trace does not say enough
 abbrev pub packet_at : ℕ → List (List ℕ) → Result (Option Header) TraceFault
 packet_at row fields =
     in_column row 2 (dir_of (column_of fields 2)) (λ dir.
@@ -88,7 +88,7 @@ packet_at row fields =
 abbrev pub falls : Option ℕ → ℕ → Bool
 falls last time = option_map_or (λ moment. nat_lt time moment) last false
 
--- nothing stands in a field
+-- a field is empty
 abbrev pub nothing_in : List ℕ → Option Unit
 nothing_in text = if is_empty text then Some tt else None
 

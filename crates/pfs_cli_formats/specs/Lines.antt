@@ -10,7 +10,7 @@ use Rattle.pfs_engine_machine.specs.declared.events.Exceeded.TheVariants as exce
 use Rattle.pfs_engine_machine.specs.declared.events.Outcome.{Outcome}
 use Rattle.pfs_engine_machine.specs.declared.events.Outcome.TheVariants as outcome
 
--- a refused state is told by the limit that it met, in pf.conf(5)'s word for it
+-- a refused state is reported by the limit that it met, in pf.conf(5)'s word for it
 abbrev pub limit_word : Limit → List ℕ
 limit_word limit.Max = codes "drop:max"
 limit_word limit.MaxSrcNodes = codes "drop:max-src-nodes"
@@ -18,7 +18,7 @@ limit_word limit.SrcNodes = codes "drop:src-nodes"
 limit_word limit.MaxSrcStates = codes "drop:max-src-states"
 limit_word limit.States = codes "drop:states"
 
--- killed states are told by the limits that were exceeded: `max-src-conn`, `max-src-conn-rate` or both
+-- killed states are reported by the limits that were exceeded: `max-src-conn`, `max-src-conn-rate` or both
 abbrev pub kill_word : Exceeded → List ℕ
 kill_word exceeded.Connections = codes "kill:max-src-conn"
 kill_word exceeded.Rate = codes "kill:max-src-conn-rate"
@@ -33,8 +33,8 @@ mark_text None = codes "-"
 abbrev pub overload_word : Addition → List ℕ
 overload_word a = value_of_addition (codes "added") (codes "held") (codes "full") (codes "none") a
 
--- what a line tells: its word, and the rule by which it came, or `-`; of killed states also the overload and how many were killed,
--- of entries that expired how many left
+-- what a line says: its word, and the rule by which it came, or `-`; of killed states also the overload and how many
+-- were killed, of entries that expired how many left
 abbrev pub outcome_text : Outcome → List ℕ
 outcome_text (outcome.State r) = codes "state " ++ mark_text (Some r)
 outcome_text (outcome.New r) = codes "new " ++ mark_text (Some r)

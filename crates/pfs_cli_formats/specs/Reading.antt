@@ -27,7 +27,7 @@ records_left cfg s xs = records_from cfg (length xs + 1) s xs
 abbrev pub beside : Addr → Option Addr → Option Addr
 beside other addr = option_filter (same_family other) addr
 
--- the event of a record that tells of a packet
+-- the event of a record of a packet
 abbrev pub arrival_at : ℕ → Option ℕ → ℕ → List (List ℕ) → Result Event TraceFault
 arrival_at row last time fields = and_then (packet_at row fields) (λ packet. at_moment row last time (Some (option_map_or arrival.Packet packet arrival.Skip)))
 

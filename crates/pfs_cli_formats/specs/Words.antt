@@ -28,13 +28,13 @@ rule_by (outcome.Kill r limits overload killed) = Some r
 rule_by outcome.Skip = None
 rule_by (outcome.Expire removed) = None
 
--- a line of killed states goes on with the overload and how many were killed, one of entries that expired with how many left
+-- a line of killed states continues with the overload and how many were killed, one of entries that expired with how many left
 abbrev pub note_text : Outcome → List ℕ
 note_text (outcome.Kill r limits overload killed) = codes " overload=" ++ (overload_word overload ++ (codes " killed=" ++ decimal killed))
 note_text (outcome.Expire removed) = codes " removed=" ++ decimal removed
 note_text _ = []
 
--- before a rule's number stands `@`, and `-` where there is no rule
+-- `@` comes before a rule's number; `-` is written where there is no rule
 abbrev pub rule_sign : Option RuleNo → List ℕ
 rule_sign (Some r) = codes "@"
 rule_sign None = codes "-"
@@ -44,6 +44,6 @@ abbrev pub number_text : Option RuleNo → List ℕ
 number_text (Some r) = decimal r.0
 number_text None = []
 
--- what stands between the row of a line and the number of its rule
+-- what is between the row of a line and the number of its rule
 abbrev pub lead_of : Outcome → List ℕ
 lead_of o = codes " " ++ (word_of o ++ (codes " " ++ rule_sign (rule_by o)))

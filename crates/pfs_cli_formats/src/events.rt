@@ -1,4 +1,4 @@
-//! The event that one record of a trace tells.
+//! The event of one record of a trace.
 
 ghost use Rattle.std.specs.Prelude.{◌≡◌, ◌≤◌};
 ghost use Rattle.csv.specs.Records.{fields_of};
@@ -111,7 +111,7 @@ fn read_nothing(text: &[u8]) -> Option<()>
     if text.is_empty() { Some(()) } else { None }
 }
 
-/// The event of a packet, or of a record that is skipped. Its packet is made where it stays: it is not moved from value to value.
+/// The event of a packet, or of a record that is skipped. Its packet is made in place: it is not moved from value to value.
 fn read_packet(
     row: u64,
     last: Option<u64>,
@@ -155,7 +155,7 @@ fn is_skipped(proto: &Proto) -> bool
     proto.is_icmp()
 }
 
-/// An address of the same family as another. Inlined, as `read_port` is, so that what is read is not moved once more.
+/// An address of the same family as another. Inlined, as `read_port` is: so what is read is not moved once more.
 #[inline(always)]
 fn read_beside(other: Addr, text: &[u8]) -> Option<Addr>
     ensures { result ≡ beside other (addr_of text.now) }

@@ -12,7 +12,7 @@ use std::alloc::AllocError;
 /// The last line of a report: how many records there were, and what is held after them.
 #[derive(Clone, Copy)]
 pub struct EndLine {
-    /// The records behind the header.
+    /// The records after the header.
     pub rows: u64,
     /// The states that are held.
     pub states: u64,
@@ -22,8 +22,8 @@ pub struct EndLine {
     pub entries: u64,
 }
 
-/// Appends the line of a record: its row, what the machine did with it, and by which rule. An error comes where memory
-/// was refused; a part of the line may stand there then.
+/// Appends the line of a record: its row, what the machine did with it, and by which rule. It fails where memory was
+/// refused; a part of the line may have been appended then.
 #[tactic(auto, using(crate::proofs::Rows::parted))]
 pub fn push_row(out: &mut Vec<u8>, row: u64, outcome: &Outcome) -> Result<(), AllocError>
     ensures { OnOk result (out.new.items ≡ out.old.items ++ row_text row outcome.now) }
@@ -35,7 +35,7 @@ pub fn push_row(out: &mut Vec<u8>, row: u64, outcome: &Outcome) -> Result<(), Al
     out.extend_from_slice(b"\n")
 }
 
-/// Appends the last line. An error comes where memory was refused; a part of the line may stand there then.
+/// Appends the last line. It fails where memory was refused; a part of the line may have been appended then.
 pub fn push_end(out: &mut Vec<u8>, end: &EndLine) -> Result<(), AllocError>
     ensures { OnOk result (out.new.items ≡ out.old.items ++ end_text end.now.rows end.now.states end.now.nodes end.now.entries) }
 {
@@ -60,7 +60,7 @@ fn push_number(out: &mut Vec<u8>, number: u64) -> Result<(), AllocError>
     out.extend_from_slice(buffer.format(number).as_bytes())
 }
 
-/// The number of a rule, behind the `@` of its line.
+/// The number of a rule, after the `@` of its line.
 fn push_rule(out: &mut Vec<u8>, rule: Option<RuleNo>) -> Result<(), AllocError>
     ensures { OnOk result (out.new.items ≡ out.old.items ++ number_text rule) }
 {
@@ -70,7 +70,7 @@ fn push_rule(out: &mut Vec<u8>, rule: Option<RuleNo>) -> Result<(), AllocError>
     }
 }
 
-/// What a line of killed states goes on with, and one of entries that expired; nothing on any other.
+/// What follows on a line of killed states, and on one of entries that expired; nothing on any other.
 fn push_note(out: &mut Vec<u8>, outcome: &Outcome) -> Result<(), AllocError>
     ensures { OnOk result (out.new.items ≡ out.old.items ++ note_text outcome.now) }
 {
@@ -115,7 +115,7 @@ fn rule(outcome: &Outcome) -> Option<RuleNo>
     }
 }
 
-/// What stands between the row and the number of the rule: the word, and `@`, or `-` where there is no rule.
+/// What is between the row and the number of the rule: the word, and `@`, or `-` where there is no rule.
 fn lead(outcome: &Outcome) -> &'static str
     ensures { result.now ≡ lead_of outcome.now }
 {

@@ -82,7 +82,7 @@ splits-not place.Percent c e is ten = cc
 splits-not place.Percents c e is ten = eqb-false c 10 e ten
 splits-not place.Inside c e is ten = cc
 
--- bytes in a row: what they settle of the rules goes ahead, or what is behind them is of the trace
+-- bytes in a row: what they settle of the rules goes ahead, or what follows them is of the trace
 abbrev pub Over : Place → List ℕ → List ℕ → Option Place → Type 0
 Over p bs ys (Some q) = (s : List ℕ) × (split_at p (bs ++ ys) ≡ ahead s (split_at q ys))
 Over p bs ys None = (k : ℕ) × (ys ≡ drop k (split_at p (bs ++ ys)).1)
@@ -192,7 +192,7 @@ joins-full xs now kept p h full =
     let whole : length (split_joined xs).0 ≡ length h.rules + length (split_at p h.left).0 = ap (λ (q : Parts). length q.0) h.split ∙ length-append h.rules (split_at p h.left).0 in
     ((λ short. absurd (omega arith), λ _. omega arith), omega arith)
 
--- what is read on behind it is past the split
+-- what is read on after it is past the split
 pub joins-past : (xs : List ℕ) (now new : Option (List ℕ)) (kept : List ℕ) (p : Place) → Joins xs now kept p
     → ((ys : List ℕ) → now ≡ Some ys → length ys < 2 ^ 64 - 1 → IsPastSplit (split_at p ys) new) → length xs < 2 ^ 64 - 1 → IsPastSplit (split_joined xs) new
 joins-past xs now new kept p h past short =

@@ -7,7 +7,7 @@ use Rattle.std.specs.Io.BufRead.{take_through, drop_through}
 use Rattle.pfs_cli_streams.specs.Joined.{is_split, lines_in, split_joined}
 use Rattle.pfs_cli_streams.specs.Places.{Parts, ahead, split_from}
 
--- what stands before the first split line of these lines, and what after it
+-- what is before the first split line of these lines, and what after it
 abbrev split_lines : List (List ℕ) → Parts
 split_lines lines = (concat (before_first is_split lines), concat (after_first is_split lines))
 
@@ -25,7 +25,7 @@ one-more n line lines =
 split-later : (line : List ℕ) (lines : List (List ℕ)) → is_split line ≡ false → split_lines (line ∷ lines) ≡ ahead line (split_lines lines)
 split-later line lines e = rw e (one-more (position_or_len is_split lines) line lines)
 
--- a line that is not the split line, and what is behind it
+-- a line that is not the split line, and what follows it
 abbrev behind_line : List (List ℕ) → Parts
 behind_line [] = ([], [])
 behind_line (line ∷ lines) = ahead line (split_lines lines)

@@ -1,4 +1,4 @@
--- Where in a line the reading of a joined text stands, and how its bytes are split. (own)
+-- Where in a line the reading of a joined text is, and how its bytes are split. (own)
 use Rattle.std.specs.Prelude.{◌≡◌, ◌++◌, ◌==◌, ◌&&◌, ℕ, Bool, true, false, List, [], ◌∷◌, drop, Option, Some, None, if◌then◌else◌}
 use Rattle.std.specs.Io.BufRead.{take_through, drop_through}
 use Rattle.pfs_cli_streams.specs.declared.splitting.Place.{Place}

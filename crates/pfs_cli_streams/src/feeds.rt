@@ -1,4 +1,4 @@
-//! A reader under a bound of reads, so that no run waits for an end that never comes.
+//! A reader under a bound of reads: so no run waits for an end that never comes.
 
 ghost use Rattle.std.specs.Prelude.{◌≡◌, ◌≢◌, ◌⊎◌, ◌+◌, ◌<◌, ◌≤◌, ◌↔◌, ℕ, List, Option, true, false, length, IfErr, IfOk, OnOk, OnErr, IsErr, IsTrue};
 ghost use Rattle.std.specs.Io.{ReadsAtMost};
@@ -26,9 +26,8 @@ pub struct Reads {
 /// After its reader's end a feed gives no bytes, and after a failure it fails, without
 /// reading its reader again. The read after the last of the bound is not made: it fails.
 ///
-/// No contract of a reader can say that a read of it failed. So "a failure is counted only
-/// where the reader failed" is said here as far as it can be: the count rises only in a read
-/// that was made and is answered by an error.
+/// No contract of a reader can say that a read of it failed. So "a failure is counted only where the reader failed" is
+/// said here as far as it can be: the count rises only in a read that was made and returns an error.
 #[derive(Debug, Drop)]
 pub struct Feed<R> {
     reader: R,
@@ -79,8 +78,8 @@ impl<R> Feed<R> {
         made == bound && !ended && failures == 0
     }
 
-    /// Lends a feed of which a read was made: what is lent reads on under the same bound, and counts its reads. The feed goes
-    /// on behind them by `resume`.
+    /// Lends a feed of which a read was made. What is lent reads on under the same bound, and counts its reads. The
+    /// feed goes on after them by `resume`.
     pub fn lend(&mut self) -> Begun<'_, R>
         requires { 0 < reads_of self.old }
         ensures bytes { (remaining : R → Option (List ℕ)) → unread_behind remaining result.feed ≡ unread remaining self.old }
@@ -93,7 +92,7 @@ impl<R> Feed<R> {
         }
     }
 
-    /// Goes on behind these reads, which were made of its reader while it was lent.
+    /// Goes on after these reads, which were made of its reader while it was lent.
     pub fn resume(&mut self, reads: Reads)
         ensures bound { bound_of self.new ≡ reads.bound }
         ensures made { reads_of self.new ≡ reads.made }

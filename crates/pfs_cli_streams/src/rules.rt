@@ -20,8 +20,8 @@ pub enum RulesStop {
     Memory,
 }
 
-/// Reads the bytes of a rules text to its end, and of one that is too long no more than shows this: at most 1,048,577 bytes.
-/// `RulesStop::Source` is answered where a read fails, `RulesStop::Memory` where memory is refused.
+/// Reads the bytes of a rules text to its end; of one that is too long, no more than shows this: at most 1,048,577
+/// bytes. It returns `RulesStop::Source` where a read fails, `RulesStop::Memory` where memory is refused.
 pub fn read_rules<R: Read>(alloc: Global, rules: &mut Feed<R>) -> Result<Vec<u8>, RulesStop>
     requires { read_failures rules.old ≡ 0 }
     ensures text { IfOk result (λ v. (rs : List ℕ) → unread R.remaining rules.old ≡ Some rs → KeepsEnough v.items rs) }
@@ -29,7 +29,7 @@ pub fn read_rules<R: Read>(alloc: Global, rules: &mut Feed<R>) -> Result<Vec<u8>
     ensures sound { IfOk result (λ v. read_failures rules.new ≡ 0) }
     ensures few { (rs : List ℕ) → unread R.remaining rules.old ≡ Some rs → (k : ℕ) × (k ≤ rules_limit + 1) × (unread R.remaining rules.new ≡ Some (drop k rs)) }
 
-    // A failed read is told only where one failed or the bound is spent, and want of memory only where none failed.
+    // A failed read is reported only where one failed or the bound is spent, and out of memory only where none failed.
     ensures source { result ≡ Err RulesStop.Source → (0 < read_failures rules.new) ⊎ IsSpent rules.new }
     ensures memory { result ≡ Err RulesStop.Memory → read_failures rules.new ≡ 0 }
 {

@@ -1,4 +1,4 @@
-//! The rules of a text that holds a trace behind them, up to the line between the two.
+//! The rules of a text that has a trace after them, up to the line between the two.
 
 ghost use Rattle.std.specs.Prelude.{◌≡◌, Some, ◌<◌, ◌≤◌, ◌-◌, ◌^◌, ℕ, List, IfOk, OnOk, length, take};
 ghost use Rattle.pfs_cli_streams.specs.Kept.{KeepsEnough, rules_limit};
@@ -13,14 +13,14 @@ use std::io::Read;
 /// split line's two bytes are taken off.
 const KEPT_LIMIT: usize = RULES_LIMIT + 3;
 
-/// Where in a line a reader stands.
+/// Where in a line a reader is.
 #[derive(Clone, Copy)]
 enum Place {
     /// At its start.
     Start,
-    /// Behind one `%`, which is all so far.
+    /// After one `%`, which is all so far.
     Percent,
-    /// Behind `%%`, which is all so far.
+    /// After `%%`, which is all so far.
     Percents,
     /// In a line that is not the split line.
     Inside,
@@ -74,7 +74,7 @@ fn without_mark(kept: Vec<u8>, place: Place) -> Vec<u8>
     kept
 }
 
-/// Reads on behind the rules that are kept, to the split line or the end, by chunks that are given up.
+/// Reads on after the rules that are kept, to the split line or the end, by chunks that are given up.
 fn read_on<B: Read>(input: &mut B, place: Place) -> Result<(), RulesStop>
     ensures past { OnOk result ((xs : List ℕ) → B.remaining input.old ≡ Some xs → length xs < 2 ^ 64 - 1 →
         IsPastSplit (split_at place xs) (B.remaining input.new)) }
@@ -97,10 +97,10 @@ fn read_on<B: Read>(input: &mut B, place: Place) -> Result<(), RulesStop>
 
 /// Reads the rules of a joined text, and leaves `input` at the trace.
 ///
-/// The rules are the bytes before the first line that is exactly `%%`, and the trace is what follows that line; without
-/// such a line the rules are all, and the trace is empty. Of rules that are too long a front is kept, and the rest is read
-/// on, so that memory is bounded. `RulesStop::Source` is answered where a read fails, `RulesStop::Memory` where memory is
-/// refused; then `input` stands anywhere.
+/// The rules are the bytes before the first line that is exactly `%%`, and the trace is what follows that line. Without
+/// such a line the rules are all, and the trace is empty. Of rules that are too long a front is kept, and the rest is
+/// read on: so memory is bounded. It returns `RulesStop::Source` where a read fails, `RulesStop::Memory` where memory
+/// is refused; `input` may be anywhere then.
 pub fn read_joined<B: Read>(alloc: Global, input: &mut B) -> Result<Vec<u8>, RulesStop>
     ensures rules { IfOk result (λ v. (xs : List ℕ) → B.remaining input.old ≡ Some xs → KeepsEnough v.items (split_joined xs).0) }
     ensures trace { IfOk result (λ v. (xs : List ℕ) → B.remaining input.old ≡ Some xs → length v.items ≤ rules_limit → B.remaining input.new ≡ Some (split_joined xs).1) }

@@ -22,9 +22,8 @@ impl fmt::Display for WriteFailed {
 
 impl error::Error for WriteFailed {}
 
-/// Writes all of `bytes`, by as many writes as it takes, and stops at the first that fails or
-/// takes 0 bytes. Then `out` holds a front of `bytes` behind what it held. Takes no memory of
-/// its own. There is no flush.
+/// Writes all of `bytes`, by as many writes as it takes, and stops at the first that fails or takes 0 bytes. Then `out`
+/// holds what it held, and a front of `bytes` after it. Takes no memory of its own. There is no flush.
 pub fn write_whole<W: Write>(out: &mut Sink<W>, bytes: &[u8]) -> Result<(), WriteFailed>
     ensures ok { OnOk result (Appends (bytes_held W.contents out.old) (bytes_held W.contents out.new) bytes.now) }
     ensures still { OnOk result (write_failures out.new ≡ write_failures out.old) }

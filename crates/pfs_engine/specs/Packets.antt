@@ -1,4 +1,4 @@
--- What an engine makes of a packet, by what its store tells of it, and which packets need no memory before they are answered.
+-- What an engine makes of a packet, by what its store reports of it, and which packets need no memory before they are answered.
 use Rattle.std.specs.Prelude.{ℕ, if◌then◌else◌, Option, Some, None, IsSome}
 use Rattle.pfs_addr_values.specs.Packets.{Header}
 use Rattle.pfs_conf_values.specs.Configs.{Conf, options_of, rule_of}

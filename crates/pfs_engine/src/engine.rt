@@ -26,9 +26,9 @@ use std::marker::Model;
 
 /// A machine that runs events under a configuration, over any store.
 ///
-/// Clauses see a `View`: the configuration, the machine (what the store holds, the entries of the tables, and the
-/// first and the last moment), how many packets were answered, and the work of the latest call. What is held is at all times within
-/// the limits, as each call that changes it says.
+/// Clauses see a `View`: the configuration, the machine (what the store holds, the entries of the tables, and the first
+/// and the last moment), how many packets were answered, and the work of the latest call. What is held is at all times
+/// within the limits, as each call that changes it says.
 #[derive(Drop)]
 pub struct Engine<S: Store> {
     config: Config,
@@ -58,7 +58,7 @@ impl<S: Store> Model for Engine<S> {
 
 impl<S: Store + Drop> Engine<S> {
     /// The engine of a configuration over an empty store that was made for it, before the first event. `NoMemory` where
-    /// memory for the rules or the tables was refused; both are given up then.
+    /// memory for the rules or the tables was refused; configuration and store are given up then.
     pub fn new(alloc: Global, config: Config, store: S) -> Result<Engine<S>, NoMemory>
         requires empty { S.world store ≡ empty_world }
         requires made_for { S.config store ≡ config }
@@ -68,7 +68,7 @@ impl<S: Store + Drop> Engine<S> {
         ensures limits { IfOk result (λ e. IsWithinLimits e.config e.machine.held) }
         ensures work { IfOk result (λ e. e.work ≡ record { visits = 0; looks = 0; slices = 0; most_states = 0; most_nodes = 0 }) }
     {
-        // It tells that the configuration keeps the load rules.
+        // This call states to the proof that the configuration keeps the load rules.
         let _limit = config.limit(LimitName::States);
         let book = Book::new(alloc, &config)?;
         let tables = Tables::new(alloc, &config)?;
@@ -161,10 +161,9 @@ impl<S: Store> Engine<S> {
         self.last = Some(now);
     }
 
-    /// Takes a packet at the last moment, whatever its protocol: it is one of a held state, or the rules decide on it.
-    /// Fewer than 1,000,000,000 packets were taken before. `NoMemory` where memory was refused for a new state, or for
-    /// the entry of an overload table; then nothing that is held has changed.
-    /// (pf.conf(5), STATEFUL FILTERING and STATEFUL TRACKING OPTIONS)
+    /// Takes a packet at the last moment, whatever its protocol: it is one of a held state, or the rules decide on it. Fewer
+    /// than 1,000,000,000 packets were taken before. `NoMemory` where memory was refused for a new state, or for the entry of
+    /// an overload table; then nothing that is held has changed. (pf.conf(5), STATEFUL FILTERING and STATEFUL TRACKING OPTIONS)
     pub fn packet(&mut self, packet: &Packet) -> Result<Outcome, NoMemory>
         requires started { IsSome self.old.machine.last }
         requires room { self.old.taken < run_limit }
@@ -204,7 +203,7 @@ impl<S: Store> Engine<S> {
     }
 
     /// Takes out of a table, at the last moment, the entries that were added so many seconds before it or earlier; those
-    /// that the rules text says count as added at the first moment. It answers how many left. The table is one of the
+    /// that the rules text says count as added at the first moment. It returns how many left. The table is one of the
     /// configuration's, and not `const`. It goes through the entries of that table, takes no memory, and is no packet: what
     /// was taken, and the work of the latest call, stay. (pfctl(8), "-T expire"; which moments count is own to this profile)
     pub fn expire(&mut self, table: TableNo, seconds: u64) -> u64
@@ -226,7 +225,7 @@ impl<S: Store> Engine<S> {
     /// not `const`. The outcome is what `packet` answers, `Skip`, or `Expire` with how many entries `expire` took out.
     ///
     /// `NoMemory` where memory was refused to a packet that needs it: for a new state, or for the entry of an overload table.
-    /// Then the purges due are done, the engine stands at the event's moment, and nothing else has changed. A skip, and entries
+    /// Then the purges due are done, the engine is at the event's moment, and nothing else has changed. A skip, and entries
     /// that leave, take no memory. (pf.conf(5), STATEFUL FILTERING and STATEFUL TRACKING OPTIONS; pfctl(8), "-T expire")
     #[tactic(auto, unfolding(pfs_engine_machine::specs::Machine::step))]
     pub fn step(&mut self, event: &Event) -> Result<Outcome, NoMemory>
@@ -253,10 +252,11 @@ impl<S: Store> Engine<S> {
         }
     }
 
-    /// Takes events in turn, and appends the outcome of each. Moments do not fall, from the last one on, all events
-    /// together fit into the 1,000,000,000 packets, and entries are taken out of no table that is `const`. `NoMemory` where memory was refused at an event: the outcomes are
-    /// those of the events before it. If it was refused for the outcome, the engine stands where these leave it; if in the
-    /// event's packet, which needs memory then, at the event's moment.
+    /// Takes events in turn, and appends the outcome of each. Moments do not fall, from the last one on; all events
+    /// together fit into the 1,000,000,000 packets; and entries are taken out of no table that is `const`. `NoMemory`
+    /// where memory was refused at an event: the outcomes are those of the events before it. If it was refused for the
+    /// outcome, the engine is where these events leave it. If it was refused in the event's packet, which needs memory
+    /// then, the engine is at the event's moment.
     pub fn run(&mut self, events: &[Event], outcomes: &mut Vec<Outcome>) -> Result<(), NoMemory>
         requires order { IsInOrder self.old.machine.last events.now }
         requires room { self.old.taken + length events.now ≤ run_limit }

@@ -216,7 +216,7 @@ fn add_source(
     }
 }
 
-/// Kills the state of this number, and those that are flushed with it. It answers how many they are.
+/// Kills the state of this number, and those that are flushed with it. It returns how many they are.
 fn kill_with<S: Store>(
     store: &mut S,
     number: StateNo,

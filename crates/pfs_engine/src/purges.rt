@@ -70,7 +70,7 @@ fn purge_each<S: Store>(store: &mut S, from: u64, to: u64) -> Work
     at.work
 }
 
-/// The purge of the next second. Where it has nothing to examine nothing is held, and the seconds after it change nothing.
+/// The purge of the next second. Where it has nothing to examine, nothing is held, and the seconds after it change nothing.
 fn purge_second<S: Store>(store: &mut S, at: Passage, to: u64) -> Passage
     requires order { at.second < to }
     requires moment { to < 2 ^ 32 }

@@ -129,7 +129,7 @@ made_shared conf m p now config kept = answered_has conf m p now (MadeShared con
       rw (sym number) (shared_admitted conf m p r now config none (rw (sym number) at global) kept);
 })
 
--- ---- of an answer that may be want of memory
+-- ---- of an answer that may be out of memory
 
 pub refused_result : {E : Type 0} (conf : Conf) (m before after : Held) (p : Header) (now : ℕ) (r : Result Outcome E) → before ≡ m
     → IfOk r (λ o. (o, after) ≡ answer_to_packet conf before p now) → (rule : RuleNo) (limit : Limit) → r ≡ Ok (outcome.Drop rule limit)

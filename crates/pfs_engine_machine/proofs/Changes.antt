@@ -48,7 +48,7 @@ find-all {X = X} P p (y ∷ ys) x h e = go (p y) (λ k. find-all P p ys x (All-t
     go true rest e = let same : y ≡ x = cc in subst P same (All-head P y ys h)
     go false rest e = rest e
 
--- so that some element passes each test that it passes
+-- so some element passes each test that it passes
 pub find-any : {X : Type 0} (q p : X → Bool) (xs : List X) (x : X) → find p xs ≡ Some x → q x ≡ true → list_any q xs ≡ true
 find-any q p [] x e k = cc
 find-any {X = X} q p (y ∷ ys) x e k = go (p y) (λ j. find-any q p ys x j k) e

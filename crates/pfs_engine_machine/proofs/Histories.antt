@@ -1,4 +1,4 @@
--- Every act of a run leaves the score of a source's node with the future of its history's, so that the two laws of rates hold.
+-- Every act of a run leaves the score of a source's node with the future of its history's: so the two laws of rates hold.
 use Rattle.std.proofs.Common.{◌≡◌, ℕ, suc, zero, ◌+◌, ◌-◌, ◌*◌, ◌<◌, ◌≤◌, Bool, true, false, nat_lt, ◌&&◌, ◌||◌, cond, ◌==◌, List, [], ◌∷◌, ◌++◌, filter, map, take, Option, Some, None, refl, ap, ◌∙◌, sym, subst, arith}
 use Rattle.std.specs.Option.{ForSome}
 use Rattle.std.specs.List.{range_with_len}
@@ -298,7 +298,7 @@ score-in conf x now history w p s i found act_done r =
     ∙ ap (λ (o : Option Rate). node_score (own_scope s.rule.0) s.source (nodes_scored w.nodes s.source now (Some (own_scope s.rule.0)) o)) i.is
     ∙ score-this s.rule.0 s.source x.seconds now history (node_states conf (own_scope s.rule.0) s.source w.states) w.nodes r.nodes (r.noded some)
 
--- the outcome tells whether the score is over the limit
+-- the outcome says whether the score is over the limit
 rate-hit : (conf : Conf) (h : Held) (s : State) (now : ℕ) (conn rate : Bool)
     → rate_hit (answer_of_exceeded conf h s.number s.rule s.source now (exceeded_of conn rate)).0 ≡ rate
 rate-hit conf h s now true true = refl

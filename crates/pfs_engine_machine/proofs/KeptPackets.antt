@@ -64,7 +64,7 @@ made_state conf m p now (Some s) = omega (arith, made_held conf m p now s)
 pub made_answered : (conf : Conf) (m : Held) (p : Header) (now : ℕ) → (answer_to_packet conf m p now).1.world.made ≤ m.world.made + 1
 made_answered conf m p now = made_state conf m p now (state_with (key_of p) m.world)
 
--- ---- a packet that is answered, or refused for want of memory
+-- ---- a packet that is answered, or for which memory is refused
 
 pub kept_result : {E : Type 0} (conf : Conf) (w after : World) (tables entries : List (List Entry)) (p : Header) (now : ℕ) (r : Result Outcome E)
     → IsConfig conf → IsKept conf (held_of w tables) now

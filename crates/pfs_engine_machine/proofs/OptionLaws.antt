@@ -16,12 +16,12 @@ some_of P (Some y) h = λ x e. let same : y ≡ x = cc in subst P same h
 pub options_there : (conf : Conf) (rule : ℕ) (o : StateOptions) → options_at conf rule ≡ Some o → options_of conf rule ≡ o
 options_there conf rule o e = ap (λ (x : Option StateOptions). unwrap_or x no_options) e
 
--- a refusal tells its limit
+-- a refusal names its limit
 pub refused_at : (w : World) (limit : Option Limit) (l : Limit) → Err l ≡ answer_at w limit → limit ≡ Some l
 refused_at w None l e = cc
 refused_at w (Some m) l e = cc
 
--- and a number tells that there is none
+-- and a number says that there is none
 pub admitted_at : (w : World) (limit : Option Limit) (n : StateNo) → Ok n ≡ answer_at w limit → limit ≡ None
 admitted_at w None n e = refl
 admitted_at w (Some m) n e = cc

@@ -198,7 +198,7 @@ again_long_after : run_of (rated 1 4) (again 5) ≡ (before_again ++ of_state 0 
 unfolding outcomes_of machine_after step verdict matches_item table_answer
 again_long_after = refl
 
--- the history of its handshakes tells the same score
+-- the history of its handshakes has the same score
 history_soon : (history_score (rated 1 4) 0 (source 1) (again 3)).value ≡ 1250
 unfolding step verdict matches_item table_answer
 history_soon = refl

@@ -1,4 +1,4 @@
--- What is known of the seconds to come, so that they need not be done one by one. (own)
+-- What is known of the seconds to come; so they need not be done one by one. (own)
 use Rattle.std.specs.Prelude.{ℕ, ◌≤◌, List, length, min}
 use Rattle.std.specs.List.{AllByRecursion}
 use Rattle.pfs_conf_values.specs.Configs.{Conf}

@@ -44,7 +44,7 @@ exceeds_rate exceeded.Connections = false
 exceeds_rate exceeded.Rate = true
 exceeds_rate exceeded.Both = true
 
--- a state is killed and `max-src-conn-rate` is told
+-- a state is killed and `max-src-conn-rate` is reported
 abbrev pub rate_hit : Outcome → Bool
 rate_hit (outcome.Kill rule limits overload killed) = exceeds_rate limits
 rate_hit _ = false

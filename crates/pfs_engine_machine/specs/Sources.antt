@@ -1,4 +1,4 @@
--- What became of the source of killed states in an overload table, told without the names of its cases.
+-- What became of the source of killed states in an overload table, without the names of its cases.
 use Rattle.std.specs.Prelude.{Option, Some, None}
 use Rattle.pfs_eval.specs.declared.tables.Added.{Added}
 use Rattle.pfs_eval.specs.declared.tables.Added.TheVariants as added

@@ -10,7 +10,7 @@ use pfs_store_contract::Limit;
 pub enum Arrival {
     /// A packet.
     Packet(Packet),
-    /// A record that no state is made of: ICMP or ICMPv6, of which a trace does not tell enough.
+    /// A record that no state is made of: ICMP or ICMPv6, of which a trace does not say enough.
     Skip,
     /// The administrator takes out of a table the entries that are so many seconds old. (pfctl(8), "-T expire")
     Expire {

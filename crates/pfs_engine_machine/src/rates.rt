@@ -15,6 +15,6 @@ pub fn rate_memory(config: &Config, events: &[Event])
     ensures score { ScoreIsRemembered config.now events.now }
     ensures kill { RateIsRemembered config.now events.now }
 {
-    // It tells that the configuration keeps the load rules.
+    // This call states to the proof that the configuration keeps the load rules.
     let _limit = config.limit(LimitName::States);
 }

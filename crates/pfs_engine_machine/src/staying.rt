@@ -17,7 +17,7 @@ pub fn staleness(config: &Config, events: &[Event])
     ensures states { StatesGo config.now events.now }
     ensures nodes { NodesGo config.now events.now }
 {
-    // It tells that the configuration keeps the load rules.
+    // This call states to the proof that the configuration keeps the load rules.
     let _limit = config.limit(LimitName::States);
 }
 
@@ -28,6 +28,6 @@ pub fn within_limits(config: &Config, events: &[Event])
     requires order { IsInOrder None events.now }
     ensures { StaysWithinLimits config.now events.now }
 {
-    // It tells that the configuration keeps the load rules.
+    // This call states to the proof that the configuration keeps the load rules.
     let _limit = config.limit(LimitName::States);
 }

@@ -1,4 +1,4 @@
--- The body of an item: what stands in it deeper, and what ends it.
+-- The body of an item: the items in it, which are deeper, and what ends it.
 use Rattle.std.proofs.Common.{◌≡◌, ℕ, ◌+◌, ◌-◌, ◌<◌, ◌≤◌, suc, zero, Bool, true, false, cond, nat_lt, List, [], ◌∷◌, length, drop, slice_get, Some, refl, ap, subst, ◌∙◌, arith}
 use Rattle.std.proofs.lemmas.Bool.Decides.{nat_tests}
 use Rattle.std.proofs.lemmas.List.{length-drop}
@@ -7,7 +7,7 @@ use Rattle.pfs_conf_values.specs.declared.items.Item.{Item}
 use Rattle.pfs_eval.specs.Skips.{body_length}
 use Rattle.pfs_eval.proofs.Paths.{some_same}
 
--- the place behind the item at p and its body
+-- the place after the item at p and its body
 abbrev pub place_behind : List Item → ℕ → Item → ℕ
 place_behind items p i = p + 1 + body_length i.depth (drop (p + 1) items)
 
@@ -21,7 +21,7 @@ get-drop xs zero r = let e : r ≡ 0 + r = omega arith in ap (slice_get xs) e
 get-drop [] (suc p) r = refl
 get-drop (x ∷ xs) (suc p) r = let e : suc (p + r) ≡ suc p + r = omega arith in get-drop xs p r ∙ ap (slice_get (x ∷ xs)) e
 
--- an item of a body stands deeper
+-- an item of a body is deeper
 body-deeper : (items : List Item) (d r : ℕ) (j : Item) → slice_get items r ≡ Some j → r < body_length d items → d < j.depth
 body-deeper [] d r j at h = cc
 body-deeper (x ∷ xs) d zero j at h =
@@ -29,7 +29,7 @@ body-deeper (x ∷ xs) d zero j at h =
     subst (λ (y : Item). d < y.depth) (some_same at) deep
 body-deeper (x ∷ xs) d (suc r) j at h = let l : r < body_length d xs = grind (arith, nat_tests) in body-deeper xs d r j at l
 
--- one that ends it does not
+-- one that ends it is not
 body-ends : (items : List Item) (d : ℕ) (j : Item) → slice_get items (body_length d items) ≡ Some j → j.depth ≤ d
 body-ends [] d j at = cc
 body-ends (x ∷ xs) d j at = by (nat_lt d x.depth) refl at (λ e. body-ends xs d j e)
@@ -47,14 +47,14 @@ body-within (x ∷ xs) d = by (nat_lt d x.depth) (body-within xs d)
     by true h = omega (arith, h)
     by false h = omega arith
 
--- what stands between an item and the place behind its body stands deeper
+-- what is between an item and the place after its body is deeper
 pub deeper-inside : (items : List Item) (p r : ℕ) (i j : Item) → p < r → r < place_behind items p i → slice_get items r ≡ Some j
     → i.depth < j.depth
 deeper-inside items p r i j h l at =
     let n : p + 1 + (r - (p + 1)) ≡ r = omega arith in
     body-deeper (drop (p + 1) items) i.depth (r - (p + 1)) j (get-drop items (p + 1) (r - (p + 1)) ∙ ap (slice_get items) n ∙ at) (omega arith)
 
--- what stands at that place does not
+-- the item at that place is not
 pub ends-behind : (items : List Item) (p : ℕ) (i j : Item) → slice_get items (place_behind items p i) ≡ Some j → j.depth ≤ i.depth
 ends-behind items p i j at =
     let n = body_length i.depth (drop (p + 1) items) in

@@ -154,7 +154,7 @@ stop-cons d i before v w e f = by (nat_le (i.depth + 1) d) (nat_lt i.depth d) (g
     by true false g = cc
     by false true g = cc
 
--- the depths at which a rule ends a walk, behind one more item
+-- the depths at which a rule ends a walk, after one more item
 pub depths-more : (items : List Item) (p : ℕ) (i : Item) (stop : ℕ) (old new : ℕ → ℕ) → slice_get items p ≡ Some i
     → stop ≡ old i.depth → i.depth ≤ 16 → ((d : ℕ) → d ≤ 17 → old d ≡ stop_depth_of (enclosing d (back p [] items)))
     → ((d : ℕ) → d < 18 → new d ≡ cond (nat_le (i.depth + 1) d) (cond (is_quick i.what) (max (i.depth + 1) stop) stop)
@@ -172,13 +172,13 @@ pub depths-start : (items : List Item) (d : ℕ) → d ≤ 17
 unfolding back
 depths-start items d l = zeros d l
 
--- an item that does not stand deeper ends a body
+-- an item that is not deeper ends a body
 pub body-end : (items : List Item) (p d : ℕ) (i : Item) → slice_get items p ≡ Some i → i.depth ≤ d
     → body_length d (drop p items) ≡ 0
 body-end items p d i at h = let out : nat_lt d i.depth ≡ false = grind (arith, nat_tests) in ap (body_length d)
     (drop-at items p i at) ∙ cond-false (nat_lt d i.depth) _ _ out
 
--- one that does is part of it
+-- one that is deeper is part of it
 pub body-more : (items : List Item) (p d : ℕ) (i : Item) → slice_get items p ≡ Some i → d < i.depth
     → body_length d (drop p items) ≡ 1 + body_length d (drop (p + 1) items)
 body-more items p d i at h = let in_body : nat_lt d i.depth ≡ true = grind (arith, nat_tests) in ap (body_length d)
@@ -186,7 +186,7 @@ body-more items p d i at h = let in_body : nat_lt d i.depth ≡ true = grind (ar
 
 -- ---- skips
 
--- what a look-up by place tells
+-- what a look-up by place gives
 pub looked_up : {X : Type 0} (xs : List X) (p : ℕ) (x : X) → (true ≡ nat_lt p (length xs)) × (x ≡ get_or xs p x)
     → slice_get xs p ≡ Some x
 looked_up xs p x h = let within : p < length xs = grind (arith, nat_tests, h.0) in slice_get_read xs _ p x refl within h.1
@@ -194,12 +194,12 @@ looked_up xs p x h = let within : p < length xs = grind (arith, nat_tests, h.0) 
 pub none_past : {X : Type 0} (xs : List X) (p : ℕ) (x : X) → false ≡ nat_lt p (length xs) → slice_get xs p ≡ Some x → ⊥
 none_past xs p x h at = let within = slice_get_within xs p x at in grind (arith, nat_tests)
 
--- behind the body of the item of a line
+-- after the body of the item of a line
 behind_of : (items : List Item) (p q : ℕ) (i : Item) (line : Line) → IsLine items p i line
     → q ≡ p + 1 + body_length line.item.depth (drop (p + 1) items) → place_behind items p i ≡ q
 behind_of items p q i line l e = sym (e ∙ ap (λ (x : Item). p + 1 + body_length x.depth (drop (p + 1) items)) l.item)
 
--- an item goes on behind its body, where what stands there ends the body or asks another thing
+-- the walk goes on after an item's body, where the item there ends the body or asks another thing
 near : (items : List Item) (p q : ℕ) (i : Item) (k : Parameter) → slice_get items p ≡ Some i → place_behind items p i ≡ q
     → ((j : Item) → slice_get items q ≡ Some j → IsPassed k i j → ⊥) → IsSkip k items p i q
 near items p q i k at e ends = record {

@@ -20,7 +20,7 @@ use Rattle.pfs_eval.specs.declared.entries.Mark.{Mark}
 
 -- ---- the test of one prefix
 
--- a test that tells exactly this prefix
+-- a test that holds of exactly this prefix
 pub record TellsOnly (test : Network → Bool) (p : Network) : Type 0 where
   pub same : (q : Network) → test q ≡ true → p ≡ q
   pub self : test p ≡ true
@@ -312,7 +312,7 @@ pub record Notes (old new : Lengths) (b : Addr) (hidden : ℕ) : Type 0 where
   pub at : (a : Addr) (n : ℕ) → n ≤ width_of a + 1
       → next new a n ≡ cond (same_family a b && nat_le n hidden) (min (next old a n) hidden) (next old a n)
 
--- what stands at a number of bits afterwards is at least that number, and at most what stood there
+-- the number at a place afterwards is at least that place, and at most the number that was there
 noted_on : (old new hidden n : ℕ) (s : Bool) → new ≡ cond (s && nat_le n hidden) (min old hidden) old → n ≤ old
     → (n ≤ new) × (new ≤ old)
 noted_on old new hidden n s e h = by (s && nat_le n hidden) refl

@@ -9,7 +9,7 @@ use Rattle.pfs_eval.specs.Verdict.{Place, enclosing, path_from}
 use Rattle.pfs_eval.specs.Lines.{back}
 use Rattle.pfs_eval.specs.Skips.{body_length}
 
--- whether all anchors around an item of this depth match, so that it is on the path
+-- whether all anchors around an item of this depth match: then it is on the path
 unfoldable pub on_path : (Item → Bool) → ℕ → List Item → Bool
 on_path m d before = list_all m (enclosing d before)
 
@@ -50,7 +50,7 @@ abbrev pub within : Option ℕ → ℕ → Bool
 within None d = true
 within (Some h) d = nat_le d h
 
--- behind an item: one that does not match hides what is deeper
+-- after an item: one that does not match hides what is deeper
 abbrev pub hides : Bool → ℕ → Option ℕ
 hides true d = None
 hides false d = Some d
@@ -173,7 +173,7 @@ pub back-at : (items : List Item) (p : ℕ) (i : Item) → slice_get items p ≡
     → back (p + 1) [] items ≡ i ∷ back p [] items
 back-at items p i h = rw add-one (back-more [] items p i h)
 
--- at p stands an item of the path; behind it goes on what its test lets
+-- an item of the path is at p; after it the path goes on as its test says
 pub rest-at : (m : Item → Bool) (items : List Item) (p : ℕ) (i : Item) → slice_get items p ≡ Some i
     → rest_of m items p ≡ place_at (back p [] items) p i (drop (p + 1) items) ∷ shown m (hides (m i) i.depth)
     (back (p + 1) [] items) (p + 1) (drop (p + 1) items)

@@ -1,4 +1,4 @@
--- Two tests of flags are told to be the same exactly where they are equal.
+-- Two tests of flags are found to be the same exactly where they are equal.
 use Rattle.std.proofs.Common.{◌≡◌, Bool, true, false, ◌&&◌, ◌↔◌, refl, ap, sym, ◌∙◌}
 use Rattle.std.specs.Bool.{IsTrue}
 use Rattle.std.proofs.Math.Bool.{beq}

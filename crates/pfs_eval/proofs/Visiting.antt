@@ -228,7 +228,7 @@ visit tables packet items lines w w' tested line failed count count' first a the
 
 -- ---- the end
 
--- where the walk ends: behind the last line, or at an item that is not deep enough
+-- where the walk ends: after the last line, or at an item that is not deep enough
 abbrev pub IsEnd : List Line → Walk → Type 0
 IsEnd lines w = (length lines ≤ w.place) ⊎ ((line : Line) × (slice_get lines w.place ≡ Some line) × (line.item.depth < w.stop_depth))
 

@@ -20,7 +20,7 @@ AreDistinct entries = IsDistinct same_network (map (λ (e : Entry). e.0) entries
 abbrev pub entry_of_text : TextEntry → Entry
 entry_of_text e = (e.0, record { negated = e.1; moment = None })
 
--- of an entry and one that stands behind it, the one with more bits
+-- of an entry and one that follows it, the one with more bits
 abbrev pub narrower : Entry → Option Entry → Entry
 narrower e None = e
 narrower e (Some f) = if nat_le f.0.bits e.0.bits then e else f

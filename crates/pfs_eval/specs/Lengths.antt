@@ -19,11 +19,11 @@ next l a n = slice_index (numbers_for a l) n
 abbrev pub AreLong : Lengths → Type 0
 AreLong l = (length l.inet ≡ 34) × (length l.inet6 ≡ 130)
 
--- what stands at a number of bits is from it on, and at most one more than the address has
+-- the number at a place is at least the place, and at most one more than the address has bits
 pub record AreOn (l : Lengths) : Type 0 where
   pub least : (a : Addr) (n : ℕ) → n ≤ width_of a + 1 → n ≤ next l a n
   pub most : (a : Addr) (n : ℕ) → n ≤ width_of a + 1 → next l a n ≤ width_of a + 1
 
--- a prefix is noted: from each number of bits up to those that it leaves out, no more than those are next
+-- a prefix is noted: at each place up to the number of bits that it leaves out, the next number is at most that number
 abbrev pub IsLengthNoted : Lengths → Network → Type 0
 IsLengthNoted l p = (n : ℕ) → n + p.bits ≤ width_of p.addr → next l p.addr n + p.bits ≤ width_of p.addr

@@ -22,7 +22,7 @@ abbrev pub stop_depth_of : List Item → ℕ
 stop_depth_of [] = 0
 stop_depth_of (a ∷ outer) = if is_quick a.what then max (a.depth + 1) (stop_depth_of outer) else stop_depth_of outer
 
--- where a walk goes on behind an item at p that matches: a quick rule ends it
+-- where a walk goes on after an item at p that matches: a quick rule ends it
 abbrev pub next_place : List Item → ℕ → ItemKind → ℕ
 next_place items p what = if is_rule what && is_quick what then length items else p + 1
 
@@ -52,7 +52,7 @@ pub record AreLinesFrom (from : ℕ) (items : List Item) (lines : List Line) : T
 abbrev pub AreLines : List Item → List Line → Type 0
 AreLines items lines = AreLinesFrom 0 items lines
 
--- a walk behind a visit to a line, where a parameter failed, or none
+-- a walk after a visit to a line, where a parameter failed, or none
 abbrev pub walk_after : Walk → Line → Option Parameter → Walk
 walk_after w line (Some k) = record { place = skip_of line.skips k; stop_depth = w.stop_depth; found = w.found }
 walk_after w line None =

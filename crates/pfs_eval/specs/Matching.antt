@@ -69,7 +69,7 @@ proto_holds (Some wanted) p = is_same_proto wanted p
 abbrev pub prefix_holds : Network → Bool → Addr → Bool
 prefix_holds prefix negated a = same_family prefix.addr a && turned_if negated (covers prefix a)
 
--- `from` and `to`: the prefix holds of the address, or the table answers yes for it, or no where a `!` stands before it
+-- `from` and `to`: the prefix holds of the address, or the table answers yes for it, or no where a `!` is before it
 abbrev pub host_holds : List (List Entry) → Host TableNo → Addr → Bool
 host_holds tables host.Any a = true
 host_holds tables (host.Prefix prefix negated) a = prefix_holds prefix negated a

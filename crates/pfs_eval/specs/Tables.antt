@@ -43,8 +43,8 @@ abbrev pub added_to : List (List Entry) → ℕ → ℕ → Addr → Added
 added_to tables limit t a =
     if holds_host (entries_at tables t) a then Held else (if nat_le limit (entry_count tables) then Full else New)
 
--- the entries after that: a new host stands last in its table, and else nothing changes; a host that is held keeps the moment
--- at which it was added
+-- the entries after that: a new host is last in its table, and else nothing changes; a host that is held keeps
+-- the moment at which it was added
 abbrev pub entries_after : List (List Entry) → ℕ → Addr → ℕ → Added → List (List Entry)
 entries_after tables t a now New = slice_set tables t (entries_at tables t ++ host_entry a now ∷ [])
 entries_after tables t a now Held = tables

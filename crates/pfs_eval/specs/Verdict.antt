@@ -8,16 +8,16 @@ use Rattle.pfs_conf_values.specs.declared.items.Item.{Item}
 use Rattle.pfs_conf_values.specs.declared.items.ItemKind.{ItemKind}
 use Rattle.pfs_conf_values.specs.declared.items.ItemKind.TheVariants.{Rule, Anchor}
 
--- All that follows is over a test, whether an item matches: it speaks of no packet.
+-- All that follows is over a test, whether an item matches; no packet is part of it.
 
--- whether `quick` stands in it
+-- whether it has `quick`
 abbrev pub is_quick : ItemKind → Bool
 is_quick (Rule r) = r.quick
 is_quick (Anchor a) = a.quick
 
 -- ---- the path (pf.conf(5), ANCHORS)
 
--- a place on the path: the number of its item, the item, the anchors around it from the inside out, the items behind it
+-- a place on the path: the number of its item, the item, the anchors around it from the inside out, the items after it
 pub record Place : Type 0 where
   pub no : ℕ
   pub item : Item
@@ -43,7 +43,7 @@ path matches items = path_from matches [] 0 items
 
 -- ---- the cut (pf.conf(5), PACKET FILTERING, "quick"; ANCHORS)
 
--- a rule that matches stands at this place
+-- a rule that matches is at this place
 abbrev pub is_hit : (Item → Bool) → Place → Bool
 is_hit matches x = is_rule x.item.what && matches x.item
 
@@ -72,6 +72,6 @@ last_or found (n ∷ ns) = last_or (Some n) ns
 unfoldable pub verdict : (Item → Bool) → List Item → Option ℕ
 verdict matches items = last_or None (map (λ (x : Place). x.no) (filter (is_hit matches) (cut matches items)))
 
--- a rule stands at this number
+-- the item of this number is a rule
 abbrev pub IsRuleAt : List Item → ℕ → Type 0
 IsRuleAt items n = IsSome (option_and_then (λ (i : Item). rule_in i.what) (slice_get items n))

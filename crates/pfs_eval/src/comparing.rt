@@ -19,13 +19,13 @@ pub enum Parameter {
     Family,
     /// `proto`.
     Protocol,
-    /// The host behind `from`.
+    /// The host after `from`.
     SourceHost,
-    /// The host behind `to`.
+    /// The host after `to`.
     DestinationHost,
-    /// The ports behind `from`.
+    /// The ports after `from`.
     SourcePort,
-    /// The ports behind `to`.
+    /// The ports after `to`.
     DestinationPort,
     /// `flags`.
     Flags,
@@ -118,7 +118,7 @@ fn dir_holds(wanted: Option<Dir>, dir: Dir) -> bool
     wanted.is_none_or(|wanted| wanted == dir)
 }
 
-/// The packet is asked, so that its name is compared where it stands and not copied for each item.
+/// The packet is asked: its name is compared in place and not copied for each item.
 fn interface_holds(on: &Option<Interface>, packet: &Packet) -> bool
     ensures { result ≡ interface_holds on.now packet.now.ifname }
 {
@@ -144,7 +144,7 @@ fn proto_holds(wanted: Option<Proto>, proto: Proto) -> bool
     wanted.is_none_or(|wanted| wanted == proto)
 }
 
-/// Inlined, so that an address is compared where it stands and not copied for each host.
+/// Inlined: an address is compared in place and not copied for each host.
 #[inline(always)]
 fn host_holds(tables: &Tables, host: &Host<TableNo>, addr: Addr) -> bool
     ensures { result ≡ host_holds tables.now.entries host.now addr }
@@ -219,7 +219,7 @@ fn common_flags(flags: Flags, among: Flags) -> Flags
     }
 }
 
-/// A test's answer, turned where a `!` stands before it.
+/// A test's answer, negated where a `!` is before it.
 fn turned(negated: bool, holds: bool) -> bool
     ensures { result ≡ turned_if negated holds }
 {

@@ -17,7 +17,7 @@ use std::marker::Model;
 /// What a table keeps beside a prefix.
 #[derive(Debug, Clone, Copy, PartialEq, Eq)]
 pub struct Mark {
-    /// Whether a `!` stands before the prefix.
+    /// Whether a `!` is before the prefix.
     pub negated: bool,
     /// The moment at which it was added, in seconds; none of one that the rules text says.
     pub moment: Option<u64>,
@@ -115,7 +115,7 @@ impl Table {
     }
 
     /// The entries leave that were added so many seconds ago or before that, where for those of the rules text `first`
-    /// counts; the others keep their order. It answers how many left, goes through all entries once, and takes no memory.
+    /// counts; the others keep their order. It returns how many left, goes through all entries once, and takes no memory.
     pub fn expire(&mut self, first: u64, now: u64, seconds: u64) -> u64
         ensures answer { result ≡ old_count first now seconds self.old.entries }
         ensures entries { self.new.entries ≡ young first now seconds self.old.entries }
@@ -131,19 +131,19 @@ impl Table {
     }
 }
 
-/// Whether an entry was added so many seconds ago, or before that.
+/// Whether an entry was added so many seconds ago, or earlier.
 fn is_old(mark: Mark, first: u64, now: u64, seconds: u64) -> bool
     ensures { result ≡ is_old first now seconds mark }
 {
     seconds <= now && mark.moment.unwrap_or(first) <= now - seconds
 }
 
-/// The answer for an address: of its prefixes, from the longest on, the first that is an entry says.
+/// The answer for an address: of its prefixes, from the longest on, the first that is an entry decides.
 fn answer(map: &IndexMap<Prefix, Mark, RulesHasher>, lengths: &Lengths, addr: Addr) -> bool
     requires { AreKept map.now.entries lengths.now }
     ensures { result ≡ answer_of map.now.entries addr }
 {
-    // A loop for each family, so that none asks again which it is.
+    // A loop for each family: no turn asks again which it is.
     match addr {
         Addr::V4(bytes) => answer_by_lengths(map, lengths, Addr::V4(bytes)),
         Addr::V6(bytes) => answer_by_lengths(map, lengths, Addr::V6(bytes)),

@@ -7,8 +7,8 @@ ghost use Rattle.pfs_eval.specs.Lengths.{AreLong, next};
 
 use pfs_addr_values::Addr;
 
-/// Which lengths the prefixes of a table have or had, told by how many bits they leave out: 0 of a host. At each number
-/// stands the least such number from it on, or one more than the address has bits.
+/// Which lengths a table's prefixes have or had, as numbers of bits left out (0 for a host). Each place has the least
+/// such number from there on, or one more than the address has bits.
 #[derive(Clone, Copy)]
 pub struct Lengths {
     /// For IPv4, at 0 to 33 bits left out.
@@ -28,8 +28,8 @@ impl Lengths {
         }
     }
 
-    /// The fewest bits, from a number on, that a prefix of this address's family leaves out or left out, or one more than
-    /// the address has.
+    /// The fewest bits, from a number on, that a prefix of this address's family leaves out or left out, or one
+    /// more than the address has bits.
     #[inline(always)]
     pub fn next(&self, addr: Addr, from: u8) -> u8
         requires from { from ≤ width_of addr + 1 }
@@ -57,7 +57,7 @@ impl Lengths {
     }
 }
 
-/// Lowers what stands at each place up to the last one to at most that place.
+/// Lowers the number at each place up to `last` to at most `last`.
 fn lower_up_to(places: &mut [u8], last: u8)
     requires { last < length places.old }
     ensures { (n : ℕ) → n < length places.old →

@@ -18,7 +18,7 @@ use std::alloc::{AllocError, Global};
 pub struct Line {
     /// Where a walk goes on if one of the item's parameters fails.
     pub skips: Skips,
-    /// Where a walk goes on if the item matches: at the next item, or behind the last one where it is a quick rule.
+    /// Where a walk goes on if the item matches: at the next item, or after the last one where it is a quick rule.
     pub next: u32,
     /// If the item is a rule and matches, the walk ends at the first item of lesser depth than this: one more than the
     /// depth of the innermost quick anchor around the item, or 0 if none is quick.
@@ -79,7 +79,7 @@ fn lengthen(config: &Config, lines: &mut [Line])
     }
 }
 
-/// The skips of the item at a place, from those of the items behind it.
+/// The skips of the item at a place, from those of the items after it.
 fn skips_at(config: &Config, lines: &[Line], place: u32) -> Skips
     requires place { place < length config.now.items }
     requires lines { AreLinesFrom (place + 1) config.now.items lines.now }
@@ -99,7 +99,7 @@ fn skips_at(config: &Config, lines: &[Line], place: u32) -> Skips
     }
 }
 
-/// Where a walk goes on behind an item that matches.
+/// Where a walk goes on after an item that matches.
 fn next_place(config: &Config, place: u32, what: &ItemKind) -> u32
     requires { place < length config.now.items }
     ensures { result ≡ next_place config.now.items place what.now }
@@ -112,7 +112,7 @@ fn next_place(config: &Config, place: u32, what: &ItemKind) -> u32
     }
 }
 
-/// The first place, from one on, whose item does not stand deeper than this, or the number of items.
+/// The first place, from one on, whose item is not deeper than this, or the number of items.
 fn body_end(config: &Config, from: u32, depth: u8) -> u32
     requires { from ≤ length config.now.items }
     ensures value { result ≡ from + body_length depth (drop from config.now.items) }
@@ -155,7 +155,7 @@ pub fn is_rule(what: &ItemKind) -> bool
     matches!(what, ItemKind::Rule(_))
 }
 
-/// Whether `quick` stands in a rule or an anchor.
+/// Whether a rule or an anchor has `quick`.
 pub fn is_quick(what: &ItemKind) -> bool
     ensures { result ≡ is_quick what.now }
 {

@@ -69,7 +69,7 @@ impl Skips {
         }
     }
 
-    /// The skips of an item, from those of the next item of its body, which stands at `place`: as far as these where both
+    /// The skips of an item, from those of the next item of its body, which is at `place`: as far as these where both
     /// ask the same, and to that place where they do not.
     pub fn joined(item: &ItemKind, next: &ItemKind, place: u32, further: &Skips) -> Skips
         ensures { (k : Parameter) → IsJoined k (filter_of item.now) (filter_of next.now) place (skip_of further.now k) (skip_of result k) }

@@ -48,8 +48,8 @@ impl Model for Tables {
 
 #[tactic(auto, unfolding(crate::specs::Tables::table_answer))]
 impl Tables {
-    /// The tables of a configuration, with the entries that its text says, found by a hasher that is begun with the
-    /// configuration. The error says that memory was refused.
+    /// The tables of a configuration, with the entries that its text says. They are found by a hasher that is begun
+    /// with the configuration. `NoMemory` where memory was refused.
     pub fn new(alloc: Global, config: &Config) -> Result<Tables, NoMemory>
         ensures entries { IfOk result (λ t. t.entries ≡ config_entries config.now) }
         ensures limit { IfOk result (λ t. t.limit ≡ limit_of config.now LimitName.TableEntries) }
@@ -96,10 +96,9 @@ impl Tables {
         self.tables[table.0 as usize].has_room()
     }
 
-    /// Takes memory for one more entry of a table, where that does not fit already and the entries are not at their
-    /// limit; after `Ok` the next `add_host` to that table is no error, whatever is called on other tables between, but for
-    /// `expire`: after it, a limit that was met may be free again. No entry changes, and no other table's room. The error
-    /// says that the memory was refused.
+    /// Takes memory for one more entry of a table, unless it fits already or the entries are at their limit. After `Ok` the
+    /// next `add_host` to that table is no error, whatever is called on other tables between, except `expire`: after it, a
+    /// limit that was met may be free again. No entry changes, and no other table's room. `NoMemory` where memory was refused.
     pub fn make_room(&mut self, table: TableNo) -> Result<(), NoMemory>
         requires { table.0 < length self.old.entries }
         ensures entries { self.new.entries ≡ self.old.entries }
@@ -116,11 +115,11 @@ impl Tables {
         Ok(())
     }
 
-    /// Adds a single host of either family to a table at a moment, in seconds: not if the table has an entry for exactly
-    /// that host, negated or not, and not if all tables together have as many entries as the limit allows. The error says
-    /// that memory was refused; it comes only where the host is new and does not fit without memory. On an error, and
-    /// where the host is not new, nothing changes: a host that is held keeps its moment. The room of other tables stays.
-    /// (own to this profile)
+    /// Adds a single host of either family to a table at a moment, in seconds: not if the table has an entry for
+    /// exactly that host, negated or not, and not if all tables together have as many entries as the limit allows.
+    /// `NoMemory` where memory was refused; it comes only where the host is new and does not fit without memory. On an
+    /// error, and where the host is not new, nothing changes: a host that is held keeps its moment. The room of other
+    /// tables stays. (own to this profile)
     pub fn add_host(&mut self, table: TableNo, host: Addr, now: u64) -> Result<Added, NoMemory>
         requires { table.0 < length self.old.entries }
         ensures answer { IfOk result (λ a. a ≡ added_to self.old.entries self.old.limit table.0 host) }
@@ -149,9 +148,9 @@ impl Tables {
         Ok(Added::New)
     }
 
-    /// Takes out of a table the entries that were added `seconds` before `now`, or before that; for those that the rules
-    /// text says, the moment `first` counts. It answers how many left. The others keep their order, and no other table
-    /// changes. No room is lost. It goes through the entries of that table alone, and takes no memory. (pfctl(8),
+    /// Takes out of a table the entries that were added `seconds` before `now`, or earlier; those that the rules text
+    /// says count as added at the moment `first`. It returns how many left. The others keep their order, and no other
+    /// table changes. No room is lost. It goes through the entries of that table alone, and takes no memory. (pfctl(8),
     /// "-T expire"; which moments count is own to this profile)
     pub fn expire(&mut self, table: TableNo, first: u64, now: u64, seconds: u64) -> u64
         requires table { table.0 < length self.old.entries }

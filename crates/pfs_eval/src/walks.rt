@@ -1,11 +1,11 @@
-//! A walk over the lines of a book: where it stands, where it ends, and the last rule that matched.
+//! A walk over the lines of a book: where it is, where it ends, and the last rule that matched.
 
 ghost use Rattle.std.specs.Prelude.{◌≡◌};
 
 use crate::comparing::Parameter;
 use crate::lines::{Line, is_rule};
 
-/// Where a walk stands.
+/// Where a walk is.
 #[derive(Clone, Copy)]
 pub struct Walk {
     /// The place of the next line.
@@ -19,7 +19,7 @@ pub struct Walk {
 impl Walk {
     ghost use Rattle.pfs_eval.specs.Lines.{walk_after};
 
-    /// The walk behind a visit to this line, where a parameter failed, or none.
+    /// The walk after a visit to this line, where a parameter failed, or none.
     pub fn on(self, line: &Line, failed: Option<Parameter>) -> Walk
         ensures { result ≡ walk_after self line.now failed }
     {

@@ -75,7 +75,7 @@ state_slice-parts conf counts w now states' nodes' pending' r e size right hr he
     let same = filter_agree (stays_by conf counts (length w.states) now (take e r)) (stays conf w.states now (take e r)) (staying conf counts w.states now (take e r) size right) w.states in
     rw (hs, hn, hp, same, he, take_min, drop_min, hr)
 
--- and what it tells of itself
+-- and what it says of itself
 pub state_slice-told : (conf : Conf) (w : World) (now held left e : ℕ) (states' : List State) (nodes' : List Node) (pending' r : List ℕ)
     → lists states' nodes' pending' w.pending_nodes w.made ≡ state_slice conf w now
     → r ≡ state_round w → e ≡ min (state_share conf) (length r) → held ≡ length w.states → left ≡ length states'

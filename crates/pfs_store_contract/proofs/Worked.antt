@@ -145,7 +145,7 @@ half_open w port now = after_more connected (after_new connected w (syn a1 port)
 abbrev opened : World → ℕ → ℕ → World
 opened w port now = after_more connected (half_open w port now) (ack a1 port) now
 
--- what is told of the third packet
+-- what is reported of the third packet
 abbrev told : World → ℕ → ℕ → Option Touched
 told w port now =
     option_map (touch_of connected (half_open w port now) (ack a1 port) now) (state_with (key_of (ack a1 port)) (half_open w port now))

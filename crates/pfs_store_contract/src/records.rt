@@ -1,4 +1,4 @@
-//! What is held: states and source nodes, and what calls tell of them.
+//! What is held: states and source nodes, and what calls report of them.
 
 use pfs_addr_values::{Addr, Dir, FlowKey};
 use pfs_conf_values::RuleNo;
@@ -96,8 +96,8 @@ pub struct Slice {
 pub struct Watched {
     /// How many it examined, and how many of them left.
     pub slice: Slice,
-    /// A moment, in seconds, before which none of those that it examined leaves, as long as no other leaves and nothing comes;
-    /// 0 where none is known.
+    /// A moment, in seconds, before which none of those that it examined leaves, as long as no other leaves and
+    /// nothing comes; 0 where none is known.
     pub until: u64,
     /// The round is known to be over with it.
     pub over: bool,

@@ -15,9 +15,9 @@ use pfs_conf_values::RuleNo;
 
 /// States and source nodes, however they are kept.
 ///
-/// Clauses see what is held as one `World`, and each change as an equation of the world after it. Moments are in seconds.
-/// A look is one reading of a state's record; a kind of store that counts looks ticks the meter at each, and every other
-/// leaves the meter alone. Only `admit` takes memory.
+/// Clauses see what is held as one `World`, and each change as an equation of the world after it. Moments are in
+/// seconds. A look is one reading of a state's record. A kind of store that counts looks ticks the meter at each; every
+/// other kind leaves the meter alone. Only `admit` takes memory.
 pub trait Store {
     // what is held
     ghost world: { Self → World };
@@ -52,13 +52,13 @@ pub trait Store {
     fn made(&self) -> u64
         ensures { result ≡ (world self.now).made };
 
-    /// Makes a state for a packet whose key is held by none, at a rule that keeps state, and with it a source node where the
-    /// rule tracks sources and the source has none in its scope. It answers the number of the state, or the first limit that
-    /// the state would meet: `max`; of a source without a node `max-src-nodes` and the limit of source nodes; of one with a
-    /// node `max-src-states`; the limit of states.
+    /// Makes a state for a packet whose key no state has, at a rule that keeps state. It makes a source node with it
+    /// where the rule tracks sources and the source has none in its scope. It returns the number of the state, or the
+    /// first limit that the state would meet: `max`; for a source without a node `max-src-nodes` and the limit of
+    /// source nodes; for one with a node `max-src-states`; the limit of states.
     ///
-    /// `NoMemory` where no limit is met and room for them was refused; where a limit is met no memory is taken. In both cases
-    /// what is held is unchanged. Fewer than 1,000,000,000 states were made before. It looks at no record.
+    /// `NoMemory` where no limit is met and memory for them was refused; where a limit is met no memory is taken. In
+    /// both cases what is held is unchanged. Fewer than 1,000,000,000 states were made before. It looks at no record.
     /// (pf.conf(5), OPTIONS, "set limit", and STATEFUL TRACKING OPTIONS; the order of the limits is own to this profile)
     fn admit(
         &mut self,
@@ -106,9 +106,9 @@ pub trait Store {
         ensures most { meter.new ≤ meter.old + run_limit }
         ensures config { config self.new ≡ config self.old };
 
-    /// Takes out the states of a source, all of them or those of one rule, and answers how many they are. A node that loses
-    /// its last state has been idle since `now`. It looks at each record that leaves, and at no more than one for each state
-    /// of the source. (pf.conf(5), STATEFUL TRACKING OPTIONS, "flush")
+    /// Takes out the states of a source, all of them or those of one rule, and returns how many they are. A node that
+    /// loses its last state has been idle since `now`. It looks at each record that leaves, and at no more than one for
+    /// each state of the source. (pf.conf(5), STATEFUL TRACKING OPTIONS, "flush")
     fn flush(&mut self, source: Addr, rule: Option<RuleNo>, now: u64, meter: &mut Meter) -> u64
         requires meter { meter.old ≤ 2 ^ 63 }
         ensures answer { result ≡ flushed_count (world self.old) source rule }
@@ -140,8 +140,8 @@ pub trait Store {
         ensures world { world self.new ≡ node_slice (config self.old) (world self.old) now }
         ensures config { config self.new ≡ config self.old };
 
-    /// Does the slice of `purge_states`, and tells up to when the states stay that it examined, under the counts before it, and
-    /// whether the round is over. A kind of store that does not know it tells the moment 0.
+    /// Does the slice of `purge_states`. It also returns up to when the states that it examined stay, under the counts
+    /// before it, and whether the round is over. A kind of store that does not know it returns the moment 0.
     /// (pf.conf(5), OPTIONS, "interval"; the rounds are own)
     fn watch_states(&mut self, now: u64, meter: &mut Meter) -> Watched
         requires meter { meter.old ≤ 2 ^ 63 }
@@ -161,9 +161,9 @@ pub trait Store {
         }
     }
 
-    /// Does the slice of `purge_nodes`, and tells up to when the source nodes stay that it examined, where they get no state
-    /// and lose none, and whether the round is over. A kind of store that does not know it tells the moment 0.
-    /// (pf.conf(5), OPTIONS, "src.track"; the rounds are own)
+    /// Does the slice of `purge_nodes`. It also returns up to when the source nodes that it examined stay, where they
+    /// get no state and lose none, and whether the round is over. A kind of store that does not know it returns the
+    /// moment 0. (pf.conf(5), OPTIONS, "src.track"; the rounds are own)
     fn watch_nodes(&mut self, now: u64) -> Watched
         ensures answer { result.slice ≡ node_slice_of (config self.old) (world self.old) now }
         ensures world { world self.new ≡ node_slice (config self.old) (world self.old) now }
@@ -178,8 +178,8 @@ pub trait Store {
         }
     }
 
-    /// Passes over some of so many seconds in which nothing leaves, and answers over how many: both rounds go on by so many
-    /// slices, as if each of them had been done. A kind of store that cannot answers 0. It looks at no record. (own)
+    /// Passes over some of so many seconds in which nothing leaves, and returns over how many. Both rounds go on by so
+    /// many slices, as if each of them had been done. A kind of store that cannot returns 0. It looks at no record. (own)
     fn pass_over(&mut self, seconds: u64) -> u64
         ensures most { result ≤ seconds }
         ensures world { world self.new ≡ world_after_quiet (config self.old) result (world self.old) }

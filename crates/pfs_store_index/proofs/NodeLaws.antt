@@ -426,7 +426,7 @@ none-rising = tt
 pub orderly-nil : IsOrderly []
 orderly-nil = record { rising = none-rising; distinct = IsDistinct-nil }
 
--- ---- what the calls hand on
+-- ---- what the calls pass on
 
 pub noted-reserved : {S : Type 0} (m m' : IndexMap (NodeScope × Addr) ℕ S) (at at' : ℕ → Option Tally) (es : List (ℕ × ℕ)) (rules rules' : List ℕ) (global global' : ℕ) → m'.entries ≡ m.entries → ((p : ℕ) → at' p ≡ at p)
     → SameCounts (count_of rules global) (count_of rules' global') → IsNoted (index_map.get same_source m) at es rules global → IsNoted (index_map.get same_source m') at' es rules' global'

@@ -393,7 +393,7 @@ module _ {P V : Type 0} (num : V → ℕ) (At : V → P → Type 0) where
 
   -- ---- the value at a place
 
-  -- none passes a test, where none that stands anywhere does
+  -- none passes a test, where none that has a place does
   pub find-vacant : (test : V → Bool) (T : P → Option V) (es : List (ℕ × P)) → ((v : V) (q : P) → test v ≡ true → At v q → ⊥)
       → AllByRecursion (IsPlaced num At T) es → find test (values_at T es) ≡ None
   find-vacant test T [] s h = refl

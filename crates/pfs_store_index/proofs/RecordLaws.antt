@@ -82,7 +82,7 @@ pub state_at : (o : Option State) (p : ℕ) (v : Placed) → option_map (placed_
 state_at None p v h = absurd (cc h)
 state_at (Some s) p v h = ap (option_map (λ (q : Placed). q.state)) h
 
--- a record that stands at a place is there
+-- a record at a place is there
 pub stands : (place : ℕ) (s : Slab State) (es : List (ℕ × ℕ)) → AllByRecursion (IsPlaced number_in RecordIsAt (record_in s)) es → list_any (stands_at place) (values_at (record_in s) es) ≡ true → ContainsKey s place
 stands place s [] h a = absurd (cc a)
 stands place s (e ∷ es) (h, hs) a =

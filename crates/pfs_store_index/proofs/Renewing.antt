@@ -1,4 +1,4 @@
--- The record that the index by key leads to, what a packet makes of it, and what is told of its node.
+-- The record that the index by key leads to, what a packet makes of it, and what is reported of its node.
 use Rattle.std.proofs.Common.{◌≡◌, ◌∙◌, ◌+◌, ◌==◌, ◌||◌, ℕ, Bool, true, false, cond, if◌then◌else◌, Option, Some, None, is_some, unwrap_or, List, map, option_map, refl, ap, sym, subst, arith}
 use Rattle.std.specs.List.{find, list_any, AllByRecursion}
 use Rattle.std.proofs.lemmas.Bool.Decides.{nat_tests}
@@ -99,7 +99,7 @@ counts-done s p = go s.phase
     go (Udp t) = refl
     go (Other t) = refl
 
--- ---- what is told of the node
+-- ---- what is reported of the node
 
 pub told-connections : (conf : Conf) (o : Option NodeScope) (a : Addr) (xs : List State) (ts : List Tally) → AllByRecursion (IsCounted conf xs) ts
     → ((sc : NodeScope) → o ≡ Some sc → list_any (is_tally sc a) ts ≡ true) → connections_at o a ts ≡ connections_in conf a xs o

@@ -245,7 +245,7 @@ pair-undone p q a b c z e h = go (is_found (pair_cmp p) q) refl
     go true i = rw i (sym (h i ∙ z))
     go false i = let e' : b ≡ c = (rw i at e) in rw i e'
 
--- ---- what a range over the pairs of a source tells
+-- ---- what a range over the pairs of a source gives
 
 pub first-of-range : (a : Addr) (above most : ℕ) (xs : List State) (pairs : BTreeSet (Addr × ℕ)) (k : Addr × ℕ) (r r' : List (Addr × ℕ))
     → ((b : Addr) (n : ℕ) → tree.contains pair_cmp pairs (b, n) ≡ list_any (is_pair b n) xs) → r ≡ k ∷ r'

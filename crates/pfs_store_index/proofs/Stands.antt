@@ -65,7 +65,7 @@ none-found test rs f = go (find (λ (p : Placed). test p.state) rs) refl
         let z : Some p.state ≡ None = sym (find-part (λ (p : Placed). p.state) test rs ∙ ap (option_map (λ (p : Placed). p.state)) e) ∙ f in
         absurd (cc z)
 
--- what the index by key tells of the state with a key
+-- what the index by key gives for the state with a key
 pub number-at : (k : FlowKey) (rs : List Placed) (g : Option Entry) → g ≡ option_map entry_of (find (has_key k) rs)
     → option_map (λ (e : Entry). record { 0 = e.number }) g ≡ option_map state_number (find (λ (s : State). same_key s.key k) (states_of rs))
 number-at k rs g e = ap (option_map (λ (e : Entry). record { 0 = e.number })) e ∙ go (find (has_key k) rs) ∙ ap (option_map state_number) (sym (find-part (λ (p : Placed). p.state) (λ (s : State). same_key s.key k) rs))

@@ -105,7 +105,7 @@ module _ {X : Type 0} (number : X → ℕ) (leaves : X → Bool) (above most sha
   pub passing-fewer : stayed ≤ length (waiting above most (map number xs))
   passing-fewer = passed_fewer stayed (waiting above last (map number xs)) (waiting above most (map number xs)) w.count w.passed
 
-  -- where none waits behind it, all that the share allows are passed by
+  -- where none waits after it, all that the share allows are passed by
   pub passing-all : (stayed < share → waiting last most (map number xs) ≡ []) → stayed ≡ length (take share (waiting above most (map number xs)))
   passing-all h = all_passed share stayed (waiting above most (map number xs)) (waiting last most (map number xs)) w.within passing-fewer w.rest h
 

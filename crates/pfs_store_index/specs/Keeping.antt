@@ -21,7 +21,7 @@ abbrev pub values_at : {P V : Type 0} → (P → Option V) → List (ℕ × P) �
 values_at {P} at es = filter_map (λ (e : ℕ × P). at e.1) es
 
 module _ {P V : Type 0} (number : V → ℕ) (StandsAt : V → P → Type 0) where
-  -- at the place of an entry is a value of the entry's number, which stands there
+  -- at the place of an entry is a value of the entry's number, whose place it is
   abbrev pub IsPlaced : (P → Option V) → ℕ × P → Type 0
   IsPlaced at e = (v : V) × (at e.1 ≡ Some v) × (number v ≡ e.0) × StandsAt v e.1
 
@@ -62,16 +62,16 @@ tally_in slab place = get slab place
 abbrev pub NodeIsAt : (NodeScope × Addr → Option ℕ) → Tally → ℕ → Type 0
 NodeIsAt table t place = table (source_of_node t) ≡ Some place
 
--- the node may stand at any place
+-- the node may have any place
 abbrev pub Anywhere : Tally → ℕ → Type 0
 Anywhere t place = Unit {0}
 
--- at this place is a node of this scope and source, and it stands in the order
+-- at this place is a node of this scope and source, and the order has it
 abbrev pub IsFoundAt : (ℕ → Option Tally) → List (ℕ × ℕ) → NodeScope × Addr → ℕ → Type 0
 IsFoundAt at es source place =
     (t : Tally) × (at place ≡ Some t) × (source_of_node t ≡ source) × (lookup (is_at (nat_cmp t.node.number)) es ≡ Some place)
 
--- the nodes are kept, where the table leads to are the nodes that it is asked for, and the counts are those of the scopes
+-- the nodes are kept, the table leads to the nodes that are looked up in it, and the counts are those of the scopes
 pub record IsNoted (table : NodeScope × Addr → Option ℕ) (at : ℕ → Option Tally) (es : List (ℕ × ℕ)) (rules : List ℕ) (global : ℕ) : Type 0 where
   pub kept : AreInPlace number_of_node (NodeIsAt table) at es
   pub found : (source : NodeScope × Addr) (place : ℕ) → table source ≡ Some place → IsFoundAt at es source place

@@ -46,12 +46,12 @@ writes_between (addr.V6 a) (addr.V4 b) k = (key_hash.ghosts).hash_input k
 abbrev pub key_writes : FlowKey → HashWrites
 key_writes k = writes_between k.a.addr k.b.addr k
 
--- the number that stands for a scope
+-- the number of a scope
 abbrev pub number_of_scope : NodeScope → ℕ
 number_of_scope (node_scope.Rule rule) = rule.0
 number_of_scope node_scope.Global = 2 ^ 32 - 1
 
--- the write of a source, where these bytes stand for the scope
+-- the write of a source, where these are the bytes of the scope
 abbrev pub writes_in : List ℕ → Addr → HashWrites
 writes_in scope (addr.V4 a) = four a (four scope []) ∷ []
 writes_in scope (addr.V6 a) = sixteen a (four scope (0 ∷ 0 ∷ 0 ∷ 0 ∷ [])) ∷ []

@@ -33,15 +33,15 @@ between above most n = nat_lt above n && nat_le n most
 
 -- ---- places
 
--- the record stands at this place
+-- the record is at this place
 abbrev pub stands_at : ℕ → Placed → Bool
 stands_at place p = p.place == place
 
--- it is the record of this number, and stands at this place
+-- it is the record of this number, and is at this place
 abbrev pub is_placed : ℕ → ℕ → Placed → Bool
 is_placed number place p = (p.state.number == number) && stands_at place p
 
--- the record that stands at this place is that of this state
+-- the record at this place is that of this state
 abbrev pub IsRecordAt : ℕ → State → List Placed → Type 0
 IsRecordAt place s records = AllByRecursion (λ (p : Placed). p.place ≡ place → p.state ≡ s) records
 
@@ -51,7 +51,7 @@ IsRecordAt place s records = AllByRecursion (λ (p : Placed). p.place ≡ place 
 abbrev pub leaves_number : ℕ → Placed → Bool
 leaves_number number p = not (p.state.number == number)
 
--- the state of a number, written in the place of the one that has it
+-- the state of a number, written in place of the one that has it
 abbrev pub put_state : State → State → State
 put_state state s = if s.number == state.number then state else s
 

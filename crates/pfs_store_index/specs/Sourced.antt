@@ -1,4 +1,4 @@
--- The source of a state, as its key and its direction tell it. (own)
+-- The source of a state, from its key and its direction. (own)
 use Rattle.std.specs.Prelude.{◌≡◌}
 use Rattle.pfs_addr_values.specs.declared.addresses.Addr.{Addr}
 use Rattle.pfs_addr_values.specs.declared.packets.Dir.{Dir}

@@ -39,7 +39,7 @@ abbrev pub IsTallied : Tally → List Tally → Type 0
 IsTallied tally tallies =
     list_any (λ (t : Tally). is_tally tally.node.scope tally.node.source t && has_node_number tally.node.number t) tallies ≡ true
 
--- the tally of a node, written in the place of the one that it has
+-- the tally of a node, written in place of the one that it has
 abbrev pub put_tally : Tally → Tally → Tally
 put_tally tally t = if has_node_number tally.node.number t then tally else t
 

@@ -155,7 +155,7 @@ abbrev pub met_by : Option Rate → ℕ → Bool → Tally → Tally
 met_by rate now true t = record { node = scored_by rate now t.node; states = t.states; connections = t.connections + 1 }
 met_by rate now false t = t
 
--- ---- what is told of a node
+-- ---- what is reported of a node
 
 -- the connections of the node of a scope and a source; 0 where there is none
 abbrev pub connections_at : Option NodeScope → Addr → List Tally → ℕ

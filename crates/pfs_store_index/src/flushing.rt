@@ -16,8 +16,8 @@ use pfs_conf_values::RuleNo;
 use pfs_store_contract::State;
 use std::hash::BuildHasher;
 
-/// Takes out the states of a source, all of them or those of one rule, of a store that has made so many states. It looks at
-/// each state of the source, and at no other.
+/// Takes out the states of a source, all of them or those of one rule, from a store that has made so many states. It
+/// looks at each state of the source, and at no other.
 pub(crate) fn flush<S: BuildHasher>(
     indexes: &mut Indexes<S>,
     source: Addr,
@@ -61,7 +61,7 @@ fn strike<S: BuildHasher>(
     ensures looks { meter.new ≡ meter.old + 1 }
     ensures rising { IsRising (state_numbers indexes.old.states) }
 {
-    // Tells that the numbers of the states rise.
+    // This call states to the proof that the numbers of the states rise.
     let _count = indexes.state_count();
     let state = indexes.read(number, meter);
     if is_flushed(&state, source, rule) {

@@ -51,7 +51,7 @@ pub(crate) struct Entry {
     pub(crate) place: u32,
 }
 
-/// A state before its packet, and what is told of the packet.
+/// A state before its packet, and what is reported of the packet.
 #[derive(Clone, Copy)]
 pub(crate) struct Renewed {
     pub(crate) before: State,
@@ -200,7 +200,7 @@ impl<S: BuildHasher> Indexes<S> {
         requires small { most < 2 ^ 32 }
         ensures { result ≡ slice_get (waiting_of source above most self.now.states) 0 }
     {
-        // Tells that the numbers of the states rise.
+        // This call states to the proof that the numbers of the states rise.
         let _count = self.records.len();
         match self
             .pairs
@@ -296,8 +296,8 @@ impl<S: BuildHasher> Indexes<S> {
         self.nodes.turned(round, share, made, slices)
     }
 
-    /// A state comes, and with it the node of its source where its rule tracks sources and the source has none. `NoMemory`
-    /// where room for them is refused, and then nothing changes.
+    /// A state comes, and with it the node of its source where its rule tracks sources and the source has none.
+    /// `NoMemory` where memory for them is refused; nothing changes then.
     pub(crate) fn put(&mut self, state: State) -> Result<(), NoMemory>
         requires above { IsAbove state.number (state_numbers self.old.states) }
         requires nodes_above { IsAbove state.number (node_numbers self.old.nodes) }
@@ -349,7 +349,7 @@ impl<S: BuildHasher> Indexes<S> {
         ensures config { self.new.config ≡ self.old.config }
         ensures looks { meter.new ≡ meter.old + 1 }
     {
-        // Tells that the numbers of the states rise.
+        // This call states to the proof that the numbers of the states rise.
         let _count = self.records.len();
         match entry_at(&self.keys, &self.last_found, &FlowKey::of(packet)) {
             Some(entry) => {
@@ -382,7 +382,7 @@ impl<S: BuildHasher> Indexes<S> {
         ensures nodes { self.new.nodes
             ≡ map (node_after_leaving self.old.config self.old.states (filter (other_than state.number) self.old.states) now) self.old.nodes }
     {
-        // Tells that the numbers of the states rise.
+        // This call states to the proof that the numbers of the states rise.
         let _count = self.records.len();
         let rule = state.rule.0 as usize;
         let scope = node_scope(&self.config, state.rule);
@@ -401,7 +401,7 @@ impl<S: BuildHasher> Indexes<S> {
         ensures states { self.new.states ≡ self.old.states }
         ensures nodes { self.new.nodes ≡ filter (λ n. not (n.number == node.number)) self.old.nodes }
     {
-        // Tells that the numbers of the nodes rise.
+        // This call states to the proof that the numbers of the nodes rise.
         let _count = self.nodes.len();
         self.nodes.remove(node.number);
     }
@@ -442,7 +442,7 @@ fn entry_in<S: BuildHasher>(
     }
 }
 
-/// What the index by key has of a state whose record stands at this place.
+/// What the index by key has of a state whose record is at this place.
 fn entry_of(state: &State, place: u32) -> Entry
     requires { state.now.number < 2 ^ 32 }
     ensures { result ≡ entry_of (placed_at place state.now) }

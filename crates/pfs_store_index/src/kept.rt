@@ -1,4 +1,5 @@
-//! A state as its record keeps it: without its source, which its key and its direction tell, and with a number of 32 bits.
+//! A state as its record keeps it: without its source, which follows from its key and its direction, and with a number
+//! of 32 bits.
 
 ghost use Rattle.std.specs.Prelude.{◌≡◌, ◌<◌, ◌^◌};
 ghost use Rattle.pfs_store_index.specs.Sourced.{IsSourced, source_at};
@@ -12,7 +13,7 @@ use std::marker::Model;
 
 /// A state whose source is the end of its key from which packets of its direction come. Clauses see the state.
 ///
-/// The fields lie in memory as they stand here: what a walk reads comes first, and none of the 64 bytes is unused.
+/// The fields are in memory in this order: what a walk reads comes first, and none of the 64 bytes is unused.
 #[derive(Clone, Copy)]
 pub(crate) struct Kept {
     last: u64,

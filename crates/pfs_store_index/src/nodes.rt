@@ -153,8 +153,8 @@ impl<S: BuildHasher> Nodes<S> {
         turned(&self.order, round, share, made, slices)
     }
 
-    /// Adds a node, whose number is above all others and whose scope and source no other has, with its counts. `NoMemory`
-    /// is answered where memory for it is refused, and then nothing changes.
+    /// Adds a node, whose number is above all others and whose scope and source no other has, with its counts. It
+    /// returns `NoMemory` where memory for it is refused; nothing changes then.
     pub fn push(&mut self, tally: Tally) -> Result<(), NoMemory>
         requires absent { find (is_tally tally.node.scope tally.node.source) self.old ≡ None }
         requires above { IsAbove tally.node.number (node_numbers (nodes_of self.old)) }
@@ -162,7 +162,7 @@ impl<S: BuildHasher> Nodes<S> {
         ensures err { OnErr result (self.new ≡ self.old) }
         ensures orderly { IsOrderly self.new }
     {
-        // That no count is near the greatest number is known of the order, and told here.
+        // This call states to the proof that no count is near the greatest number, which follows from the order.
         let _count = self.order.len();
         let source = Tracked {
             scope: tally.node.scope,
@@ -183,7 +183,7 @@ impl<S: BuildHasher> Nodes<S> {
         }
     }
 
-    /// Writes a tally in the place of the one that its node has. It takes no memory.
+    /// Writes a tally in place of the one that its node has. It takes no memory.
     pub fn write(&mut self, tally: Tally)
         requires { IsTallied tally self.old }
         ensures nodes { self.new ≡ map (put_tally tally) self.old }

@@ -17,8 +17,8 @@ use pfs_store_contract::{NodeScope, State};
 use std::collections::BTreeSet;
 use std::hash::BuildHasher;
 
-/// Places a state whose number is above all others, and answers the place of its record. Where room is refused, nothing is
-/// placed.
+/// Places a state whose number is above all others, and returns the place of its record. Where memory is refused,
+/// nothing is placed.
 pub(crate) fn place<S: BuildHasher>(
     records: &mut Records,
     pairs: &mut BTreeSet<(Addr, u32)>,

@@ -167,7 +167,7 @@ fn examine<S: BuildHasher>(
     ensures ends { result.left ≡ 0 → result.examined ≡ length (take share (waiting round.cursor round.mark (state_numbers indexes.old.states))) }
     ensures looks { meter.new ≡ meter.old + result.examined }
 {
-    // Tells that the numbers of the states rise.
+    // This call states to the proof that the numbers of the states rise.
     let _count = indexes.state_count();
     let walk = walk_to_due(indexes, counts, round, share, held, now, meter);
     let stayed = walk.stayed;
@@ -293,8 +293,7 @@ pub(crate) fn walk_nodes<S: BuildHasher>(
     }
 }
 
-/// Examines the next nodes of a round, so many at most: passes by those that stay in one walk, and examines the one behind
-/// them.
+/// Examines the next nodes of a round, so many at most: passes by those that stay in one walk, and examines the one after them.
 fn examine_nodes<S: BuildHasher>(
     indexes: &mut Indexes<S>,
     round: Round,
@@ -346,7 +345,7 @@ fn examine_nodes<S: BuildHasher>(
     }
 }
 
-/// Examines a node: it leaves where it has no state, and its retention is over. It answers up to when it stays otherwise.
+/// Examines a node: it leaves where it has no state, and its retention is over. It returns up to when it stays otherwise.
 fn examine_node<S: BuildHasher>(indexes: &mut Indexes<S>, tally: &Tally, now: u64) -> u64
     requires held { find (λ n. n.number == tally.now.node.number) indexes.old.nodes ≡ Some tally.now.node }
     requires states { tally.now.states ≡ node_states indexes.old.config tally.now.node.scope tally.now.node.source indexes.old.states }
@@ -357,7 +356,7 @@ fn examine_node<S: BuildHasher>(indexes: &mut Indexes<S>, tally: &Tally, now: u6
     ensures until { NodeHolds indexes.old.config indexes.old.states tally.now.node.number result indexes.new.nodes }
     ensures rising { IsRising (node_numbers indexes.old.nodes) }
 {
-    // Tells that the numbers of the nodes rise.
+    // This call states to the proof that the numbers of the nodes rise.
     let _count = indexes.node_count();
     let config = indexes.config();
     let until = kept_until(config, tally);

@@ -24,8 +24,8 @@ use std::collections::BTreeMap;
 use std::marker::Model;
 use std::ops::Bound;
 
-/// The records of the states that are held, by rising number. Callers see each with the place at which it stands, which it
-/// keeps until it is removed. To read a record is a look, and ticks the meter.
+/// The records of the states that are held, by rising number. Callers see each with its place, which it keeps until it
+/// is removed. To read a record is a look, and ticks the meter.
 #[derive(Drop)]
 pub struct Records {
     slab: Slab<Kept>,
@@ -92,7 +92,7 @@ impl Records {
         }
     }
 
-    /// The state of the record that stands at this place: one look, and no search. It takes no memory.
+    /// The state of the record at this place: one look, and no search. It takes no memory.
     pub fn read_at(&self, place: u32, meter: &mut Meter) -> State
         requires held { list_any (stands_at place) self.now ≡ true }
         requires room { meter.old < 2 ^ 64 - 1 }
@@ -149,7 +149,7 @@ impl Records {
         turned(&self.places, round, share, made, slices)
     }
 
-    /// Writes a state into the record of its number, which stands at this place. It is no look, and takes no memory.
+    /// Writes a state into the record of its number, which is at this place. It is no look, and takes no memory.
     pub fn write_at(&mut self, place: u32, state: State)
         requires placed { list_any (is_placed state.number place) self.old ≡ true }
         requires sourced { IsSourced state }
@@ -161,8 +161,8 @@ impl Records {
         self.slab[place as usize] = Kept::of(&state);
     }
 
-    /// Adds the record of a state whose number is above all others, and answers its place. `NoMemory` is answered where
-    /// memory for it is refused, or there is no place of 32 bits, and then nothing changes.
+    /// Adds the record of a state whose number is above all others, and returns its place. It returns `NoMemory` where
+    /// memory for it is refused, or where the place does not fit into 32 bits; nothing changes then.
     pub fn push(&mut self, state: &State) -> Result<u32, NoMemory>
         requires above { IsAbove state.now.number (state_numbers (states_of self.old)) }
         requires sourced { IsSourced state.now }
@@ -198,7 +198,7 @@ impl Records {
     }
 }
 
-/// A place in 32 bits. `NoMemory` is answered where it does not fit.
+/// A place in 32 bits. It returns `NoMemory` where it does not fit.
 pub(crate) fn short(place: usize) -> Result<u32, NoMemory>
     ensures { IfOk result (λ p. p ≡ place) }
 {

@@ -41,7 +41,7 @@ impl ScopeCounts {
         }
     }
 
-    /// Makes room for the count of a scope. `NoMemory` is answered where memory for it is refused. No count changes.
+    /// Makes room for the count of a scope. It returns `NoMemory` where memory for it is refused. No count changes.
     pub(crate) fn make_room(&mut self, scope: NodeScope) -> Result<(), NoMemory>
         ensures counts { SameCounts (count_of self.old.rules.items self.old.global) (count_of self.new.rules.items self.new.global) }
         ensures room { OnOk result (HasRoom self.new.rules.items scope) }

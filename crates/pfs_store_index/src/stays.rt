@@ -1,4 +1,4 @@
-//! How long the states of a walk stay: what is known of one serves for the next, where a lifetime is asked for that is the same.
+//! How long a walk's states stay: what is known of one serves for the next of the same rule and timeout.
 
 ghost use Rattle.std.specs.Prelude.{◌≡◌, ◌+◌, ◌≤◌, false, true, IfSome, None};
 ghost use Rattle.pfs_track.specs.Lifetimes.{is_expired};
@@ -26,7 +26,7 @@ impl Stay {
     }
 }
 
-/// How long the state of a record may stay. It is asked for where what is known is of another rule or timeout.
+/// How long the state of a record may stay. The lifetime is computed only where what is known is of another rule or timeout.
 pub(crate) fn stay_of<T: Lifetimes>(lifetimes: &T, kept: &Kept, known: Option<Stay>) -> Stay
     requires known { IfSome known (λ stay. IsStay (T.lifetime lifetimes.now) stay) }
     ensures value { result.seconds ≡ T.lifetime lifetimes.now kept.now.rule (slot kept.now.phase) }
@@ -44,8 +44,8 @@ pub(crate) fn stay_of<T: Lifetimes>(lifetimes: &T, kept: &Kept, known: Option<St
     }
 }
 
-/// Up to when the state of a record stays that may stay so many seconds, or an earlier moment; none where it has expired at a
-/// second.
+/// Up to when the state of a record stays that may stay so many seconds, or an earlier moment; none where it
+/// has expired at the second `now`.
 pub(crate) fn stays_until(kept: &Kept, seconds: u64, now: u64) -> Option<u64>
     ensures none { result ≡ None → is_expired seconds kept.now.last now ≡ true }
     ensures some { IfSome result (λ until. is_expired seconds kept.now.last now ≡ false) }

@@ -24,9 +24,9 @@ use std::alloc::Global;
 use std::hash::BuildHasher;
 use std::marker::Model;
 
-/// A store that finds states by their keys, by their numbers and by their sources, and source nodes by scope and source. The
-/// cost of a call does not grow with what is held, but for the states of a source that are flushed and for the slices of the
-/// purge. It counts looks.
+/// A store that finds states by their keys, by their numbers and by their sources, and source nodes by scope and
+/// source. The cost of a call does not grow with what is held, except for the states of a source that are flushed and
+/// for the slices of the purge. It counts looks.
 ///
 /// Clauses see a `Plain`: the configuration that it was made for, and its world.
 #[derive(Drop)]
@@ -55,9 +55,9 @@ impl<S: BuildHasher> Model for IndexStore<S> {
 }
 
 impl IndexStore {
-    /// An empty store, made for this configuration, of which it keeps a copy. Both its hashes, of keys and of source nodes, begin
-    /// with all that the configuration says, so who does not know it cannot choose keys that fall together. `NoMemory` where
-    /// memory for the copy is refused.
+    /// An empty store, made for this configuration, of which it keeps a copy. Both its hashes, of keys and of source
+    /// nodes, begin with all that the configuration says. So a sender who does not know it cannot choose keys with the
+    /// same hash. `NoMemory` where memory for the copy is refused.
     pub fn new(alloc: Global, config: &Config) -> Result<IndexStore, NoMemory>
         ensures { IfOk result (λ s. s ≡ record { config = config.now; world = empty_world }) }
     {
@@ -67,8 +67,8 @@ impl IndexStore {
 }
 
 impl<S: BuildHasher> IndexStore<S> {
-    /// An empty store as `new` makes it, but for its hashers: the index by key has the first of these, and that of the source
-    /// nodes the second.
+    /// An empty store as `new` makes it, but with other hashers: the index by key has the first of these, and that
+    /// of the source nodes the second.
     pub fn with_hashers(
         alloc: Global,
         config: &Config,
@@ -102,7 +102,7 @@ impl<S: BuildHasher> IndexStore<S> {
         ensures config { self.new.config ≡ self.old.config }
     {
         let source = packet.src();
-        // Tells that the numbers of the states rise.
+        // This call states to the proof that the numbers of the states rise.
         let _count = self.indexes.state_count();
         let number = self.made + 1;
         let state = State {
@@ -175,13 +175,13 @@ impl<S: BuildHasher> Store for IndexStore<S> {
     }
 
     fn touch(&mut self, _number: StateNo, packet: &Packet, now: u64, meter: &mut Meter) -> Touched {
-        // Tells that the numbers of the states rise.
+        // This call states to the proof that the numbers of the states rise.
         let _count = self.indexes.state_count();
         self.indexes.renew(packet, now, meter).touched
     }
 
     fn kill(&mut self, number: StateNo, now: u64, meter: &mut Meter) {
-        // Tells that the numbers of the states rise.
+        // This call states to the proof that the numbers of the states rise.
         let _count = self.indexes.state_count();
         let state = self.indexes.read(number.0, meter);
         self.indexes.take_out(state, now);
@@ -202,7 +202,7 @@ impl<S: BuildHasher> Store for IndexStore<S> {
     }
 
     fn watch_states(&mut self, now: u64, meter: &mut Meter) -> Watched {
-        // Tells that the numbers of the states rise.
+        // This call states to the proof that the numbers of the states rise.
         let _count = self.indexes.state_count();
         let read = self.counts.len();
         let counts = self.indexes.rule_counts();

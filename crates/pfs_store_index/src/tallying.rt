@@ -19,14 +19,14 @@ use pfs_store_contract::{Node, NodeScope, State};
 use pfs_track::Score;
 use std::hash::BuildHasher;
 
-/// What is told of a node after a packet of one of its states; 0 where there is none.
+/// What is reported of a node after a packet of one of its states; 0 where there is none.
 #[derive(Clone, Copy)]
 pub(crate) struct Met {
     pub(crate) connections: u64,
     pub(crate) score: Score,
 }
 
-/// A state comes: its node has one more, or is made with it. Where room for a new node is refused, nothing changes.
+/// A state comes: its node has one more, or is made with it. Where memory for a new node is refused, nothing changes.
 pub(crate) fn join<S: BuildHasher>(
     nodes: &mut Nodes<S>,
     scope: Option<NodeScope>,
@@ -37,7 +37,7 @@ pub(crate) fn join<S: BuildHasher>(
     ensures ok { OnOk result (nodes.new ≡ tallies_with_state scope state.now nodes.old) }
     ensures err { OnErr result (nodes.new ≡ nodes.old) }
 {
-    // Tells that the numbers of the nodes rise, and that no two are of one scope and source.
+    // This call states to the proof that the numbers of the nodes rise, and that no two are of one scope and source.
     let _count = nodes.len();
     match scope {
         None => Ok(()),
@@ -73,7 +73,7 @@ pub(crate) fn leave<S: BuildHasher>(
 )
     ensures { nodes.new ≡ map (at_node scope state.now.source (left_of state.now now)) nodes.old }
 {
-    // Tells that the numbers of the nodes rise, and that no two are of one scope and source.
+    // This call states to the proof that the numbers of the nodes rise, and that no two are of one scope and source.
     let _count = nodes.len();
     match scope {
         None => {}
@@ -155,7 +155,7 @@ fn meet_at<S: BuildHasher>(
     ensures nodes { nodes.new ≡ map (at_node (Some scope) source (met_by rate now completed)) nodes.old }
     ensures tally { find (is_tally scope source) nodes.new ≡ Some result }
 {
-    // Tells that the numbers of the nodes rise, and that no two are of one scope and source.
+    // This call states to the proof that the numbers of the nodes rise, and that no two are of one scope and source.
     let _count = nodes.len();
     match nodes.get(scope, source) {
         Some(tally) => {
@@ -207,7 +207,7 @@ fn rate_of(config: &Config, rule: RuleNo) -> Option<Rate>
     ensures value { result ≡ (options_of config.now rule.0).max_src_conn_rate }
     ensures sound { IfSome result IsRate }
 {
-    // Tells that the options of each rule keep the load rules.
+    // This call states to the proof that the options of each rule keep the load rules.
     let _count = config.item_count();
     match config.options(rule) {
         Some(options) => options.max_src_conn_rate,

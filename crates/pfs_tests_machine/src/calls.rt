@@ -84,7 +84,7 @@ pub fn purge_nodes<S: Store>(store: &mut S, now: u64) -> Slice
     store.purge_nodes(now)
 }
 
-/// A slice of the states that tells up to when they stay.
+/// A slice of the states that returns up to when they stay.
 pub fn watch_states<S: Store>(store: &mut S, now: u64) -> Watched
     requires order { IsUpToNow now (S.world store.old) }
     ensures order { IsUpToNow now (S.world store.new) }
@@ -94,7 +94,7 @@ pub fn watch_states<S: Store>(store: &mut S, now: u64) -> Watched
     store.watch_states(now, &mut meter)
 }
 
-/// A slice of the source nodes that tells up to when they stay.
+/// A slice of the source nodes that returns up to when they stay.
 pub fn watch_nodes<S: Store>(store: &mut S, now: u64) -> Watched
     requires order { IsUpToNow now (S.world store.old) }
     ensures order { IsUpToNow now (S.world store.new) }

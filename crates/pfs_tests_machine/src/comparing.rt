@@ -1,5 +1,5 @@
-//! The same thousands of calls, drawn from a fixed seed, over plain lists and over indexes: every answer and every count is
-//! one.
+//! The same thousands of calls, drawn from a fixed seed, over plain lists and over indexes: every answer and every
+//! count is the same.
 
 ghost use Rattle.std.specs.Prelude.{◌≡◌};
 ghost use Rattle.pfs_store_contract.specs.Worlds.{IsUpToNow};

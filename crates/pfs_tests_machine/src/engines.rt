@@ -19,7 +19,7 @@ use std::test::Fail;
 /// What is put in front of rules whose states are given no shorter life under load.
 pub const UNSCALED: &[u8] = b"set timeout { adaptive.start 0, adaptive.end 0 }\n";
 
-/// The configuration of two texts, one behind the other.
+/// The configuration of two texts, one after the other.
 pub fn configured(alloc: Global, first: &[u8], rules: &[u8]) -> Result<Config, Fail> {
     let mut text = Vec::from_slice(alloc, first)?;
     text.extend_from_slice(rules)?;
@@ -64,7 +64,7 @@ pub fn tell(rt: &(impl Abort + AllocGlobal), first: &[u8], case: &Case) -> Resul
     runs(rt, indexed(alloc, first, case.rules)?, &script, case)
 }
 
-/// Tells each case, without a shorter life under load.
+/// Reports each case, without a shorter life under load.
 pub fn tell_each(rt: &(impl Abort + AllocGlobal), cases: &[Case]) -> Result<(), Fail> {
     for case in cases {
         tell(rt, UNSCALED, case)?;

@@ -1,4 +1,4 @@
-//! Stores by themselves: the numbers of states, what is told of handshakes, what leaves, and the slices of a round.
+//! Stores by themselves: the numbers of states, what is reported of handshakes, what leaves, and the slices of a round.
 
 ghost use Rattle.std.specs.Prelude.{◌≡◌, ◌≤◌};
 ghost use Rattle.pfs_store_contract.specs.Worlds.{IsUpToNow};
@@ -37,7 +37,7 @@ enum Step {
     States(u64, u64),
     /// So does one of the source nodes.
     Nodes(u64, u64),
-    /// A slice of the states examines so many, tells up to when they stay, and whether the round is over.
+    /// A slice of the states examines so many, reports up to when they stay, and whether the round is over.
     WatchStates(u64, u64, bool),
     /// So does one of the source nodes.
     WatchNodes(u64, u64, bool),

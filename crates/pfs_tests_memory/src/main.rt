@@ -1,6 +1,6 @@
-//! Each call that may answer want of memory, so that a growth that is refused shows which call it was, and what stands after it. Standard
-//! output has a line before each call and one behind it, and then whether the answer is the plain one, or refused, with all that has to stand
-//! still there. Words choose what is called; without words it is everything.
+//! Makes each call that may run out of memory, and shows at which call memory was refused, and what holds after it.
+//! Standard output has a line before each call and one after it, and then whether the answer is the plain one, or
+//! refused with all still there that must be. Words choose what is called; without words it is everything.
 
 #![tactic(auto)]
 

@@ -1,4 +1,4 @@
-//! The calls of the program: replays, what is told of rules, and the words of the command line.
+//! The calls of the program: replays, what is reported of rules, and the words of the command line.
 
 use crate::telling::{Stop, begin, begin_free, end, plain, refused, wrong};
 use clap::error::ErrorKind;
@@ -82,7 +82,7 @@ fn tell_joined(rt: &HostRuntime, row: &Row) -> Result<(), Stop> {
     Ok(())
 }
 
-/// Room for all that is written, so that no write needs more.
+/// Room for all that is written: so no write needs more.
 fn sink(rt: &HostRuntime) -> Result<Sink<Vec<u8>>, Stop> {
     Ok(Sink::new(Vec::with_capacity(rt.alloc(), 4096)?))
 }
@@ -132,7 +132,7 @@ fn perform_joined(rt: &HostRuntime, text: &[u8], report: &[u8]) -> Result<bool, 
     tell_report(rt, answer, &out.into_inner(), report)
 }
 
-/// The report; or at want of memory whole lines of it, without the last.
+/// The report; or, out of memory, whole lines of it, without the last.
 fn tell_report(
     rt: &HostRuntime,
     answer: Result<(), ReplayFault>,
@@ -152,7 +152,7 @@ fn are_first_lines(written: &[u8], report: &[u8]) -> bool {
         && (written.is_empty() || written.ends_with(b"\n"))
 }
 
-/// What is told of rules, and the words of the command line.
+/// What is reported of rules, and the words of the command line.
 pub fn tell_jobs(rt: &HostRuntime) -> Result<(), Stop> {
     if !check_one(rt)? {
         check_one(rt)?;
@@ -201,7 +201,7 @@ fn perform_one(rt: &HostRuntime, task: &Job, text: &[u8]) -> Result<bool, Stop> 
     tell_text(rt, answer, &out.into_inner(), text)
 }
 
-/// The text; or at want of memory a front of it.
+/// The text; or, out of memory, a front of it.
 fn tell_text(
     rt: &HostRuntime,
     answer: Result<(), ReplayFault>,

@@ -225,7 +225,7 @@ fn begin_ask(rt: &HostRuntime, ask: Ask) -> Result<(), Stop> {
     }
 }
 
-/// None for want of memory.
+/// None where memory is refused.
 fn admit_one<S: Store>(
     store: &mut S,
     config: &Config,

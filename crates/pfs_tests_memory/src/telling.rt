@@ -1,4 +1,4 @@
-//! What is told of a call, and which calls the words choose.
+//! What is reported of a call, and which calls the words choose.
 
 use pfs_addr_values::NoMemory;
 use pfs_conf::LoadFault;
@@ -79,7 +79,7 @@ pub fn plain(rt: &HostRuntime, is_right: bool) -> Result<bool, Stop> {
     Ok(true)
 }
 
-/// It answered want of memory, and what has to stand then stands.
+/// It returned out of memory, and all that must then hold holds.
 pub fn refused(rt: &HostRuntime, is_right: bool) -> Result<bool, Stop> {
     if is_right {
         println!(rt; "refused")?;
@@ -95,7 +95,7 @@ pub fn wrong(rt: &HostRuntime) -> Result<bool, Stop> {
     Ok(true)
 }
 
-/// What came of a call that answers a value: whether it is the plain one, or none at want of memory.
+/// What came of a call that returns a value: whether it is the plain one, or none where memory was refused.
 pub fn answered(rt: &HostRuntime, is_right: Option<bool>) -> Result<bool, Stop> {
     match is_right {
         Some(is_right) => plain(rt, is_right),

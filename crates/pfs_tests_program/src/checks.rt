@@ -1,4 +1,4 @@
-//! What is checked: that two values are the same, or that something holds, and what is told where it is not so.
+//! What is checked: that two values are the same, or that something holds, and what is reported where it is not so.
 
 use std::fmt::Debug;
 use std::process::Abort;

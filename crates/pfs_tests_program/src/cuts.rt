@@ -17,7 +17,7 @@ const RECORDS: &[u8] = b"5,in,em0,udp,198.51.100.1,1000,192.0.2.1,53,\n\
     5,in,em0,udp,198.51.100.2,1000,192.0.2.1,53,\n\
     5,in,em0,udp,198.51.100.3,1000,192.0.2.1,53,\n";
 
-/// The line of each record, and the last line behind so many of them.
+/// The line of each record, and the last line after so many of them.
 const LINES: [&str; 3] = ["1 new @0\n", "2 new @0\n", "3 drop:states @0\n"];
 
 const ENDS: [&str; 4] = [
@@ -37,8 +37,8 @@ fn count_of(bytes: &[u8], wanted: u8) -> usize {
     bytes.iter().filter(|byte| **byte == wanted).count()
 }
 
-/// What is left of the records behind a whole header: those that are whole, and whether another is begun. The last field of
-/// each is empty, so a record is whole from its eighth comma on.
+/// What is left of the records after a whole header: those that are whole, and whether another is begun. The last field
+/// of each is empty, so a record is whole from its eighth comma on.
 fn records_left(records: &[u8]) -> (usize, bool) {
     let commas = count_of(records, b',');
     let is_begun = commas % 8 != 0
@@ -51,7 +51,7 @@ fn front(bytes: &[u8], count: usize) -> &[u8] {
     &bytes[..count.min(bytes.len())]
 }
 
-/// The replay of a trace that is cut behind so many bytes. A header without its line feed is whole.
+/// The replay of a trace that is cut after so many bytes. A header without its line feed is whole.
 fn tell_cut(rt: &(impl Abort + AllocGlobal), trace: &[u8], cut: usize) -> Result<(), Fail> {
     let left = front(trace, cut);
     if cut < 43 {
@@ -90,7 +90,7 @@ fn refused(line: u64, kind: Kind) -> Result<u32, LoadFault> {
     Err(LoadFault { line, kind })
 }
 
-/// What the text is read as when it is cut behind so many bytes: how many rules there are, or the fault.
+/// What the text is read as when it is cut after so many bytes: how many rules there are, or the fault.
 fn read_as(cut: usize) -> Result<u32, LoadFault> {
     match cut {
         0 | 18 | 19 => Ok(0),

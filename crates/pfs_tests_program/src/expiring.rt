@@ -84,7 +84,7 @@ const EXPIRED: &[Case] = &[
     },
 ];
 
-/// A last record behind ten others, under rules, and how the replay ends.
+/// A last record after ten others, under rules, and how the replay ends.
 #[derive(Clone, Copy)]
 struct Row {
     rules: &'static str,

@@ -26,7 +26,7 @@ const LINES: &[u8] = b"1 new @1\n2 state @1\n3 state @1\n4 new @1\n5 state @1\n\
 
 const END: &[u8] = b"end rows=9 states=2 nodes=1 entries=1\n";
 
-/// Records that are refused, and in which column: the families are compared before what stands behind them is read, also
+/// Records that are refused, and in which column: the families are compared before what follows them is read, also
 /// where the record would be skipped.
 const REFUSED: &[(&[u8], u8)] = &[
     (b"0,in,em0,udp,198.51.100.1,1,2001:db8::53,53,\n", 7),

@@ -1,5 +1,5 @@
-//! Tests of the program's calls: reports, faults, jobs and streams, over readers and writers in memory. The rules texts are handed
-//! out to the program of refused memory.
+//! Tests of the program's calls: reports, faults, jobs and streams, over readers and writers in memory. The rules texts
+//! are also used by the program of refused memory.
 
 #![tactic(auto)]
 

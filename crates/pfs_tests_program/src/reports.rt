@@ -1,4 +1,4 @@
-//! Reports of rules and records, and what is told of texts that are refused.
+//! Reports of rules and records, and what is reported of texts that are refused.
 
 use crate::fakes::{Halting, narrow_writer};
 use crate::runs::{replayed_joined, tell, tell_joined, tell_over_stores};
@@ -12,7 +12,7 @@ const UNSCALED: &[u8] = b"set timeout { adaptive.start 0, adaptive.end 0 }\n";
 
 const ALL_UDP: &[u8] = b"set timeout { adaptive.start 0, adaptive.end 0 }\npass in proto udp all\n";
 
-/// Rules, records behind the header, what is written, and how it ends.
+/// Rules, records after the header, what is written, and how it ends.
 #[derive(Clone, Copy)]
 struct Row {
     rules: &'static [u8],

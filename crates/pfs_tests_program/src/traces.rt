@@ -25,7 +25,7 @@ pub enum Sent {
     Shake(u64, &'static str, u16),
     /// A packet of ICMP.
     Ping(u64),
-    /// A record as it stands.
+    /// A record as it is written.
     Line(&'static str),
 }
 
@@ -56,8 +56,8 @@ fn write_sent(trace: &mut String, sent: &Sent) -> Result<(), Fail> {
     Ok(())
 }
 
-/// The report of these rules, behind a first line of them, and of these records is this one, from two texts, over each kind
-/// of store, and from one text.
+/// The report of these rules, after a first line of them, and of these records is this one, from two texts, over each
+/// kind of store, and from one text.
 fn tell(rt: &(impl Abort + AllocGlobal), first: &str, case: &Case) -> Result<(), Fail> {
     let mut trace = String::new(rt.alloc());
     write!(trace, "time,dir,if,proto,src,sport,dst,dport,flags\n")?;
@@ -73,7 +73,7 @@ fn tell(rt: &(impl Abort + AllocGlobal), first: &str, case: &Case) -> Result<(),
     Ok(())
 }
 
-/// Tells each case, without a shorter life under load.
+/// Reports each case, without a shorter life under load.
 pub fn tell_each(rt: &(impl Abort + AllocGlobal), cases: &[Case]) -> Result<(), Fail> {
     for case in cases {
         tell(rt, UNSCALED, case)?;
@@ -81,7 +81,7 @@ pub fn tell_each(rt: &(impl Abort + AllocGlobal), cases: &[Case]) -> Result<(), 
     Ok(())
 }
 
-/// Tells each case, with the lives that load shortens.
+/// Reports each case, with the lives that load shortens.
 pub fn tell_scaled(rt: &(impl Abort + AllocGlobal), cases: &[Case]) -> Result<(), Fail> {
     for case in cases {
         tell(rt, "", case)?;

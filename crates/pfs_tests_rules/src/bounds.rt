@@ -1,4 +1,4 @@
-//! The most comparisons of items with a packet that an evaluation needs, counted over the items as they stand.
+//! The most comparisons of items with a packet that an evaluation needs, counted over the items in their order.
 
 use pfs_addr_values::Packet;
 use pfs_conf::{Config, Filter, Item, ItemKind};
@@ -25,9 +25,9 @@ fn is_so<T: PartialEq + Copy>(asked: Option<T>, told: T) -> bool {
     }
 }
 
-/// The most comparisons that a packet needs: one for each item outside of anchors, and one for each item directly in an anchor
-/// that matches and stands before the cut. No anchor comes behind a quick one in the texts that are counted here, so a quick
-/// rule alone cuts.
+/// The most comparisons that a packet needs: one for each item outside of anchors, and one for each item directly in
+/// an anchor that matches and is before the cut. No anchor comes after a quick one in the texts that are counted
+/// here, so a quick rule alone cuts.
 pub fn visit_bound(config: &Config, packet: &Packet) -> u64 {
     let mut bound = 0u64;
     // items that have fewer anchors than this around them are compared

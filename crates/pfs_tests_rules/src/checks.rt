@@ -1,4 +1,4 @@
-//! What is checked of two values: that they are the same, and what is told where they are not.
+//! What is checked of two values: that they are the same, and what is reported where they are not.
 
 use std::fmt::Debug;
 use std::process::Abort;

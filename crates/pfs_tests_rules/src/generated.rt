@@ -11,7 +11,7 @@ use std::alloc::{AllocError, Global};
 use std::process::Abort;
 use std::test::Fail;
 
-/// Two tables, which stand in front of each ruleset.
+/// Two tables, which are in front of each ruleset.
 const TABLES: &[u8] =
     b"table <t> { 10.0.0.0/8, !10.1.0.0/16, 10.1.2.3, 2001:db8::/32, !2001:db8:2::/48 }
 table <bad> { 203.0.113.9, 2001:db8:1::9 }
@@ -163,7 +163,7 @@ impl Ruleset {
         })
     }
 
-    /// Leaves anchors until an item would stand at this depth.
+    /// Leaves anchors until an item would be at this depth.
     fn leave(&mut self, depth: usize) -> Result<(), AllocError> {
         for _ in depth..self.open {
             self.text.extend_from_slice(b"}\n")?;

@@ -32,7 +32,7 @@ const DEFAULT: &[(u64, u64)] = &[
     (u64::MAX, 0),
 ];
 
-/// At most 10 states are held, so that lives are shorter
+/// At most 10 states are held: so lives are shorter
 /// from 6 on and end at 12
 #[test]
 fn lifetimes_shrink_by_the_default_pair(rt: HostRuntime) -> Result<(), Fail> {

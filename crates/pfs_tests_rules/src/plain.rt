@@ -1,6 +1,6 @@
 //! A verdict that is computed plainly: each item by itself, in order.
 
-/// How deep the items of a ruleset may stand here.
+/// How deep the items of a ruleset may be here.
 pub const DEPTHS: usize = 6;
 
 /// What a plain evaluation needs of an item.
@@ -10,7 +10,7 @@ pub struct Step {
     pub depth: usize,
     /// Whether it is an anchor, and no rule.
     pub is_anchor: bool,
-    /// Whether `quick` stands in it.
+    /// Whether it has `quick`.
     pub quick: bool,
     /// Whether it matches.
     pub matches: bool,
@@ -49,7 +49,7 @@ impl Evaluation {
         }
     }
 
-    /// Behind one more item, which stands at a place.
+    /// After one more item, which is at a place.
     pub fn behind(self, place: usize, step: &Step) -> Evaluation {
         let left = self.after_leaving(step.depth);
         if left.is_over || left.hidden.is_some_and(|anchor| step.depth > anchor) {
@@ -72,7 +72,7 @@ impl Evaluation {
         }
     }
 
-    /// Behind the bodies of the anchors that are not around an item of this depth.
+    /// After the bodies of the anchors that are not around an item of this depth.
     fn after_leaving(self, depth: usize) -> Evaluation {
         let mut left = self;
         for (around, anchor) in left.open.iter_mut().enumerate() {
@@ -86,7 +86,7 @@ impl Evaluation {
         left
     }
 
-    /// Behind a rule that matched.
+    /// After a rule that matched.
     fn hit(self, place: usize, quick: bool) -> Evaluation {
         let mut hit = self;
         for anchor in hit.open.iter_mut() {

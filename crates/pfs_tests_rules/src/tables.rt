@@ -59,7 +59,7 @@ fn one_table(rt: &(impl Abort + AllocGlobal), first: &[u8]) -> Result<Tables, Fa
     Ok(tables)
 }
 
-/// What a host is answered that is new, and once more, and how many entries there are then
+/// What is returned for a host that is new, and once more, and how many entries there are then
 type Room = (Added, Added, u64);
 
 fn come_to(rt: &impl Abort, tables: &mut Tables, room: Room) -> Result<(), Fail>

@@ -151,7 +151,7 @@ fn flags_of(number: u8) -> Flags {
     }
 }
 
-/// A phase, and the ranks that stand for it.
+/// A phase, and the ranks that it has.
 type Pair = (StatePhase, Seen);
 
 /// Whether each of the phases is this one just where its ranks are

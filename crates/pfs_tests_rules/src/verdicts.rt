@@ -9,11 +9,11 @@ use pfs_conf::{RuleNo, load};
 use std::alloc::Global;
 use std::test::Fail;
 
-/// Two tables, for the rules behind them.
+/// Two tables, for the rules after them.
 const TABLES: &[u8] =
     b"table <t> { 10.0.0.0/8, !10.1.0.0/16, 10.1.2.3 }\ntable <bad> { 203.0.113.9 }\n";
 
-/// The rule of a text, behind the two tables, that decides on a packet, and the number of visits.
+/// The rule of a text, after the two tables, that decides on a packet, and the number of visits.
 fn decided(alloc: Global, rules: &[u8], packet: &Packet) -> Result<(Option<RuleNo>, u64), Fail> {
     let rules = Rules::of(alloc, &configured(alloc, TABLES, rules)?)?;
     Ok(rules.ask(packet))

@@ -68,7 +68,7 @@ fn repeated(alloc: Global, line: &[u8], times: u32, last: &[u8]) -> Result<Vec<u
     Ok(text)
 }
 
-/// The limits on depth, on rules and anchors, and on bytes; the 10,001st item is asked the other rules first.
+/// The limits on depth, on rules and anchors, and on bytes; for the 10,001st item the other rules are checked first.
 #[test]
 fn too_many(rt: HostRuntime) -> Result<(), Fail> {
     let alloc = rt.alloc();

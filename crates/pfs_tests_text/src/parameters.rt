@@ -36,7 +36,7 @@ const ANY: Side<TableName> = Side {
     ports: None,
 };
 
-/// What is read of a rule's parameters, and the key of the token behind them.
+/// What is read of a rule's parameters, and the key of the token after them.
 fn read(text: &[u8]) -> (Result<Parameters, Refusal>, Key)
     requires { length text.now < 2 ^ 63 }
 {
@@ -270,7 +270,7 @@ fn verbs(rt: HostRuntime) {
     same!(rt; cursor.key(), Key::Drop);
 }
 
-/// Whether a port lacks its protocol in this text, if it is read.
+/// Whether a port is given without its protocol in this text, if it is read.
 fn lacks_proto(text: &[u8]) -> Option<bool>
     requires { length text.now < 2 ^ 63 }
 {

@@ -1,4 +1,4 @@
-//! Where what stands behind `set` and behind a table's name is refused, and the parts of a table.
+//! Where what follows `set` or a table's name is refused, and the parts of a table.
 
 use pfs_conf_settings::{Draft, Parts, read_parts, read_settings};
 use pfs_conf_tokens::{Cursor, Key, ReadError, Refusal, Why};

@@ -1,5 +1,5 @@
-//! The program: it opens the capture that its words name, writes the trace of it, and to another file what pf answered, tells the account
-//! of its frames on standard error, and ends with the status of what stopped it.
+//! The program: it opens the capture that its words name, writes the trace of it, and to another file what pf answered.
+//! It reports the account of its frames on standard error, and ends with the status of what stopped it.
 
 #![tactic(auto)]
 
@@ -166,7 +166,7 @@ fn trace_reader<R: Read>(
     }
 }
 
-/// Writes the trace to standard output, and what pf answered to a writer, and tells the account; the status.
+/// Writes the trace to standard output, and what pf answered to a writer, and reports the account; the status.
 fn trace_into<R: Read, T: Write + Drop>(
     rt: &HostRuntime,
     inside: &[Prefix],
@@ -203,7 +203,7 @@ fn trace_into<R: Read, T: Write + Drop>(
     }
 }
 
-/// Tells on standard error why the trace is not whole, behind so many frames; the status.
+/// Reports on standard error why the trace is not whole, after so many frames; the status.
 fn tell_stop(rt: &HostRuntime, stop: &TraceStop, frames: u64) -> u8 {
     let status = status(stop);
     if status == 1 {
@@ -214,13 +214,13 @@ fn tell_stop(rt: &HostRuntime, stop: &TraceStop, frames: u64) -> u8 {
     status
 }
 
-/// Tells a mistake in the words; the status.
+/// Reports a mistake in the words; the status.
 fn tell_mistake(rt: &HostRuntime, why: &str) -> u8 {
     let _ = eprintln!(rt; "error: {why}");
     2
 }
 
-/// Tells why there are no words to take: one is not UTF-8, which is a mistake in the words, or memory was refused; the status.
+/// Reports why there are no words to take: one is not UTF-8, which is a mistake in the words, or memory was refused; the status.
 fn tell_no_words(rt: &HostRuntime, error: &io::Error) -> u8 {
     if error.kind() == io::ErrorKind::InvalidData {
         return tell_mistake(rt, "a word is not UTF-8");
@@ -228,7 +228,7 @@ fn tell_no_words(rt: &HostRuntime, error: &io::Error) -> u8 {
     tell_stop(rt, &TraceStop::Memory, 0)
 }
 
-/// Tells what `clap` says of the words: help on standard output with status 0, a mistake on standard error with status 2.
+/// Reports what `clap` says of the words: help on standard output with status 0, a mistake on standard error with status 2.
 fn tell_refusal(rt: &HostRuntime, refusal: &Error) -> u8 {
     if refusal.kind() == ErrorKind::OutOfMemory {
         return tell_stop(rt, &TraceStop::Memory, 0);

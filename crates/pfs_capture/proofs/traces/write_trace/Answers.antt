@@ -1,4 +1,4 @@
--- Answers of write_trace: what is told at each end of the run (`tells`), and of one item more.
+-- Answers of write_trace: what is written at each end of the run (`tells`), and of one item more.
 use Rattle.std.proofs.Common.{◌≡◌, ◌+◌, ◌∙◌, Ok, Err, refl, sym, ap, arith}
 use Rattle.std.proofs.lemmas.Result.{err_from_is_err_and}
 use Rattle.pfs_capture.specs.Accounts.{no_frames}

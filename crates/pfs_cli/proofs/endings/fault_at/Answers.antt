@@ -1,4 +1,4 @@
--- Answers of fault_at: each way in which a run stopped is told with the fault that a replay has for it.
+-- Answers of fault_at: each way in which a run stopped is reported with the fault that a replay has for it.
 use Rattle.std.proofs.Common.{refl, inr}
 use Rattle.pfs_cli.specs.declared.faults.ReplayFault.TheVariants as fault
 use Rattle.pfs_cli.proofs.Replaying.{run-fault, run-cut, run-write}

@@ -1,4 +1,5 @@
--- Answers of tell_joined: what is written is told of the two parts of the joined text (`tells`), or its rules are refused (`refuses`, `kinds`).
+-- Answers of tell_joined: what is written is that of the two parts of the joined text (`tells`), or its rules
+-- are refused (`refuses`, `kinds`).
 use Rattle.std.proofs.Common.{◌≡◌, Some, ℕ, List, [], Option, refl}
 use Rattle.std.specs.Io.Buffered.{reader_remaining, reader_buffer, reader_inner, reader_capacity}
 use Rattle.std.specs.declared.io.buffered.BufReader.{BufReader}

@@ -1,5 +1,5 @@
--- Answers of perform: a job `Replay` writes what replay reports (`performs`); each job tells its own rules refused (`refused`), and what
--- `check` and `print` leave is one record.
+-- Answers of perform: a job `Replay` writes what replay reports (`performs`); each job reports its own rules refused
+-- (`refused`), and what `check` and `print` leave is one record.
 use Rattle.std.proofs.Common.{inl}
 use Rattle.pfs_cli.proofs.performing.perform.Goals as goal
 

@@ -1,4 +1,4 @@
--- Answers of tell_trace: what is told of an empty trace, a failed read, other columns, and records (`tells`).
+-- Answers of tell_trace: what is written of an empty trace, a failed read, other columns, and records (`tells`).
 use Rattle.std.proofs.Common.{◌≡◌, sym, ◌∙◌, [], true, false}
 use Rattle.csv.specs.Reading.{default_config, reader_state}
 use Rattle.csv.specs.Records.{fields_of}

@@ -1,4 +1,5 @@
--- Answers of write_report_over: what the engine of this configuration tells, and that nothing is written where it could not be made (`tells`).
+-- Answers of write_report_over: what the engine of this configuration reports, and that nothing is written where
+-- it could not be made (`tells`).
 use Rattle.std.proofs.Common.{[]}
 use Rattle.pfs_cli_formats.specs.Reading.{records_of}
 use Rattle.pfs_cli_formats.specs.Traces.{events_of}

@@ -1,4 +1,4 @@
--- Answer of load_config: a text whose rules are refused has the fault that is told (`err`).
+-- Answer of load_config: a text whose rules are refused has the fault that is reported (`err`).
 use Rattle.std.proofs.Common.{subst, sym, List, ℕ}
 use Rattle.pfs_conf.specs.Reads.{Reads}
 use Rattle.pfs_conf.specs.Faults.{IsFault}

@@ -1,4 +1,4 @@
--- Answers of read_config: the text reads as what is answered (`ok`), or has the fault that is told (`err`).
+-- Answers of read_config: the text reads as what is returned (`ok`), or has the fault that is reported (`err`).
 use Rattle.pfs_cli.proofs.Replaying.{kept-reads, kept-refuses, rules-text}
 use Rattle.pfs_cli.proofs.rules.read_config.Goals as goal
 

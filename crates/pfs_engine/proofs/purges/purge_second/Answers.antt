@@ -1,4 +1,4 @@
--- Answers of purge_second: it is the machine's next second, and what its slices tell of those to come.
+-- Answers of purge_second: it is the machine's next second, and what its slices say of those to come.
 use Rattle.std.proofs.Common.{◌+◌, ap}
 use Rattle.pfs_engine_machine.proofs.Purging.{nodes_seen, purge_made, states_seen}
 use Rattle.pfs_engine.specs.declared.works.Work.{Work}

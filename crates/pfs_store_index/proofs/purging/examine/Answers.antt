@@ -1,4 +1,4 @@
--- Answers of examine: a stretch of states that stay, and behind it one that leaves, or the end of the share.
+-- Answers of examine: a stretch of states that stay, and after it one that leaves, or the end of the share.
 use Rattle.std.proofs.Common.{◌∙◌, ◌+◌, ◌≤◌, sym, ap, subst, filter}
 use Rattle.pfs_store_contract.specs.Calls.{other_than}
 use Rattle.pfs_store_contract.specs.Purging.{state_numbers}

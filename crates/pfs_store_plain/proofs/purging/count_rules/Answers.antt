@@ -1,4 +1,4 @@
--- Answer of count_rules: no rule has more states than there are, so that one more is no overflow.
+-- Answer of count_rules: no rule has more states than there are, so one more is no overflow.
 use Rattle.std.proofs.Common.{take, arith}
 use Rattle.std.proofs.lemmas.List.{length-take-le}
 use Rattle.std.proofs.lemmas.List.Sums.{count_by-le-length, length-filter}

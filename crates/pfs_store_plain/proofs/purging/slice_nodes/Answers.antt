@@ -1,4 +1,4 @@
--- Answers of slice_nodes: the slice leaves the lists as defined (`world`), and what it tells (`answer`).
+-- Answers of slice_nodes: the slice leaves the lists as defined (`world`), and what it reports (`answer`).
 use Rattle.std.proofs.Common.{[], rules}
 use Rattle.pfs_store_contract.proofs.SliceLaws.{node_slice-parts, node_slice-told}
 use Rattle.pfs_store_contract.specs.Worlds.{lists}

@@ -1,4 +1,4 @@
--- Answers of slice_states: the slice leaves the lists as defined (`world`), and what it tells (`answer`).
+-- Answers of slice_states: the slice leaves the lists as defined (`world`), and what it reports (`answer`).
 use Rattle.std.proofs.Common.{◌≡◌, ◌∙◌, ℕ, List, [], length, filter, map, take, ap, rules}
 use Rattle.pfs_store_contract.proofs.SliceLaws.{state_slice-parts, state_slice-told, stays_by}
 use Rattle.pfs_store_contract.specs.Leaving.{node_after_leaving}

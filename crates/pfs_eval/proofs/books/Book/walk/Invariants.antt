@@ -1,4 +1,4 @@
--- Invariant of Book::walk: what is left of the walk, and at most one visit for each place behind it.
+-- Invariant of Book::walk: what is left of the walk, and at most one visit for each place before this one.
 use Rattle.std.proofs.Common.{length, ◌-◌, ◌+◌, ◌≤◌}
 use Rattle.pfs_eval.specs.Matching.{matches_item}
 use Rattle.pfs_eval.specs.Visits.{is_left_with}

@@ -1,4 +1,4 @@
--- Answers of Indexes::find: the index by key tells the number of the state that has the key, or none.
+-- Answers of Indexes::find: the index by key gives the number of the state that has the key, or none.
 use Rattle.std.proofs.Common.{◌∙◌, ap, option_map}
 use Rattle.std.specs.List.{find}
 use Rattle.pfs_addr_values.specs.Sameness.{same_key}

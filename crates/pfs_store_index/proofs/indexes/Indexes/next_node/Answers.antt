@@ -1,4 +1,4 @@
--- Answers of Indexes::next_node: the node that is told is held (`node`), and has as many states (`states`).
+-- Answers of Indexes::next_node: the node that is returned is held (`node`), and has as many states (`states`).
 use Rattle.std.proofs.Common.{◌≡◌, IfSome, Some, subst}
 use Rattle.std.specs.List.{find}
 use Rattle.std.proofs.Common.{◌==◌}

@@ -1,4 +1,4 @@
--- Answers of Indexes::next_of_source: the index by source tells the next number of the source, or none.
+-- Answers of Indexes::next_of_source: the index by source gives the next number of the source, or none.
 use Rattle.std.proofs.Common.{◌∙◌, ap, sym, slice_get}
 use Rattle.pfs_store_index.specs.Records.{states_of}
 use Rattle.pfs_store_index.specs.Holdings.{Holding}

@@ -1,4 +1,4 @@
--- Answers of Indexes::renew: a packet's state is found and renewed, what is told of it, and all stays tied.
+-- Answers of Indexes::renew: a packet's state is found and renewed, what is reported of it, and all stays tied.
 use Rattle.std.proofs.Common.{◌≡◌, ◌∙◌, ◌≤◌, is_some, [], length, map, ap, subst, sym, arith}
 use Rattle.std.specs.HashMap as hash
 use Rattle.std.specs.List.{find, list_any}

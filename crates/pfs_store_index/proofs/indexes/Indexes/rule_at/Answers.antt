@@ -1,4 +1,4 @@
--- Answers of Indexes::rule_at: the index by key tells the rule of the state that has the key, or none.
+-- Answers of Indexes::rule_at: the index by key gives the rule of the state that has the key, or none.
 use Rattle.std.proofs.Common.{◌∙◌, ap, option_map}
 use Rattle.std.specs.List.{find}
 use Rattle.pfs_addr_values.specs.Sameness.{same_key}

@@ -1,4 +1,4 @@
--- Answers of Records::read: the number has a place, where the record stands that is told (`value`).
+-- Answers of Records::read: the number has a place, and the record there is the one that is returned (`value`).
 use Rattle.std.proofs.Common.{◌≡◌, ◌∙◌, ◌==◌, Some, ap, sym, true}
 use Rattle.std.specs.List.{list_any}
 use Rattle.pfs_store_index.specs.Keeping.{number_in, RecordIsAt, record_in}

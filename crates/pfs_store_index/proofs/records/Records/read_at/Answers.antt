@@ -1,4 +1,4 @@
--- Answers of Records::read_at: a record stands at the place, and it is the one that is told (`value`).
+-- Answers of Records::read_at: there is a record at the place, and it is the one that is returned (`value`).
 use Rattle.std.proofs.Common.{sym}
 use Rattle.pfs_store_index.proofs.RecordLaws.{records-at, stands}
 use Rattle.pfs_store_index.proofs.records.Records.read_at.Goals as goal

@@ -42,6 +42,6 @@ returns-clause-answer g c =
     ∙ ap (λ (o : Option State). option_map (touch_of c.self.inside.indexes.config (world_of c.self.inside.indexes c.self.inside.states_round.cursor c.self.inside.states_round.mark c.self.inside.nodes_round.cursor c.self.inside.nodes_round.mark c.self.inside.made) c.args.packet.now c.args.now) o) (sym c.renew.ensures.before)
     ∙ ap (λ (p : Plain). option_map (touch_of p.config p.world c.args.packet.now c.args.now) (state_with (key_of c.args.packet.now) p.world)) c.self.view_is
 
--- said here, so that another count of looks is refused without a search
+-- stated here, so another count of looks is refused without a search
 pub returns-clause-looks : goal.returns-clause-looks
 returns-clause-looks g c = λ _. c.renew.ensures.looks

@@ -1,4 +1,5 @@
--- Answers of PlainStore's admit: where a limit is met it is told, and the world is as before (`in-Some`); where none is, the world is that with the state.
+-- Answers of PlainStore's admit: where a limit is met it is reported, and the world is as before (`in-Some`); where
+-- none is, the world is that with the state.
 use Rattle.std.proofs.Common.{◌∙◌, IsSome, ap, subst, sym}
 use borrow.Author.Tests.{clash}
 use Rattle.pfs_store_contract.specs.Calls.{answer_at, world_at}
