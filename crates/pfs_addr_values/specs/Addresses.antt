@@ -43,15 +43,16 @@ abbrev pub is_no_dot : ℕ → Bool
 is_no_dot b = not (b == 46)
 
 -- A text writes an address. IPv4 has one text, RFC 791's dotted quad. IPv6 has those of RFC 4291, section 2.2: eight
--- groups of one to four hexadecimal digits, joined by `:` (form 1), where `::` may occur once, for one or more groups of
--- zeros (form 2). Form 3, the tail with dots, writes no address (own), and neither does a zone (RFC 4007, section 11).
+-- groups of one to four hexadecimal digits, joined by `:` (form 1), where `::` may occur once, for one or more groups
+-- of zeros (form 2). Form 3, the tail with dots, writes no address (own), and neither does a zone (RFC 4007, section
+-- 11).
 abbrev pub IsAddrText : List ℕ → Addr → Type 0
 IsAddrText text (V4 bytes) = text ≡ dotted_decimal bytes
 IsAddrText text (V6 bytes) = IsColonHex text (segments_of bytes) × (list_all is_no_dot text ≡ true)
 
--- The text in which an address is shown. IPv4: the dotted quad. IPv6: by RFC 5952, section 4, small hexadecimal
--- digits without leading zeros in a group, and `::` for the longest run of two or more groups of zeros, of equal
--- runs the first; never with dots.
+-- The text in which an address is shown. IPv4: the dotted quad. IPv6: by RFC 5952, section 4, small hexadecimal digits
+-- without leading zeros in a group, and `::` for the longest run of two or more groups of zeros, of equal runs the
+-- first; never with dots.
 abbrev pub addr_text : Addr → List ℕ
 addr_text (V4 bytes) = dotted_decimal bytes
 addr_text (V6 bytes) = hex_groups_text (segments_of bytes)

@@ -13,7 +13,8 @@ use Rattle.pfs_conf_tokens.specs.Grammar.{skip_lines}
 use Rattle.pfs_conf_tokens.proofs.Laws.{bind_ok, bind_err, ok_parts}
 use Rattle.pfs_conf.specs.Places.{braces_behind, ends_no_line, InBraces, so_far, over}
 
--- a reader that begins with braces open or not (`braced`) and leaves them open or not (`after`); what it goes over ends no line
+-- a reader that begins with braces open or not (`braced`) and leaves them open or not (`after`); what it goes over ends
+-- no line
 pub record Keeps {A : Type 0} (braced after : Bool) (f : List Tok → Result (A × List Tok) Refused) : Type 0 where
   pub took : (ts : List Tok) (x : A) (left : List Tok) → f ts ≡ Ok (x, left) → InBraces braced ts after left
   pub stopped : (ts left : List Tok) (w : Why) → f ts ≡ Err (stop left w) → (b : Bool) × InBraces braced ts b left

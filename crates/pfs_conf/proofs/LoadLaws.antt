@@ -1,4 +1,4 @@
--- Texts, and what is returned for them.
+-- Texts, and what is answered of them.
 use Rattle.std.proofs.Common.{◌≡◌, ◌≤◌, ℕ, false, List, ◌∷◌, ◌++◌, length, Option, Some, None, Result, Ok, Err, refl, sym, ap, subst, ◌∙◌, arith, inl, inr, ◌⊎◌}
 use Rattle.std.specs.Prelude.{IfOk, IfErr, MatchResult}
 use Rattle.pfs_conf_tokens.specs.Tokens.{Tok, head}

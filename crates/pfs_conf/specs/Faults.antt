@@ -45,9 +45,9 @@ pub record StopsAt (text : List ℕ) (t : Tok) (behind : List Tok) : Type 0 wher
   pub statements : Statements nothing (tokens_of text) said begun
   pub begins : IsBegun begun (t ∷ behind)
 
--- what the fault of a text may be: memory was refused; the text is too long; a load rule is the first that is
--- broken, with the line at which it is reported; or reading stops at a token, whose line it has, and the kind is one
--- that may be reported at that token
+-- what the fault of a text may be: memory was refused; the text is too long; a load rule is the first that is broken,
+-- with the line at which it is reported; or reading stops at a token, whose line it has, and the kind is one that may
+-- be reported at that token
 pub data IsFault (text : List ℕ) (e : LoadFault) : Type 0 where
   memory : e ≡ no_memory → IsFault text e
   long : text_limit < length text → e ≡ too_long → IsFault text e

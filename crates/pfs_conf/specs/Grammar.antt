@@ -75,8 +75,8 @@ pub record AnchorOf (p : Progress) (ts : List Tok) (a : AnchorText) (left : List
 abbrev pub NewTableOf : Drafted → List Tok → List ℕ → List Tok → Type 0
 NewTableOf d ts name left = TableOf ts name left × (is_defined name d ≡ false)
 
--- a statement that keeps the load rules. A blank line says nothing; `}` closes an anchor; `set` and `table` are
--- allowed outside of anchors only
+-- a statement that keeps the load rules. A blank line says nothing; `}` closes an anchor; `set` and `table` are allowed
+-- outside of anchors only
 pub data StatementOf : Progress → List Tok → Progress → List Tok → Type 0 where
   blank : {p : Progress} {ts left : List Tok} → Word key.LineEnd ts left → StatementOf p ts p left
   set : {p : Progress} {d : Drafted} {ts a b left : List Tok} → p.depth ≡ 0 → Word key.Set ts a → SettingOf p.draft a d b → Word key.LineEnd b left → StatementOf p ts (record p { draft = d }) left

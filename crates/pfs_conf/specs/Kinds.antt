@@ -48,8 +48,9 @@ has_dollar t = is_word_key t.key && has_byte 36 t.text
 abbrev pub is_foreign : Tok → Bool
 is_foreign t = opens t.key || has_dollar t || is_unsupported_key t.key
 
--- what the kind of a fault says of its token: `Number` is reported only at a word that begins with a digit, and `Syntax` at
--- no token that is `Unsupported` everywhere. Which of the four it is beyond that, the texts in examples/ and cases/ show
+-- what the kind of a fault says of its token: `Number` is reported only at a word that begins with a digit, and
+-- `Syntax` at no token that is `Unsupported` everywhere. Which of the four it is beyond that, the texts in examples/
+-- and cases/ show
 pub data IsKindAt (t : Tok) : Kind → Type 0 where
   duplicate : IsKindAt t kind.Duplicate
   number : is_number_key t.key ≡ true → IsKindAt t kind.Number

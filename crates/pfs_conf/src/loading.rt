@@ -35,8 +35,7 @@ pub fn load(alloc: Global, text: &[u8]) -> Result<Config, LoadFault>
     ensures long { text_limit < length text.now → IsTooLong result }
     // The first load rule that is broken is reported, unless memory runs out.
     ensures broken { (r : LoadRule) (n : ℕ) → length text.now ≤ text_limit → Breaks (tokens_of text.now) r n → IsTold result (fault n (kind_of_rule r)) }
-    // A fault that is reported is one that the text has. Where reading stops at a token, all before it is
-    // read, and the line is its own.
+    // Every fault that is reported is true. Where no accepted text goes on, its line is that of a token before which all is read.
     ensures fault { IfErr result (λ e. IsFault text.now e) }
 {
     read(alloc, text)

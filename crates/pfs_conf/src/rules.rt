@@ -18,8 +18,8 @@ use pfs_conf_filters::{Parameters, Statement, Verb, read_flags, read_parameters,
 use pfs_conf_options::state_clause;
 use pfs_conf_tokens::{Cursor, Key, ReadError, Refusal, Why};
 
-/// Reads a rule that begins on this line. Its load rules are checked when its line end has been read.
-/// (pf.conf(5), PACKET FILTERING)
+/// Reads a rule that begins on this line. Its load rules are checked when its line end has been read. (pf.conf(5),
+/// PACKET FILTERING)
 #[tactic(auto, unfolding(crate::specs::Reading::rule_line_at))]
 pub fn rule(cursor: &mut Cursor, progress: &mut Progress, line: u64) -> Result<(), ReadError>
     requires lexed { AreLexed cursor.old }

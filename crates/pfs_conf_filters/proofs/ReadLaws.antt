@@ -48,7 +48,7 @@ no_policy key.ReturnIcmp = false
 no_policy key.ReturnIcmp6 = false
 no_policy _ = true
 
--- all but what continues the parameters before the hosts
+-- all but what goes on with the parameters before the hosts
 abbrev pub ends_head : Key → Bool
 ends_head key.In = false
 ends_head key.Out = false
@@ -61,7 +61,7 @@ ends_head key.Inet6 = false
 ends_head key.Proto = false
 ends_head _ = true
 
--- all but what continues the hosts
+-- all but what goes on with the hosts
 abbrev pub ends_hosts : Key → Bool
 ends_hosts key.All = false
 ends_hosts key.From = false
@@ -69,7 +69,7 @@ ends_hosts key.To = false
 ends_hosts key.Port = false
 ends_hosts _ = true
 
--- all but what continues the parameters
+-- all but what goes on with the parameters
 abbrev pub ends_parameters : Key → Bool
 ends_parameters key.In = false
 ends_parameters key.Out = false

@@ -1,5 +1,5 @@
--- The parameters of rules and anchors in a canonical text are read again: after any tokens of the line, and
--- before any text that ends a word.
+-- The parameters of rules and anchors in a canonical text are read again: after any tokens of the line, and before any
+-- text that ends a word.
 use Rattle.std.proofs.Common.{◌≡◌, ◌<◌, ℕ, zero, suc, Bool, true, false, All, List, [], ◌∷◌, ◌++◌, length, Option, Some, None, IfSome, refl, sym, ap, subst, ◌∙◌, arith, append_assoc}
 use Rattle.std.specs.Prelude.{codes, decimal, slice_get, ◌&&◌, ◌==◌, not, if◌then◌else◌}
 use Rattle.std.specs.List.{list_all}

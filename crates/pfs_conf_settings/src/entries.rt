@@ -46,8 +46,8 @@ impl EntryDraft {
         self.map.get(&prefix).copied()
     }
 
-    /// Appends an entry whose prefix none of the others has. It returns `NoMemory` where memory for it is refused;
-    /// the entries are then as before.
+    /// Appends an entry whose prefix none of the others has. It returns `NoMemory` where memory for it is refused; the
+    /// entries are then as before.
     pub fn add(&mut self, prefix: Prefix, negated: bool) -> Result<(), NoMemory>
         requires { sign_of self.old prefix ≡ None }
         ensures ok { OnOk result (self.new ≡ self.old ++ (prefix, negated) ∷ []) }

@@ -12,10 +12,11 @@ use pfs_conf_values::{LimitName, TimeoutName};
 
 /// Reads what follows the word `set`, up to the line end, which stays, and sets it: a later value replaces an earlier one.
 ///
-/// It refuses what continues no `set` statement, with the cursor at that token. `set` is followed by `limit` or `timeout`,
-/// and then by one pair of a name and a number, or by a list of them in braces, in which line ends are ignored. `frags`,
-/// `frag`, `tcp.tsdiff`, `icmp.first` and `icmp.error` are read without effect. Where it refuses, what was read before the
-/// refused token may have been set. It takes no memory. (pf.conf(5), OPTIONS, "set limit" and "set timeout")
+/// It refuses what continues no `set` statement, with the cursor at that token. `set` is followed by `limit` or
+/// `timeout`, and then by one pair of a name and a number, or by a list of them in braces, in which line ends are
+/// ignored. `frags`, `frag`, `tcp.tsdiff`, `icmp.first` and `icmp.error` are read without effect. Where it refuses,
+/// what was read before the refused token may have been set. It takes no memory. (pf.conf(5), OPTIONS, "set limit" and
+/// "set timeout")
 #[tactic(auto, unfolding(crate::specs::Settings::settings_at))]
 pub fn read_settings(cursor: &mut Cursor, draft: &mut Draft) -> Result<(), Refusal>
     ensures { Draws result cursor.new draft.new (settings_at draft.old cursor.old) }

@@ -42,8 +42,8 @@ fn push_items(out: &mut Vec<u8>, config: &Config) -> Result<(), NoMemory>
     push_braces(out, depth)
 }
 
-/// Closes the anchors that the item is not in, and writes the item. `depth` anchors are open before it; the answer
-/// is how many are open after it.
+/// Closes the anchors that the item is not in, and writes the item. `depth` anchors are open before it; the answer is
+/// how many are open after it.
 fn push_item(out: &mut Vec<u8>, config: &Config, depth: u8, item: &Item) -> Result<u8, NoMemory>
     requires { item.now.depth ≤ 16 }
     ensures text { OnOk result (out.new.items ≡ out.old.items

@@ -28,7 +28,7 @@ pub fn push_state(out: &mut Vec<u8>, config: &Config, action: &Action) -> Result
     }
 }
 
-/// Each option that is given extends the list; the answer is whether the list has begun by then.
+/// Each option that is given goes on with the list; the answer is whether the list has begun by then.
 fn push_options(out: &mut Vec<u8>, config: &Config, options: &StateOptions) -> Result<(), NoMemory>
     ensures { OnOk result (out.new.items ≡ out.old.items ++ options_text config.now.tables options.now) }
 {

@@ -25,8 +25,8 @@ use Rattle.pfs_conf_tokens.specs.Tokens.{Tok, head}
 use Rattle.pfs_conf_tokens.specs.Numbers.{number_written}
 use Rattle.pfs_conf_tokens.specs.Grammar.{skip_lines}
 
--- why nothing is read: no accepted statement continues with the first of these tokens, or a load rule is
--- broken, by the line of its statement
+-- why nothing is read: no accepted statement continues with the first of these tokens, or a load rule is broken, by the
+-- line of its statement
 pub data Refused : Type 0 where
   stop : List Tok → Why → Refused
   broken : LoadRule → ℕ → Refused

@@ -20,8 +20,8 @@ is_this_name name (Some given) = bytes_eq given name
 abbrev pub is_anchor_named : ℕ → List ℕ → Item → Bool
 is_anchor_named depth name i = (i.depth == depth) && is_this_name name (name_of_item i.what)
 
--- whether the body of this depth, after these items, has an anchor of this name already: going back as far as the
--- items are of this depth or deeper
+-- whether the body of this depth, after these items, has an anchor of this name already: going back as far as the items
+-- are of this depth or deeper
 abbrev pub has_sibling : ℕ → List ℕ → List Item → Bool
 has_sibling depth name before =
     list_any (is_anchor_named depth name) (take_while (λ (i : Item). nat_le depth i.depth) (reverse before))

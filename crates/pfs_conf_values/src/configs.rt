@@ -19,9 +19,9 @@ use std::marker::Model;
 
 /// What an accepted rules text says: limits, timeouts, tables and items, with defaults filled in.
 ///
-/// Clauses see a `Conf`. Every one keeps `IsConfig`, the load rules. `limit`, `item_count` and `table_count` state that
-/// to callers, and `item`, `rule`, `options` and `table` state what follows for the values that they give. No reader
-/// takes memory. Each takes constant time but for `table_named`, which goes through the tables.
+/// Clauses see a `Conf`. Every one keeps `IsConfig`, the load rules; `limit`, `item_count` and `table_count` state them
+/// to callers, and `item`, `rule`, `options` and `table` state what they give keeps of them. No reader takes memory.
+/// Each takes constant time but for `table_named`, which goes through the tables.
 #[derive(Debug, Drop)]
 pub struct Config {
     limits: Limits,

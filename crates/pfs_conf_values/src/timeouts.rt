@@ -11,7 +11,7 @@ use std::marker::Model;
 pub enum TimeoutName {
     /// `tcp.first`: after the first packet. 120 unless set.
     TcpFirst,
-    /// `tcp.opening`: from the second packet on, until both sides are ESTABLISHED. 30 unless set.
+    /// `tcp.opening`: before both sides are ESTABLISHED. 30 unless set.
     TcpOpening,
     /// `tcp.established`: after the handshake. 86400 unless set.
     TcpEstablished,

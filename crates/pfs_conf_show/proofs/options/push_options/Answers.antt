@@ -1,4 +1,4 @@
--- Each option extends the list where the one before it left it.
+-- Each option goes on with the list where the one before it left it.
 use Rattle.std.proofs.Common.{◌≡◌, ℕ, List, Bool, false, ◌++◌, ap, ◌∙◌}
 use Rattle.std.specs.Prelude.{codes}
 use Rattle.pfs_conf_show.specs.Options.{option_texts, overload_text, rate_text, scope_text}

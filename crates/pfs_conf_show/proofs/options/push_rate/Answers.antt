@@ -1,4 +1,4 @@
--- Answer of push_rate: a rate that is given extends the list of options (`text`).
+-- Answer of push_rate: a rate that is given goes on with the list of options (`text`).
 use Rattle.std.proofs.Common.{ℕ, List, Option, ◌++◌, sym, ap, ◌∙◌, append-nil}
 use Rattle.std.specs.Prelude.{codes}
 use Rattle.pfs_conf_values.specs.declared.actions.Rate.{Rate}

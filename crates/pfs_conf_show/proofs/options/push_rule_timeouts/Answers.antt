@@ -1,4 +1,4 @@
--- Answer of push_rule_timeouts: one timeout more, if it is given, extends the list of options.
+-- Answer of push_rule_timeouts: one timeout more, if it is given, goes on with the list of options.
 use Rattle.std.proofs.Common.{◌≡◌, ◌<◌, ℕ, List, length, get_or, ap, ◌∙◌}
 use Rattle.std.specs.Prelude.{codes}
 use Rattle.pfs_conf_values.specs.Timeouts.{timeout_names}

@@ -1,4 +1,4 @@
--- Invariant of push_rule_timeouts: the list is extended by those of the timeouts so far that are given.
+-- Invariant of push_rule_timeouts: the list goes on with those of the timeouts so far that are given.
 use Rattle.std.proofs.Common.{◌≡◌, ◌++◌, take}
 use Rattle.std.specs.Prelude.{codes}
 use Rattle.std.specs.List.{flat_map}

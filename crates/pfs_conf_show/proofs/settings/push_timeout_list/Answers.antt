@@ -1,4 +1,4 @@
--- Answer of push_timeout_list: one timeout more extends the list.
+-- Answer of push_timeout_list: one timeout more goes on with the list.
 use Rattle.std.proofs.Common.{◌≡◌, ◌<◌, ℕ, List, length, get_or, ap, ◌∙◌}
 use Rattle.std.specs.Prelude.{codes}
 use Rattle.pfs_conf_values.specs.Timeouts.{timeout_names}

@@ -1,4 +1,4 @@
--- Answer of push_entry_list: one entry more extends the list.
+-- Answer of push_entry_list: one entry more goes on with the list.
 use Rattle.std.proofs.Common.{◌∙◌, ◌<◌, ap, sym, arith, length}
 use Rattle.std.specs.Prelude.{codes}
 use Rattle.std.proofs.lemmas.Option.{slice_get_within}
