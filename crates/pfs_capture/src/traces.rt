@@ -156,9 +156,7 @@ fn take_frame(
     write_answer(&outcome, tally.account.records + 1, &mut lines.answer)?;
     Ok(Tally {
         last: second,
-        account: tally
-            .account
-            .with(reason, is_before(frame.moment, second)),
+        account: tally.account.with(reason, is_before(frame.moment, second)),
     })
 }
 
