@@ -1,11 +1,9 @@
-"""Runs of the program: `./pfsrc replay RULES TRACE`, one or many side by side."""
+"""Runs of the program: `./pfsrc replay RULES TRACE`, and `./pfsrc show RULES`."""
 
-import concurrent.futures
 import contextlib
 import os
 import subprocess
 import tempfile
-import threading
 from collections.abc import Generator, Iterator, Sequence
 from dataclasses import dataclass
 from pathlib import Path
@@ -15,8 +13,7 @@ from .errors import Status, Trouble, reason_of
 from .inputs import HEADER, check_rules, check_trace
 from .outputs import whole_file
 from .progress import Progress
-from .records import blocks_of
-from .records import End, Traces, read_answer
+from .records import End, Traces, blocks_of, read_answer
 
 TOP = Path(__file__).resolve().parent.parent.parent
 _ENDED = {1: Status.REFUSED, 3: Status.RULES, 70: Status.NOT_BUILT}
@@ -64,26 +61,12 @@ def run_replay(replay: Replay, progress: Progress | None = None) -> None:
     Trouble: status 1 or 3 with the program's own message and the file's name, 4 where reading or writing fails, 70 where the
     program is not there. Then nothing is written. `progress` is told of the records that are done.
     """
-    _Runs(progress).run(replay)
-
-
-def run_replays(replays: Sequence[Replay], jobs: int, progress: Progress | None = None) -> None:
-    """Runs replays side by side, at most `jobs` at a time; the first trouble ends those that run, and is raised.
-
-    `progress` is told of the runs that are done.
-    """
-    runs = _Runs(None)
-    with concurrent.futures.ThreadPoolExecutor(max_workers=max(1, jobs)) as pool:
-        futures = [pool.submit(runs.run, it) for it in replays]
-        try:
-            for future in concurrent.futures.as_completed(futures):
-                future.result()
-                if progress:
-                    progress.advance()
-        except BaseException:
-            runs.stop()
-            pool.shutdown(wait=False, cancel_futures=True)
-            raise
+    check_rules(replay.rules)
+    check_trace(replay.trace)
+    with whole_file(replay.report) as report, tempfile.TemporaryFile("w+", prefix="pfplan-") as told:
+        with _started(_words(replay.rules, replay.trace), report, told) as process:
+            _wait(process, Path(report.name), progress)
+            _check_end(process.returncode, told, replay.rules, replay.trace)
 
 
 def stream_report(rules: Path, trace: Path) -> Iterator[str]:
@@ -141,55 +124,17 @@ def held_after(rules: Path, trace: Path, records: int, moment: int) -> tuple[int
     return end.states, end.nodes, end.entries
 
 
-class _Runs:
-    """Runs that go on side by side, so that all of them can be ended."""
-
-    def __init__(self, progress: Progress | None) -> None:
-        self._progress = progress
-        self._lock = threading.Lock()
-        self._processes: set[subprocess.Popen[str]] = set()
-        self._is_stopped = False
-
-    def run(self, replay: Replay) -> None:
-        """One replay, up to its end."""
-        check_rules(replay.rules)
-        check_trace(replay.trace)
-        with whole_file(replay.report) as report, tempfile.TemporaryFile("w+", prefix="pfplan-") as told:
-            with _started(_words(replay.rules, replay.trace), report, told) as process:
-                self._add(process)
-                try:
-                    self._wait(process, Path(report.name))
-                finally:
-                    self._drop(process)
-                _check_end(process.returncode, told, replay.rules, replay.trace)
-
-    def stop(self) -> None:
-        """Ends all that run, and those that begin after it."""
-        with self._lock:
-            self._is_stopped = True
-            for process in self._processes:
-                process.terminate()
-
-    def _add(self, process: "subprocess.Popen[str]") -> None:
-        with self._lock:
-            self._processes.add(process)
-            if self._is_stopped:
-                process.terminate()
-
-    def _drop(self, process: "subprocess.Popen[str]") -> None:
-        with self._lock:
-            self._processes.discard(process)
-
-    def _wait(self, process: "subprocess.Popen[str]", report: Path) -> None:
-        if self._progress is None or not self._progress.shows:
-            process.wait()
+def _wait(process: "subprocess.Popen[str]", report: Path, progress: Progress | None) -> None:
+    """Waits for the end of a replay, and tells how far its report is."""
+    if progress is None or not progress.shows:
+        process.wait()
+        return
+    while True:
+        try:
+            process.wait(timeout=0.25)
             return
-        while True:
-            try:
-                process.wait(timeout=0.25)
-                return
-            except subprocess.TimeoutExpired:
-                self._progress.at(_rows_of(report))
+        except subprocess.TimeoutExpired:
+            progress.at(_rows_of(report))
 
 
 def _words(rules: Path, trace: Path) -> list[str]:
