@@ -2,7 +2,7 @@
 
 from __future__ import annotations
 
-from collections.abc import Iterator, Sequence
+from collections.abc import Iterable, Iterator, Sequence
 from typing import TYPE_CHECKING
 
 from .connections import KINDS, MEANINGS
@@ -10,7 +10,7 @@ from .sources import Source
 
 if TYPE_CHECKING:
     from .counting import Limit
-    from .summaries import Summary
+    from .summaries import Held, Interfaces, Summary, Users
 
 
 def text_of(summary: Summary) -> str:
@@ -20,18 +20,32 @@ def text_of(summary: Summary) -> str:
 
 def _lines(summary: Summary) -> Iterator[str]:
     yield from _head(summary)
-    yield from _users(summary)
-    yield from _answers(summary)
-    yield from _rules(summary)
-    yield from _limits(summary)
-    yield from _sources("sources refused by a limit most", summary.sources.refused, "records")
-    yield from _sources("sources of the most states killed", summary.sources.killed, "states")
-    yield from _sources("sources that made the most states", summary.sources.made, "states")
-    yield from _sources("sources of the most records", summary.sources.seen, "records")
+    if summary.users:
+        yield from _part(f"users {summary.users.of}: {summary.users.connections:,} connections", _users(summary.users))
+    yield from _part("answers", _answers(summary))
+    if summary.rules:
+        told = {int(rule[1:]) for rules in summary.answers.values() for rule in rules if rule != "-"}
+        yield from _part("rules that answered", (_rule(summary, it) for it in sorted(told)))
+        yield from _part("rules that never decided", (_rule(summary, it) for it in summary.undecided))
+    yield from _part("limits met", _limits(summary))
+    yield from _part("sources refused by a limit most", _sources(summary.sources.refused, "records"))
+    yield from _part("sources of the most states killed", _sources(summary.sources.killed, "states"))
+    yield from _part("sources that made the most states", _sources(summary.sources.made, "states"))
+    yield from _part("sources of the most records", _sources(summary.sources.seen, "records"))
     if not summary.sources.is_exact:
         yield "  there are so many sources that those with few records were not counted on: each count is at least what is told"
-    yield from _interfaces(summary)
-    yield from _held(summary)
+    if summary.interfaces:
+        yield from _part("interfaces", _interfaces(summary.interfaces))
+    yield from _part("held", _held(summary.held))
+
+
+def _part(title: str, lines: Iterable[str]) -> Iterator[str]:
+    """An empty line, the title and the lines; nothing where there are no lines."""
+    shown = list(lines)
+    if shown:
+        yield ""
+        yield title
+        yield from shown
 
 
 def _head(summary: Summary) -> Iterator[str]:
@@ -55,12 +69,7 @@ def share(part: int, whole: int) -> str:
     return f"{shown / 10:5.1f} %"
 
 
-def _users(summary: Summary) -> Iterator[str]:
-    users = summary.users
-    if users is None:
-        return
-    yield ""
-    yield f"users {users.of}: {users.connections:,} connections"
+def _users(users: Users) -> Iterator[str]:
     for kind in KINDS:
         number = users.outcomes[kind]
         yield f"  {kind:<10} {number:>10,}  {share(number, users.connections)}   {MEANINGS[kind]}"
@@ -72,28 +81,10 @@ def _users(summary: Summary) -> Iterator[str]:
 
 
 def _answers(summary: Summary) -> Iterator[str]:
-    if not summary.records:
-        return
-    yield ""
-    yield "answers"
     for word, records in summary.words().items():
         if records:
             rules = "".join(f"  {rule} {number:,}" for rule, number in summary.answers[word].items() if rule != "-")
             yield f"  {word:<36} {records:>10,}  {share(records, summary.records)}{rules}"
-
-
-def _rules(summary: Summary) -> Iterator[str]:
-    if not summary.rules:
-        return
-    told = {int(rule[1:]) for rules in summary.answers.values() for rule in rules if rule != "-"}
-    if told:
-        yield ""
-        yield "rules that answered"
-        yield from (_rule(summary, it) for it in sorted(told))
-    if summary.undecided:
-        yield ""
-        yield "rules that never decided"
-        yield from (_rule(summary, it) for it in summary.undecided)
 
 
 def _rule(summary: Summary, item: int) -> str:
@@ -104,8 +95,6 @@ def _rule(summary: Summary, item: int) -> str:
 def _limits(summary: Summary) -> Iterator[str]:
     if not summary.limits:
         return
-    yield ""
-    yield "limits met"
     for limit in summary.limits:
         killed = f"; states killed: {limit.killed:,}" if limit.word.startswith("kill:") else ""
         yield f"  {limit.word:<36} {limit.records:>10,} times, {_when(limit)}{killed}"
@@ -121,32 +110,21 @@ def _when(limit: Limit) -> str:
     return f"first at {limit.first_moment}, last at {limit.last_moment}, in {limit.seconds:,} {'second' if limit.seconds == 1 else 'seconds'}"
 
 
-def _sources(title: str, sources: Sequence[Source], unit: str) -> Iterator[str]:
-    if not sources:
-        return
-    yield ""
-    yield title
+def _sources(sources: Sequence[Source], unit: str) -> Iterator[str]:
     for source in sources:
         yield f"  {source.address:<15} {source.count:>10,} {unit}"
 
 
-def _interfaces(summary: Summary) -> Iterator[str]:
-    found = summary.interfaces
-    if found is None or not (found.without_records or found.without_rules):
-        return
-    yield ""
-    yield "interfaces"
+def _interfaces(found: Interfaces) -> Iterator[str]:
     if found.without_records:
         yield f"  named by rules, and no record is of them: {', '.join(found.without_records)}"
     if found.without_rules:
         yield f"  of records, and no rule names them: {', '.join(found.without_rules)}"
 
 
-def _held(summary: Summary) -> Iterator[str]:
-    if not summary.held:
+def _held(held: Sequence[Held]) -> Iterator[str]:
+    if not held:
         return
-    yield ""
-    yield "held"
     yield f"  {'moment':>10} {'states':>10} {'source nodes':>12} {'table entries':>13}"
-    for it in summary.held:
+    for it in held:
         yield f"  {it.moment:>10} {it.states:>10,} {it.nodes:>12,} {it.entries:>13,}"
