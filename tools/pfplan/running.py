@@ -19,7 +19,7 @@ from .pages import Subject, write_page
 from .progress import Progress
 from .replays import Replay, check_program, records_of, run_replay
 from .rulesets import Ruleset
-from .summaries import Summary, held_at, summarize
+from .summaries import Summary, Wanted, held_at, summarize
 from .words import Parser, file, interface, networks, number
 
 DESCRIPTION = """Makes a rules text and a trace where they are not yet, replays, and puts into a folder:
@@ -79,7 +79,7 @@ def run(arguments: argparse.Namespace) -> int:
     files.write("left-out.txt", (f"{it}\n" for it in ruleset.told()))
     trace = _trace(arguments, files)
     _replay(files / "rules", trace, files / "report")
-    summary = summarize(files / "report", trace, arguments.users, files / "rules", labels=ruleset.labels, top=arguments.top)
+    summary = summarize(files / "report", Wanted(trace, arguments.users, files / "rules", ruleset.labels, top=arguments.top))
     if arguments.held:
         summary.held = held_at(files / "rules", trace, arguments.held, where.jobs or os.cpu_count() or 1)
     files.write("summary.txt", [summary.to_text()])

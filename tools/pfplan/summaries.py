@@ -139,46 +139,42 @@ class Summary:
         return {"rule": f"@{item}", "text": text, "label": self.labels.get(item)}
 
 
-def summarize(
-    report: Path,
-    trace: Path | None = None,
-    users: Sequence[Network] = (),
-    rules: Path | None = None,
-    *,
-    labels: Mapping[int, str] | None = None,
-    every: int = 0,
-    top: int = 5,
-    is_partial: bool = False,
-) -> Summary:
+@dataclass(frozen=True, slots=True)
+class Wanted:
+    """What a summary is made of besides the report, and what it shows.
+
+    `trace` and `rules` are those of the replay; `labels` are of items of the rules; `every` is the seconds in a step of the series, 0 for
+    what gives at most 120 steps; `top` is how many sources are named; `is_partial` takes a report without its last line.
+    """
+
+    trace: Path | None = None
+    users: Sequence[Network] = ()
+    rules: Path | None = None
+    labels: Mapping[int, str] = field(default_factory=dict)
+    every: int = 0
+    top: int = 5
+    is_partial: bool = False
+
+
+def summarize(report: Path, wanted: Wanted) -> Summary:
     """Sums up a report in a file. Trouble where a file can't be read, is none, or they are not of one replay."""
     if kind_of(report) in (Kind.TRACE, Kind.CAPTURE):
         raise Trouble(f"{report}: a trace or a capture, where a report is wanted", Status.REFUSED)
-    return summarize_blocks(line_blocks(report), report, trace, users, rules, labels=labels, every=every, top=top, is_partial=is_partial)
+    return summarize_blocks(line_blocks(report), report, wanted)
 
 
-def summarize_blocks(
-    blocks: Iterable[list[str]],
-    name: Path | str,
-    trace: Path | None = None,
-    users: Sequence[Network] = (),
-    rules: Path | None = None,
-    *,
-    labels: Mapping[int, str] | None = None,
-    every: int = 0,
-    top: int = 5,
-    is_partial: bool = False,
-) -> Summary:
+def summarize_blocks(blocks: Iterable[list[str]], name: Path | str, wanted: Wanted) -> Summary:
     """Sums up the lines of a report as they come (records.blocks_of_lines, replays.stream_report); `name` stands in messages."""
-    texts = items_of(show_rules(rules)) if rules else []
-    answers = Answers(name, len(texts) if rules else None)
-    if trace is None:
-        count(blocks, answers, None, is_partial)
-        return _summary(answers, None, texts, labels or {}, users, top)
-    check_trace(trace)
-    with regular(trace) as kept:
-        moments = Moments(Traces(kept, trace), answers, users, _step(kept, every))
-        count(blocks, answers, moments, is_partial)
-    return _summary(answers, moments, texts, labels or {}, users, top)
+    texts = items_of(show_rules(wanted.rules)) if wanted.rules else []
+    answers = Answers(name, len(texts) if wanted.rules else None)
+    if wanted.trace is None:
+        count(blocks, answers, None, wanted.is_partial)
+        return _summary(answers, None, texts, wanted)
+    check_trace(wanted.trace)
+    with regular(wanted.trace) as kept:
+        moments = Moments(Traces(kept, wanted.trace), answers, wanted.users, _step(kept, wanted.every))
+        count(blocks, answers, moments, wanted.is_partial)
+    return _summary(answers, moments, texts, wanted)
 
 
 def _step(trace: Path, every: int) -> int:
@@ -189,21 +185,21 @@ def _step(trace: Path, every: int) -> int:
     return every or step_of(first, last)
 
 
-def _summary(answers: Answers, moments: Moments | None, rules: list[str], labels: Mapping[int, str], users: Sequence[Network], top: int) -> Summary:
+def _summary(answers: Answers, moments: Moments | None, rules: list[str], wanted: Wanted) -> Summary:
     by_rule = {word: _by_number(answers.by_rule[word]) for word in WORDS if word in answers.by_rule}
     summary = Summary(
         answers.rows, by_rule, [answers.limits[it] for it in WORDS if it in answers.limits], dict(answers.overloads), answers.end,
-        rules=rules, labels=dict(labels), undecided=_undecided(rules, by_rule),
+        rules=rules, labels=dict(wanted.labels), undecided=_undecided(rules, by_rule),
     )  # fmt: skip
     if moments is None or moments.first is None:
         return summary
     summary.first_moment, summary.last_moment, summary.step_seconds = moments.first, moments.last, moments.step
     summary.steps = _filled(moments)
     tops = (moments.refused, moments.killed, moments.made, moments.seen)
-    refused, killed, made, seen = (it.top(top) for it in tops)
+    refused, killed, made, seen = (it.top(wanted.top) for it in tops)
     summary.sources = Tops(refused, killed, made, seen, not any(it.dropped for it in tops))
-    if users:
-        summary.users = _users(moments, users)
+    if wanted.users:
+        summary.users = _users(moments, wanted.users)
     if rules:
         named = {name for it in rules for name in _interfaces(it)}
         summary.interfaces = Interfaces(sorted(named - moments.interfaces), sorted(moments.interfaces - named) if named else [])
@@ -311,11 +307,11 @@ def run(arguments: argparse.Namespace) -> int:
         raise Trouble("--held wants --trace and --rules")
     if arguments.rules:
         check_program()
-    more = {"every": arguments.every, "top": arguments.top, "is_partial": arguments.partial}
+    wanted = Wanted(arguments.trace, arguments.users, arguments.rules, every=arguments.every, top=arguments.top, is_partial=arguments.partial)
     if str(arguments.report) == "-":
-        summary = summarize_blocks(blocks_of(sys.stdin, "report"), "report", arguments.trace, arguments.users, arguments.rules, **more)
+        summary = summarize_blocks(blocks_of(sys.stdin, "report"), "report", wanted)
     else:
-        summary = summarize(arguments.report, arguments.trace, arguments.users, arguments.rules, **more)
+        summary = summarize(arguments.report, wanted)
     if arguments.held:
         summary.held = held_at(arguments.rules, arguments.trace, arguments.held, arguments.jobs)
     with whole_file(arguments.out) as out:

@@ -10,7 +10,7 @@ from ..errors import Trouble
 from ..progress import Progress
 from ..sides import Met, Picks, Side, common_text, follow, side_of
 from ..stepping import steps_of
-from ..summaries import summarize
+from ..summaries import Wanted, summarize
 from ..words import network, networks
 from .support import STAND_IN, FolderCase, pfplan
 
@@ -82,7 +82,7 @@ class Following(FolderCase):
         steps = steps_of(trace)
         side = side_of("r", iter(report(*texts)), USERS, None, steps.told)
         follow(trace, [side], USERS, lambda row, lines: steps.take(side, lines))
-        summary = summarize(self.report(texts), trace, USERS)
+        summary = summarize(self.report(texts), Wanted(trace, USERS))
         self.assertEqual((steps.seconds, list(steps.steps)), (summary.step_seconds, summary.steps))
 
     def test_moments_of_limits(self) -> None:

@@ -10,13 +10,14 @@ from ..errors import Trouble
 from ..records import WORDS, blocks_of_lines
 from ..replays import TOP
 from ..sources import Sources
-from ..summaries import Summary, summarize, summarize_blocks
+from ..summaries import Summary, Wanted, summarize, summarize_blocks
 from ..summary_texts import share
 from ..words import networks
 from .support import FolderCase, pfplan
 
 CASE = TOP / "cases" / "pfplan" / "summary_users"
 USERS = networks("198.51.100.0/24")
+WANTED = Wanted(CASE / "records", USERS)
 DATA = TOP / "tools" / "pfplan" / "tests" / "summaries"
 
 
@@ -30,23 +31,23 @@ class Summaries(FolderCase):
     def test_counts_agree_with_the_report(self) -> None:
         lines = (CASE / "report").read_text("utf-8").splitlines()
         told = Counter(it.split(" ")[1] for it in lines[:-1])
-        self.assertEqual({word: number for word, number in summarize(CASE / "report").words().items() if number}, dict(told))
+        self.assertEqual({word: number for word, number in summarize(CASE / "report", Wanted()).words().items() if number}, dict(told))
 
     def test_carriage_returns(self) -> None:
         records = self.write("records", (CASE / "records").read_text("utf-8").replace("\n", "\r\n"))
-        self.assertEqual(summarize(CASE / "report", records, USERS), summarize(CASE / "report", CASE / "records", USERS))
+        self.assertEqual(summarize(CASE / "report", Wanted(records, USERS)), summarize(CASE / "report", WANTED))
 
     def test_blank_lines_and_a_mark_at_the_start(self) -> None:
         text = "\xef\xbb\xbf" + (CASE / "records").read_text("utf-8").replace("\n", "\n\n")
-        self.assertEqual(summarize(CASE / "report", self.write("records", text), USERS), summarize(CASE / "report", CASE / "records", USERS))
+        self.assertEqual(summarize(CASE / "report", Wanted(self.write("records", text), USERS)), summarize(CASE / "report", WANTED))
 
     def test_small_blocks_say_the_same(self) -> None:
         lines = (CASE / "report").read_text("utf-8").splitlines()
-        whole = summarize(CASE / "report", CASE / "records", USERS)
+        whole = summarize(CASE / "report", WANTED)
         with mock.patch("pfplan.records.BLOCK", 64):
-            self.assertEqual(summarize(CASE / "report", CASE / "records", USERS), whole)
-        self.assertEqual(summarize_blocks(([it] for it in lines), "report", CASE / "records", USERS), whole)
-        self.assertEqual(summarize_blocks(blocks_of_lines(lines), "report", CASE / "records", USERS), whole)
+            self.assertEqual(summarize(CASE / "report", WANTED), whole)
+        self.assertEqual(summarize_blocks(([it] for it in lines), "report", WANTED), whole)
+        self.assertEqual(summarize_blocks(blocks_of_lines(lines), "report", WANTED), whole)
 
     def test_two_networks(self) -> None:
         done = pfplan("summary", CASE / "report", "--trace", CASE / "records", "--users", "198.51.100.0/30,198.51.100.5", "--top", 2)
@@ -62,7 +63,7 @@ class Summaries(FolderCase):
                 self.assertEqual("".join(f"{it}\n" for it in lines[3:10]), (DATA / name).read_text("utf-8"))
 
     def test_expire(self) -> None:
-        summary = summarize(DATA / "expire.report", DATA / "expire.trace")
+        summary = summarize(DATA / "expire.report", Wanted(DATA / "expire.trace"))
         self.assertEqual(summary.to_text(), (DATA / "expire").read_text("utf-8"))
         self.assertEqual(summary.words()["expire"], sum(summary.answers["expire"].values()))
 
@@ -80,8 +81,9 @@ class Summaries(FolderCase):
             ["1,in,em0,tcp,2001:db8::1,1000,2001:db8:f::1,80,S", "1,out,em0,tcp,2001:db8:f::1,80,2001:db8::1,1000,SA", "1,in,em0,tcp,2001:DB8:0::1,1000,2001:db8:f::1,80,A"]
         )
         report = self.report(["new @0", "state @0", "state @0"])
-        self.assertEqual(outcomes(summarize(report, trace, networks("2001:db8::/64"))), {"unanswered": 1})
-        summary = summarize(report, self.trace(["1,in,em0,udp,2001:db8::1,1000,2001:db8:f::1,53,"] * 3), networks("192.0.2.0/24,2001:db8::/64"))
+        self.assertEqual(outcomes(summarize(report, Wanted(trace, networks("2001:db8::/64")))), {"unanswered": 1})
+        again = self.trace(["1,in,em0,udp,2001:db8::1,1000,2001:db8:f::1,53,"] * 3)
+        summary = summarize(report, Wanted(again, networks("192.0.2.0/24,2001:db8::/64")))
         self.assertEqual(outcomes(summary), {"served": 1})
 
     def test_rules_that_never_decided_and_interfaces(self) -> None:
@@ -89,7 +91,7 @@ class Summaries(FolderCase):
         report = self.report(["new @1", "state @1"])
         shown = ["set limit { states 10 }", "table <bad>", "block on em9 all", "pass in on em0 all", 'anchor "a" on ! em3 all {', "pass all", "}"]
         with mock.patch("pfplan.summaries.show_rules", return_value=shown):
-            summary = summarize(report, trace, rules=report)
+            summary = summarize(report, Wanted(trace, rules=report))
         self.assertEqual(summary.undecided, [0, 3])
         assert summary.interfaces is not None
         self.assertEqual((summary.interfaces.without_records, summary.interfaces.without_rules), (["em3", "em9"], ["em7"]))
@@ -97,27 +99,28 @@ class Summaries(FolderCase):
     def test_moment_falls(self) -> None:
         trace = self.trace(["5,in,em0,udp,203.0.113.1,1,192.0.2.1,53,", "4,in,em0,udp,203.0.113.1,1,192.0.2.1,53,"])
         with self.assertRaises(Trouble) as caught:
-            summarize(self.report(["new @1", "state @1"]), trace)
+            summarize(self.report(["new @1", "state @1"]), Wanted(trace))
         self.assertEqual(caught.exception.message, f"{trace}: row 2: the moment falls")
 
     def test_columns(self) -> None:
         good = "5,in,em0,udp,203.0.113.1,1,192.0.2.1,53,"
         for bad in (good + ",", good[:-1], "5,in,em0"):
+            trace = self.trace([good, bad, good + "," if bad == good[:-1] else good])
             with self.assertRaises(Trouble) as caught:
-                summarize(self.report(["new @1"] * 3), self.trace([good, bad, good + "," if bad == good[:-1] else good]))
+                summarize(self.report(["new @1"] * 3), Wanted(trace))
             self.assertIn("row 2: not nine columns", caught.exception.message)
 
     def test_steps_of_a_jump(self) -> None:
         record = "in,em0,udp,203.0.113.1,1,192.0.2.1,53,"
         trace = self.trace([f"0,{record}", f"4294967295,{record}"])
-        summary = summarize(self.report(["new @1", "new @1"]), trace)
+        summary = summarize(self.report(["new @1", "new @1"]), Wanted(trace))
         self.assertLess(len(summary.steps), 140)
         with self.assertRaises(Trouble) as caught:
-            summarize(self.report(["new @1", "new @1"]), trace, every=1)
+            summarize(self.report(["new @1", "new @1"]), Wanted(trace, every=1))
         self.assertIn("--every: 1 seconds make more than 100000 steps", caught.exception.message)
 
     def test_words_in_their_order(self) -> None:
-        self.assertEqual(list(summarize(CASE / "report").to_json()["words"]), list(WORDS))
+        self.assertEqual(list(summarize(CASE / "report", Wanted()).to_json()["words"]), list(WORDS))
 
 
 class Bounds(unittest.TestCase):
