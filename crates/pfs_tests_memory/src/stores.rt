@@ -191,7 +191,9 @@ fn touch_first<S: Store>(rt: &HostRuntime, store: &mut S, config: &Config) -> Re
     requires order { IsUpToNow 5 (S.world store.old) }
 {
     let packet = packet(Sent::Udp, A1, 1)?;
-    admit_first(store, config, &packet, 5)?;
+    if admit_first(store, config, &packet, 5)?.is_err() {
+        return Err(Stop::Input);
+    }
     touch(rt, store, &packet, 5)
 }
 
