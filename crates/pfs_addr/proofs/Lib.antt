@@ -7,5 +7,6 @@ pub mod LetterTexts
 pub mod NumberLaws
 pub mod OctetLaws
 pub mod PieceLaws
+pub mod ProtocolLaws
 mod QuadLaws
 pub mod TextLaws

@@ -21,7 +21,7 @@ use Rattle.pfs_capture_packets.specs.declared.packets.Carried.{Carried}
 use Rattle.pfs_capture_packets.specs.declared.packets.Carried.TheVariants.{Tcp, Udp, Other}
 use Rattle.pfs_capture_rows.specs.declared.rows.Row.{Row}
 use Rattle.pfs_capture_rows.specs.Rows.{dir_name, event_of, flags_of_carried, from_port, port_text, proto_carried, proto_name, row_fields, to_port}
-use Rattle.pfs_capture_rows.proofs.Protocols.{proto_again, proto_known}
+use Rattle.pfs_addr.proofs.ProtocolLaws.{proto_again, proto_known}
 
 number_again : (most n : ℕ) → n ≤ most → most < 10 ^ 10 → number_to most (decimal n) ≡ Some n
 number_again most n h small =

@@ -1,3 +1,2 @@
-pub mod Protocols
 pub mod Again
 pub mod Fields

@@ -51,8 +51,9 @@ use Rattle.pfs_conf_show.specs.Tables.{angled_name, name_in}
 use Rattle.pfs_conf_round_trip.proofs.Said.{host_said, hosts_said, parameters_said, side_said, table_said}
 use Rattle.pfs_addr.proofs.LetterTexts.{flags_again, letters_all, letters_some}
 use Rattle.pfs_conf_round_trip.proofs.Names.{is_other, key_of_word, may_name, name_again, name_text, not_any}
-use Rattle.pfs_conf_round_trip.proofs.Numbers.{no_word, ports_again, ports_word, proto_again, proto_known}
+use Rattle.pfs_conf_round_trip.proofs.Numbers.{ports_again, ports_word}
 use Rattle.pfs_conf_round_trip.proofs.PrefixWords.{prefix_again, prefix_plain, prefix_word}
+use Rattle.pfs_addr.proofs.ProtocolLaws.{no_word, proto_again, proto_known}
 use Rattle.pfs_conf_round_trip.proofs.Pieces.{all_append, at, mark, text_append, word, word_between}
 
 -- a word that says a value

@@ -26,9 +26,9 @@ use Rattle.pfs_store_contract.specs.declared.records.State.{State}
 use Rattle.pfs_track.specs.Scores.{score_after}
 use Rattle.pfs_track.specs.declared.scores.Score.{Score}
 use Rattle.pfs_engine_machine.proofs.Counts.{any-map, count-map}
-use Rattle.pfs_engine_machine.proofs.Scopes.{same_scope_true}
 use Rattle.pfs_engine_machine.specs.Kept.{TracksAlone, own_scope}
 use Rattle.pfs_engine_machine.proofs.Lists.{both, count-found, each-map}
+use Rattle.pfs_store_contract.proofs.ScopeLaws.{same_scope_true}
 use Rattle.pfs_engine_machine.proofs.Remembering.{IsKnown, Knows, Remembers}
 
 -- ---- a rule with a rate

@@ -26,7 +26,6 @@ use Rattle.pfs_store_contract.specs.declared.records.State.{State}
 use Rattle.pfs_track.specs.Scores.{score_after, zero_score}
 use Rattle.pfs_track.specs.declared.scores.Score.{Score}
 use Rattle.pfs_engine_machine.proofs.Counts.{any-push, count-filter_le, count-push}
-use Rattle.pfs_engine_machine.proofs.Scopes.{same_scope_self, same_scope_true}
 use Rattle.pfs_engine_machine.specs.Kept.{moment_of, own_scope}
 use Rattle.pfs_engine_machine.specs.Machine.{Held, Machine, answer_to_arrival, machine_at_moment, answer_to_packet, answer_of_exceeded, answer_of_state, answer_of_handshake, due, exceeded_of, first_moment, held_of, world_after_purges, start, step, machine_after, outcomes_of}
 use Rattle.pfs_engine_machine.specs.Rates.{Handshake, completed_state, score_through, handshake_at, handshaking_state, handshakes, history_score, is_from, moments_of, with_handshake}
@@ -38,6 +37,7 @@ use Rattle.pfs_engine_machine.proofs.PacketChanges.{Changes, answered_has}
 use Rattle.pfs_engine_machine.proofs.Hearing.{IsRated, RemembersIn, found-count, heard, is_of, long, rated, scope-rated, score-this, scored-in, states-touched}
 use Rattle.pfs_engine_machine.proofs.Lists.{both, each-of, each-push}
 use Rattle.pfs_engine_machine.proofs.Remembering.{IsKnown, Knows, Remembers, remembers-later, remembers-left, remembers-purged}
+use Rattle.pfs_store_contract.proofs.ScopeLaws.{same_scope_self, same_scope_true}
 use Rattle.pfs_engine_machine.specs.RateMemory.{IsHandshake, RateIsRemembered, ScoreIsRemembered, rate_hit, score_compared}
 
 -- ---- a new state

@@ -31,8 +31,10 @@ use Rattle.pfs_store_contract.specs.declared.records.NodeScope.TheVariants as no
 use Rattle.pfs_store_contract.specs.declared.records.State.{State}
 use Rattle.pfs_track.specs.StatePhases.{first_phase, is_done}
 use Rattle.pfs_engine_machine.proofs.Counts.{any-push, count-push_failing, count-push_le, count-push_passing}
-use Rattle.pfs_engine_machine.proofs.Scopes.{IsScopeOf, and_left, and_right, global-IsScopeOf, none_without_node, own_scope-IsScopeOf, same_scope_self, same_scope_true, scope-alone, scope-shared}
+use Rattle.pfs_engine_machine.proofs.Scopes.{IsScopeOf, global-IsScopeOf, none_without_node, own_scope-IsScopeOf, scope-alone, scope-shared}
 use Rattle.pfs_engine_machine.specs.Kept.{HasNode, IsKept, IsPhaseOf, IsWithinShared, Rise, TracksAlone, own_scope}
+use Rattle.std.proofs.lemmas.Bool.{and_parts}
+use Rattle.pfs_store_contract.proofs.ScopeLaws.{same_scope_self, same_scope_true}
 use Rattle.pfs_engine_machine.specs.Machine.{Held, held_of}
 
 -- ---- no limit is met
@@ -120,9 +122,9 @@ states_with conf w p rule now other source sound alone free noded n is before =
     by : (b : Bool) → is_of_node conf (own_scope other) source (new_state (w.made + 1) p rule now) ≡ b
         → node_states conf (own_scope other) source (w.states ++ new_state (w.made + 1) p rule now ∷ []) ≤ n
     by true e =
-        let one = and_left (rule == other) (same_addr p.source.addr source) e in
+        let one = (and_parts (rule == other) (same_addr p.source.addr source) e).0 in
         let same : other ≡ rule = grind (arith, nat_tests) in
-        let from : source ≡ p.source.addr = sym (same_addr_true p.source.addr source (and_right (rule == other) (same_addr p.source.addr source) e)) in
+        let from : source ≡ p.source.addr = sym (same_addr_true p.source.addr source (and_parts (rule == other) (same_addr p.source.addr source) e).1) in
         let own : TracksAlone conf rule = sym (ap (scope_of conf) same) ∙ alone in
         let max : (options_of conf rule).max_src_states ≡ Some n = sym (ap (λ i. (options_of conf i).max_src_states) same) ∙ is in
         let room = room_states conf w rule p.source.addr (own_scope rule) sound (own_scope-IsScopeOf conf rule own) (scope-alone conf rule own) free.sources noded n max in

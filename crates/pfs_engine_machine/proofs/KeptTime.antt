@@ -24,8 +24,10 @@ use Rattle.pfs_store_contract.specs.declared.records.State.{State}
 use Rattle.pfs_engine_machine.proofs.Additions.{entries_expired-fewer, entries_expired-size}
 use Rattle.pfs_engine_machine.proofs.Numbers.{Rise-filter}
 use Rattle.pfs_engine_machine.proofs.Counts.{any-filter, any-map, count-at, count-filter_le, count-map, count_le}
-use Rattle.pfs_engine_machine.proofs.Scopes.{and_left, and_right, is_of_node-own, same_scope_true}
+use Rattle.pfs_engine_machine.proofs.Scopes.{is_of_node-own}
 use Rattle.pfs_engine_machine.specs.Kept.{HasNode, IsKept, IsPhaseOf, IsWithin, moment_of, own_scope}
+use Rattle.std.proofs.lemmas.Bool.{and_parts}
+use Rattle.pfs_store_contract.proofs.ScopeLaws.{same_scope_true}
 use Rattle.pfs_engine_machine.specs.Machine.{Held, Machine, machine_at_moment, due, answer_to_expire, first_moment, held_of, world_after_purges, start}
 
 -- ---- the start
@@ -100,8 +102,8 @@ kept_state_slice conf m at now k = kept_left conf m (stays conf m.world.states a
 node_stays-held : (conf : Conf) (states : List State) (at : ℕ) (examined : List ℕ) (scope : NodeScope) (source : Addr)
     → 0 < node_states conf scope source states → (n : Node) → is_node scope source n ≡ true → node_stays conf states at examined n ≡ true
 node_stays-held conf states at examined scope source some n is =
-    let same = same_scope_true n.scope scope (and_left (same_scope n.scope scope) (same_addr n.source source) is) in
-    let from = same_addr_true n.source source (and_right (same_scope n.scope scope) (same_addr n.source source) is) in
+    let same = same_scope_true n.scope scope (and_parts (same_scope n.scope scope) (same_addr n.source source) is).0 in
+    let from = same_addr_true n.source source (and_parts (same_scope n.scope scope) (same_addr n.source source) is).1 in
     let count : node_states conf n.scope n.source states ≡ node_states conf scope source states = rw (same, from) refl in
     by (is_among examined n.number) (nat_le (n.idle + node_retention conf n.scope) at) (node_states conf n.scope n.source states) (omega (arith, count, some))
   where

@@ -15,18 +15,10 @@ use Rattle.pfs_store_contract.specs.declared.records.State.{State}
 use Rattle.pfs_engine_machine.specs.Machine.{world_after_purges}
 use Rattle.pfs_engine_machine.specs.Shares.{seconds, most_nodes, most_states}
 use Rattle.pfs_engine_machine.specs.Quiet.{IsQuietUntil, IsSeen}
+use Rattle.pfs_store_contract.proofs.FilterLaws.{filter-all}
 use Rattle.pfs_engine_machine.proofs.Purging.{most_nodes_next, most_states_next, purged_next}
 
 -- ---- lists
-
-filter-all : {X : Type 0} (p : X → Bool) (xs : List X) → length xs ≤ length (filter p xs) → filter p xs ≡ xs
-filter-all p [] h = refl
-filter-all p (x ∷ xs) h = go (λ k. filter-all p xs k) (p x) h
-  where
-    go : (length xs ≤ length (filter p xs) → filter p xs ≡ xs) → (b : Bool)
-        → suc (length xs) ≤ length (if b then x ∷ filter p xs else filter p xs) → (if b then x ∷ filter p xs else filter p xs) ≡ x ∷ xs
-    go rest true k = ap (λ ys. x ∷ ys) (rest (omega arith))
-    go rest false k = absurd (omega (arith, length-filter p xs, count_by-le-length p xs))
 
 -- no number is both above 0 and 0
 not-both : (a : ℕ) → (nat_lt 0 a && (a == 0)) ≡ false

@@ -8,7 +8,6 @@ use Rattle.pfs_addr_values.specs.Sameness.{same_addr}
 use Rattle.pfs_addr_values.specs.declared.addresses.Addr.{Addr}
 use Rattle.pfs_conf_values.specs.Configs.{Conf}
 use Rattle.pfs_engine_machine.proofs.Counts.{any-map}
-use Rattle.pfs_engine_machine.proofs.Scopes.{same_scope_true}
 use Rattle.pfs_engine_machine.specs.Kept.{own_scope}
 use Rattle.pfs_store_contract.specs.Counts.{has_node, is_node, node_states, same_scope}
 use Rattle.pfs_store_contract.specs.Leaving.{node_after_leaving}
@@ -18,6 +17,7 @@ use Rattle.pfs_store_contract.specs.declared.records.NodeScope.{NodeScope}
 use Rattle.pfs_store_contract.specs.declared.records.State.{State}
 use Rattle.pfs_track.specs.Scores.{decayed_score, score_after, zero_score}
 use Rattle.pfs_track.specs.declared.scores.Score.{Score}
+use Rattle.pfs_store_contract.proofs.ScopeLaws.{same_scope_true}
 use Rattle.pfs_engine_machine.proofs.Lists.{both, each-filter, each-map, each-of}
 
 -- ---- scores with the same future

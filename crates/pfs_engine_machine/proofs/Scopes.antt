@@ -1,6 +1,6 @@
 -- Which rules count in a scope of source nodes, and which sources have states there.
 use Rattle.std.proofs.Common.{◌≡◌, ◌∙◌, ◌&&◌, ℕ, Bool, true, false, Option, Some, None, List, [], ◌∷◌, All, refl, ap, sym, arith, rules}
-use Rattle.std.proofs.lemmas.Bool.{false≢true}
+use Rattle.std.proofs.lemmas.Bool.{and_parts, false≢true}
 use Rattle.std.proofs.lemmas.Bool.Decides.{nat_tests}
 use Rattle.std.proofs.lemmas.List.Elements.{All-head, All-tail}
 use Rattle.pfs_addr_values.proofs.SameLaws.{same_addr_self, same_addr_true}
@@ -16,23 +16,6 @@ use Rattle.pfs_store_contract.specs.declared.records.NodeScope.{NodeScope}
 use Rattle.pfs_store_contract.specs.declared.records.NodeScope.TheVariants as node_scope
 use Rattle.pfs_store_contract.specs.declared.records.State.{State}
 use Rattle.pfs_engine_machine.specs.Kept.{HasNode, TracksAlone, own_scope}
-
--- ---- the tests decide
-
-pub same_scope_true : (a b : NodeScope) → same_scope a b ≡ true → a ≡ b
-same_scope_true a b h = search rules
-
-pub same_scope_self : (a : NodeScope) → same_scope a a ≡ true
-same_scope_self a = search rules
-
--- both sides of a test that passes
-pub and_left : (a b : Bool) → (a && b) ≡ true → a ≡ true
-and_left true b h = refl
-and_left false b h = absurd (false≢true h)
-
-pub and_right : (a b : Bool) → (a && b) ≡ true → b ≡ true
-and_right true b h = h
-and_right false b h = absurd (false≢true h)
 
 -- ---- the rules of a scope
 
@@ -88,8 +71,8 @@ none_without_node conf found source nodes whole none (s ∷ states) h =
   where
     go : node_states conf found source states ≡ 0 → (b : Bool) → is_of_node conf found source s ≡ b → node_states conf found source (s ∷ states) ≡ 0
     go rest true e =
-        let within = and_left (in_scope conf found s.rule.0) (same_addr s.source source) e in
-        let same = same_addr_true s.source source (and_right (in_scope conf found s.rule.0) (same_addr s.source source) e) in
+        let within = (and_parts (in_scope conf found s.rule.0) (same_addr s.source source) e).0 in
+        let same = same_addr_true s.source source (and_parts (in_scope conf found s.rule.0) (same_addr s.source source) e).1 in
         let held = All-head (HasNode conf nodes) s states h found (whole s.rule.0 within) in
         absurd (false≢true (sym none ∙ ap (λ (a : Addr). has_node found a nodes) (sym same) ∙ held))
     go rest false e = rw e rest

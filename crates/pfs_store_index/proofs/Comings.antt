@@ -30,7 +30,9 @@ use Rattle.pfs_store_index.specs.Tallies.{is_tally, nodes_of}
 use Rattle.pfs_store_index.specs.declared.nodes.Tally.{Tally}
 use Rattle.pfs_store_index.specs.declared.indexes.Entry.{Entry}
 use Rattle.pfs_store_index.specs.Ties.{HasRule, HasTally, IsCounted, IsFew, IsScope, IsScored, IsScoped, at_node, entry_of, has_key, is_at, is_pair, tallies_with_state, joined_of, key_in, new_tally}
-use Rattle.pfs_store_index.proofs.OneNode.{IsFaithful, and_both, and_false, and_left, and_right, of_node, same_scope_self, scope_of-IsScope, scoped-at, tally-at}
+use Rattle.pfs_store_index.proofs.OneNode.{IsFaithful, of_node, scope_of-IsScope, scoped-at, tally-at}
+use Rattle.std.proofs.lemmas.Bool.{and_parts, and_from, and_right}
+use Rattle.pfs_store_contract.proofs.ScopeLaws.{same_scope_self}
 use Rattle.pfs_store_index.proofs.Searches.{all-map, all-push, all-weaker, any-found, any-push, count-le, count-push, map-push, none-any}
 
 -- ---- the node of the state
@@ -112,8 +114,8 @@ none-counted conf sc a (x ∷ xs) ts k f (h, hs) = go (none-counted conf sc a xs
   where
     go : node_states conf sc a xs ≡ 0 → (b : Bool) → is_of_node conf sc a x ≡ b → node_states conf sc a (x ∷ xs) ≡ 0
     go m true i =
-        let r = in_scope-of conf sc x.rule.0 k (and_left (in_scope conf sc x.rule.0) (is_of_source a x) i) in
-        let q = same_addr_true x.source a (and_right (in_scope conf sc x.rule.0) (is_of_source a x) i) in
+        let r = in_scope-of conf sc x.rule.0 k (and_parts (in_scope conf sc x.rule.0) (is_of_source a x) i).0 in
+        let q = same_addr_true x.source a (and_parts (in_scope conf sc x.rule.0) (is_of_source a x) i).1 in
         let z : list_any (is_tally sc a) ts ≡ true = ap (λ (b : Addr). list_any (is_tally sc b) ts) (sym q) ∙ h sc r in
         absurd (cc (z, f))
     go m false i = rw i m
@@ -134,7 +136,7 @@ own-node conf sc s e =
     let k = scope_of-IsScope conf s.rule.0 sc e in
     of_node conf s (new_tally sc s) k
     ∙ ap (λ (o : Option NodeScope). is_at o s.source (new_tally sc s)) e
-    ∙ and_both _ _ (same_scope_self sc) (same_addr_self s.source)
+    ∙ and_from _ _ (same_scope_self sc) (same_addr_self s.source)
 
 new-counted : (conf : Conf) (sc : NodeScope) (s : State) (xs : List State) (ts : List Tally) → node_scope_of conf s.rule.0 ≡ Some sc → is_done s.phase ≡ false
     → list_any (is_tally sc s.source) ts ≡ false → AllByRecursion (HasTally conf ts) xs → IsCounted conf (xs ++ s ∷ []) (new_tally sc s)
@@ -221,7 +223,7 @@ has-own sc s ts = go (is_some (find (is_tally sc s.source) ts)) refl
     go : (b : Bool) → is_some (find (is_tally sc s.source) ts) ≡ b → list_any (is_tally sc s.source) (if b then map (at_node (Some sc) s.source joined_of) ts else ts ++ new_tally sc s ∷ []) ≡ true
     go true f = tally-at sc s.source (Some sc) s.source joined_of joined-faithful ts ∙ sym (any-found (is_tally sc s.source) ts) ∙ f
     go false f =
-        let y : is_tally sc s.source (new_tally sc s) ≡ true = and_both _ _ (same_scope_self sc) (same_addr_self s.source) in
+        let y : is_tally sc s.source (new_tally sc s) ≡ true = and_from _ _ (same_scope_self sc) (same_addr_self s.source) in
         any-push (is_tally sc s.source) (new_tally sc s) ts ∙ ap (λ b. b || list_any (is_tally sc s.source) ts) y
 
 pub noded-came : (conf : Conf) (o : Option NodeScope) (s : State) (xs : List State) (ts : List Tally) → node_scope_of conf s.rule.0 ≡ o → AllByRecursion (HasTally conf ts) xs
@@ -310,7 +312,7 @@ lower_differs n k h = grind (arith, nat_tests)
 
 pub pair-fresh : (a : Addr) (n : ℕ) (xs : List State) → IsAbove n (map (λ (x : State). x.number) xs) → list_any (is_pair a n) xs ≡ false
 pair-fresh a n [] h = refl
-pair-fresh a n (x ∷ xs) (h, hs) = rw (and_false (is_of_source a x) (x.number == n) (lower_differs n x.number h)) (pair-fresh a n xs hs)
+pair-fresh a n (x ∷ xs) (h, hs) = rw (and_right (is_of_source a x) (x.number == n) (lower_differs n x.number h)) (pair-fresh a n xs hs)
 
 -- what was placed is taken out again
 pub push-undone : (s : State) (xs : List Placed) (p : Placed) → p.state ≡ s → IsAbove s.number (map (λ (x : Placed). x.state.number) xs)

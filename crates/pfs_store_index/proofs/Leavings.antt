@@ -21,8 +21,9 @@ use Rattle.pfs_store_index.specs.Tallies.{nodes_of}
 use Rattle.pfs_store_index.specs.declared.nodes.Tally.{Tally}
 use Rattle.pfs_store_index.specs.declared.indexes.Entry.{Entry}
 use Rattle.pfs_store_index.specs.Ties.{HasRule, HasTally, IsCounted, IsScored, IsScoped, entry_of, has_key, is_at, is_pair, key_in, left_at, left_of}
-use Rattle.pfs_store_index.proofs.OneNode.{IsFaithful, and_false, and_right, of_node, tally-at}
+use Rattle.pfs_store_index.proofs.OneNode.{IsFaithful, of_node, tally-at}
 use Rattle.pfs_store_index.proofs.Removals.{any-kept, any-removed, count-removed, find-removed}
+use Rattle.std.proofs.lemmas.Bool.{and_parts, and_right}
 use Rattle.pfs_store_index.proofs.RisingWalks.{IsRisingBy, has_number}
 
 -- the number of a state, and of a record
@@ -100,7 +101,7 @@ left-parted conf s now xs t r f h e = go (is_at (node_scope_of conf s.rule.0) s.
         let o : is_of_node conf t.node.scope t.node.source s ≡ false = of_node conf s t h ∙ i in
         let c1 : length (filter (is_of_node conf t.node.scope t.node.source) (filter (other_than s.number) xs)) + 0 ≡ length (filter (is_of_node conf t.node.scope t.node.source) xs) =
         ap (λ (b : Bool). length (filter (is_of_node conf t.node.scope t.node.source) (filter (other_than s.number) xs)) + cond b 1 0) (sym o) ∙ c in
-        let z : is_connection conf t.node.scope t.node.source s ≡ false = and_false (is_done s.phase) (is_of_node conf t.node.scope t.node.source s) o in
+        let z : is_connection conf t.node.scope t.node.source s ≡ false = and_right (is_done s.phase) (is_of_node conf t.node.scope t.node.source s) o in
         let d1 : length (filter (is_connection conf t.node.scope t.node.source) (filter (other_than s.number) xs)) + 0 ≡ length (filter (is_connection conf t.node.scope t.node.source) xs) =
         ap (λ (b : Bool). length (filter (is_connection conf t.node.scope t.node.source) (filter (other_than s.number) xs)) + cond b 1 0) (sym z) ∙ d in
         let m : t.states ≡ length (filter (is_of_node conf t.node.scope t.node.source) (filter (other_than s.number) xs)) = omega (arith, c1, es) in
@@ -235,7 +236,7 @@ pub pair-left : (s : State) (xs : List State) (a : Addr) (n : ℕ) (g g' : Bool)
 pair-left s xs a n g g' r f e e' = rw (e', e) (go (is_pair a n s) refl)
   where
     second : (x : State) → is_pair a n x ≡ true → x.number ≡ n
-    second x h = let t = and_right (is_of_source a x) (x.number == n) h in grind (arith, nat_tests)
+    second x h = let t = (and_parts (is_of_source a x) (x.number == n) h).1 in grind (arith, nat_tests)
 
     go : (b : Bool) → is_pair a n s ≡ b → cond (is_pair a n s) false (list_any (is_pair a n) xs) ≡ list_any (is_pair a n) (filter (other_than s.number) xs)
     go true t = rw t (sym (any-removed state_number (is_pair a n) s.number s xs r f (λ x h. second x h ∙ sym (second s t)) t))

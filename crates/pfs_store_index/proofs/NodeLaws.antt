@@ -21,15 +21,10 @@ use Rattle.pfs_store_index.specs.Keeping.{Anywhere, AreInPlace, IsFoundAt, IsNot
 use Rattle.pfs_store_index.specs.Records.{IsAbove, IsRising}
 use Rattle.pfs_store_index.specs.Tallies.{IsOrderly, IsTallied, count_of, has_node_number, is_tally, nodes_of, put_tally, same_node}
 use Rattle.pfs_store_index.specs.declared.nodes.Tally.{Tally}
+use Rattle.pfs_store_contract.proofs.ScopeLaws.{same_scope_self, same_scope_true}
 use Rattle.pfs_store_index.proofs.Ordered.{IsUpdated, at_same, at_self, below-keys, filter-removed, find-held, find-vacant, found, held-all, held-pushed, held-removed, in_place, kept-pushed, kept-removed, kept-written, length-held, less_apart, look-placed, none-above, rising-held, view-written}
 
 -- ---- the test of scope and source decides
-
-same_scope_true : (a b : NodeScope) → same_scope a b ≡ true → a ≡ b
-same_scope_true a b h = search rules
-
-same_scope_self : (a : NodeScope) → same_scope a a ≡ true
-same_scope_self a = search rules
 
 pub source_true : (a b : NodeScope × Addr) → same_source a b ≡ true → a ≡ b
 source_true a b h = go (same_scope a.0 b.0) refl (same_addr a.1 b.1) refl

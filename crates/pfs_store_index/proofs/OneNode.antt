@@ -1,7 +1,7 @@
 -- One source node among others: its states by its scope, and the change of its tally alone.
 use Rattle.std.proofs.Common.{◌≡◌, ◌∙◌, ◌<◌, ◌≤◌, ◌==◌, ◌&&◌, ℕ, Bool, true, false, if◌then◌else◌, Option, Some, None, List, [], ◌∷◌, map, refl, ap, sym, subst, arith, rules}
 use Rattle.std.specs.List.{find, list_any, AllByRecursion, IsDistinct}
-use Rattle.std.proofs.lemmas.Bool.{false≢true}
+use Rattle.std.proofs.lemmas.Bool.{and_from, and_parts, false≢true}
 use Rattle.std.proofs.lemmas.Bool.Decides.{nat_tests}
 use Rattle.std.proofs.Common.{All}
 use Rattle.std.proofs.lemmas.List.Elements.{All-head, All-tail}
@@ -22,30 +22,10 @@ use Rattle.pfs_store_index.specs.Tallies.{IsTallied, has_node_number, is_tally, 
 use Rattle.pfs_store_index.specs.declared.nodes.Tally.{Tally}
 use Rattle.pfs_store_index.specs.Ties.{IsScope, IsScoped, at_node, is_at}
 use Rattle.pfs_store_index.proofs.Searches.{any-also, any-map, found-all}
+use Rattle.pfs_store_contract.proofs.ScopeLaws.{same_scope_self, same_scope_true}
 use Rattle.pfs_store_index.proofs.RisingWalks.{Above, IsRisingBy, head-above, rest-rising}
 
 -- ---- the tests decide
-
-pub same_scope_true : (a b : NodeScope) → same_scope a b ≡ true → a ≡ b
-same_scope_true a b h = search rules
-
-pub same_scope_self : (a : NodeScope) → same_scope a a ≡ true
-same_scope_self a = search rules
-
-pub and_left : (a b : Bool) → (a && b) ≡ true → a ≡ true
-and_left true b h = refl
-and_left false b h = absurd (false≢true h)
-
-pub and_right : (a b : Bool) → (a && b) ≡ true → b ≡ true
-and_right true b h = h
-and_right false b h = absurd (false≢true h)
-
-pub and_both : (a b : Bool) → a ≡ true → b ≡ true → (a && b) ≡ true
-and_both a b p q = rw (p, q) refl
-
-pub and_false : (a b : Bool) → b ≡ false → (a && b) ≡ false
-and_false true b h = h
-and_false false b h = refl
 
 pub same_addr_flip : (a b : Addr) → same_addr a b ≡ same_addr b a
 same_addr_flip a b = go (same_addr a b) refl (same_addr b a) refl
@@ -59,13 +39,13 @@ same_addr_flip a b = go (same_addr a b) refl (same_addr b a) refl
 -- ---- the scope and source of a tally
 
 pub scope_is : (sc : NodeScope) (a : Addr) (t : Tally) → is_tally sc a t ≡ true → t.node.scope ≡ sc
-scope_is sc a t h = same_scope_true t.node.scope sc (and_left (same_scope t.node.scope sc) (same_addr t.node.source a) h)
+scope_is sc a t h = same_scope_true t.node.scope sc (and_parts (same_scope t.node.scope sc) (same_addr t.node.source a) h).0
 
 pub source_is : (sc : NodeScope) (a : Addr) (t : Tally) → is_tally sc a t ≡ true → t.node.source ≡ a
-source_is sc a t h = same_addr_true t.node.source a (and_right (same_scope t.node.scope sc) (same_addr t.node.source a) h)
+source_is sc a t h = same_addr_true t.node.source a (and_parts (same_scope t.node.scope sc) (same_addr t.node.source a) h).1
 
 pub is_tally_self : (t : Tally) → is_tally t.node.scope t.node.source t ≡ true
-is_tally_self t = and_both (same_scope t.node.scope t.node.scope) (same_addr t.node.source t.node.source) (same_scope_self t.node.scope) (same_addr_self t.node.source)
+is_tally_self t = and_from (same_scope t.node.scope t.node.scope) (same_addr t.node.source t.node.source) (same_scope_self t.node.scope) (same_addr_self t.node.source)
 
 -- ---- the states of a node are those whose rule has its scope
 
@@ -196,7 +176,7 @@ tallied-at sc a v t ts l p q n =
     let h : is_tally v.node.scope v.node.source t ≡ true =
     subst (λ (z : NodeScope × Addr). is_tally z.0 z.1 t ≡ true) (λ i. (sym p i, sym q i)) (is_tally_self t) in
     let y : has_node_number v.node.number t ≡ true = ap (λ z. t.node.number == z) n ∙ same_self t.node.number in
-    any-also (is_tally sc a) (λ (u : Tally). is_tally v.node.scope v.node.source u && has_node_number v.node.number u) t ts l (and_both _ _ h y)
+    any-also (is_tally sc a) (λ (u : Tally). is_tally v.node.scope v.node.source u && has_node_number v.node.number u) t ts l (and_from _ _ h y)
 
 -- ---- a change that leaves scope and source alone
 

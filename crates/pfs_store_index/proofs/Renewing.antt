@@ -27,9 +27,10 @@ use Rattle.pfs_store_index.specs.declared.indexes.Entry.{Entry}
 use Rattle.pfs_store_index.specs.Ties.{IsCounted, connections_at, entry_of, has_key, score_at}
 use Rattle.pfs_store_index.proofs.Leavings.{record_number, state_number}
 use Rattle.pfs_store_index.proofs.Meetings.{CountsDone, key-number, put-renewed, renewed_record}
-use Rattle.pfs_store_index.proofs.OneNode.{and_both, scope_is, source_is}
+use Rattle.pfs_store_index.proofs.OneNode.{scope_is, source_is}
 use Rattle.pfs_store_index.proofs.Searches.{any-also, any-found, find-part, found-all, found-passes}
 use Rattle.pfs_store_index.proofs.Stands.{rising-records}
+use Rattle.std.proofs.lemmas.Bool.{and_from}
 use Rattle.pfs_store_index.proofs.RisingWalks.{has_number}
 
 -- the record to which an entry of the index leads
@@ -61,7 +62,7 @@ read-is k e s rs h at = found-all (λ (p : Placed). p.place ≡ e.place → p.st
 pub write-held : (k : FlowKey) (e : Entry) (n : ℕ) (rs : List Placed) (h : IsEntryOf k e rs) → h.record_of.state.number ≡ n → list_any (is_placed n e.place) rs ≡ true
 write-held k e n rs h q =
     any-also (has_key k) (is_placed n e.place) h.record_of rs h.found
-    (and_both (h.record_of.state.number == n) (h.record_of.place == e.place) (ap (λ m. m == n) q ∙ same_self n) (ap (λ m. m == e.place) h.place ∙ same_self e.place))
+    (and_from (h.record_of.state.number == n) (h.record_of.place == e.place) (ap (λ m. m == n) q ∙ same_self n) (ap (λ m. m == e.place) h.place ∙ same_self e.place))
 
 pub state-found : (k : FlowKey) (e : Entry) (s : State) (rs : List Placed) (h : IsEntryOf k e rs) → h.record_of.state ≡ s → find (λ (x : State). same_key x.key k) (states_of rs) ≡ Some s
 state-found k e s rs h q = find-part (λ (p : Placed). p.state) (λ (x : State). same_key x.key k) rs ∙ ap (option_map (λ (p : Placed). p.state)) h.found ∙ ap Some q

@@ -9,6 +9,7 @@ use Rattle.std.proofs.lemmas.List.{drop_min, take_min, take_more}
 use Rattle.std.proofs.lemmas.Map.Keys.{sorted_head, sorted_tail}
 use Rattle.pfs_store_contract.specs.Purging.{is_among}
 use Rattle.pfs_store_index.specs.Records.{between}
+use Rattle.std.proofs.lemmas.Bool.{and_right}
 use Rattle.pfs_store_index.specs.Rounds.{waiting}
 
 -- ---- numbers
@@ -281,10 +282,6 @@ module _ {X : Type 0} (number : X → ℕ) (test : X → Bool) where
       go e true = ap (λ ys. number x ∷ ys) e
       go e false = e
 
-  and_false : (a b : Bool) → b ≡ false → (a && b) ≡ false
-  and_false true b h = h
-  and_false false b h = refl
-
   pub waiting-next : (leaves : X → Bool) (a m n : ℕ) (rest : List ℕ) (xs : List X) → IsRisingBy number xs → waiting_by a m xs ≡ n ∷ rest
       → waiting_by n m (filter (survives number leaves n) xs) ≡ rest
   waiting-next leaves a m n rest [] r h = absurd cc
@@ -292,7 +289,7 @@ module _ {X : Type 0} (number : X → ℕ) (test : X → Bool) where
     where
       skipped : (number x ≤ n) → waiting_by n m (filter (survives number leaves n) xs) ≡ rest → (b : Bool)
           → waiting_by n m (if b then x ∷ filter (survives number leaves n) xs else filter (survives number leaves n) xs) ≡ rest
-      skipped l e true = rw (and_false (test x) (between n m (number x)) (not_past n m (number x) l)) e
+      skipped l e true = rw (and_right (test x) (between n m (number x)) (not_past n m (number x) l)) e
       skipped l e false = e
 
       go : (waiting_by a m xs ≡ n ∷ rest → waiting_by n m (filter (survives number leaves n) xs) ≡ rest) → (b : Bool) → (test x && between a m (number x)) ≡ b

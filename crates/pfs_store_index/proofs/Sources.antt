@@ -21,7 +21,7 @@ use Rattle.pfs_store_index.specs.Records.{between}
 use Rattle.pfs_store_index.specs.Rounds.{waiting_of}
 use Rattle.pfs_store_index.specs.Ties.{addr_cmp, is_pair, pair_cmp}
 use Rattle.pfs_store_index.proofs.Leavings.{state_number}
-use Rattle.pfs_store_index.proofs.OneNode.{and_both, and_left, and_right}
+use Rattle.std.proofs.lemmas.Bool.{and_parts, and_from}
 use Rattle.pfs_store_index.proofs.RisingWalks.{Above, IsRisingBy, head-above, rest-rising}
 
 -- ---- the order of pairs
@@ -132,11 +132,11 @@ pair_test s a n = go (is_found (pair_cmp (s.source, s.number)) (a, n)) refl (is_
     go false e false f = e ∙ sym f
     go true e false f =
         let w = pair_found (s.source, s.number) (a, n) e in
-        let z : is_pair a n s ≡ true = and_both _ _ (ap (λ (p : Addr × ℕ). same_addr s.source p.0) (sym w) ∙ same_addr_self s.source) (ap (λ (p : Addr × ℕ). s.number == p.1) (sym w) ∙ same_self s.number) in
+        let z : is_pair a n s ≡ true = and_from _ _ (ap (λ (p : Addr × ℕ). same_addr s.source p.0) (sym w) ∙ same_addr_self s.source) (ap (λ (p : Addr × ℕ). s.number == p.1) (sym w) ∙ same_self s.number) in
         absurd (cc (z, f))
     go false e true f =
-        let p = same_addr_true s.source a (and_left (is_of_source a s) (s.number == n) f) in
-        let q = same_number s.number n (and_right (is_of_source a s) (s.number == n) f) in
+        let p = same_addr_true s.source a (and_parts (is_of_source a s) (s.number == n) f).0 in
+        let q = same_number s.number n (and_parts (is_of_source a s) (s.number == n) f).1 in
         let z : is_found (pair_cmp (s.source, s.number)) (a, n) ≡ true = ap (λ (x : Addr × ℕ). is_found (pair_cmp (s.source, s.number)) x) (λ i. (sym p i, sym q i)) ∙ found_self s.source s.number in
         absurd (cc (z, e))
 
@@ -173,7 +173,7 @@ pair_above a k n [] h any = absurd (cc any)
 pair_above a k n (x ∷ xs) (h, hs) any = go (pair_above a k n xs hs) (is_pair a n x) refl
   where
     go : (list_any (is_pair a n) xs ≡ true → k < n) → (b : Bool) → is_pair a n x ≡ b → k < n
-    go more true e = let q = number_true x.number n (and_right (is_of_source a x) (x.number == n) e) in omega (arith, h, q)
+    go more true e = let q = number_true x.number n (and_parts (is_of_source a x) (x.number == n) e).1 in omega (arith, h, q)
     go more false e = more (or_other (is_pair a n x) (list_any (is_pair a n) xs) e any)
 
 pub first-some : (a : Addr) (above most n : ℕ) (xs : List State) → IsRisingBy state_number xs → IsFirstOf a above most n xs → slice_get (waiting_of a above most xs) 0 ≡ Some n
@@ -181,17 +181,17 @@ first-some a above most n [] r f = let h = f.held in absurd (cc h)
 first-some a above most n (x ∷ xs) r f = go (first-some a above most n xs (rest-rising state_number x xs r)) (is_of_source a x && between above most x.number) refl
   where
     self-held : is_of_source a x ≡ true → list_any (is_pair a x.number) (x ∷ xs) ≡ true
-    self-held s = ap (λ b. b || list_any (is_pair a x.number) xs) (and_both (is_of_source a x) (x.number == x.number) s (same_self x.number))
+    self-held s = ap (λ b. b || list_any (is_pair a x.number) xs) (and_from (is_of_source a x) (x.number == x.number) s (same_self x.number))
 
     go : (IsFirstOf a above most n xs → slice_get (waiting_of a above most xs) 0 ≡ Some n) → (b : Bool) → (is_of_source a x && between above most x.number) ≡ b → slice_get (waiting_of a above most (x ∷ xs)) 0 ≡ Some n
     go more true e =
-        let s = and_left (is_of_source a x) (between above most x.number) e in
-        let w = and_right (is_of_source a x) (between above most x.number) e in
+        let s = (and_parts (is_of_source a x) (between above most x.number) e).0 in
+        let w = (and_parts (is_of_source a x) (between above most x.number) e).1 in
         let le : n ≤ x.number = f.least x.number (self-held s) (between_low above most x.number w) (between_high above most x.number w) in
         rw e (ap Some (same (is_pair a n x) refl le))
       where
         same : (b : Bool) → is_pair a n x ≡ b → n ≤ x.number → x.number ≡ n
-        same true i le = number_true x.number n (and_right (is_of_source a x) (x.number == n) i)
+        same true i le = number_true x.number n (and_parts (is_of_source a x) (x.number == n) i).1
         same false i le =
             let later = or_other (is_pair a n x) (list_any (is_pair a n) xs) i f.held in
             let lo = pair_above a x.number n xs (head-above state_number x xs r) later in
@@ -213,10 +213,10 @@ first-some a above most n (x ∷ xs) r f = go (first-some a above most n xs (res
 
         apart : (b : Bool) → is_pair a n x ≡ b → is_pair a n x ≡ false
         apart true i =
-            let s = and_left (is_of_source a x) (x.number == n) i in
-            let q = number_true x.number n (and_right (is_of_source a x) (x.number == n) i) in
+            let s = (and_parts (is_of_source a x) (x.number == n) i).0 in
+            let q = number_true x.number n (and_parts (is_of_source a x) (x.number == n) i).1 in
             let w : between above most x.number ≡ true = ap (between above most) q ∙ between_true above most n f.above_it f.most_it in
-            let z = and_both (is_of_source a x) (between above most x.number) s w in
+            let z = and_from (is_of_source a x) (between above most x.number) s w in
             absurd (cc (z, e))
         apart false i = i
 
@@ -230,10 +230,10 @@ first-none a above most (x ∷ xs) h = go (first-none a above most xs) (is_of_so
 
     go : (((n : ℕ) → above < n → n ≤ most → list_any (is_pair a n) xs ≡ false) → slice_get (waiting_of a above most xs) 0 ≡ None) → (b : Bool) → (is_of_source a x && between above most x.number) ≡ b → slice_get (waiting_of a above most (x ∷ xs)) 0 ≡ None
     go more true e =
-        let s = and_left (is_of_source a x) (between above most x.number) e in
-        let w = and_right (is_of_source a x) (between above most x.number) e in
+        let s = (and_parts (is_of_source a x) (between above most x.number) e).0 in
+        let w = (and_parts (is_of_source a x) (between above most x.number) e).1 in
         let z = h x.number (between_low above most x.number w) (between_high above most x.number w) in
-        let y : list_any (is_pair a x.number) (x ∷ xs) ≡ true = ap (λ b. b || list_any (is_pair a x.number) xs) (and_both (is_of_source a x) (x.number == x.number) s (same_self x.number)) in
+        let y : list_any (is_pair a x.number) (x ∷ xs) ≡ true = ap (λ b. b || list_any (is_pair a x.number) xs) (and_from (is_of_source a x) (x.number == x.number) s (same_self x.number)) in
         absurd (cc (y, z))
     go more false e = rw e (more (λ n l m. or_no (is_pair a n x) (list_any (is_pair a n) xs) (h n l m)))
 

@@ -6,17 +6,8 @@ use Rattle.pfs_conf_values.specs.Configs.{Conf}
 use Rattle.pfs_store_contract.specs.Counts.{node_states}
 use Rattle.pfs_store_contract.specs.Leaving.{node_after_leaving}
 use Rattle.pfs_store_contract.specs.declared.records.Node.{Node}
+use Rattle.pfs_store_contract.proofs.FilterLaws.{filter-all}
 use Rattle.pfs_store_contract.specs.declared.records.State.{State}
-
--- a filter that keeps as many keeps all
-filter-all : (p : State → Bool) (xs : List State) → length xs ≤ length (filter p xs) → filter p xs ≡ xs
-filter-all p [] h = refl
-filter-all p (x ∷ xs) h = go (λ k. filter-all p xs k) (p x) h
-  where
-    go : (length xs ≤ length (filter p xs) → filter p xs ≡ xs) → (b : Bool)
-        → suc (length xs) ≤ length (if b then x ∷ filter p xs else filter p xs) → (if b then x ∷ filter p xs else filter p xs) ≡ x ∷ xs
-    go rest true k = ap (λ ys. x ∷ ys) (rest (omega arith))
-    go rest false k = absurd (omega (arith, length-filter p xs, count_by-le-length p xs))
 
 -- a map that changes no element
 map-same : (f : Node → Node) → ((n : Node) → f n ≡ n) → (ns : List Node) → map f ns ≡ ns

@@ -1,6 +1,7 @@
 //! Both kinds of store: new ones, and states that are admitted, refused and taken away.
 
 ghost use Rattle.std.specs.Prelude.{◌≡◌};
+ghost use Rattle.pfs_store_contract.specs.Worlds.{IsUpToNow};
 
 use crate::packets::{A1, A2, Sent, packet};
 use crate::telling::{Stop, answered, begin, begin_free, end, plain, refused, wrong};
@@ -71,7 +72,8 @@ pub fn tell_plain(rt: &HostRuntime) -> Result<(), Stop> {
         make_plain(rt, text)?;
     }
     fill_plain(rt)?;
-    fill_plain_again(rt)
+    fill_plain_again(rt)?;
+    touch_plain(rt)
 }
 
 fn make_plain(rt: &HostRuntime, text: &[u8]) -> Result<(), Stop> {
@@ -100,7 +102,8 @@ pub fn tell_indexed(rt: &HostRuntime) -> Result<(), Stop> {
         make_indexed(rt, text)?;
     }
     fill_indexed(rt)?;
-    fill_indexed_again(rt)
+    fill_indexed_again(rt)?;
+    touch_indexed(rt)
 }
 
 fn make_indexed(rt: &HostRuntime, text: &[u8]) -> Result<(), Stop> {
@@ -121,6 +124,18 @@ fn fill_indexed_again(rt: &HostRuntime) -> Result<(), Stop> {
     let config = load(rt.alloc(), UNTRACKED)?;
     let mut store = IndexStore::new(rt.alloc(), &config)?;
     fill_again(rt, &mut store, &config)
+}
+
+fn touch_plain(rt: &HostRuntime) -> Result<(), Stop> {
+    let config = load(rt.alloc(), LIMITED)?;
+    let mut store = PlainStore::new(rt.alloc(), &config)?;
+    touch_first(rt, &mut store, &config)
+}
+
+fn touch_indexed(rt: &HostRuntime) -> Result<(), Stop> {
+    let config = load(rt.alloc(), LIMITED)?;
+    let mut store = IndexStore::new(rt.alloc(), &config)?;
+    touch_first(rt, &mut store, &config)
 }
 
 fn new_plain(rt: &HostRuntime, config: &Config) -> Result<bool, Stop> {
@@ -167,6 +182,60 @@ fn fill_again<S: Store>(rt: &HostRuntime, store: &mut S, config: &Config) -> Res
         store.kill(StateNo(2), 6, &mut meter);
     }
     admit(rt, store, config, &(Ask::InRoom, A2, 9, 0, Ok(5)))?;
+    Ok(())
+}
+
+/// The first state of a store, and its second packet, which takes no memory.
+fn touch_first<S: Store>(rt: &HostRuntime, store: &mut S, config: &Config) -> Result<(), Stop>
+    requires made_for { S.config store.old ≡ config.now }
+    requires order { IsUpToNow 5 (S.world store.old) }
+{
+    let packet = packet(Sent::Udp, A1, 1)?;
+    if admit_first(store, config, &packet, 5)?.is_err() {
+        return Err(Stop::Input);
+    }
+    touch(rt, store, &packet, 5)
+}
+
+fn admit_first<S: Store>(
+    store: &mut S,
+    config: &Config,
+    packet: &Packet,
+    now: u64,
+) -> Result<Result<StateNo, Limit>, Stop>
+    requires made_for { S.config store.old ≡ config.now }
+    requires order { IsUpToNow now (S.world store.old) }
+    ensures order { IsUpToNow now (S.world store.new) }
+{
+    if store.find(&FlowKey::of(packet)).is_some()
+        || config.options(RuleNo(0)).is_none()
+        || store.made() >= RUN_LIMIT
+    {
+        return Err(Stop::Input);
+    }
+    Ok(store.admit(packet, RuleNo(0), now)?)
+}
+
+fn touch<S: Store>(
+    rt: &HostRuntime,
+    store: &mut S,
+    packet: &Packet,
+    now: u64,
+) -> Result<(), Stop>
+    requires order { IsUpToNow now (S.world store.old) }
+{
+    let Some(number) = store.find(&FlowKey::of(packet)) else {
+        return Err(Stop::Input);
+    };
+    let before = counts(store);
+    let mut meter = Meter::new();
+    begin_free(rt, "touch")?;
+    let touched = store.touch(number, packet, now, &mut meter);
+    end(rt)?;
+    plain(
+        rt,
+        touched.source == A1 && !touched.completed && counts(store) == before,
+    )?;
     Ok(())
 }
 

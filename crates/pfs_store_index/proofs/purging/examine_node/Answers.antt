@@ -3,7 +3,6 @@ use Rattle.std.proofs.Common.{◌≡◌, ◌∙◌, ◌+◌, ◌==◌, ◌&&◌,
 use Rattle.std.proofs.lemmas.Bool.Decides.{nat_tests}
 use Rattle.pfs_store_contract.specs.Purging.{is_over, node_retention}
 use Rattle.pfs_store_index.proofs.Idling.{node_number}
-use Rattle.pfs_store_index.proofs.OneNode.{and_left}
 use Rattle.pfs_store_index.proofs.RisingWalks.{survive-kept, survive-removed}
 use Rattle.std.proofs.Common.{ℕ, ◌≤◌, List, subst}
 use Rattle.pfs_conf_values.specs.Configs.{Conf}
@@ -13,6 +12,7 @@ use Rattle.pfs_store_contract.specs.declared.records.State.{State}
 use Rattle.pfs_store_contract.specs.declared.records.Node.{Node}
 use Rattle.pfs_store_index.specs.Staying.{NodeHolds}
 use Rattle.pfs_store_index.proofs.Untils.{one-filter, one-found}
+use Rattle.std.proofs.lemmas.Bool.{and_parts}
 use Rattle.pfs_store_index.proofs.purging.examine_node.Goals as goal
 
 none_of : (n : ℕ) → (n == 0) ≡ true → n ≡ 0
@@ -20,7 +20,7 @@ none_of n h = grind (arith, nat_tests)
 
 pub drop_node-requires-clause-stateless : goal.drop_node-requires-clause-stateless
 drop_node-requires-clause-stateless g c =
-    sym c.requires.states ∙ none_of c.args.tally.now.states (and_left (c.args.tally.now.states == 0) _ (sym c.if-is_over.ensures))
+    sym c.requires.states ∙ none_of c.args.tally.now.states (and_parts (c.args.tally.now.states == 0) _ (sym c.if-is_over.ensures)).0
 
 pub returns-then-is_over-clause-nodes : goal.returns-then-is_over-clause-nodes
 returns-then-is_over-clause-nodes g c =

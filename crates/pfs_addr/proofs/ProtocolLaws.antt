@@ -1,4 +1,4 @@
--- The texts of protocols are read as those protocols.
+-- The names and numbers of protocols are read as those protocols.
 use Rattle.std.proofs.Common.{◌≡◌, ◌≢◌, ◌<◌, ◌^◌, ℕ, Bool, true, false, List, [], ◌∷◌, Some, None, refl, ap, ◌∙◌, arith}
 use Rattle.std.specs.Prelude.{codes, decimal, ◌==◌, not, nat_lt}
 use Rattle.std.specs.List.{list_all}
@@ -9,7 +9,7 @@ use Rattle.pfs_addr_values.specs.Numbers.{is_digit}
 use Rattle.pfs_addr_values.specs.Protocols.{proto_in, proto_numbered, proto_of}
 use Rattle.pfs_addr_values.specs.declared.protocols.Proto.{Proto}
 use Rattle.pfs_addr_values.specs.declared.protocols.Proto.TheVariants as proto
-use Rattle.pfs_addr.proofs.NumberLaws.{decimal_digits, number_of-decimal as addr_number_of-decimal}
+use Rattle.pfs_addr.proofs.NumberLaws.{decimal_digits, number_of-decimal}
 
 -- digits are no bytes past them
 pub digits_avoid : (c : ℕ) (ds : List ℕ) → 57 < c → list_all is_digit ds ≡ true → list_all (λ b. not (b == c)) ds ≡ true
@@ -30,7 +30,7 @@ no_word c v (b ∷ w) h =
     is_false true e = absurd (cc e)
     is_false false e = refl
 
-decimal_no_word : (c : ℕ) (v : List ℕ) (n : ℕ) → 57 < c → n < 2 ^ 64 → bytes_eq (decimal n) (c ∷ v) ≡ false
+pub decimal_no_word : (c : ℕ) (v : List ℕ) (n : ℕ) → 57 < c → n < 2 ^ 64 → bytes_eq (decimal n) (c ∷ v) ≡ false
 decimal_no_word c v n lt h = no_word c v (decimal n) (digits_avoid c (decimal n) lt (decimal_digits n h))
 
 number_proto : (n : ℕ) → n ≢ 6 → n ≢ 17 → proto_of n ≡ proto.Other n
@@ -49,7 +49,7 @@ proto_again n h six seventeen =
     ∙ (cond-false (bytes_eq (decimal n) (codes "esp")) _ _ (no 101 (codes "sp") (omega arith))
     ∙ (cond-false (bytes_eq (decimal n) (codes "ah")) _ _ (no 97 (codes "h") (omega arith))
     ∙ (cond-false (bytes_eq (decimal n) (codes "gre")) _ _ (no 103 (codes "re") (omega arith))
-    ∙ (ap proto_numbered (addr_number_of-decimal n (omega arith))
+    ∙ (ap proto_numbered (number_of-decimal n (omega arith))
     ∙ (cond-true (nat_lt n 256) (Some (proto_of n)) None (lt-ltb n 256 h)
     ∙ ap (λ (x : Proto). Some x) (number_proto n six seventeen)))))))))
 
