@@ -2,6 +2,8 @@
 use Rattle.pfs_store_contract.proofs.MomentLaws.{world_at-up_to_now}
 use Rattle.pfs_tests_memory.proofs.stores.admit_first.Goals as goal
 
-pub returns-clause-order : goal.returns-clause-order
-returns-clause-order g c =
-    rw c.in_ok-admit.ensures.ok (world_at-up_to_now (g.S.Store.config c.args.store.now) (g.S.Store.world c.args.store.now) c.args.packet.now 0 c.args.now _ c.requires.order)
+pub returns : goal.returns
+returns g c =
+    rw c.in_ok-admit.ensures.ok (record {
+        order = world_at-up_to_now (g.S.Store.config c.args.store.now) (g.S.Store.world c.args.store.now) c.args.packet.now 0 c.args.now _ c.requires.order
+    })
