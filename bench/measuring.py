@@ -37,3 +37,13 @@ def run_once(words: list[str]) -> Measure:
     if process.returncode != 0:
         sys.exit(f"bench: {' '.join(words)} ended with status {process.returncode}")
     return Measure(used.ru_utime, used.ru_stime, peak)
+
+
+def count_instructions(words: list[str]) -> int:
+    """How many instructions a run takes, as valgrind counts them: the same in each run, whatever else the machine does."""
+    counted = ["valgrind", "--tool=callgrind", "--callgrind-out-file=/dev/null", *words]
+    done = subprocess.run(counted, stdin=subprocess.DEVNULL, stdout=subprocess.DEVNULL, stderr=subprocess.PIPE, text=True, check=False)
+    found = re.search(r"Collected : (\d+)", done.stderr)
+    if done.returncode != 0 or not found:
+        sys.exit(f"bench: {' '.join(counted)} ended with status {done.returncode}")
+    return int(found[1])
