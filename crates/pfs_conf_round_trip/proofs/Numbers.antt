@@ -2,19 +2,13 @@
 use Rattle.std.proofs.Common.{◌≡◌, ◌≢◌, ◌<◌, ◌^◌, ◌+◌, ℕ, Bool, true, false, List, [], ◌∷◌, ◌++◌, length, Option, Some, None, refl, sym, ap, ◌∙◌, arith, append-nil}
 use Rattle.std.specs.Prelude.{codes, decimal, ◌==◌, not, nat_lt, nat_le, if◌then◌else◌}
 use Rattle.std.specs.List.{list_all, prefix_len}
-use Rattle.std.specs.Str.{bytes_eq}
-use Rattle.std.proofs.lemmas.Bool.{and_from, and_parts, cond-true, cond-false, ne_eqb, eqb-true, and_left, le-leb, lt-ltb, le-ltb}
-use Rattle.std.proofs.lemmas.Bool.Decides.{nat_tests}
+use Rattle.std.proofs.lemmas.Bool.{and_parts, cond-true, cond-false, eqb-true, le-leb, lt-ltb, le-ltb}
 use Rattle.pfs_conf_tokens.specs.declared.keys.Key.TheVariants as key
 use Rattle.pfs_conf_tokens.specs.Lexis.{is_word_byte}
 use Rattle.pfs_conf_tokens.specs.Numbers.{parts_around, split_around}
 use Rattle.pfs_conf_tokens.specs.Words.{key_of_text}
 use Rattle.pfs_conf_tokens.proofs.ShownLaws.{decimal_text, is_word_text, key_of_decimal, number_of-decimal, split_around_append}
-use Rattle.pfs_addr_values.specs.Numbers.{is_digit}
-use Rattle.pfs_addr_values.specs.Protocols.{proto_in, proto_numbered, proto_of}
-use Rattle.pfs_addr_values.specs.declared.protocols.Proto.{Proto}
-use Rattle.pfs_addr_values.specs.declared.protocols.Proto.TheVariants as proto
-use Rattle.pfs_addr.proofs.NumberLaws.{decimal_digits, number_of-decimal as addr_number_of-decimal}
+use Rattle.pfs_addr.proofs.NumberLaws.{decimal_digits}
 use Rattle.pfs_conf_values.specs.LoadRules.{ArePorts}
 use Rattle.pfs_conf_values.specs.declared.filters.Ports.{Ports}
 use Rattle.pfs_conf_filters.specs.Values.{one_port, port_by, port_of, port_numbered, port_range, ports_around, ports_of}

@@ -1,5 +1,5 @@
 -- Which rules count in a scope of source nodes, and which sources have states there.
-use Rattle.std.proofs.Common.{◌≡◌, ◌∙◌, ◌&&◌, ℕ, Bool, true, false, Option, Some, None, List, [], ◌∷◌, All, refl, ap, sym, arith, rules}
+use Rattle.std.proofs.Common.{◌≡◌, ◌∙◌, ◌&&◌, ℕ, Bool, true, false, Option, Some, None, List, [], ◌∷◌, All, refl, ap, sym, arith}
 use Rattle.std.proofs.lemmas.Bool.{and_parts, false≢true}
 use Rattle.std.proofs.lemmas.Bool.Decides.{nat_tests}
 use Rattle.std.proofs.lemmas.List.Elements.{All-head, All-tail}
@@ -9,7 +9,7 @@ use Rattle.pfs_addr_values.specs.declared.addresses.Addr.{Addr}
 use Rattle.pfs_conf_values.specs.Configs.{Conf, scope_of}
 use Rattle.pfs_conf_values.specs.declared.actions.Scope.{Scope}
 use Rattle.pfs_conf_values.specs.declared.actions.Scope.TheVariants as scope
-use Rattle.pfs_store_contract.specs.Counts.{has_node, in_scope, is_of_node, node_scope_under, node_scope_of, node_states, same_scope}
+use Rattle.pfs_store_contract.specs.Counts.{has_node, in_scope, is_of_node, node_scope_under, node_scope_of, node_states}
 use Rattle.pfs_conf_values.specs.Bounds.{is_global}
 use Rattle.pfs_store_contract.specs.declared.records.Node.{Node}
 use Rattle.pfs_store_contract.specs.declared.records.NodeScope.{NodeScope}

@@ -216,12 +216,7 @@ fn admit_first<S: Store>(
     Ok(store.admit(packet, RuleNo(0), now)?)
 }
 
-fn touch<S: Store>(
-    rt: &HostRuntime,
-    store: &mut S,
-    packet: &Packet,
-    now: u64,
-) -> Result<(), Stop>
+fn touch<S: Store>(rt: &HostRuntime, store: &mut S, packet: &Packet, now: u64) -> Result<(), Stop>
     requires order { IsUpToNow now (S.world store.old) }
 {
     let Some(number) = store.find(&FlowKey::of(packet)) else {
