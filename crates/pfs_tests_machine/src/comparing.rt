@@ -5,12 +5,12 @@ ghost use Rattle.std.specs.Prelude.{◌≡◌};
 ghost use Rattle.pfs_store_contract.specs.Worlds.{IsUpToNow};
 
 use crate::calls::{admit, flush, kill, purge_nodes, purge_states, touch};
-use crate::packets::{Sent, packet};
 use pfs_addr_values::{Addr, Flags, FlowKey, Packet};
 use pfs_conf::{Config, RuleNo, load};
 use pfs_store::IndexStore;
 use pfs_store_contract::{Limit, Slice, StateNo, Store, Touched};
 use pfs_store_plain::PlainStore;
+use pfs_tests_cases::{Sent, packet};
 use std::alloc::AllocGlobal;
 use std::process::Abort;
 use std::test::Fail;
@@ -57,7 +57,7 @@ fn drawn(draw: u64) -> Result<Packet, Fail> {
     } else {
         Sent::Answer(flags)
     };
-    packet(&sent, source(draw), (draw / 64 % 8) as u16)
+    Ok(packet(&sent, source(draw), (draw / 64 % 8) as u16)?)
 }
 
 fn source(draw: u64) -> Addr {

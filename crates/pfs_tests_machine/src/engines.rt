@@ -1,40 +1,28 @@
-//! Engines over each kind of store, and what they do with a script.
+//! Engines over each kind of store, and what they do with the events of a case.
 
-ghost use Rattle.std.specs.Prelude.{◌≡◌, ◌<◌, ◌≤◌, ◌^◌, true};
-ghost use Rattle.std.specs.Option.{ForSome};
-ghost use Rattle.pfs_engine_machine.specs.Runs.{AreAllowed, IsInOrder, MayCome, MayExpire};
-
-use crate::scripts::{Case, Script};
 use crate::tallied::Tallied;
 use pfs_addr_values::{Packet, RUN_LIMIT};
-use pfs_conf::{Config, TableNo, load};
+use pfs_conf::TableNo;
 use pfs_engine::{Arrival, Engine, Event, Outcome};
 use pfs_store::IndexStore;
 use pfs_store_contract::Store;
 use pfs_store_plain::PlainStore;
+use pfs_tests_cases::{
+    Case, Script, are_allowed, configured, is_in_order, is_in_time, may_come, may_expire, same,
+};
 use std::alloc::{AllocGlobal, Global};
 use std::process::Abort;
 use std::test::Fail;
 
-/// What is put in front of rules whose states are given no shorter life under load.
-pub const UNSCALED: &[u8] = b"set timeout { adaptive.start 0, adaptive.end 0 }\n";
-
-/// The configuration of two texts, one after the other.
-pub fn configured(alloc: Global, first: &[u8], rules: &[u8]) -> Result<Config, Fail> {
-    let mut text = Vec::from_slice(alloc, first)?;
-    text.extend_from_slice(rules)?;
-    Ok(load(alloc, &text)?)
-}
-
 /// An engine over a plain store.
-pub fn plain(alloc: Global, first: &[u8], rules: &[u8]) -> Result<Engine<PlainStore>, Fail> {
+pub fn plain(alloc: Global, first: &str, rules: &str) -> Result<Engine<PlainStore>, Fail> {
     let config = configured(alloc, first, rules)?;
     let store = PlainStore::new(alloc, &config)?;
     Ok(Engine::new(alloc, config, store)?)
 }
 
 /// An engine over a store by indexes.
-pub fn indexed(alloc: Global, first: &[u8], rules: &[u8]) -> Result<Engine<IndexStore>, Fail> {
+pub fn indexed(alloc: Global, first: &str, rules: &str) -> Result<Engine<IndexStore>, Fail> {
     let config = configured(alloc, first, rules)?;
     let store = IndexStore::new(alloc, &config)?;
     Ok(Engine::new(alloc, config, store)?)
@@ -43,8 +31,8 @@ pub fn indexed(alloc: Global, first: &[u8], rules: &[u8]) -> Result<Engine<Index
 /// An engine over a plain store whose changes are counted.
 pub fn tallied(
     alloc: Global,
-    first: &[u8],
-    rules: &[u8],
+    first: &str,
+    rules: &str,
 ) -> Result<Engine<Tallied<PlainStore>>, Fail> {
     let config = configured(alloc, first, rules)?;
     let store = Tallied::new(PlainStore::new(alloc, &config)?);
@@ -52,7 +40,7 @@ pub fn tallied(
 }
 
 /// Over each kind of store one by one, and as a run: the outcomes, and what is held in the end.
-pub fn tell(rt: &(impl Abort + AllocGlobal), first: &[u8], case: &Case) -> Result<(), Fail> {
+pub fn tell(rt: &(impl Abort + AllocGlobal), first: &str, case: &Case) -> Result<(), Fail> {
     let alloc = rt.alloc();
     let script = Script::of(alloc, case.rows)?;
     ends(rt, plain(alloc, first, case.rules)?, &script, case)?;
@@ -62,14 +50,6 @@ pub fn tell(rt: &(impl Abort + AllocGlobal), first: &[u8], case: &Case) -> Resul
     steps(rt, indexed(alloc, first, case.rules)?, &script, case)?;
     runs(rt, plain(alloc, first, case.rules)?, &script, case)?;
     runs(rt, indexed(alloc, first, case.rules)?, &script, case)
-}
-
-/// Reports each case, without a shorter life under load.
-pub fn tell_each(rt: &(impl Abort + AllocGlobal), cases: &[Case]) -> Result<(), Fail> {
-    for case in cases {
-        tell(rt, UNSCALED, case)?;
-    }
-    Ok(())
 }
 
 /// Lets time pass to a moment that is not before the last one.
@@ -179,50 +159,5 @@ fn time_of(event: Option<&Event>) -> Option<u64> {
     match event {
         Some(event) => Some(event.time),
         None => None,
-    }
-}
-
-fn is_in_time(last: Option<u64>, time: u64) -> bool
-    ensures order { result ≡ true → ForSome last (λ moment. moment ≤ time) }
-    ensures moment { result ≡ true → time < 2 ^ 32 }
-{
-    match last {
-        Some(last) => last <= time && time <= 4294967295,
-        None => time <= 4294967295,
-    }
-}
-
-fn is_in_order(last: Option<u64>, events: &[Event]) -> bool
-    ensures { result ≡ true → IsInOrder last events.now }
-{
-    match events {
-        [] => true,
-        [event, rest @ ..] => {
-            is_in_time(last, event.time) && is_in_order(Some(event.time), rest)
-        }
-    }
-}
-
-fn may_expire(config: &Config, table: TableNo) -> bool
-    ensures { result ≡ true → MayExpire config.now table.0 }
-{
-    table.0 < config.table_count() && !config.is_const(table)
-}
-
-fn may_come(config: &Config, what: &Arrival) -> bool
-    ensures { result ≡ true → MayCome config.now what.now }
-{
-    match what {
-        Arrival::Expire { table, .. } => may_expire(config, *table),
-        _ => true,
-    }
-}
-
-fn are_allowed(config: &Config, events: &[Event]) -> bool
-    ensures { result ≡ true → AreAllowed config.now events.now }
-{
-    match events {
-        [] => true,
-        [event, rest @ ..] => may_come(config, &event.what) && are_allowed(config, rest),
     }
 }

@@ -1,20 +1,7 @@
-//! Tests of the machine: stores by themselves, and engines that follow scripts of packets.
+//! Tests of the machine: stores by themselves, and engines that follow the events of cases.
 
 #![tactic(auto)]
 
-/// Two values are the same; a third is shown where they are not.
-#[cfg(test)]
-macro_rules! same {
-    ($rt:expr; $told:expr, $wanted:expr) => {
-        crate::checks::same(&$rt, stringify!($told), &$told, &$wanted)
-    };
-    ($rt:expr; $told:expr, $wanted:expr, $at:expr) => {
-        crate::checks::same_at(&$rt, stringify!($told), &$told, &$wanted, &$at)
-    };
-}
-
-#[cfg(test)]
-mod admission;
 #[cfg(test)]
 mod calls;
 #[cfg(test)]
@@ -22,15 +9,9 @@ mod checks;
 #[cfg(test)]
 mod comparing;
 #[cfg(test)]
-mod connections;
-#[cfg(test)]
 mod engines;
 #[cfg(test)]
-mod packets;
-#[cfg(test)]
-mod passing;
-#[cfg(test)]
-mod scripts;
+mod scenarios;
 #[cfg(test)]
 mod stores;
 #[cfg(test)]

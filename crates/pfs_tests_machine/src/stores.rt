@@ -6,14 +6,13 @@ ghost use Rattle.pfs_store_contract.specs.Worlds.{IsUpToNow};
 use crate::calls::{
     admit, flush, kill, pass_over, purge_nodes, purge_states, touch, watch_nodes, watch_states,
 };
-use crate::engines::{UNSCALED, configured};
-use crate::packets::{A1, A2, ACK, SYN, SYN_ACK, Sent, packet};
 use crate::tallied::Tallied;
 use pfs_addr_values::{Addr, FlowKey};
 use pfs_conf::{Config, RuleNo};
 use pfs_store::IndexStore;
 use pfs_store_contract::{Limit, StateNo, Store, Touched};
 use pfs_store_plain::PlainStore;
+use pfs_tests_cases::{A1, A2, ACK, SYN, SYN_ACK, Sent, UNSCALED, configured, packet, same};
 use pfs_track::Score;
 use std::process::Abort;
 use std::test::Fail;
@@ -235,7 +234,7 @@ fn all_changes(rows: &[Row]) -> u64 {
 }
 
 /// In each kind of store, of which one is held at a time
-fn tell(rt: &(impl Abort + AllocGlobal), rules: &[u8], rows: &[Row]) -> Result<(), Fail> {
+fn tell(rt: &(impl Abort + AllocGlobal), rules: &str, rows: &[Row]) -> Result<(), Fail> {
     let config = configured(rt.alloc(), UNSCALED, rules)?;
     tell_plain(rt, &config, rows)?;
     tell_tallied(rt, &config, rows)?;
@@ -281,7 +280,7 @@ const NUMBERED: &[Row] = &[
 fn states_are_numbered_and_refused(rt: HostRuntime) -> Result<(), Fail> {
     tell(
         &rt,
-        b"set limit states 1\npass keep state (max 1)\npass",
+        "set limit states 1\npass keep state (max 1)\npass",
         NUMBERED,
     )
 }
@@ -298,7 +297,7 @@ const MAXIMA: &[Row] = &[
 
 #[test]
 fn a_source_has_a_maximum_of_states(rt: HostRuntime) -> Result<(), Fail> {
-    let rules = b"pass keep state (source-track global, max-src-states 2)\n\
+    let rules = "pass keep state (source-track global, max-src-states 2)\n\
         pass keep state (source-track global, max-src-states 3)";
     tell(&rt, rules, MAXIMA)
 }
@@ -316,7 +315,7 @@ const SHARED: &[Row] = &[
 
 #[test]
 fn rules_share_global_nodes_under_their_own_maxima(rt: HostRuntime) -> Result<(), Fail> {
-    let rules = b"pass keep state (source-track global, max-src-states 2)\n\
+    let rules = "pass keep state (source-track global, max-src-states 2)\n\
         pass keep state (source-track global, max-src-states 5)";
     tell(&rt, rules, SHARED)
 }
@@ -337,9 +336,9 @@ const REFUSALS: &[Row] = &[
 
 #[test]
 fn a_refusal_makes_no_node(rt: HostRuntime) -> Result<(), Fail> {
-    let rules = b"set limit { states 1, src-nodes 5 }\npass keep state (source-track rule)";
+    let rules = "set limit { states 1, src-nodes 5 }\npass keep state (source-track rule)";
     tell(&rt, rules, FULL)?;
-    let rules = b"set limit { states 2, src-nodes 1 }\npass keep state (source-track rule)\npass";
+    let rules = "set limit { states 2, src-nodes 1 }\npass keep state (source-track rule)\npass";
     tell(&rt, rules, REFUSALS)
 }
 
@@ -361,7 +360,7 @@ const IN_TURN: &[Row] = &[
 
 #[test]
 fn handshakes_count_in_the_score_of_their_source(rt: HostRuntime) -> Result<(), Fail> {
-    let rules = b"pass keep state (max-src-conn 1, max-src-conn-rate 3/10)\npass";
+    let rules = "pass keep state (max-src-conn 1, max-src-conn-rate 3/10)\npass";
     tell(&rt, rules, AT_ONCE)?;
     tell(&rt, rules, IN_TURN)
 }
@@ -390,12 +389,12 @@ const LEAVING: &[Row] = &[
 #[test]
 fn states_leave_by_number_and_by_source(rt: HostRuntime) -> Result<(), Fail> {
     let rules =
-        b"set timeout { src.track 20, interval 1 }\npass keep state (source-track rule)\npass";
+        "set timeout { src.track 20, interval 1 }\npass keep state (source-track rule)\npass";
     tell(&rt, rules, LEAVING)
 }
 
 /// A slice examines two states and one node
-const SLICES: &[u8] = b"set limit { states 6, src-nodes 4 }\n\
+const SLICES: &str = "set limit { states 6, src-nodes 4 }\n\
     set timeout { src.track 20, interval 5, udp.first 5 }\npass keep state (source-track rule)";
 
 const ROUNDS: &[Row] = &[

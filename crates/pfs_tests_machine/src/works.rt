@@ -1,12 +1,14 @@
 //! How much work a packet is, and a lapse of time.
 
-use crate::engines::{UNSCALED, held, indexed, pass_time, plain, take};
-use crate::packets::{A1, A2, ACK, SYN, SYN_ACK, Sent, packet};
-use crate::scripts::{Came, Case, Script};
+use crate::engines::{held, indexed, pass_time, plain, take};
 use pfs_addr_values::Addr;
 use pfs_conf::RuleNo;
 use pfs_engine::{Added, Arrival, Engine, Event, Exceeded, Limit, Outcome, Work};
 use pfs_store_contract::Store;
+use pfs_tests_cases::{
+    A1, A2, ACK, ANCHORED, Case, FLOOD, FLUSH, FLUSH_GLOBAL, SECOND_CONNECTION, SYN, SYN_ACK,
+    Script, Sent, THIRD_STATE, UNSCALED, packet, same,
+};
 use std::process::Abort;
 use std::test::Fail;
 
@@ -42,7 +44,7 @@ fn work_of(row: &[u64; 5], counts: bool) -> Work {
 /// Rules, what comes, and what is held in the end, over each kind of store
 fn works(
     rt: &(impl Abort + AllocGlobal),
-    rules: &[u8],
+    rules: &str,
     rows: &[Row],
     end: (u64, u64, u64),
 ) -> Result<(), Fail> {
@@ -87,20 +89,6 @@ fn act<S: Store>(
     Ok(())
 }
 
-const ANCHORED: &[u8] = b"block all
-anchor \"a\" in {
-pass quick proto udp to any port 53 no state
-anchor out {
-pass
-}
-pass proto tcp no state
-}
-anchor \"b\" quick proto tcp {
-pass proto tcp to any port 22 no state
-}
-pass in proto udp no state
-";
-
 const PATHS: &[Row] = &[
     (Step::Until(0), [0, 0, 0, 0, 0]),
     (
@@ -139,7 +127,7 @@ const HELD: &[Row] = &[
 
 #[test]
 fn a_packet_of_a_held_state_visits_nothing(rt: HostRuntime) -> Result<(), Fail> {
-    works(&rt, b"pass in proto udp all", HELD, (1, 0, 0))
+    works(&rt, "pass in proto udp all", HELD, (1, 0, 0))
 }
 
 const FIRST: Sent = Sent::Tcp(80, SYN);
@@ -210,9 +198,9 @@ const ALL: Outcome = Outcome::Kill {
 
 #[test]
 fn a_packet_looks_at_its_state_and_at_those_it_kills(rt: HostRuntime) -> Result<(), Fail> {
-    let rules = b"pass in proto tcp to any port 80 keep state (max 2, max-src-conn 1)";
+    let rules = "pass in proto tcp to any port 80 keep state (max 2, max-src-conn 1)";
     works(&rt, rules, KILLED, (1, 1, 0))?;
-    let rules = b"block quick from <bad>\npass in proto udp all\n\
+    let rules = "block quick from <bad>\npass in proto udp all\n\
         pass in proto tcp to any port 80 keep state (max-src-conn 1, overload <bad> flush global)";
     works(&rt, rules, FLUSHED, (1, 1, 1))
 }
@@ -236,7 +224,7 @@ const SHARES: &[Row] = &[
 
 #[test]
 fn a_slice_examines_at_most_its_share(rt: HostRuntime) -> Result<(), Fail> {
-    let rules = b"set limit { states 6, src-nodes 4 }\nset timeout { interval 5, udp.first 9 }\n\
+    let rules = "set limit { states 6, src-nodes 4 }\nset timeout { interval 5, udp.first 9 }\n\
         pass in proto udp all keep state (source-track rule)";
     works(&rt, rules, SHARES, (0, 0, 0))
 }
@@ -255,8 +243,8 @@ const ONE_STATE: &[Row] = &[
 
 #[test]
 fn a_long_jump_is_short_where_nothing_is_held(rt: HostRuntime) -> Result<(), Fail> {
-    works(&rt, b"pass in proto udp all", EMPTY, (0, 0, 0))?;
-    works(&rt, b"pass in proto udp all", ONE_STATE, (0, 0, 0))
+    works(&rt, "pass in proto udp all", EMPTY, (0, 0, 0))?;
+    works(&rt, "pass in proto udp all", ONE_STATE, (0, 0, 0))
 }
 
 /// A state that lives for 2,147,483,647 seconds, and leaves in the last of them
@@ -273,7 +261,7 @@ const STAYING: &[Row] = &[
 #[test]
 fn a_long_jump_is_short_where_what_is_held_stays(rt: HostRuntime) -> Result<(), Fail> {
     let rules =
-        b"set timeout udp.first 2147483647\npass in proto udp all keep state (source-track rule)";
+        "set timeout udp.first 2147483647\npass in proto udp all keep state (source-track rule)";
     let alloc = rt.alloc();
     follow(
         &rt,
@@ -284,7 +272,7 @@ fn a_long_jump_is_short_where_what_is_held_stays(rt: HostRuntime) -> Result<(), 
     )
 }
 
-/// Rules and events over an indexed store, at how many states each packet looks at most, and each lapse of time.
+/// A case over an indexed store, at how many states each packet looks at most, and each lapse of time.
 struct Looked {
     case: Case,
     of_packets: &'static [u64],
@@ -293,101 +281,31 @@ struct Looked {
 
 const AT_MOST: &[Looked] = &[
     Looked {
-        case: Case {
-            shows: "two states and a third one that is refused",
-            rules: b"set limit states 2\npass in proto udp all",
-            rows: &[
-                (5, Came::Udp(53), A1, 1000, NEW),
-                (5, Came::Udp(53), A2, 1000, NEW),
-                (5, Came::Udp(53), A3, 1000, REFUSED),
-            ],
-            end: (2, 0, 0),
-        },
+        case: THIRD_STATE,
         of_packets: &[0, 0, 0],
         of_time: 0,
     },
     Looked {
-        case: Case {
-            shows: "the second connection is killed",
-            rules: b"pass in proto tcp to any port 80 keep state (max-src-conn 1)",
-            rows: &[
-                (0, Came::Shake(0), A1, 1000, STATE),
-                (0, Came::Shake(0), A1, 1001, ALONE),
-            ],
-            end: (1, 1, 0),
-        },
+        case: SECOND_CONNECTION,
         of_packets: &[0, 1, 1, 0, 1, 2],
         of_time: 0,
     },
     Looked {
-        case: Case {
-            shows: "flush takes the states of the rule",
-            rules: b"block quick from <bad>\npass in proto udp all\n\
-                pass in proto tcp to any port 80 keep state (max-src-conn 1, overload <bad> flush)",
-            rows: &[
-                (0, Came::Udp(53), A1, 53000, Outcome::New(RuleNo(1))),
-                (0, Came::Shake(2), A1, 1000, SHAKEN),
-                (0, Came::Shake(2), A1, 1001, OF_THE_RULE),
-                (0, Came::Syn, A1, 1002, Outcome::Block(RuleNo(0))),
-            ],
-            end: (1, 1, 1),
-        },
+        case: FLUSH,
         of_packets: &[0, 0, 1, 1, 0, 1, 4, 0],
         of_time: 0,
     },
     Looked {
-        case: Case {
-            shows: "flush global takes them all",
-            rules: b"block quick from <bad>\npass in proto udp all\n\
-                pass in proto tcp to any port 80 keep state (max-src-conn 1, overload <bad> flush global)",
-            rows: &[
-                (0, Came::Udp(53), A1, 53000, Outcome::New(RuleNo(1))),
-                (0, Came::Shake(2), A1, 1000, SHAKEN),
-                (0, Came::Shake(2), A1, 1001, ALL),
-                (0, Came::Syn, A1, 1002, Outcome::Block(RuleNo(0))),
-            ],
-            end: (0, 1, 1),
-        },
+        case: FLUSH_GLOBAL,
         of_packets: &[0, 0, 1, 1, 0, 1, 4, 0],
         of_time: 0,
     },
     Looked {
-        case: Case {
-            shows: "a flood against rounds",
-            rules: b"set limit states 6\nset timeout { interval 5, tcp.first 4, udp.first 1 }\npass",
-            rows: &[
-                (0, Came::Syn, A1, 1, NEW),
-                (0, Came::Udp(53), A2, 1, NEW),
-                (0, Came::Udp(53), A2, 2, NEW),
-                (1, Came::Udp(53), A2, 3, NEW),
-                (1, Came::Udp(53), A2, 4, NEW),
-                (2, Came::Udp(53), A2, 5, NEW),
-                (2, Came::Udp(53), A2, 6, NEW),
-                (3, Came::Udp(53), A2, 7, NEW),
-                (3, Came::Udp(53), A2, 8, NEW),
-                (4, Came::Udp(53), A2, 9, NEW),
-                (4, Came::Udp(53), A2, 10, NEW),
-                (5, Came::Udp(53), A2, 11, NEW),
-                (5, Came::Udp(53), A2, 12, REFUSED),
-                (6, Came::Nothing, A1, 0, Outcome::Skip),
-            ],
-            end: (4, 0, 0),
-        },
+        case: FLOOD,
         of_packets: &[0; 14],
         of_time: 2,
     },
 ];
-
-const A3: Addr = Addr::V4([198, 51, 100, 3]);
-
-const REFUSED: Outcome = Outcome::Drop(RuleNo(0), Limit::States);
-
-const OF_THE_RULE: Outcome = Outcome::Kill {
-    rule: RuleNo(2),
-    exceeded: Exceeded::Connections,
-    overload: Some(Added::New),
-    killed: 2,
-};
 
 /// One event, and the looks that it took at most.
 fn look<S: Store>(

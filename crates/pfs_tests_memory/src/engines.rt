@@ -1,128 +1,67 @@
 //! Engines over both kinds of store: events one by one, and as a run.
 
-ghost use Rattle.std.specs.Prelude.{◌≡◌, ◌<◌, ◌≤◌, ◌^◌, true};
-ghost use Rattle.std.specs.Option.{ForSome};
-ghost use Rattle.pfs_engine_machine.specs.Runs.{AreAllowed, IsInOrder, MayCome, MayExpire};
-
-use crate::packets::{A1, A2, Sent, packet};
 use crate::telling::{Stop, answered, begin, begin_free, end, plain, refused};
-use pfs_addr_values::{Addr, NoMemory, Packet, RUN_LIMIT};
-use pfs_conf::{Config, RuleNo, TableNo, load};
-use pfs_engine::{Added, Arrival, Engine, Event, Exceeded, Limit, Outcome};
+use pfs_addr_values::{NoMemory, Packet, RUN_LIMIT};
+use pfs_conf::{Config, TableNo};
+use pfs_engine::{Arrival, Engine, Event, Outcome};
 use pfs_store::{IndexStore, PlainStore, Store};
-use pfs_tests_program::{CONNECTIONS, FULL, NODES, OVERLOAD};
+use pfs_tests_cases::{
+    A1, A2, Came, Case, FLUSH, RETENTION, Script, UNSCALED, are_allowed, configured, is_in_order,
+    is_in_time, may_come, may_expire,
+};
 
 type Indexed = IndexStore;
 
-/// When a packet comes, what it is, its source and port, and what comes of it.
-type Row = (u64, Sent, Addr, u16, Outcome);
-
-/// What is shown, the rules, the packets, whether the rules have a table for overload, and how many states, source nodes and
-/// entries are held in the end.
-struct Case {
-    rules: &'static [u8],
-    rows: &'static [Row],
-    has_overload: bool,
-    end: (u64, u64, u64),
-}
-
 const CASES: &[Case] = &[
+    RETENTION,
+    FLUSH,
     Case {
-        rules: NODES,
+        shows: "the tables are full, and another packet matches no rule",
+        rules: "set limit table-entries 1\ntable <bad> { 203.0.113.9 }\n\
+            pass in proto tcp to any port 80 keep state (max-src-conn 1, overload <bad>)",
         rows: &[
-            (0, Sent::Udp, A1, 1, Outcome::New(RuleNo(0))),
-            (
-                10,
-                Sent::Udp,
-                A2,
-                1,
-                Outcome::Drop(RuleNo(0), Limit::MaxSrcNodes),
-            ),
-            (30, Sent::Udp, A2, 1, Outcome::New(RuleNo(0))),
-        ],
-        has_overload: false,
-        end: (1, 1, 0),
-    },
-    Case {
-        rules: OVERLOAD,
-        rows: &[
-            (0, Sent::Udp, A1, 53000, Outcome::New(RuleNo(1))),
-            (0, Sent::Syn, A1, 1000, Outcome::New(RuleNo(2))),
-            (0, Sent::SynAck, A1, 1000, Outcome::State(RuleNo(2))),
-            (0, Sent::Ack, A1, 1000, Outcome::State(RuleNo(2))),
-            (0, Sent::Syn, A1, 1001, Outcome::New(RuleNo(2))),
-            (0, Sent::SynAck, A1, 1001, Outcome::State(RuleNo(2))),
+            (0, Came::Shake(0), A1, 1000, "state @0"),
             (
                 0,
-                Sent::Ack,
+                Came::Shake(0),
                 A1,
                 1001,
-                Outcome::Kill {
-                    rule: RuleNo(2),
-                    exceeded: Exceeded::Connections,
-                    overload: Some(Added::New),
-                    killed: 2,
-                },
+                "kill:max-src-conn @0 overload=full killed=1",
             ),
-            (0, Sent::Syn, A1, 1002, Outcome::Block(RuleNo(0))),
+            (0, Came::Udp(53), A1, 1, "pass -"),
         ],
-        has_overload: true,
         end: (1, 1, 1),
     },
     Case {
-        rules: FULL,
+        shows: "states of both protocols, and a second connection",
+        rules: "pass in proto udp all\n\
+            pass in proto tcp to any port 80 keep state (max-src-conn 1)",
         rows: &[
-            (0, Sent::Syn, A1, 1000, Outcome::New(RuleNo(0))),
-            (0, Sent::SynAck, A1, 1000, Outcome::State(RuleNo(0))),
-            (0, Sent::Ack, A1, 1000, Outcome::State(RuleNo(0))),
-            (0, Sent::Syn, A1, 1001, Outcome::New(RuleNo(0))),
-            (0, Sent::SynAck, A1, 1001, Outcome::State(RuleNo(0))),
-            (
-                0,
-                Sent::Ack,
-                A1,
-                1001,
-                Outcome::Kill {
-                    rule: RuleNo(0),
-                    exceeded: Exceeded::Connections,
-                    overload: Some(Added::Full),
-                    killed: 1,
-                },
-            ),
-            (0, Sent::Udp, A1, 1, Outcome::Pass(None)),
-        ],
-        has_overload: true,
-        end: (1, 1, 1),
-    },
-    Case {
-        rules: CONNECTIONS,
-        rows: &[
-            (0, Sent::Syn, A1, 1000, Outcome::New(RuleNo(1))),
-            (0, Sent::SynAck, A1, 1000, Outcome::State(RuleNo(1))),
-            (0, Sent::Ack, A1, 1000, Outcome::State(RuleNo(1))),
-            (0, Sent::Udp, A1, 1, Outcome::New(RuleNo(0))),
-            (1, Sent::Udp, A2, 1, Outcome::New(RuleNo(0))),
-            (1, Sent::Udp, A2, 2, Outcome::New(RuleNo(0))),
-            (2, Sent::Udp, A2, 1, Outcome::State(RuleNo(0))),
-            (3, Sent::Syn, A1, 1001, Outcome::New(RuleNo(1))),
-            (3, Sent::SynAck, A1, 1001, Outcome::State(RuleNo(1))),
+            (0, Came::Shake(1), A1, 1000, "state @1"),
+            (0, Came::Udp(53), A1, 1, "new @0"),
+            (1, Came::Udp(53), A2, 1, "new @0"),
+            (1, Came::Udp(53), A2, 2, "new @0"),
+            (2, Came::Udp(53), A2, 1, "state @0"),
             (
                 3,
-                Sent::Ack,
+                Came::Shake(1),
                 A1,
                 1001,
-                Outcome::Kill {
-                    rule: RuleNo(1),
-                    exceeded: Exceeded::Connections,
-                    overload: None,
-                    killed: 1,
-                },
+                "kill:max-src-conn @1 overload=none killed=1",
             ),
         ],
-        has_overload: false,
         end: (4, 1, 0),
     },
 ];
+
+/// Whether the rules have a table for overload.
+fn has_overload(case: &Case) -> bool {
+    case.rules.contains("overload")
+}
+
+fn config_of(rt: &HostRuntime, case: &Case) -> Result<Config, Stop> {
+    Ok(configured(rt.alloc(), UNSCALED, case.rules)?)
+}
 
 /// Engines over plain stores.
 pub fn tell_plain(rt: &HostRuntime) -> Result<(), Stop> {
@@ -191,19 +130,19 @@ fn run_indexed(rt: &HostRuntime, case: &Case) -> Result<(), Stop> {
 }
 
 fn plain_engine(rt: &HostRuntime, case: &Case) -> Result<Engine<PlainStore>, Stop> {
-    let config = load(rt.alloc(), case.rules)?;
+    let config = config_of(rt, case)?;
     let store = PlainStore::new(rt.alloc(), &config)?;
     Ok(Engine::new(rt.alloc(), config, store)?)
 }
 
 fn indexed_engine(rt: &HostRuntime, case: &Case) -> Result<Engine<Indexed>, Stop> {
-    let config = load(rt.alloc(), case.rules)?;
+    let config = config_of(rt, case)?;
     let store = IndexStore::new(rt.alloc(), &config)?;
     Ok(Engine::new(rt.alloc(), config, store)?)
 }
 
 fn new_plain(rt: &HostRuntime, case: &Case) -> Result<bool, Stop> {
-    let config = load(rt.alloc(), case.rules)?;
+    let config = config_of(rt, case)?;
     let store = PlainStore::new(rt.alloc(), &config)?;
     begin(rt, "Engine::new")?;
     let is_right = is_new(Engine::new(rt.alloc(), config, store));
@@ -212,7 +151,7 @@ fn new_plain(rt: &HostRuntime, case: &Case) -> Result<bool, Stop> {
 }
 
 fn new_indexed(rt: &HostRuntime, case: &Case) -> Result<bool, Stop> {
-    let config = load(rt.alloc(), case.rules)?;
+    let config = config_of(rt, case)?;
     let store = IndexStore::new(rt.alloc(), &config)?;
     begin(rt, "Engine::new")?;
     let is_right = is_new(Engine::new(rt.alloc(), config, store));
@@ -240,14 +179,15 @@ fn held<S: Store>(engine: &Engine<S>) -> (u64, u64, u64, u64) {
 
 /// The packets one by one.
 fn walk<S: Store>(rt: &HostRuntime, engine: &mut Engine<S>, case: &Case) -> Result<(), Stop> {
-    for row in case.rows {
-        take_row(rt, engine, case, row)?;
+    let script = Script::of(rt.alloc(), case.rows)?;
+    for (event, outcome) in script.events.iter().zip(&script.outcomes) {
+        take_event(rt, engine, case, event, *outcome)?;
     }
     begin_free(rt, "what is held")?;
     let is_right = is_end(engine, case);
     end(rt)?;
     plain(rt, is_right)?;
-    if case.has_overload {
+    if has_overload(case) {
         expire(rt, engine, case)?;
     }
     Ok(())
@@ -274,15 +214,19 @@ fn is_end<S: Store>(engine: &Engine<S>, case: &Case) -> bool {
 }
 
 /// A packet at its moment, and once more where memory was refused.
-fn take_row<S: Store>(
+fn take_event<S: Store>(
     rt: &HostRuntime,
     engine: &mut Engine<S>,
     case: &Case,
-    row: &Row,
+    event: &Event,
+    wanted: Outcome,
 ) -> Result<(), Stop> {
-    advance(rt, engine, row.0)?;
-    if !take(rt, engine, case, row)? {
-        take(rt, engine, case, row)?;
+    let Arrival::Packet(packet) = &event.what else {
+        return Err(Stop::Input);
+    };
+    advance(rt, engine, event.time)?;
+    if !take(rt, engine, case, packet, wanted)? {
+        take(rt, engine, case, packet, wanted)?;
     }
     Ok(())
 }
@@ -302,40 +246,41 @@ fn take<S: Store>(
     rt: &HostRuntime,
     engine: &mut Engine<S>,
     case: &Case,
-    row: &Row,
+    packet: &Packet,
+    wanted: Outcome,
 ) -> Result<bool, Stop> {
-    let (time, sent, source, port, wanted) = *row;
-    let packet = packet(sent, source, port)?;
     let taken = engine.taken();
     if engine.last().is_none() || taken >= RUN_LIMIT {
         return Err(Stop::Input);
     }
-    let before = held(engine);
-    begin_packet(rt, case, row)?;
-    let answer = engine.packet(&packet);
+    let before = (held(engine), engine.last());
+    begin_for(rt, case, wanted, "packet")?;
+    let answer = engine.packet(packet);
     end(rt)?;
     match answer {
         Ok(outcome) => plain(rt, outcome == wanted && engine.taken() == taken + 1),
-        Err(_) => refused(rt, held(engine) == before && engine.last() == Some(time)),
+        Err(_) => refused(rt, (held(engine), engine.last()) == before),
     }
 }
 
-/// Memory is taken where a state is made, and for a TCP packet of a rule with overload.
-fn begin_packet(rt: &HostRuntime, case: &Case, row: &Row) -> Result<(), Stop> {
-    match row.4 {
-        Outcome::New(_) => begin(rt, "packet that makes a state"),
-        Outcome::State(_) | Outcome::Kill { .. } if case.has_overload => {
-            begin(rt, "packet of a rule with overload")
+/// A call begins. Memory is taken where a state is made, and for a TCP packet of a rule with overload.
+fn begin_for(rt: &HostRuntime, case: &Case, wanted: Outcome, call: &str) -> Result<(), Stop> {
+    match wanted {
+        Outcome::New(_) => println!(rt; "call {call} that makes a state")?,
+        Outcome::State(_) | Outcome::Kill { .. } if has_overload(case) => {
+            println!(rt; "call {call} of a rule with overload")?;
         }
-        _ => begin_free(rt, "packet"),
+        _ => begin_free(rt, call)?,
     }
+    Ok(())
 }
 
 /// The packets by one call each, with the time up to them; once more where memory was refused.
 fn step_each<S: Store>(rt: &HostRuntime, engine: &mut Engine<S>, case: &Case) -> Result<(), Stop> {
-    for row in case.rows {
-        if !step(rt, engine, case, row)? {
-            step(rt, engine, case, row)?;
+    let script = Script::of(rt.alloc(), case.rows)?;
+    for (event, outcome) in script.events.iter().zip(&script.outcomes) {
+        if !step(rt, engine, case, event, *outcome)? {
+            step(rt, engine, case, event, *outcome)?;
         }
     }
     begin_free(rt, "what is held")?;
@@ -349,9 +294,9 @@ fn step<S: Store>(
     rt: &HostRuntime,
     engine: &mut Engine<S>,
     case: &Case,
-    row: &Row,
+    event: &Event,
+    wanted: Outcome,
 ) -> Result<bool, Stop> {
-    let event = event_of(row)?;
     let taken = engine.taken();
     if !is_in_time(engine.last(), event.time) || taken >= RUN_LIMIT {
         return Err(Stop::Input);
@@ -359,48 +304,28 @@ fn step<S: Store>(
     if !may_come(engine.config(), &event.what) {
         return Err(Stop::Input);
     }
-    begin_step(rt, case, row)?;
-    let answer = engine.step(&event);
+    begin_for(rt, case, wanted, "step")?;
+    let answer = engine.step(event);
     end(rt)?;
     let is_there = engine.last() == Some(event.time);
     match answer {
         Ok(outcome) => plain(
             rt,
-            is_there && outcome == row.4 && engine.taken() == taken + 1,
+            is_there && outcome == wanted && engine.taken() == taken + 1,
         ),
         Err(_) => refused(rt, is_there && engine.taken() == taken),
     }
 }
 
-fn begin_step(rt: &HostRuntime, case: &Case, row: &Row) -> Result<(), Stop> {
-    match row.4 {
-        Outcome::New(_) => begin(rt, "step that makes a state"),
-        Outcome::State(_) | Outcome::Kill { .. } if case.has_overload => {
-            begin(rt, "step of a rule with overload")
-        }
-        _ => begin_free(rt, "step"),
-    }
-}
-
-fn event_of(row: &Row) -> Result<Event, Stop> {
-    let (time, sent, source, port, _) = *row;
-    let packet = packet(sent, source, port)?;
-    Ok(Event {
-        time,
-        what: Arrival::Packet(packet),
-    })
-}
-
 /// All packets by one call; where it is refused, those that are left by another.
 fn run_all<S: Store>(rt: &HostRuntime, engine: &mut Engine<S>, case: &Case) -> Result<(), Stop> {
-    let mut events = Vec::with_capacity(rt.alloc(), 16)?;
-    for row in case.rows {
-        events.push(event_of(row)?)?;
-    }
+    let script = Script::of(rt.alloc(), case.rows)?;
+    let events = &script.events;
+    let wanted = &script.outcomes;
     let mut outcomes = Vec::new(rt.alloc());
-    if !run_once(rt, engine, &events, &mut outcomes, case)? {
+    if !run_once(rt, engine, events, &mut outcomes, wanted, case)? {
         let done = outcomes.len().min(events.len());
-        run_once(rt, engine, &events[done..], &mut outcomes, case)?;
+        run_once(rt, engine, &events[done..], &mut outcomes, wanted, case)?;
     }
     Ok(())
 }
@@ -410,6 +335,7 @@ fn run_once<S: Store>(
     engine: &mut Engine<S>,
     events: &[Event],
     outcomes: &mut Vec<Outcome>,
+    wanted: &[Outcome],
     case: &Case,
 ) -> Result<bool, Stop> {
     if !is_in_order(engine.last(), events) || engine.taken() > 1_000 || events.len() > 1_000 {
@@ -421,8 +347,8 @@ fn run_once<S: Store>(
     begin(rt, "run")?;
     let answer = engine.run(events, outcomes);
     end(rt)?;
-    let is_front = is_front(outcomes, case) && engine.taken() == outcomes.len() as u64;
-    let is_whole = outcomes.len() == case.rows.len();
+    let is_front = is_front(outcomes, wanted) && engine.taken() == outcomes.len() as u64;
+    let is_whole = outcomes.len() == wanted.len();
     match answer {
         Ok(()) => plain(rt, is_front && is_whole && is_end(engine, case)),
         Err(_) => refused(rt, is_front && !is_whole),
@@ -430,55 +356,10 @@ fn run_once<S: Store>(
 }
 
 /// The outcomes are those of the first packets.
-fn is_front(outcomes: &[Outcome], case: &Case) -> bool {
-    outcomes.len() <= case.rows.len()
+fn is_front(outcomes: &[Outcome], wanted: &[Outcome]) -> bool {
+    outcomes.len() <= wanted.len()
         && outcomes
             .iter()
-            .zip(case.rows)
-            .all(|(outcome, row)| *outcome == row.4)
-}
-
-fn is_in_time(last: Option<u64>, time: u64) -> bool
-    ensures order { result ≡ true → ForSome last (λ moment. moment ≤ time) }
-    ensures moment { result ≡ true → time < 2 ^ 32 }
-{
-    match last {
-        Some(last) => last <= time && time <= 4294967295,
-        None => time <= 4294967295,
-    }
-}
-
-fn is_in_order(last: Option<u64>, events: &[Event]) -> bool
-    ensures { result ≡ true → IsInOrder last events.now }
-{
-    match events {
-        [] => true,
-        [event, rest @ ..] => {
-            is_in_time(last, event.time) && is_in_order(Some(event.time), rest)
-        }
-    }
-}
-
-fn may_expire(config: &Config, table: TableNo) -> bool
-    ensures { result ≡ true → MayExpire config.now table.0 }
-{
-    table.0 < config.table_count() && !config.is_const(table)
-}
-
-fn may_come(config: &Config, what: &Arrival) -> bool
-    ensures { result ≡ true → MayCome config.now what.now }
-{
-    match what {
-        Arrival::Expire { table, .. } => may_expire(config, *table),
-        _ => true,
-    }
-}
-
-fn are_allowed(config: &Config, events: &[Event]) -> bool
-    ensures { result ≡ true → AreAllowed config.now events.now }
-{
-    match events {
-        [] => true,
-        [event, rest @ ..] => may_come(config, &event.what) && are_allowed(config, rest),
-    }
+            .zip(wanted)
+            .all(|(outcome, it)| outcome == it)
 }

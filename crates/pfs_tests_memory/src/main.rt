@@ -5,8 +5,8 @@
 #![tactic(auto)]
 
 mod engines;
-mod packets;
 mod programs;
+mod rules_texts;
 mod stores;
 mod tables;
 mod telling;

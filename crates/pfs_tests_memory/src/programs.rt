@@ -1,11 +1,12 @@
 //! The calls of the program: replays, what is reported of rules, and the words of the command line.
 
+use crate::rules_texts::{FULL, NODES, OVERLOAD};
 use crate::telling::{Stop, begin, begin_free, end, plain, refused, wrong};
 use clap::error::ErrorKind;
 use pfs_cli::{
     Feed, Job, ReplayFault, Sink, check, job, perform, print, replay, replay_joined, status,
 };
-use pfs_tests_program::{EVERYTHING, FULL, NODES, OVERLOAD, SHOWN};
+use pfs_tests_cases::{EVERYTHING, SHOWN};
 
 /// Rules, a trace, and its report.
 type Row = (&'static [u8], &'static [u8], &'static [u8]);

@@ -3,12 +3,12 @@
 ghost use Rattle.std.specs.Prelude.{◌≡◌};
 ghost use Rattle.pfs_store_contract.specs.Worlds.{IsUpToNow};
 
-use crate::packets::{A1, A2, Sent, packet};
+use crate::rules_texts::NODES;
 use crate::telling::{Stop, answered, begin, begin_free, end, plain, refused, wrong};
 use pfs_addr_values::{Addr, FlowKey, Meter, NoMemory, Packet, RUN_LIMIT};
 use pfs_conf::{Config, RuleNo, load};
 use pfs_store::{IndexStore, Limit, PlainStore, StateNo, Store};
-use pfs_tests_program::{EVERYTHING, NODES};
+use pfs_tests_cases::{A1, A2, EVERYTHING, Sent, packet};
 
 /// The first rule tracks sources, the second does not; both share the states.
 const LIMITED: &[u8] = b"set limit states 14\n\
@@ -190,7 +190,7 @@ fn touch_first<S: Store>(rt: &HostRuntime, store: &mut S, config: &Config) -> Re
     requires made_for { S.config store.old ≡ config.now }
     requires order { IsUpToNow 5 (S.world store.old) }
 {
-    let packet = packet(Sent::Udp, A1, 1)?;
+    let packet = packet(&Sent::Udp(53), A1, 1)?;
     if admit_first(store, config, &packet, 5)?.is_err() {
         return Err(Stop::Input);
     }
@@ -262,7 +262,7 @@ fn admit<S: Store>(
     ensures made_for { S.config store.new ≡ config.now }
 {
     let (ask, source, port, rule, wanted) = *row;
-    let packet = packet(Sent::Udp, source, port)?;
+    let packet = packet(&Sent::Udp(53), source, port)?;
     let before = counts(store);
     begin_ask(rt, ask)?;
     let answer = admit_one(store, config, &packet, RuleNo(rule))?;

@@ -2,12 +2,12 @@
 
 ghost use Rattle.std.specs.Prelude.{◌≡◌, ◌<◌, length};
 
-use crate::packets::{A1, Sent, packet};
+use crate::rules_texts::{FULL, NODES, OVERLOAD};
 use crate::telling::{Stop, answered, begin, begin_free, end, plain, refused};
 use pfs_addr_values::{Addr, Meter, NoMemory, Packet};
 use pfs_conf::{Config, RuleNo, TableNo, load};
 use pfs_eval::{Added, Book, Tables};
-use pfs_tests_program::{EVERYTHING, FULL, NODES, OVERLOAD};
+use pfs_tests_cases::{A1, EVERYTHING, Sent, packet};
 
 /// Rules, how many entries they have, and the rule that decides on a packet of UDP.
 type Row = (&'static [u8], u64, Option<u32>);
@@ -26,7 +26,7 @@ const FREE: u8 = 40;
 
 /// Tables and books of rules, and hosts that are added, with room made before and without.
 pub fn tell_tables(rt: &HostRuntime) -> Result<(), Stop> {
-    let udp = packet(Sent::Udp, A1, 1)?;
+    let udp = packet(&Sent::Udp(53), A1, 1)?;
     for row in RULES {
         let config = load(rt.alloc(), row.0)?;
         tell_book(rt, &config, row, &udp)?;

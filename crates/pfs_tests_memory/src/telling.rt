@@ -2,6 +2,7 @@
 
 use pfs_addr_values::NoMemory;
 use pfs_conf::LoadFault;
+use pfs_tests_cases::CaseError;
 use std::alloc::{AllocError, AllocFailed};
 use std::io::{Error, ErrorKind};
 use std::process::ExitCode;
@@ -32,6 +33,15 @@ impl From<AllocError> for Stop {
 impl<T: Drop> From<AllocFailed<T>> for Stop {
     fn from(_error: AllocFailed<T>) -> Stop {
         Stop::Memory
+    }
+}
+
+impl From<CaseError> for Stop {
+    fn from(error: CaseError) -> Stop {
+        match error {
+            CaseError::Memory => Stop::Memory,
+            CaseError::Unreadable => Stop::Input,
+        }
     }
 }
 

@@ -1,10 +1,11 @@
 //! Addresses as text, and rules texts with their configurations.
 
+use crate::rules_texts::{FULL, NODES, OVERLOAD};
 use crate::telling::{Stop, begin, end, plain, refused};
 use pfs_addr::push_addr;
 use pfs_addr_values::Addr;
 use pfs_conf::{Config, Kind, LoadFault, load, show};
-use pfs_tests_program::{EVERYTHING, FULL, NODES, OVERLOAD, SHOWN};
+use pfs_tests_cases::{EVERYTHING, SHOWN};
 
 /// A rules text, and how many items, tables and entries it has.
 type Row = (&'static [u8], u64, u64, u64);

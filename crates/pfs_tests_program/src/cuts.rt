@@ -1,11 +1,12 @@
 //! Inputs that are cut, too long, or without an end, each on the call that reads it.
 
 use crate::fakes::Endless;
-use crate::reports::{HEADER, trace_of};
+use crate::reports::trace_of;
 use crate::runs::{replayed, tell, tell_joined};
 use pfs_cli::{Kind, LoadFault, ReplayFault, check};
 use pfs_cli_streams::{Feed, Sink};
 use pfs_conf::load;
+use pfs_tests_cases::{HEADER, same};
 use std::alloc::AllocGlobal;
 use std::process::Abort;
 use std::test::Fail;
@@ -147,7 +148,13 @@ fn inputs_are_malformed(rt: HostRuntime) -> Result<(), Fail> {
     checked(&rt, 1_048_577, Err(RULES_ARE_TOO_LONG), b"")?;
     for (bound, fault) in [(100, ReplayFault::Endless), (2_000_000, RULES_ARE_TOO_LONG)] {
         let writer = Vec::new(rt.alloc());
-        let (told, _, _, written) = replayed(rt.alloc(), Endless(b' '), HEADER, writer, bound);
+        let (told, _, _, written) = replayed(
+            rt.alloc(),
+            Endless(b' '),
+            HEADER.as_bytes(),
+            writer,
+            bound,
+        );
         same!(rt; told, Err(fault));
         same!(rt; written.len(), 0);
     }

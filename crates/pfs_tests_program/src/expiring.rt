@@ -1,88 +1,11 @@
-//! Records that take old entries out of a table.
+//! Records that take old entries out of a table, where they are refused.
 
 use crate::runs::{tell, tell_over_stores};
-use crate::traces::{A, B, Case, Sent, UNSCALED, tell_each};
 use pfs_cli::ReplayFault;
+use pfs_tests_cases::{HEADER, UNSCALED};
 use std::alloc::AllocGlobal;
 use std::process::Abort;
 use std::test::Fail;
-
-const EXPIRED: &[Case] = &[
-    Case {
-        shows: "an entry of the rules counts from the first record, an added one from its packet, and a held one is not renewed",
-        rules: "table <bad> { 203.0.113.9 }\n\
-            pass in proto tcp to any port 80 keep state (max-src-conn 1, overload <bad>)",
-        sent: &[
-            Sent::Ping(100),
-            Sent::Shake(104, A, 1000),
-            Sent::Shake(104, A, 1001),
-            Sent::Shake(106, A, 1002),
-            Sent::Line("108,expire,bad,,,5,,,"),
-            Sent::Line("109,expire,bad,,,5,,,"),
-        ],
-        report: "1 skip -\n2 new @0\n3 state @0\n4 state @0\n5 new @0\n6 state @0\n\
-            7 kill:max-src-conn @0 overload=added killed=1\n8 new @0\n9 state @0\n\
-            10 kill:max-src-conn @0 overload=held killed=1\n11 expire - removed=1\n12 expire - removed=1\n\
-            end rows=12 states=1 nodes=1 entries=0\n",
-    },
-    Case {
-        shows: "an entry of the rules is as old as the run, and not older",
-        rules: "table <bad> { 203.0.113.9 }",
-        sent: &[Sent::Ping(100), Sent::Line("100,expire,bad,,,5,,,")],
-        report: "1 skip -\n2 expire - removed=0\nend rows=2 states=0 nodes=0 entries=1\n",
-    },
-    Case {
-        shows: "as the first record it takes out at once what the rules say, with seconds 0",
-        rules: "table <bad> { 203.0.113.9, !203.0.113.0/24 }",
-        sent: &[Sent::Line("100,expire,bad,,,0,,,")],
-        report: "1 expire - removed=2\nend rows=1 states=0 nodes=0 entries=0\n",
-    },
-    Case {
-        shows: "a table that is named and not defined is a table, and the last moment may be the greatest",
-        rules: "block from <bad>",
-        sent: &[Sent::Line("4294967295,expire,bad,,,4294967295,,,")],
-        report: "1 expire - removed=0\nend rows=1 states=0 nodes=0 entries=0\n",
-    },
-    Case {
-        shows: "a limit on entries that was met is free again, and other tables stay as they are",
-        rules: "set limit table-entries 2\ntable <bad> { 203.0.113.9 }\ntable <good> { 203.0.113.7 }\n\
-            pass in proto tcp to any port 80 keep state (max-src-conn 1, overload <bad>)",
-        sent: &[
-            Sent::Shake(0, A, 1000),
-            Sent::Shake(0, A, 1001),
-            Sent::Line("5,expire,bad,,,5,,,"),
-            Sent::Shake(5, A, 1002),
-            Sent::Shake(5, B, 1000),
-            Sent::Shake(5, B, 1001),
-            Sent::Line("9,expire,bad,,,5,,,"),
-            Sent::Line("10,expire,bad,,,5,,,"),
-        ],
-        report: "1 new @0\n2 state @0\n3 state @0\n4 new @0\n5 state @0\n\
-            6 kill:max-src-conn @0 overload=full killed=1\n7 expire - removed=1\n8 new @0\n9 state @0\n\
-            10 kill:max-src-conn @0 overload=added killed=1\n11 new @0\n12 state @0\n13 state @0\n\
-            14 new @0\n15 state @0\n16 kill:max-src-conn @0 overload=full killed=1\n\
-            17 expire - removed=0\n18 expire - removed=1\nend rows=18 states=2 nodes=2 entries=1\n",
-    },
-    Case {
-        shows: "a source whose entry left is no longer blocked, and is blocked again",
-        rules: "block in quick from <bad>\n\
-            pass in proto tcp to any port 80 keep state (max-src-conn 1, overload <bad> flush)",
-        sent: &[
-            Sent::Shake(0, A, 1000),
-            Sent::Shake(0, A, 1001),
-            Sent::Tcp(1, A, 1002, "S"),
-            Sent::Line("60,expire,bad,,,60,,,"),
-            Sent::Shake(60, A, 1003),
-            Sent::Shake(60, A, 1004),
-            Sent::Tcp(61, A, 1005, "S"),
-        ],
-        report: "1 new @1\n2 state @1\n3 state @1\n4 new @1\n5 state @1\n\
-            6 kill:max-src-conn @1 overload=added killed=2\n7 block @0\n8 expire - removed=1\n\
-            9 new @1\n10 state @1\n11 state @1\n12 new @1\n13 state @1\n\
-            14 kill:max-src-conn @1 overload=added killed=2\n15 block @0\n\
-            end rows=15 states=0 nodes=0 entries=1\n",
-    },
-];
 
 /// A last record after ten others, under rules, and how the replay ends.
 #[derive(Clone, Copy)]
@@ -157,7 +80,7 @@ fn seconds() -> [Row; 4] {
 fn tell_refused(rt: &(impl Abort + AllocGlobal), rows: &[Row]) -> Result<(), Fail> {
     for row in rows {
         let mut trace = String::new(rt.alloc());
-        write!(trace, "time,dir,if,proto,src,sport,dst,dport,flags\n")?;
+        write!(trace, "{HEADER}")?;
         for time in 99..109 {
             write!(trace, "{time},in,em0,icmp,198.51.100.1,,192.0.2.1,,\n")?;
         }
@@ -175,11 +98,6 @@ fn tell_refused(rt: &(impl Abort + AllocGlobal), rows: &[Row]) -> Result<(), Fai
 
 const SKIPPED: &[u8] = b"1 skip -\n2 skip -\n3 skip -\n4 skip -\n5 skip -\n\
     6 skip -\n7 skip -\n8 skip -\n9 skip -\n10 skip -\n";
-
-#[test]
-fn old_entries_leave(rt: HostRuntime) -> Result<(), Fail> {
-    tell_each(&rt, EXPIRED)
-}
 
 /// The ten records in front of two expiries in the row that shows what they do, and their lines but for what became of the source.
 const SHAKEN: &[&str] = &[
@@ -228,7 +146,7 @@ const TOLD: &[Told] = &[
 fn tell_shaken(rt: &(impl Abort + AllocGlobal), told: &Told) -> Result<(), Fail> {
     let (rules, [first, second], [added, held], fault) = *told;
     let mut trace = String::new(rt.alloc());
-    write!(trace, "time,dir,if,proto,src,sport,dst,dport,flags\n")?;
+    write!(trace, "{HEADER}")?;
     for record in SHAKEN {
         write!(trace, "{record}\n")?;
     }

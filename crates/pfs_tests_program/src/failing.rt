@@ -1,10 +1,11 @@
 //! Each place where a reader or a writer can fail or fail to end.
 
 use crate::fakes::{Endless, Halting, narrow_writer};
-use crate::reports::{HEADER, trace_of};
+use crate::reports::trace_of;
 use crate::runs::{replayed, replayed_joined};
 use pfs_cli::{Job, ReplayFault, perform};
 use pfs_cli_streams::{Feed, Sink};
+use pfs_tests_cases::{HEADER, same};
 use std::alloc::AllocGlobal;
 use std::process::Abort;
 use std::test::Fail;
@@ -121,7 +122,7 @@ fn told_of(
     room: usize,
 ) -> (Result<(), ReplayFault>, usize) {
     let mut rules = Feed::new(Halting { text: RULES, good }, 999);
-    let mut trace = Feed::new(HEADER, 99);
+    let mut trace = Feed::new(HEADER.as_bytes(), 99);
     let mut out = Sink::new(narrow_writer(rt.alloc(), 1, room));
     let told = perform(rt.alloc(), job, &mut rules, &mut trace, &mut out);
     (told, out.into_inner().taken.len())

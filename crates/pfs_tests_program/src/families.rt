@@ -1,8 +1,9 @@
 //! IPv4 and IPv6 in one trace: each record is of one family.
 
-use crate::reports::{HEADER, trace_of};
+use crate::reports::trace_of;
 use crate::runs::{tell, tell_joined};
 use pfs_cli::ReplayFault;
+use pfs_tests_cases::HEADER;
 use std::test::Fail;
 
 const RULES: &[u8] = b"set timeout { adaptive.start 0, adaptive.end 0 }\n\
@@ -56,7 +57,7 @@ fn sources_of_both_families_are_held_to_their_rules(rt: HostRuntime) -> Result<(
 #[test]
 fn a_record_is_of_one_family(rt: HostRuntime) -> Result<(), Fail> {
     for &(record, column) in REFUSED {
-        let mut trace = Vec::from_slice(rt.alloc(), HEADER)?;
+        let mut trace = Vec::from_slice(rt.alloc(), HEADER.as_bytes())?;
         trace.extend_from_slice(record)?;
         tell(&rt, RULES, &trace, Err(ReplayFault::Field(1, column)), b"");
     }

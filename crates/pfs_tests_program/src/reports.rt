@@ -3,10 +3,9 @@
 use crate::fakes::{Halting, narrow_writer};
 use crate::runs::{replayed_joined, tell, tell_joined, tell_over_stores};
 use pfs_cli::{Kind, LoadFault, ReplayFault, status};
+use pfs_tests_cases::{HEADER, same};
 use std::alloc::Global;
 use std::test::Fail;
-
-pub const HEADER: &[u8] = b"time,dir,if,proto,src,sport,dst,dport,flags\n";
 
 const UNSCALED: &[u8] = b"set timeout { adaptive.start 0, adaptive.end 0 }\n";
 
@@ -84,7 +83,7 @@ fn rows() -> [Row; 9] {
 
 pub fn trace_of(alloc: Global, records: &[u8]) -> Result<Vec<u8>, Fail> {
     let mut trace = Vec::new(alloc);
-    trace.extend_from_slice(HEADER)?;
+    trace.extend_from_slice(HEADER.as_bytes())?;
     trace.extend_from_slice(records)?;
     Ok(trace)
 }

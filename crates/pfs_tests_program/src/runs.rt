@@ -5,6 +5,7 @@ use pfs_cli_formats::TraceFault;
 use pfs_cli_streams::{Feed, Sink};
 use pfs_conf::load;
 use pfs_store::{IndexStore, PlainStore};
+use pfs_tests_cases::same;
 use std::alloc::{AllocGlobal, Global};
 use std::io::{Read, Write};
 use std::process::Abort;

@@ -2,6 +2,7 @@
 
 use crate::fakes::{Halting, Narrow, narrow_writer};
 use pfs_cli_streams::{Feed, Sink, write_whole};
+use pfs_tests_cases::{holds, same};
 use std::alloc::Global;
 use std::io::{ErrorKind, Read, Write};
 use std::test::Fail;

@@ -1,90 +1,125 @@
-//! Short records, and the reports of them.
+//! Cases as texts: the trace of what comes, and the report that the rows tell.
 
 use crate::runs::{tell_joined, tell_over_stores};
+use pfs_addr_values::Addr;
+use pfs_tests_cases::{Came, Case, HEADER, Row};
 use std::process::Abort;
 use std::test::Fail;
 
-/// Two sources.
-pub const A: &str = "198.51.100.1";
-
-pub const B: &str = "198.51.100.2";
-
-/// No state is given a shorter life under load.
-pub const UNSCALED: &str = "set timeout { adaptive.start 0, adaptive.end 0 }\n";
-
-/// Records of a trace, by the moment, the address of the client and its port. The server is 192.0.2.1.
+/// The rules, the records after the header, and the report.
 #[derive(Clone, Copy)]
-pub enum Sent {
-    /// A UDP packet to port 53 of the server.
-    Udp(u64, &'static str, u16),
-    /// A UDP packet to port 54.
-    Other(u64, &'static str, u16),
-    /// A TCP packet to port 80, with these flags.
-    Tcp(u64, &'static str, u16, &'static str),
-    /// The three packets of a handshake.
-    Shake(u64, &'static str, u16),
-    /// A packet of ICMP.
-    Ping(u64),
-    /// A record as it is written.
-    Line(&'static str),
+pub struct Texts<'a> {
+    pub rules: &'a str,
+    pub trace: &'a str,
+    pub report: &'a str,
 }
 
-/// What a report shows: the rules, the records, and the report.
-#[derive(Clone, Copy)]
-pub struct Case {
-    pub shows: &'static str,
-    pub rules: &'static str,
-    pub sent: &'static [Sent],
-    pub report: &'static str,
-}
-
-fn write_sent(trace: &mut String, sent: &Sent) -> Result<(), Fail> {
-    match *sent {
-        Sent::Udp(t, a, p) => write!(trace, "{t},in,em0,udp,{a},{p},192.0.2.1,53,\n")?,
-        Sent::Other(t, a, p) => write!(trace, "{t},in,em0,udp,{a},{p},192.0.2.1,54,\n")?,
-        Sent::Tcp(t, a, p, flags) => {
-            write!(trace, "{t},in,em0,tcp,{a},{p},192.0.2.1,80,{flags}\n")?;
-        }
-        Sent::Shake(t, a, p) => {
-            write!(trace, "{t},in,em0,tcp,{a},{p},192.0.2.1,80,S\n")?;
-            write!(trace, "{t},out,em0,tcp,192.0.2.1,80,{a},{p},SA\n")?;
-            write!(trace, "{t},in,em0,tcp,{a},{p},192.0.2.1,80,A\n")?;
-        }
-        Sent::Ping(t) => write!(trace, "{t},in,em0,icmp,198.51.100.1,,192.0.2.1,,\n")?,
-        Sent::Line(line) => write!(trace, "{line}\n")?,
-    }
+/// The address of a source of IPv4, as a trace writes it.
+fn write_source(text: &mut String, source: Addr) -> Result<(), Fail> {
+    let Addr::V4([a, b, c, d]) = source else {
+        return Err("no source of IPv4".into());
+    };
+    write!(text, "{a}.{b}.{c}.{d}")?;
     Ok(())
 }
 
-/// The report of these rules, after a first line of them, and of these records is this one, from two texts, over each
-/// kind of store, and from one text.
-fn tell(rt: &(impl Abort + AllocGlobal), first: &str, case: &Case) -> Result<(), Fail> {
-    let mut trace = String::new(rt.alloc());
-    write!(trace, "time,dir,if,proto,src,sport,dst,dport,flags\n")?;
-    for sent in case.sent {
-        write_sent(&mut trace, sent)?;
+/// A record of what the source sends, from its port to one of the server.
+fn write_sent(
+    trace: &mut String,
+    row: &Row,
+    proto: &str,
+    to: u16,
+    flags: &str,
+) -> Result<(), Fail> {
+    let (time, _, source, port, _) = *row;
+    write!(trace, "{time},in,em0,{proto},")?;
+    write_source(trace, source)?;
+    write!(trace, ",{port},192.0.2.1,{to},{flags}\n")?;
+    Ok(())
+}
+
+/// A record of the server's answer to the first packet of a handshake.
+fn write_answer(trace: &mut String, row: &Row) -> Result<(), Fail> {
+    let (time, _, source, port, _) = *row;
+    write!(trace, "{time},out,em0,tcp,192.0.2.1,80,")?;
+    write_source(trace, source)?;
+    write!(trace, ",{port},SA\n")?;
+    Ok(())
+}
+
+fn write_records(trace: &mut String, row: &Row) -> Result<(), Fail> {
+    let time = row.0;
+    match row.1 {
+        Came::Udp(to) => write_sent(trace, row, "udp", to, ""),
+        Came::Syn => write_sent(trace, row, "tcp", 80, "S"),
+        Came::SynAck => write_answer(trace, row),
+        Came::Ack => write_sent(trace, row, "tcp", 80, "A"),
+        Came::Fin => write_sent(trace, row, "tcp", 80, "FA"),
+        Came::Reset => write_sent(trace, row, "tcp", 80, "R"),
+        Came::Shake(_) => {
+            write_sent(trace, row, "tcp", 80, "S")?;
+            write_answer(trace, row)?;
+            write_sent(trace, row, "tcp", 80, "A")
+        }
+        Came::Ping => {
+            write!(trace, "{time},in,em0,icmp,198.51.100.1,,192.0.2.1,,\n")?;
+            Ok(())
+        }
+        Came::Expire(seconds) => {
+            write!(trace, "{time},expire,bad,,,{seconds},,,\n")?;
+            Ok(())
+        }
     }
-    let mut rules = String::new(rt.alloc());
-    write!(rules, "{first}{}\n", case.rules)?;
-    let report = case.report.as_bytes();
+}
+
+/// The lines of a row, of which the first has this number, and the number of the next line.
+fn write_lines(report: &mut String, number: u64, row: &Row) -> Result<u64, Fail> {
+    let mut number = number;
+    if let Came::Shake(rule) = row.1 {
+        write!(
+            report,
+            "{number} new @{rule}\n{} state @{rule}\n",
+            number.saturating_add(1)
+        )?;
+        number = number.saturating_add(2);
+    }
+    write!(report, "{number} {}\n", row.4)?;
+    Ok(number.saturating_add(1))
+}
+
+/// The report of these rules and of this trace, from two texts, over each kind of store, and from one text.
+pub fn tell_texts(rt: &(impl Abort + AllocGlobal), texts: &Texts) -> Result<(), Fail> {
+    let rules = format!(in rt.alloc(); "{}\n", texts.rules)?;
+    let trace = format!(in rt.alloc(); "{HEADER}{}", texts.trace)?;
+    let report = texts.report.as_bytes();
     tell_over_stores(rt, rules.as_bytes(), trace.as_bytes(), Ok(()), report)?;
-    write!(rules, "%%\n{trace}")?;
-    tell_joined(rt, rules.as_bytes(), Ok(()), report);
+    let joined = format!(in rt.alloc(); "{rules}%%\n{trace}")?;
+    tell_joined(rt, joined.as_bytes(), Ok(()), report);
     Ok(())
 }
 
-/// Reports each case, without a shorter life under load.
-pub fn tell_each(rt: &(impl Abort + AllocGlobal), cases: &[Case]) -> Result<(), Fail> {
-    for case in cases {
-        tell(rt, UNSCALED, case)?;
+/// The report of a case, after a first line of rules.
+pub fn tell(rt: &(impl Abort + AllocGlobal), first: &str, case: &Case) -> Result<(), Fail> {
+    let mut trace = String::new(rt.alloc());
+    let mut report = String::new(rt.alloc());
+    let mut number = 1;
+    for row in case.rows {
+        write_records(&mut trace, row)?;
+        number = write_lines(&mut report, number, row)?;
     }
-    Ok(())
-}
-
-/// Reports each case, with the lives that load shortens.
-pub fn tell_scaled(rt: &(impl Abort + AllocGlobal), cases: &[Case]) -> Result<(), Fail> {
-    for case in cases {
-        tell(rt, "", case)?;
-    }
-    Ok(())
+    let (states, nodes, entries) = case.end;
+    let rows = number.saturating_sub(1);
+    write!(
+        report,
+        "end rows={rows} states={states} nodes={nodes} entries={entries}\n"
+    )?;
+    let rules = format!(in rt.alloc(); "{first}{}", case.rules)?;
+    tell_texts(
+        rt,
+        &Texts {
+            rules: &rules,
+            trace: &trace,
+            report: &report,
+        },
+    )
 }

@@ -1,6 +1,7 @@
 //! Which words ask for which job.
 
 use pfs_cli::{Job, job};
+use pfs_tests_cases::{holds, same};
 use std::test::Fail;
 
 #[test]

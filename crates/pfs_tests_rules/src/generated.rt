@@ -3,10 +3,11 @@
 ghost use Rattle.std.specs.Prelude.{◌<◌};
 
 use crate::asking::Rules;
-use crate::packets::{SYN, SYN_ACK, packet_on};
+use crate::packets::packet_on;
 use crate::plain::{Evaluation, Step};
 use pfs_addr_values::{Addr, Dir, Packet, Proto};
 use pfs_conf::load;
+use pfs_tests_cases::{CaseError, SYN, SYN_ACK, same};
 use std::alloc::{AllocError, Global};
 use std::process::Abort;
 use std::test::Fail;
@@ -42,7 +43,7 @@ impl Numbers {
         self.below(most) == 0
     }
 
-    fn packet(&mut self) -> Result<Packet, Fail> {
+    fn packet(&mut self) -> Result<Packet, CaseError> {
         let dir = if self.once_in(3) { Dir::Out } else { Dir::In };
         let ifname: &[u8] = if self.once_in(3) { b"em1" } else { b"em0" };
         let source = match self.below(6) {

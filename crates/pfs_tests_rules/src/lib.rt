@@ -3,17 +3,6 @@
 
 #![tactic(auto)]
 
-/// Two values are the same; a third is shown where they are not.
-#[cfg(test)]
-macro_rules! same {
-    ($rt:expr; $told:expr, $wanted:expr) => {
-        crate::checks::same(&$rt, stringify!($told), &$told, &$wanted)
-    };
-    ($rt:expr; $told:expr, $wanted:expr, $at:expr) => {
-        crate::checks::same_at(&$rt, stringify!($told), &$told, &$wanted, &$at)
-    };
-}
-
 #[cfg(test)]
 mod asking;
 #[cfg(test)]
@@ -36,8 +25,6 @@ mod scores;
 mod tables;
 #[cfg(test)]
 mod tcp_steps;
-#[cfg(test)]
-mod texts;
 #[cfg(test)]
 mod verdicts;
 #[cfg(test)]

@@ -1,9 +1,8 @@
 //! How long states live, by how many there are.
 
-use crate::packets::SYN_ACK;
-use crate::texts::configured;
 use pfs_addr_values::Proto;
 use pfs_conf::RuleNo;
+use pfs_tests_cases::{SYN_ACK, configured, same};
 use pfs_track::{StatePhase, is_expired, lifetime};
 use std::test::Fail;
 
@@ -36,7 +35,7 @@ const DEFAULT: &[(u64, u64)] = &[
 /// from 6 on and end at 12
 #[test]
 fn lifetimes_shrink_by_the_default_pair(rt: HostRuntime) -> Result<(), Fail> {
-    let config = configured(rt.alloc(), b"set limit states 10", b"")?;
+    let config = configured(rt.alloc(), "set limit states 10", "")?;
     let first = StatePhase::first(Proto::Tcp);
     for &(count, wanted) in DEFAULT {
         let told = lifetime(&config, RuleNo(0), first, 0, count);
@@ -47,15 +46,15 @@ fn lifetimes_shrink_by_the_default_pair(rt: HostRuntime) -> Result<(), Fail> {
     Ok(())
 }
 
-const SET: &[(&[u8], u64, u64)] = &[
+const SET: &[(&str, u64, u64)] = &[
     (
-        b"set timeout { adaptive.start 0, adaptive.end 0 }",
+        "set timeout { adaptive.start 0, adaptive.end 0 }",
         1000,
         120,
     ),
-    (b"set timeout { adaptive.start 0, adaptive.end 4 }", 1, 90),
+    ("set timeout { adaptive.start 0, adaptive.end 4 }", 1, 90),
     (
-        b"set timeout { tcp.first 2147483647, adaptive.start 0, adaptive.end 4294967295 }",
+        "set timeout { tcp.first 2147483647, adaptive.start 0, adaptive.end 4294967295 }",
         1,
         2_147_483_646,
     ),
@@ -65,7 +64,7 @@ const SET: &[(&[u8], u64, u64)] = &[
 fn lifetimes_shrink_by_a_pair_that_is_set(rt: HostRuntime) -> Result<(), Fail> {
     let first = StatePhase::first(Proto::Tcp);
     for &(rules, count, wanted) in SET {
-        let config = configured(rt.alloc(), b"", rules)?;
+        let config = configured(rt.alloc(), "", rules)?;
         same!(rt; lifetime(&config, RuleNo(0), first, 0, count), wanted);
     }
     Ok(())
@@ -73,8 +72,8 @@ fn lifetimes_shrink_by_a_pair_that_is_set(rt: HostRuntime) -> Result<(), Fail> {
 
 #[test]
 fn lifetimes_of_a_rule_shrink_by_its_own_pair(rt: HostRuntime) -> Result<(), Fail> {
-    let rules = b"pass keep state (tcp.first 60, adaptive.start 1, adaptive.end 4)";
-    let config = configured(rt.alloc(), b"", rules)?;
+    let rules = "pass keep state (tcp.first 60, adaptive.start 1, adaptive.end 4)";
+    let config = configured(rt.alloc(), "", rules)?;
     let first = StatePhase::first(Proto::Tcp);
     for (count, wanted) in [(0, 60), (1, 60), (2, 40), (3, 20), (4, 0)] {
         let told = lifetime(&config, RuleNo(0), first, count, 1_000_000);

@@ -1,8 +1,8 @@
 //! Phases of connections by worked examples.
 
-use crate::packets::{ACK, FIN_ACK, NONE, SYN, SYN_ACK};
 use pfs_addr_values::{Flags, Proto};
 use pfs_conf::TimeoutName;
+use pfs_tests_cases::{ACK, FIN_ACK, NONE, SYN, SYN_ACK, same};
 use pfs_track::{Other, Phases, StatePhase, Tcp, Udp};
 
 const RST_ACK: Flags = Flags { rst: true, ..ACK };

@@ -1,5 +1,6 @@
 //! Scores of handshakes by worked examples.
 
+use pfs_tests_cases::same;
 use pfs_track::Score;
 use std::process::Abort;
 

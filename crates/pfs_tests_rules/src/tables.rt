@@ -2,18 +2,17 @@
 
 ghost use Rattle.std.specs.Prelude.{◌≡◌, IfOk, length};
 
-use crate::packets::{A1, S6};
-use crate::texts::configured;
 use pfs_addr::parse_addr;
 use pfs_addr_values::Addr;
 use pfs_conf::TableNo;
 use pfs_eval::{Added, Tables};
+use pfs_tests_cases::{A1, S6, configured, same};
 use std::alloc::AllocGlobal;
 use std::process::Abort;
 use std::test::Fail;
 
-const TABLES: &[u8] =
-    b"table <t> { 10.0.0.0/8, !10.1.0.0/16, 2001:db8::/32, !2001:db8:1::/48, 10.1.2.3, 2001:db8:1::7 }
+const TABLES: &str =
+    "table <t> { 10.0.0.0/8, !10.1.0.0/16, 2001:db8::/32, !2001:db8:1::/48, 10.1.2.3, 2001:db8:1::7 }
 table <bad> { 203.0.113.9 }
 table <all> { 0.0.0.0/0, !::/0, 2001:db8::/127 }";
 
@@ -39,7 +38,7 @@ const ANSWERS: &[(u32, &[u8], bool)] = &[
 
 #[test]
 fn a_table_answers_by_its_narrowest_entry(rt: HostRuntime) -> Result<(), Fail> {
-    let config = configured(rt.alloc(), b"", TABLES)?;
+    let config = configured(rt.alloc(), "", TABLES)?;
     let tables = Tables::new(rt.alloc(), &config)?;
     for &(table, text, answer) in ANSWERS {
         let addr = parse_addr(text).ok_or("no address")?;
@@ -49,10 +48,10 @@ fn a_table_answers_by_its_narrowest_entry(rt: HostRuntime) -> Result<(), Fail> {
 }
 
 /// The tables of a text with one, of one entry
-fn one_table(rt: &(impl Abort + AllocGlobal), first: &[u8]) -> Result<Tables, Fail>
+fn one_table(rt: &(impl Abort + AllocGlobal), first: &str) -> Result<Tables, Fail>
     ensures { IfOk result (λ tables. length tables.entries ≡ 1) }
 {
-    let config = configured(rt.alloc(), first, b"table <bad> { 203.0.113.9 }")?;
+    let config = configured(rt.alloc(), first, "table <bad> { 203.0.113.9 }")?;
     assert!(rt; config.table_count() == 1);
     let tables = Tables::new(rt.alloc(), &config)?;
     same!(rt; tables.entries(), 1);
@@ -80,9 +79,9 @@ fn come_to(rt: &impl Abort, tables: &mut Tables, room: Room) -> Result<(), Fail>
 
 #[test]
 fn a_host_is_added_while_there_is_room(rt: HostRuntime) -> Result<(), Fail> {
-    let mut full = one_table(&rt, b"set limit table-entries 1\n")?;
+    let mut full = one_table(&rt, "set limit table-entries 1\n")?;
     come_to(&rt, &mut full, (Added::Full, Added::Full, 1))?;
-    let mut roomy = one_table(&rt, b"set limit table-entries 2\n")?;
+    let mut roomy = one_table(&rt, "set limit table-entries 2\n")?;
     come_to(&rt, &mut roomy, (Added::New, Added::Held, 2))
 }
 
@@ -102,6 +101,6 @@ fn wide_hosts_come(rt: &impl Abort, tables: &mut Tables) -> Result<(), Fail>
 
 #[test]
 fn a_host_of_ipv6_is_an_entry_of_128_bits(rt: HostRuntime) -> Result<(), Fail> {
-    let mut tables = one_table(&rt, b"")?;
+    let mut tables = one_table(&rt, "")?;
     wide_hosts_come(&rt, &mut tables)
 }

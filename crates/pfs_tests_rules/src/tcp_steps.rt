@@ -3,6 +3,7 @@
 
 use pfs_addr_values::{Flags, Proto};
 use pfs_conf::TimeoutName;
+use pfs_tests_cases::same;
 use pfs_track::StatePhase;
 use std::test::Fail;
 

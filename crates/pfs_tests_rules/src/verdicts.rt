@@ -2,46 +2,46 @@
 
 use crate::asking::Rules;
 use crate::bounds::visit_bound;
-use crate::packets::{A1, S6, packet};
-use crate::texts::configured;
+use crate::packets::packet;
 use pfs_addr_values::{Addr, Dir, Packet, Proto};
-use pfs_conf::{RuleNo, load};
+use pfs_conf::RuleNo;
+use pfs_tests_cases::{A1, ANCHORED, S6, UNSCALED, configured, same};
 use std::alloc::Global;
 use std::test::Fail;
 
 /// Two tables, for the rules after them.
-const TABLES: &[u8] =
-    b"table <t> { 10.0.0.0/8, !10.1.0.0/16, 10.1.2.3 }\ntable <bad> { 203.0.113.9 }\n";
+const TABLES: &str =
+    "table <t> { 10.0.0.0/8, !10.1.0.0/16, 10.1.2.3 }\ntable <bad> { 203.0.113.9 }\n";
 
 /// The rule of a text, after the two tables, that decides on a packet, and the number of visits.
-fn decided(alloc: Global, rules: &[u8], packet: &Packet) -> Result<(Option<RuleNo>, u64), Fail> {
+fn decided(alloc: Global, rules: &str, packet: &Packet) -> Result<(Option<RuleNo>, u64), Fail> {
     let rules = Rules::of(alloc, &configured(alloc, TABLES, rules)?)?;
     Ok(rules.ask(packet))
 }
 
-const PARAMETERS: &[(&[u8], bool, bool)] = &[
-    (b"pass", true, true),
-    (b"pass in", true, true),
-    (b"pass out", false, false),
-    (b"pass inet", true, true),
-    (b"pass proto udp", false, true),
-    (b"pass proto tcp", true, false),
-    (b"pass proto esp", false, false),
-    (b"pass on em0", true, true),
-    (b"pass on !em0", false, false),
-    (b"pass on em1", false, false),
-    (b"pass on !em1", true, true),
-    (b"pass from 10.1.9.9/16", true, true),
-    (b"pass from !10.1.9.9/16", false, false),
-    (b"pass to 10.1.9.9/16", false, false),
-    (b"pass to !10.1.9.9/16", true, true),
-    (b"pass from <t>", false, false),
-    (b"pass from !<t>", true, true),
-    (b"pass proto tcp to any port 80", true, false),
-    (b"pass proto tcp to any port 22:80", true, false),
-    (b"pass proto tcp to any port 81:90", false, false),
-    (b"pass proto tcp to any port 22:79", false, false),
-    (b"pass proto udp from any port 1000", false, true),
+const PARAMETERS: &[(&str, bool, bool)] = &[
+    ("pass", true, true),
+    ("pass in", true, true),
+    ("pass out", false, false),
+    ("pass inet", true, true),
+    ("pass proto udp", false, true),
+    ("pass proto tcp", true, false),
+    ("pass proto esp", false, false),
+    ("pass on em0", true, true),
+    ("pass on !em0", false, false),
+    ("pass on em1", false, false),
+    ("pass on !em1", true, true),
+    ("pass from 10.1.9.9/16", true, true),
+    ("pass from !10.1.9.9/16", false, false),
+    ("pass to 10.1.9.9/16", false, false),
+    ("pass to !10.1.9.9/16", true, true),
+    ("pass from <t>", false, false),
+    ("pass from !<t>", true, true),
+    ("pass proto tcp to any port 80", true, false),
+    ("pass proto tcp to any port 22:80", true, false),
+    ("pass proto tcp to any port 81:90", false, false),
+    ("pass proto tcp to any port 22:79", false, false),
+    ("pass proto udp from any port 1000", false, true),
 ];
 
 #[test]
@@ -60,32 +60,32 @@ fn each_parameter_is_asked(rt: HostRuntime) -> Result<(), Fail> {
 }
 
 /// A rule, and whether it holds of a packet from 198.51.100.1 to 192.0.2.1, and of one from 2001:db8::1 to 2001:db8::53
-const FAMILIES: &[(&[u8], bool, bool)] = &[
-    (b"pass", true, true),
-    (b"pass inet", true, false),
-    (b"pass inet6", false, true),
-    (b"pass from any to any", true, true),
-    (b"pass from 198.51.100.0/24", true, false),
-    (b"pass from !198.51.100.0/24", false, false),
-    (b"pass from !198.51.101.0/24", true, false),
-    (b"pass from 2001:db8::/32", false, true),
-    (b"pass from !2001:db8::/32", false, false),
-    (b"pass from !2001:db9::/32", false, true),
-    (b"pass to 192.0.2.1", true, false),
-    (b"pass to 2001:DB8:0:0:0:0:0:53", false, true),
-    (b"pass to !2001:db8::54", false, true),
-    (b"pass from 0.0.0.0/0", true, false),
-    (b"pass from ::/0", false, true),
-    (b"pass from !::/0", false, false),
-    (b"pass inet from 2001:db8::/32", false, false),
-    (b"pass inet6 from !198.51.100.0/24", false, false),
-    (b"pass from <six>", false, true),
-    (b"pass from !<six>", true, false),
-    (b"pass from !<four>", false, true),
-    (b"pass inet6 from !<four>", false, true),
+const FAMILIES: &[(&str, bool, bool)] = &[
+    ("pass", true, true),
+    ("pass inet", true, false),
+    ("pass inet6", false, true),
+    ("pass from any to any", true, true),
+    ("pass from 198.51.100.0/24", true, false),
+    ("pass from !198.51.100.0/24", false, false),
+    ("pass from !198.51.101.0/24", true, false),
+    ("pass from 2001:db8::/32", false, true),
+    ("pass from !2001:db8::/32", false, false),
+    ("pass from !2001:db9::/32", false, true),
+    ("pass to 192.0.2.1", true, false),
+    ("pass to 2001:DB8:0:0:0:0:0:53", false, true),
+    ("pass to !2001:db8::54", false, true),
+    ("pass from 0.0.0.0/0", true, false),
+    ("pass from ::/0", false, true),
+    ("pass from !::/0", false, false),
+    ("pass inet from 2001:db8::/32", false, false),
+    ("pass inet6 from !198.51.100.0/24", false, false),
+    ("pass from <six>", false, true),
+    ("pass from !<six>", true, false),
+    ("pass from !<four>", false, true),
+    ("pass inet6 from !<four>", false, true),
 ];
 
-const TABLES_OF_BOTH: &[u8] = b"table <six> { 2001:db8::/32 }\ntable <four> { 0.0.0.0/0 }\n";
+const TABLES_OF_BOTH: &str = "table <six> { 2001:db8::/32 }\ntable <four> { 0.0.0.0/0 }\n";
 
 #[test]
 fn families_are_asked_apart(rt: HostRuntime) -> Result<(), Fail> {
@@ -101,14 +101,14 @@ fn families_are_asked_apart(rt: HostRuntime) -> Result<(), Fail> {
     Ok(())
 }
 
-const FLAGS: &[(&[u8], bool)] = &[
-    (b"block flags S/SA", true),
-    (b"block flags A/SA", false),
-    (b"block flags SA/SA", false),
-    (b"block flags /A", true),
-    (b"block flags /SA", false),
-    (b"block flags S/A", false),
-    (b"block flags any", true),
+const FLAGS: &[(&str, bool)] = &[
+    ("block flags S/SA", true),
+    ("block flags A/SA", false),
+    ("block flags SA/SA", false),
+    ("block flags /A", true),
+    ("block flags /SA", false),
+    ("block flags S/A", false),
+    ("block flags any", true),
 ];
 
 #[test]
@@ -124,21 +124,6 @@ fn flags_are_asked_of_tcp_alone(rt: HostRuntime) -> Result<(), Fail> {
     Ok(())
 }
 
-const ANCHORED: &[u8] = b"set timeout { adaptive.start 0, adaptive.end 0 }
-block all
-anchor \"a\" in {
-pass quick proto udp to any port 53 no state
-anchor out {
-pass
-}
-pass proto tcp no state
-}
-anchor \"b\" quick proto tcp {
-pass proto tcp to any port 22 no state
-}
-pass in proto udp no state
-";
-
 /// The packet, the rule that decides on it, the number of visits, and the most that it may be
 const QUICK: &[(Dir, bool, u16, u32, u64, u64)] = &[
     (Dir::In, false, 53, 2, 3, 7),
@@ -150,7 +135,7 @@ const QUICK: &[(Dir, bool, u16, u32, u64, u64)] = &[
 
 #[test]
 fn quick_ends_the_whole_evaluation(rt: HostRuntime) -> Result<(), Fail> {
-    let config = load(rt.alloc(), ANCHORED)?;
+    let config = configured(rt.alloc(), UNSCALED, ANCHORED)?;
     let rules = Rules::of(rt.alloc(), &config)?;
     for &(dir, is_tcp, port, rule, visits, bound) in QUICK {
         let packet = if is_tcp {

@@ -2,9 +2,10 @@
 
 use crate::asking::Rules;
 use crate::bounds::visit_bound;
-use crate::packets::{A1, SYN, packet, packet_on};
+use crate::packets::{packet, packet_on};
 use pfs_addr_values::{Dir, Packet, Proto};
 use pfs_conf::{RuleNo, load};
+use pfs_tests_cases::{A1, SYN, same};
 use std::alloc::{AllocError, Global};
 use std::test::Fail;
 

@@ -4,6 +4,7 @@ use pfs_addr::{
     parse_addr, parse_flags, parse_number, parse_prefix, parse_proto, push_addr, push_flags,
 };
 use pfs_addr_values::{Addr, Flags, Name, Prefix, Proto, parse_ifname};
+use pfs_tests_cases::{NONE, SYN, SYN_ACK, holds, same};
 use std::test::Fail;
 
 const ADDRESSES: &[(&[u8], Option<Addr>)] = &[
@@ -152,25 +153,10 @@ fn protocols_have_numbers(rt: HostRuntime) {
     }
 }
 
-const NONE: Flags = Flags {
-    fin: false,
-    syn: false,
-    rst: false,
-    psh: false,
-    ack: false,
-    urg: false,
-    ece: false,
-    cwr: false,
-};
-
-const SYN: Flags = Flags { syn: true, ..NONE };
-
-const BOTH: Flags = Flags { ack: true, ..SYN };
-
 const FLAGS: &[(&[u8], Option<Flags>)] = &[
-    (b"SA", Some(BOTH)),
-    (b"AS", Some(BOTH)),
-    (b"SASA", Some(BOTH)),
+    (b"SA", Some(SYN_ACK)),
+    (b"AS", Some(SYN_ACK)),
+    (b"SASA", Some(SYN_ACK)),
     (b"SS", Some(SYN)),
     (b"", Some(NONE)),
     (b"X", None),
@@ -191,7 +177,7 @@ fn flags_are_written(rt: HostRuntime) -> Result<(), Fail> {
     let mut text = Vec::new(rt.alloc());
     push_flags(&mut text, NONE)?;
     same!(rt; text.as_slice(), b"".as_slice());
-    push_flags(&mut text, BOTH)?;
+    push_flags(&mut text, SYN_ACK)?;
     same!(rt; text.as_slice(), b"SA".as_slice());
     let all = parse_flags(b"WEUAPRSF").ok_or("no flags")?;
     push_flags(&mut text, all)?;

@@ -3,6 +3,7 @@
 use pfs_conf_options::{Options, OverloadText, StateClause, Track, state_clause};
 use pfs_conf_tokens::{Cursor, Key, Refusal, Why};
 use pfs_conf_values::{Overload, Rate, Scope, TableName, TableNo, TimeoutName};
+use pfs_tests_cases::{holds, same};
 use std::test::Fail;
 
 /// The options of a clause that is read up to the end of its line.

@@ -5,6 +5,7 @@ use pfs_conf::{
     Action, Config, FlagTest, Host, LimitName, RuleNo, Scope, TableNo, TimeoutName, load,
 };
 use pfs_conf_show::show;
+use pfs_tests_cases::{holds, same};
 use std::test::Fail;
 
 const NESTED: &[u8] = b"set limit states 50

@@ -1,6 +1,7 @@
 //! Texts of rules that are refused, and unusual ones that are not.
 
 use pfs_conf::{Kind, load};
+use pfs_tests_cases::{holds, same};
 use std::alloc::{AllocError, Global};
 use std::process::Abort;
 use std::test::Fail;

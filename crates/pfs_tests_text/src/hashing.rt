@@ -4,6 +4,7 @@ use crate::together::TOGETHER;
 use pfs_addr_values::Addr;
 use pfs_conf::load;
 use pfs_conf_values::RulesHasher;
+use pfs_tests_cases::{holds, same};
 use std::alloc::Global;
 use std::hash::BuildHasher;
 use std::test::Fail;

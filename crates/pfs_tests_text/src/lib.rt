@@ -2,28 +2,6 @@
 
 #![tactic(auto)]
 
-/// Two values are the same; a third is shown where they are not.
-#[cfg(test)]
-macro_rules! same {
-    ($rt:expr; $told:expr, $wanted:expr) => {
-        crate::checks::same(&$rt, stringify!($told), &$told, &$wanted)
-    };
-    ($rt:expr; $told:expr, $wanted:expr, $at:expr) => {
-        crate::checks::same_at(&$rt, stringify!($told), &$told, &$wanted, &$at)
-    };
-}
-
-/// Something holds; a value is shown where it does not.
-#[cfg(test)]
-macro_rules! holds {
-    ($rt:expr; $is_so:expr) => {
-        crate::checks::holds(&$rt, stringify!($is_so), $is_so)
-    };
-    ($rt:expr; $is_so:expr, $at:expr) => {
-        crate::checks::holds_at(&$rt, stringify!($is_so), $is_so, &$at)
-    };
-}
-
 #[cfg(test)]
 mod addresses;
 #[cfg(test)]

@@ -3,6 +3,7 @@
 use pfs_addr_values::{
     Addr, Dir, Endpoint, Flags, FlowKey, IfName, Meter, NoMemory, Packet, Proto, parse_ifname,
 };
+use pfs_tests_cases::{holds, same};
 use std::process::Abort;
 use std::test::Fail;
 

@@ -9,6 +9,7 @@ use pfs_conf_filters::{
 };
 use pfs_conf_tokens::{Cursor, Key, Refusal, Why};
 use pfs_conf_values::{Family, FlagTest, Host, Interface, Ports, Side, TableName};
+use pfs_tests_cases::{holds, same};
 use std::process::Abort;
 use std::test::Fail;
 

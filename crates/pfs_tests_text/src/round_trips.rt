@@ -2,6 +2,7 @@
 
 use pfs_conf::{Config, LimitName, TableNo, TimeoutName, load};
 use pfs_conf_show::show;
+use pfs_tests_cases::{holds, same};
 use std::process::Abort;
 use std::test::Fail;
 

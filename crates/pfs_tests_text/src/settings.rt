@@ -2,6 +2,7 @@
 
 use pfs_conf_settings::{Draft, Parts, read_parts, read_settings};
 use pfs_conf_tokens::{Cursor, Key, ReadError, Refusal, Why};
+use pfs_tests_cases::holds;
 use std::alloc::Global;
 use std::process::Abort;
 use std::test::Fail;

@@ -3,6 +3,7 @@
 use pfs_conf_tokens::{
     Cursor, Key, ReadError, Refusal, Why, digits, key_of, number, skip_lines, split_at_byte,
 };
+use pfs_tests_cases::{holds, same};
 use std::alloc::AllocError;
 use std::test::Fail;
 

@@ -2,6 +2,7 @@
 
 use pfs_addr::{parse_addr, parse_prefix, push_addr};
 use pfs_addr_values::{Addr, Prefix};
+use pfs_tests_cases::{holds, same};
 use std::test::Fail;
 
 /// Eight groups as an address

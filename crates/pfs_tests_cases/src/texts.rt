@@ -1,4 +1,29 @@
-//! Rules texts that more than one call begins with, here and in the program of refused memory.
+//! Rules texts that more than one crate of tests begins with.
+
+use crate::errors::CaseError;
+use pfs_conf::{Config, load};
+use std::alloc::Global;
+
+/// The first line of a trace.
+pub const HEADER: &str = "time,dir,if,proto,src,sport,dst,dport,flags\n";
+
+/// No state is given a shorter life under load.
+pub const UNSCALED: &str = "set timeout { adaptive.start 0, adaptive.end 0 }\n";
+
+/// Anchors, of which the second one is quick.
+pub const ANCHORED: &str = "block all
+anchor \"a\" in {
+pass quick proto udp to any port 53 no state
+anchor out {
+pass
+}
+pass proto tcp no state
+}
+anchor \"b\" quick proto tcp {
+pass proto tcp to any port 22 no state
+}
+pass in proto udp no state
+";
 
 /// Every statement, and its canonical text.
 pub const EVERYTHING: &[u8] = b"set limit states 50\n\
@@ -22,22 +47,9 @@ pub const SHOWN: &[u8] =
     max-src-conn-rate 3/10, overload <worse> flush global)\n\
     }\n";
 
-/// A node is kept for its retention.
-pub const NODES: &[u8] = b"set timeout { adaptive.start 0, adaptive.end 0 }\n\
-    set timeout { src.track 20, interval 1, udp.first 5 }\n\
-    pass in proto udp all keep state (max-src-nodes 1)\n";
-
-/// A source that has too many connections is put into a table, and its states are flushed.
-pub const OVERLOAD: &[u8] = b"set timeout { adaptive.start 0, adaptive.end 0 }\n\
-    block quick from <bad>\npass in proto udp all\n\
-    pass in proto tcp to any port 80 keep state (max-src-conn 1, overload <bad> flush)\n";
-
-/// The tables have no room for one.
-pub const FULL: &[u8] = b"set timeout { adaptive.start 0, adaptive.end 0 }\n\
-    set limit table-entries 1\ntable <bad> { 203.0.113.9 }\n\
-    pass in proto tcp to any port 80 keep state (max-src-conn 1, overload <bad>)\n";
-
-/// No table is named.
-pub const CONNECTIONS: &[u8] = b"set timeout { adaptive.start 0, adaptive.end 0 }\n\
-    pass in proto udp all\n\
-    pass in proto tcp to any port 80 keep state (max-src-conn 1)\n";
+/// The configuration of two texts, one after the other.
+pub fn configured(alloc: Global, first: &str, rules: &str) -> Result<Config, CaseError> {
+    let mut text = Vec::from_slice(alloc, first.as_bytes())?;
+    text.extend_from_slice(rules.as_bytes())?;
+    Ok(load(alloc, &text)?)
+}

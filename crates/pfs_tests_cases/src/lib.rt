@@ -1,0 +1,63 @@
+//! What the tests of several crates share: packets, cases with what must come of them, and how two values are compared. It has no
+//! tests of its own.
+
+#![tactic(auto)]
+
+mod admission;
+mod cases;
+mod conditions;
+mod connections;
+mod errors;
+mod expiries;
+mod outcomes;
+mod packets;
+mod purges;
+mod scripts;
+mod texts;
+
+pub use crate::admission::THIRD_STATE;
+pub use crate::cases::{Came, Case, Row};
+pub use crate::conditions::{are_allowed, is_in_order, is_in_time, may_come, may_expire};
+pub use crate::connections::{FLUSH, FLUSH_GLOBAL, SECOND_CONNECTION};
+pub use crate::errors::CaseError;
+pub use crate::outcomes::outcome_of;
+pub use crate::packets::{
+    A1, A2, ACK, FIN_ACK, NONE, RST, S6, SERVER, SERVER6, SYN, SYN_ACK, Sent, between, packet,
+};
+pub use crate::purges::{FLOOD, RETENTION, SCALED};
+pub use crate::scripts::Script;
+pub use crate::texts::{ANCHORED, EVERYTHING, HEADER, SHOWN, UNSCALED, configured};
+
+/// All cases but those of lives that load shortens.
+pub const CASES: &[&[Case]] = &[
+    admission::ADMISSIONS,
+    connections::CONNECTIONS,
+    connections::RATES,
+    connections::KEPT,
+    connections::OVERLOADS,
+    purges::LIVES,
+    purges::ROUNDS,
+    expiries::EXPIRIES,
+];
+
+/// Two values are the same; a third is shown where they are not. The crate that calls it has a function `checks::same`.
+#[macro_export]
+macro_rules! same {
+    ($rt:expr; $told:expr, $wanted:expr) => {
+        crate::checks::same(&$rt, stringify!($told), &$told, &$wanted, &"")
+    };
+    ($rt:expr; $told:expr, $wanted:expr, $at:expr) => {
+        crate::checks::same(&$rt, stringify!($told), &$told, &$wanted, &$at)
+    };
+}
+
+/// Something holds; a value is shown where it does not. The crate that calls it has a function `checks::same`.
+#[macro_export]
+macro_rules! holds {
+    ($rt:expr; $is_so:expr) => {
+        crate::checks::same(&$rt, stringify!($is_so), &$is_so, &true, &"")
+    };
+    ($rt:expr; $is_so:expr, $at:expr) => {
+        crate::checks::same(&$rt, stringify!($is_so), &$is_so, &true, &$at)
+    };
+}

@@ -1,0 +1,78 @@
+//! The words of a report, read as outcomes.
+
+use crate::errors::CaseError;
+use pfs_conf_values::RuleNo;
+use pfs_engine_machine::{Added, Exceeded, Limit, Outcome};
+
+/// The outcome that a line of a report tells, of its words behind the number of the line; an error where there is no such line.
+pub fn outcome_of(words: &str) -> Result<Outcome, CaseError> {
+    read(words).ok_or(CaseError::Unreadable)
+}
+
+fn read(words: &str) -> Option<Outcome> {
+    let (word, rest) = words.split_once(" ")?;
+    match word {
+        "skip" => Some(Outcome::Skip),
+        "expire" => Some(Outcome::Expire(number(rest.strip_prefix("- removed=")?)?)),
+        "pass" if rest == "-" => Some(Outcome::Pass(None)),
+        "pass" => Some(Outcome::Pass(Some(rule(rest)?))),
+        "state" => Some(Outcome::State(rule(rest)?)),
+        "new" => Some(Outcome::New(rule(rest)?)),
+        "block" => Some(Outcome::Block(rule(rest)?)),
+        _ => match word.strip_prefix("drop:") {
+            Some(word) => Some(Outcome::Drop(rule(rest)?, limit(word)?)),
+            None => kill(word, rest),
+        },
+    }
+}
+
+fn kill(word: &str, rest: &str) -> Option<Outcome> {
+    let (place, notes) = rest.split_once(" overload=")?;
+    let (added, killed) = notes.split_once(" killed=")?;
+    Some(Outcome::Kill {
+        rule: rule(place)?,
+        exceeded: exceeded(word)?,
+        overload: overload(added)?,
+        killed: number(killed)?,
+    })
+}
+
+fn exceeded(word: &str) -> Option<Exceeded> {
+    match word {
+        "kill:max-src-conn" => Some(Exceeded::Connections),
+        "kill:max-src-conn-rate" => Some(Exceeded::Rate),
+        "kill:max-src-conn+max-src-conn-rate" => Some(Exceeded::Both),
+        _ => None,
+    }
+}
+
+fn overload(word: &str) -> Option<Option<Added>> {
+    match word {
+        "none" => Some(None),
+        "added" => Some(Some(Added::New)),
+        "held" => Some(Some(Added::Held)),
+        "full" => Some(Some(Added::Full)),
+        _ => None,
+    }
+}
+
+fn limit(word: &str) -> Option<Limit> {
+    match word {
+        "max" => Some(Limit::Max),
+        "max-src-nodes" => Some(Limit::MaxSrcNodes),
+        "src-nodes" => Some(Limit::SrcNodes),
+        "max-src-states" => Some(Limit::MaxSrcStates),
+        "states" => Some(Limit::States),
+        _ => None,
+    }
+}
+
+/// The rule of `@` and its number.
+fn rule(text: &str) -> Option<RuleNo> {
+    let number: u32 = text.strip_prefix("@")?.parse().ok()?;
+    Some(RuleNo(number))
+}
+
+fn number(text: &str) -> Option<u64> {
+    text.parse().ok()
+}
