@@ -24,20 +24,21 @@ pub use crate::outcomes::outcome_of;
 pub use crate::packets::{
     A1, A2, ACK, FIN_ACK, NONE, RST, S6, SERVER, SERVER6, SYN, SYN_ACK, Sent, between, packet,
 };
-pub use crate::purges::{FLOOD, RETENTION, SCALED};
+pub use crate::purges::{FLOOD, RETENTION};
 pub use crate::scripts::Script;
 pub use crate::texts::{ANCHORED, EVERYTHING, HEADER, SHOWN, UNSCALED, configured};
 
-/// All cases but those of lives that load shortens.
-pub const CASES: &[&[Case]] = &[
-    admission::ADMISSIONS,
-    connections::CONNECTIONS,
-    connections::RATES,
-    connections::KEPT,
-    connections::OVERLOADS,
-    purges::LIVES,
-    purges::ROUNDS,
-    expiries::EXPIRIES,
+/// All cases, each list with what goes before its rules: lives are shortened by load in the last one alone.
+pub const CASES: &[(&str, &[Case])] = &[
+    (UNSCALED, admission::ADMISSIONS),
+    (UNSCALED, connections::CONNECTIONS),
+    (UNSCALED, connections::RATES),
+    (UNSCALED, connections::KEPT),
+    (UNSCALED, connections::OVERLOADS),
+    (UNSCALED, purges::LIVES),
+    (UNSCALED, purges::ROUNDS),
+    (UNSCALED, expiries::EXPIRIES),
+    ("", purges::SCALED),
 ];
 
 /// Two values are the same; a third is shown where they are not. The crate that calls it has a function `checks::same`.

@@ -139,7 +139,7 @@ pub const ROUNDS: &[Case] = &[
 
 const EIGHT_OF_TEN: &str = "set limit states 10\nset timeout interval 1\npass in proto udp all";
 
-/// Lives that load shortens: these rules leave the adaptive timeouts as they are.
+/// Lives that load shortens, by the adaptive timeouts as they are.
 pub const SCALED: &[Case] = &[
     Case {
         shows: "eight states of twelve live for two thirds",

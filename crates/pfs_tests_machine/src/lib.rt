@@ -3,18 +3,6 @@
 #![tactic(auto)]
 
 #[cfg(test)]
-mod calls;
-#[cfg(test)]
 mod checks;
 #[cfg(test)]
-mod comparing;
-#[cfg(test)]
-mod engines;
-#[cfg(test)]
-mod scenarios;
-#[cfg(test)]
-mod stores;
-#[cfg(test)]
-mod tallied;
-#[cfg(test)]
-mod works;
+mod tests;

@@ -1,16 +1,15 @@
 //! Engines over both kinds of store: events one by one, and as a run.
 
-use crate::telling::{Stop, answered, begin, begin_free, end, plain, refused};
-use pfs_addr_values::{NoMemory, Packet, RUN_LIMIT};
+use crate::kinds::Kind;
+use crate::telling::{Stop, begin, begin_free, end, plain, refused};
+use pfs_addr_values::{Packet, RUN_LIMIT};
 use pfs_conf::{Config, TableNo};
 use pfs_engine::{Arrival, Engine, Event, Outcome};
-use pfs_store::{IndexStore, PlainStore, Store};
+use pfs_store::Store;
 use pfs_tests_cases::{
     A1, A2, Came, Case, FLUSH, RETENTION, Script, UNSCALED, are_allowed, configured, is_in_order,
     is_in_time, may_come, may_expire,
 };
-
-type Indexed = IndexStore;
 
 const CASES: &[Case] = &[
     RETENTION,
@@ -63,108 +62,51 @@ fn config_of(rt: &HostRuntime, case: &Case) -> Result<Config, Stop> {
     Ok(configured(rt.alloc(), UNSCALED, case.rules)?)
 }
 
-/// Engines over plain stores.
-pub fn tell_plain(rt: &HostRuntime) -> Result<(), Stop> {
+/// Engines over a kind of store.
+pub fn tell<S: Kind + Drop>(rt: &HostRuntime) -> Result<(), Stop> {
     for case in CASES {
-        make_plain(rt, case)?;
-        walk_plain(rt, case)?;
-        step_plain(rt, case)?;
-        run_plain(rt, case)?;
+        if !make::<S>(rt, case)? {
+            make::<S>(rt, case)?;
+        }
+        walk_one::<S>(rt, case)?;
+        step_one::<S>(rt, case)?;
+        run_one::<S>(rt, case)?;
     }
     Ok(())
 }
 
-fn make_plain(rt: &HostRuntime, case: &Case) -> Result<(), Stop> {
-    if !new_plain(rt, case)? {
-        new_plain(rt, case)?;
-    }
-    Ok(())
-}
-
-fn walk_plain(rt: &HostRuntime, case: &Case) -> Result<(), Stop> {
-    let mut engine = plain_engine(rt, case)?;
-    walk(rt, &mut engine, case)
-}
-
-fn step_plain(rt: &HostRuntime, case: &Case) -> Result<(), Stop> {
-    let mut engine = plain_engine(rt, case)?;
-    step_each(rt, &mut engine, case)
-}
-
-fn run_plain(rt: &HostRuntime, case: &Case) -> Result<(), Stop> {
-    let mut engine = plain_engine(rt, case)?;
-    run_all(rt, &mut engine, case)
-}
-
-/// Engines over indexed stores.
-pub fn tell_indexed(rt: &HostRuntime) -> Result<(), Stop> {
-    for case in CASES {
-        make_indexed(rt, case)?;
-        walk_indexed(rt, case)?;
-        step_indexed(rt, case)?;
-        run_indexed(rt, case)?;
-    }
-    Ok(())
-}
-
-fn make_indexed(rt: &HostRuntime, case: &Case) -> Result<(), Stop> {
-    if !new_indexed(rt, case)? {
-        new_indexed(rt, case)?;
-    }
-    Ok(())
-}
-
-fn walk_indexed(rt: &HostRuntime, case: &Case) -> Result<(), Stop> {
-    let mut engine = indexed_engine(rt, case)?;
-    walk(rt, &mut engine, case)
-}
-
-fn step_indexed(rt: &HostRuntime, case: &Case) -> Result<(), Stop> {
-    let mut engine = indexed_engine(rt, case)?;
-    step_each(rt, &mut engine, case)
-}
-
-fn run_indexed(rt: &HostRuntime, case: &Case) -> Result<(), Stop> {
-    let mut engine = indexed_engine(rt, case)?;
-    run_all(rt, &mut engine, case)
-}
-
-fn plain_engine(rt: &HostRuntime, case: &Case) -> Result<Engine<PlainStore>, Stop> {
+/// Whether a new engine was made, which is before the first event.
+fn make<S: Kind + Drop>(rt: &HostRuntime, case: &Case) -> Result<bool, Stop> {
     let config = config_of(rt, case)?;
-    let store = PlainStore::new(rt.alloc(), &config)?;
-    Ok(Engine::new(rt.alloc(), config, store)?)
-}
-
-fn indexed_engine(rt: &HostRuntime, case: &Case) -> Result<Engine<Indexed>, Stop> {
-    let config = config_of(rt, case)?;
-    let store = IndexStore::new(rt.alloc(), &config)?;
-    Ok(Engine::new(rt.alloc(), config, store)?)
-}
-
-fn new_plain(rt: &HostRuntime, case: &Case) -> Result<bool, Stop> {
-    let config = config_of(rt, case)?;
-    let store = PlainStore::new(rt.alloc(), &config)?;
+    let store = S::empty(rt.alloc(), &config)?;
     begin(rt, "Engine::new")?;
-    let is_right = is_new(Engine::new(rt.alloc(), config, store));
+    let made = Engine::new(rt.alloc(), config, store);
     end(rt)?;
-    answered(rt, is_right)
-}
-
-fn new_indexed(rt: &HostRuntime, case: &Case) -> Result<bool, Stop> {
-    let config = config_of(rt, case)?;
-    let store = IndexStore::new(rt.alloc(), &config)?;
-    begin(rt, "Engine::new")?;
-    let is_right = is_new(Engine::new(rt.alloc(), config, store));
-    end(rt)?;
-    answered(rt, is_right)
-}
-
-/// Whether a new engine is one before the first event, where there is one.
-fn is_new<S: Store + Drop>(made: Result<Engine<S>, NoMemory>) -> Option<bool> {
     match made {
-        Ok(engine) => Some(engine.last() == None && engine.states() == 0),
-        Err(_) => None,
+        Ok(engine) => plain(rt, engine.last() == None && engine.states() == 0),
+        Err(_) => refused(rt, true),
     }
+}
+
+fn engine_of<S: Kind + Drop>(rt: &HostRuntime, case: &Case) -> Result<Engine<S>, Stop> {
+    let config = config_of(rt, case)?;
+    let store = S::empty(rt.alloc(), &config)?;
+    Ok(Engine::new(rt.alloc(), config, store)?)
+}
+
+fn walk_one<S: Kind + Drop>(rt: &HostRuntime, case: &Case) -> Result<(), Stop> {
+    let mut engine = engine_of::<S>(rt, case)?;
+    walk(rt, &mut engine, case)
+}
+
+fn step_one<S: Kind + Drop>(rt: &HostRuntime, case: &Case) -> Result<(), Stop> {
+    let mut engine = engine_of::<S>(rt, case)?;
+    step_each(rt, &mut engine, case)
+}
+
+fn run_one<S: Kind + Drop>(rt: &HostRuntime, case: &Case) -> Result<(), Stop> {
+    let mut engine = engine_of::<S>(rt, case)?;
+    run_all(rt, &mut engine, case)
 }
 
 /// How many states, source nodes and entries are held, and how many packets were taken.

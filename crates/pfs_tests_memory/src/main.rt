@@ -5,6 +5,7 @@
 #![tactic(auto)]
 
 mod engines;
+mod kinds;
 mod programs;
 mod rules_texts;
 mod stores;
@@ -13,12 +14,26 @@ mod telling;
 mod texts;
 
 use crate::telling::{Stop, code_of, is_chosen};
+use pfs_store::{IndexStore, PlainStore};
 use std::env;
 use std::process::ExitCode;
 
 fn main(rt: HostRuntime) -> ExitCode {
     code_of(tell_all(&rt))
 }
+
+/// The parts of the calls, each with its word.
+const PARTS: [&str; 9] = [
+    "addresses",
+    "texts",
+    "tables",
+    "plain-store",
+    "index-store",
+    "plain-engine",
+    "index-engine",
+    "replays",
+    "jobs",
+];
 
 /// What the words name, or everything, and then that it is whole.
 fn tell_all(rt: &HostRuntime) -> Result<(), Stop> {
@@ -27,48 +42,25 @@ fn tell_all(rt: &HostRuntime) -> Result<(), Stop> {
         Some(word) => word.as_str(),
         None => "",
     };
-    tell_texts(rt, chosen)?;
-    tell_machine(rt, chosen)?;
-    tell_program(rt, chosen)?;
+    for part in PARTS {
+        if is_chosen(chosen, part) {
+            tell(rt, part)?;
+        }
+    }
     println!(rt; "whole")?;
     Ok(())
 }
 
-fn tell_texts(rt: &HostRuntime, chosen: &str) -> Result<(), Stop> {
-    if is_chosen(chosen, "addresses") {
-        texts::tell_addresses(rt)?;
+fn tell(rt: &HostRuntime, part: &str) -> Result<(), Stop> {
+    match part {
+        "addresses" => texts::tell_addresses(rt),
+        "texts" => texts::tell_texts(rt),
+        "tables" => tables::tell_tables(rt),
+        "plain-store" => stores::tell::<PlainStore>(rt),
+        "index-store" => stores::tell::<IndexStore>(rt),
+        "plain-engine" => engines::tell::<PlainStore>(rt),
+        "index-engine" => engines::tell::<IndexStore>(rt),
+        "replays" => programs::tell_replays(rt),
+        _ => programs::tell_jobs(rt),
     }
-    if is_chosen(chosen, "texts") {
-        texts::tell_texts(rt)?;
-    }
-    if is_chosen(chosen, "tables") {
-        tables::tell_tables(rt)?;
-    }
-    Ok(())
-}
-
-fn tell_machine(rt: &HostRuntime, chosen: &str) -> Result<(), Stop> {
-    if is_chosen(chosen, "plain-store") {
-        stores::tell_plain(rt)?;
-    }
-    if is_chosen(chosen, "index-store") {
-        stores::tell_indexed(rt)?;
-    }
-    if is_chosen(chosen, "plain-engine") {
-        engines::tell_plain(rt)?;
-    }
-    if is_chosen(chosen, "index-engine") {
-        engines::tell_indexed(rt)?;
-    }
-    Ok(())
-}
-
-fn tell_program(rt: &HostRuntime, chosen: &str) -> Result<(), Stop> {
-    if is_chosen(chosen, "replays") {
-        programs::tell_replays(rt)?;
-    }
-    if is_chosen(chosen, "jobs") {
-        programs::tell_jobs(rt)?;
-    }
-    Ok(())
 }

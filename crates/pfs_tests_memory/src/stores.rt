@@ -3,11 +3,12 @@
 ghost use Rattle.std.specs.Prelude.{◌≡◌};
 ghost use Rattle.pfs_store_contract.specs.Worlds.{IsUpToNow};
 
+use crate::kinds::Kind;
 use crate::rules_texts::NODES;
-use crate::telling::{Stop, answered, begin, begin_free, end, plain, refused, wrong};
-use pfs_addr_values::{Addr, FlowKey, Meter, NoMemory, Packet, RUN_LIMIT};
+use crate::telling::{Stop, begin, begin_free, end, plain, refused, wrong};
+use pfs_addr_values::{Addr, FlowKey, Meter, Packet, RUN_LIMIT};
 use pfs_conf::{Config, RuleNo, load};
-use pfs_store::{IndexStore, Limit, PlainStore, StateNo, Store};
+use pfs_store::{Limit, StateNo, Store};
 use pfs_tests_cases::{A1, A2, EVERYTHING, Sent, packet};
 
 /// The first rule tracks sources, the second does not; both share the states.
@@ -66,98 +67,47 @@ const UNTRACKED_ROWS: &[Row] = &[
     (Ask::Untracked, A2, 2, 0, Ok(4)),
 ];
 
-/// Plain stores.
-pub fn tell_plain(rt: &HostRuntime) -> Result<(), Stop> {
+/// A kind of store.
+pub fn tell<S: Kind + Drop>(rt: &HostRuntime) -> Result<(), Stop> {
     for text in &[EVERYTHING, NODES, LIMITED] {
-        make_plain(rt, text)?;
+        let config = load(rt.alloc(), text)?;
+        if !make::<S>(rt, &config)? {
+            make::<S>(rt, &config)?;
+        }
     }
-    fill_plain(rt)?;
-    fill_plain_again(rt)?;
-    touch_plain(rt)
+    fill_first::<S>(rt)?;
+    fill_second::<S>(rt)?;
+    touch_first::<S>(rt)
 }
 
-fn make_plain(rt: &HostRuntime, text: &[u8]) -> Result<(), Stop> {
-    let config = load(rt.alloc(), text)?;
-    if !new_plain(rt, &config)? {
-        new_plain(rt, &config)?;
-    }
-    Ok(())
-}
-
-fn fill_plain(rt: &HostRuntime) -> Result<(), Stop> {
-    let config = load(rt.alloc(), LIMITED)?;
-    let mut store = PlainStore::new(rt.alloc(), &config)?;
-    fill(rt, &mut store, &config)
-}
-
-fn fill_plain_again(rt: &HostRuntime) -> Result<(), Stop> {
-    let config = load(rt.alloc(), UNTRACKED)?;
-    let mut store = PlainStore::new(rt.alloc(), &config)?;
-    fill_again(rt, &mut store, &config)
-}
-
-/// Indexed stores.
-pub fn tell_indexed(rt: &HostRuntime) -> Result<(), Stop> {
-    for text in &[EVERYTHING, NODES, LIMITED] {
-        make_indexed(rt, text)?;
-    }
-    fill_indexed(rt)?;
-    fill_indexed_again(rt)?;
-    touch_indexed(rt)
-}
-
-fn make_indexed(rt: &HostRuntime, text: &[u8]) -> Result<(), Stop> {
-    let config = load(rt.alloc(), text)?;
-    if !new_indexed(rt, &config)? {
-        new_indexed(rt, &config)?;
-    }
-    Ok(())
-}
-
-fn fill_indexed(rt: &HostRuntime) -> Result<(), Stop> {
-    let config = load(rt.alloc(), LIMITED)?;
-    let mut store = IndexStore::new(rt.alloc(), &config)?;
-    fill(rt, &mut store, &config)
-}
-
-fn fill_indexed_again(rt: &HostRuntime) -> Result<(), Stop> {
-    let config = load(rt.alloc(), UNTRACKED)?;
-    let mut store = IndexStore::new(rt.alloc(), &config)?;
-    fill_again(rt, &mut store, &config)
-}
-
-fn touch_plain(rt: &HostRuntime) -> Result<(), Stop> {
-    let config = load(rt.alloc(), LIMITED)?;
-    let mut store = PlainStore::new(rt.alloc(), &config)?;
-    touch_first(rt, &mut store, &config)
-}
-
-fn touch_indexed(rt: &HostRuntime) -> Result<(), Stop> {
-    let config = load(rt.alloc(), LIMITED)?;
-    let mut store = IndexStore::new(rt.alloc(), &config)?;
-    touch_first(rt, &mut store, &config)
-}
-
-fn new_plain(rt: &HostRuntime, config: &Config) -> Result<bool, Stop> {
-    begin(rt, "PlainStore::new")?;
-    let is_right = is_empty(PlainStore::new(rt.alloc(), config));
+/// Whether a new store was made, which holds nothing.
+fn make<S: Kind + Drop>(rt: &HostRuntime, config: &Config) -> Result<bool, Stop> {
+    begin(rt, S::call())?;
+    let made = S::empty(rt.alloc(), config);
     end(rt)?;
-    answered(rt, is_right)
-}
-
-fn new_indexed(rt: &HostRuntime, config: &Config) -> Result<bool, Stop> {
-    begin(rt, "IndexStore::new")?;
-    let is_right = is_empty(IndexStore::new(rt.alloc(), config));
-    end(rt)?;
-    answered(rt, is_right)
-}
-
-/// Whether a new store holds nothing, where there is one.
-fn is_empty<S: Store + Drop>(made: Result<S, NoMemory>) -> Option<bool> {
     match made {
-        Ok(store) => Some(counts(&store) == (0, 0, 0)),
-        Err(_) => None,
+        Ok(store) => plain(rt, counts(&store) == (0, 0, 0)),
+        Err(_) => refused(rt, true),
     }
+}
+
+fn fill_first<S: Kind + Drop>(rt: &HostRuntime) -> Result<(), Stop> {
+    let config = load(rt.alloc(), LIMITED)?;
+    let mut store = S::empty(rt.alloc(), &config)?;
+    fill(rt, &mut store, &config)
+}
+
+fn fill_second<S: Kind + Drop>(rt: &HostRuntime) -> Result<(), Stop> {
+    let config = load(rt.alloc(), UNTRACKED)?;
+    let mut store = S::empty(rt.alloc(), &config)?;
+    fill_again(rt, &mut store, &config)
+}
+
+/// The first state of a store, and its second packet, which takes no memory.
+fn touch_first<S: Kind + Drop>(rt: &HostRuntime) -> Result<(), Stop> {
+    let config = load(rt.alloc(), LIMITED)?;
+    let mut store = S::empty(rt.alloc(), &config)?;
+    admit_and_touch(rt, &mut store, &config)
 }
 
 /// How many states and source nodes are held, and how many states were made.
@@ -185,8 +135,7 @@ fn fill_again<S: Store>(rt: &HostRuntime, store: &mut S, config: &Config) -> Res
     Ok(())
 }
 
-/// The first state of a store, and its second packet, which takes no memory.
-fn touch_first<S: Store>(rt: &HostRuntime, store: &mut S, config: &Config) -> Result<(), Stop>
+fn admit_and_touch<S: Store>(rt: &HostRuntime, store: &mut S, config: &Config) -> Result<(), Stop>
     requires made_for { S.config store.old ≡ config.now }
     requires order { IsUpToNow 5 (S.world store.old) }
 {

@@ -1,0 +1,201 @@
+//! The same thousands of calls, drawn from a fixed seed, over plain lists and over indexes: every answer and every
+//! count is the same.
+
+ghost use Rattle.std.specs.Prelude.{◌≡◌};
+ghost use Rattle.pfs_store_contract.specs.Worlds.{IsUpToNow};
+
+use super::calls::{admit, flush, kill, purge_nodes, purge_states, touch};
+use pfs_addr_values::{Addr, Flags, FlowKey, Packet};
+use pfs_conf::{Config, RuleNo, load};
+use pfs_store::IndexStore;
+use pfs_store_contract::{Limit, Slice, StateNo, Store, Touched};
+use pfs_store_plain::PlainStore;
+use pfs_tests_cases::{Sent, packet};
+use std::alloc::AllocGlobal;
+use std::process::Abort;
+use std::test::Fail;
+
+/// What a call answered.
+#[derive(Debug, Clone, Copy, PartialEq, Eq)]
+enum Answer {
+    Touched(Touched),
+    Admitted(Result<StateNo, Limit>),
+    Killed(u64),
+    Purged(Slice, Slice),
+}
+
+/// What a call answered, how many states and source nodes are held after it, and how many states were made.
+#[derive(Debug, Clone, Copy, PartialEq, Eq)]
+struct Told {
+    answer: Answer,
+    states: u64,
+    nodes: u64,
+    made: u64,
+}
+
+const CALLS: u64 = 20_000;
+
+/// Four rules: sources of its own, or of all rules, a rate, and no limit.
+const RULES: &[u8] = b"set limit { states 12, src-nodes 5 }
+set timeout { interval 3, src.track 2, tcp.first 9, adaptive.start 4, adaptive.end 16 }
+pass keep state (max 5, source-track rule, max-src-nodes 3, max-src-states 2)
+pass keep state (max 5, source-track global, max-src-nodes 3, max-src-states 2)
+pass keep state (source-track rule, max-src-conn 1, max-src-conn-rate 3/10)
+pass keep state
+";
+
+/// A packet of one of six sources, from one of eight ports or to it, with flags by the draw
+fn drawn(draw: u64) -> Result<Packet, Fail> {
+    let flags = Flags {
+        syn: draw / 1_024 % 2 == 0,
+        ack: draw / 2_048 % 3 != 0,
+        fin: draw / 8_192 % 16 == 0,
+        ..Flags::default()
+    };
+    let sent = if draw / 512 % 2 == 0 {
+        Sent::Tcp(80, flags)
+    } else {
+        Sent::Answer(flags)
+    };
+    Ok(packet(&sent, source(draw), (draw / 64 % 8) as u16)?)
+}
+
+fn source(draw: u64) -> Addr {
+    Addr::V4([198, 51, 100, (draw / 8 % 6) as u8])
+}
+
+/// A packet comes: of the state that has its key, or for a new one
+fn come<S: Store>(
+    rt: &impl Abort,
+    store: &mut S,
+    config: &Config,
+    draw: u64,
+    now: u64,
+) -> Result<Answer, Fail>
+    requires made_for { S.config store.old ≡ config.now }
+    requires order { IsUpToNow now (S.world store.old) }
+    ensures made_for { S.config store.new ≡ config.now }
+    ensures order { IsUpToNow now (S.world store.new) }
+{
+    let packet = drawn(draw)?;
+    if store.find(&FlowKey::of(&packet)).is_some() {
+        return Ok(Answer::Touched(touch(store, &packet, now)?));
+    }
+    let rule = RuleNo((draw / 131_072 % 4) as u32);
+    Ok(Answer::Admitted(admit(rt, store, config, &packet, rule, now)?))
+}
+
+/// A source is flushed, of one rule or of all
+fn wash<S: Store>(store: &mut S, draw: u64, now: u64) -> Answer
+    requires order { IsUpToNow now (S.world store.old) }
+    ensures made_for { S.config store.new ≡ S.config store.old }
+    ensures order { IsUpToNow now (S.world store.new) }
+{
+    let rule = if draw / 64 % 2 == 0 {
+        Some(RuleNo((draw / 128 % 4) as u32))
+    } else {
+        None
+    };
+    Answer::Killed(flush(store, source(draw), rule, now))
+}
+
+/// A state is killed, where the drawn number is one
+fn end<S: Store>(rt: &impl Abort, store: &mut S, draw: u64, now: u64) -> Answer
+    requires order { IsUpToNow now (S.world store.old) }
+    ensures made_for { S.config store.new ≡ S.config store.old }
+    ensures order { IsUpToNow now (S.world store.new) }
+{
+    let number = StateNo(draw / 8 % 200);
+    if !store.holds(number) {
+        return Answer::Killed(0);
+    }
+    kill(rt, store, number, now);
+    Answer::Killed(1)
+}
+
+/// The slices of a second
+fn purge<S: Store>(store: &mut S, now: u64) -> Answer
+    requires order { IsUpToNow now (S.world store.old) }
+    ensures made_for { S.config store.new ≡ S.config store.old }
+    ensures order { IsUpToNow now (S.world store.new) }
+{
+    let states = purge_states(store, now);
+    Answer::Purged(states, purge_nodes(store, now))
+}
+
+/// One call, by the draw
+fn call<S: Store>(
+    rt: &impl Abort,
+    store: &mut S,
+    config: &Config,
+    draw: u64,
+    now: u64,
+) -> Result<Answer, Fail>
+    requires made_for { S.config store.old ≡ config.now }
+    requires order { IsUpToNow now (S.world store.old) }
+    ensures made_for { S.config store.new ≡ config.now }
+    ensures order { IsUpToNow now (S.world store.new) }
+{
+    match draw % 8 {
+        0 => Ok(wash(store, draw, now)),
+        1 => Ok(end(rt, store, draw, now)),
+        2 => Ok(purge(store, now)),
+        _ => come(rt, store, config, draw, now),
+    }
+}
+
+/// The next draw (a linear congruential generator, of Knuth's constants)
+fn next(draw: u64) -> u64 {
+    draw.wrapping_mul(6_364_136_223_846_793_005)
+        .wrapping_add(1_442_695_040_888_963_407)
+}
+
+/// What calls answer, of a store that was made for this configuration and holds nothing that came after moment 0
+fn answers<S: Store>(
+    rt: &(impl Abort + AllocGlobal),
+    store: &mut S,
+    config: &Config,
+    calls: u64,
+) -> Result<Vec<Told>, Fail>
+    requires made_for { S.config store.old ≡ config.now }
+    requires order { IsUpToNow 0 (S.world store.old) }
+{
+    let mut told = Vec::new(rt.alloc());
+    let mut seed = 1u64;
+    for step in 0..calls {
+        seed = next(seed);
+        let answer = call(rt, store, config, seed / 65_536, step / 5)?;
+        told.push(Told {
+            answer,
+            states: store.state_count(),
+            nodes: store.node_count(),
+            made: store.made(),
+        })?;
+    }
+    Ok(told)
+}
+
+/// What the calls answer over plain lists
+fn listed(rt: &(impl Abort + AllocGlobal), config: &Config) -> Result<Vec<Told>, Fail> {
+    let mut store = PlainStore::new(rt.alloc(), config)?;
+    answers(rt, &mut store, config, CALLS)
+}
+
+/// What they answer over indexes
+fn indexed(rt: &(impl Abort + AllocGlobal), config: &Config) -> Result<Vec<Told>, Fail> {
+    let mut store = IndexStore::new(rt.alloc(), config)?;
+    answers(rt, &mut store, config, CALLS)
+}
+
+#[test]
+fn both_stores_answer_alike(rt: HostRuntime) -> Result<(), Fail> {
+    let config = load(rt.alloc(), RULES)?;
+    let listed = listed(&rt, &config)?;
+    let indexed = indexed(&rt, &config)?;
+    for (step, (told, wanted)) in indexed.iter().zip(&listed).enumerate() {
+        assert_eq!(rt; told, wanted, "at step {step}");
+    }
+    assert_eq!(rt; indexed.len(), listed.len());
+    assert!(rt; listed.last().is_some_and(|told| told.made > 100));
+    Ok(())
+}

@@ -1,0 +1,163 @@
+//! Engines over each kind of store, and what they do with the events of a case.
+
+use super::tallied::Tallied;
+use pfs_addr_values::{Packet, RUN_LIMIT};
+use pfs_conf::TableNo;
+use pfs_engine::{Arrival, Engine, Event, Outcome};
+use pfs_store::IndexStore;
+use pfs_store_contract::Store;
+use pfs_store_plain::PlainStore;
+use pfs_tests_cases::{
+    Case, Script, are_allowed, configured, is_in_order, is_in_time, may_come, may_expire, same,
+};
+use std::alloc::{AllocGlobal, Global};
+use std::process::Abort;
+use std::test::Fail;
+
+/// An engine over a plain store.
+pub fn plain(alloc: Global, first: &str, rules: &str) -> Result<Engine<PlainStore>, Fail> {
+    let config = configured(alloc, first, rules)?;
+    let store = PlainStore::new(alloc, &config)?;
+    Ok(Engine::new(alloc, config, store)?)
+}
+
+/// An engine over a store by indexes.
+pub fn indexed(alloc: Global, first: &str, rules: &str) -> Result<Engine<IndexStore>, Fail> {
+    let config = configured(alloc, first, rules)?;
+    let store = IndexStore::new(alloc, &config)?;
+    Ok(Engine::new(alloc, config, store)?)
+}
+
+/// An engine over a plain store whose changes are counted.
+pub fn tallied(
+    alloc: Global,
+    first: &str,
+    rules: &str,
+) -> Result<Engine<Tallied<PlainStore>>, Fail> {
+    let config = configured(alloc, first, rules)?;
+    let store = Tallied::new(PlainStore::new(alloc, &config)?);
+    Ok(Engine::new(alloc, config, store)?)
+}
+
+/// Over each kind of store one by one, and as a run: the outcomes, and what is held in the end.
+pub fn tell(rt: &(impl Abort + AllocGlobal), first: &str, case: &Case) -> Result<(), Fail> {
+    let alloc = rt.alloc();
+    let script = Script::of(alloc, case.rows)?;
+    ends(rt, plain(alloc, first, case.rules)?, &script, case)?;
+    ends(rt, tallied(alloc, first, case.rules)?, &script, case)?;
+    ends(rt, indexed(alloc, first, case.rules)?, &script, case)?;
+    steps(rt, plain(alloc, first, case.rules)?, &script, case)?;
+    steps(rt, indexed(alloc, first, case.rules)?, &script, case)?;
+    runs(rt, plain(alloc, first, case.rules)?, &script, case)?;
+    runs(rt, indexed(alloc, first, case.rules)?, &script, case)
+}
+
+/// Lets time pass to a moment that is not before the last one.
+pub fn pass_time<S: Store>(rt: &impl Abort, engine: &mut Engine<S>, time: u64) {
+    assert!(rt; is_in_time(engine.last(), time));
+    engine.advance(time);
+}
+
+/// One packet at the last moment.
+pub fn take<S: Store>(
+    rt: &impl Abort,
+    engine: &mut Engine<S>,
+    packet: &Packet,
+) -> Result<Outcome, Fail> {
+    assert!(rt; engine.last().is_some() && engine.taken() < RUN_LIMIT);
+    Ok(engine.packet(packet)?)
+}
+
+/// Old entries leave a table at the last moment, which changes neither what was taken nor the work.
+pub fn expire<S: Store>(
+    rt: &impl Abort,
+    engine: &mut Engine<S>,
+    table: TableNo,
+    seconds: u64,
+) -> Outcome {
+    assert!(rt; engine.last().is_some() && may_expire(engine.config(), table));
+    let before = (engine.first(), engine.taken(), engine.work());
+    let left = engine.expire(table, seconds);
+    same!(rt; (engine.first(), engine.taken(), engine.work()), before);
+    Outcome::Expire(left)
+}
+
+/// How many states, source nodes and entries are held.
+pub fn held<S: Store>(engine: &Engine<S>) -> (u64, u64, u64) {
+    (engine.states(), engine.nodes(), engine.entries())
+}
+
+/// The events one by one, and what is held after them
+fn ends<S: Store + Drop>(
+    rt: &impl Abort,
+    engine: Engine<S>,
+    script: &Script,
+    case: &Case,
+) -> Result<(), Fail> {
+    let mut engine = engine;
+    same!(rt; (engine.last(), engine.taken()), (None, 0));
+    for (event, outcome) in script.events.iter().zip(&script.outcomes) {
+        pass_time(rt, &mut engine, event.time);
+        let before = held(&engine);
+        let told = match &event.what {
+            Arrival::Packet(packet) => take(rt, &mut engine, packet)?,
+            Arrival::Skip => Outcome::Skip,
+            Arrival::Expire { table, seconds } => expire(rt, &mut engine, *table, *seconds),
+        };
+        same!(rt; told, *outcome, (case.shows, event));
+        assert!(rt; !matches!(told, Outcome::Drop(..)) || held(&engine) == before);
+    }
+    check_end(rt, &engine, script, case);
+    Ok(())
+}
+
+/// Each event by one call, and what is held after them
+fn steps<S: Store + Drop>(
+    rt: &impl Abort,
+    engine: Engine<S>,
+    script: &Script,
+    case: &Case,
+) -> Result<(), Fail> {
+    let mut engine = engine;
+    for (event, outcome) in script.events.iter().zip(&script.outcomes) {
+        assert!(rt; is_in_time(engine.last(), event.time));
+        assert!(rt; engine.taken() < RUN_LIMIT);
+        assert!(rt; may_come(engine.config(), &event.what));
+        same!(rt; engine.step(event)?, *outcome, (case.shows, event));
+    }
+    check_end(rt, &engine, script, case);
+    Ok(())
+}
+
+/// All events by one call, and what is held after them
+fn runs<S: Store + Drop>(
+    rt: &(impl Abort + AllocGlobal),
+    engine: Engine<S>,
+    script: &Script,
+    case: &Case,
+) -> Result<(), Fail> {
+    let mut engine = engine;
+    let mut outcomes = Vec::new(rt.alloc());
+    assert!(rt; is_in_order(engine.last(), &script.events));
+    assert!(rt; engine.taken() == 0 && script.events.len() as u64 <= RUN_LIMIT);
+    assert!(rt; are_allowed(engine.config(), &script.events));
+    engine.run(&script.events, &mut outcomes)?;
+    same!(rt; outcomes, script.outcomes, case.shows);
+    check_end(rt, &engine, script, case);
+    Ok(())
+}
+
+/// What is held after the script, how many packets were taken, and the last moment
+fn check_end<S: Store>(rt: &impl Abort, engine: &Engine<S>, script: &Script, case: &Case) {
+    same!(rt; held(engine), case.end, case.shows);
+    same!(rt; engine.taken(), script.packets);
+    same!(rt; engine.first(), time_of(script.events.first()));
+    same!(rt; engine.last(), time_of(script.events.last()));
+}
+
+fn time_of(event: Option<&Event>) -> Option<u64> {
+    match event {
+        Some(event) => Some(event.time),
+        None => None,
+    }
+}

@@ -1,0 +1,483 @@
+//! Stores by themselves: the numbers of states, what is reported of handshakes, what leaves, and the slices of a round.
+
+ghost use Rattle.std.specs.Prelude.{◌≡◌, ◌≤◌};
+ghost use Rattle.pfs_store_contract.specs.Worlds.{IsUpToNow};
+
+use super::calls::{
+    admit, flush, kill, pass_over, purge_nodes, purge_states, touch, watch_nodes, watch_states,
+};
+use super::tallied::Tallied;
+use pfs_addr_values::{Addr, FlowKey};
+use pfs_conf::{Config, RuleNo};
+use pfs_store::IndexStore;
+use pfs_store_contract::{Limit, StateNo, Store, Touched};
+use pfs_store_plain::PlainStore;
+use pfs_tests_cases::{A1, A2, ACK, SYN, SYN_ACK, Sent, UNSCALED, configured, packet, same};
+use pfs_track::Score;
+use std::process::Abort;
+use std::test::Fail;
+
+/// What is done with a store, and what it answers.
+#[derive(Clone, Copy)]
+enum Step {
+    /// A UDP packet of this source and port is admitted at a rule.
+    Admit(Addr, u16, u32, Result<u64, Limit>),
+    /// It comes once more, of a rule that tracks no sources.
+    Again(Addr, u16, u32),
+    /// The first source shakes hands from this port at rule 0: how many connections it has then, and its score.
+    Shake(u16, u64, u64),
+    /// The state of this number is killed.
+    Kill(u64),
+    /// The states of the first source leave, all or those of a rule: how many they are.
+    Flush(Option<RuleNo>, u64),
+    /// Whether a state of this number is held.
+    Holds(u64, bool),
+    /// A slice of the states examines and removes so many.
+    States(u64, u64),
+    /// So does one of the source nodes.
+    Nodes(u64, u64),
+    /// A slice of the states examines so many, reports up to when they stay, and whether the round is over.
+    WatchStates(u64, u64, bool),
+    /// So does one of the source nodes.
+    WatchNodes(u64, u64, bool),
+    /// So many seconds are passed over.
+    PassOver(u64),
+    /// So many states and source nodes are held, and so many states were ever made.
+    Held(u64, u64, u64),
+}
+
+/// When it is done, and what.
+type Row = (u64, Step);
+
+/// A handshake of the first source from this port: what its third packet did
+fn shake<S: Store>(
+    rt: &impl Abort,
+    store: &mut S,
+    config: &Config,
+    port: u16,
+    now: u64,
+) -> Result<Touched, Fail>
+    requires made_for { S.config store.old ≡ config.now }
+    requires order { IsUpToNow now (S.world store.old) }
+    ensures made_for { S.config store.new ≡ config.now }
+    ensures order { IsUpToNow now (S.world store.new) }
+{
+    let syn = packet(&Sent::Tcp(80, SYN), A1, port)?;
+    let answer = admit(rt, store, config, &syn, RuleNo(0), now)?;
+    assert!(rt; answer.is_ok());
+    let second = touch(store, &packet(&Sent::Answer(SYN_ACK), A1, port)?, now)?;
+    assert!(rt; !second.completed);
+    touch(store, &packet(&Sent::Tcp(80, ACK), A1, port)?, now)
+}
+
+fn numbered(answer: Result<StateNo, Limit>) -> Result<u64, Limit> {
+    match answer {
+        Ok(number) => Ok(number.0),
+        Err(limit) => Err(limit),
+    }
+}
+
+/// The rule of a state that was admitted
+fn rule_of(answer: Result<StateNo, Limit>, rule: u32) -> Option<RuleNo> {
+    match answer {
+        Ok(_) => Some(RuleNo(rule)),
+        Err(_) => None,
+    }
+}
+
+fn come<S: Store>(
+    rt: &impl Abort,
+    store: &mut S,
+    config: &Config,
+    now: u64,
+    step: &Step,
+) -> Result<(), Fail>
+    requires made_for { S.config store.old ≡ config.now }
+    requires order { IsUpToNow now (S.world store.old) }
+    ensures made_for { S.config store.new ≡ config.now }
+    ensures order { IsUpToNow now (S.world store.new) }
+{
+    match *step {
+        Step::Admit(source, port, rule, want) => {
+            let packet = packet(&Sent::Udp(53), source, port)?;
+            let answer = admit(rt, store, config, &packet, RuleNo(rule), now)?;
+            same!(rt; numbered(answer), want);
+            let key = FlowKey::of(&packet);
+            same!(rt; store.find(&key), answer.ok());
+            same!(rt; store.rule_at(&key), rule_of(answer, rule));
+        }
+        Step::Again(source, port, rule) => {
+            let told = touch(store, &packet(&Sent::Udp(53), source, port)?, now)?;
+            same!(rt; (told.rule, told.source, told.completed), (RuleNo(rule), source, false));
+            same!(rt; (told.connections, told.score), (0, Score::default()));
+        }
+        Step::Shake(port, connections, value) => {
+            let told = shake(rt, store, config, port, now)?;
+            let wanted = Touched {
+                rule: RuleNo(0),
+                source: A1,
+                completed: true,
+                connections,
+                score: Score { value, last: now },
+            };
+            same!(rt; told, wanted);
+        }
+        _ => {}
+    }
+    Ok(())
+}
+
+fn leave<S: Store>(rt: &impl Abort, store: &mut S, now: u64, step: &Step)
+    requires order { IsUpToNow now (S.world store.old) }
+    ensures order { IsUpToNow now (S.world store.new) }
+    ensures made_for { S.config store.new ≡ S.config store.old }
+{
+    match *step {
+        Step::Kill(number) => kill(rt, store, StateNo(number), now),
+        Step::Flush(rule, killed) => same!(rt; flush(store, A1, rule, now), killed),
+        Step::States(examined, removed) => {
+            let slice = purge_states(store, now);
+            same!(rt; (slice.examined, slice.removed), (examined, removed));
+        }
+        Step::Nodes(examined, removed) => {
+            let slice = purge_nodes(store, now);
+            same!(rt; (slice.examined, slice.removed), (examined, removed));
+        }
+        _ => {}
+    }
+}
+
+fn watch<S: Store>(rt: &impl Abort, store: &mut S, now: u64, step: &Step)
+    requires order { IsUpToNow now (S.world store.old) }
+    ensures order { IsUpToNow now (S.world store.new) }
+    ensures made_for { S.config store.new ≡ S.config store.old }
+{
+    match *step {
+        Step::WatchStates(examined, until, over) => {
+            let told = watch_states(store, now);
+            same!(rt; (told.slice.examined, told.until, told.over), (examined, until, over));
+        }
+        Step::WatchNodes(examined, until, over) => {
+            let told = watch_nodes(store, now);
+            same!(rt; (told.slice.examined, told.until, told.over), (examined, until, over));
+        }
+        Step::PassOver(seconds) => same!(rt; pass_over(store, now, seconds), seconds),
+        _ => {}
+    }
+}
+
+fn look<S: Store>(rt: &impl Abort, store: &S, step: &Step) {
+    match *step {
+        Step::Holds(number, wanted) => same!(rt; store.holds(StateNo(number)), wanted),
+        Step::Held(states, nodes, made) => {
+            same!(rt; (store.state_count(), store.node_count(), store.made()), (states, nodes, made));
+        }
+        _ => {}
+    }
+}
+
+/// Does one step at a moment that is not before the last one
+fn act<S: Store>(
+    rt: &impl Abort,
+    store: &mut S,
+    config: &Config,
+    last: u64,
+    row: &Row,
+) -> Result<(), Fail>
+    requires made_for { S.config store.old ≡ config.now }
+    requires order { IsUpToNow last (S.world store.old) }
+    requires later { last ≤ row.now.0 }
+    ensures made_for { S.config store.new ≡ config.now }
+    ensures order { IsUpToNow row.now.0 (S.world store.new) }
+{
+    let (now, step) = row;
+    come(rt, store, config, *now, step)?;
+    leave(rt, store, *now, step);
+    watch(rt, store, *now, step);
+    look(rt, store, step);
+    Ok(())
+}
+
+fn follow<S: Store>(
+    rt: &impl Abort,
+    store: &mut S,
+    config: &Config,
+    rows: &[Row],
+) -> Result<(), Fail>
+    requires made_for { S.config store.old ≡ config.now }
+    requires order { IsUpToNow 0 (S.world store.old) }
+{
+    let mut last = 0;
+    for row in rows {
+        assert!(rt; last <= row.0);
+        act(rt, store, config, last, row)?;
+        last = row.0;
+    }
+    Ok(())
+}
+
+/// How many calls a step makes that change a store, or might
+fn changes(step: &Step) -> u64 {
+    match step {
+        Step::Shake(..) => 3,
+        Step::Holds(..) | Step::Held(..) => 0,
+        _ => 1,
+    }
+}
+
+fn all_changes(rows: &[Row]) -> u64 {
+    let mut all: u64 = 0;
+    for (_, step) in rows {
+        all = all.saturating_add(changes(step));
+    }
+    all
+}
+
+/// In each kind of store, of which one is held at a time
+fn tell(rt: &(impl Abort + AllocGlobal), rules: &str, rows: &[Row]) -> Result<(), Fail> {
+    let config = configured(rt.alloc(), UNSCALED, rules)?;
+    tell_plain(rt, &config, rows)?;
+    tell_tallied(rt, &config, rows)?;
+    tell_indexed(rt, &config, rows)
+}
+
+fn tell_plain(rt: &(impl Abort + AllocGlobal), config: &Config, rows: &[Row]) -> Result<(), Fail> {
+    let mut store = PlainStore::new(rt.alloc(), config)?;
+    follow(rt, &mut store, config, rows)
+}
+
+fn tell_tallied(
+    rt: &(impl Abort + AllocGlobal),
+    config: &Config,
+    rows: &[Row],
+) -> Result<(), Fail> {
+    let mut store = Tallied::new(PlainStore::new(rt.alloc(), config)?);
+    follow(rt, &mut store, config, rows)?;
+    same!(rt; store.calls, all_changes(rows));
+    Ok(())
+}
+
+fn tell_indexed(
+    rt: &(impl Abort + AllocGlobal),
+    config: &Config,
+    rows: &[Row],
+) -> Result<(), Fail> {
+    let mut store = IndexStore::new(rt.alloc(), config)?;
+    follow(rt, &mut store, config, rows)
+}
+
+const NUMBERED: &[Row] = &[
+    (0, Step::Held(0, 0, 0)),
+    (5, Step::Admit(A1, 1000, 0, Ok(1))),
+    (5, Step::Holds(1, true)),
+    (5, Step::Admit(A2, 1000, 0, Err(Limit::Max))),
+    (5, Step::Admit(A2, 1000, 1, Err(Limit::States))),
+    (5, Step::Holds(2, false)),
+    (5, Step::Held(1, 0, 1)),
+];
+
+#[test]
+fn states_are_numbered_and_refused(rt: HostRuntime) -> Result<(), Fail> {
+    tell(
+        &rt,
+        "set limit states 1\npass keep state (max 1)\npass",
+        NUMBERED,
+    )
+}
+
+const MAXIMA: &[Row] = &[
+    (5, Step::Admit(A1, 1, 0, Ok(1))),
+    (5, Step::Admit(A1, 2, 0, Ok(2))),
+    (5, Step::Admit(A1, 3, 0, Err(Limit::MaxSrcStates))),
+    (5, Step::Admit(A1, 4, 1, Ok(3))),
+    (5, Step::Admit(A1, 5, 1, Err(Limit::MaxSrcStates))),
+    (5, Step::Admit(A2, 1, 0, Ok(4))),
+    (5, Step::Held(4, 2, 4)),
+];
+
+#[test]
+fn a_source_has_a_maximum_of_states(rt: HostRuntime) -> Result<(), Fail> {
+    let rules = "pass keep state (source-track global, max-src-states 2)\n\
+        pass keep state (source-track global, max-src-states 3)";
+    tell(&rt, rules, MAXIMA)
+}
+
+const SHARED: &[Row] = &[
+    (5, Step::Admit(A1, 1, 1, Ok(1))),
+    (5, Step::Admit(A1, 2, 1, Ok(2))),
+    (5, Step::Admit(A1, 3, 1, Ok(3))),
+    (5, Step::Admit(A1, 4, 1, Ok(4))),
+    (5, Step::Admit(A1, 5, 1, Ok(5))),
+    (5, Step::Admit(A1, 6, 1, Err(Limit::MaxSrcStates))),
+    (5, Step::Admit(A1, 7, 0, Err(Limit::MaxSrcStates))),
+    (5, Step::Held(5, 1, 5)),
+];
+
+#[test]
+fn rules_share_global_nodes_under_their_own_maxima(rt: HostRuntime) -> Result<(), Fail> {
+    let rules = "pass keep state (source-track global, max-src-states 2)\n\
+        pass keep state (source-track global, max-src-states 5)";
+    tell(&rt, rules, SHARED)
+}
+
+const FULL: &[Row] = &[
+    (5, Step::Admit(A1, 1, 0, Ok(1))),
+    (5, Step::Admit(A2, 1, 0, Err(Limit::States))),
+    (5, Step::Held(1, 1, 1)),
+];
+
+const REFUSALS: &[Row] = &[
+    (5, Step::Admit(A1, 1, 0, Ok(1))),
+    (5, Step::Admit(A2, 1, 0, Err(Limit::SrcNodes))),
+    (5, Step::Admit(A1, 2, 0, Ok(2))),
+    (5, Step::Admit(A1, 3, 0, Err(Limit::States))),
+    (5, Step::Held(2, 1, 2)),
+];
+
+#[test]
+fn a_refusal_makes_no_node(rt: HostRuntime) -> Result<(), Fail> {
+    let rules = "set limit { states 1, src-nodes 5 }\npass keep state (source-track rule)";
+    tell(&rt, rules, FULL)?;
+    let rules = "set limit { states 2, src-nodes 1 }\npass keep state (source-track rule)\npass";
+    tell(&rt, rules, REFUSALS)
+}
+
+const AT_ONCE: &[Row] = &[
+    (0, Step::Shake(1, 1, 1000)),
+    (0, Step::Shake(2, 2, 2000)),
+    (0, Step::Shake(3, 3, 3000)),
+    (0, Step::Shake(4, 4, 4000)),
+    (3, Step::Admit(A2, 1, 1, Ok(5))),
+    (3, Step::Again(A2, 1, 1)),
+];
+
+const IN_TURN: &[Row] = &[
+    (0, Step::Shake(1, 1, 1000)),
+    (1, Step::Shake(2, 2, 1900)),
+    (2, Step::Shake(3, 3, 2710)),
+    (3, Step::Shake(4, 4, 3439)),
+];
+
+#[test]
+fn handshakes_count_in_the_score_of_their_source(rt: HostRuntime) -> Result<(), Fail> {
+    let rules = "pass keep state (max-src-conn 1, max-src-conn-rate 3/10)\npass";
+    tell(&rt, rules, AT_ONCE)?;
+    tell(&rt, rules, IN_TURN)
+}
+
+const LEAVING: &[Row] = &[
+    (5, Step::Admit(A1, 1, 0, Ok(1))),
+    (5, Step::Admit(A1, 2, 0, Ok(2))),
+    (5, Step::Admit(A1, 3, 1, Ok(3))),
+    (5, Step::Admit(A2, 4, 1, Ok(4))),
+    (5, Step::Admit(A1, 5, 1, Ok(5))),
+    (5, Step::Holds(2, true)),
+    (6, Step::Kill(2)),
+    (6, Step::Holds(2, false)),
+    (6, Step::Holds(1, true)),
+    (6, Step::Flush(Some(RuleNo(1)), 2)),
+    (6, Step::Holds(1, true)),
+    (6, Step::Holds(4, true)),
+    (7, Step::Flush(None, 1)),
+    (7, Step::Held(1, 1, 5)),
+    (26, Step::Nodes(1, 0)),
+    (27, Step::Nodes(1, 1)),
+    (27, Step::Held(1, 0, 5)),
+];
+
+/// The node has been idle since moment 7, and is kept for 20 seconds
+#[test]
+fn states_leave_by_number_and_by_source(rt: HostRuntime) -> Result<(), Fail> {
+    let rules =
+        "set timeout { src.track 20, interval 1 }\npass keep state (source-track rule)\npass";
+    tell(&rt, rules, LEAVING)
+}
+
+/// A slice examines two states and one node
+const SLICES: &str = "set limit { states 6, src-nodes 4 }\n\
+    set timeout { src.track 20, interval 5, udp.first 5 }\npass keep state (source-track rule)";
+
+const ROUNDS: &[Row] = &[
+    (5, Step::Admit(A1, 1, 0, Ok(1))),
+    (5, Step::Admit(A1, 2, 0, Ok(2))),
+    (5, Step::Admit(A1, 3, 0, Ok(3))),
+    (5, Step::Admit(A2, 4, 0, Ok(4))),
+    (5, Step::Admit(A1, 5, 0, Ok(5))),
+    (9, Step::States(2, 0)),
+    (10, Step::States(2, 2)),
+    (11, Step::States(1, 1)),
+    (12, Step::States(2, 2)),
+    (13, Step::States(0, 0)),
+    (13, Step::Held(0, 2, 5)),
+    (29, Step::Nodes(1, 0)),
+    (30, Step::Nodes(1, 1)),
+    (31, Step::Nodes(1, 0)),
+    (32, Step::Nodes(1, 1)),
+    (33, Step::Nodes(0, 0)),
+];
+
+/// A slice examines two states and one node, and does not go on into the next round. The states expire at moment 10; the
+/// source of the fourth is idle since then, the other one since moment 12
+#[test]
+fn a_slice_examines_its_share_of_a_round(rt: HostRuntime) -> Result<(), Fail> {
+    tell(&rt, SLICES, ROUNDS)
+}
+
+const RETURNING: &[Row] = &[
+    (5, Step::Admit(A1, 1, 0, Ok(1))),
+    (5, Step::Admit(A2, 2, 0, Ok(2))),
+    (6, Step::Kill(1)),
+    (10, Step::Kill(2)),
+    (26, Step::Nodes(1, 1)),
+    (26, Step::Admit(A1, 3, 0, Ok(3))),
+    (26, Step::Held(1, 2, 3)),
+    (27, Step::Nodes(1, 0)),
+    (30, Step::Nodes(1, 1)),
+    (31, Step::Nodes(1, 0)),
+    (31, Step::Kill(3)),
+    (32, Step::Admit(A2, 4, 0, Ok(4))),
+    (33, Step::Kill(4)),
+    (51, Step::Nodes(1, 1)),
+    (53, Step::Nodes(1, 1)),
+    (53, Step::Held(0, 0, 4)),
+];
+
+/// The first source leaves and comes again, where the second one is held: its new number is the greater one, so that the second
+/// is examined before it at moment 30
+#[test]
+fn a_source_that_comes_again_is_examined_by_its_new_number(rt: HostRuntime) -> Result<(), Fail> {
+    tell(&rt, SLICES, RETURNING)
+}
+
+const PASSED: &[Row] = &[
+    (5, Step::Admit(A1, 1, 0, Ok(1))),
+    (5, Step::Admit(A1, 2, 0, Ok(2))),
+    (5, Step::Admit(A1, 3, 0, Ok(3))),
+    (5, Step::Admit(A2, 4, 0, Ok(4))),
+    (5, Step::Admit(A1, 5, 0, Ok(5))),
+    (6, Step::WatchStates(2, 10, false)),
+    (6, Step::WatchNodes(1, u64::MAX, false)),
+    (7, Step::WatchStates(2, 10, false)),
+    (7, Step::WatchNodes(1, u64::MAX, true)),
+    (8, Step::WatchStates(1, 10, true)),
+    (8, Step::PassOver(4)),
+    (13, Step::States(2, 2)),
+    (14, Step::States(1, 1)),
+    (15, Step::WatchStates(2, u64::MAX, true)),
+    (15, Step::WatchNodes(1, 35, false)),
+    (16, Step::WatchNodes(1, 33, true)),
+    (16, Step::PassOver(3)),
+    (33, Step::Nodes(1, 1)),
+    (35, Step::Nodes(1, 1)),
+    (35, Step::Held(0, 0, 5)),
+];
+
+/// Of four seconds three are a whole round of the states, and two rounds of the nodes. The states expire at moment 10; the source
+/// of the fourth has been idle since moment 13, and the other one since 15
+#[test]
+fn seconds_are_passed_over_by_rounds(rt: HostRuntime) -> Result<(), Fail> {
+    let alloc = rt.alloc();
+    let config = configured(alloc, UNSCALED, SLICES)?;
+    let mut indexed = IndexStore::new(alloc, &config)?;
+    follow(&rt, &mut indexed, &config, PASSED)
+}

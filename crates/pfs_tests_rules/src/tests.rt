@@ -1,0 +1,14 @@
+//! The tests, with what they alone use.
+
+mod asking;
+mod bounds;
+mod generated;
+mod lifetimes;
+mod packets;
+mod phases;
+mod plain;
+mod scores;
+mod tables;
+mod tcp_steps;
+mod verdicts;
+mod visits;

@@ -1,0 +1,14 @@
+//! The tests, with what they alone use.
+
+mod addresses;
+mod clauses;
+mod configurations;
+mod faults;
+mod hashing;
+mod packets;
+mod parameters;
+mod round_trips;
+mod settings;
+mod together;
+mod tokens;
+mod wide_addresses;
