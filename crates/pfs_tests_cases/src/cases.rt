@@ -1,38 +1,663 @@
-//! Cases: rules, what comes, and what must come of it.
+//! The cases, by what they are about: limits on states, limits on connections, purges, and old entries.
 
+use crate::packets::{A1, A2};
+use crate::rows::{Came, Case};
+use crate::texts::UNSCALED;
 use pfs_addr_values::Addr;
 
-/// What comes of a source.
-#[derive(Debug, Clone, Copy)]
-pub enum Came {
-    /// A UDP packet to this port of the server.
-    Udp(u16),
-    /// The first packet of a TCP handshake with port 80 of the server.
-    Syn,
-    /// The server's answer to it.
-    SynAck,
-    /// The third one.
-    Ack,
-    /// The end of what the source sends.
-    Fin,
-    /// A reset by the source.
-    Reset,
-    /// A whole handshake, whose state is one of this rule: the words are those for its third packet.
-    Shake(u32),
-    /// A record of no packet: ICMP.
-    Ping,
-    /// The entries of the first table, which is `<bad>`, leave that are so many seconds old.
-    Expire(u64),
-}
+/// All cases, each list with what goes before its rules: lives are shortened by load in the last one alone.
+pub const CASES: &[(&str, &[Case])] = &[
+    (UNSCALED, ADMISSIONS),
+    (UNSCALED, CONNECTIONS),
+    (UNSCALED, RATES),
+    (UNSCALED, KEPT),
+    (UNSCALED, OVERLOADS),
+    (UNSCALED, LIVES),
+    (UNSCALED, ROUNDS),
+    (UNSCALED, EXPIRIES),
+    ("", SCALED),
+];
 
-/// When, in seconds; what, of which source, from which of its ports; and what the report says of it, behind the number of its line.
-pub type Row = (u64, Came, Addr, u16, &'static str);
+const A3: Addr = Addr::V4([198, 51, 100, 3]);
 
-/// Rules, what comes under them, and how many states, source nodes and entries are held in the end.
-#[derive(Clone, Copy)]
-pub struct Case {
-    pub shows: &'static str,
-    pub rules: &'static str,
-    pub rows: &'static [Row],
-    pub end: (u64, u64, u64),
-}
+const A4: Addr = Addr::V4([198, 51, 100, 4]);
+
+const A5: Addr = Addr::V4([198, 51, 100, 5]);
+
+const A6: Addr = Addr::V4([198, 51, 100, 6]);
+
+const A7: Addr = Addr::V4([198, 51, 100, 7]);
+
+const A8: Addr = Addr::V4([198, 51, 100, 8]);
+
+const A9: Addr = Addr::V4([198, 51, 100, 9]);
+
+/// The host that the rules put into the table.
+const BAD: Addr = Addr::V4([203, 0, 113, 9]);
+
+const UDP: Came = Came::Udp(53);
+
+const OTHER: Came = Came::Udp(54);
+
+const SHAKE: Came = Came::Shake(0);
+
+const CONN: &str = "kill:max-src-conn @0 overload=none killed=1";
+
+const RATE: &str = "kill:max-src-conn-rate @0 overload=none killed=1";
+
+const BOTH: &str = "kill:max-src-conn+max-src-conn-rate @0 overload=none killed=1";
+
+const ADDED: &str = "kill:max-src-conn @0 overload=added killed=1";
+
+const HELD: &str = "kill:max-src-conn @0 overload=held killed=1";
+
+const FULL: &str = "kill:max-src-conn @0 overload=full killed=1";
+
+const FLUSHED: &str = "kill:max-src-conn @1 overload=added killed=2";
+
+// ---- limits on states and source nodes
+
+pub const THIRD_STATE: Case = Case {
+    shows: "the limit of all states",
+    rules: "set limit states 2\npass in proto udp all",
+    rows: &[
+        (5, UDP, A1, 1000, "new @0"),
+        (5, UDP, A2, 1000, "new @0"),
+        (5, UDP, A3, 1000, "drop:states @0"),
+    ],
+    end: (2, 0, 0),
+};
+
+/// The limits on states and on source nodes.
+const ADMISSIONS: &[Case] = &[
+    THIRD_STATE,
+    Case {
+        shows: "max is asked before the limit of all states",
+        rules: "set limit states 1\npass in proto udp all keep state (max 1)",
+        rows: &[
+            (5, UDP, A1, 1000, "new @0"),
+            (5, UDP, A2, 1000, "drop:max @0"),
+        ],
+        end: (1, 0, 0),
+    },
+    Case {
+        shows: "the maximum of a rule is asked first, and of that rule alone",
+        rules: "set limit states 1\npass in proto udp to port 54\npass in proto udp to port 53 keep state (max 1)",
+        rows: &[
+            (5, UDP, A1, 1000, "new @1"),
+            (5, UDP, A2, 1000, "drop:max @1"),
+            (5, OTHER, A2, 1000, "drop:states @0"),
+        ],
+        end: (1, 0, 0),
+    },
+    Case {
+        shows: "each source has its own states",
+        rules: "pass in proto udp all keep state (max-src-states 2)",
+        rows: &[
+            (5, UDP, A1, 1, "new @0"),
+            (5, UDP, A1, 2, "new @0"),
+            (5, UDP, A1, 3, "drop:max-src-states @0"),
+            (5, UDP, A2, 1, "new @0"),
+        ],
+        end: (3, 2, 0),
+    },
+    Case {
+        shows: "a source has a maximum of states over all rules",
+        rules: "pass in proto udp all keep state (source-track global, max-src-states 2)",
+        rows: &[
+            (5, UDP, A1, 1, "new @0"),
+            (5, UDP, A1, 2, "new @0"),
+            (5, UDP, A1, 3, "drop:max-src-states @0"),
+            (5, UDP, A2, 1, "new @0"),
+        ],
+        end: (3, 2, 0),
+    },
+    Case {
+        shows: "a refusal for the limit of states makes no node",
+        rules: "set limit { states 1, src-nodes 5 }\npass in proto udp all keep state (source-track rule)",
+        rows: &[(5, UDP, A1, 1, "new @0"), (5, UDP, A2, 1, "drop:states @0")],
+        end: (1, 1, 0),
+    },
+    Case {
+        shows: "nor does one for the limit of nodes",
+        rules: "set limit { states 9, src-nodes 1 }\npass in proto udp all keep state (source-track rule)",
+        rows: &[
+            (5, UDP, A1, 1, "new @0"),
+            (5, UDP, A2, 1, "drop:src-nodes @0"),
+        ],
+        end: (1, 1, 0),
+    },
+    Case {
+        shows: "and a source with a node is not refused for it",
+        rules: "set limit { states 9, src-nodes 1 }\npass in proto udp all keep state (source-track rule)",
+        rows: &[
+            (5, UDP, A1, 1, "new @0"),
+            (5, UDP, A2, 1, "drop:src-nodes @0"),
+            (5, UDP, A1, 2, "new @0"),
+        ],
+        end: (2, 1, 0),
+    },
+    Case {
+        shows: "rules share a node, and each has its own maximum",
+        rules: "pass in proto udp to any port 53 keep state (source-track global, max-src-states 2)\n\
+            pass in proto udp to any port 54 keep state (source-track global, max-src-states 5)",
+        rows: &[
+            (0, OTHER, A1, 1, "new @1"),
+            (0, OTHER, A1, 2, "new @1"),
+            (0, OTHER, A1, 3, "new @1"),
+            (0, OTHER, A1, 4, "new @1"),
+            (0, OTHER, A1, 5, "new @1"),
+            (0, OTHER, A1, 6, "drop:max-src-states @1"),
+            (0, UDP, A1, 7, "drop:max-src-states @0"),
+        ],
+        end: (5, 1, 0),
+    },
+    Case {
+        shows: "in whichever order the rules are written",
+        rules: "pass in proto udp to any port 54 keep state (source-track global, max-src-states 5)\n\
+            pass in proto udp to any port 53 keep state (source-track global, max-src-states 2)",
+        rows: &[
+            (0, OTHER, A1, 1, "new @0"),
+            (0, OTHER, A1, 2, "new @0"),
+            (0, OTHER, A1, 3, "new @0"),
+            (0, OTHER, A1, 4, "new @0"),
+            (0, OTHER, A1, 5, "new @0"),
+            (0, OTHER, A1, 6, "drop:max-src-states @0"),
+            (0, UDP, A1, 7, "drop:max-src-states @1"),
+        ],
+        end: (5, 1, 0),
+    },
+    Case {
+        shows: "a dropped packet changes nothing held",
+        rules: "set limit states 1\ntable <bad> { 198.51.100.2 }\n\
+            pass in proto udp all keep state (source-track rule)",
+        rows: &[
+            (5, UDP, A1, 1, "new @0"),
+            (5, UDP, A2, 1, "drop:states @0"),
+            (5, UDP, A2, 2, "drop:states @0"),
+            (5, UDP, A2, 3, "drop:states @0"),
+            (5, UDP, A1, 1, "state @0"),
+        ],
+        end: (1, 1, 1),
+    },
+];
+
+// ---- limits on connections, overload tables and flushes
+
+pub const SECOND_CONNECTION: Case = Case {
+    shows: "the second connection is killed",
+    rules: "pass in proto tcp to any port 80 keep state (max-src-conn 1)",
+    rows: &[(0, SHAKE, A1, 1000, "state @0"), (0, SHAKE, A1, 1001, CONN)],
+    end: (1, 1, 0),
+};
+
+/// How many connections a source may have.
+const CONNECTIONS: &[Case] = &[
+    SECOND_CONNECTION,
+    Case {
+        shows: "both limits are told",
+        rules: "pass in proto tcp to any port 80 keep state (max-src-conn 1, max-src-conn-rate 1/10)",
+        rows: &[(0, SHAKE, A1, 1000, "state @0"), (0, SHAKE, A1, 1001, BOTH)],
+        end: (1, 1, 0),
+    },
+];
+
+const THREE_IN_TEN: &str = "pass in proto tcp to any port 80 keep state (max-src-conn-rate 3/10)";
+
+/// How many it may make in a time.
+const RATES: &[Case] = &[
+    Case {
+        shows: "four connections at once are past a rate of three",
+        rules: THREE_IN_TEN,
+        rows: &[
+            (0, SHAKE, A1, 1, "state @0"),
+            (0, SHAKE, A1, 2, "state @0"),
+            (0, SHAKE, A1, 3, "state @0"),
+            (0, SHAKE, A1, 4, RATE),
+        ],
+        end: (3, 1, 0),
+    },
+    Case {
+        shows: "so are four in four seconds",
+        rules: THREE_IN_TEN,
+        rows: &[
+            (0, SHAKE, A1, 1, "state @0"),
+            (1, SHAKE, A1, 2, "state @0"),
+            (2, SHAKE, A1, 3, "state @0"),
+            (3, SHAKE, A1, 4, RATE),
+        ],
+        end: (3, 1, 0),
+    },
+    Case {
+        shows: "a part of the score is left after nine seconds",
+        rules: THREE_IN_TEN,
+        rows: &[
+            (0, SHAKE, A1, 1, "state @0"),
+            (0, SHAKE, A1, 2, "state @0"),
+            (0, SHAKE, A1, 3, "state @0"),
+            (9, SHAKE, A1, 4, "state @0"),
+            (9, SHAKE, A1, 5, "state @0"),
+            (9, SHAKE, A1, 6, RATE),
+        ],
+        end: (5, 1, 0),
+    },
+    Case {
+        shows: "nothing of the score is left after ten seconds",
+        rules: THREE_IN_TEN,
+        rows: &[
+            (0, SHAKE, A1, 1, "state @0"),
+            (0, SHAKE, A1, 2, "state @0"),
+            (0, SHAKE, A1, 3, "state @0"),
+            (10, SHAKE, A1, 4, "state @0"),
+            (10, SHAKE, A1, 5, "state @0"),
+            (10, SHAKE, A1, 6, "state @0"),
+        ],
+        end: (6, 1, 0),
+    },
+    Case {
+        shows: "the score outlives the states",
+        rules: "set timeout { tcp.closed 2, src.track 0, interval 1 }\n\
+            pass in proto tcp to any port 80 keep state (max-src-conn-rate 3/10)",
+        rows: &[
+            (0, SHAKE, A1, 1, "state @0"),
+            (0, SHAKE, A1, 2, "state @0"),
+            (0, SHAKE, A1, 3, "state @0"),
+            (0, Came::Reset, A1, 1, "state @0"),
+            (0, Came::Reset, A1, 2, "state @0"),
+            (0, Came::Reset, A1, 3, "state @0"),
+            (9, SHAKE, A1, 4, "state @0"),
+            (9, SHAKE, A1, 5, "state @0"),
+            (9, SHAKE, A1, 6, RATE),
+        ],
+        end: (2, 1, 0),
+    },
+];
+
+const ONE_IN_FOUR: &str = "set timeout { tcp.closed 0, src.track 0, interval 1 }\n\
+    pass in proto tcp to any port 80 keep state (max-src-conn-rate 1/4)";
+
+/// How long its score keeps its source node.
+const KEPT: &[Case] = &[
+    Case {
+        shows: "a node is kept as long as its score counts",
+        rules: ONE_IN_FOUR,
+        rows: &[
+            (0, SHAKE, A1, 1, "state @0"),
+            (0, Came::Reset, A1, 1, "state @0"),
+            (3, SHAKE, A1, 2, RATE),
+        ],
+        end: (0, 1, 0),
+    },
+    Case {
+        shows: "the old node has no score after four seconds",
+        rules: ONE_IN_FOUR,
+        rows: &[
+            (0, SHAKE, A1, 1, "state @0"),
+            (0, Came::Reset, A1, 1, "state @0"),
+            (4, SHAKE, A1, 2, "state @0"),
+        ],
+        end: (1, 1, 0),
+    },
+    Case {
+        shows: "nor has a new one",
+        rules: ONE_IN_FOUR,
+        rows: &[
+            (0, SHAKE, A1, 1, "state @0"),
+            (0, Came::Reset, A1, 1, "state @0"),
+            (5, SHAKE, A1, 2, "state @0"),
+        ],
+        end: (1, 1, 0),
+    },
+];
+
+pub const FLUSH: Case = Case {
+    shows: "overload blocks the next packet, and flush kills the states of the rule",
+    rules: "block quick from <bad>\npass in proto udp all\n\
+        pass in proto tcp to any port 80 keep state (max-src-conn 1, overload <bad> flush)",
+    rows: &[
+        (0, Came::Udp(53), A1, 53000, "new @1"),
+        (0, Came::Shake(2), A1, 1000, "state @2"),
+        (
+            0,
+            Came::Shake(2),
+            A1,
+            1001,
+            "kill:max-src-conn @2 overload=added killed=2",
+        ),
+        (0, Came::Syn, A1, 1002, "block @0"),
+    ],
+    end: (1, 1, 1),
+};
+
+pub const FLUSH_GLOBAL: Case = Case {
+    shows: "flush global kills the states of all rules",
+    rules: "block quick from <bad>\npass in proto udp all\n\
+        pass in proto tcp to any port 80 keep state (max-src-conn 1, overload <bad> flush global)",
+    rows: &[
+        (0, Came::Udp(53), A1, 53000, "new @1"),
+        (0, Came::Shake(2), A1, 1000, "state @2"),
+        (
+            0,
+            Came::Shake(2),
+            A1,
+            1001,
+            "kill:max-src-conn @2 overload=added killed=3",
+        ),
+        (0, Came::Syn, A1, 1002, "block @0"),
+    ],
+    end: (0, 1, 1),
+};
+
+/// Sources that are put into overload tables.
+const OVERLOADS: &[Case] = &[
+    FLUSH,
+    FLUSH_GLOBAL,
+    Case {
+        shows: "without flush the state alone is killed",
+        rules: "block quick from <bad>\npass in proto udp all\n\
+            pass in proto tcp to any port 80 keep state (max-src-conn 1, overload <bad>)",
+        rows: &[
+            (0, Came::Udp(53), A1, 53000, "new @1"),
+            (0, Came::Shake(2), A1, 1000, "state @2"),
+            (
+                0,
+                Came::Shake(2),
+                A1,
+                1001,
+                "kill:max-src-conn @2 overload=added killed=1",
+            ),
+            (0, Came::Syn, A1, 1002, "block @0"),
+        ],
+        end: (2, 1, 1),
+    },
+    Case {
+        shows: "the tables are full, and the state is killed",
+        rules: "set limit table-entries 1\ntable <bad> { 203.0.113.9 }\n\
+            pass in proto tcp to any port 80 keep state (max-src-conn 1, overload <bad>)",
+        rows: &[(0, SHAKE, A1, 1000, "state @0"), (0, SHAKE, A1, 1001, FULL)],
+        end: (1, 1, 1),
+    },
+    Case {
+        shows: "a host that is an entry stays one in full tables",
+        rules: "set limit table-entries 1\ntable <bad> { 203.0.113.9 }\n\
+            pass in proto tcp to any port 80 keep state (max-src-conn 1, overload <bad>)",
+        rows: &[
+            (0, SHAKE, BAD, 1000, "state @0"),
+            (0, SHAKE, BAD, 1001, HELD),
+        ],
+        end: (1, 1, 1),
+    },
+    Case {
+        shows: "a source is added once, and others keep their connections",
+        rules: "set limit table-entries 2\ntable <bad> { 203.0.113.9 }\n\
+            pass in proto tcp to any port 80 keep state (max-src-conn 1, overload <bad>)",
+        rows: &[
+            (0, SHAKE, A1, 1000, "state @0"),
+            (0, SHAKE, A1, 1001, ADDED),
+            (0, SHAKE, A1, 1002, HELD),
+            (0, SHAKE, A2, 1000, "state @0"),
+        ],
+        end: (2, 2, 2),
+    },
+];
+
+// ---- states and source nodes that leave with time
+
+pub const RETENTION: Case = Case {
+    shows: "a node without states is kept for its retention",
+    rules: "set timeout { src.track 20, interval 1, udp.first 5 }\n\
+        pass in proto udp all keep state (max-src-nodes 1)",
+    rows: &[
+        (0, UDP, A1, 1, "new @0"),
+        (10, UDP, A2, 1, "drop:max-src-nodes @0"),
+        (30, UDP, A2, 1, "new @0"),
+    ],
+    end: (1, 1, 0),
+};
+
+const CLOSING: &str = "set timeout interval 1\npass in proto tcp to any port 80";
+
+const SINGLE: &str = "set timeout { udp.single 2, interval 1 }\npass in proto udp all";
+
+/// How long states and source nodes live.
+const LIVES: &[Case] = &[
+    RETENTION,
+    Case {
+        shows: "one half of a closed connection was seen, and the state lives",
+        rules: CLOSING,
+        rows: &[
+            (0, Came::Syn, A1, 1, "new @0"),
+            (0, Came::Ack, A1, 1, "state @0"),
+            (0, Came::Fin, A1, 1, "state @0"),
+            (44, Came::Ping, A1, 0, "skip -"),
+        ],
+        end: (1, 0, 0),
+    },
+    Case {
+        shows: "for 45 seconds",
+        rules: CLOSING,
+        rows: &[
+            (0, Came::Syn, A1, 1, "new @0"),
+            (0, Came::Ack, A1, 1, "state @0"),
+            (0, Came::Fin, A1, 1, "state @0"),
+            (45, Came::Ping, A1, 0, "skip -"),
+        ],
+        end: (0, 0, 0),
+    },
+    Case {
+        shows: "a packet renews its state",
+        rules: SINGLE,
+        rows: &[
+            (0, UDP, A1, 1, "new @0"),
+            (1, UDP, A1, 1, "state @0"),
+            (2, Came::Ping, A1, 0, "skip -"),
+        ],
+        end: (1, 0, 0),
+    },
+    Case {
+        shows: "for the time that its phase gives",
+        rules: SINGLE,
+        rows: &[
+            (0, UDP, A1, 1, "new @0"),
+            (1, UDP, A1, 1, "state @0"),
+            (3, Came::Ping, A1, 0, "skip -"),
+        ],
+        end: (0, 0, 0),
+    },
+    Case {
+        shows: "an expired state that was not purged is renewed",
+        rules: "set timeout udp.first 0\npass in proto udp all",
+        rows: &[(0, UDP, A1, 1, "new @0"), (0, UDP, A1, 1, "state @0")],
+        end: (1, 0, 0),
+    },
+];
+
+/// Six states may be held, and a slice examines two.
+pub const FLOOD: Case = Case {
+    shows: "a flood does not keep an expired state from the purge",
+    rules: "set limit states 6\nset timeout { interval 5, tcp.first 4, udp.first 1 }\npass",
+    rows: &[
+        (0, Came::Syn, A1, 1, "new @0"),
+        (0, UDP, A2, 1, "new @0"),
+        (0, UDP, A2, 2, "new @0"),
+        (1, UDP, A2, 3, "new @0"),
+        (1, UDP, A2, 4, "new @0"),
+        (2, UDP, A2, 5, "new @0"),
+        (2, UDP, A2, 6, "new @0"),
+        (3, UDP, A2, 7, "new @0"),
+        (3, UDP, A2, 8, "new @0"),
+        (4, UDP, A2, 9, "new @0"),
+        (4, UDP, A2, 10, "new @0"),
+        (5, UDP, A2, 11, "new @0"),
+        (5, UDP, A2, 12, "drop:states @0"),
+        (6, Came::Ping, A1, 0, "skip -"),
+    ],
+    end: (4, 0, 0),
+};
+
+/// Purges in rounds.
+const ROUNDS: &[Case] = &[
+    FLOOD,
+    // four nodes may be held, and a slice examines three
+    Case {
+        shows: "a slice of the nodes does not go on into the next round",
+        rules: "set limit { states 100, src-nodes 4 }\nset timeout { interval 2, udp.first 0, src.track 0 }\n\
+            pass in proto udp all keep state (source-track rule)",
+        rows: &[
+            (0, UDP, A1, 1, "new @0"),
+            (0, UDP, A2, 1, "new @0"),
+            (0, UDP, A3, 1, "new @0"),
+            (0, UDP, A4, 1, "new @0"),
+            (0, UDP, A5, 1, "drop:src-nodes @0"),
+            (1, UDP, A5, 1, "new @0"),
+            (1, UDP, A6, 1, "new @0"),
+            (1, UDP, A7, 1, "new @0"),
+            (1, UDP, A8, 1, "drop:src-nodes @0"),
+            (2, UDP, A8, 1, "new @0"),
+            (2, UDP, A9, 1, "drop:src-nodes @0"),
+        ],
+        end: (1, 4, 0),
+    },
+];
+
+const EIGHT_OF_TEN: &str = "set limit states 10\nset timeout interval 1\npass in proto udp all";
+
+/// Lives that load shortens, by the adaptive timeouts as they are.
+const SCALED: &[Case] = &[
+    Case {
+        shows: "eight states of twelve live for two thirds",
+        rules: EIGHT_OF_TEN,
+        rows: &[
+            (0, UDP, A1, 1, "new @0"),
+            (0, UDP, A1, 2, "new @0"),
+            (0, UDP, A1, 3, "new @0"),
+            (0, UDP, A1, 4, "new @0"),
+            (0, UDP, A1, 5, "new @0"),
+            (0, UDP, A1, 6, "new @0"),
+            (0, UDP, A1, 7, "new @0"),
+            (0, UDP, A1, 8, "new @0"),
+            (39, Came::Ping, A1, 0, "skip -"),
+        ],
+        end: (8, 0, 0),
+    },
+    Case {
+        shows: "and leave together, by the count at the start of the slice",
+        rules: EIGHT_OF_TEN,
+        rows: &[
+            (0, UDP, A1, 1, "new @0"),
+            (0, UDP, A2, 1, "new @0"),
+            (0, UDP, A3, 1, "new @0"),
+            (0, UDP, A4, 1, "new @0"),
+            (0, UDP, A5, 1, "new @0"),
+            (0, UDP, A6, 1, "new @0"),
+            (0, UDP, A7, 1, "new @0"),
+            (0, UDP, A8, 1, "new @0"),
+            (40, Came::Ping, A1, 0, "skip -"),
+        ],
+        end: (0, 0, 0),
+    },
+];
+
+// ---- records that take old entries out of a table
+
+/// Entries leave by their age: of the rules from the first event on, of a source from its packet on.
+const EXPIRIES: &[Case] = &[
+    Case {
+        shows: "an entry of the rules counts from the first record, an added one from its packet, and a held one is not renewed",
+        rules: "table <bad> { 203.0.113.9 }\n\
+            pass in proto tcp to any port 80 keep state (max-src-conn 1, overload <bad>)",
+        rows: &[
+            (100, Came::Ping, A1, 0, "skip -"),
+            (104, SHAKE, A1, 1000, "state @0"),
+            (104, SHAKE, A1, 1001, ADDED),
+            (106, SHAKE, A1, 1002, HELD),
+            (108, Came::Expire(5), A1, 0, "expire - removed=1"),
+            (109, Came::Expire(5), A1, 0, "expire - removed=1"),
+        ],
+        end: (1, 1, 0),
+    },
+    Case {
+        shows: "so it is where the rule is not the first",
+        rules: "table <bad> { 203.0.113.9 }\npass in proto udp to any port 53\n\
+            pass in proto tcp to any port 80 keep state (max-src-conn 1, overload <bad>)",
+        rows: &[
+            (100, Came::Ping, A1, 0, "skip -"),
+            (104, Came::Shake(1), A1, 1000, "state @1"),
+            (
+                104,
+                Came::Shake(1),
+                A1,
+                1001,
+                "kill:max-src-conn @1 overload=added killed=1",
+            ),
+            (
+                106,
+                Came::Shake(1),
+                A1,
+                1002,
+                "kill:max-src-conn @1 overload=held killed=1",
+            ),
+            (108, Came::Expire(5), A1, 0, "expire - removed=1"),
+            (109, Came::Expire(5), A1, 0, "expire - removed=1"),
+        ],
+        end: (1, 1, 0),
+    },
+    Case {
+        shows: "an entry of the rules is as old as the run, and not older",
+        rules: "table <bad> { 203.0.113.9 }",
+        rows: &[
+            (100, Came::Ping, A1, 0, "skip -"),
+            (100, Came::Expire(5), A1, 0, "expire - removed=0"),
+        ],
+        end: (0, 0, 1),
+    },
+    Case {
+        shows: "as the first record it takes out at once what the rules say, with seconds 0",
+        rules: "table <bad> { 203.0.113.9, !203.0.113.0/24 }",
+        rows: &[(100, Came::Expire(0), A1, 0, "expire - removed=2")],
+        end: (0, 0, 0),
+    },
+    Case {
+        shows: "a table that is named and not defined is a table, and the last moment may be the greatest",
+        rules: "block from <bad>",
+        rows: &[(
+            4294967295,
+            Came::Expire(4294967295),
+            A1,
+            0,
+            "expire - removed=0",
+        )],
+        end: (0, 0, 0),
+    },
+    Case {
+        shows: "a limit on entries that was met is free again, and other tables stay as they are",
+        rules: "set limit table-entries 2\ntable <bad> { 203.0.113.9 }\ntable <good> { 203.0.113.7 }\n\
+            pass in proto tcp to any port 80 keep state (max-src-conn 1, overload <bad>)",
+        rows: &[
+            (0, SHAKE, A1, 1000, "state @0"),
+            (0, SHAKE, A1, 1001, FULL),
+            (5, Came::Expire(5), A1, 0, "expire - removed=1"),
+            (5, SHAKE, A1, 1002, ADDED),
+            (5, SHAKE, A2, 1000, "state @0"),
+            (5, SHAKE, A2, 1001, FULL),
+            (9, Came::Expire(5), A1, 0, "expire - removed=0"),
+            (10, Came::Expire(5), A1, 0, "expire - removed=1"),
+        ],
+        end: (2, 2, 1),
+    },
+    Case {
+        shows: "a source whose entry left is no longer blocked, and is blocked again",
+        rules: "block in quick from <bad>\n\
+            pass in proto tcp to any port 80 keep state (max-src-conn 1, overload <bad> flush)",
+        rows: &[
+            (0, Came::Shake(1), A1, 1000, "state @1"),
+            (0, Came::Shake(1), A1, 1001, FLUSHED),
+            (1, Came::Syn, A1, 1002, "block @0"),
+            (60, Came::Expire(60), A1, 0, "expire - removed=1"),
+            (60, Came::Shake(1), A1, 1003, "state @1"),
+            (60, Came::Shake(1), A1, 1004, FLUSHED),
+            (61, Came::Syn, A1, 1005, "block @0"),
+        ],
+        end: (0, 0, 1),
+    },
+];

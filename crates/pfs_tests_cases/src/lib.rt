@@ -3,43 +3,27 @@
 
 #![tactic(auto)]
 
-mod admission;
 mod cases;
 mod conditions;
-mod connections;
 mod errors;
-mod expiries;
 mod outcomes;
 mod packets;
-mod purges;
+mod rows;
 mod scripts;
 mod texts;
 
-pub use crate::admission::THIRD_STATE;
-pub use crate::cases::{Came, Case, Row};
+pub use crate::cases::{
+    CASES, FLOOD, FLUSH, FLUSH_GLOBAL, RETENTION, SECOND_CONNECTION, THIRD_STATE,
+};
 pub use crate::conditions::{are_allowed, is_in_order, is_in_time, may_come, may_expire};
-pub use crate::connections::{FLUSH, FLUSH_GLOBAL, SECOND_CONNECTION};
 pub use crate::errors::CaseError;
 pub use crate::outcomes::outcome_of;
 pub use crate::packets::{
     A1, A2, ACK, FIN_ACK, NONE, RST, S6, SERVER, SERVER6, SYN, SYN_ACK, Sent, between, packet,
 };
-pub use crate::purges::{FLOOD, RETENTION};
+pub use crate::rows::{Came, Case, Row};
 pub use crate::scripts::Script;
 pub use crate::texts::{ANCHORED, EVERYTHING, HEADER, SHOWN, UNSCALED, configured};
-
-/// All cases, each list with what goes before its rules: lives are shortened by load in the last one alone.
-pub const CASES: &[(&str, &[Case])] = &[
-    (UNSCALED, admission::ADMISSIONS),
-    (UNSCALED, connections::CONNECTIONS),
-    (UNSCALED, connections::RATES),
-    (UNSCALED, connections::KEPT),
-    (UNSCALED, connections::OVERLOADS),
-    (UNSCALED, purges::LIVES),
-    (UNSCALED, purges::ROUNDS),
-    (UNSCALED, expiries::EXPIRIES),
-    ("", purges::SCALED),
-];
 
 /// Two values are the same; a third is shown where they are not. The crate that calls it has a function `checks::same`.
 #[macro_export]

@@ -1,9 +1,9 @@
 //! The events of a case, with their outcomes.
 
-use crate::cases::{Came, Row};
 use crate::errors::CaseError;
 use crate::outcomes::outcome_of;
 use crate::packets::{ACK, FIN_ACK, RST, SYN, SYN_ACK, Sent, packet};
+use crate::rows::{Came, Row};
 use pfs_addr_values::Addr;
 use pfs_conf_values::{RuleNo, TableNo};
 use pfs_engine_machine::{Arrival, Event, Outcome};

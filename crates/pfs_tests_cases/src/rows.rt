@@ -1,0 +1,38 @@
+//! What a case is made of: rules, what comes, and what must come of it.
+
+use pfs_addr_values::Addr;
+
+/// What comes of a source.
+#[derive(Debug, Clone, Copy)]
+pub enum Came {
+    /// A UDP packet to this port of the server.
+    Udp(u16),
+    /// The first packet of a TCP handshake with port 80 of the server.
+    Syn,
+    /// The server's answer to it.
+    SynAck,
+    /// The third one.
+    Ack,
+    /// The end of what the source sends.
+    Fin,
+    /// A reset by the source.
+    Reset,
+    /// A whole handshake, whose state is one of this rule: the words are those for its third packet.
+    Shake(u32),
+    /// A record of no packet: ICMP.
+    Ping,
+    /// The entries of the first table, which is `<bad>`, leave that are so many seconds old.
+    Expire(u64),
+}
+
+/// When, in seconds; what, of which source, from which of its ports; and what the report says of it, behind the number of its line.
+pub type Row = (u64, Came, Addr, u16, &'static str);
+
+/// Rules, what comes under them, and how many states, source nodes and entries are held in the end.
+#[derive(Clone, Copy)]
+pub struct Case {
+    pub shows: &'static str,
+    pub rules: &'static str,
+    pub rows: &'static [Row],
+    pub end: (u64, u64, u64),
+}
