@@ -99,19 +99,25 @@ fn replay_one(rt: &HostRuntime, row: &Row) -> Result<bool, Stop> {
 }
 
 fn perform_replay(rt: &HostRuntime, row: &Row) -> Result<bool, Stop> {
+    let (answer, written) = performed(rt, "perform replay", &Job::Replay("r", "t"), row.0, row.1)?;
+    tell_report(rt, answer, &written, row.2)
+}
+
+/// The answer to a job over two texts, and what it wrote.
+fn performed(
+    rt: &HostRuntime,
+    name: &str,
+    task: &Job,
+    rules: &[u8],
+    trace: &[u8],
+) -> Result<(Result<(), ReplayFault>, Vec<u8>), Stop> {
     let mut out = sink(rt)?;
-    let mut rules = Feed::new(row.0, 99);
-    let mut trace = Feed::new(row.1, 99);
-    begin(rt, "perform replay")?;
-    let answer = perform(
-        rt.alloc(),
-        &Job::Replay("r", "t"),
-        &mut rules,
-        &mut trace,
-        &mut out,
-    );
+    let mut rules = Feed::new(rules, 99);
+    let mut trace = Feed::new(trace, 99);
+    begin(rt, name)?;
+    let answer = perform(rt.alloc(), task, &mut rules, &mut trace, &mut out);
     end(rt)?;
-    tell_report(rt, answer, &out.into_inner(), row.2)
+    Ok((answer, out.into_inner()))
 }
 
 fn joined_one(rt: &HostRuntime, text: &[u8], report: &[u8]) -> Result<bool, Stop> {
@@ -124,13 +130,8 @@ fn joined_one(rt: &HostRuntime, text: &[u8], report: &[u8]) -> Result<bool, Stop
 }
 
 fn perform_joined(rt: &HostRuntime, text: &[u8], report: &[u8]) -> Result<bool, Stop> {
-    let mut out = sink(rt)?;
-    let mut input = Feed::new(text, 99);
-    let mut trace = Feed::new(b"".as_slice(), 0);
-    begin(rt, "perform joined")?;
-    let answer = perform(rt.alloc(), &Job::Joined, &mut input, &mut trace, &mut out);
-    end(rt)?;
-    tell_report(rt, answer, &out.into_inner(), report)
+    let (answer, written) = performed(rt, "perform joined", &Job::Joined, text, b"")?;
+    tell_report(rt, answer, &written, report)
 }
 
 /// The report; or, out of memory, whole lines of it, without the last.
@@ -193,13 +194,8 @@ fn print_one(rt: &HostRuntime) -> Result<bool, Stop> {
 }
 
 fn perform_one(rt: &HostRuntime, task: &Job, text: &[u8]) -> Result<bool, Stop> {
-    let mut out = sink(rt)?;
-    let mut rules = Feed::new(EVERYTHING, 99);
-    let mut trace = Feed::new(b"".as_slice(), 0);
-    begin(rt, "perform check or show")?;
-    let answer = perform(rt.alloc(), task, &mut rules, &mut trace, &mut out);
-    end(rt)?;
-    tell_text(rt, answer, &out.into_inner(), text)
+    let (answer, written) = performed(rt, "perform check or show", task, EVERYTHING, b"")?;
+    tell_text(rt, answer, &written, text)
 }
 
 /// The text; or, out of memory, a front of it.

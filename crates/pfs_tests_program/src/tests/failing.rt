@@ -59,12 +59,8 @@ fn a_read_fails_at_each_turn(rt: HostRuntime) -> Result<(), Fail> {
             999,
         );
         same!(rt; failed, 1);
-        cut(
-            &rt,
-            &told,
-            &written,
-            whole_lines(text, good).saturating_sub(1),
-        );
+        let rows = whole_lines(text, good).saturating_sub(1);
+        cut(&rt, &told, &written, rows);
     }
     Ok(())
 }
@@ -79,12 +75,8 @@ fn a_read_of_joined_text_fails_at_each_turn(rt: HostRuntime) -> Result<(), Fail>
         let text = joined.as_slice();
         let reader = Halting { text, good };
         let (told, _, _, written) = replayed_joined(rt.alloc(), reader, Vec::new(rt.alloc()), 999);
-        cut(
-            &rt,
-            &told,
-            &written,
-            whole_lines(text, good).saturating_sub(4),
-        );
+        let rows = whole_lines(text, good).saturating_sub(4);
+        cut(&rt, &told, &written, rows);
     }
     Ok(())
 }

@@ -20,64 +20,71 @@ struct Row {
     outcome: Result<(), ReplayFault>,
 }
 
+/// Rules and records that end in a report.
+fn whole(rules: &'static [u8], records: &'static [u8], report: &'static [u8]) -> Row {
+    Row {
+        rules,
+        records,
+        report,
+        outcome: Ok(()),
+    }
+}
+
+/// Records that stop at a fault, under rules that pass all UDP.
+fn stopped(records: &'static [u8], report: &'static [u8], fault: ReplayFault) -> Row {
+    Row {
+        rules: ALL_UDP,
+        records,
+        report,
+        outcome: Err(fault),
+    }
+}
+
 /// One packet of 198.51.100.1 by no rule, the run with a refused third state, a
 /// maximum that is asked before the limit, the last rule that matches, and a faulty trace.
 fn rows() -> [Row; 9] {
     [
-        Row {
-            rules: UNSCALED,
-            records: b"",
-            report: b"end rows=0 states=0 nodes=0 entries=0\n",
-            outcome: Ok(()),
-        },
-        Row {
-            rules: UNSCALED,
-            records: b"5,in,em0,udp,198.51.100.1,1,192.0.2.1,53,\n",
-            report: b"1 pass -\nend rows=1 states=0 nodes=0 entries=0\n",
-            outcome: Ok(()),
-        },
-        Row {
-            rules: b"set timeout { adaptive.start 0, adaptive.end 0 }\nset limit states 2\npass in proto udp all\n",
-            records: b"5,in,em0,udp,198.51.100.1,1000,192.0.2.1,53,\n5,in,em0,udp,198.51.100.2,1000,192.0.2.1,53,\n5,in,em0,udp,198.51.100.3,1000,192.0.2.1,53,\n",
-            report: b"1 new @0\n2 new @0\n3 drop:states @0\nend rows=3 states=2 nodes=0 entries=0\n",
-            outcome: Ok(()),
-        },
-        Row {
-            rules: b"set timeout { adaptive.start 0, adaptive.end 0 }\nset limit states 1\npass in proto udp all keep state (max 1)\n",
-            records: b"5,in,em0,udp,198.51.100.1,1000,192.0.2.1,53,\n5,in,em0,udp,198.51.100.2,1000,192.0.2.1,53,\n",
-            report: b"1 new @0\n2 drop:max @0\nend rows=2 states=1 nodes=0 entries=0\n",
-            outcome: Ok(()),
-        },
-        Row {
-            rules: b"pass in proto udp all\nblock all\n",
-            records: b"5,in,em0,udp,198.51.100.1,1,192.0.2.1,53,\n",
-            report: b"1 block @1\nend rows=1 states=0 nodes=0 entries=0\n",
-            outcome: Ok(()),
-        },
-        Row {
-            rules: b"block all\npass in proto udp all\n",
-            records: b"5,in,em0,udp,198.51.100.1,1,192.0.2.1,53,\n6,out,em1,17,192.0.2.1,53,198.51.100.1,1,\n",
-            report: b"1 new @1\n2 state @1\nend rows=2 states=1 nodes=0 entries=0\n",
-            outcome: Ok(()),
-        },
-        Row {
-            rules: ALL_UDP,
-            records: b"7,in,em0,udp,198.51.100.1,1,192.0.2.1,53,\n7,in,em0,udp,198.51.100.1,2,192.0.2.1,53,\n7,in,em0,udp,198.51.100.1,3,192.0.2.1,53\n",
-            report: b"1 new @0\n2 new @0\n",
-            outcome: Err(ReplayFault::Columns(3)),
-        },
-        Row {
-            rules: ALL_UDP,
-            records: b"7,in,em0,udp,198.51.100.1,1,192.0.2.1,53,\n6,in,em0,udp,198.51.100.1,2,192.0.2.1,53,\n",
-            report: b"1 new @0\n",
-            outcome: Err(ReplayFault::TimeFell(2)),
-        },
-        Row {
-            rules: ALL_UDP,
-            records: b"7,in,em0,udp,198.51.100.1,65536,192.0.2.1,53,\n",
-            report: b"",
-            outcome: Err(ReplayFault::Field(1, 6)),
-        },
+        whole(UNSCALED, b"", b"end rows=0 states=0 nodes=0 entries=0\n"),
+        whole(
+            UNSCALED,
+            b"5,in,em0,udp,198.51.100.1,1,192.0.2.1,53,\n",
+            b"1 pass -\nend rows=1 states=0 nodes=0 entries=0\n",
+        ),
+        whole(
+            b"set timeout { adaptive.start 0, adaptive.end 0 }\nset limit states 2\npass in proto udp all\n",
+            b"5,in,em0,udp,198.51.100.1,1000,192.0.2.1,53,\n5,in,em0,udp,198.51.100.2,1000,192.0.2.1,53,\n5,in,em0,udp,198.51.100.3,1000,192.0.2.1,53,\n",
+            b"1 new @0\n2 new @0\n3 drop:states @0\nend rows=3 states=2 nodes=0 entries=0\n",
+        ),
+        whole(
+            b"set timeout { adaptive.start 0, adaptive.end 0 }\nset limit states 1\npass in proto udp all keep state (max 1)\n",
+            b"5,in,em0,udp,198.51.100.1,1000,192.0.2.1,53,\n5,in,em0,udp,198.51.100.2,1000,192.0.2.1,53,\n",
+            b"1 new @0\n2 drop:max @0\nend rows=2 states=1 nodes=0 entries=0\n",
+        ),
+        whole(
+            b"pass in proto udp all\nblock all\n",
+            b"5,in,em0,udp,198.51.100.1,1,192.0.2.1,53,\n",
+            b"1 block @1\nend rows=1 states=0 nodes=0 entries=0\n",
+        ),
+        whole(
+            b"block all\npass in proto udp all\n",
+            b"5,in,em0,udp,198.51.100.1,1,192.0.2.1,53,\n6,out,em1,17,192.0.2.1,53,198.51.100.1,1,\n",
+            b"1 new @1\n2 state @1\nend rows=2 states=1 nodes=0 entries=0\n",
+        ),
+        stopped(
+            b"7,in,em0,udp,198.51.100.1,1,192.0.2.1,53,\n7,in,em0,udp,198.51.100.1,2,192.0.2.1,53,\n7,in,em0,udp,198.51.100.1,3,192.0.2.1,53\n",
+            b"1 new @0\n2 new @0\n",
+            ReplayFault::Columns(3),
+        ),
+        stopped(
+            b"7,in,em0,udp,198.51.100.1,1,192.0.2.1,53,\n6,in,em0,udp,198.51.100.1,2,192.0.2.1,53,\n",
+            b"1 new @0\n",
+            ReplayFault::TimeFell(2),
+        ),
+        stopped(
+            b"7,in,em0,udp,198.51.100.1,65536,192.0.2.1,53,\n",
+            b"",
+            ReplayFault::Field(1, 6),
+        ),
     ]
 }
 

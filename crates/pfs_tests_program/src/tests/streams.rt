@@ -7,19 +7,18 @@ use std::alloc::Global;
 use std::io::{ErrorKind, Read, Write};
 use std::test::Fail;
 
+/// A reader of a text that fails after so many reads, read at most so often.
+fn feed_of(text: &'static [u8], good: usize, reads: u64) -> Feed<Halting<'static>> {
+    Feed::new(Halting { text, good }, reads)
+}
+
 fn sink_of(alloc: Global, width: usize, room: usize) -> Sink<Narrow> {
     Sink::new(narrow_writer(alloc, width, room))
 }
 
 #[test]
 fn a_feed_gives_its_bytes_and_ends(rt: HostRuntime) -> Result<(), Fail> {
-    let mut feed = Feed::new(
-        Halting {
-            text: b"ab",
-            good: 3,
-        },
-        3,
-    );
+    let mut feed = feed_of(b"ab", 3, 3);
     let mut buf = [0; 4];
     same!(rt; feed.read(&mut [])?, 0);
     same!(rt; feed.read(&mut buf)?, 1);
@@ -37,13 +36,7 @@ fn a_feed_gives_its_bytes_and_ends(rt: HostRuntime) -> Result<(), Fail> {
 
 #[test]
 fn a_feed_stops_at_its_bound(rt: HostRuntime) -> Result<(), Fail> {
-    let mut feed = Feed::new(
-        Halting {
-            text: b"abc",
-            good: 9,
-        },
-        2,
-    );
+    let mut feed = feed_of(b"abc", 9, 2);
     let mut buf = [0; 4];
     same!(rt; feed.read(&mut buf)?, 1);
     holds!(rt; !feed.spent());
@@ -58,13 +51,7 @@ fn a_feed_stops_at_its_bound(rt: HostRuntime) -> Result<(), Fail> {
 
 #[test]
 fn a_feed_fails_once_with_its_reader(rt: HostRuntime) -> Result<(), Fail> {
-    let mut feed = Feed::new(
-        Halting {
-            text: b"abc",
-            good: 1,
-        },
-        9,
-    );
+    let mut feed = feed_of(b"abc", 1, 9);
     let mut buf = [0; 4];
     same!(rt; feed.read(&mut buf)?, 1);
     for _ in 0..3 {
