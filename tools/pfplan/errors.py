@@ -11,7 +11,7 @@ class Status(enum.IntEnum):
     WORDS = 2  # of the command line
     RULES = 3  # a pf.conf or a rules text is refused
     FAILED = 4  # reading or writing failed, or there was no memory
-    NOT_BUILT = 70  # pfsrc is not there, or could not be built
+    NOT_BUILT = 70  # pfsrc or pfstrace is not there, or could not be built
     INTERRUPTED = 130
 
 

@@ -28,22 +28,24 @@ class Replay:
     report: Path
 
 
-def program() -> str:
-    """The program that replays: what the environment names as PFSRC, else ./pfsrc of the repository, which builds it on first use."""
-    return os.environ.get("PFSRC") or str(TOP / "pfsrc")
+def program(name: str = "pfsrc") -> str:
+    """A program of the repository: what the environment names as PFSRC or PFSTRACE, else ./pfsrc or ./pfstrace, which builds it on first use."""
+    return os.environ.get(name.upper()) or str(TOP / name)
 
 
-def check_program() -> None:
-    """Has the program built where it is not yet, which takes minutes and shows on standard error how far it is.
+def check_program(name: str = "pfsrc") -> None:
+    """Has a program built where it is not yet, which takes minutes and shows on standard error how far it is.
 
     Trouble with status 70 where it is not there or can't be built; the line that says why is then the builder's own.
     """
     try:
-        ended = subprocess.run([program(), "--version"], stdin=subprocess.DEVNULL, stdout=subprocess.DEVNULL, check=False)
+        ended = subprocess.run([program(name), "--version"], stdin=subprocess.DEVNULL, stdout=subprocess.DEVNULL, check=False)
     except OSError as error:
-        raise Trouble(f"{program()}: can't be run: {reason_of(error)} (PFSRC names the program)", Status.NOT_BUILT) from None
+        raise Trouble(f"{program(name)}: can't be run: {reason_of(error)} ({name.upper()} names the program)", Status.NOT_BUILT) from None
+    if ended.returncode == Status.NOT_BUILT:
+        raise Trouble("", Status.NOT_BUILT)
     if ended.returncode:
-        raise Trouble("" if ended.returncode == Status.NOT_BUILT else f"{program()}: is not pfsrc: --version ends with status {ended.returncode}", Status.NOT_BUILT)
+        raise Trouble(f"{program(name)}: is not {name}: --version ends with status {ended.returncode}", Status.NOT_BUILT)
 
 
 def records_of(trace: Path) -> int:
