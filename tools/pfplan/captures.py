@@ -3,6 +3,7 @@
 import argparse
 import contextlib
 import os
+import re
 import shutil
 import subprocess
 import sys
@@ -25,6 +26,7 @@ fragmented packet its first, which has the ports, is taken), what is not IP, and
 before the one in front gets the second of that one; such records are counted. ICMP is a record: the program says skip.
 A pflog has only the packets that rules log, often the first of a state: a trace of it lacks all others."""
 ANSWERS = "row,action,rule,anchor,subrule"
+_COUNTS = re.compile(r"frames (\d+): records (\d+),.* neither in nor out (\d+)")
 
 
 def check_capture(path: Path) -> None:
@@ -53,9 +55,22 @@ def make_trace(capture: Path, inside: Sequence[Network], trace: Path | None, *, 
     with contextlib.ExitStack() as stack:
         answers = ["--told", stack.enter_context(_answers(told))] if told else []
         out = stack.enter_context(whole_file(trace))
-        lines, account = stack.enter_context(_running([*words, *answers, *named], capture))
-        out.writelines(from_zero(lines) if is_zero else lines)
+        with _running([*words, *answers, *named], capture) as (lines, account):
+            out.writelines(from_zero(lines) if is_zero else lines)
+        check_account(account, capture, has_inside=bool(inside))
     return account
+
+
+def check_account(account: Sequence[str], capture: Path, *, has_inside: bool) -> None:
+    """Trouble with status 1 for a capture without frames, and for one whose packets have no way because `--inside` is missing."""
+    counts = next((found for line in account if (found := _COUNTS.match(line))), None)
+    if counts is None:
+        return
+    frames, records, neither = (int(it) for it in counts.groups())
+    if not frames:
+        raise Trouble(f"{capture}: no frames in the capture", Status.REFUSED)
+    if not records and neither and not has_inside:
+        raise Trouble(f"{capture}: it does not tell which way its packets go: give --inside or --ifconfig", Status.REFUSED)
 
 
 @contextlib.contextmanager

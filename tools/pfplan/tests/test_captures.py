@@ -80,6 +80,20 @@ class Captures(FolderCase):
                 self.assertEqual(self.left(), [NAME, "pfstrace", "told", "trace"])
                 self.assertEqual(self.call(f"{ONE}; {end}").out, "")
 
+    def test_no_records(self) -> None:
+        account = "frames {}: records {}, not IP 1, later fragments 0, cut before their ports 0, neither in nor out {}, of a link type that is not read 0"
+        for counts, words, why in (
+            ((0, 0, 0), (), "no frames in the capture"),
+            ((9, 0, 8), (), "it does not tell which way its packets go: give --inside or --ifconfig"),
+            ((9, 0, 8), ("--inside", "192.0.2.0/24"), ""),
+            ((9, 1, 7), (), ""),
+        ):
+            with self.subTest(counts=counts, words=words):
+                told = account.format(*counts)
+                done = self.call(f"{ONE}; echo '{told}' >&2", *words)
+                wanted = Done(Status.REFUSED, "", f"pfplan trace: {NAME}: {why}\n") if why else Done(0, "time,dir\n5,in\n", f"{told}\n")
+                self.assertEqual(done, wanted)
+
     def test_no_program(self) -> None:
         rows = (
             (str(self.folder / "pfstrace"), f"{self.folder}/pfstrace: can't be run: No such file or directory (PFSTRACE names the program)"),
