@@ -1,3 +1,4 @@
 mod Belonging
 mod Free
+mod Keeping
 mod Watching

@@ -18,26 +18,8 @@ use Rattle.pfs_store_index.specs.declared.indexes.Entry.{Entry}
 use Rattle.pfs_store_index.specs.Ties.{HasTally, IsCounted, IsScored, IsScoped, IsTied, is_at}
 use Rattle.pfs_store_index.proofs.OneNode.{of_node}
 use Rattle.pfs_store_index.proofs.Removals.{all-filter, any-kept}
-use Rattle.pfs_store_index.proofs.Searches.{find-part, found-all, found-any}
+use Rattle.pfs_store_index.proofs.Searches.{find-part, found-all, found-any, part-found}
 use Rattle.pfs_store_index.proofs.Stands.{rising-tallies}
-
--- the tally of a node that was found
-pub record IsTallyOf (test : Node → Bool) (n : Node) (ts : List Tally) : Type 0 where
-  pub tally_of : Tally
-  pub found : find (λ (t : Tally). test t.node) ts ≡ Some tally_of
-  pub same : tally_of.node ≡ n
-
-pub tally-found : (test : Node → Bool) (n : Node) (ts : List Tally) → find test (nodes_of ts) ≡ Some n → IsTallyOf test n ts
-tally-found test n ts f = go (find (λ (t : Tally). test t.node) ts) refl
-  where
-    go : (o : Option Tally) → find (λ (t : Tally). test t.node) ts ≡ o → IsTallyOf test n ts
-    go None e =
-        let z : None ≡ Some n = sym (find-part (λ (t : Tally). t.node) test ts ∙ ap (option_map (λ (t : Tally). t.node)) e) ∙ f in
-        absurd (cc z)
-    go (Some t) e =
-        let z : Some t.node ≡ Some n = sym (find-part (λ (t : Tally). t.node) test ts ∙ ap (option_map (λ (t : Tally). t.node)) e) ∙ f in
-        let q : t.node ≡ n = cc in
-        record { tally_of = t; found = e; same = q }
 
 none-first : (p : State → Bool) (x : State) (xs : List State) → length (filter p (x ∷ xs)) ≡ 0 → (p x ≡ false) × (length (filter p xs) ≡ 0)
 none-first p x xs h = go (p x) refl
@@ -61,9 +43,9 @@ pub tied-dropped : {S : Type 0} (conf : Conf) (rs : List Placed) (keys : HashMap
     → IsTied conf rs keys counts ts pairs → IsRising (node_numbers (nodes_of ts)) → find (λ (m : Node). m.number == n.number) (nodes_of ts) ≡ Some n
     → node_states conf n.scope n.source (states_of rs) ≡ 0 → IsTied conf rs keys counts (filter (other_node n.number) ts) pairs
 tied-dropped conf rs keys counts ts pairs n i r f z =
-    let t = tally-found (λ (m : Node). m.number == n.number) n ts f in
-    let k = found-all (IsScoped conf) (has_node_number n.number) t.tally_of ts i.scoped t.found in
-    let y : node_states conf t.tally_of.node.scope t.tally_of.node.source (states_of rs) ≡ 0 = ap (λ (m : Node). node_states conf m.scope m.source (states_of rs)) t.same ∙ z in
+    let t = part-found (λ (u : Tally). u.node) (λ (m : Node). m.number == n.number) n ts f in
+    let k = found-all (IsScoped conf) (has_node_number n.number) t.whole ts i.scoped t.found in
+    let y : node_states conf t.whole.node.scope t.whole.node.source (states_of rs) ≡ 0 = ap (λ (m : Node). node_states conf m.scope m.source (states_of rs)) t.same ∙ z in
     record {
       by_key = i.by_key;
       distinct = i.distinct;
@@ -73,12 +55,12 @@ tied-dropped conf rs keys counts ts pairs n i r f z =
       counted = all-filter (other_node n.number) (IsCounted conf (states_of rs)) ts i.counted;
       scoped = all-filter (other_node n.number) (IsScoped conf) ts i.scoped;
       scored = all-filter (other_node n.number) IsScored ts i.scored;
-      noded = noded-dropped conf n.number t.tally_of ts (states_of rs) r t.found k y i.noded;
+      noded = noded-dropped conf n.number t.whole ts (states_of rs) r t.found k y i.noded;
       paired = i.paired;
     }
 
 pub node-held : (n : Node) (ts : List Tally) → find (λ (m : Node). m.number == n.number) (nodes_of ts) ≡ Some n → list_any (has_node_number n.number) ts ≡ true
-node-held n ts f = let t = tally-found (λ (m : Node). m.number == n.number) n ts f in found-any (has_node_number n.number) t.tally_of ts t.found
+node-held n ts f = let t = part-found (λ (u : Tally). u.node) (λ (m : Node). m.number == n.number) n ts f in found-any (has_node_number n.number) t.whole ts t.found
 
 pub nodes-dropped : (k : ℕ) (ts : List Tally) → nodes_of (filter (other_node k) ts) ≡ filter (λ (m : Node). not (m.number == k)) (nodes_of ts)
 nodes-dropped k [] = refl

@@ -1,5 +1,5 @@
 -- What was found by a test, and what a map or one element more changes of a search.
-use Rattle.std.proofs.Common.{◌≡◌, ◌∙◌, ◌+◌, ◌≤◌, ◌||◌, suc, Bool, true, false, cond, Some, None, is_some, List, [], ◌∷◌, ◌++◌, length, map, filter, option_map, refl, ap, sym, subst, arith}
+use Rattle.std.proofs.Common.{◌≡◌, ◌∙◌, ◌+◌, ◌≤◌, ◌||◌, suc, Bool, true, false, cond, Option, Some, None, is_some, List, [], ◌∷◌, ◌++◌, length, map, filter, option_map, refl, ap, sym, subst, arith}
 use Rattle.std.specs.List.{find, list_any, AllByRecursion}
 
 module _ {X : Type 0} where
@@ -119,6 +119,24 @@ module _ {X Y : Type 0} where
           → cond b (Some (part x)) (find p (map part xs)) ≡ option_map part (cond b (Some x) (find (λ y. p (part y)) xs))
       go true m = refl
       go false m = m
+
+  -- that of which a part was found
+  pub record IsWhole (part : X → Y) (p : Y → Bool) (y : Y) (xs : List X) : Type 0 where
+    pub whole : X
+    pub found : find (λ x. p (part x)) xs ≡ Some whole
+    pub same : part whole ≡ y
+
+  pub part-found : (part : X → Y) (p : Y → Bool) (y : Y) (xs : List X) → find p (map part xs) ≡ Some y → IsWhole part p y xs
+  part-found part p y xs f = go (find (λ x. p (part x)) xs) refl
+    where
+      go : (o : Option X) → find (λ x. p (part x)) xs ≡ o → IsWhole part p y xs
+      go None e =
+          let z : None ≡ Some y = sym (find-part part p xs ∙ ap (option_map part) e) ∙ f in
+          absurd (cc z)
+      go (Some x) e =
+          let z : Some (part x) ≡ Some y = sym (find-part part p xs ∙ ap (option_map part) e) ∙ f in
+          let q : part x ≡ y = cc in
+          record { whole = x; found = e; same = q }
 
   pub any-part : (part : X → Y) (p : Y → Bool) (xs : List X) → list_any p (map part xs) ≡ list_any (λ x. p (part x)) xs
   any-part part p [] = refl

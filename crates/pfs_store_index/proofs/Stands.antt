@@ -38,24 +38,6 @@ rising-tallies ts h = subst IsRising (sym (numbers-tallies ts)) h
 pub above-records : (n : ℕ) (rs : List Placed) → IsAbove n (state_numbers (states_of rs)) → IsAbove n (map record_number rs)
 above-records n rs h = subst (IsAbove n) (sym (numbers-records rs)) h
 
--- the record of a state that was found
-pub record IsRecordOf (test : State → Bool) (s : State) (rs : List Placed) : Type 0 where
-  pub record_of : Placed
-  pub found : find (λ (p : Placed). test p.state) rs ≡ Some record_of
-  pub same : record_of.state ≡ s
-
-pub record-found : (test : State → Bool) (s : State) (rs : List Placed) → find test (states_of rs) ≡ Some s → IsRecordOf test s rs
-record-found test s rs f = go (find (λ (p : Placed). test p.state) rs) refl
-  where
-    go : (o : Option Placed) → find (λ (p : Placed). test p.state) rs ≡ o → IsRecordOf test s rs
-    go None e =
-        let z : None ≡ Some s = sym (find-part (λ (p : Placed). p.state) test rs ∙ ap (option_map (λ (p : Placed). p.state)) e) ∙ f in
-        absurd (cc z)
-    go (Some p) e =
-        let z : Some p.state ≡ Some s = sym (find-part (λ (p : Placed). p.state) test rs ∙ ap (option_map (λ (p : Placed). p.state)) e) ∙ f in
-        let q : p.state ≡ s = cc in
-        record { record_of = p; found = e; same = q }
-
 pub none-found : (test : State → Bool) (rs : List Placed) → find test (states_of rs) ≡ None → find (λ (p : Placed). test p.state) rs ≡ None
 none-found test rs f = go (find (λ (p : Placed). test p.state) rs) refl
   where

@@ -28,6 +28,7 @@ use Rattle.pfs_store_index.specs.Rounds.{waiting}
 use Rattle.pfs_store_contract.specs.Quiet.{StateStays}
 use Rattle.pfs_store_index.specs.Staying.{StatesHold}
 use Rattle.pfs_store_index.specs.Stored.{due_at, AreUnread, IsNumbered, IsStored, has_pair, is_due, world_of}
+use Rattle.pfs_store_index.proofs.Turning.{in_range}
 use Rattle.pfs_store_index.proofs.Leavings.{state_number}
 use Rattle.pfs_store_index.proofs.Meetings.{blind, map-blind}
 use Rattle.pfs_store_index.proofs.Searches.{all-push, map-push}
@@ -90,23 +91,6 @@ few-numbered made xs r h = omega (arith, few-above 0 made xs r (above-zero made 
 pub made-above : (made : ℕ) (numbers : List ℕ) → IsNumbered made numbers → IsAbove (made + 1) numbers
 made-above made [] h = tt
 made-above made (n ∷ ns) (h, hs) = (omega (arith, h.1), made-above made ns hs)
-
--- ---- a new round
-
-between_all : (made n : ℕ) → 1 ≤ n → n ≤ made → between 0 made n ≡ true
-between_all made n l m = grind (arith, nat_tests)
-
-numbered-waiting : (made : ℕ) (numbers : List ℕ) → IsNumbered made numbers → waiting 0 made numbers ≡ numbers
-numbered-waiting made [] h = refl
-numbered-waiting made (n ∷ ns) (h, hs) = rw (between_all made n h.0 h.1) (ap (λ ys. n ∷ ys) (numbered-waiting made ns hs))
-
-pub round-begins : (made : ℕ) (numbers pending : List ℕ) → IsNumbered made numbers → slice_get pending 0 ≡ None → waiting 0 made numbers ≡ round numbers pending
-round-begins made numbers [] h e = numbered-waiting made numbers h
-round-begins made numbers (p ∷ ps) h e = absurd cc
-
-pub round-goes : (n : ℕ) (numbers pending : List ℕ) → slice_get pending 0 ≡ Some n → pending ≡ round numbers pending
-round-goes n numbers [] e = absurd cc
-round-goes n numbers (p ∷ ps) e = refl
 
 -- ---- what is pending where states leave
 
@@ -402,7 +386,7 @@ from-source a made xs h = filter-agree (from a made) (is_of_source a) xs (each x
 
     each : (ys : List State) → IsNumbered made (state_numbers ys) → AllByRecursion (λ (y : State). from a made y ≡ is_of_source a y) ys
     each [] k = tt
-    each (y ∷ ys) (k, ks) = (and_true (is_of_source a y) (between 0 made y.number) (between_all made y.number k.0 k.1), each ys ks)
+    each (y ∷ ys) (k, ks) = (and_true (is_of_source a y) (between 0 made y.number) (in_range made y.number k.0 k.1), each ys ks)
 
 numbers-length : {X : Type 0} (number : X → ℕ) (xs : List X) → length (map number xs) ≡ length xs
 numbers-length number [] = refl
@@ -448,7 +432,7 @@ flushed-stays a rule made xs h =
         go : (b : Bool) → is_flushed a rule y ≡ b → stays_by state_number (is_flushed a rule) (map (λ (s : State). s.number) (filter (from a made) xs)) y ≡ stays_unflushed a rule y
         go true e =
             let s = flushed-source a rule y e in
-            let f : from a made y ≡ true = (λ i. s i && between_all made y.number k.0 k.1 i) in
+            let f : from a made y ≡ true = (λ i. s i && in_range made y.number k.0 k.1 i) in
             rw (m f, e) refl
         go false e = rw e (no (is_among (map (λ (s : State). s.number) (filter (from a made) xs)) y.number))
           where

@@ -7,7 +7,7 @@ use Rattle.pfs_store_contract.specs.Purging.{is_among, state_numbers}
 use Rattle.pfs_store_contract.specs.declared.records.State.{State}
 use Rattle.pfs_store_index.specs.Records.{between}
 use Rattle.pfs_store_index.specs.Walks.{IsLeaver, IsNext, IsPassing, IsWalk}
-use Rattle.pfs_store_index.specs.Rounds.{waiting}
+use Rattle.pfs_store_index.specs.Rounds.{IsExamined, waiting}
 use Rattle.pfs_store_index.proofs.Leavings.{state_number}
 use Rattle.pfs_store_index.proofs.RisingWalks.{IsRisingBy, all-in, all-next, at_next, filter-twice, same_number, stay_more, stays_by, step-stays, survive-removed, survives}
 
@@ -34,40 +34,6 @@ passed-stay number leaves a l ns (x ∷ xs) (h, hs) = (λ i. if sym kept i then 
     kept : not (is_among (filter (between a l) ns) (number x) && leaves x) ≡ true
     kept = go (is_among (filter (between a l) ns) (number x)) refl
 
--- ---- one stretch
-
--- so many of those that waited are examined, the last of them below the cursor or at it
-pub record IsStretch (leaves : State → Bool) (above most cursor examined : ℕ) (xs xs' : List State) : Type 0 where
-  pub stay : xs' ≡ filter (stays_by state_number leaves (take examined (waiting above most (state_numbers xs)))) xs
-  pub rest : waiting cursor most (state_numbers xs') ≡ drop examined (waiting above most (state_numbers xs))
-  pub to : cursor ≤ most
-
--- none of them leaves
-pub stretch-stays : (leaves : State → Bool) (above most share stayed last : ℕ) (o : Option State) (xs : List State) → o ≡ None
-    → IsWalk leaves xs above most share stayed last o → IsStretch leaves above most last stayed xs xs
-stretch-stays leaves above most share stayed last o xs q w = record {
-  stay = passed-stay state_number leaves above last (state_numbers xs) xs w.stay ∙ ap (λ zs. filter (stays_by state_number leaves zs) xs) w.passed;
-  rest = w.rest;
-  to = w.to;
-}
-
--- the last one leaves
-pub stretch-leaves : (leaves : State → Bool) (above most share stayed last : ℕ) (o : Option State) (s : State) (xs xs' : List State) → o ≡ Some s
-    → IsRisingBy state_number xs → IsWalk leaves xs above most share stayed last o → xs' ≡ filter (other_than s.number) xs
-    → IsStretch leaves above most s.number (stayed + 1) xs xs'
-stretch-leaves leaves above most share stayed last o s xs xs' q r w e =
-    let ws = waiting above most (state_numbers xs) in
-    let n : IsNext leaves xs last most stayed share s = subst (IsLeaver leaves xs last most stayed share) q w.leaver in
-    let before : xs ≡ filter (stays_by state_number leaves (take stayed ws)) xs =
-    passed-stay state_number leaves above last (state_numbers xs) xs w.stay ∙ ap (λ zs. filter (stays_by state_number leaves zs) xs) w.passed in
-    let x = at_next stayed s.number ws (waiting last most (state_numbers xs)) w.rest n.next in
-    let f : xs' ≡ filter (survives state_number leaves s.number) xs = e ∙ survive-removed state_number leaves s.number s xs r n.found n.passes in
-    record {
-      stay = step-stays state_number leaves s.number stayed ws xs xs xs' before f x.taken;
-      rest = ap (λ ys. waiting s.number most (state_numbers ys)) f ∙ all-next state_number leaves last most s.number _ xs r x.first;
-      to = (all-in state_number last most s.number xs n.next).most;
-    }
-
 -- ---- how many are examined
 
 passed_fewer : (stayed : ℕ) (passed ws : List ℕ) → stayed ≡ length passed → passed ≡ take stayed ws → stayed ≤ length ws
@@ -88,13 +54,89 @@ all_passed share stayed ws zs s w e h = go (nat_lt stayed share) refl
         omega (arith, l, w, ap length (h l), ap length e, length-drop stayed ws, length-take share ws)
     go false t = omega (arith, s, w, is_not_less stayed share t, length-take share ws)
 
--- where none leaves, all that the share allows are examined
-pub all-passed : (leaves : State → Bool) (above most share stayed last : ℕ) (o : Option State) (xs : List State) → o ≡ None
-    → IsWalk leaves xs above most share stayed last o → stayed ≡ length (take share (waiting above most (state_numbers xs)))
-all-passed leaves above most share stayed last o xs q w =
-    all_passed share stayed (waiting above most (state_numbers xs)) (waiting last most (state_numbers xs)) w.within
-    (passed_fewer stayed (waiting above last (state_numbers xs)) (waiting above most (state_numbers xs)) w.count w.passed) w.rest
-    (subst (IsLeaver leaves xs last most stayed share) q w.leaver)
+-- none yet
+pub examined-none : (share : ℕ) (ws : List ℕ) → IsExamined share 0 share ws ws
+examined-none share ws = record {
+  rest = refl;
+  within = omega arith;
+  most = omega arith;
+  goes = λ _. omega arith;
+  ends = λ h. omega (arith, h, length-take share ws);
+}
+
+-- those that were passed by, after which none waits, or no more may be examined
+pub examined-passed : (share stayed : ℕ) (passed ws zs : List ℕ) → stayed ≡ length passed → passed ≡ take stayed ws → zs ≡ drop stayed ws → stayed ≤ share → (stayed < share → zs ≡ [])
+    → IsExamined share stayed 0 ws zs
+examined-passed share stayed passed ws zs c p e s h =
+    let w = passed_fewer stayed passed ws c p in
+    record {
+      rest = e;
+      within = w;
+      most = omega (arith, s);
+      goes = λ z. absurd (omega (arith, z));
+      ends = λ _. all_passed share stayed ws zs s w e h;
+    }
+
+-- and one more after them
+pub examined-next : (share stayed : ℕ) (ws rest : List ℕ) → stayed < share → stayed < length ws → rest ≡ drop (stayed + 1) ws → IsExamined share (stayed + 1) (share - stayed - 1) ws rest
+examined-next share stayed ws rest s w e = record {
+  rest = e;
+  within = omega (arith, w);
+  most = omega (arith, s);
+  goes = λ _. omega (arith, s);
+  ends = λ h. omega (arith, h, s, w, length-take share ws);
+}
+
+-- those of two stretches
+pub examined-more : (share i j left more : ℕ) (ws zs rest : List ℕ) → 0 < left → IsExamined share i left ws zs → IsExamined left j more zs rest → IsExamined share (i + j) more ws rest
+examined-more share i j left more ws zs rest some a b =
+    let is : left ≡ share - i = omega (arith, a.goes some) in
+    record {
+      rest = b.rest ∙ ap (drop j) a.rest ∙ drop-drop j i ws;
+      within = omega (arith, a.within, b.within, ap length a.rest, length-drop i ws);
+      most = omega (arith, a.most, b.most);
+      goes = λ h. omega (arith, a.goes some, b.goes h);
+      ends = λ h. all-more share i j ws zs (omega (arith, a.most)) a.within a.rest (b.ends h ∙ ap (λ k. length (take k zs)) is);
+    }
+  where
+    all-more : (share i j : ℕ) (ws zs : List ℕ) → i ≤ share → i ≤ length ws → zs ≡ drop i ws → j ≡ length (take (share - i) zs) → i + j ≡ length (take share ws)
+    all-more share i j ws zs s w d e = omega (arith, s, w, e, length-take (share - i) zs, ap length d, length-drop i ws, length-take share ws)
+
+-- ---- one stretch
+
+-- so many of those that waited are examined, the last of them below the cursor or at it
+pub record IsStretch (leaves : State → Bool) (above most cursor share examined left : ℕ) (xs xs' : List State) : Type 0 where
+  pub stay : xs' ≡ filter (stays_by state_number leaves (take examined (waiting above most (state_numbers xs)))) xs
+  pub part : IsExamined share examined left (waiting above most (state_numbers xs)) (waiting cursor most (state_numbers xs'))
+  pub to : cursor ≤ most
+
+-- none of them leaves
+pub stretch-stays : (leaves : State → Bool) (above most share stayed last : ℕ) (o : Option State) (xs : List State) → o ≡ None
+    → IsWalk leaves xs above most share stayed last o → IsStretch leaves above most last share stayed 0 xs xs
+stretch-stays leaves above most share stayed last o xs q w = record {
+  stay = passed-stay state_number leaves above last (state_numbers xs) xs w.stay ∙ ap (λ zs. filter (stays_by state_number leaves zs) xs) w.passed;
+  part = examined-passed share stayed (waiting above last (state_numbers xs)) (waiting above most (state_numbers xs)) (waiting last most (state_numbers xs)) w.count w.passed w.rest w.within
+      (subst (IsLeaver leaves xs last most stayed share) q w.leaver);
+  to = w.to;
+}
+
+-- the last one leaves
+pub stretch-leaves : (leaves : State → Bool) (above most share stayed last : ℕ) (o : Option State) (s : State) (xs xs' : List State) → o ≡ Some s
+    → IsRisingBy state_number xs → IsWalk leaves xs above most share stayed last o → xs' ≡ filter (other_than s.number) xs
+    → IsStretch leaves above most s.number share (stayed + 1) (share - stayed - 1) xs xs'
+stretch-leaves leaves above most share stayed last o s xs xs' q r w e =
+    let ws = waiting above most (state_numbers xs) in
+    let n : IsNext leaves xs last most stayed share s = subst (IsLeaver leaves xs last most stayed share) q w.leaver in
+    let before : xs ≡ filter (stays_by state_number leaves (take stayed ws)) xs =
+    passed-stay state_number leaves above last (state_numbers xs) xs w.stay ∙ ap (λ zs. filter (stays_by state_number leaves zs) xs) w.passed in
+    let x = at_next stayed s.number ws (waiting last most (state_numbers xs)) w.rest n.next in
+    let f : xs' ≡ filter (survives state_number leaves s.number) xs = e ∙ survive-removed state_number leaves s.number s xs r n.found n.passes in
+    record {
+      stay = step-stays state_number leaves s.number stayed ws xs xs xs' before f x.taken;
+      part = examined-next share stayed ws (waiting s.number most (state_numbers xs')) n.within x.within
+          (ap (λ ys. waiting s.number most (state_numbers ys)) f ∙ all-next state_number leaves last most s.number _ xs r x.first);
+      to = (all-in state_number last most s.number xs n.next).most;
+    }
 
 -- ---- a walk by those that stay
 
@@ -102,12 +144,9 @@ module _ {X : Type 0} (number : X → ℕ) (leaves : X → Bool) (above most sha
   pub passing-stays : xs ≡ filter (stays_by number leaves (take stayed (waiting above most (map number xs)))) xs
   passing-stays = passed-stay number leaves above last (map number xs) xs w.stay ∙ ap (λ zs. filter (stays_by number leaves zs) xs) w.passed
 
-  pub passing-fewer : stayed ≤ length (waiting above most (map number xs))
-  passing-fewer = passed_fewer stayed (waiting above last (map number xs)) (waiting above most (map number xs)) w.count w.passed
-
-  -- where none waits after it, all that the share allows are passed by
-  pub passing-all : (stayed < share → waiting last most (map number xs) ≡ []) → stayed ≡ length (take share (waiting above most (map number xs)))
-  passing-all h = all_passed share stayed (waiting above most (map number xs)) (waiting last most (map number xs)) w.within passing-fewer w.rest h
+  -- where none waits after it, or no more may be examined
+  pub passing-examined : (stayed < share → waiting last most (map number xs) ≡ []) → IsExamined share stayed 0 (waiting above most (map number xs)) (waiting last most (map number xs))
+  passing-examined h = examined-passed share stayed (waiting above last (map number xs)) (waiting above most (map number xs)) (waiting last most (map number xs)) w.count w.passed w.rest w.within h
 
 -- ---- one stretch after another
 
@@ -130,10 +169,3 @@ pub stretch-more : {X : Type 0} (number : X → ℕ) (leaves : X → Bool) (i j 
 stretch-more number leaves i j ws zs xs0 xs xs' e d e' =
     e' ∙ (λ k. filter (stays_by number leaves (take j (d k))) (e k)) ∙ stays-append number leaves (take i ws) (take j (drop i ws)) xs0
     ∙ ap (λ ns. filter (stays_by number leaves ns) xs0) (sym (take-add i j ws))
-
-pub rest-more : (i j : ℕ) (ws zs rest : List ℕ) → zs ≡ drop i ws → rest ≡ drop j zs → rest ≡ drop (i + j) ws
-rest-more i j ws zs rest d e = e ∙ ap (drop j) d ∙ drop-drop j i ws
-
--- how many are examined in all
-pub all-more : (share i j : ℕ) (ws zs : List ℕ) → i ≤ share → i ≤ length ws → zs ≡ drop i ws → j ≡ length (take (share - i) zs) → i + j ≡ length (take share ws)
-all-more share i j ws zs s w d e = omega (arith, s, w, e, length-take (share - i) zs, ap length d, length-drop i ws, length-take share ws)

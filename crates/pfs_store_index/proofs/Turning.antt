@@ -1,11 +1,12 @@
 -- Rounds over the numbers of an ordered map: a slice passes by the next ones, and whole rounds change nothing.
-use Rattle.std.proofs.Common.{◌≡◌, ◌≤◌, ◌<◌, ◌+◌, ◌-◌, ◌/◌, ◌%◌, ◌==◌, ℕ, suc, true, false, List, [], ◌∷◌, ◌++◌, length, drop, filter, refl, ap, subst, sym, ◌∙◌, arith, length-drop, div-add-mod', mod-lt}
+use Rattle.std.proofs.Common.{◌≡◌, ◌≤◌, ◌<◌, ◌+◌, ◌-◌, ◌/◌, ◌%◌, ◌==◌, ℕ, suc, true, false, Some, None, List, [], ◌∷◌, ◌++◌, length, drop, filter, slice_get, refl, ap, sym, ◌∙◌, arith, length-drop, div-add-mod', mod-lt}
 use Rattle.std.specs.List.{AllByRecursion}
 use Rattle.std.specs.Map.{keys_of}
 use Rattle.std.specs.Ordering.{nat_cmp}
 use Rattle.std.specs.BTreeMap.Range.{entries_between}
 use Rattle.std.specs.declared.ops.Bound.TheVariants.{Included, Excluded}
 use Rattle.std.proofs.lemmas.Bool.Decides.{nat_tests}
+use Rattle.pfs_store_contract.specs.Purging.{round}
 use Rattle.pfs_store_contract.specs.Quiet.{round_after_slices}
 use Rattle.pfs_store_contract.proofs.Turns.{drop-all, rounds-over, whole-round}
 use Rattle.pfs_store_index.specs.Records.{IsRising, between}
@@ -22,11 +23,11 @@ module _ {P : Type 0} where
   among-entries : (a m : ℕ) (es : List (ℕ × P)) → keys_of (entries_between nat_cmp (Excluded a) (Included m) es) ≡ among a m es
   among-entries a m es = ap keys_of (span-entries a m es) ∙ span-keys a m es
 
-  pub over-none : (a m : ℕ) (es : List (ℕ × P)) → [] ≡ entries_between nat_cmp (Excluded a) (Included m) es → true ≡ (length (among a m es) == 0)
-  over-none a m es e = ap (λ (ks : List ℕ). length ks == 0) (ap keys_of e ∙ among-entries a m es)
+  pub next-none : (a m : ℕ) (es : List (ℕ × P)) → [] ≡ entries_between nat_cmp (Excluded a) (Included m) es → None ≡ slice_get (among a m es) 0
+  next-none a m es e = ap (λ (ks : List ℕ). slice_get ks 0) (ap keys_of e ∙ among-entries a m es)
 
-  pub over-some : (a m k : ℕ) (p : P) (rest es : List (ℕ × P)) → (k, p) ∷ rest ≡ entries_between nat_cmp (Excluded a) (Included m) es → false ≡ (length (among a m es) == 0)
-  over-some a m k p rest es e = not_zero (length (keys_of rest)) ∙ ap (λ (ks : List ℕ). length ks == 0) (ap keys_of e ∙ among-entries a m es)
+  pub next-some : (a m k : ℕ) (p : P) (rest es : List (ℕ × P)) → (k, p) ∷ rest ≡ entries_between nat_cmp (Excluded a) (Included m) es → Some k ≡ slice_get (among a m es) 0
+  next-some a m k p rest es e = ap (λ (ks : List ℕ). slice_get ks 0) (ap keys_of e ∙ among-entries a m es)
 
   -- ---- those that a walk has passed by
 
@@ -62,9 +63,19 @@ module _ {P : Type 0} where
       ap (λ k. round_after_slices share (keys_of es) k []) is
       ∙ whole-round share q (keys_of es) (omega (arith, parts, hn, hl)) (omega (arith, parts, most, hn, hl))
 
+-- ---- the round is over, or goes on
+
+pub none-left : (pending : List ℕ) → None ≡ slice_get pending 0 → true ≡ (length pending == 0)
+none-left [] h = refl
+none-left (p ∷ ps) h = absurd cc
+
+pub some-left : (n : ℕ) (pending : List ℕ) → Some n ≡ slice_get pending 0 → false ≡ (length pending == 0)
+some-left n [] h = absurd cc
+some-left n (p ∷ ps) h = not_zero (length ps)
+
 -- ---- one slice, or all whole rounds
 
-over-empty : (pending : List ℕ) → (length pending == 0) ≡ true → pending ≡ []
+pub over-empty : (pending : List ℕ) → (length pending == 0) ≡ true → pending ≡ []
 over-empty [] h = refl
 over-empty (p ∷ ps) h = let f = not_zero (length ps) in absurd (cc (f, h))
 
@@ -74,12 +85,21 @@ whole-passed share whole left numbers pending h e =
     let none = over-empty pending h in
     ap (round_after_slices share numbers (left % whole)) none ∙ rounds-over share whole left numbers e ∙ ap (round_after_slices share numbers left) (sym none)
 
-in_range : (made n : ℕ) → 1 ≤ n → n ≤ made → between 0 made n ≡ true
+pub in_range : (made n : ℕ) → 1 ≤ n → n ≤ made → between 0 made n ≡ true
 in_range made n l m = grind (arith, nat_tests)
 
 all-numbers : (made : ℕ) (numbers : List ℕ) → AllByRecursion (λ n. (1 ≤ n) × (n ≤ made)) numbers → filter (between 0 made) numbers ≡ numbers
 all-numbers made [] h = refl
 all-numbers made (n ∷ ns) (h, hs) = rw (in_range made n h.0 h.1) (ap (λ ks. n ∷ ks) (all-numbers made ns hs))
+
+-- a new round begins with all numbers
+pub round-begins : (made : ℕ) (numbers pending : List ℕ) → AllByRecursion (λ n. (1 ≤ n) × (n ≤ made)) numbers → (length pending == 0) ≡ true → filter (between 0 made) numbers ≡ round numbers pending
+round-begins made numbers pending n h = all-numbers made numbers n ∙ ap (round numbers) (sym (over-empty pending h))
+
+-- one that is under way goes on
+pub round-goes : (numbers pending : List ℕ) → (length pending == 0) ≡ false → pending ≡ round numbers pending
+round-goes numbers [] h = absurd cc
+round-goes numbers (p ∷ ps) h = refl
 
 -- a new round begins with its first slice
 pub round-begun : (share left made : ℕ) (numbers pending next : List ℕ) → AllByRecursion (λ n. (1 ≤ n) × (n ≤ made)) numbers → 0 < left → (length pending == 0) ≡ true
@@ -88,8 +108,3 @@ round-begun share left made numbers pending next n l h e =
     let more : left ≡ suc (left - 1) = omega (arith, l) in
     ap (round_after_slices share numbers (left - 1)) (e ∙ ap (drop share) (all-numbers made numbers n))
     ∙ (λ i. round_after_slices share numbers (sym more i) (sym (over-empty pending h) i))
-
--- a round over numbers goes on as over others that are the same
-pub turned-same : (share slices cursor mark most least : ℕ) (ns ks : List ℕ) → ns ≡ ks → filter (between cursor mark) ks ≡ round_after_slices share ks slices (filter (between least most) ks)
-    → filter (between cursor mark) ns ≡ round_after_slices share ns slices (filter (between least most) ns)
-turned-same share slices cursor mark most least ns ks e h = subst (λ xs. filter (between cursor mark) xs ≡ round_after_slices share xs slices (filter (between least most) xs)) (sym e) h

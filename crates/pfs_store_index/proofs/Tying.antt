@@ -28,9 +28,9 @@ use Rattle.pfs_store_index.proofs.Leavings.{counted-left, key-left, left-faithfu
 use Rattle.pfs_store_index.proofs.Meetings.{CountsDone, all-blind, all-met, any-blind, blind, count-blind, key-renewed, keys-renewed, met-faithful, noded-met, renewed_record, scored-met, states-renewed}
 use Rattle.pfs_store_index.proofs.OneNode.{scoped-at}
 use Rattle.pfs_store_index.proofs.Removals.{all-filter, all-found, distinct-filter}
-use Rattle.pfs_store_index.proofs.Searches.{map-push}
+use Rattle.pfs_store_index.proofs.Searches.{map-push, part-found}
 use Rattle.pfs_store_index.proofs.Sources.{pair_test}
-use Rattle.pfs_store_index.proofs.Stands.{record-found, rising-records, states-left}
+use Rattle.pfs_store_index.proofs.Stands.{rising-records, states-left}
 use Rattle.pfs_store_index.proofs.RisingWalks.{has_number}
 
 module _ {S : Type 0} (conf : Conf) (rs : List Placed) (keys : HashMap FlowKey Entry S) (counts : List ℕ) (ts : List Tally) (pairs : BTreeSet (Addr × ℕ)) where
@@ -45,14 +45,14 @@ module _ {S : Type 0} (conf : Conf) (rs : List Placed) (keys : HashMap FlowKey E
       → IsTied conf (filter (leaves_number s.number) rs) keys' (slice_set counts s.rule.0 (v - 1)) (map (left_at conf s now) ts) pairs'
   tied-left keys' pairs' s now v i r f e hk hp =
       let xs = states_of rs in
-      let p = record-found (has_number state_number s.number) s rs f in
-      let own : find (has_number record_number p.record_of.state.number) rs ≡ Some p.record_of = ap (λ (z : State). find (has_number record_number z.number) rs) p.same ∙ p.found in
+      let p = part-found (λ (q : Placed). q.state) (has_number state_number s.number) s rs f in
+      let own : find (has_number record_number p.whole.state.number) rs ≡ Some p.whole = ap (λ (z : State). find (has_number record_number z.number) rs) p.same ∙ p.found in
       let at : states_of (filter (leaves_number s.number) rs) ≡ filter (other_than s.number) (states_of rs) = states-left s.number rs in
       let w = rule-within s i f in
       record {
         by_key = λ k.
             subst (λ (z : State). hash.get same_key keys' k ≡ option_map entry_of (find (has_key k) (filter (leaves_number z.number) rs))) p.same
-            (key-left p.record_of rs k _ _ (rising-records rs r) i.distinct own (i.by_key k) (hk k ∙ ap (λ (z : State). cond (same_key z.key k) None (hash.get same_key keys k)) (sym p.same)));
+            (key-left p.whole rs k _ _ (rising-records rs r) i.distinct own (i.by_key k) (hk k ∙ ap (λ (z : State). cond (same_key z.key k) None (hash.get same_key keys k)) (sym p.same)));
         distinct = distinct-filter record_number key_in (leaves_number s.number) rs i.distinct;
         by_rule = subst (AreCounts (slice_set counts s.rule.0 (v - 1))) (sym at) (rule-left s xs counts v r f w e i.by_rule);
         size = length-set counts s.rule.0 (v - 1) ∙ i.size;

@@ -3,12 +3,12 @@ use Rattle.std.proofs.Common.{◌≡◌, ◌∙◌, ◌≤◌, ◌==◌, ◌||�
 use Rattle.std.specs.List.{find, AllByRecursion}
 use Rattle.pfs_store_contract.specs.Calls.{other_than}
 use Rattle.pfs_conf_values.specs.Configs.{Conf}
-use Rattle.pfs_store_contract.specs.Purging.{is_among, state_numbers}
+use Rattle.pfs_store_contract.specs.Purging.{is_among, node_numbers, state_numbers}
 use Rattle.pfs_store_contract.specs.Quiet.{NodeStays}
 use Rattle.pfs_store_contract.specs.declared.records.Node.{Node}
 use Rattle.pfs_store_contract.specs.declared.records.State.{State}
 use Rattle.pfs_store_index.specs.Records.{between}
-use Rattle.pfs_store_index.specs.Walks.{IsLeaver, IsNext, IsWalk, StayUntil}
+use Rattle.pfs_store_index.specs.Walks.{IsLeaver, IsNext, IsPassing, IsWalk, StayUntil}
 use Rattle.pfs_store_index.specs.Rounds.{waiting}
 use Rattle.pfs_store_index.specs.Staying.{NodeHolds, NodesHold, StatesHold}
 use Rattle.pfs_store_index.proofs.Idling.{node_number}
@@ -152,6 +152,12 @@ hold-more moment i j u v r ws zs p xs xs' d e m h k =
 
 less_kept : (conf : Conf) (states : List State) (u v : ℕ) (x : Node) → v ≤ u → NodeStays conf states u x → NodeStays conf states v x
 less_kept conf states u v x h k = λ z. let l = k z in omega (arith, h, l)
+
+-- those that a walk passed by
+pub nodes-passed : (conf : Conf) (states : List State) (leaves : Node → Bool) (above most share stayed last until : ℕ) (ns : List Node) → IsPassing node_number leaves ns above most share stayed last
+    → AllByRecursion (λ (n : Node). between above last n.number ≡ true → NodeStays conf states until n) ns → NodesHold conf states (take stayed (waiting above most (node_numbers ns))) until ns
+nodes-passed conf states leaves above most share stayed last until ns w u =
+    subst (λ ks. NodesHold conf states ks until ns) w.passed (hold-between node_number (NodeStays conf states) above last until (node_numbers ns) ns u)
 
 -- one node more
 pub node-more : (conf : Conf) (states : List State) (n u v r : ℕ) (before after : List ℕ) (p : Node → Bool) (xs xs' : List Node) → xs' ≡ filter p xs → after ≡ before ++ n ∷ []

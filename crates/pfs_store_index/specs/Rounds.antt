@@ -1,5 +1,5 @@
 -- Rounds of the purge as two numbers: those above the cursor and up to the mark are still to be examined.
-use Rattle.std.specs.Prelude.{ℕ, ◌==◌, ◌&&◌, not, Bool, List, filter, map}
+use Rattle.std.specs.Prelude.{ℕ, ◌≡◌, ◌+◌, ◌<◌, ◌≤◌, ◌==◌, ◌&&◌, not, Bool, List, drop, filter, length, map, take}
 use Rattle.pfs_addr_values.specs.declared.addresses.Addr.{Addr}
 use Rattle.pfs_store_contract.specs.Counts.{is_of_source}
 use Rattle.pfs_store_contract.specs.Purging.{is_among}
@@ -10,6 +10,15 @@ use Rattle.pfs_store_index.specs.Records.{between}
 -- the numbers that a round with this cursor and mark has still to examine
 abbrev pub waiting : ℕ → ℕ → List ℕ → List ℕ
 waiting cursor mark numbers = filter (between cursor mark) numbers
+
+-- of a share, so many of the numbers that waited are examined, the first ones, and so many more may be; none, where the share is
+-- used up, or no number is left
+pub record IsExamined (share examined left : ℕ) (before after : List ℕ) : Type 0 where
+  pub rest : after ≡ drop examined before
+  pub within : examined ≤ length before
+  pub most : examined + left ≤ share
+  pub goes : 0 < left → examined + left ≡ share
+  pub ends : left ≡ 0 → examined ≡ length (take share before)
 
 -- the numbers above one, and up to another, of the states of a source
 abbrev pub waiting_of : Addr → ℕ → ℕ → List State → List ℕ

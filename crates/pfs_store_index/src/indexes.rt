@@ -13,15 +13,15 @@ ghost use Rattle.pfs_store_contract.specs.Leaving.{node_after_leaving};
 ghost use Rattle.pfs_store_contract.specs.Calls.{other_than, touch_of, state_number, state_rule};
 ghost use Rattle.pfs_store_contract.specs.Plain.{AreCounts};
 ghost use Rattle.pfs_store_contract.specs.Purging.{is_over, node_numbers, state_numbers};
-ghost use Rattle.pfs_store_contract.specs.Quiet.{NodeStays, round_after_slices};
+ghost use Rattle.pfs_store_contract.specs.Quiet.{NodeStays};
 ghost use Rattle.pfs_store_contract.specs.Touching.{completes_at, nodes_touched, numbered_state_after};
 ghost use Rattle.pfs_store_contract.specs.Worlds.{IsUpToNow, holds_number, lists, state_with};
-ghost use Rattle.pfs_store_index.specs.Records.{IsAbove, IsRising, between, placed_at};
+ghost use Rattle.pfs_store_index.specs.Records.{IsAbove, IsRising, between, placed_at, states_of};
 ghost use Rattle.pfs_store_index.specs.Sourced.{IsSourced};
-ghost use Rattle.pfs_store_index.specs.Walks.{IsPassing, IsWalk, StayUntil, end_of, state_has_expired, looks_of};
+ghost use Rattle.pfs_store_index.specs.Tallies.{nodes_of};
+ghost use Rattle.pfs_store_index.specs.Walks.{IsPassing};
 ghost use Rattle.pfs_store_index.specs.Holdings.{IsUncompleted};
 ghost use Rattle.pfs_store_index.specs.Rounds.{waiting, waiting_of};
-ghost use Rattle.pfs_store_index.specs.Stored.{IsNumbered};
 ghost use Rattle.pfs_store_index.specs.Ties.{HasRule, entry_of};
 
 use crate::nodes::{Nodes, Passed, Tally};
@@ -31,7 +31,6 @@ use crate::rounds::Round;
 use crate::sought::Sought;
 use crate::stepping::stepped;
 use crate::tallying::{leave, meet};
-use crate::walks::{Lifetimes, Walk};
 use indexmap::IndexMap;
 use pfs_addr_values::{Addr, FlowKey, Meter, NoMemory, Packet};
 use pfs_conf_values::{Config, RuleNo, Scope};
@@ -132,6 +131,20 @@ impl<S: BuildHasher> Indexes<S> {
         self.nodes.len()
     }
 
+    /// The records of the states.
+    pub(crate) fn records(&self) -> &Records
+        ensures { states_of result.now ≡ self.now.states }
+    {
+        &self.records
+    }
+
+    /// The source nodes, with their tallies.
+    pub(crate) fn nodes(&self) -> &Nodes<S>
+        ensures { nodes_of result.now ≡ self.now.nodes }
+    {
+        &self.nodes
+    }
+
     /// The number of the state that has a key.
     pub(crate) fn find(&self, key: &FlowKey) -> Option<StateNo>
         ensures { result ≡ option_map state_number (state_with key.now (lists self.now.states [] [] [] 0)) }
@@ -186,14 +199,6 @@ impl<S: BuildHasher> Indexes<S> {
         }
     }
 
-    /// The least number of a state above one, and up to another.
-    pub(crate) fn next_between(&self, above: u64, most: u64) -> Option<u64>
-        requires { above ≤ most }
-        ensures { result ≡ slice_get (waiting above most (state_numbers self.now.states)) 0 }
-    {
-        self.records.next_between(above, most)
-    }
-
     /// The least number above one, and up to another, of the states of a source.
     pub(crate) fn next_of_source(&self, source: Addr, above: u64, most: u64) -> Option<u64>
         requires range { above ≤ most }
@@ -245,55 +250,6 @@ impl<S: BuildHasher> Indexes<S> {
         ensures looks { meter.new ≡ meter.old + 1 }
     {
         self.records.read(number, meter)
-    }
-
-    /// Walks over the states that are still to be examined in a round, from the least number on: over at most so many of
-    /// them, and up to the first that has expired at a second. Each is one look.
-    pub(crate) fn walk<T: Lifetimes>(
-        &self,
-        round: Round,
-        share: u64,
-        now: u64,
-        lifetimes: &T,
-        meter: &mut Meter,
-    ) -> Walk
-        requires range { round.cursor ≤ round.mark }
-        requires room { meter.old + share < 2 ^ 64 }
-        ensures walk { IsWalk (state_has_expired (T.lifetime lifetimes.now) now) self.now.states round.cursor round.mark share
-            result.stayed result.last result.leaver }
-        ensures until { StayUntil (end_of (T.lifetime lifetimes.now)) self.now.states round.cursor result.last result.until }
-        ensures small { IfSome result.leaver (λ s. s.number < 2 ^ 32) }
-        ensures looks { meter.new ≡ meter.old + looks_of result.stayed result.leaver }
-    {
-        self.records.walk(round, share, now, lifetimes, meter)
-    }
-
-    /// The round of the states after so many slices, while none comes or goes. It looks at no record.
-    pub(crate) fn states_turned(&self, round: Round, share: u64, made: u64, slices: u64) -> Round
-        requires numbered { IsNumbered made (state_numbers self.now.states) }
-        requires order { round.cursor ≤ round.mark }
-        requires mark { round.mark ≤ made }
-        requires share { 1 ≤ share }
-        ensures order { result.cursor ≤ result.mark }
-        ensures mark { result.mark ≤ made }
-        ensures waiting { waiting result.cursor result.mark (state_numbers self.now.states)
-            ≡ round_after_slices share (state_numbers self.now.states) slices (waiting round.cursor round.mark (state_numbers self.now.states)) }
-    {
-        self.records.turned(round, share, made, slices)
-    }
-
-    /// The round of the nodes after so many slices, while none comes or goes.
-    pub(crate) fn nodes_turned(&self, round: Round, share: u64, made: u64, slices: u64) -> Round
-        requires numbered { IsNumbered made (node_numbers self.now.nodes) }
-        requires order { round.cursor ≤ round.mark }
-        requires mark { round.mark ≤ made }
-        requires share { 1 ≤ share }
-        ensures order { result.cursor ≤ result.mark }
-        ensures mark { result.mark ≤ made }
-        ensures waiting { waiting result.cursor result.mark (node_numbers self.now.nodes)
-            ≡ round_after_slices share (node_numbers self.now.nodes) slices (waiting round.cursor round.mark (node_numbers self.now.nodes)) }
-    {
-        self.nodes.turned(round, share, made, slices)
     }
 
     /// A state comes, and with it the node of its source where its rule tracks sources and the source has none.

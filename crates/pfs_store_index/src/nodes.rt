@@ -2,18 +2,18 @@
 
 ghost use Rattle.std.specs.Prelude.{◌≡◌, ◌<◌, ◌≤◌, ◌++◌, ◌∷◌, [], IfSome, None, OnErr, OnOk, Some, filter, length, map, option_map, slice_get, true};
 ghost use Rattle.std.specs.List.{AllByRecursion, find, list_any};
+ghost use Rattle.std.specs.Map.{keys_of};
 ghost use Rattle.pfs_store_contract.specs.Counts.{scope_nodes};
 ghost use Rattle.pfs_store_contract.specs.Purging.{node_numbers};
-ghost use Rattle.pfs_store_contract.specs.Quiet.{round_after_slices};
 ghost use Rattle.pfs_store_index.specs.Keeping.{Anywhere, AreInPlace, number_of_node, tally_in, values_at};
-ghost use Rattle.pfs_store_index.specs.Records.{IsAbove, between};
+ghost use Rattle.pfs_store_index.specs.Records.{IsAbove, IsRising, between};
 ghost use Rattle.pfs_store_index.specs.Staying.{IsKeptUntil, is_past};
 ghost use Rattle.pfs_store_index.specs.Tallies.{IsOrderly, IsTallied, has_node_number, is_tally, nodes_of, other_node, put_tally};
 ghost use Rattle.pfs_store_index.specs.Walks.{IsPassing};
 
 use crate::records::short;
 use crate::retaining::stays_until;
-use crate::rounds::{Round, turned};
+use crate::rounds::Round;
 use crate::scope_counts::ScopeCounts;
 use crate::sought::Tracked;
 use indexmap::IndexMap;
@@ -94,6 +94,14 @@ impl<S: BuildHasher> Nodes<S> {
         self.order.len() as u64
     }
 
+    /// The places of the nodes, in the order of their numbers. It takes no memory.
+    pub fn order(&self) -> &BTreeMap<u64, u32>
+        ensures numbers { keys_of result.now.entries ≡ node_numbers (nodes_of self.now) }
+        ensures rising { IsRising (keys_of result.now.entries) }
+    {
+        &self.order
+    }
+
     /// How many nodes of a scope there are. It takes no memory.
     pub fn count(&self, scope: NodeScope) -> u64
         ensures { result ≡ scope_nodes scope (nodes_of self.now) }
@@ -136,21 +144,6 @@ impl<S: BuildHasher> Nodes<S> {
         ensures until { AllByRecursion (λ t. between round.cursor result.last (number_of_node t) ≡ true → IsKeptUntil config.now result.until t) self.now }
     {
         pass_range(&self.slab, &self.order, config, round, share, now)
-    }
-
-    /// The round after so many slices, while no node comes or goes: each passes by the next numbers of the round, `share` at
-    /// most, or by the first of a new one, up to `made`. It takes no memory.
-    pub fn turned(&self, round: Round, share: u64, made: u64, slices: u64) -> Round
-        requires numbered { AllByRecursion (λ n. (1 ≤ n) × (n ≤ made)) (node_numbers (nodes_of self.now)) }
-        requires order { round.cursor ≤ round.mark }
-        requires mark { round.mark ≤ made }
-        requires share { 1 ≤ share }
-        ensures order { result.cursor ≤ result.mark }
-        ensures mark { result.mark ≤ made }
-        ensures waiting { filter (between result.cursor result.mark) (node_numbers (nodes_of self.now))
-            ≡ round_after_slices share (node_numbers (nodes_of self.now)) slices (filter (between round.cursor round.mark) (node_numbers (nodes_of self.now))) }
-    {
-        turned(&self.order, round, share, made, slices)
     }
 
     /// Adds a node, whose number is above all others and whose scope and source no other has, with its counts. It

@@ -1,47 +1,118 @@
 //! The walks of the purge: a slice of the round of the states, and a slice of that of the nodes.
 
-ghost use Rattle.std.specs.Prelude.{◌≡◌, ◌+◌, ◌-◌, ◌<◌, ◌≤◌, ◌^◌, ◌==◌, ◌&&◌, [], IfSome, Some, drop, filter, length, map, nat_le, take, true};
+ghost use Rattle.std.specs.Prelude.{◌≡◌, ◌+◌, ◌-◌, ◌<◌, ◌≤◌, ◌^◌, ◌==◌, ◌&&◌, [], IfSome, Some, drop, filter, length, map, min, nat_le, take, true};
 ghost use Rattle.std.specs.List.{AllByRecursion, find};
+ghost use Rattle.std.specs.Map.{keys_of};
 ghost use Rattle.pfs_conf_values.specs.Configs.{timeout_of};
 ghost use Rattle.pfs_conf_values.specs.declared.timeouts.TimeoutName.TheVariants as timeout;
 ghost use Rattle.pfs_store_contract.specs.Counts.{node_states};
 ghost use Rattle.pfs_store_contract.specs.Leaving.{node_after_leaving};
 ghost use Rattle.pfs_store_contract.specs.Plain.{AreCounts};
-ghost use Rattle.pfs_store_contract.specs.Purging.{is_among, is_over, node_numbers, node_retention, node_stays, round, share, state_numbers, stays};
+ghost use Rattle.pfs_store_contract.specs.Purging.{is_among, is_over, node_numbers, node_retention, node_stays, share, state_numbers, stays};
 ghost use Rattle.pfs_store_contract.specs.Quiet.{StateStays};
 ghost use Rattle.pfs_store_index.specs.Records.{IsRising};
 ghost use Rattle.pfs_store_index.specs.Walks.{IsWalk, StayUntil, looks_of};
 ghost use Rattle.pfs_store_index.specs.Staying.{NodeHolds, NodesHold, StatesHold};
-ghost use Rattle.pfs_store_index.specs.Stored.{AreUnread, IsNumbered, due_at, is_due};
-ghost use Rattle.pfs_store_index.specs.Rounds.{node_survives, nodes_survive, states_survive, waiting};
+ghost use Rattle.pfs_store_index.specs.Stored.{AreUnread, due_at, is_due};
+ghost use Rattle.pfs_store_index.specs.Rounds.{IsExamined, node_survives, nodes_survive, states_survive, waiting};
 
 use crate::expiring::Scaled;
 use crate::indexes::Indexes;
 use crate::nodes::Tally;
 use crate::retaining::{is_over, kept_until};
-use crate::rounds::Round;
+use crate::rounds::{Round, is_over as is_round_over};
 use crate::walks::Walk;
 use pfs_addr_values::Meter;
 use pfs_conf_values::{Config, TimeoutName};
+use pfs_store_contract::{Slice, Watched};
+use std::collections::BTreeMap;
 use std::hash::BuildHasher;
 
-/// What a walk did: up to where it went, how many it examined, how many of them left, and up to when the others stay.
+/// What a walk did: the round after it, how many it examined, how many of them left, and up to when the others stay.
 #[derive(Clone, Copy)]
 pub(crate) struct Steps {
-    pub(crate) cursor: u64,
-    pub(crate) examined: u64,
-    pub(crate) removed: u64,
+    pub(crate) round: Round,
+    pub(crate) slice: Slice,
     pub(crate) until: u64,
 }
 
-/// What a walk did up to a state that left: up to where it went, how many it examined, how many more it may examine, and up to
-/// when those stay that did not leave.
+impl Steps {
+    /// What is told of a walk after which these numbers are held.
+    pub(crate) fn watched<V>(&self, places: &BTreeMap<u64, V>) -> Watched
+        requires order { self.now.round.cursor ≤ self.now.round.mark }
+        ensures slice { result.slice ≡ self.now.slice }
+        ensures until { result.until ≡ self.now.until }
+        ensures over { result.over ≡ true → waiting self.now.round.cursor self.now.round.mark (keys_of places.now.entries) ≡ [] }
+    {
+        Watched {
+            slice: self.slice,
+            until: self.until,
+            over: is_round_over(places, self.round),
+        }
+    }
+}
+
+/// A part of a walk: up to where it went, how many it examined, how many more the walk may examine, and up to when those stay that
+/// did not leave.
 #[derive(Clone, Copy)]
 struct Stretch {
     cursor: u64,
     examined: u64,
     left: u64,
     until: u64,
+}
+
+impl Stretch {
+    /// None is examined yet above a number, and so many may be.
+    fn none(cursor: u64, share: u64) -> Stretch
+        ensures { result ≡ record { cursor = cursor; examined = 0; left = share; until = 2 ^ 64 - 1 } }
+    {
+        Stretch {
+            cursor,
+            examined: 0,
+            left: share,
+            until: u64::MAX,
+        }
+    }
+
+    /// This part, and then the next one.
+    fn then(&self, next: &Stretch) -> Stretch
+        requires { self.now.examined + next.now.examined < 2 ^ 64 }
+        ensures { result ≡ record {
+          cursor = next.now.cursor;
+          examined = self.now.examined + next.now.examined;
+          left = next.now.left;
+          until = min self.now.until next.now.until;
+        } }
+    {
+        Stretch {
+            cursor: next.cursor,
+            examined: self.examined + next.examined,
+            left: next.left,
+            until: self.until.min(next.until),
+        }
+    }
+
+    /// The walk that this was, of a round up to a mark, where so many were held before it, and so many are after it.
+    fn steps(&self, mark: u64, held: u64, kept: u64) -> Steps
+        ensures { result ≡ record {
+          round = record { cursor = self.now.cursor; mark = mark };
+          slice = record { examined = self.now.examined; removed = held - kept };
+          until = self.now.until;
+        } }
+    {
+        Steps {
+            round: Round {
+                cursor: self.cursor,
+                mark,
+            },
+            slice: Slice {
+                examined: self.examined,
+                removed: held.saturating_sub(kept),
+            },
+            until: self.until,
+        }
+    }
 }
 
 /// How many a slice examines, where at most so many are held.
@@ -55,36 +126,6 @@ pub(crate) fn share_of(config: &Config, limit: u64) -> u64
 }
 
 // ---- states
-
-/// The round of the states that is under way, or a new one of all that are held.
-pub(crate) fn state_round<S: BuildHasher>(indexes: &Indexes<S>, begun: Round, made: u64) -> Round
-    requires order { begun.cursor ≤ begun.mark }
-    requires mark { begun.mark ≤ made }
-    requires numbered { IsNumbered made (state_numbers indexes.now.states) }
-    ensures order { result.cursor ≤ result.mark }
-    ensures mark { result.mark ≤ made }
-    ensures waiting { waiting result.cursor result.mark (state_numbers indexes.now.states)
-        ≡ round (state_numbers indexes.now.states) (waiting begun.cursor begun.mark (state_numbers indexes.now.states)) }
-{
-    match indexes.next_between(begun.cursor, begun.mark) {
-        Some(_) => begun,
-        None => Round {
-            cursor: 0,
-            mark: made,
-        },
-    }
-}
-
-/// Whether no state is left to be examined in a round.
-pub(crate) fn is_state_round_over<S: BuildHasher>(indexes: &Indexes<S>, round: Round) -> bool
-    requires order { round.cursor ≤ round.mark }
-    ensures { result ≡ true → waiting round.cursor round.mark (state_numbers indexes.now.states) ≡ [] }
-{
-    match indexes.next_between(round.cursor, round.mark) {
-        Some(_) => false,
-        None => true,
-    }
-}
 
 /// Examines the next states of a round, so many at most. The counts are those of the first rules before the walk, and of all
 /// that scale by their own.
@@ -102,40 +143,30 @@ pub(crate) fn walk_states<S: BuildHasher>(
     requires counts { AreCounts counts.now indexes.old.states }
     requires unread { AreUnread indexes.old.config (length counts.now) }
     ensures config { indexes.new.config ≡ indexes.old.config }
-    ensures examined { result.examined ≡ length (take share (waiting round.cursor round.mark (state_numbers indexes.old.states))) }
+    ensures examined { result.slice.examined ≡ length (take share (waiting round.cursor round.mark (state_numbers indexes.old.states))) }
     ensures states { indexes.new.states
         ≡ filter (stays indexes.old.config indexes.old.states now (take share (waiting round.cursor round.mark (state_numbers indexes.old.states)))) indexes.old.states }
     ensures nodes { indexes.new.nodes ≡ map (node_after_leaving indexes.old.config indexes.old.states indexes.new.states now) indexes.old.nodes }
-    ensures waiting { waiting result.cursor round.mark (state_numbers indexes.new.states)
+    ensures waiting { waiting result.round.cursor result.round.mark (state_numbers indexes.new.states)
         ≡ drop share (waiting round.cursor round.mark (state_numbers indexes.old.states)) }
-    ensures order { result.cursor ≤ round.mark }
-    ensures removed { result.removed ≡ length indexes.old.states - length indexes.new.states }
+    ensures order { result.round.cursor ≤ result.round.mark }
+    ensures mark { result.round.mark ≡ round.mark }
+    ensures removed { result.slice.removed ≡ length indexes.old.states - length indexes.new.states }
     ensures until { AllByRecursion (λ s. is_among (take share (waiting round.cursor round.mark (state_numbers indexes.old.states))) s.number ≡ true →
         StateStays indexes.old.config indexes.old.states result.until s) indexes.new.states }
-    ensures looks { meter.new ≡ meter.old + result.examined }
+    ensures looks { meter.new ≡ meter.old + result.slice.examined }
 {
     let held = indexes.state_count();
-    let mut cursor = round.cursor;
-    let mut examined = 0;
-    let mut left = share;
-    let mut until = u64::MAX;
-    while left > 0 {
+    let mut done = Stretch::none(round.cursor, share);
+    while done.left > 0 {
         let rest = Round {
-            cursor,
+            cursor: done.cursor,
             mark: round.mark,
         };
-        let stretch = examine(indexes, counts, rest, left, held, now, meter);
-        cursor = stretch.cursor;
-        examined += stretch.examined;
-        left = stretch.left;
-        until = until.min(stretch.until);
+        let next = examine(indexes, counts, rest, done.left, held, now, meter);
+        done = done.then(&next);
     }
-    Steps {
-        cursor,
-        examined,
-        removed: held.saturating_sub(indexes.state_count()),
-        until,
-    }
+    done.steps(round.mark, held, indexes.state_count())
 }
 
 /// Examines the next states of a round, so many at most, in one walk up to the first that has expired, which leaves.
@@ -155,16 +186,12 @@ fn examine<S: BuildHasher>(
     ensures states { indexes.new.states
         ≡ filter (states_survive (is_due indexes.old.config counts.now held now) (take result.examined (waiting round.cursor round.mark (state_numbers indexes.old.states)))) indexes.old.states }
     ensures nodes { indexes.new.nodes ≡ map (node_after_leaving indexes.old.config indexes.old.states indexes.new.states now) indexes.old.nodes }
-    ensures waiting { waiting result.cursor round.mark (state_numbers indexes.new.states)
-        ≡ drop result.examined (waiting round.cursor round.mark (state_numbers indexes.old.states)) }
+    ensures examined { IsExamined share result.examined result.left (waiting round.cursor round.mark (state_numbers indexes.old.states))
+        (waiting result.cursor round.mark (state_numbers indexes.new.states)) }
     ensures order { result.cursor ≤ round.mark }
-    ensures within { result.examined ≤ length (waiting round.cursor round.mark (state_numbers indexes.old.states)) }
-    ensures share { result.examined + result.left ≤ share }
     ensures less { result.left < share }
-    ensures goes { 0 < result.left → result.examined + result.left ≡ share }
     ensures until { StatesHold (due_at indexes.old.config counts.now held)
         (take result.examined (waiting round.cursor round.mark (state_numbers indexes.old.states))) result.until indexes.new.states }
-    ensures ends { result.left ≡ 0 → result.examined ≡ length (take share (waiting round.cursor round.mark (state_numbers indexes.old.states))) }
     ensures looks { meter.new ≡ meter.old + result.examined }
 {
     // This call states to the proof that the numbers of the states rise.
@@ -214,40 +241,10 @@ fn walk_to_due<S: BuildHasher>(
         counts,
         held,
     };
-    indexes.walk(round, share, now, &lifetimes, meter)
+    indexes.records().walk(round, share, now, &lifetimes, meter)
 }
 
 // ---- nodes
-
-/// The round of the nodes that is under way, or a new one of all that are held.
-pub(crate) fn node_round<S: BuildHasher>(indexes: &Indexes<S>, begun: Round, made: u64) -> Round
-    requires order { begun.cursor ≤ begun.mark }
-    requires mark { begun.mark ≤ made }
-    requires numbered { IsNumbered made (node_numbers indexes.now.nodes) }
-    ensures order { result.cursor ≤ result.mark }
-    ensures mark { result.mark ≤ made }
-    ensures waiting { waiting result.cursor result.mark (node_numbers indexes.now.nodes)
-        ≡ round (node_numbers indexes.now.nodes) (waiting begun.cursor begun.mark (node_numbers indexes.now.nodes)) }
-{
-    match indexes.next_node(begun.cursor, begun.mark) {
-        Some(_) => begun,
-        None => Round {
-            cursor: 0,
-            mark: made,
-        },
-    }
-}
-
-/// Whether no node is left to be examined in a round.
-pub(crate) fn is_node_round_over<S: BuildHasher>(indexes: &Indexes<S>, round: Round) -> bool
-    requires order { round.cursor ≤ round.mark }
-    ensures { result ≡ true → waiting round.cursor round.mark (node_numbers indexes.now.nodes) ≡ [] }
-{
-    match indexes.next_node(round.cursor, round.mark) {
-        Some(_) => false,
-        None => true,
-    }
-}
 
 /// Examines the next nodes of a round, so many at most.
 pub(crate) fn walk_nodes<S: BuildHasher>(
@@ -259,38 +256,28 @@ pub(crate) fn walk_nodes<S: BuildHasher>(
     requires order { round.cursor ≤ round.mark }
     ensures config { indexes.new.config ≡ indexes.old.config }
     ensures states { indexes.new.states ≡ indexes.old.states }
-    ensures examined { result.examined ≡ length (take share (waiting round.cursor round.mark (node_numbers indexes.old.nodes))) }
+    ensures examined { result.slice.examined ≡ length (take share (waiting round.cursor round.mark (node_numbers indexes.old.nodes))) }
     ensures nodes { indexes.new.nodes
         ≡ filter (node_stays indexes.old.config indexes.old.states now (take share (waiting round.cursor round.mark (node_numbers indexes.old.nodes)))) indexes.old.nodes }
-    ensures waiting { waiting result.cursor round.mark (node_numbers indexes.new.nodes)
+    ensures waiting { waiting result.round.cursor result.round.mark (node_numbers indexes.new.nodes)
         ≡ drop share (waiting round.cursor round.mark (node_numbers indexes.old.nodes)) }
-    ensures order { result.cursor ≤ round.mark }
-    ensures removed { result.removed ≡ length indexes.old.nodes - length indexes.new.nodes }
+    ensures order { result.round.cursor ≤ result.round.mark }
+    ensures mark { result.round.mark ≡ round.mark }
+    ensures removed { result.slice.removed ≡ length indexes.old.nodes - length indexes.new.nodes }
     ensures until { NodesHold indexes.old.config indexes.old.states
         (take share (waiting round.cursor round.mark (node_numbers indexes.old.nodes))) result.until indexes.new.nodes }
 {
     let held = indexes.node_count();
-    let mut cursor = round.cursor;
-    let mut examined = 0;
-    let mut left = share;
-    let mut until = u64::MAX;
-    while left > 0 {
+    let mut done = Stretch::none(round.cursor, share);
+    while done.left > 0 {
         let rest = Round {
-            cursor,
+            cursor: done.cursor,
             mark: round.mark,
         };
-        let stretch = examine_nodes(indexes, rest, left, now);
-        cursor = stretch.cursor;
-        examined += stretch.examined;
-        left = stretch.left;
-        until = until.min(stretch.until);
+        let next = examine_nodes(indexes, rest, done.left, now);
+        done = done.then(&next);
     }
-    Steps {
-        cursor,
-        examined,
-        removed: held.saturating_sub(indexes.node_count()),
-        until,
-    }
+    done.steps(round.mark, held, indexes.node_count())
 }
 
 /// Examines the next nodes of a round, so many at most: passes by those that stay in one walk, and examines the one after them.
@@ -306,16 +293,12 @@ fn examine_nodes<S: BuildHasher>(
     ensures states { indexes.new.states ≡ indexes.old.states }
     ensures nodes { indexes.new.nodes
         ≡ filter (nodes_survive (is_over indexes.old.config indexes.old.states now) (take result.examined (waiting round.cursor round.mark (node_numbers indexes.old.nodes)))) indexes.old.nodes }
-    ensures waiting { waiting result.cursor round.mark (node_numbers indexes.new.nodes)
-        ≡ drop result.examined (waiting round.cursor round.mark (node_numbers indexes.old.nodes)) }
+    ensures examined { IsExamined share result.examined result.left (waiting round.cursor round.mark (node_numbers indexes.old.nodes))
+        (waiting result.cursor round.mark (node_numbers indexes.new.nodes)) }
     ensures order { result.cursor ≤ round.mark }
-    ensures within { result.examined ≤ length (waiting round.cursor round.mark (node_numbers indexes.old.nodes)) }
-    ensures share { result.examined + result.left ≤ share }
     ensures less { result.left < share }
-    ensures goes { 0 < result.left → result.examined + result.left ≡ share }
     ensures until { NodesHold indexes.old.config indexes.old.states
         (take result.examined (waiting round.cursor round.mark (node_numbers indexes.old.nodes))) result.until indexes.new.nodes }
-    ensures ends { result.left ≡ 0 → result.examined ≡ length (take share (waiting round.cursor round.mark (node_numbers indexes.old.nodes))) }
 {
     let passed = indexes.pass_nodes(round, share, now);
     if passed.stayed == share {

@@ -1,11 +1,11 @@
 //! The records of states: the one module that reads a record, and ticks the meter for it.
 
 ghost use Rattle.std.specs.Prelude.{◌≡◌, ◌+◌, ◌-◌, ◌<◌, ◌≤◌, ◌^◌, ◌==◌, ◌++◌, ◌∷◌, [], IfOk, IfSome, OnErr, OnOk, Some, filter, length, map, slice_get, true};
-ghost use Rattle.std.specs.List.{AllByRecursion, find, list_any};
+ghost use Rattle.std.specs.List.{find, list_any};
+ghost use Rattle.std.specs.Map.{keys_of};
 ghost use Rattle.slab.specs.Slab.{ContainsKey, get};
 ghost use Rattle.pfs_store_contract.specs.Calls.{other_than};
 ghost use Rattle.pfs_store_contract.specs.Purging.{state_numbers};
-ghost use Rattle.pfs_store_contract.specs.Quiet.{round_after_slices};
 ghost use Rattle.pfs_store_contract.specs.Worlds.{holds_number};
 ghost use Rattle.pfs_store_index.specs.Keeping.{AreInPlace, RecordIsAt, number_in, record_in, values_at};
 ghost use Rattle.pfs_store_index.specs.Sourced.{IsSourced};
@@ -13,7 +13,7 @@ ghost use Rattle.pfs_store_index.specs.Walks.{IsWalk, StayUntil, end_of, state_h
 ghost use Rattle.pfs_store_index.specs.Records.{IsAbove, IsRecordAt, IsRising, between, is_placed, leaves_number, placed_at, put, put_state, stands_at, states_of};
 
 use crate::kept::Kept;
-use crate::rounds::{Round, turned};
+use crate::rounds::Round;
 use crate::stays::{Stay, stay_of, stays_until};
 use crate::walks::{Lifetimes, Walk};
 use pfs_addr_values::{Meter, NoMemory};
@@ -63,19 +63,12 @@ impl Records {
         self.places.len() as u64
     }
 
-    /// The least number above `above`, and up to `most`, that a record has. It is no look, and takes no memory.
-    pub fn next_between(&self, above: u64, most: u64) -> Option<u64>
-        requires { above ≤ most }
-        ensures { result ≡ slice_get (filter (between above most) (state_numbers (states_of self.now))) 0 }
+    /// The places of the records, in the order of their numbers. It is no look, and takes no memory.
+    pub fn order(&self) -> &BTreeMap<u64, u32>
+        ensures numbers { keys_of result.now.entries ≡ state_numbers (states_of self.now) }
+        ensures rising { IsRising (keys_of result.now.entries) }
     {
-        match self
-            .places
-            .range((Bound::Excluded(above), Bound::Included(most)))
-            .next()
-        {
-            Some((number, _)) => Some(*number),
-            None => None,
-        }
+        &self.places
     }
 
     /// The state of this number, of which there is a record: one look, and one search by number. It takes no memory.
@@ -132,21 +125,6 @@ impl Records {
             lifetimes,
             meter,
         )
-    }
-
-    /// The round after so many slices, while no record comes or goes: each passes by the next numbers of the round, `share` at
-    /// most, or by the first of a new one, up to `made`. It is no look, and takes no memory.
-    pub fn turned(&self, round: Round, share: u64, made: u64, slices: u64) -> Round
-        requires numbered { AllByRecursion (λ n. (1 ≤ n) × (n ≤ made)) (state_numbers (states_of self.now)) }
-        requires order { round.cursor ≤ round.mark }
-        requires mark { round.mark ≤ made }
-        requires share { 1 ≤ share }
-        ensures order { result.cursor ≤ result.mark }
-        ensures mark { result.mark ≤ made }
-        ensures waiting { filter (between result.cursor result.mark) (state_numbers (states_of self.now))
-            ≡ round_after_slices share (state_numbers (states_of self.now)) slices (filter (between round.cursor round.mark) (state_numbers (states_of self.now))) }
-    {
-        turned(&self.places, round, share, made, slices)
     }
 
     /// Writes a state into the record of its number, which is at this place. It is no look, and takes no memory.

@@ -1,6 +1,6 @@
 //! Rounds of the purge: the numbers of a range in turn, so many in each slice.
 
-ghost use Rattle.std.specs.Prelude.{◌≡◌, ◌+◌, ◌-◌, ◌<◌, ◌≤◌, ◌==◌, [], drop, filter, length};
+ghost use Rattle.std.specs.Prelude.{◌≡◌, ◌+◌, ◌-◌, ◌<◌, ◌≤◌, ◌==◌, [], drop, filter, length, slice_get};
 ghost use Rattle.std.specs.List.{AllByRecursion};
 ghost use Rattle.std.specs.Map.{keys_of};
 ghost use Rattle.pfs_store_contract.specs.Purging.{round};
@@ -24,6 +24,51 @@ pub struct Round {
 struct Turn {
     round: Round,
     left: u64,
+}
+
+/// The least number above one, and up to another.
+pub(crate) fn next_between<V>(places: &BTreeMap<u64, V>, above: u64, most: u64) -> Option<u64>
+    requires { above ≤ most }
+    ensures { result ≡ slice_get (filter (between above most) (keys_of places.now.entries)) 0 }
+{
+    match places
+        .range((Bound::Excluded(above), Bound::Included(most)))
+        .next()
+    {
+        Some((number, _)) => Some(*number),
+        None => None,
+    }
+}
+
+/// Whether no number is left to be examined in a round.
+pub(crate) fn is_over<V>(places: &BTreeMap<u64, V>, round: Round) -> bool
+    requires order { round.cursor ≤ round.mark }
+    ensures { result ≡ (length (filter (between round.cursor round.mark) (keys_of places.now.entries)) == 0) }
+{
+    match next_between(places, round.cursor, round.mark) {
+        Some(_) => false,
+        None => true,
+    }
+}
+
+/// The round that is under way, or a new one of all numbers.
+pub(crate) fn under_way<V>(places: &BTreeMap<u64, V>, begun: Round, made: u64) -> Round
+    requires numbered { AllByRecursion (λ n. (1 ≤ n) × (n ≤ made)) (keys_of places.now.entries) }
+    requires order { begun.cursor ≤ begun.mark }
+    requires mark { begun.mark ≤ made }
+    ensures order { result.cursor ≤ result.mark }
+    ensures mark { result.mark ≤ made }
+    ensures waiting { filter (between result.cursor result.mark) (keys_of places.now.entries)
+        ≡ round (keys_of places.now.entries) (filter (between begun.cursor begun.mark) (keys_of places.now.entries)) }
+{
+    if is_over(places, begun) {
+        Round {
+            cursor: 0,
+            mark: made,
+        }
+    } else {
+        begun
+    }
 }
 
 /// The round after so many slices in which nothing leaves. It takes no memory.
@@ -101,19 +146,6 @@ fn whole_round<V>(places: &BTreeMap<u64, V>, share: u64) -> u64
 {
     let numbers = places.len() as u64;
     1 + numbers.saturating_sub(1) / share
-}
-
-fn is_over<V>(places: &BTreeMap<u64, V>, round: Round) -> bool
-    requires order { round.cursor ≤ round.mark }
-    ensures { result ≡ (length (filter (between round.cursor round.mark) (keys_of places.now.entries)) == 0) }
-{
-    match places
-        .range((Bound::Excluded(round.cursor), Bound::Included(round.mark)))
-        .next()
-    {
-        Some(_) => false,
-        None => true,
-    }
 }
 
 /// The round after a slice: the next numbers, so many at most, are passed by.

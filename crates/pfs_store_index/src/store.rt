@@ -11,11 +11,8 @@ use crate::expiring::counted_rules;
 use crate::flushing::flush;
 use crate::indexes::Indexes;
 use crate::limits::limit_met;
-use crate::purging::{
-    is_node_round_over, is_state_round_over, node_round, share_of, state_round, walk_nodes,
-    walk_states,
-};
-use crate::rounds::Round;
+use crate::purging::{share_of, walk_nodes, walk_states};
+use crate::rounds::{Round, next_between, turned, under_way};
 use pfs_addr_values::{Addr, FlowKey, Meter, NoMemory, Packet};
 use pfs_conf_values::{Config, LimitName, RuleNo, RulesHasher};
 use pfs_store_contract::{Limit, Slice, State, StateNo, Store, Touched, Watched};
@@ -143,7 +140,7 @@ impl<S: BuildHasher> Store for IndexStore<S> {
         if number.0 == 0 {
             false
         } else {
-            self.indexes.next_between(number.0 - 1, number.0).is_some()
+            next_between(self.indexes.records().order(), number.0 - 1, number.0).is_some()
         }
     }
 
@@ -209,55 +206,39 @@ impl<S: BuildHasher> Store for IndexStore<S> {
         self.counts.copy_from_slice(&counts[..read]);
         let config = self.indexes.config();
         let share = share_of(config, config.limit(LimitName::States));
-        let round = state_round(&self.indexes, self.states_round, self.made);
+        let round = under_way(self.indexes.records().order(), self.states_round, self.made);
         let steps = walk_states(&mut self.indexes, &self.counts, round, share, now, meter);
-        self.states_round = Round {
-            cursor: steps.cursor,
-            mark: round.mark,
-        };
-        let over = is_state_round_over(&self.indexes, self.states_round);
-        Watched {
-            slice: Slice {
-                examined: steps.examined,
-                removed: steps.removed,
-            },
-            until: steps.until,
-            over,
-        }
+        self.states_round = steps.round;
+        steps.watched(self.indexes.records().order())
     }
 
     fn watch_nodes(&mut self, now: u64) -> Watched {
         let config = self.indexes.config();
         let share = share_of(config, config.limit(LimitName::SrcNodes));
-        let round = node_round(&self.indexes, self.nodes_round, self.made);
+        let round = under_way(self.indexes.nodes().order(), self.nodes_round, self.made);
         let steps = walk_nodes(&mut self.indexes, round, share, now);
-        self.nodes_round = Round {
-            cursor: steps.cursor,
-            mark: round.mark,
-        };
-        let over = is_node_round_over(&self.indexes, self.nodes_round);
-        Watched {
-            slice: Slice {
-                examined: steps.examined,
-                removed: steps.removed,
-            },
-            until: steps.until,
-            over,
-        }
+        self.nodes_round = steps.round;
+        steps.watched(self.indexes.nodes().order())
     }
 
     fn pass_over(&mut self, seconds: u64) -> u64 {
         let config = self.indexes.config();
         let share = share_of(config, config.limit(LimitName::States));
         let node_share = share_of(config, config.limit(LimitName::SrcNodes));
-        let states = self.states_round;
-        self.states_round = self
-            .indexes
-            .states_turned(states, share, self.made, seconds);
-        let nodes = self.nodes_round;
-        self.nodes_round = self
-            .indexes
-            .nodes_turned(nodes, node_share, self.made, seconds);
+        self.states_round = turned(
+            self.indexes.records().order(),
+            self.states_round,
+            share,
+            self.made,
+            seconds,
+        );
+        self.nodes_round = turned(
+            self.indexes.nodes().order(),
+            self.nodes_round,
+            node_share,
+            self.made,
+            seconds,
+        );
         seconds
     }
 }

@@ -1,18 +1,18 @@
 -- Answers of examine: a stretch of states that stay, and after it one that leaves, or the end of the share.
-use Rattle.std.proofs.Common.{◌∙◌, ◌+◌, ◌≤◌, sym, ap, subst, filter}
+use Rattle.std.proofs.Common.{◌∙◌, ◌+◌, ◌-◌, ◌≤◌, sym, ap, subst, filter}
 use Rattle.pfs_store_contract.specs.Calls.{other_than}
 use Rattle.pfs_store_contract.specs.Purging.{state_numbers}
 use Rattle.pfs_store_contract.specs.declared.records.State.{State}
-use Rattle.pfs_store_index.specs.Rounds.{waiting}
+use Rattle.pfs_store_index.specs.Rounds.{IsExamined, waiting}
 use Rattle.pfs_store_index.specs.Stored.{due_at, is_due}
 use Rattle.pfs_store_index.proofs.Idling.{idled-same}
-use Rattle.pfs_store_index.proofs.Stretches.{IsStretch, all-passed, stretch-leaves, stretch-stays}
+use Rattle.pfs_store_index.proofs.Stretches.{IsStretch, stretch-leaves, stretch-stays}
 use Rattle.pfs_store_index.proofs.Untils.{hold-leaves, hold-stays}
 use Rattle.pfs_store_index.proofs.purging.examine.Goals as goal
 
 stretch : (g : _) (c : goal.After-take_out g)
-    → IsStretch (is_due c.args.indexes.now.config c.args.counts.now c.args.held c.args.now) c.args.round.cursor c.args.round.mark c.in-Some.state.number (c.walk_to_due-walk.result.stayed + 1)
-    c.args.indexes.now.states c.take_out.new.self.states
+    → IsStretch (is_due c.args.indexes.now.config c.args.counts.now c.args.held c.args.now) c.args.round.cursor c.args.round.mark c.in-Some.state.number c.args.share
+    (c.walk_to_due-walk.result.stayed + 1) (c.args.share - c.walk_to_due-walk.result.stayed - 1) c.args.indexes.now.states c.take_out.new.self.states
 stretch g c =
     let k = c.walk_to_due-walk.result in
     let xs = c.args.indexes.now.states in
@@ -22,27 +22,31 @@ stretch g c =
 pub returns-in-Some-clause-states : goal.returns-in-Some-clause-states
 returns-in-Some-clause-states g c = (stretch g c).stay
 
-pub returns-in-Some-clause-waiting : goal.returns-in-Some-clause-waiting
-returns-in-Some-clause-waiting g c =
-    ap (λ (s : State). waiting s.number c.args.round.mark (state_numbers c.take_out.new.self.states)) c.in-Some.state-is ∙ (stretch g c).rest
+pub returns-in-Some-clause-examined : goal.returns-in-Some-clause-examined
+returns-in-Some-clause-examined g c =
+    let k = c.walk_to_due-walk.result in
+    subst (λ (s : State). IsExamined c.args.share (k.stayed + 1) (c.args.share - k.stayed - 1) (waiting c.args.round.cursor c.args.round.mark (state_numbers c.args.indexes.now.states)) (waiting s.number c.args.round.mark (state_numbers c.take_out.new.self.states)))
+    (sym c.in-Some.state-is) (stretch g c).part
 
 pub returns-in-Some-clause-order : goal.returns-in-Some-clause-order
 returns-in-Some-clause-order g c = subst (λ (s : State). s.number ≤ c.args.round.mark) (sym c.in-Some.state-is) (stretch g c).to
 
-pub returns-in-None-clause-states : goal.returns-in-None-clause-states
-returns-in-None-clause-states g c =
+passed : (g : _) (c : goal.In-None g)
+    → IsStretch (is_due c.args.indexes.now.config c.args.counts.now c.args.held c.args.now) c.args.round.cursor c.args.round.mark c.walk_to_due-walk.result.last c.args.share
+    c.walk_to_due-walk.result.stayed 0 c.args.indexes.now.states c.args.indexes.now.states
+passed g c =
     let k = c.walk_to_due-walk.result in
-    (stretch-stays (is_due c.args.indexes.now.config c.args.counts.now c.args.held c.args.now) c.args.round.cursor c.args.round.mark c.args.share k.stayed k.last k.leaver c.args.indexes.now.states
-    c.in-None.is c.walk_to_due-walk.ensures.walk).stay
+    stretch-stays (is_due c.args.indexes.now.config c.args.counts.now c.args.held c.args.now) c.args.round.cursor c.args.round.mark c.args.share k.stayed k.last k.leaver c.args.indexes.now.states
+    c.in-None.is c.walk_to_due-walk.ensures.walk
+
+pub returns-in-None-clause-states : goal.returns-in-None-clause-states
+returns-in-None-clause-states g c = (passed g c).stay
+
+pub returns-in-None-clause-examined : goal.returns-in-None-clause-examined
+returns-in-None-clause-examined g c = (passed g c).part
 
 pub returns-in-None-clause-nodes : goal.returns-in-None-clause-nodes
 returns-in-None-clause-nodes g c = idled-same c.args.indexes.now.config c.args.indexes.now.states c.args.now c.args.indexes.now.nodes
-
-pub returns-in-None-clause-ends : goal.returns-in-None-clause-ends
-returns-in-None-clause-ends g c = λ _.
-    let k = c.walk_to_due-walk.result in
-    all-passed (is_due c.args.indexes.now.config c.args.counts.now c.args.held c.args.now) c.args.round.cursor c.args.round.mark c.args.share k.stayed k.last k.leaver c.args.indexes.now.states
-    c.in-None.is c.walk_to_due-walk.ensures.walk
 
 pub returns-in-Some-clause-until : goal.returns-in-Some-clause-until
 returns-in-Some-clause-until g c =

@@ -1,11 +1,12 @@
 -- Answers of Engine::packet: what an engine keeps, and its clauses `keeps`, `refused`, `shared` and `free`.
-use Rattle.std.proofs.Common.{◌≡◌, ◌∙◌, ap, arith, rules, subst, sym}
+use Rattle.std.proofs.Common.{◌≡◌, ◌∙◌, ap, arith, refl, rules, subst, sym}
 use Rattle.pfs_engine_machine.specs.Kept.{IsKept, moment_of}
 use Rattle.pfs_engine_machine.specs.Machine.{Held, held_of}
 use Rattle.pfs_engine.specs.Views.{View, machine_at}
 use Rattle.pfs_engine_machine.proofs.Answering.{refused_result, shared_result}
 use Rattle.pfs_engine_machine.proofs.KeptPackets.{few_result, kept_result, made_result}
 use Rattle.pfs_engine.proofs.Free.{needs_none}
+use Rattle.pfs_engine.proofs.Keeping.{keeps}
 use Rattle.pfs_engine.proofs.engine.Engine.packet.Goals as goal
 
 pub invariant_of-self : goal.invariant_of-self
@@ -45,12 +46,8 @@ returns-clause-keeps g c =
     let a = c.answer-outcome.ensures in
     let moment : c.unwrap_or-now.result ≡ moment_of inside.last = c.unwrap_or-now.ensures in
     let before = subst (IsKept inside.config (held_of w inside.tables.entries)) (sym moment) i.kept in
-    record {
-      config = ap (λ (v : View). v.config) c.self.view_is;
-      first = ap (λ (v : View). v.machine.first) c.self.view_is;
-      last = ap (λ (v : View). v.machine.last) c.self.view_is;
-      limits = (kept_result inside.config w after inside.tables.entries entries c.args.packet.now c.unwrap_or-now.result c.answer-outcome.result i.config before a.ok a.world a.entries).limits;
-    }
+    keeps _ _ _ c.self.view_is refl refl refl
+    (kept_result inside.config w after inside.tables.entries entries c.args.packet.now c.unwrap_or-now.result c.answer-outcome.result i.config before a.ok a.world a.entries).limits
 
 pub returns-clause-refused : goal.returns-clause-refused
 returns-clause-refused g c =

@@ -1,9 +1,12 @@
 -- Answers of Engine::run: no event yet, an event more, and where memory was refused (`err`).
-use Rattle.std.proofs.Common.{◌<◌, ◌+◌, List, [], ◌∷◌, ◌++◌, Some, length, arith, length-drop, ◌∙◌, ap, sym, inl, inr, refl, subst}
+use Rattle.std.proofs.Common.{◌≡◌, ◌<◌, ◌+◌, ℕ, List, [], ◌∷◌, ◌++◌, Some, length, get_or, take, arith, length-drop, ◌∙◌, ap, sym, inl, inr, refl, subst}
 use Rattle.std.proofs.lemmas.Option.{slice_get-get_or}
+use Rattle.pfs_conf_values.specs.Configs.{Conf}
 use Rattle.pfs_engine_machine.specs.declared.events.Event.{Event}
 use Rattle.pfs_engine_machine.specs.declared.events.Outcome.{Outcome}
 use Rattle.pfs_engine_machine.specs.Kept.{IsWithinLimits}
+use Rattle.pfs_engine_machine.specs.Machine.{Machine, machine_after, outcomes_of}
+use Rattle.pfs_engine_machine.specs.Runs.{IsRefusedAt, IsStopped, packets_in}
 use Rattle.pfs_engine.specs.Views.{View}
 use Rattle.pfs_engine_machine.proofs.Running.{allowed_here, allowed_next, machine_next, machine_none, order_next, outcomes_next, outcomes_none, taken_next, taken_none}
 use Rattle.pfs_engine.proofs.engine.Engine.run.Goals as goal
@@ -23,43 +26,34 @@ loop-event-init g c =
       room = c.requires.room;
     }
 
+-- the run stopped at an event: the outcomes and the packets taken are those of the events before it
+stopped : (conf : Conf) (first new : Machine) (es : List Event) (before after : List Outcome) (taken now at : ℕ) (e other : Event) → at < length es → e ≡ get_or es at other
+    → after ≡ before ++ outcomes_of conf first (take at es) → now ≡ taken + packets_in (take at es) → IsRefusedAt conf (machine_after conf first (take at es)) e new
+    → IsStopped conf first es before after new taken now
+stopped conf first new es before after taken now at e other within is outcomes counted refused = (
+  at,
+  within,
+  (
+    e,
+    record {
+      next = slice_get-get_or es at other within ∙ ap (λ (e : Event). Some e) (sym is);
+      outcomes = outcomes;
+      counted = counted;
+      refused = refused;
+    },
+  ),
+)
+
 pub returns-then-is_err-clause-err : goal.returns-then-is_err-clause-err
 returns-then-is_err-clause-err g c =
     let i = c.loop-event.invariant in
-    let at = c.loop-event.event-index in
-    let es = c.args.events.now in
-    let within : at < length es = omega arith in (
-      at,
-      within,
-      (
-        c.event-item.result,
-        record {
-          next = slice_get-get_or es at _ within ∙ ap (λ (e : Event). Some e) (sym c.event-item.is);
-          outcomes = c.reserve.ensures.items ∙ i.outcomes;
-          counted = i.taken;
-          refused = inl i.machine;
-        },
-      ),
-    )
+    stopped _ _ _ c.args.events.now _ _ _ _ c.loop-event.event-index _ _ (omega arith) c.event-item.is (c.reserve.ensures.items ∙ i.outcomes) i.taken (inl i.machine)
 
 pub returns-in-Err-clause-err : goal.returns-in-Err-clause-err
 returns-in-Err-clause-err g c =
     let i = c.loop-event.invariant in
-    let at = c.loop-event.event-index in
-    let es = c.args.events.now in
-    let within : at < length es = omega arith in (
-      at,
-      within,
-      (
-        c.event-item.result,
-        record {
-          next = slice_get-get_or es at _ within ∙ ap (λ (e : Event). Some e) (sym c.event-item.is);
-          outcomes = c.reserve.ensures.items ∙ i.outcomes;
-          counted = c.in-Err.ensures.not_taken ∙ i.taken;
-          refused = inr (rw (i.config, i.machine) at c.in-Err.ensures.err);
-        },
-      ),
-    )
+    stopped _ _ _ c.args.events.now _ _ _ _ c.loop-event.event-index _ _ (omega arith) c.event-item.is (c.reserve.ensures.items ∙ i.outcomes) (c.in-Err.ensures.not_taken ∙ i.taken)
+    (inr (rw (i.config, i.machine) at c.in-Err.ensures.err))
 
 pub loop-event-preserved : goal.loop-event-preserved
 loop-event-preserved g c =

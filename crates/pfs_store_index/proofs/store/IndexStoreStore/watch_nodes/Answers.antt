@@ -1,29 +1,26 @@
--- Answers of IndexStore's watch_nodes: the slice of the definition, up to when its nodes stay, the round's end.
-use Rattle.std.proofs.Common.{◌≡◌, ◌∙◌, ◌-◌, ap, length, take, rules}
+-- Answers of IndexStore's watch_nodes: what it keeps, and up to when its nodes stay (`until`).
+use Rattle.std.proofs.Common.{◌≡◌, ◌∙◌, ◌≤◌, ap, arith, rules, subst, take}
+use Rattle.std.specs.Map.{keys_of}
 use Rattle.pfs_store_contract.specs.Plain.{Plain}
-use Rattle.pfs_store_contract.specs.Purging.{node_numbers, node_round, node_share, node_slice}
-use Rattle.pfs_store_index.proofs.Storing.{stored-nodes, world-node_slice}
-use Rattle.pfs_store_index.specs.Rounds.{waiting}
+use Rattle.pfs_store_contract.specs.Purging.{node_numbers, node_share}
+use Rattle.pfs_store_contract.specs.Quiet.{NodesStay}
+use Rattle.pfs_store_index.specs.Staying.{NodesHold}
+use Rattle.pfs_store_index.proofs.Storing.{stored-nodes}
 use Rattle.pfs_store_index.proofs.store.IndexStoreStore.watch_nodes.Goals as goal
 
 pub invariant_of-self : goal.invariant_of-self
 invariant_of-self g c =
-    stored-nodes _ c.self.inside.indexes c.walk_nodes-steps.new.indexes _ _ _ _ _ _ _ _ c.walk_nodes-steps.ensures.config c.walk_nodes-steps.ensures.states c.walk_nodes-steps.ensures.nodes c.self.invariant c.walk_nodes-steps.ensures.order c.node_round-round.ensures.mark
+    let steps = c.walk_nodes-steps.ensures in
+    let made : c.walk_nodes-steps.result.round.mark ≤ c.self.inside.made = omega (arith, steps.mark, c.under_way-round.ensures.mark) in
+    stored-nodes _ c.self.inside.indexes c.walk_nodes-steps.new.indexes _ _ _ _ _ _ _ _ steps.config steps.states steps.nodes c.self.invariant steps.order made
 
-pub returns-clause-world : goal.returns-clause-world
-returns-clause-world g c =
+pub returns-clause-until : goal.returns-clause-until
+returns-clause-until g c =
     let h = c.self.inside.indexes in
-    let s : c.share_of-share.result ≡ node_share c.self.inside.indexes.config = search rules in
-    world-node_slice c.args.now c.share_of-share.result h c.walk_nodes-steps.new.indexes c.self.inside.states_round.cursor c.self.inside.states_round.mark
-    c.self.inside.nodes_round.cursor c.self.inside.nodes_round.mark c.walk_nodes-steps.result.cursor c.node_round-round.result.mark c.self.inside.made
-    (waiting c.node_round-round.result.cursor c.node_round-round.result.mark (node_numbers h.nodes)) s c.node_round-round.ensures.waiting
-    c.walk_nodes-steps.ensures.states c.walk_nodes-steps.ensures.nodes c.walk_nodes-steps.ensures.waiting
-    ∙ ap (λ (p : Plain). node_slice p.config p.world c.args.now) c.self.view_is
-
-pub returns-clause-answer : goal.returns-clause-answer
-returns-clause-answer g c =
-    let s : c.share_of-share.result ≡ node_share c.self.inside.indexes.config = search rules in
-    let e = c.walk_nodes-steps.ensures.examined ∙ (λ j. length (take (s j) (c.node_round-round.ensures.waiting j)))
-    ∙ ap (λ (p : Plain). length (take (node_share p.config) (node_round p.world))) c.self.view_is in
-    let r = c.walk_nodes-steps.ensures.removed ∙ (λ j. length (c.self.view_is j).world.nodes - length (returns-clause-world g c j).nodes) in
-    (λ j. record { examined = e j; removed = r j })
+    let until = c.walk_nodes-steps.result.until in
+    let kept = c.walk_nodes-steps.new.indexes.nodes in
+    let share : c.share_of-share.result ≡ node_share h.config = search rules in
+    let numbers : keys_of c.order.result.now.entries ≡ node_numbers h.nodes = c.order.ensures.numbers ∙ ap node_numbers c.nodes.ensures in
+    let pending = rw numbers at c.under_way-round.ensures.waiting in
+    rw c.watched.ensures.until (subst (λ (p : Plain). NodesStay p.config p.world until kept) c.self.view_is
+    (subst (λ ns. NodesHold h.config h.states ns until kept) (λ j. take (share j) (pending j)) c.walk_nodes-steps.ensures.until))

@@ -1,9 +1,13 @@
 -- Answers of IndexStore's watch_states: the slice of the definition, up to when its states stay, its looks.
-use Rattle.std.proofs.Common.{◌≡◌, ◌∙◌, ◌-◌, ◌≤◌, ℕ, List, length-take, ap, length, subst, take, arith, rules}
+use Rattle.std.proofs.Common.{◌≡◌, ◌∙◌, ◌≤◌, ℕ, true, List, length-take, ap, length, subst, take, arith, rules}
+use Rattle.std.specs.Map.{keys_of}
 use Rattle.pfs_store_index.specs.Rounds.{waiting}
 use Rattle.pfs_store_index.specs.Stored.{IsStored}
 use Rattle.pfs_store_contract.specs.Plain.{Plain}
-use Rattle.pfs_store_contract.specs.Purging.{state_numbers, state_round, state_share, state_slice}
+use Rattle.pfs_store_contract.specs.Purging.{is_among, round, state_numbers, state_share, state_slice}
+use Rattle.pfs_store_contract.specs.Quiet.{StateStays, StatesStay}
+use Rattle.pfs_store_contract.specs.declared.records.State.{State}
+use Rattle.std.specs.List.{AllByRecursion}
 use Rattle.pfs_store_index.proofs.Leavings.{state_number}
 use Rattle.pfs_store_index.proofs.Storing.{few-numbered, stored-without, world-slice}
 use Rattle.pfs_store_index.proofs.RisingWalks.{all-fewer}
@@ -13,36 +17,47 @@ use Rattle.pfs_store_index.proofs.store.IndexStoreStore.watch_states.Goals as go
 length-take_le : (n : ℕ) (ns : List ℕ) → length (take n ns) ≤ length ns
 length-take_le n ns = omega (arith, length-take n ns)
 
+-- the numbers that the slice finds waiting are those of the round
+pending : (g : _) (c : goal.After-watched g) → waiting c.under_way-round.result.cursor c.under_way-round.result.mark (state_numbers c.self.inside.indexes.states)
+    ≡ round (state_numbers c.self.inside.indexes.states) (waiting c.self.inside.states_round.cursor c.self.inside.states_round.mark (state_numbers c.self.inside.indexes.states))
+pending g c =
+    let numbers : keys_of c.order.result.now.entries ≡ state_numbers c.self.inside.indexes.states = c.order.ensures.numbers ∙ ap state_numbers c.records.ensures in
+    rw numbers at c.under_way-round.ensures.waiting
+
 pub invariant_of-self : goal.invariant_of-self
 invariant_of-self g c =
+    let steps = c.walk_states-steps.ensures in
+    let made : c.walk_states-steps.result.round.mark ≤ c.self.inside.made = omega (arith, steps.mark, c.under_way-round.ensures.mark) in
     let l : length c.self.inside.counts.items ≡ length c.copy_from_slice.new.self.items =
     search rules in
-    subst (λ n. IsStored c.walk_states-steps.new.indexes c.walk_states-steps.result.cursor c.state_round-round.result.mark c.self.inside.nodes_round.cursor c.self.inside.nodes_round.mark c.self.inside.made n) l
-    (stored-without _ c.args.now c.self.inside.indexes c.walk_states-steps.new.indexes _ _ _ _ _ _ _ _ c.walk_states-steps.ensures.config c.walk_states-steps.ensures.states c.walk_states-steps.ensures.nodes c.self.invariant c.walk_states-steps.ensures.order c.state_round-round.ensures.mark)
+    subst (λ n. IsStored c.walk_states-steps.new.indexes c.walk_states-steps.result.round.cursor c.walk_states-steps.result.round.mark c.self.inside.nodes_round.cursor c.self.inside.nodes_round.mark c.self.inside.made n) l
+    (stored-without _ c.args.now c.self.inside.indexes c.walk_states-steps.new.indexes _ _ _ _ _ _ _ _ steps.config steps.states steps.nodes c.self.invariant steps.order made)
 
 pub returns-clause-world : goal.returns-clause-world
 returns-clause-world g c =
     let h = c.self.inside.indexes in
+    let steps = c.walk_states-steps in
     let s : c.share_of-share.result ≡ state_share c.self.inside.indexes.config = search rules in
-    world-slice c.args.now c.share_of-share.result h c.walk_states-steps.new.indexes c.self.inside.states_round.cursor c.self.inside.states_round.mark
-    c.walk_states-steps.result.cursor c.state_round-round.result.mark c.self.inside.nodes_round.cursor c.self.inside.nodes_round.mark c.self.inside.made
-    (waiting c.state_round-round.result.cursor c.state_round-round.result.mark (state_numbers h.states)) s c.state_round-round.ensures.waiting
-    c.walk_states-steps.ensures.states c.walk_states-steps.ensures.nodes c.walk_states-steps.ensures.waiting
+    world-slice c.args.now c.share_of-share.result h steps.new.indexes c.self.inside.states_round.cursor c.self.inside.states_round.mark
+    steps.result.round.cursor steps.result.round.mark c.self.inside.nodes_round.cursor c.self.inside.nodes_round.mark c.self.inside.made
+    (waiting c.under_way-round.result.cursor c.under_way-round.result.mark (state_numbers h.states)) s (pending g c)
+    steps.ensures.states steps.ensures.nodes steps.ensures.waiting
     ∙ ap (λ (p : Plain). state_slice p.config p.world c.args.now) c.self.view_is
 
-pub returns-clause-answer : goal.returns-clause-answer
-returns-clause-answer g c =
-    let s : c.share_of-share.result ≡ state_share c.self.inside.indexes.config = search rules in
-    let e = c.walk_states-steps.ensures.examined ∙ (λ j. length (take (s j) (c.state_round-round.ensures.waiting j)))
-    ∙ ap (λ (p : Plain). length (take (state_share p.config) (state_round p.world))) c.self.view_is in
-    let r = c.walk_states-steps.ensures.removed ∙ (λ j. length (c.self.view_is j).world.states - length (returns-clause-world g c j).states) in
-    (λ j. record { examined = e j; removed = r j })
+pub returns-clause-until : goal.returns-clause-until
+returns-clause-until g c =
+    let h = c.self.inside.indexes in
+    let until = c.walk_states-steps.result.until in
+    let kept = c.walk_states-steps.new.indexes.states in
+    let share : c.share_of-share.result ≡ state_share h.config = search rules in
+    rw c.watched.ensures.until (subst (λ (p : Plain). StatesStay p.config p.world until kept) c.self.view_is
+    (subst (λ (ns : List ℕ). AllByRecursion (λ (s : State). is_among ns s.number ≡ true → StateStays h.config h.states until s) kept) (λ j. take (share j) (pending g c j)) c.walk_states-steps.ensures.until))
 
 pub returns-clause-most : goal.returns-clause-most
 returns-clause-most g c =
     let h = c.self.inside.indexes in
-    let a : length (take c.share_of-share.result (waiting c.state_round-round.result.cursor c.state_round-round.result.mark (state_numbers c.self.inside.indexes.states)))
-    ≤ length (waiting c.state_round-round.result.cursor c.state_round-round.result.mark (state_numbers c.self.inside.indexes.states)) = length-take_le c.share_of-share.result _ in
-    let b : length (waiting c.state_round-round.result.cursor c.state_round-round.result.mark (state_numbers c.self.inside.indexes.states)) ≤ length c.self.inside.indexes.states =
-    all-fewer state_number c.state_round-round.result.cursor c.state_round-round.result.mark h.states in
+    let round = c.under_way-round.result in
+    let ws = waiting round.cursor round.mark (state_numbers h.states) in
+    let a : length (take c.share_of-share.result ws) ≤ length ws = length-take_le c.share_of-share.result ws in
+    let b : length ws ≤ length h.states = all-fewer state_number round.cursor round.mark h.states in
     omega (arith, c.walk_states-steps.ensures.looks, c.walk_states-steps.ensures.examined, a, b, few-numbered c.self.inside.made h.states c.state_count-count.ensures.rising c.self.invariant.numbered, c.self.invariant.few)
