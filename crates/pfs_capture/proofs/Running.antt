@@ -7,7 +7,7 @@ use Rattle.std.proofs.KnownBytes.{Appends-nil, Appends-trans}
 use Rattle.std.proofs.lemmas.List.{take-append-drop}
 use Rattle.std.proofs.Math.Seq.{take-append_seam}
 use Rattle.pfs_addr_values.specs.Prefixes.{Network}
-use Rattle.pfs_capture_files.specs.Blocks.{is_outside}
+use Rattle.pfs_capture_files.specs.Faults.{is_outside}
 use Rattle.pfs_capture_files.specs.Forms.{Begins, ReadsItem, Turn, turn_of}
 use Rattle.pfs_capture_files.specs.declared.faults.FileFault.{FileFault}
 use Rattle.pfs_capture_files.specs.declared.forms.Form.{Form}
@@ -307,29 +307,32 @@ whole-begins text t line whole same e = ([], e ∙ (ap (λ (x : List ℕ). text 
 none-begins : (text t line whole : List ℕ) → t ≡ [] → whole ≡ text ++ line → BeginsText (text ++ t) whole
 none-begins text t line whole none e = (line, e ∙ ap (λ (x : List ℕ). x ++ line) (sym (append-nil text)) ∙ ap (λ (x : List ℕ). (text ++ x) ++ line) (sym none))
 
+-- only fronts of them are
+ends-front : {S : Type 0} (rem : S → Option (List ℕ)) (inside : List Network) (ifname : List ℕ) (run : Run) (before now after before2 now2 after2 : Option (List ℕ)) (turn : ℕ) (tally : Tally) (form : Form) (rdr : S) (row answer t u : List ℕ)
+    → (h : Counted rem inside ifname run before now before2 now2 turn tally form rdr row answer)
+    → Appends now after t → Appends now2 after2 u → BeginsText (trace_text h.seen ++ t) (trace_text h.more) → BeginsText (answers_text h.seen ++ u) (answers_text h.more)
+    → (v : List ℕ) × (w : List ℕ) × Appends before after v × Appends before2 after2 w × TellsFront run v w tally.account
+ends-front rem inside ifname run before now after before2 now2 after2 turn tally form rdr row answer t u h trace answers begins begins2 = (
+  trace_text h.seen ++ t,
+  answers_text h.seen ++ u,
+  Appends-trans before now after (trace_text h.seen) t h.trace trace,
+  Appends-trans before2 now2 after2 (answers_text h.seen) u h.answers answers,
+  tells-front run (judged_frames inside ifname tally.last (frames_from (most_items - turn) form h.left)) h.more tally.account (trace_text h.seen ++ t) (answers_text h.seen ++ u) h.split h.counts begins begins2,
+)
+
 -- they are not
 pub ends-send : {S : Type 0} (rem : S → Option (List ℕ)) (inside : List Network) (ifname : List ℕ) (run : Run) (before now after before2 now2 after2 : Option (List ℕ)) (turn : ℕ) (tally : Tally) (form : Form) (rdr : S) (row answer t u : List ℕ) (f : TraceStop)
     → Counted rem inside ifname run before now before2 now2 turn tally form rdr row answer
     → Appends now after t → Appends now2 after2 u → Sends row answer t u (Err f)
     → Ends run before after before2 after2 tally.account (Err f)
-ends-send rem inside ifname run before now after before2 now2 after2 turn tally form rdr row answer t u stop.Write h trace answers (front, none) = (
-  trace_text h.seen ++ t,
-  answers_text h.seen ++ u,
-  Appends-trans before now after (trace_text h.seen) t h.trace trace,
-  Appends-trans before2 now2 after2 (answers_text h.seen) u h.answers answers,
-  tells-front run (judged_frames inside ifname tally.last (frames_from (most_items - turn) form h.left)) h.more tally.account (trace_text h.seen ++ t) (answers_text h.seen ++ u) h.split h.counts
-      (front-begins (trace_text h.seen) t row (trace_text h.more) front h.row_more)
-      (none-begins (answers_text h.seen) u answer (answers_text h.more) none h.answer_more),
-)
-ends-send rem inside ifname run before now after before2 now2 after2 turn tally form rdr row answer t u stop.Told h trace answers (same, front) = (
-  trace_text h.seen ++ t,
-  answers_text h.seen ++ u,
-  Appends-trans before now after (trace_text h.seen) t h.trace trace,
-  Appends-trans before2 now2 after2 (answers_text h.seen) u h.answers answers,
-  tells-front run (judged_frames inside ifname tally.last (frames_from (most_items - turn) form h.left)) h.more tally.account (trace_text h.seen ++ t) (answers_text h.seen ++ u) h.split h.counts
-      (whole-begins (trace_text h.seen) t row (trace_text h.more) same h.row_more)
-      (front-begins (answers_text h.seen) u answer (answers_text h.more) front h.answer_more),
-)
+ends-send rem inside ifname run before now after before2 now2 after2 turn tally form rdr row answer t u stop.Write h trace answers (front, none) =
+    ends-front rem inside ifname run before now after before2 now2 after2 turn tally form rdr row answer t u h trace answers
+    (front-begins (trace_text h.seen) t row (trace_text h.more) front h.row_more)
+    (none-begins (answers_text h.seen) u answer (answers_text h.more) none h.answer_more)
+ends-send rem inside ifname run before now after before2 now2 after2 turn tally form rdr row answer t u stop.Told h trace answers (same, front) =
+    ends-front rem inside ifname run before now after before2 now2 after2 turn tally form rdr row answer t u h trace answers
+    (whole-begins (trace_text h.seen) t row (trace_text h.more) same h.row_more)
+    (front-begins (answers_text h.seen) u answer (answers_text h.more) front h.answer_more)
 ends-send rem inside ifname run before now after before2 now2 after2 turn tally form rdr row answer t u (stop.File g) h trace answers sends = absurd sends
 ends-send rem inside ifname run before now after before2 now2 after2 turn tally form rdr row answer t u stop.Moment h trace answers sends = absurd sends
 ends-send rem inside ifname run before now after before2 now2 after2 turn tally form rdr row answer t u stop.TooMany h trace answers sends = absurd sends

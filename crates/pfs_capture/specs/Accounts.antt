@@ -1,5 +1,6 @@
 -- The account of a capture's frames. (own)
-use Rattle.std.specs.Prelude.{◌≡◌, ◌≤◌, ◌+◌, Bool, if◌then◌else◌, Option, Some, None}
+use Rattle.std.specs.Prelude.{◌≡◌, ◌≤◌, ◌+◌, ◌++◌, ℕ, Bool, if◌then◌else◌, List, codes, Option, Some, None}
+use Rattle.std.specs.Fmt.{decimal}
 use Rattle.pfs_capture_packets.specs.declared.packets.Reason.{Reason}
 use Rattle.pfs_capture_packets.specs.declared.packets.Reason.TheVariants as reason
 use Rattle.pfs_capture.specs.declared.accounts.Account.{Account}
@@ -24,3 +25,15 @@ frame_counted a is_late (Some reason.NotIp) = record a { frames = a.frames + 1; 
 frame_counted a is_late (Some reason.LaterFragment) = record a { frames = a.frames + 1; later_fragments = a.later_fragments + 1 }
 frame_counted a is_late (Some reason.Cut) = record a { frames = a.frames + 1; cut = a.cut + 1 }
 frame_counted a is_late (Some reason.NeitherWay) = record a { frames = a.frames + 1; neither_way = a.neither_way + 1 }
+
+-- the text of an account, without a line feed
+abbrev pub account_text : Account → List ℕ
+account_text a =
+    codes "frames " ++ (decimal a.frames
+    ++ (codes ": records " ++ (decimal a.records
+    ++ (codes ", not IP " ++ (decimal a.not_ip
+    ++ (codes ", later fragments " ++ (decimal a.later_fragments
+    ++ (codes ", cut before their ports " ++ (decimal a.cut
+    ++ (codes ", neither in nor out " ++ (decimal a.neither_way
+    ++ (codes ", of a link type that is not read " ++ (decimal a.link_types
+    ++ (codes "; records seen before the frame in front " ++ decimal a.late))))))))))))))

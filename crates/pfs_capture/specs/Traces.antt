@@ -4,7 +4,7 @@ use Rattle.std.specs.Bool.{MatchBool}
 use Rattle.std.specs.List.{count_by}
 use Rattle.std.specs.Option.{option_map_or}
 use Rattle.pfs_addr_values.specs.Prefixes.{Network}
-use Rattle.pfs_capture_files.specs.Blocks.{is_outside}
+use Rattle.pfs_capture_files.specs.Faults.{is_outside}
 use Rattle.pfs_capture_files.specs.declared.faults.FileFault.{FileFault}
 use Rattle.pfs_capture_files.specs.declared.forms.Form.{Form}
 use Rattle.pfs_capture_files.specs.declared.frames.Moment.{Moment}

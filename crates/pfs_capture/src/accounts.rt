@@ -1,7 +1,7 @@
 //! How many frames there were, and what became of them.
 
-ghost use Rattle.std.specs.Prelude.{◌≡◌, ◌<◌, ◌^◌};
-ghost use Rattle.pfs_capture.specs.Accounts.{AddsUp, frame_counted, no_frames};
+ghost use Rattle.std.specs.Prelude.{◌≡◌, ◌<◌, ◌^◌, Some};
+ghost use Rattle.pfs_capture.specs.Accounts.{AddsUp, account_text, frame_counted, no_frames};
 
 use pfs_capture_packets::Reason;
 use std::fmt;
@@ -71,6 +71,8 @@ impl Account {
 }
 
 impl fmt::Display for Account {
+    ghost output = { λ a. Some (account_text a) };
+
     fn fmt<W: fmt::Write>(&self, f: &mut fmt::Formatter<W>) -> fmt::Result {
         write!(f, "frames {}: records {}", self.frames, self.records)?;
         write!(

@@ -1,7 +1,7 @@
 //! Why a trace ends before its capture does.
 
-ghost use Rattle.std.specs.Prelude.{◌≡◌};
-ghost use Rattle.pfs_capture.specs.Faults.{stop_status};
+ghost use Rattle.std.specs.Prelude.{◌≡◌, Some};
+ghost use Rattle.pfs_capture.specs.Faults.{file_text, stop_status, stop_text};
 
 use pfs_capture_files::FileFault;
 use std::{error, fmt};
@@ -24,9 +24,14 @@ pub enum TraceStop {
 }
 
 impl fmt::Display for TraceStop {
+    ghost output = { λ s. Some (stop_text s) };
+
     fn fmt<W: fmt::Write>(&self, f: &mut fmt::Formatter<W>) -> fmt::Result {
         match self {
-            TraceStop::File(fault) => write!(f, "{}", fault_text(*fault)),
+            TraceStop::File(fault) => {
+                let text = file_text(*fault);
+                write!(f, "{text}")
+            }
             TraceStop::Moment => write!(f, "its moment is not from 0 to 4294967295"),
             TraceStop::TooMany => write!(f, "too many blocks"),
             TraceStop::Write => write!(f, "write failed"),
@@ -36,7 +41,9 @@ impl fmt::Display for TraceStop {
     }
 }
 
-fn fault_text(fault: FileFault) -> &'static str {
+fn file_text(fault: FileFault) -> &'static str
+    ensures { result.now ≡ file_text fault }
+{
     match fault {
         FileFault::Empty => "the file is empty",
         FileFault::Gzip => "the file is packed by gzip: unpack it first",

@@ -9,6 +9,6 @@ mod traces;
 
 pub use accounts::Account;
 pub use faults::{TraceStop, status};
-pub use pfs_cli_streams::Sink;
+pub use pfs_cli_streams::{Feed, Sink};
 pub use sorting::interface;
 pub use traces::write_trace;

@@ -1,10 +1,13 @@
 //! The trace of a capture, row by row, and in another file what pf answered.
 
-ghost use Rattle.std.specs.Prelude.{◌≡◌, ◌<◌, ◌≤◌, ◌^◌, ◌+◌, ◌++◌, ℕ, List, Some, IfErr, IfOk, OnOk, true};
+ghost use Rattle.std.specs.Prelude.{◌≡◌, ◌⊎◌, ◌<◌, ◌≤◌, ◌^◌, ◌+◌, ◌++◌, ℕ, List, Some, Err, IfErr, IfOk, OnOk, true};
 ghost use Rattle.std.specs.Io.KnownBytes.{Appends};
 ghost use Rattle.pfs_addr_values.specs.Names.{is_name};
+ghost use Rattle.pfs_capture_files.specs.Faults.{HasFailed};
 ghost use Rattle.pfs_capture_files.specs.Forms.{start_of};
-ghost use Rattle.pfs_cli_streams.specs.Sinks.{bytes_held};
+ghost use Rattle.pfs_capture_files.specs.declared.faults.FileFault.TheVariants as fault;
+ghost use Rattle.pfs_cli_streams.specs.Feeds.{unread};
+ghost use Rattle.pfs_cli_streams.specs.Sinks.{bytes_held, write_failures};
 ghost use Rattle.pfs_capture.specs.Accounts.{AddsUp, no_frames};
 ghost use Rattle.pfs_capture.specs.Captures.{frame_bytes, seen_of};
 ghost use Rattle.pfs_capture.specs.Sorting.{IsFound, found_in_frame};
@@ -18,7 +21,7 @@ use pfs_addr_values::{IfName, Prefix};
 use pfs_capture_files::{Frame, Item, Moment, read_item, read_start};
 use pfs_capture_packets::Reason;
 use pfs_capture_rows::{ANSWER_HEADER, HEADER, Row, push_answer, push_row};
-use pfs_cli_streams::{Sink, write_whole};
+use pfs_cli_streams::{Feed, Sink, write_whole};
 use std::alloc::Global;
 use std::io::{Read, Write};
 
@@ -47,22 +50,28 @@ pub struct Lines {
 /// of this name; a log of pflog(4) has its packets' ways itself. A frame that was seen before the one in front of it
 /// has that one's second, and is counted as late if it is a record. `TraceStop` says why the trace is not whole. Of a
 /// faulty capture all is written up to its fault; where a read or a write fails or memory is refused, only its first
-/// part is written. It takes memory for one block of the capture, and for two rows.
+/// part is written. A failed read or write is reported only where the reader or that writer failed. It takes memory
+/// for one block of the capture, and for two rows.
 pub fn write_trace<R: Read, W: Write, T: Write>(
     alloc: Global,
     inside: &[Prefix],
     ifname: IfName,
-    reader: &mut R,
+    reader: &mut Feed<R>,
     out: &mut Sink<W>,
     told: &mut Sink<T>,
     account: &mut Account,
 ) -> Result<(), TraceStop>
     requires { is_name 15 ifname ≡ true }
     ensures sum { AddsUp account.new }
-    ensures tells { (xs : List ℕ) → R.remaining reader.old ≡ Some xs →
+    ensures tells { (xs : List ℕ) → unread R.remaining reader.old ≡ Some xs →
         ((t : List ℕ) × (u : List ℕ) × Appends (bytes_held W.contents out.old) (bytes_held W.contents out.new) t
         × Appends (bytes_held T.contents told.old) (bytes_held T.contents told.new) u
         × TellsCapture inside.now ifname (start_of xs) t u account.new result) }
+
+    // No failure is reported of a reader or a writer that did not have it.
+    ensures read { result ≡ Err (TraceStop.File fault.Read) → HasFailed reader.new }
+    ensures write { result ≡ Err TraceStop.Write → 0 < write_failures out.new }
+    ensures told { result ≡ Err TraceStop.Told → 0 < write_failures told.new }
 {
     *account = Account::new();
     let mut held = Vec::new(alloc);
@@ -116,9 +125,11 @@ fn send<W: Write, T: Write>(
     row: &[u8],
     answer: &[u8],
 ) -> Result<(), TraceStop>
-    ensures { (t : List ℕ) × (u : List ℕ) × Appends (bytes_held W.contents out.old) (bytes_held W.contents out.new) t
+    ensures sends { (t : List ℕ) × (u : List ℕ) × Appends (bytes_held W.contents out.old) (bytes_held W.contents out.new) t
         × Appends (bytes_held T.contents told.old) (bytes_held T.contents told.new) u
         × Sends row.now answer.now t u result }
+    ensures write { result ≡ Err TraceStop.Write → 0 < write_failures out.new }
+    ensures told { result ≡ Err TraceStop.Told → 0 < write_failures told.new }
 {
     match write_whole(out, row) {
         Ok(()) => {}
@@ -146,6 +157,7 @@ fn take_frame(
     ensures takes { TakesFrame (frame_taken inside.now ifname tally (seen_of frame held.now)) result lines.new.row.items lines.new.answer.items }
     ensures sum { IfOk result (λ t. AddsUp t.account) }
     ensures one { IfOk result (λ t. (t.account.frames ≡ tally.account.frames + 1) × (t.last ≤ 4294967295)) }
+    ensures fails { IfErr result (λ f. (f ≡ TraceStop.Memory) ⊎ (f ≡ TraceStop.Moment)) }
 {
     lines.row.clear();
     lines.answer.clear();
@@ -222,6 +234,7 @@ fn second_after(last: u64, moment: Moment) -> Result<u64, TraceStop>
     requires { last ≤ 4294967295 }
     ensures is { result ≡ second_after last moment }
     ensures few { IfOk result (λ s. s ≤ 4294967295) }
+    ensures fails { IfErr result (λ f. f ≡ TraceStop.Moment) }
 {
     match moment {
         Moment::At(second) if second > 4_294_967_295 => Err(TraceStop::Moment),

@@ -1,5 +1,5 @@
 -- The blocks of a pcapng file (pcapng, sections 3.1, 4.1 to 4.4).
-use Rattle.std.specs.Prelude.{ℕ, ◌≡◌, Bool, true, false, ◌-◌, ◌%◌, ◌==◌, ◌&&◌, ◌||◌, ◌++◌, not, List, [], ◌∷◌, length, take, nat_lt, Result, Ok, Err, if◌then◌else◌, ok_or, slice_get}
+use Rattle.std.specs.Prelude.{ℕ, ◌≡◌, ◌⊎◌, Bool, ◌-◌, ◌%◌, ◌==◌, ◌&&◌, ◌||◌, ◌++◌, not, List, [], ◌∷◌, length, take, nat_lt, Result, Ok, Err, if◌then◌else◌, ok_or, slice_get}
 use Rattle.pfs_capture_files.specs.declared.orders.Order.{Order}
 use Rattle.pfs_capture_files.specs.declared.orders.Order.TheVariants.{Big, Little}
 use Rattle.pfs_capture_files.specs.declared.interfaces.Interface.{Interface}
@@ -78,13 +78,7 @@ body_item known head rest =
     else (if head.kind == 1 then then_known (interface_of head.order head.half (body_of rest)) (λ i. with_interface known i)
     else then_known (held_in known head rest) (λ held. Ok (known, held)))
 
--- a fault of what is around a file, and none of the file
-abbrev pub is_outside : FileFault → Bool
-is_outside fault.Read = true
-is_outside fault.Memory = true
-is_outside f = false
-
 -- what a call returns and leaves is what the definition gives, unless memory was refused
 abbrev pub TakesItem : Result (Known × Item) FileFault → Result Item FileFault → Known → Type 0
 TakesItem step (Ok held) after = step ≡ Ok (after, held)
-TakesItem step (Err f) after = is_outside f ≡ false → step ≡ Err f
+TakesItem step (Err f) after = (f ≡ fault.Memory) ⊎ (step ≡ Err f)

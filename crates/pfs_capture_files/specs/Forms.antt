@@ -18,7 +18,8 @@ use Rattle.pfs_capture_files.specs.Orders.{u16_in, u32_in}
 use Rattle.pfs_capture_files.specs.Known.{Known}
 use Rattle.pfs_capture_files.specs.Interfaces.{then_known}
 use Rattle.pfs_capture_files.specs.Classic.{lengths_of, record_frame}
-use Rattle.pfs_capture_files.specs.Blocks.{block_head, body_item, is_outside}
+use Rattle.pfs_capture_files.specs.Blocks.{block_head, body_item}
+use Rattle.pfs_capture_files.specs.Faults.{is_outside}
 
 -- how a pcap file begins by its version, whose numbers follow its first (pcap, section 4)
 abbrev pub start_of_version : Order → List ℕ → Result Start FileFault

@@ -1,7 +1,8 @@
 //! The blocks of a pcapng file.
 
-ghost use Rattle.std.specs.Prelude.{◌≡◌, ◌-◌, ◌≤◌, [], IfOk, length};
+ghost use Rattle.std.specs.Prelude.{◌≡◌, ◌≢◌, ◌-◌, ◌≤◌, [], false, Err, IfErr, IfOk, length};
 ghost use Rattle.pfs_capture_files.specs.Blocks.{TakesItem, with_interface, block_head, body_item, held_in, described_at, is_version, order_of_block, order_of_magic, with_section};
+ghost use Rattle.pfs_capture_files.specs.Faults.{is_outside};
 
 use crate::faults::FileFault;
 use crate::frames::{Item, enhanced_frame, simple_frame};
@@ -50,6 +51,7 @@ pub struct BlockHead {
 pub fn block_head(order: Order, head: &[u8]) -> Result<BlockHead, FileFault>
     ensures is { result ≡ block_head order head.now }
     ensures few { IfOk result (λ h. h.count ≤ 524288) }
+    ensures of_file { IfErr result (λ f. is_outside f ≡ false) }
 {
     if head.len() < 12 {
         return Err(FileFault::Cut);
@@ -75,7 +77,8 @@ pub fn block_head(order: Order, head: &[u8]) -> Result<BlockHead, FileFault>
 /// The byte order of a block of this kind: a section's own, and of a section's block what it begins with.
 fn order_of_block(order: Order, kind: u32, head: &[u8]) -> Result<Order, FileFault>
     requires { 12 ≤ length head.now }
-    ensures { result ≡ order_of_block order kind head.now }
+    ensures is { result ≡ order_of_block order kind head.now }
+    ensures of_file { IfErr result (λ f. is_outside f ≡ false) }
 {
     if kind != SECTION {
         return Ok(order);
@@ -84,7 +87,8 @@ fn order_of_block(order: Order, kind: u32, head: &[u8]) -> Result<Order, FileFau
 }
 
 fn order_of_magic(magic: u32) -> Result<Order, FileFault>
-    ensures { result ≡ order_of_magic magic }
+    ensures is { result ≡ order_of_magic magic }
+    ensures of_file { IfErr result (λ f. is_outside f ≡ false) }
 {
     match magic {
         0x1a2b_3c4d => Ok(Order::Big),
@@ -112,9 +116,11 @@ impl Section {
     }
 
     /// What a block holds, by how it begins and what follows; what is known of the section changes as it says. At a fault anything
-    /// may be known.
+    /// may be known. It takes memory for an interface alone.
     pub fn take(&mut self, head: BlockHead, rest: &[u8]) -> Result<Item, FileFault>
-        ensures { TakesItem (body_item self.old head rest.now) result self.new }
+        ensures is { TakesItem (body_item self.old head rest.now) result self.new }
+        ensures free { result ≡ Err FileFault.Memory → head.kind ≡ 1 }
+        ensures read { result ≢ Err FileFault.Read }
     {
         match head.kind {
             SECTION => self.begin(head.order, &rest[..front(rest)]),
@@ -128,7 +134,8 @@ impl Section {
 
     /// Begins a section, by its byte order and what its block holds after that: its version, and how long it is.
     fn begin(&mut self, order: Order, body: &[u8]) -> Result<Item, FileFault>
-        ensures { TakesItem (with_section order body.now) result self.new }
+        ensures is { TakesItem (with_section order body.now) result self.new }
+        ensures of_file { IfErr result (λ f. is_outside f ≡ false) }
     {
         if body.len() < 12 {
             return Err(FileFault::Block);
@@ -142,7 +149,8 @@ impl Section {
     }
 
     fn add(&mut self, interface: Interface) -> Result<Item, FileFault>
-        ensures { TakesItem (with_interface self.old interface) result self.new }
+        ensures is { TakesItem (with_interface self.old interface) result self.new }
+        ensures read { result ≢ Err FileFault.Read }
     {
         if self.interfaces.len() >= MOST_INTERFACES {
             return Err(FileFault::Interfaces);
@@ -155,7 +163,8 @@ impl Section {
 
     /// What a block holds that changes nothing of its section.
     fn held(&self, head: BlockHead, rest: &[u8]) -> Result<Item, FileFault>
-        ensures { result ≡ held_in self.now head rest.now }
+        ensures is { result ≡ held_in self.now head rest.now }
+        ensures of_file { IfErr result (λ f. is_outside f ≡ false) }
     {
         let body = &rest[..front(rest)];
         match head.kind {
@@ -175,7 +184,8 @@ impl Section {
 
     /// The interface of this number, from 0.
     fn interface(&self, number: usize) -> Result<Interface, FileFault>
-        ensures { result ≡ described_at self.now number }
+        ensures is { result ≡ described_at self.now number }
+        ensures of_file { IfErr result (λ f. is_outside f ≡ false) }
     {
         match self.interfaces.get(number) {
             Some(interface) => Ok(*interface),

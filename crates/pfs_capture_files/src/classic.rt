@@ -1,6 +1,7 @@
 //! The header of a pcap file, and its records.
 
-ghost use Rattle.std.specs.Prelude.{◌≡◌, ◌≤◌, IfOk, length};
+ghost use Rattle.std.specs.Prelude.{◌≡◌, ◌≤◌, false, IfErr, IfOk, length};
+ghost use Rattle.pfs_capture_files.specs.Faults.{is_outside};
 ghost use Rattle.pfs_capture_files.specs.Classic.{kept_in, lengths_of, record_frame};
 
 use crate::faults::FileFault;
@@ -32,7 +33,8 @@ pub struct FileHeader {
 /// Which length of a record is that of the bytes kept, in a file of this version. It returns `FileFault::Version` for a
 /// version that is not read.
 pub fn lengths_of(major: u16, minor: u16) -> Result<Lengths, FileFault>
-    ensures { result ≡ lengths_of major minor }
+    ensures is { result ≡ lengths_of major minor }
+    ensures of_file { IfErr result (λ f. is_outside f ≡ false) }
 {
     match (major, minor) {
         (2, 4) => Ok(Lengths::KeptFirst),
@@ -46,6 +48,7 @@ pub fn lengths_of(major: u16, minor: u16) -> Result<Lengths, FileFault>
 pub fn record_frame(header: FileHeader, head: &[u8]) -> Result<Frame, FileFault>
     ensures is { result ≡ record_frame header head.now }
     ensures few { IfOk result (λ f. f.count ≤ 262144) }
+    ensures of_file { IfErr result (λ f. is_outside f ≡ false) }
 {
     if head.len() < 16 {
         return Err(FileFault::Cut);

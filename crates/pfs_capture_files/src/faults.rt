@@ -23,7 +23,7 @@ pub enum FileFault {
     Interfaces,
     /// The moments of an interface are finer than a second can be cut into 2^64 parts.
     Resolution,
-    /// A read failed.
+    /// A read failed, or all reads of its bound are made.
     Read,
     /// Memory was refused.
     Memory,

@@ -1,7 +1,9 @@
 //! The two forms of capture files.
 
-ghost use Rattle.std.specs.Prelude.{◌≡◌, ◌≤◌, ℕ, List, Some, length};
+ghost use Rattle.std.specs.Prelude.{◌≡◌, ◌≤◌, false, ℕ, List, Some, Err, IfErr, length};
+ghost use Rattle.pfs_cli_streams.specs.Feeds.{unread};
 ghost use Rattle.pfs_capture_files.specs.declared.forms.Form.TheVariants as form;
+ghost use Rattle.pfs_capture_files.specs.Faults.{HasFailed, is_outside};
 ghost use Rattle.pfs_capture_files.specs.Forms.{Begins, ReadsItem, block_turn, blocks_start, classic_form, classic_start, frame_turn, record_turn, rest_turn, start_of, start_of_magic, start_of_version, turn_of, what_begins};
 
 use crate::blocks::{BlockHead, SECTION, Section, block_head};
@@ -10,6 +12,7 @@ use crate::faults::FileFault;
 use crate::filling::fill;
 use crate::frames::{Frame, Item};
 use crate::orders::{Order, read_u16, read_u32};
+use pfs_cli_streams::Feed;
 use std::alloc::Global;
 use std::io::Read;
 
@@ -37,10 +40,11 @@ enum Start {
 /// `FileFault::Memory` where memory was refused. (pcap, section 4; pcapng, section 4.1)
 pub fn read_start<R: Read>(
     alloc: Global,
-    reader: &mut R,
+    reader: &mut Feed<R>,
     buffer: &mut Vec<u8>,
 ) -> Result<Form, FileFault>
-    ensures { (xs : List ℕ) → R.remaining reader.old ≡ Some xs → Begins (start_of xs) result (R.remaining reader.new) }
+    ensures is { (xs : List ℕ) → unread R.remaining reader.old ≡ Some xs → Begins (start_of xs) result (unread R.remaining reader.new) }
+    ensures read { result ≡ Err FileFault.Read → HasFailed reader.new }
 {
     fill(reader, buffer, 12)?;
     match what_begins(buffer)? {
@@ -57,11 +61,12 @@ pub fn read_start<R: Read>(
 /// `FileFault::Read` where a read failed, and `FileFault::Memory` where memory was refused; then nothing more can be
 /// read. (pcap, section 5; pcapng, section 3.1)
 pub fn read_item<R: Read>(
-    reader: &mut R,
+    reader: &mut Feed<R>,
     buffer: &mut Vec<u8>,
     form: &mut Form,
 ) -> Result<Item, FileFault>
-    ensures { (xs : List ℕ) → R.remaining reader.old ≡ Some xs → ReadsItem (turn_of form.old xs) result form.new buffer.new.items (R.remaining reader.new) }
+    ensures is { (xs : List ℕ) → unread R.remaining reader.old ≡ Some xs → ReadsItem (turn_of form.old xs) result form.new buffer.new.items (unread R.remaining reader.new) }
+    ensures read { result ≡ Err FileFault.Read → HasFailed reader.new }
 {
     match form {
         Form::Classic(header) => next_record(reader, buffer, *header),
@@ -70,7 +75,8 @@ pub fn read_item<R: Read>(
 }
 
 fn what_begins(head: &[u8]) -> Result<Start, FileFault>
-    ensures { result ≡ what_begins head.now }
+    ensures is { result ≡ what_begins head.now }
+    ensures of_file { IfErr result (λ f. is_outside f ≡ false) }
 {
     if head.is_empty() {
         return Err(FileFault::Empty);
@@ -84,7 +90,8 @@ fn what_begins(head: &[u8]) -> Result<Start, FileFault>
 /// What a file is by the number that it begins with, and its first twelve bytes.
 fn start_of_magic(magic: u32, head: &[u8]) -> Result<Start, FileFault>
     requires { 12 ≤ length head.now }
-    ensures { result ≡ start_of_magic magic head.now }
+    ensures is { result ≡ start_of_magic magic head.now }
+    ensures of_file { IfErr result (λ f. is_outside f ≡ false) }
 {
     match magic {
         0xa1b2_c3d4 | 0xa1b2_3c4d => start_of_version(Order::Big, head),
@@ -98,7 +105,8 @@ fn start_of_magic(magic: u32, head: &[u8]) -> Result<Start, FileFault>
 /// How a pcap file begins by its version, which follows its first number.
 fn start_of_version(order: Order, head: &[u8]) -> Result<Start, FileFault>
     requires { 12 ≤ length head.now }
-    ensures { result ≡ start_of_version order head.now }
+    ensures is { result ≡ start_of_version order head.now }
+    ensures of_file { IfErr result (λ f. is_outside f ≡ false) }
 {
     let lengths = lengths_of(read_u16(order, head, 4), read_u16(order, head, 6))?;
     Ok(Start::Classic(order, lengths))
@@ -106,19 +114,21 @@ fn start_of_version(order: Order, head: &[u8]) -> Result<Start, FileFault>
 
 /// Reads the second half of a pcap file's header.
 fn start_classic<R: Read>(
-    reader: &mut R,
+    reader: &mut Feed<R>,
     buffer: &mut Vec<u8>,
     order: Order,
     lengths: Lengths,
 ) -> Result<Form, FileFault>
-    ensures { (xs : List ℕ) → R.remaining reader.old ≡ Some xs → Begins (classic_start order lengths xs) result (R.remaining reader.new) }
+    ensures is { (xs : List ℕ) → unread R.remaining reader.old ≡ Some xs → Begins (classic_start order lengths xs) result (unread R.remaining reader.new) }
+    ensures read { result ≡ Err FileFault.Read → HasFailed reader.new }
 {
     fill(reader, buffer, 12)?;
     classic_form(order, lengths, buffer)
 }
 
 fn classic_form(order: Order, lengths: Lengths, rest: &[u8]) -> Result<Form, FileFault>
-    ensures { result ≡ classic_form order lengths rest.now }
+    ensures is { result ≡ classic_form order lengths rest.now }
+    ensures of_file { IfErr result (λ f. is_outside f ≡ false) }
 {
     if rest.len() < 12 {
         return Err(FileFault::Cut);
@@ -134,10 +144,11 @@ fn classic_form(order: Order, lengths: Lengths, rest: &[u8]) -> Result<Form, Fil
 /// Reads what follows the first twelve bytes of a section's block.
 fn start_blocks<R: Read>(
     alloc: Global,
-    reader: &mut R,
+    reader: &mut Feed<R>,
     buffer: &mut Vec<u8>,
 ) -> Result<Form, FileFault>
-    ensures { (xs : List ℕ) → R.remaining reader.old ≡ Some xs → Begins (blocks_start buffer.old.items xs) result (R.remaining reader.new) }
+    ensures is { (xs : List ℕ) → unread R.remaining reader.old ≡ Some xs → Begins (blocks_start buffer.old.items xs) result (unread R.remaining reader.new) }
+    ensures read { result ≡ Err FileFault.Read → HasFailed reader.new }
 {
     let head = block_head(Order::Big, buffer)?;
     let mut section = Section::new(alloc, head.order);
@@ -147,11 +158,12 @@ fn start_blocks<R: Read>(
 
 /// Reads a record of a pcap file.
 fn next_record<R: Read>(
-    reader: &mut R,
+    reader: &mut Feed<R>,
     buffer: &mut Vec<u8>,
     header: FileHeader,
 ) -> Result<Item, FileFault>
-    ensures { (xs : List ℕ) → R.remaining reader.old ≡ Some xs → ReadsItem (record_turn header xs) result (form.Classic header) buffer.new.items (R.remaining reader.new) }
+    ensures is { (xs : List ℕ) → unread R.remaining reader.old ≡ Some xs → ReadsItem (record_turn header xs) result (form.Classic header) buffer.new.items (unread R.remaining reader.new) }
+    ensures read { result ≡ Err FileFault.Read → HasFailed reader.new }
 {
     fill(reader, buffer, 16)?;
     if buffer.is_empty() {
@@ -163,13 +175,14 @@ fn next_record<R: Read>(
 
 /// Reads the bytes of a record whose header is read.
 fn read_frame<R: Read>(
-    reader: &mut R,
+    reader: &mut Feed<R>,
     buffer: &mut Vec<u8>,
     header: FileHeader,
     frame: Frame,
 ) -> Result<Item, FileFault>
     requires { frame.count ≤ 524288 }
-    ensures { (xs : List ℕ) → R.remaining reader.old ≡ Some xs → ReadsItem (frame_turn header frame xs) result (form.Classic header) buffer.new.items (R.remaining reader.new) }
+    ensures is { (xs : List ℕ) → unread R.remaining reader.old ≡ Some xs → ReadsItem (frame_turn header frame xs) result (form.Classic header) buffer.new.items (unread R.remaining reader.new) }
+    ensures read { result ≡ Err FileFault.Read → HasFailed reader.new }
 {
     fill(reader, buffer, frame.count)?;
     if buffer.len() < frame.count {
@@ -180,11 +193,12 @@ fn read_frame<R: Read>(
 
 /// Reads a block of a pcapng file.
 fn next_block<R: Read>(
-    reader: &mut R,
+    reader: &mut Feed<R>,
     buffer: &mut Vec<u8>,
     section: &mut Section,
 ) -> Result<Item, FileFault>
-    ensures { (xs : List ℕ) → R.remaining reader.old ≡ Some xs → ReadsItem (block_turn section.old xs) result (form.Blocks section.new) buffer.new.items (R.remaining reader.new) }
+    ensures is { (xs : List ℕ) → unread R.remaining reader.old ≡ Some xs → ReadsItem (block_turn section.old xs) result (form.Blocks section.new) buffer.new.items (unread R.remaining reader.new) }
+    ensures read { result ≡ Err FileFault.Read → HasFailed reader.new }
 {
     fill(reader, buffer, 12)?;
     if buffer.is_empty() {
@@ -196,13 +210,14 @@ fn next_block<R: Read>(
 
 /// Reads what follows the first twelve bytes of a block.
 fn read_rest<R: Read>(
-    reader: &mut R,
+    reader: &mut Feed<R>,
     buffer: &mut Vec<u8>,
     section: &mut Section,
     head: BlockHead,
 ) -> Result<Item, FileFault>
     requires { head.count ≤ 524288 }
-    ensures { (xs : List ℕ) → R.remaining reader.old ≡ Some xs → ReadsItem (rest_turn section.old head xs) result (form.Blocks section.new) buffer.new.items (R.remaining reader.new) }
+    ensures is { (xs : List ℕ) → unread R.remaining reader.old ≡ Some xs → ReadsItem (rest_turn section.old head xs) result (form.Blocks section.new) buffer.new.items (unread R.remaining reader.new) }
+    ensures read { result ≡ Err FileFault.Read → HasFailed reader.new }
 {
     fill(reader, buffer, head.count)?;
     if buffer.len() < head.count {

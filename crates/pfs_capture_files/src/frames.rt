@@ -1,6 +1,7 @@
 //! The frames that items of a file hold, and their moments.
 
-ghost use Rattle.std.specs.Prelude.{◌≡◌, ◌+◌, ◌≤◌, length};
+ghost use Rattle.std.specs.Prelude.{◌≡◌, ◌+◌, ◌≤◌, false, IfErr, length};
+ghost use Rattle.pfs_capture_files.specs.Faults.{is_outside};
 ghost use Rattle.pfs_capture_files.specs.Frames.{enhanced_frame, frame_moment, simple_frame, within_range};
 
 use crate::faults::FileFault;
@@ -50,7 +51,8 @@ pub enum Item {
 
 /// The frame of an enhanced packet block, of which this is what follows its interface, without its last length.
 pub fn enhanced_frame(order: Order, interface: &Interface, body: &[u8]) -> Result<Frame, FileFault>
-    ensures { result ≡ enhanced_frame order interface.now body.now }
+    ensures is { result ≡ enhanced_frame order interface.now body.now }
+    ensures of_file { IfErr result (λ f. is_outside f ≡ false) }
 {
     if body.len() < 16 {
         return Err(FileFault::Block);
@@ -75,7 +77,8 @@ pub fn enhanced_frame(order: Order, interface: &Interface, body: &[u8]) -> Resul
 
 /// The frame of a simple packet block, of which this is what follows the frame's own length, without the block's last length.
 pub fn simple_frame(interface: &Interface, told: u32, body: &[u8]) -> Result<Frame, FileFault>
-    ensures { result ≡ simple_frame interface.now told body.now }
+    ensures is { result ≡ simple_frame interface.now told body.now }
+    ensures of_file { IfErr result (λ f. is_outside f ≡ false) }
 {
     let kept = if interface.kept == 0 {
         told

@@ -1,6 +1,7 @@
 //! The interfaces of a section.
 
-ghost use Rattle.std.specs.Prelude.{◌≡◌, ◌+◌, ◌<◌, ◌≤◌, ◌^◌, length};
+ghost use Rattle.std.specs.Prelude.{◌≡◌, ◌+◌, ◌<◌, ◌≤◌, ◌^◌, false, IfErr, length};
+ghost use Rattle.pfs_capture_files.specs.Faults.{is_outside};
 ghost use Rattle.pfs_capture_files.specs.Interfaces.{interface_of, offset_of, units_of, units_told};
 
 use crate::faults::FileFault;
@@ -22,7 +23,8 @@ pub struct Interface {
 
 /// The interface of this link type that a block describes, of which this is what follows the link type, without its last length.
 pub fn interface_of(order: Order, link: u16, body: &[u8]) -> Result<Interface, FileFault>
-    ensures { result ≡ interface_of order link body.now }
+    ensures is { result ≡ interface_of order link body.now }
+    ensures of_file { IfErr result (λ f. is_outside f ≡ false) }
 {
     if body.len() < 4 {
         return Err(FileFault::Block);
@@ -40,7 +42,8 @@ pub fn interface_of(order: Order, link: u16, body: &[u8]) -> Result<Interface, F
 
 /// How many units a second has: a million where no option says it.
 fn units_told(order: Order, body: &[u8]) -> Result<u64, FileFault>
-    ensures { result ≡ units_told order body.now }
+    ensures is { result ≡ units_told order body.now }
+    ensures of_file { IfErr result (λ f. is_outside f ≡ false) }
 {
     let wanted = Wanted { code: 9, size: 1 };
     match find_option(order, body, wanted, 4) {
@@ -52,7 +55,8 @@ fn units_told(order: Order, body: &[u8]) -> Result<u64, FileFault>
 /// How many units a second has, by the byte that says it.
 #[tactic(auto, using(crate::proofs::Powers::tens, crate::proofs::Powers::twos))]
 fn units_of(byte: u8) -> Result<u64, FileFault>
-    ensures { result ≡ units_of byte }
+    ensures is { result ≡ units_of byte }
+    ensures of_file { IfErr result (λ f. is_outside f ≡ false) }
 {
     if byte <= 19 {
         return Ok(10u64.pow(u32::from(byte)));

@@ -10,7 +10,7 @@ use clap::error::ErrorKind;
 use clap::{Arg, ArgAction, ArgMatches, Command, Error};
 use pfs_addr::parse_prefix;
 use pfs_addr_values::{IfName, Prefix};
-use pfs_capture::{Account, Sink, TraceStop, interface, status, write_trace};
+use pfs_capture::{Account, Feed, Sink, TraceStop, interface, status, write_trace};
 use std::alloc::{AllocError, Global};
 use std::env;
 use std::fs::File;
@@ -19,6 +19,9 @@ use std::process::ExitCode;
 
 /// What `--version` prints after the program's name.
 const VERSION: &str = "0.1.0";
+
+/// The most reads of a capture, more than a run can make.
+const READS: u64 = u64::MAX;
 
 fn main(rt: HostRuntime) -> ExitCode {
     ExitCode::from(run(&rt))
@@ -69,31 +72,38 @@ fn program<'a>(alloc: Global) -> Result<Command<'a>, AllocError> {
         .arg(capture(alloc))
 }
 
+/// An option of this name.
+fn option<'a>(alloc: Global, name: &'a str, action: ArgAction, help: &'a str) -> Arg<'a> {
+    Arg::new(alloc, name).long(name).action(action).help(help)
+}
+
 fn inside<'a>(alloc: Global) -> Arg<'a> {
-    Arg::new(alloc, "inside")
-        .long("inside")
-        .value_delimiter(',')
-        .action(ArgAction::Append)
-        .help(
-            "The networks behind the firewall, and its own addresses: a packet to them from elsewhere is in, one from them to elsewhere is out.",
-        )
+    option(
+        alloc,
+        "inside",
+        ArgAction::Append,
+        "The networks behind the firewall, and its own addresses: a packet to them from elsewhere is in, one from them to elsewhere is out.",
+    )
+    .value_delimiter(',')
 }
 
 fn interface_name<'a>(alloc: Global) -> Arg<'a> {
-    Arg::new(alloc, "interface")
-        .long("interface")
-        .action(ArgAction::Set)
-        .help("The interface of every record, em0 if it is not given.")
+    option(
+        alloc,
+        "interface",
+        ArgAction::Set,
+        "The interface of every record, em0 if it is not given.",
+    )
 }
 
 fn told<'a>(alloc: Global) -> Arg<'a> {
-    Arg::new(alloc, "told")
-        .long("told")
-        .value_name("FILE")
-        .action(ArgAction::Set)
-        .help(
-            "Of a log of pflog(4), writes there for each record its row, what pf did, and by which rule. A file of this name is replaced.",
-        )
+    option(
+        alloc,
+        "told",
+        ArgAction::Set,
+        "Of a log of pflog(4), writes there for each record its row, what pf did, and by which rule. A file of this name is replaced.",
+    )
+    .value_name("FILE")
 }
 
 fn capture<'a>(alloc: Global) -> Arg<'a> {
@@ -186,7 +196,7 @@ fn trace_into<R: Read, T: Write + Drop>(
         rt.alloc(),
         inside,
         ifname,
-        reader,
+        &mut Feed::new(reader, READS),
         &mut out,
         &mut told,
         &mut account,

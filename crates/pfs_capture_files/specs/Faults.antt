@@ -1,0 +1,15 @@
+-- The faults of a file, and of what is around it. (own)
+use Rattle.std.specs.Prelude.{◌⊎◌, ◌<◌, Bool, true, false}
+use Rattle.pfs_cli_streams.specs.Feeds.{FeedView, IsSpent, read_failures}
+use Rattle.pfs_capture_files.specs.declared.faults.FileFault.{FileFault}
+use Rattle.pfs_capture_files.specs.declared.faults.FileFault.TheVariants as fault
+
+-- a fault of what is around a file, and none of the file
+abbrev pub is_outside : FileFault → Bool
+is_outside fault.Read = true
+is_outside fault.Memory = true
+is_outside f = false
+
+-- a read of this reader failed, or all reads of its bound are made
+abbrev pub HasFailed : {R : Type 0} → FeedView R → Type 0
+HasFailed feed = (0 < read_failures feed) ⊎ IsSpent feed
