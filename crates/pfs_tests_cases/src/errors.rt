@@ -1,7 +1,6 @@
 //! Why a test has nothing to begin with.
 
 use pfs_conf::{Kind, LoadFault};
-use std::alloc::{AllocError, AllocFailed};
 
 /// Why packets, rules or events for a test could not be made.
 #[derive(Debug, Clone, Copy, PartialEq, Eq)]
@@ -12,18 +11,6 @@ pub enum CaseError {
     Unreadable,
 }
 
-impl From<AllocError> for CaseError {
-    fn from(_error: AllocError) -> CaseError {
-        CaseError::Memory
-    }
-}
-
-impl<T: Drop> From<AllocFailed<T>> for CaseError {
-    fn from(_error: AllocFailed<T>) -> CaseError {
-        CaseError::Memory
-    }
-}
-
 impl From<LoadFault> for CaseError {
     fn from(error: LoadFault) -> CaseError {
         match error.kind {
@@ -31,4 +18,9 @@ impl From<LoadFault> for CaseError {
             _ => CaseError::Unreadable,
         }
     }
+}
+
+/// What a call that grows something returned, with the value that was refused given up.
+pub fn grown<T, E: Drop>(answer: Result<T, E>) -> Result<T, CaseError> {
+    answer.map_err(|_| CaseError::Memory)
 }

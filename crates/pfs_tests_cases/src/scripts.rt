@@ -1,6 +1,6 @@
 //! The events of a case, with their outcomes.
 
-use crate::errors::CaseError;
+use crate::errors::{CaseError, grown};
 use crate::outcomes::outcome_of;
 use crate::packets::{ACK, FIN_ACK, RST, SYN, SYN_ACK, Sent, packet};
 use crate::rows::{Came, Row};
@@ -87,8 +87,7 @@ impl Script {
     }
 
     fn put(&mut self, time: u64, what: Arrival, outcome: Outcome) -> Result<(), CaseError> {
-        self.events.push(Event { time, what })?;
-        self.outcomes.push(outcome)?;
-        Ok(())
+        grown(self.events.push(Event { time, what }))?;
+        grown(self.outcomes.push(outcome))
     }
 }

@@ -1,6 +1,6 @@
 //! Rules texts that more than one crate of tests begins with.
 
-use crate::errors::CaseError;
+use crate::errors::{CaseError, grown};
 use pfs_conf::{Config, load};
 use std::alloc::Global;
 
@@ -49,7 +49,7 @@ pub const SHOWN: &[u8] =
 
 /// The configuration of two texts, one after the other.
 pub fn configured(alloc: Global, first: &str, rules: &str) -> Result<Config, CaseError> {
-    let mut text = Vec::from_slice(alloc, first.as_bytes())?;
-    text.extend_from_slice(rules.as_bytes())?;
+    let mut text = grown(Vec::from_slice(alloc, first.as_bytes()))?;
+    grown(text.extend_from_slice(rules.as_bytes()))?;
     Ok(load(alloc, &text)?)
 }

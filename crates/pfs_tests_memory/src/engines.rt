@@ -221,8 +221,9 @@ fn begin_for(rt: &HostRuntime, case: &Case, wanted: Outcome, call: &str) -> Resu
 fn step_each<S: Store>(rt: &HostRuntime, engine: &mut Engine<S>, case: &Case) -> Result<(), Stop> {
     let script = Script::of(rt.alloc(), case.rows)?;
     for (event, outcome) in script.events.iter().zip(&script.outcomes) {
-        if !step(rt, engine, case, event, *outcome)? {
-            step(rt, engine, case, event, *outcome)?;
+        let row = (event, *outcome);
+        if !step(rt, engine, case, row)? {
+            step(rt, engine, case, row)?;
         }
     }
     begin_free(rt, "what is held")?;
@@ -232,13 +233,14 @@ fn step_each<S: Store>(rt: &HostRuntime, engine: &mut Engine<S>, case: &Case) ->
     Ok(())
 }
 
+/// An event by one call, which has this outcome.
 fn step<S: Store>(
     rt: &HostRuntime,
     engine: &mut Engine<S>,
     case: &Case,
-    event: &Event,
-    wanted: Outcome,
+    row: (&Event, Outcome),
 ) -> Result<bool, Stop> {
+    let (event, wanted) = row;
     let taken = engine.taken();
     if !is_in_time(engine.last(), event.time) || taken >= RUN_LIMIT {
         return Err(Stop::Input);

@@ -141,9 +141,24 @@ fn tell_report(
     written: &[u8],
     report: &[u8],
 ) -> Result<bool, Stop> {
+    judge(
+        rt,
+        answer,
+        written == report,
+        are_first_lines(written, report),
+    )
+}
+
+/// Whether all was written; or, out of memory, whether what was written may be.
+fn judge(
+    rt: &HostRuntime,
+    answer: Result<(), ReplayFault>,
+    is_whole: bool,
+    is_front: bool,
+) -> Result<bool, Stop> {
     match answer {
-        Ok(()) => plain(rt, written == report),
-        Err(ReplayFault::Memory) => refused(rt, are_first_lines(written, report)),
+        Ok(()) => plain(rt, is_whole),
+        Err(ReplayFault::Memory) => refused(rt, is_front),
         Err(_) => wrong(rt),
     }
 }
@@ -181,7 +196,13 @@ fn check_one(rt: &HostRuntime) -> Result<bool, Stop> {
     begin(rt, "check")?;
     let answer = check(rt.alloc(), &mut rules, &mut out);
     end(rt)?;
-    tell_text(rt, answer, &out.into_inner(), COUNTS)
+    let written = out.into_inner();
+    judge(
+        rt,
+        answer,
+        written.as_slice() == COUNTS,
+        COUNTS.starts_with(&written),
+    )
 }
 
 fn print_one(rt: &HostRuntime) -> Result<bool, Stop> {
@@ -190,26 +211,23 @@ fn print_one(rt: &HostRuntime) -> Result<bool, Stop> {
     begin(rt, "print")?;
     let answer = print(rt.alloc(), &mut rules, &mut out);
     end(rt)?;
-    tell_text(rt, answer, &out.into_inner(), SHOWN)
+    let written = out.into_inner();
+    judge(
+        rt,
+        answer,
+        written.as_slice() == SHOWN,
+        SHOWN.starts_with(&written),
+    )
 }
 
 fn perform_one(rt: &HostRuntime, task: &Job, text: &[u8]) -> Result<bool, Stop> {
     let (answer, written) = performed(rt, "perform check or show", task, EVERYTHING, b"")?;
-    tell_text(rt, answer, &written, text)
-}
-
-/// The text; or, out of memory, a front of it.
-fn tell_text(
-    rt: &HostRuntime,
-    answer: Result<(), ReplayFault>,
-    written: &[u8],
-    text: &[u8],
-) -> Result<bool, Stop> {
-    match answer {
-        Ok(()) => plain(rt, written == text),
-        Err(ReplayFault::Memory) => refused(rt, text.starts_with(written)),
-        Err(_) => wrong(rt),
-    }
+    judge(
+        rt,
+        answer,
+        written.as_slice() == text,
+        text.starts_with(&written),
+    )
 }
 
 fn job_one(rt: &HostRuntime, row: &Words) -> Result<bool, Stop> {
