@@ -1,21 +1,16 @@
 -- What is reported of a rules text alone.
-use Rattle.std.proofs.Common.{◌∙◌, ◌≡◌, ◌≢◌, ◌++◌, ℕ, List, [], Option, Result, Ok, Err, refl, sym, ap, subst, inl, inr}
+use Rattle.std.proofs.Common.{◌∙◌, ◌≡◌, ◌≢◌, ◌++◌, ℕ, List, [], Option, Result, Ok, Err, refl, sym, subst, inl, inr}
 use Rattle.std.specs.Prelude.{OnOk, OnErr, IfErr}
 use Rattle.std.specs.Io.KnownBytes.{Appends}
 use Rattle.pfs_conf_values.specs.Configs.{Conf}
-use Rattle.pfs_conf.specs.Kinds.{no_memory}
 use Rattle.pfs_conf.specs.Reads.{Reads}
-use Rattle.pfs_conf.specs.Faults.{IsFault}
 use Rattle.pfs_conf.specs.declared.faults.LoadFault.{LoadFault}
 use Rattle.pfs_conf.specs.declared.kinds.Kind.{Kind}
 use Rattle.pfs_conf.specs.declared.kinds.Kind.TheVariants as kind
 use Rattle.pfs_cli.specs.declared.faults.ReplayFault.{ReplayFault}
 use Rattle.pfs_cli.specs.declared.faults.ReplayFault.TheVariants as fault
-use Rattle.pfs_cli_streams.specs.Kept.{KeepsEnough}
-use Rattle.pfs_cli.specs.Rules.{AreRefused}
 use Rattle.pfs_cli.specs.Refusing.{IsFeedFault, RefusesText, fault_by, fault_of}
 use Rattle.pfs_cli.specs.Checks.{Answers}
-use Rattle.pfs_cli.proofs.Replaying.{kept-refused}
 
 -- no fault of rules is one of writing
 pub refused-no_write : (f : LoadFault) → fault_of f ≢ fault.Write

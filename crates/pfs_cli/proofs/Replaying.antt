@@ -1,6 +1,6 @@
 -- From the records of a trace to a replay, and what is kept of a rules text.
-use Rattle.std.proofs.Common.{◌≡◌, ◌≢◌, ◌≤◌, ◌<◌, ◌∙◌, ◌++◌, ℕ, List, [], length, Option, Some, None, Bool, true, false, refl, sym, ap, subst, arith, inl, inr}
-use Rattle.std.specs.Prelude.{Result, Ok, Err, nat_lt}
+use Rattle.std.proofs.Common.{◌≡◌, ◌≢◌, ◌≤◌, ◌<◌, ◌∙◌, ℕ, List, [], length, Option, Some, None, Bool, true, false, refl, sym, ap, subst, arith, inl, inr}
+use Rattle.std.specs.Prelude.{Ok, Err, nat_lt}
 use Rattle.std.specs.Fmt.{option_append}
 use Rattle.std.specs.Io.KnownBytes.{Consumes}
 use Rattle.std.proofs.lemmas.Bool.Decides.{nat_tests}
@@ -97,44 +97,30 @@ kept-refused kept text f k (other, none, is) = (
   kept-fault kept text f other k is,
 )
 
--- also where memory was refused
-pub kept-refuses : (kept text : List ℕ) (f : ReplayFault) → KeepsEnough kept text → RefusesRules kept f → RefusesRules text f
-kept-refuses kept text (fault.Rules f) k told = kept-refused kept text f k told
-kept-refuses kept text (fault.Columns row) k told = absurd told
-kept-refuses kept text (fault.Field row column) k told = absurd told
-kept-refuses kept text (fault.TimeFell row) k told = absurd told
-kept-refuses kept text (fault.Table row) k told = absurd told
-kept-refuses kept text fault.TooManyRows k told = absurd told
-kept-refuses kept text fault.Read k told = absurd told
-kept-refuses kept text fault.Write k told = absurd told
-kept-refuses kept text fault.Memory k told = tt
-kept-refuses kept text fault.Endless k told = absurd told
+-- what holds of each fault that loading may report of a text
+by-refusal : (text : List ℕ) (P : ReplayFault → Type 0) → ((f : LoadFault) → AreRefused text f → P (fault.Rules f)) → P fault.Memory → (f : ReplayFault) → RefusesRules text f → P f
+by-refusal text P rules none_left (fault.Rules f) told = rules f told
+by-refusal text P rules none_left (fault.Columns row) told = absurd told
+by-refusal text P rules none_left (fault.Field row column) told = absurd told
+by-refusal text P rules none_left (fault.TimeFell row) told = absurd told
+by-refusal text P rules none_left (fault.Table row) told = absurd told
+by-refusal text P rules none_left fault.TooManyRows told = absurd told
+by-refusal text P rules none_left fault.Read told = absurd told
+by-refusal text P rules none_left fault.Write told = absurd told
+by-refusal text P rules none_left fault.Memory told = none_left
+by-refusal text P rules none_left fault.Endless told = absurd told
 
--- what loading refuses may be reported of the text
+-- it is reported of a text as of what is kept of it
+pub kept-refuses : (kept text : List ℕ) (f : ReplayFault) → KeepsEnough kept text → RefusesRules kept f → RefusesRules text f
+kept-refuses kept text f k = by-refusal kept (RefusesRules text) (λ g told. kept-refused kept text g k told) tt f
+
+-- it may be reported of the text
 pub rules-text : (text : List ℕ) (f : ReplayFault) → RefusesRules text f → RefusesText text f
-rules-text text (fault.Rules f) told = told
-rules-text text (fault.Columns row) told = absurd told
-rules-text text (fault.Field row column) told = absurd told
-rules-text text (fault.TimeFell row) told = absurd told
-rules-text text (fault.Table row) told = absurd told
-rules-text text fault.TooManyRows told = absurd told
-rules-text text fault.Read told = absurd told
-rules-text text fault.Write told = absurd told
-rules-text text fault.Memory told = tt
-rules-text text fault.Endless told = absurd told
+rules-text text = by-refusal text (RefusesText text) (λ g told. told) tt
 
 -- and ends a joined text before its trace
 pub refuses-halt : (text : List ℕ) (f : ReplayFault) → RefusesRules text f → IsHalt (halt.Fault f)
-refuses-halt text (fault.Rules f) told = tt
-refuses-halt text (fault.Columns row) told = absurd told
-refuses-halt text (fault.Field row column) told = absurd told
-refuses-halt text (fault.TimeFell row) told = absurd told
-refuses-halt text (fault.Table row) told = absurd told
-refuses-halt text fault.TooManyRows told = absurd told
-refuses-halt text fault.Read told = absurd told
-refuses-halt text fault.Write told = absurd told
-refuses-halt text fault.Memory told = tt
-refuses-halt text fault.Endless told = absurd told
+refuses-halt text = by-refusal text (λ g. IsHalt (halt.Fault g)) (λ g told. tt) tt
 
 -- rules that give no configuration leave nothing
 pub text-refused : (rs ts : List ℕ) (f : ReplayFault) → RefusesText rs f → Replays rs ts [] (Err f)

@@ -1,16 +1,17 @@
 -- What holds between two records of a run, and how a run ends.
 use borrow.Author.Tests.{clash}
 use Rattle.std.proofs.Common.{◌≡◌, ◌≤◌, ◌<◌, ◌+◌, ◌++◌, ◌∙◌, ℕ, List, [], ◌∷◌, length, take, drop, Option, Some, None, true, false, refl, sym, ap, arith, subst, append_assoc, length-append}
-use Rattle.std.specs.Prelude.{Result, Ok, Err, nat_lt}
+use Rattle.std.specs.Prelude.{Result, Ok, Err, nat_lt, option_map}
 use Rattle.std.proofs.lemmas.List.{append-nil, take-append-drop}
 use Rattle.std.proofs.Math.Seq.{take-append_seam}
 use Rattle.std.proofs.lemmas.Bool.Decides.{nat_tests}
 use Rattle.std.specs.Io.KnownBytes.{Appends, Keeps}
-use Rattle.csv.specs.Reading.{Reached, ReadRecord, Ready, ExplainsRead, source_of, stops_reader, default_config}
+use Rattle.csv.specs.Reading.{ChangesHeaders, Reached, ReadRecord, Ready, ExplainsRead, source_of, stops_reader, default_config, reader_state, strip_bom}
 use Rattle.csv.specs.declared.error.ErrorKind.{ErrorKind}
 use Rattle.csv.specs.declared.error.ErrorKind.TheVariants as kind
 use Rattle.csv.specs.Machine.{Read, next_record}
 use Rattle.csv.specs.declared.parser.State.{State}
+use Rattle.csv.specs.declared.parser.State.TheVariants as state
 use Rattle.csv.specs.declared.reader.Reader.{Reader}
 use Rattle.csv.specs.declared.reader.Trim.TheVariants as trim
 use Rattle.csv.proofs.ReadFacts.{rows-more, rows-end}
@@ -26,8 +27,9 @@ use Rattle.pfs_cli.specs.declared.records.Stop.TheVariants as stop
 use Rattle.pfs_cli_formats.specs.Events.{event_at, is_header}
 use Rattle.pfs_cli_formats.specs.Lines.{row_text}
 use Rattle.pfs_cli_formats.specs.Traces.{Fields, Trace, events_from, events_of, trace_of}
-use Rattle.pfs_cli_formats.specs.Reading.{records_left}
+use Rattle.pfs_cli_formats.specs.Reading.{records_left, records_of}
 use Rattle.pfs_cli_formats.specs.Reports.{lines_from, lines_of, end_line_of, report, report_of, AreFirstLines, BeginsReport}
+use Rattle.pfs_cli.specs.Headers.{ReadsHeader}
 use Rattle.pfs_cli.specs.Turns.{Tells, WritesLine, TakesEvent, TakesRecord}
 use Rattle.pfs_cli_formats.proofs.Rest.{records_left-more, records_left-end}
 use Rattle.pfs_cli_formats.proofs.Runs.{machine_after-more, lines_of-more, lines_of-none, outcomes-front, lines_from-front}
@@ -309,33 +311,39 @@ unfolding events_of
 events_of-none conf = refl
 
 -- the records of a source, where the first is the header
-pub trace-rest : {S : Type 0} (rem : S → Option (List ℕ)) (conf : Conf) (a b : Reader S) (f : Fields) (xs : List ℕ) → a.config ≡ default_config → source_of rem a ≡ Some xs → ReadRecord rem a b true f
-    → is_header f ≡ true → (z : List ℕ) × (source_of rem b ≡ Some z)
-    × (events_of conf (records_left default_config a.state xs) ≡ events_from conf 0 None (records_left default_config b.state z))
-trace-rest rem conf a b f xs config source r header =
+pub trace-rest : {S : Type 0} (rem : S → Option (List ℕ)) (a b : Reader S) (f : Fields) (xs : List ℕ) → a.config ≡ default_config → source_of rem a ≡ Some xs → ReadRecord rem a b true f
+    → is_header f ≡ true → ReadsHeader rem (records_left default_config a.state xs) b (Ok tt)
+trace-rest rem a b f xs config source r header =
     let (z, at_z, next) = read-more rem a b f xs config source r in
-    (z, at_z, rw next (events_of-header conf f (records_left default_config b.state z) header))
+    (z, at_z, λ conf. rw next (events_of-header conf f (records_left default_config b.state z) header))
 
--- a run of a trace whose header is not as it must be writes nothing
-no-header : (conf : Conf) (trace : Trace) (before : Option (List ℕ)) → trace ≡ ([], Some (fault.Columns 0)) → Ends conf trace before before (Err (stop.Fault (fault.Columns 0)))
-no-header conf trace before all = ([], Appends-nothing before, (ap (λ (q : Trace). q.1) all, rw (all, lines_of-none conf) refl))
+-- of a trace whose header is not as it must be nothing is written
+no-header : (conf : Conf) (trace : Trace) → trace ≡ ([], Some (fault.Columns 0)) → Tells conf trace [] (Err (stop.Fault (fault.Columns 0)))
+no-header conf trace all = (ap (λ (q : Trace). q.1) all, rw (all, lines_of-none conf) refl)
 
-pub ends-other : {S : Type 0} (rem : S → Option (List ℕ)) (conf : Conf) (before : Option (List ℕ)) (a b : Reader S) (f : Fields) (xs : List ℕ) → a.config ≡ default_config → source_of rem a ≡ Some xs → ReadRecord rem a b true f
-    → is_header f ≡ false → Ends conf (events_of conf (records_left default_config a.state xs)) before before (Err (stop.Fault (fault.Columns 0)))
-ends-other rem conf before a b f xs config source r header =
+pub told-other : {S : Type 0} (rem : S → Option (List ℕ)) (conf : Conf) (a b : Reader S) (f : Fields) (xs : List ℕ) → a.config ≡ default_config → source_of rem a ≡ Some xs → ReadRecord rem a b true f
+    → is_header f ≡ false → Tells conf (events_of conf (records_left default_config a.state xs)) [] (Err (stop.Fault (fault.Columns 0)))
+told-other rem conf a b f xs config source r header =
     let (z, at_z, next) = read-more rem a b f xs config source r in
-    no-header conf _ before (rw next (events_of-other conf f (records_left default_config b.state z) header))
+    no-header conf _ (rw next (events_of-other conf f (records_left default_config b.state z) header))
 
-pub ends-empty : {S : Type 0} (rem : S → Option (List ℕ)) (conf : Conf) (before : Option (List ℕ)) (a b : Reader S) (f : Fields) (xs : List ℕ) → a.config ≡ default_config → source_of rem a ≡ Some xs → ReadRecord rem a b false f
-    → Ends conf (events_of conf (records_left default_config a.state xs)) before before (Err (stop.Fault (fault.Columns 0)))
-ends-empty rem conf before a b f xs config source r =
-    no-header conf _ before (rw (read-end rem a b f xs config source r) (events_of-none conf))
+pub told-empty : {S : Type 0} (rem : S → Option (List ℕ)) (conf : Conf) (a b : Reader S) (f : Fields) (xs : List ℕ) → a.config ≡ default_config → source_of rem a ≡ Some xs → ReadRecord rem a b false f
+    → Tells conf (events_of conf (records_left default_config a.state xs)) [] (Err (stop.Fault (fault.Columns 0)))
+told-empty rem conf a b f xs config source r = no-header conf _ (rw (read-end rem a b f xs config source r) (events_of-none conf))
 
 -- a run under a configuration that is this one
 pub ends-under : (conf d : Conf) (fs : List Fields) (before after : Option (List ℕ)) (r : Result Unit Stop) → d ≡ conf → Ends d (events_of d fs) before after r → Ends conf (events_of conf fs) before after r
 ends-under conf d fs before after r same ends =
     let P : Conf → Type 0 = λ x. Ends x (events_of x fs) before after r in
     subst P same ends
+
+-- a reader at the start of a source, of which only the header row that is given was changed
+pub at-start : {S : Type 0} (rem : S → Option (List ℕ)) (src : S) (a b : Reader S) (xs : List ℕ) → rem src ≡ Some xs → source_of rem a ≡ option_map strip_bom (rem src) → reader_state a ≡ state.StartRecord
+    → ChangesHeaders a b → (source_of rem b ≡ Some (strip_bom xs)) × (records_left default_config (reader_state b) (strip_bom xs) ≡ records_of xs)
+at-start rem src a b xs e source start same = (
+  ap (source_of rem) same ∙ source ∙ ap (option_map strip_bom) e,
+  ap (λ (s : State). records_left default_config s (strip_bom xs)) (ap reader_state same ∙ start),
+)
 
 -- a run that stopped before the first record
 pub no-lines : (conf : Conf) (trace : Trace) → AreFirstLines conf trace []

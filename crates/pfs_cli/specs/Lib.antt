@@ -1,6 +1,7 @@
 pub mod Checks
 pub mod Faults
 pub mod Halting
+pub mod Headers
 pub mod Performing
 pub mod Refusing
 pub mod Replays

@@ -1,6 +1,6 @@
 //! The records of a trace, and a line for each, written before the next record is read.
 
-ghost use Rattle.std.specs.Prelude.{◌≡◌, Some, None, Ok, Err, ◌<◌, ◌≤◌, ◌+◌, ◌^◌, ℕ, List, true, false};
+ghost use Rattle.std.specs.Prelude.{◌≡◌, ◌≢◌, Some, None, OnOk, Ok, Err, ◌<◌, ◌≤◌, ◌+◌, ◌^◌, ℕ, List, true, false};
 ghost use Rattle.std.specs.Io.KnownBytes.{Appends};
 ghost use Rattle.csv.specs.Reading.{Ready, source_of, reader_trim, reader_config, reader_state, default_config, is_flexible, has_failed};
 ghost use Rattle.csv.specs.declared.reader.Trim.TheVariants as trim;
@@ -12,6 +12,7 @@ ghost use Rattle.std.specs.Option.{ForSome};
 ghost use Rattle.pfs_engine_machine.specs.Machine.{start, step};
 ghost use Rattle.pfs_engine_machine.specs.Runs.{MayCome};
 ghost use Rattle.pfs_cli_formats.specs.Reports.{end_line_of};
+ghost use Rattle.pfs_cli.specs.Headers.{ReadsHeader};
 ghost use Rattle.pfs_cli.specs.Turns.{Tells, WritesLine, TakesEvent, TakesRecord};
 ghost use Rattle.pfs_cli_formats.specs.Reading.{records_of, records_left};
 ghost use Rattle.pfs_cli_formats.specs.Traces.{events_of, events_from};
@@ -136,6 +137,33 @@ fn take_record<H: Store, W: Write>(
     }
 }
 
+/// Reads the header.
+fn read_header<S: Read>(reader: &mut Reader<S>, fields: &mut ByteRecord) -> Result<(), Stop>
+    requires plain { reader_trim reader.old ≡ trim.None }
+    requires ready { Ready reader.old }
+    requires config { reader_config reader.old ≡ default_config }
+    requires flexible { is_flexible reader.old ≡ true }
+    ensures plain { OnOk result (reader_trim reader.new ≡ trim.None) }
+    ensures ready { OnOk result (Ready reader.new) }
+    ensures config { OnOk result (reader_config reader.new ≡ default_config) }
+    ensures flexible { OnOk result (is_flexible reader.new ≡ true) }
+    ensures header { (xs : List ℕ) → source_of S.remaining reader.old ≡ Some xs →
+        ReadsHeader S.remaining (records_left default_config (reader_state reader.old) xs) reader.new result }
+    ensures source { result ≡ Err (Stop.Source) → has_failed reader.new ≡ true }
+    ensures writes_none { result ≢ Err (Stop.Write) }
+{
+    match reader.read_byte_record(fields) {
+        Ok(true) => {}
+        Ok(false) => return Err(Stop::Fault(TraceFault::Columns(0))),
+        Err(_) => return Err(Stop::Source),
+    }
+    if has_columns(fields) {
+        Ok(())
+    } else {
+        Err(Stop::Fault(TraceFault::Columns(0)))
+    }
+}
+
 /// Reads the records after the header, and writes the line of each before it reads the next.
 fn tell_rows<H: Store, S: Read, W: Write>(
     reader: &mut Reader<S>,
@@ -173,37 +201,6 @@ fn tell_rows<H: Store, S: Read, W: Write>(
     unreachable!()
 }
 
-/// Reads the header, and then the records.
-fn tell_trace<H: Store, S: Read, W: Write>(
-    reader: &mut Reader<S>,
-    fields: &mut ByteRecord,
-    engine: &mut Engine<H>,
-    line: &mut Vec<u8>,
-    out: &mut Sink<W>,
-) -> Result<(), Stop>
-    requires plain { reader_trim reader.old ≡ trim.None }
-    requires ready { Ready reader.old }
-    requires config { reader_config reader.old ≡ default_config }
-    requires flexible { is_flexible reader.old ≡ true }
-    requires first { engine.old.machine ≡ start engine.old.config }
-    requires taken { engine.old.taken ≡ 0 }
-    ensures tells { (xs : List ℕ) → source_of S.remaining reader.old ≡ Some xs →
-        ((t : List ℕ) × Appends (bytes_held W.contents out.old) (bytes_held W.contents out.new) t
-        × Tells engine.old.config (events_of engine.old.config (records_left default_config (reader_state reader.old) xs)) t result) }
-    ensures fails { result ≡ Err (Stop.Write) → 0 < failures_of out.new }
-    ensures source { result ≡ Err (Stop.Source) → has_failed reader.new ≡ true }
-{
-    match reader.read_byte_record(fields) {
-        Ok(true) => {}
-        Ok(false) => return Err(Stop::Fault(TraceFault::Columns(0))),
-        Err(_) => return Err(Stop::Source),
-    }
-    if !has_columns(fields) {
-        return Err(Stop::Fault(TraceFault::Columns(0)));
-    }
-    tell_rows(reader, fields, engine, line, out)
-}
-
 /// Reads the trace of `source`, and writes the line of each record before it reads the next, and
 /// the last line. Nothing is flushed.
 pub(crate) fn tell_records<H: Store, S: Read + Drop, W: Write>(
@@ -228,5 +225,8 @@ pub(crate) fn tell_records<H: Store, S: Read + Drop, W: Write>(
     }
     let mut fields = ByteRecord::new(alloc);
     let mut line = Vec::new(alloc);
-    tell_trace(&mut reader, &mut fields, engine, &mut line, out)
+    match read_header(&mut reader, &mut fields) {
+        Ok(()) => tell_rows(&mut reader, &mut fields, engine, &mut line, out),
+        Err(stop) => Err(stop),
+    }
 }

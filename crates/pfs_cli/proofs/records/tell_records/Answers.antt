@@ -1,10 +1,32 @@
--- Answer of tell_records: where memory for its reader is refused, nothing is written (`tells`).
-use Rattle.std.proofs.Common.{[]}
-use Rattle.pfs_cli_formats.specs.Traces.{events_of}
+-- Answers of tell_records: what is written where memory for its reader is refused, behind a header, and without one (`tells`).
+use Rattle.std.proofs.Common.{◌∙◌, List, [], Err, ap, rules, subst, sym}
+use Rattle.csv.specs.Reading.{ChangesHeaders, strip_bom}
+use Rattle.pfs_cli_formats.specs.Traces.{Fields, Trace, events_of}
 use Rattle.pfs_cli_formats.specs.Reading.{records_of}
-use Rattle.pfs_cli.proofs.Telling.{Appends-nothing, no-lines}
+use Rattle.pfs_cli.specs.Turns.{Tells}
+use Rattle.pfs_cli.proofs.Telling.{Appends-nothing, at-start, no-lines}
 use Rattle.pfs_cli.proofs.records.tell_records.Goals as goal
 
 pub returns-then-is_err-clause-tells : goal.returns-then-is_err-clause-tells
 returns-then-is_err-clause-tells g c xs e =
     ([], Appends-nothing _, no-lines c.args.engine.now.config (events_of c.args.engine.now.config (records_of xs)))
+
+pub returns-in-Ok-clause-tells : goal.returns-in-Ok-clause-tells
+returns-in-Ok-clause-tells g c xs e =
+    let conf = c.args.engine.now.config in
+    let reader = c.from_reader-reader in
+    let same : ChangesHeaders reader.result c.set_byte_headers.new.self = search rules in
+    let begun = at-start g.S.Read.remaining c.args.source reader.result c.set_byte_headers.new.self xs e reader.ensures.source reader.ensures.state same in
+    let (z, at_z, all) = c.in-Ok.ensures.header (strip_bom xs) begun.0 in
+    let (t, grown, told) = c.tell_rows.ensures.tells z at_z in
+    let P : Trace → Type 0 = λ trace. Tells conf trace t c.tell_rows.result in
+    (t, grown, subst P (sym (ap (events_of conf) (sym begun.1) ∙ all conf)) told)
+
+pub returns-clause-tells : goal.returns-clause-tells
+returns-clause-tells g c xs e =
+    let conf = c.args.engine.now.config in
+    let reader = c.from_reader-reader in
+    let same : ChangesHeaders reader.result c.set_byte_headers.new.self = search rules in
+    let begun = at-start g.S.Read.remaining c.args.source reader.result c.set_byte_headers.new.self xs e reader.ensures.source reader.ensures.state same in
+    let P : List Fields → Type 0 = λ records. Tells conf (events_of conf records) [] (Err c.in-Err.stop) in
+    ([], Appends-nothing _, subst P begun.1 (c.in-Err.ensures.header (strip_bom xs) begun.0 conf))

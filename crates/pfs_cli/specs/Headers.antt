@@ -1,0 +1,17 @@
+-- What the header of a trace leaves to be read. (own)
+use Rattle.std.specs.Prelude.{◌≡◌, ℕ, List, [], Option, Some, None, Result, Ok, Err}
+use Rattle.csv.specs.Reading.{default_config, reader_state, source_of}
+use Rattle.csv.specs.declared.reader.Reader.{Reader}
+use Rattle.pfs_conf_values.specs.Configs.{Conf}
+use Rattle.pfs_cli_formats.specs.Reading.{records_left}
+use Rattle.pfs_cli_formats.specs.Traces.{Fields, events_from, events_of}
+use Rattle.pfs_cli.specs.Turns.{Tells}
+use Rattle.pfs_cli.specs.declared.records.Stop.{Stop}
+
+-- of a trace with these records the reader is at those after the header, whose events are those of the trace; or the run ends so,
+-- and nothing is written
+abbrev pub ReadsHeader : {S : Type 0} → (S → Option (List ℕ)) → List Fields → Reader S → Result Unit Stop → Type 0
+ReadsHeader remaining records reader (Ok u) =
+    (xs : List ℕ) × (source_of remaining reader ≡ Some xs)
+    × ((conf : Conf) → events_of conf records ≡ events_from conf 0 None (records_left default_config (reader_state reader) xs))
+ReadsHeader remaining records reader (Err stop) = (conf : Conf) → Tells conf (events_of conf records) [] (Err stop)
