@@ -40,7 +40,7 @@ pub fn tallied(
 }
 
 /// Over each kind of store one by one, and as a run: the outcomes, and what is held in the end.
-pub fn tell(rt: &(impl Abort + AllocGlobal), first: &str, case: &Case) -> Result<(), Fail> {
+fn tell(rt: &(impl Abort + AllocGlobal), first: &str, case: &Case) -> Result<(), Fail> {
     let alloc = rt.alloc();
     let script = Script::of(alloc, case.rows)?;
     ends(rt, plain(alloc, first, case.rules)?, &script, case)?;
@@ -50,6 +50,14 @@ pub fn tell(rt: &(impl Abort + AllocGlobal), first: &str, case: &Case) -> Result
     steps(rt, indexed(alloc, first, case.rules)?, &script, case)?;
     runs(rt, plain(alloc, first, case.rules)?, &script, case)?;
     runs(rt, indexed(alloc, first, case.rules)?, &script, case)
+}
+
+/// Each case, after a first line of rules.
+pub fn tell_each(rt: &(impl Abort + AllocGlobal), first: &str, cases: &[Case]) -> Result<(), Fail> {
+    for case in cases {
+        tell(rt, first, case)?;
+    }
+    Ok(())
 }
 
 /// Lets time pass to a moment that is not before the last one.

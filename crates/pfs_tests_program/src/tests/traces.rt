@@ -16,11 +16,18 @@ pub struct Texts<'a> {
 
 /// The address of a source of IPv4, as a trace writes it.
 fn write_source(text: &mut String, source: Addr) -> Result<(), Fail> {
-    let Addr::V4([a, b, c, d]) = source else {
-        return Err("no source of IPv4".into());
-    };
+    let octets = octets_of(source)?;
+    let (a, b) = (octets[0], octets[1]);
+    let (c, d) = (octets[2], octets[3]);
     write!(text, "{a}.{b}.{c}.{d}")?;
     Ok(())
+}
+
+fn octets_of(source: Addr) -> Result<[u8; 4], Fail> {
+    match source {
+        Addr::V4(octets) => Ok(octets),
+        Addr::V6(_) => Err("no source of IPv4".into()),
+    }
 }
 
 /// A record of what the source sends, from its port to one of the server.
@@ -99,7 +106,7 @@ pub fn tell_texts(rt: &(impl Abort + AllocGlobal), texts: &Texts) -> Result<(), 
 }
 
 /// The report of a case, after a first line of rules.
-pub fn tell(rt: &(impl Abort + AllocGlobal), first: &str, case: &Case) -> Result<(), Fail> {
+fn tell(rt: &(impl Abort + AllocGlobal), first: &str, case: &Case) -> Result<(), Fail> {
     let mut trace = String::new(rt.alloc());
     let mut report = String::new(rt.alloc());
     let mut number = 1;
@@ -122,4 +129,12 @@ pub fn tell(rt: &(impl Abort + AllocGlobal), first: &str, case: &Case) -> Result
             report: &report,
         },
     )
+}
+
+/// The report of each case, after a first line of rules.
+pub fn tell_each(rt: &(impl Abort + AllocGlobal), first: &str, cases: &[Case]) -> Result<(), Fail> {
+    for case in cases {
+        tell(rt, first, case)?;
+    }
+    Ok(())
 }
