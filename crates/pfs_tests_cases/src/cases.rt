@@ -2,21 +2,7 @@
 
 use crate::packets::{A1, A2};
 use crate::rows::{Came, Case};
-use crate::texts::UNSCALED;
 use pfs_addr_values::Addr;
-
-/// All cases, each list with what goes before its rules: lives are shortened by load in the last one alone.
-pub const CASES: &[(&str, &[Case])] = &[
-    (UNSCALED, ADMISSIONS),
-    (UNSCALED, CONNECTIONS),
-    (UNSCALED, RATES),
-    (UNSCALED, KEPT),
-    (UNSCALED, OVERLOADS),
-    (UNSCALED, LIVES),
-    (UNSCALED, ROUNDS),
-    (UNSCALED, EXPIRIES),
-    ("", SCALED),
-];
 
 const A3: Addr = Addr::V4([198, 51, 100, 3]);
 
@@ -69,7 +55,7 @@ pub const THIRD_STATE: Case = Case {
 };
 
 /// The limits on states and on source nodes.
-const ADMISSIONS: &[Case] = &[
+pub const ADMISSIONS: &[Case] = &[
     THIRD_STATE,
     Case {
         shows: "max is asked before the limit of all states",
@@ -112,6 +98,10 @@ const ADMISSIONS: &[Case] = &[
         ],
         end: (3, 2, 0),
     },
+];
+
+/// What a refusal leaves, and rules that share source nodes.
+pub const REFUSALS: &[Case] = &[
     Case {
         shows: "a refusal for the limit of states makes no node",
         rules: "set limit { states 1, src-nodes 5 }\npass in proto udp all keep state (source-track rule)",
@@ -192,7 +182,7 @@ pub const SECOND_CONNECTION: Case = Case {
 };
 
 /// How many connections a source may have.
-const CONNECTIONS: &[Case] = &[
+pub const CONNECTIONS: &[Case] = &[
     SECOND_CONNECTION,
     Case {
         shows: "both limits are told",
@@ -205,7 +195,7 @@ const CONNECTIONS: &[Case] = &[
 const THREE_IN_TEN: &str = "pass in proto tcp to any port 80 keep state (max-src-conn-rate 3/10)";
 
 /// How many it may make in a time.
-const RATES: &[Case] = &[
+pub const RATES: &[Case] = &[
     Case {
         shows: "four connections at once are past a rate of three",
         rules: THREE_IN_TEN,
@@ -277,7 +267,7 @@ const ONE_IN_FOUR: &str = "set timeout { tcp.closed 0, src.track 0, interval 1 }
     pass in proto tcp to any port 80 keep state (max-src-conn-rate 1/4)";
 
 /// How long its score keeps its source node.
-const KEPT: &[Case] = &[
+pub const KEPT: &[Case] = &[
     Case {
         shows: "a node is kept as long as its score counts",
         rules: ONE_IN_FOUR,
@@ -349,7 +339,7 @@ pub const FLUSH_GLOBAL: Case = Case {
 };
 
 /// Sources that are put into overload tables.
-const OVERLOADS: &[Case] = &[
+pub const OVERLOADS: &[Case] = &[
     FLUSH,
     FLUSH_GLOBAL,
     Case {
@@ -420,7 +410,7 @@ const CLOSING: &str = "set timeout interval 1\npass in proto tcp to any port 80"
 const SINGLE: &str = "set timeout { udp.single 2, interval 1 }\npass in proto udp all";
 
 /// How long states and source nodes live.
-const LIVES: &[Case] = &[
+pub const LIVES: &[Case] = &[
     RETENTION,
     Case {
         shows: "one half of a closed connection was seen, and the state lives",
@@ -496,7 +486,7 @@ pub const FLOOD: Case = Case {
 };
 
 /// Purges in rounds.
-const ROUNDS: &[Case] = &[
+pub const ROUNDS: &[Case] = &[
     FLOOD,
     // four nodes may be held, and a slice examines three
     Case {
@@ -523,7 +513,7 @@ const ROUNDS: &[Case] = &[
 const EIGHT_OF_TEN: &str = "set limit states 10\nset timeout interval 1\npass in proto udp all";
 
 /// Lives that load shortens, by the adaptive timeouts as they are.
-const SCALED: &[Case] = &[
+pub const SCALED: &[Case] = &[
     Case {
         shows: "eight states of twelve live for two thirds",
         rules: EIGHT_OF_TEN,
@@ -561,7 +551,7 @@ const SCALED: &[Case] = &[
 // ---- records that take old entries out of a table
 
 /// Entries leave by their age: of the rules from the first event on, of a source from its packet on.
-const EXPIRIES: &[Case] = &[
+pub const EXPIRIES: &[Case] = &[
     Case {
         shows: "an entry of the rules counts from the first record, an added one from its packet, and a held one is not renewed",
         rules: "table <bad> { 203.0.113.9 }\n\

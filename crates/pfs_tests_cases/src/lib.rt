@@ -13,7 +13,8 @@ mod scripts;
 mod texts;
 
 pub use crate::cases::{
-    CASES, FLOOD, FLUSH, FLUSH_GLOBAL, RETENTION, SECOND_CONNECTION, THIRD_STATE,
+    ADMISSIONS, CONNECTIONS, EXPIRIES, FLOOD, FLUSH, FLUSH_GLOBAL, KEPT, LIVES, OVERLOADS, RATES,
+    REFUSALS, RETENTION, ROUNDS, SCALED, SECOND_CONNECTION, THIRD_STATE,
 };
 pub use crate::conditions::{are_allowed, is_in_order, is_in_time, may_come, may_expire};
 pub use crate::errors::CaseError;
