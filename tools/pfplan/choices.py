@@ -5,10 +5,11 @@ import re
 from collections.abc import Iterable, Sequence
 from dataclasses import dataclass, field
 
-from .interfaces import Location, Machine, Network, prefix_of, shown
+from .interfaces import Location, Machine, prefix_of, shown
 from .leftovers import Reason, Teller, beyond, harmless, telling
 from .syntax import Filter, Host, HostKind, Interface, Place, Port, State
 from .tables import TableMaker
+from .words import Network
 
 FAMILIES = {4: "inet", 6: "inet6"}
 NAME = re.compile(r"[A-Za-z0-9_.-]+")

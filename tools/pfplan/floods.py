@@ -14,7 +14,7 @@ from .errors import Status, Trouble
 from .inputs import HEADER
 from .outputs import whole_file
 from .progress import Progress
-from .words import Network, Parser, file, interface, network, number, one_of
+from .words import Address, Network, Parser, file, interface, network, number, one_of
 
 DESCRIPTION = """Writes a trace: a flood, and beside it users whose connections go on through it.
 
@@ -42,9 +42,8 @@ class Numbers:
 class Server:
     """What the flood and the users ask: an address and a port."""
 
-    address: str
+    address: Address
     port: int
-    version: int
 
 
 @dataclass(frozen=True)
@@ -78,7 +77,7 @@ class Plan:
             raise Trouble(f"--users-from: {self.users_origin} and {self.origin} overlap, so that nobody could tell users from the flood")
         asked = ([("--from", self.origin)] if is_flooded else []) + ([("--users-from", self.users_origin)] if self.users else [])
         for word, origin in asked:
-            if origin.version != self.server.version:
+            if origin.version != self.server.address.version:
                 raise Trouble(f"{word}: {origin} and {self.server.address} are of two families")
 
 
@@ -216,7 +215,7 @@ def server(text: str) -> Server:
         address = ipaddress.ip_address(found[1] or found[3])
     except ValueError:
         raise argparse.ArgumentTypeError(f"'{text}' is no address and port, as 192.0.2.1:80 or [2001:db8::1]:80") from None
-    return Server(str(address), int(found[2] or found[4]), address.version)
+    return Server(address, int(found[2] or found[4]))
 
 
 def add_words(parser: Parser) -> None:
@@ -252,7 +251,7 @@ def run(arguments: argparse.Namespace) -> int:
     """Runs the command."""
     if arguments.kind is None:
         raise Trouble(f"--kind: {', '.join(KINDS[:-1])} or {KINDS[-1]} is wanted")
-    is_six = arguments.to.version == 6
+    is_six = arguments.to.address.version == 6
     plan = Plan(
         arguments.kind, arguments.sources, arguments.origin or network("2001:db8:f::/64" if is_six else "203.0.113.0/24"), arguments.rate,
         arguments.begin, arguments.seconds if arguments.end is None else arguments.end, arguments.users,

@@ -5,8 +5,8 @@ import re
 from collections.abc import Iterable
 from dataclasses import dataclass, field
 
-Address = ipaddress.IPv4Address | ipaddress.IPv6Address
-Network = ipaddress.IPv4Network | ipaddress.IPv6Network
+from .words import Address, Network
+
 MODIFIERS = ("network", "broadcast", "peer", "0")
 _HEAD = re.compile(r"([A-Za-z0-9_.-]+): flags=[0-9a-f]+(?:<([A-Z0-9_,]*)>)?")
 

@@ -13,7 +13,7 @@ from .errors import Status, Trouble
 from .expansion import Expander, table_names, walk
 from .grammar import parse
 from .inputs import check_rules
-from .interfaces import Machine, Network, read_ifconfig, shown
+from .interfaces import Machine, read_ifconfig, shown
 from .leftovers import Leftover, Teller
 from .lexer import printable
 from .linking import Linker
@@ -36,7 +36,7 @@ class RuleOptions:
     """What the command line says of a text: macros, addresses and interfaces by name, and files for tables, anchors and ifconfig."""
 
     macros: tuple[tuple[str, str], ...] = ()
-    addresses: tuple[tuple[str, Network], ...] = ()
+    addresses: tuple[tuple[str, words.Network], ...] = ()
     interfaces: tuple[tuple[str, str], ...] = ()
     entries: tuple[tuple[str, Path], ...] = ()
     anchors: tuple[tuple[str, Path], ...] = ()
@@ -170,7 +170,7 @@ def _macro(text: str) -> tuple[str, str]:
     return name, value
 
 
-def _address(text: str) -> tuple[str, Network]:
+def _address(text: str) -> tuple[str, words.Network]:
     name, value = _pair(text)
     return name, words.network(value)
 

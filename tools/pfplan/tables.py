@@ -5,10 +5,11 @@ from collections.abc import Mapping
 from dataclasses import dataclass, field
 from pathlib import Path
 
-from .interfaces import Machine, Network, prefix_of, shown
+from .interfaces import Machine, prefix_of, shown
 from .leftovers import Teller, telling
 from .named_files import NamedFiles, read_text
 from .syntax import Host, HostKind, Table
+from .words import Network
 
 _COMMENT = re.compile(r"[#;].*")
 

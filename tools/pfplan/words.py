@@ -28,6 +28,7 @@ Status: 0 done; 1 a trace, a report or a capture is refused; 2 a word of the com
 refused; 4 reading or writing failed, or no memory; 70 pfsrc is not there or could not be built; 130 interrupted.
 pfplan is tested, not proved. tools/README.md says more."""
 
+Address = ipaddress.IPv4Address | ipaddress.IPv6Address
 Network = ipaddress.IPv4Network | ipaddress.IPv6Network
 
 

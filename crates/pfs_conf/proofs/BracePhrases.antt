@@ -13,7 +13,9 @@ use Rattle.pfs_conf_values.specs.declared.limits.LimitName.{LimitName}
 use Rattle.pfs_conf_values.specs.declared.limits.LimitName.TheVariants as limit
 use Rattle.pfs_conf_values.specs.declared.timeouts.TimeoutName.{TimeoutName}
 use Rattle.pfs_conf_settings.specs.Drafts.{Drafted, with_limit, with_timeout, is_defined}
-use Rattle.pfs_conf_settings.specs.Settings.{timeout_named, bounded_at, limit_statement, limit_by, set_limit_at, least_value, greatest_value, unkept, timeout_statement, time_by, time_at, lined_limit_at, lined_time_at, limits_by, limits_at, times_by, times_at, settings_by, settings_at}
+use Rattle.pfs_conf_settings.specs.declared.settings.Setting.{Setting}
+use Rattle.pfs_conf_settings.specs.declared.settings.Setting.TheVariants as variant
+use Rattle.pfs_conf_settings.specs.Settings.{timeout_named, bounded_at, limit_statement, limit_by, limit_at, least_value, greatest_value, unkept, timeout_statement, time_by, time_at, setting_at, lined_setting_at, statement_by, statement_at, settings_by, settings_at}
 use Rattle.pfs_conf_settings.specs.Tables.{sign_by, sign_at, again, entry_joined, entries_with, entry_by, entry_at, lined_entry_at, entries_by, braced_entries_at, unless, part_by, part_at, parts_at}
 use Rattle.pfs_conf_settings.specs.TableGrammar.{no_parts}
 use Rattle.pfs_conf_settings.specs.declared.tables.Parts.{Parts}
@@ -38,8 +40,8 @@ limit_acts lined d key.TableEntries = limited_acts lined limit.TableEntries d ke
 limit_acts lined d key.Frags = keeps_word lined lined key.Frags _ refl (keeps_chain (bounded_at lined 1 4294967295) (λ n. done d) (keeps_value lined 1 4294967295) (λ n. keeps_done d))
 limit_acts lined d _ = tt
 
-keeps_limit : (lined : Bool) (d : Drafted) → Keeps lined lined (set_limit_at lined d)
-unfolding set_limit_at
+keeps_limit : (lined : Bool) (d : Drafted) → Keeps lined lined (limit_at lined d)
+unfolding limit_at
 keeps_limit lined d = keeps_front (λ t. limit_by lined d t.key) (λ t. limit_acts lined d t.key)
 
 named_is_word : (k : Key) (name : TimeoutName) → timeout_named k ≡ Some name → is_word_key k ≡ true
@@ -80,33 +82,25 @@ keeps_time lined d = keeps_front (λ t. time_by lined d t.key) (λ t. time_acts 
 keeps_lines : {A : Type 0} (x : A) → Keeps true true (skipping (done x))
 keeps_lines x = keeps_skipping (done x) (keeps_done x)
 
-keeps_lined_limit : (d : Drafted) → Keeps true true (lined_limit_at d)
-unfolding lined_limit_at
-keeps_lined_limit d = keeps_skipping (chain (set_limit_at true d) (λ e. skipping (done e))) (keeps_chain (set_limit_at true d) (λ e. skipping (done e)) (keeps_limit true d) (λ e. keeps_lines e))
+keeps_setting : (s : Setting) (lined : Bool) (d : Drafted) → Keeps lined lined (setting_at s lined d)
+keeps_setting variant.Limit lined d = keeps_limit lined d
+keeps_setting variant.Timeout lined d = keeps_time lined d
 
-keeps_lined_time : (d : Drafted) → Keeps true true (lined_time_at d)
-unfolding lined_time_at
-keeps_lined_time d = keeps_skipping (chain (time_at true d) (λ e. skipping (done e))) (keeps_chain (time_at true d) (λ e. skipping (done e)) (keeps_time true d) (λ e. keeps_lines e))
+keeps_lined : (s : Setting) (d : Drafted) → Keeps true true (lined_setting_at s d)
+unfolding lined_setting_at
+keeps_lined s d = keeps_skipping (chain (setting_at s true d) (λ e. skipping (done e))) (keeps_chain (setting_at s true d) (λ e. skipping (done e)) (keeps_setting s true d) (λ e. keeps_lines e))
 
-limits_acts : (d : Drafted) (k : Key) → KeepsAct false false k (limits_by d k)
-limits_acts d key.OpenBrace = (refl, keeps_list lined_limit_at keeps_lined_limit d)
-limits_acts d _ = keeps_limit false d
+statement_acts : (s : Setting) (d : Drafted) (k : Key) → KeepsAct false false k (statement_by s d k)
+statement_acts s d key.OpenBrace = (refl, keeps_list (lined_setting_at s) (keeps_lined s) d)
+statement_acts s d _ = keeps_setting s false d
 
-keeps_limits : (d : Drafted) → Keeps false false (limits_at d)
-unfolding limits_at
-keeps_limits d = keeps_front (λ t. limits_by d t.key) (λ t. limits_acts d t.key)
-
-times_acts : (d : Drafted) (k : Key) → KeepsAct false false k (times_by d k)
-times_acts d key.OpenBrace = (refl, keeps_list lined_time_at keeps_lined_time d)
-times_acts d _ = keeps_time false d
-
-keeps_times : (d : Drafted) → Keeps false false (times_at d)
-unfolding times_at
-keeps_times d = keeps_front (λ t. times_by d t.key) (λ t. times_acts d t.key)
+keeps_statement : (s : Setting) (d : Drafted) → Keeps false false (statement_at s d)
+unfolding statement_at
+keeps_statement s d = keeps_front (λ t. statement_by s d t.key) (λ t. statement_acts s d t.key)
 
 settings_acts : (d : Drafted) (k : Key) → KeepsAct false false k (settings_by d k)
-settings_acts d key.Limit = (refl, keeps_limits d)
-settings_acts d key.Timeout = (refl, keeps_times d)
+settings_acts d key.Limit = (refl, keeps_statement variant.Limit d)
+settings_acts d key.Timeout = (refl, keeps_statement variant.Timeout d)
 settings_acts d _ = tt
 
 pub keeps_settings : (d : Drafted) → Keeps false false (settings_at d)

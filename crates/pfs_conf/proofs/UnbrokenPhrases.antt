@@ -35,7 +35,9 @@ use Rattle.pfs_conf_options.specs.declared.clauses.Options.{Options}
 use Rattle.pfs_conf_options.specs.declared.clauses.StateClause.{StateClause}
 use Rattle.pfs_conf_options.specs.declared.clauses.StateClause.TheVariants as state_clause
 use Rattle.pfs_conf_settings.specs.Settings as setting
-use Rattle.pfs_conf_settings.specs.Settings.{timeout_named, limit_statement, limit_by, set_limit_at, least_value, greatest_value, unkept, timeout_statement, time_by, time_at, lined_limit_at, lined_time_at, limits_by, limits_at, times_by, times_at, settings_by, settings_at}
+use Rattle.pfs_conf_settings.specs.declared.settings.Setting.{Setting}
+use Rattle.pfs_conf_settings.specs.declared.settings.Setting.TheVariants as variant
+use Rattle.pfs_conf_settings.specs.Settings.{timeout_named, limit_statement, limit_by, limit_at, least_value, greatest_value, unkept, timeout_statement, time_by, time_at, setting_at, lined_setting_at, statement_by, statement_at, settings_by, settings_at}
 use Rattle.pfs_conf_settings.specs.Tables as tables
 use Rattle.pfs_conf_settings.specs.Tables.{again, entry_joined, entries_with, entry_by, entry_at, lined_entry_at, entries_by, braced_entries_at, unless, part_by, part_at, parts_at}
 use Rattle.pfs_conf_settings.specs.TableGrammar.{no_parts}
@@ -386,32 +388,32 @@ unbroken_state = unbroken_front (λ t. state_by t.key) (λ t. state_acts t.key)
 
 -- ---- options
 
-unbroken_setting : (lined : Bool) (low high : ℕ) → Unbroken (setting.bounded_at lined low high)
+unbroken_bounded : (lined : Bool) (low high : ℕ) → Unbroken (setting.bounded_at lined low high)
 unfolding setting.bounded_at
-unbroken_setting true low high = unbroken_skipping (number_at low high) (unbroken_number low high)
-unbroken_setting false low high = unbroken_number low high
+unbroken_bounded true low high = unbroken_skipping (number_at low high) (unbroken_number low high)
+unbroken_bounded false low high = unbroken_number low high
 
 limited_acts : (lined : Bool) (name : LimitName) (d : Drafted) → UnbrokenAct (limit_statement lined name d)
-limited_acts lined name d = unbroken_chain (setting.bounded_at lined 1 4294967295) _ (unbroken_setting lined 1 4294967295) (λ n. unbroken_done (with_limit name n d))
+limited_acts lined name d = unbroken_chain (setting.bounded_at lined 1 4294967295) _ (unbroken_bounded lined 1 4294967295) (λ n. unbroken_done (with_limit name n d))
 
 limit_acts : (lined : Bool) (d : Drafted) (k : Key) → UnbrokenAct (limit_by lined d k)
 limit_acts lined d key.States = limited_acts lined limit.States d
 limit_acts lined d key.SrcNodes = limited_acts lined limit.SrcNodes d
 limit_acts lined d key.Tables = limited_acts lined limit.Tables d
 limit_acts lined d key.TableEntries = limited_acts lined limit.TableEntries d
-limit_acts lined d key.Frags = unbroken_chain (setting.bounded_at lined 1 4294967295) _ (unbroken_setting lined 1 4294967295) (λ n. unbroken_done d)
+limit_acts lined d key.Frags = unbroken_chain (setting.bounded_at lined 1 4294967295) _ (unbroken_bounded lined 1 4294967295) (λ n. unbroken_done d)
 limit_acts lined d _ = tt
 
-unbroken_limit : (lined : Bool) (d : Drafted) → Unbroken (set_limit_at lined d)
-unfolding set_limit_at
+unbroken_limit : (lined : Bool) (d : Drafted) → Unbroken (limit_at lined d)
+unfolding limit_at
 unbroken_limit lined d = unbroken_front (λ t. limit_by lined d t.key) (λ t. limit_acts lined d t.key)
 
 timed_acts : (lined : Bool) (d : Drafted) (o : Option TimeoutName) → UnbrokenAct (timeout_statement lined d o)
 timed_acts lined d None = tt
-timed_acts lined d (Some name) = unbroken_chain (setting.bounded_at lined (least_value name) (greatest_value name)) _ (unbroken_setting lined (least_value name) (greatest_value name)) (λ n. unbroken_done (with_timeout name n d))
+timed_acts lined d (Some name) = unbroken_chain (setting.bounded_at lined (least_value name) (greatest_value name)) _ (unbroken_bounded lined (least_value name) (greatest_value name)) (λ n. unbroken_done (with_timeout name n d))
 
 unkept_acts : (lined : Bool) (d : Drafted) → UnbrokenAct (unkept lined d)
-unkept_acts lined d = unbroken_chain (setting.bounded_at lined 0 2147483647) _ (unbroken_setting lined 0 2147483647) (λ n. unbroken_done d)
+unkept_acts lined d = unbroken_chain (setting.bounded_at lined 0 2147483647) _ (unbroken_bounded lined 0 2147483647) (λ n. unbroken_done d)
 
 time_acts : (lined : Bool) (d : Drafted) (k : Key) → UnbrokenAct (time_by lined d k)
 time_acts lined d key.Frag = unkept_acts lined d
@@ -427,33 +429,25 @@ unbroken_time lined d = unbroken_front (λ t. time_by lined d t.key) (λ t. time
 unbroken_lines_behind : (d : Drafted) → Unbroken (skipping (done d))
 unbroken_lines_behind d = unbroken_skipping (done d) (unbroken_done d)
 
-unbroken_lined_limit : (d : Drafted) → Unbroken (lined_limit_at d)
-unfolding lined_limit_at
-unbroken_lined_limit d = unbroken_skipping (chain (set_limit_at true d) (λ e. skipping (done e))) (unbroken_chain (set_limit_at true d) (λ e. skipping (done e)) (unbroken_limit true d) unbroken_lines_behind)
+unbroken_setting : (s : Setting) (lined : Bool) (d : Drafted) → Unbroken (setting_at s lined d)
+unbroken_setting variant.Limit lined d = unbroken_limit lined d
+unbroken_setting variant.Timeout lined d = unbroken_time lined d
 
-unbroken_lined_time : (d : Drafted) → Unbroken (lined_time_at d)
-unfolding lined_time_at
-unbroken_lined_time d = unbroken_skipping (chain (time_at true d) (λ e. skipping (done e))) (unbroken_chain (time_at true d) (λ e. skipping (done e)) (unbroken_time true d) unbroken_lines_behind)
+unbroken_lined : (s : Setting) (d : Drafted) → Unbroken (lined_setting_at s d)
+unfolding lined_setting_at
+unbroken_lined s d = unbroken_skipping (chain (setting_at s true d) (λ e. skipping (done e))) (unbroken_chain (setting_at s true d) (λ e. skipping (done e)) (unbroken_setting s true d) unbroken_lines_behind)
 
-limits_acts : (d : Drafted) (k : Key) → UnbrokenAct (limits_by d k)
-limits_acts d key.OpenBrace = unbroken_list closes_braces lined_limit_at unbroken_lined_limit d
-limits_acts d _ = unbroken_limit false d
+statement_acts : (s : Setting) (d : Drafted) (k : Key) → UnbrokenAct (statement_by s d k)
+statement_acts s d key.OpenBrace = unbroken_list closes_braces (lined_setting_at s) (unbroken_lined s) d
+statement_acts s d _ = unbroken_setting s false d
 
-unbroken_limits : (d : Drafted) → Unbroken (limits_at d)
-unfolding limits_at
-unbroken_limits d = unbroken_front (λ t. limits_by d t.key) (λ t. limits_acts d t.key)
-
-times_acts : (d : Drafted) (k : Key) → UnbrokenAct (times_by d k)
-times_acts d key.OpenBrace = unbroken_list closes_braces lined_time_at unbroken_lined_time d
-times_acts d _ = unbroken_time false d
-
-unbroken_times : (d : Drafted) → Unbroken (times_at d)
-unfolding times_at
-unbroken_times d = unbroken_front (λ t. times_by d t.key) (λ t. times_acts d t.key)
+unbroken_statement : (s : Setting) (d : Drafted) → Unbroken (statement_at s d)
+unfolding statement_at
+unbroken_statement s d = unbroken_front (λ t. statement_by s d t.key) (λ t. statement_acts s d t.key)
 
 settings_acts : (d : Drafted) (k : Key) → UnbrokenAct (settings_by d k)
-settings_acts d key.Limit = unbroken_limits d
-settings_acts d key.Timeout = unbroken_times d
+settings_acts d key.Limit = unbroken_statement variant.Limit d
+settings_acts d key.Timeout = unbroken_statement variant.Timeout d
 settings_acts d _ = tt
 
 pub unbroken_settings : (d : Drafted) → Unbroken (settings_at d)

@@ -1,5 +1,5 @@
 -- A draft that keeps the load rules of the whole text is a configuration.
-use Rattle.std.proofs.Common.{◌≡◌, ◌∙◌, ◌≤◌, ◌<◌, ◌+◌, ◌-◌, ◌*◌, ◌/◌, ◌^◌, ◌||◌, ◌&&◌, ◌==◌, ℕ, Bool, true, false, not, nat_lt, All, List, [], ◌∷◌, length, refl, ap, sym, arith, Option, Some, None, IfSome, unwrap_or}
+use Rattle.std.proofs.Common.{◌≡◌, ◌∙◌, ◌≤◌, ◌<◌, ◌+◌, ◌*◌, ◌/◌, ◌^◌, ◌||◌, ◌&&◌, ◌==◌, ℕ, Bool, true, false, not, nat_lt, All, List, [], ◌∷◌, length, refl, ap, sym, arith, Option, Some, None, IfSome, unwrap_or}
 use Rattle.std.specs.Prelude.{position, slice_index_or}
 use Rattle.std.specs.List.{IsDistinct, list_any, position_or_len}
 use Rattle.std.specs.Str.{bytes_eq}

@@ -9,8 +9,10 @@ use Rattle.pfs_conf_tokens.proofs.ReaderLaws.{closes_braces_before_end, online_l
 use Rattle.pfs_conf_values.specs.declared.limits.LimitName.{LimitName}
 use Rattle.pfs_conf_values.specs.declared.limits.LimitName.TheVariants as limit
 use Rattle.pfs_conf_values.specs.declared.timeouts.TimeoutName.{TimeoutName}
+use Rattle.pfs_conf_settings.specs.declared.settings.Setting.{Setting}
+use Rattle.pfs_conf_settings.specs.declared.settings.Setting.TheVariants as setting
 use Rattle.pfs_conf_settings.specs.Drafts.{Drafted, with_limit, with_timeout}
-use Rattle.pfs_conf_settings.specs.Settings.{timeout_named, bounded_at, limit_statement, limit_by, set_limit_at, least_value, greatest_value, unkept, timeout_statement, time_by, time_at, lined_limit_at, lined_time_at, limits_by, limits_at, times_by, times_at, settings_by, settings_at}
+use Rattle.pfs_conf_settings.specs.Settings.{timeout_named, bounded_at, limit_statement, limit_by, limit_at, least_value, greatest_value, unkept, timeout_statement, time_by, time_at, setting_at, lined_setting_at, statement_by, statement_at, settings_by, settings_at}
 
 -- ---- a pair of a name and a number
 
@@ -30,12 +32,12 @@ limit_taking lined d key.TableEntries = limited_taking lined limit.TableEntries 
 limit_taking lined d key.Frags = (refl, online_chain (bounded_at lined 1 4294967295) _ (online_value lined 1 4294967295) (λ n. online_done d))
 limit_taking lined d _ = tt
 
-pub online_limit : (lined : Bool) (d : Drafted) → Online across (set_limit_at lined d)
-unfolding set_limit_at
+pub online_limit : (lined : Bool) (d : Drafted) → Online across (limit_at lined d)
+unfolding limit_at
 online_limit lined d = online_taking (λ t. limit_by lined d t.key) (λ t. limit_taking lined d t.key)
 
-limit_shrinks : (lined : Bool) (d : Drafted) → Shrinks (set_limit_at lined d)
-unfolding set_limit_at
+limit_shrinks : (lined : Bool) (d : Drafted) → Shrinks (limit_at lined d)
+unfolding limit_at
 limit_shrinks lined d = front_shrinks across (λ t. limit_by lined d t.key) (λ t. limit_taking lined d t.key)
 
 named_before_end : (k : Key) (name : TimeoutName) → timeout_named k ≡ Some name → before_end k ≡ true
@@ -70,51 +72,39 @@ time_shrinks lined d = front_shrinks across (λ t. time_by lined d t.key) (λ t.
 online_behind : (d : Drafted) → Online across (skipping (done d))
 online_behind d = online_skipping (done d) (online_done d)
 
-pub online_lined_limit : (d : Drafted) → Online across (lined_limit_at d)
-unfolding lined_limit_at
-online_lined_limit d = online_skipping (chain (set_limit_at true d) (λ e. skipping (done e))) (online_chain (set_limit_at true d) (λ e. skipping (done e)) (online_limit true d) online_behind)
+online_setting : (s : Setting) (lined : Bool) (d : Drafted) → Online across (setting_at s lined d)
+online_setting setting.Limit lined d = online_limit lined d
+online_setting setting.Timeout lined d = online_time lined d
 
-pub lined_limit_shrinks : (d : Drafted) → Shrinks (lined_limit_at d)
-unfolding lined_limit_at
-lined_limit_shrinks d =
-    skipping_shrinks (chain (set_limit_at true d) (λ e. skipping (done e))) (chain_shrinks across (set_limit_at true d) (λ e. skipping (done e)) (limit_shrinks true d) online_behind)
+setting_shrinks : (s : Setting) (lined : Bool) (d : Drafted) → Shrinks (setting_at s lined d)
+setting_shrinks setting.Limit lined d = limit_shrinks lined d
+setting_shrinks setting.Timeout lined d = time_shrinks lined d
 
-pub next_limit_shrinks : (d : Drafted) → Shrinks (next_of lined_limit_at d)
-next_limit_shrinks d = next_shrinks lined_limit_at lined_limit_shrinks d
+online_lined : (s : Setting) (d : Drafted) → Online across (lined_setting_at s d)
+unfolding lined_setting_at
+online_lined s d = online_skipping (chain (setting_at s true d) (λ e. skipping (done e))) (online_chain (setting_at s true d) (λ e. skipping (done e)) (online_setting s true d) online_behind)
 
-pub online_lined_time : (d : Drafted) → Online across (lined_time_at d)
-unfolding lined_time_at
-online_lined_time d = online_skipping (chain (time_at true d) (λ e. skipping (done e))) (online_chain (time_at true d) (λ e. skipping (done e)) (online_time true d) online_behind)
+pub lined_shrinks : (s : Setting) (d : Drafted) → Shrinks (lined_setting_at s d)
+unfolding lined_setting_at
+lined_shrinks s d =
+    skipping_shrinks (chain (setting_at s true d) (λ e. skipping (done e))) (chain_shrinks across (setting_at s true d) (λ e. skipping (done e)) (setting_shrinks s true d) online_behind)
 
-pub lined_time_shrinks : (d : Drafted) → Shrinks (lined_time_at d)
-unfolding lined_time_at
-lined_time_shrinks d =
-    skipping_shrinks (chain (time_at true d) (λ e. skipping (done e))) (chain_shrinks across (time_at true d) (λ e. skipping (done e)) (time_shrinks true d) online_behind)
-
-pub next_time_shrinks : (d : Drafted) → Shrinks (next_of lined_time_at d)
-next_time_shrinks d = next_shrinks lined_time_at lined_time_shrinks d
+pub next_setting_shrinks : (s : Setting) (d : Drafted) → Shrinks (next_of (lined_setting_at s) d)
+next_setting_shrinks s d = next_shrinks (lined_setting_at s) (lined_shrinks s) d
 
 -- ---- whole statements
 
-limits_act : (d : Drafted) (k : Key) → OnlineAct across k (limits_by d k)
-limits_act d key.OpenBrace = (refl, online_list closes_braces lined_limit_at closes_braces_before_end lined_limit_shrinks online_lined_limit d)
-limits_act d _ = online_limit false d
+statement_act : (s : Setting) (d : Drafted) (k : Key) → OnlineAct across k (statement_by s d k)
+statement_act s d key.OpenBrace = (refl, online_list closes_braces (lined_setting_at s) closes_braces_before_end (lined_shrinks s) (online_lined s) d)
+statement_act s d _ = online_setting s false d
 
-pub online_limits : (d : Drafted) → Online across (limits_at d)
-unfolding limits_at
-online_limits d = online_front (λ t. limits_by d t.key) (λ t. limits_act d t.key)
-
-times_act : (d : Drafted) (k : Key) → OnlineAct across k (times_by d k)
-times_act d key.OpenBrace = (refl, online_list closes_braces lined_time_at closes_braces_before_end lined_time_shrinks online_lined_time d)
-times_act d _ = online_time false d
-
-pub online_times : (d : Drafted) → Online across (times_at d)
-unfolding times_at
-online_times d = online_front (λ t. times_by d t.key) (λ t. times_act d t.key)
+online_statement : (s : Setting) (d : Drafted) → Online across (statement_at s d)
+unfolding statement_at
+online_statement s d = online_front (λ t. statement_by s d t.key) (λ t. statement_act s d t.key)
 
 settings_act : (d : Drafted) (k : Key) → OnlineAct across k (settings_by d k)
-settings_act d key.Limit = (refl, online_limits d)
-settings_act d key.Timeout = (refl, online_times d)
+settings_act d key.Limit = (refl, online_statement setting.Limit d)
+settings_act d key.Timeout = (refl, online_statement setting.Timeout d)
 settings_act d _ = tt
 
 pub online_settings : (d : Drafted) → Online across (settings_at d)

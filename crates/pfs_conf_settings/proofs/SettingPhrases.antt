@@ -5,16 +5,18 @@ use Rattle.pfs_conf_tokens.specs.declared.keys.Key.TheVariants as key
 use Rattle.pfs_conf_tokens.specs.Tokens.{Tok, head}
 use Rattle.pfs_conf_tokens.specs.Reading.{rest, closes_braces, stay, act, chain, done, skipping}
 use Rattle.pfs_conf_tokens.specs.Keys.{ends_line}
-use Rattle.pfs_conf_tokens.specs.Grammar.{Word, skip_lines}
+use Rattle.pfs_conf_tokens.specs.Grammar.{Word, ListOf, skip_lines}
 use Rattle.pfs_conf_tokens.proofs.Laws.{ok_parts, chain_ok, not_refused}
 use Rattle.pfs_conf_tokens.proofs.ReaderLaws.{closes_braces_key, line_end_key, word_head, word_is, number_is, number_reads, list_is, list_reads, ReadsList, no_comma}
 use Rattle.pfs_conf_tokens.proofs.LineLaws.{skip_stays}
 use Rattle.pfs_conf_values.specs.declared.limits.LimitName.TheVariants as limit_name
 use Rattle.pfs_conf_values.specs.declared.timeouts.TimeoutName.{TimeoutName}
+use Rattle.pfs_conf_settings.specs.declared.settings.Setting.{Setting}
+use Rattle.pfs_conf_settings.specs.declared.settings.Setting.TheVariants as setting
 use Rattle.pfs_conf_settings.specs.Drafts.{Drafted, with_limit, with_timeout}
-use Rattle.pfs_conf_settings.specs.Settings.{timeout_named, bounded_at, limit_by, set_limit_at, least_value, greatest_value, timeout_statement, time_by, time_at, lined_limit_at, lined_time_at, limits_by, limits_at, times_by, times_at, settings_by, settings_at}
+use Rattle.pfs_conf_settings.specs.Settings.{timeout_named, bounded_at, limit_by, limit_at, least_value, greatest_value, timeout_statement, time_by, time_at, setting_at, lined_setting_at, statement_by, statement_at, settings_by, settings_at}
 use Rattle.pfs_conf_settings.specs.SettingGrammar.{ValueOf, plain, lined, LimitOf, states, src_nodes, tables, table_entries, frags, TimeOf, kept, frag, tsdiff, icmp_first, icmp_error, AmongLines, SettingOf, limit, limits, timeout, timeouts}
-use Rattle.pfs_conf_settings.proofs.SettingLaws.{lined_limit_shrinks, lined_time_shrinks}
+use Rattle.pfs_conf_settings.proofs.SettingLaws.{lined_shrinks}
 use Rattle.pfs_conf_settings.proofs.TimeoutKeys.{placed, named}
 
 -- ---- is
@@ -32,8 +34,8 @@ pair_is inside low high f ts e left h =
     let q = ok_parts (f c.0) e c.1 left c.3 in
     (c.0, subst (λ (z : List Tok). ValueOf low high inside ts c.0 z) q.1 (value_is inside low high ts c.0 c.1 c.2), q.0)
 
-pub limit_is : (inside : Bool) (d : Drafted) (ts : List Tok) (e : Drafted) (left : List Tok) → set_limit_at inside d ts ≡ Ok (e, left) → LimitOf inside d ts e left
-unfolding set_limit_at
+pub limit_is : (inside : Bool) (d : Drafted) (ts : List Tok) (e : Drafted) (left : List Tok) → limit_at inside d ts ≡ Ok (e, left) → LimitOf inside d ts e left
+unfolding limit_at
 limit_is inside d ts e left h = by_key (head ts).key refl h
   where
     by_key : (k : Key) → (head ts).key ≡ k → act (limit_by inside d k) ts ≡ Ok (e, left) → LimitOf inside d ts e left
@@ -62,43 +64,49 @@ time_is inside d ts e left h = by_key (head ts).key refl h
     by_key key.IcmpError g q = let p = pair_is inside 0 2147483647 (λ n. d) (rest ts) e left q in subst (λ (z : Drafted). TimeOf inside d ts z left) p.2 (icmp_error (word_is key.IcmpError ts g (λ r. cc)) p.1)
     by_key k g q = timed_is inside d ts e left (timeout_named k) (ap timeout_named g) q
 
-pub lined_limit_is : (d : Drafted) (ts : List Tok) (e : Drafted) (left : List Tok) → lined_limit_at d ts ≡ Ok (e, left) → (AmongLines (LimitOf true)) d ts e left
-unfolding lined_limit_at
-lined_limit_is d ts e left h =
-    let c = chain_ok (set_limit_at true d) (λ x. skipping (done x)) (skip_lines ts) e left h in
+-- the word of a setting, and the setting of the grammar
+abbrev word_of : Setting → Key
+word_of setting.Limit = key.Limit
+word_of setting.Timeout = key.Timeout
+
+abbrev OfSetting : Setting → Bool → Drafted → List Tok → Drafted → List Tok → Type 0
+OfSetting setting.Limit inside = LimitOf inside
+OfSetting setting.Timeout inside = TimeOf inside
+
+setting_is : (s : Setting) (inside : Bool) (d : Drafted) (ts : List Tok) (e : Drafted) (left : List Tok) → setting_at s inside d ts ≡ Ok (e, left) → OfSetting s inside d ts e left
+setting_is setting.Limit inside d ts e left h = limit_is inside d ts e left h
+setting_is setting.Timeout inside d ts e left h = time_is inside d ts e left h
+
+lined_is : (s : Setting) (d : Drafted) (ts : List Tok) (e : Drafted) (left : List Tok) → lined_setting_at s d ts ≡ Ok (e, left) → AmongLines (OfSetting s true) d ts e left
+unfolding lined_setting_at
+lined_is s d ts e left h =
+    let c = chain_ok (setting_at s true d) (λ x. skipping (done x)) (skip_lines ts) e left h in
     let q = ok_parts c.0 e (skip_lines c.1) left c.3 in
-    record { mid = c.1; item = subst (λ (z : Drafted). LimitOf true d (skip_lines ts) z c.1) q.0 (limit_is true d (skip_lines ts) c.0 c.1 c.2); behind = sym q.1 }
+    record { mid = c.1; item = subst (λ (z : Drafted). OfSetting s true d (skip_lines ts) z c.1) q.0 (setting_is s true d (skip_lines ts) c.0 c.1 c.2); behind = sym q.1 }
 
-pub lined_time_is : (d : Drafted) (ts : List Tok) (e : Drafted) (left : List Tok) → lined_time_at d ts ≡ Ok (e, left) → (AmongLines (TimeOf true)) d ts e left
-unfolding lined_time_at
-lined_time_is d ts e left h =
-    let c = chain_ok (time_at true d) (λ x. skipping (done x)) (skip_lines ts) e left h in
-    let q = ok_parts c.0 e (skip_lines c.1) left c.3 in
-    record { mid = c.1; item = subst (λ (z : Drafted). TimeOf true d (skip_lines ts) z c.1) q.0 (time_is true d (skip_lines ts) c.0 c.1 c.2); behind = sym q.1 }
+one_is : (s : Setting) {d e : Drafted} {ts a left : List Tok} → Word (word_of s) ts a → OfSetting s false d a e left → SettingOf d ts e left
+one_is setting.Limit w v = limit w v
+one_is setting.Timeout w v = timeout w v
 
-limits_are : (d : Drafted) (ts a : List Tok) (e : Drafted) (left : List Tok) → Word key.Limit ts a → limits_at d a ≡ Ok (e, left) → SettingOf d ts e left
-unfolding limits_at
-limits_are d ts a e left w h = by_key (head a).key refl h
+list_of : (s : Setting) {d e : Drafted} {ts a b left : List Tok} → Word (word_of s) ts a → Word key.OpenBrace a b → ListOf key.CloseBrace (AmongLines (OfSetting s true)) d b e left → SettingOf d ts e left
+list_of setting.Limit w o v = limits w o v
+list_of setting.Timeout w o v = timeouts w o v
+
+statement_is : (s : Setting) (d : Drafted) (ts a : List Tok) (e : Drafted) (left : List Tok) → Word (word_of s) ts a → statement_at s d a ≡ Ok (e, left) → SettingOf d ts e left
+unfolding statement_at
+statement_is s d ts a e left w h = by_key (head a).key refl h
   where
-    by_key : (k : Key) → (head a).key ≡ k → act (limits_by d k) a ≡ Ok (e, left) → SettingOf d ts e left
-    by_key key.OpenBrace g q = limits w (word_is key.OpenBrace a g (λ r. cc)) (list_is key.CloseBrace closes_braces (AmongLines (LimitOf true)) lined_limit_at closes_braces_key (λ r. cc) lined_limit_is d (rest a) e left q)
-    by_key _ g q = limit w (limit_is false d a e left q)
-
-times_are : (d : Drafted) (ts a : List Tok) (e : Drafted) (left : List Tok) → Word key.Timeout ts a → times_at d a ≡ Ok (e, left) → SettingOf d ts e left
-unfolding times_at
-times_are d ts a e left w h = by_key (head a).key refl h
-  where
-    by_key : (k : Key) → (head a).key ≡ k → act (times_by d k) a ≡ Ok (e, left) → SettingOf d ts e left
-    by_key key.OpenBrace g q = timeouts w (word_is key.OpenBrace a g (λ r. cc)) (list_is key.CloseBrace closes_braces (AmongLines (TimeOf true)) lined_time_at closes_braces_key (λ r. cc) lined_time_is d (rest a) e left q)
-    by_key _ g q = timeout w (time_is false d a e left q)
+    by_key : (k : Key) → (head a).key ≡ k → act (statement_by s d k) a ≡ Ok (e, left) → SettingOf d ts e left
+    by_key key.OpenBrace g q = list_of s w (word_is key.OpenBrace a g (λ r. cc)) (list_is key.CloseBrace closes_braces (AmongLines (OfSetting s true)) (lined_setting_at s) closes_braces_key (λ r. cc) (lined_is s) d (rest a) e left q)
+    by_key _ g q = one_is s w (setting_is s false d a e left q)
 
 pub settings_are : (d : Drafted) (ts : List Tok) (e : Drafted) (left : List Tok) → settings_at d ts ≡ Ok (e, left) → SettingOf d ts e left
 unfolding settings_at
 settings_are d ts e left h = by_key (head ts).key refl h
   where
     by_key : (k : Key) → (head ts).key ≡ k → act (settings_by d k) ts ≡ Ok (e, left) → SettingOf d ts e left
-    by_key key.Limit g q = limits_are d ts (rest ts) e left (word_is key.Limit ts g (λ r. cc)) q
-    by_key key.Timeout g q = times_are d ts (rest ts) e left (word_is key.Timeout ts g (λ r. cc)) q
+    by_key key.Limit g q = statement_is setting.Limit d ts (rest ts) e left (word_is key.Limit ts g (λ r. cc)) q
+    by_key key.Timeout g q = statement_is setting.Timeout d ts (rest ts) e left (word_is key.Timeout ts g (λ r. cc)) q
     by_key _ g q = absurd (not_refused _ _ _ q)
 
 -- ---- reads
@@ -108,8 +116,8 @@ unfolding bounded_at
 value_reads {low = low} {high = high} (plain w) = number_reads low high w
 value_reads {low = low} {high = high} (lined w) = number_reads low high w
 
-pub limit_reads : {inside : Bool} {d e : Drafted} {ts left : List Tok} → LimitOf inside d ts e left → set_limit_at inside d ts ≡ Ok (e, left)
-unfolding set_limit_at
+pub limit_reads : {inside : Bool} {d e : Drafted} {ts left : List Tok} → LimitOf inside d ts e left → limit_at inside d ts ≡ Ok (e, left)
+unfolding limit_at
 limit_reads (states w v) = let h = word_head w in rw (h.0, h.1, value_reads v) refl
 limit_reads (src_nodes w v) = let h = word_head w in rw (h.0, h.1, value_reads v) refl
 limit_reads (tables w v) = let h = word_head w in rw (h.0, h.1, value_reads v) refl
@@ -132,13 +140,13 @@ time_reads (tsdiff w v) = let h = word_head w in rw (h.0, h.1, value_reads v) re
 time_reads (icmp_first w v) = let h = word_head w in rw (h.0, h.1, value_reads v) refl
 time_reads (icmp_error w v) = let h = word_head w in rw (h.0, h.1, value_reads v) refl
 
-lined_limit_reads : {d e : Drafted} {ts left : List Tok} → (AmongLines (LimitOf true)) d ts e left → lined_limit_at d ts ≡ Ok (e, left)
-unfolding lined_limit_at
-lined_limit_reads {e = e} q = rw (limit_reads q.item) (ap (λ (z : List Tok). Ok (e, z)) (sym q.behind))
+setting_reads : (s : Setting) (inside : Bool) (d : Drafted) (ts : List Tok) (e : Drafted) (left : List Tok) → OfSetting s inside d ts e left → setting_at s inside d ts ≡ Ok (e, left)
+setting_reads setting.Limit inside d ts e left q = limit_reads q
+setting_reads setting.Timeout inside d ts e left q = time_reads q
 
-lined_time_reads : {d e : Drafted} {ts left : List Tok} → (AmongLines (TimeOf true)) d ts e left → lined_time_at d ts ≡ Ok (e, left)
-unfolding lined_time_at
-lined_time_reads {e = e} q = rw (time_reads q.item) (ap (λ (z : List Tok). Ok (e, z)) (sym q.behind))
+lined_reads : (s : Setting) (d : Drafted) (ts : List Tok) (e : Drafted) (left : List Tok) → AmongLines (OfSetting s true) d ts e left → lined_setting_at s d ts ≡ Ok (e, left)
+unfolding lined_setting_at
+lined_reads s d ts e left q = rw (setting_reads s true d (skip_lines ts) e q.mid q.item) (ap (λ (z : List Tok). Ok (e, z)) (sym q.behind))
 
 -- what begins a pair, after line ends or not
 abbrev Begins : Key → Type 0
@@ -163,6 +171,10 @@ time_begins (tsdiff w v) = rw (word_head w).0 (refl, refl, refl)
 time_begins (icmp_first w v) = rw (word_head w).0 (refl, refl, refl)
 time_begins (icmp_error w v) = rw (word_head w).0 (refl, refl, refl)
 
+setting_begins : (s : Setting) (inside : Bool) (d : Drafted) (ts : List Tok) (e : Drafted) (left : List Tok) → OfSetting s inside d ts e left → Begins (head ts).key
+setting_begins setting.Limit inside d ts e left q = limit_begins q
+setting_begins setting.Timeout inside d ts e left q = time_begins q
+
 line_end_begins : (k : Key) → ends_line k ≡ true → Begins k
 line_end_begins k e = subst Begins (sym (line_end_key k e)) (refl, refl, refl)
 
@@ -176,36 +188,32 @@ lined_begins ts h = go (ends_line (head ts).key) refl
 anything : Key → Bool
 anything k = true
 
-limits_readable : ReadsList key.CloseBrace closes_braces anything (AmongLines (LimitOf true)) lined_limit_at
+settings_readable : (s : Setting) → ReadsList key.CloseBrace closes_braces anything (AmongLines (OfSetting s true)) (lined_setting_at s)
 unfolding anything
-limits_readable = record { closes = refl; close_follows = refl; comma_goes = refl; comma_follows = refl; begins = λ {a} {b} {ts} {left} q. lined_begins ts (limit_begins q.item); reads = λ q f. lined_limit_reads q; shrinks = lined_limit_shrinks }
-
-times_readable : ReadsList key.CloseBrace closes_braces anything (AmongLines (TimeOf true)) lined_time_at
-unfolding anything
-times_readable = record { closes = refl; close_follows = refl; comma_goes = refl; comma_follows = refl; begins = λ {a} {b} {ts} {left} q. lined_begins ts (time_begins q.item); reads = λ q f. lined_time_reads q; shrinks = lined_time_shrinks }
+settings_readable s = record { closes = refl; close_follows = refl; comma_goes = refl; comma_follows = refl; begins = λ {a} {b} {ts} {left} q. lined_begins ts (setting_begins s true a (skip_lines ts) b q.mid q.item); reads = λ {a} {b} {ts} {left} q f. lined_reads s a ts b left q; shrinks = lined_shrinks s }
 
 -- what begins a pair is no brace
-limits_stay : (d : Drafted) {inside : Bool} {e : Drafted} {ts left : List Tok} → LimitOf inside d ts e left → limits_by d (head ts).key ≡ stay (set_limit_at false d)
-limits_stay d (states w v) = rw (word_head w).0 refl
-limits_stay d (src_nodes w v) = rw (word_head w).0 refl
-limits_stay d (tables w v) = rw (word_head w).0 refl
-limits_stay d (table_entries w v) = rw (word_head w).0 refl
-limits_stay d (frags w v) = rw (word_head w).0 refl
+limit_stays : (d : Drafted) {inside : Bool} {e : Drafted} {ts left : List Tok} → LimitOf inside d ts e left → statement_by setting.Limit d (head ts).key ≡ stay (limit_at false d)
+limit_stays d (states w v) = rw (word_head w).0 refl
+limit_stays d (src_nodes w v) = rw (word_head w).0 refl
+limit_stays d (tables w v) = rw (word_head w).0 refl
+limit_stays d (table_entries w v) = rw (word_head w).0 refl
+limit_stays d (frags w v) = rw (word_head w).0 refl
 
-named_stay : (d : Drafted) (k : Key) (name : TimeoutName) → timeout_named k ≡ Some name → times_by d k ≡ stay (time_at false d)
-named_stay d key.OpenBrace name e = absurd cc
-named_stay d _ name e = refl
+named_stays : (d : Drafted) (k : Key) (name : TimeoutName) → timeout_named k ≡ Some name → statement_by setting.Timeout d k ≡ stay (time_at false d)
+named_stays d key.OpenBrace name e = absurd cc
+named_stays d _ name e = refl
 
-times_stay : (d : Drafted) {inside : Bool} {e : Drafted} {ts left : List Tok} → TimeOf inside d ts e left → times_by d (head ts).key ≡ stay (time_at false d)
-times_stay d (kept {t = t} name e v) = named_stay d t.key name (named t.key name e)
-times_stay d (frag w v) = rw (word_head w).0 refl
-times_stay d (tsdiff w v) = rw (word_head w).0 refl
-times_stay d (icmp_first w v) = rw (word_head w).0 refl
-times_stay d (icmp_error w v) = rw (word_head w).0 refl
+time_stays : (d : Drafted) {inside : Bool} {e : Drafted} {ts left : List Tok} → TimeOf inside d ts e left → statement_by setting.Timeout d (head ts).key ≡ stay (time_at false d)
+time_stays d (kept {t = t} name e v) = named_stays d t.key name (named t.key name e)
+time_stays d (frag w v) = rw (word_head w).0 refl
+time_stays d (tsdiff w v) = rw (word_head w).0 refl
+time_stays d (icmp_first w v) = rw (word_head w).0 refl
+time_stays d (icmp_error w v) = rw (word_head w).0 refl
 
 pub settings_read : {d e : Drafted} {ts left : List Tok} → SettingOf d ts e left → settings_at d ts ≡ Ok (e, left)
-unfolding settings_at limits_at times_at
-settings_read {d = d} (limit w v) = let h = word_head w in rw (h.0, h.1, limits_stay d v) (limit_reads v)
-settings_read (limits w o v) = let h = word_head w in let i = word_head o in rw (h.0, h.1, i.0, i.1) (list_reads limits_readable v)
-settings_read {d = d} (timeout w v) = let h = word_head w in rw (h.0, h.1, times_stay d v) (time_reads v)
-settings_read (timeouts w o v) = let h = word_head w in let i = word_head o in rw (h.0, h.1, i.0, i.1) (list_reads times_readable v)
+unfolding settings_at statement_at
+settings_read {d = d} (limit w v) = let h = word_head w in rw (h.0, h.1, limit_stays d v) (limit_reads v)
+settings_read (limits w o v) = let h = word_head w in let i = word_head o in rw (h.0, h.1, i.0, i.1) (list_reads (settings_readable setting.Limit) v)
+settings_read {d = d} (timeout w v) = let h = word_head w in rw (h.0, h.1, time_stays d v) (time_reads v)
+settings_read (timeouts w o v) = let h = word_head w in let i = word_head o in rw (h.0, h.1, i.0, i.1) (list_reads (settings_readable setting.Timeout) v)

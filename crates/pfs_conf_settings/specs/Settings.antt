@@ -8,6 +8,8 @@ use Rattle.pfs_conf_values.specs.declared.limits.LimitName.{LimitName}
 use Rattle.pfs_conf_values.specs.declared.limits.LimitName.TheVariants as limit
 use Rattle.pfs_conf_values.specs.declared.timeouts.TimeoutName.{TimeoutName}
 use Rattle.pfs_conf_values.specs.declared.timeouts.TimeoutName.TheVariants as timeout
+use Rattle.pfs_conf_settings.specs.declared.settings.Setting.{Setting}
+use Rattle.pfs_conf_settings.specs.declared.settings.Setting.TheVariants as setting
 use Rattle.pfs_conf_settings.specs.Drafts.{Drafted, with_limit, with_timeout}
 use Rattle.pfs_conf_values.specs.Bounds.{least_timeout, greatest_timeout}
 use Rattle.pfs_conf_values.specs.Timeouts.{place_of}
@@ -49,8 +51,8 @@ limit_by inside d key.TableEntries = limit_statement inside limit.TableEntries d
 limit_by inside d key.Frags = take (chain (bounded_at inside 1 4294967295) (λ n. done d))
 limit_by inside d _ = refuse why.Plain
 
-unfoldable pub set_limit_at : Bool → Drafted → Reader Drafted
-set_limit_at inside d ts = on_front (λ t. limit_by inside d t.key) ts
+unfoldable pub limit_at : Bool → Drafted → Reader Drafted
+limit_at inside d ts = on_front (λ t. limit_by inside d t.key) ts
 
 -- the least and the greatest value of a timeout
 abbrev pub least_value : TimeoutName → ℕ
@@ -77,33 +79,27 @@ time_by inside d k = timeout_statement inside d (timeout_named k)
 unfoldable pub time_at : Bool → Drafted → Reader Drafted
 time_at inside d ts = on_front (λ t. time_by inside d t.key) ts
 
+-- a limit or a timeout
+abbrev pub setting_at : Setting → Bool → Drafted → Reader Drafted
+setting_at setting.Limit = limit_at
+setting_at setting.Timeout = time_at
+
 -- one of them among line ends
-unfoldable pub lined_limit_at : Drafted → Reader Drafted
-lined_limit_at d ts = skipping (chain (set_limit_at true d) (λ e. skipping (done e))) ts
+unfoldable pub lined_setting_at : Setting → Drafted → Reader Drafted
+lined_setting_at s d ts = skipping (chain (setting_at s true d) (λ e. skipping (done e))) ts
 
-unfoldable pub lined_time_at : Drafted → Reader Drafted
-lined_time_at d ts = skipping (chain (time_at true d) (λ e. skipping (done e))) ts
+-- one, or a list in braces
+abbrev pub statement_by : Setting → Drafted → Key → Act Drafted
+statement_by s d key.OpenBrace = take (list_all closes_braces (lined_setting_at s) d)
+statement_by s d _ = stay (setting_at s false d)
 
--- limits: one, or a list in braces
-abbrev pub limits_by : Drafted → Key → Act Drafted
-limits_by d key.OpenBrace = take (list_all closes_braces lined_limit_at d)
-limits_by d _ = stay (set_limit_at false d)
-
-unfoldable pub limits_at : Drafted → Reader Drafted
-limits_at d ts = on_front (λ t. limits_by d t.key) ts
-
--- timeouts: one, or a list in braces
-abbrev pub times_by : Drafted → Key → Act Drafted
-times_by d key.OpenBrace = take (list_all closes_braces lined_time_at d)
-times_by d _ = stay (time_at false d)
-
-unfoldable pub times_at : Drafted → Reader Drafted
-times_at d ts = on_front (λ t. times_by d t.key) ts
+unfoldable pub statement_at : Setting → Drafted → Reader Drafted
+statement_at s d ts = on_front (λ t. statement_by s d t.key) ts
 
 -- what follows `set`
 abbrev pub settings_by : Drafted → Key → Act Drafted
-settings_by d key.Limit = take (limits_at d)
-settings_by d key.Timeout = take (times_at d)
+settings_by d key.Limit = take (statement_at setting.Limit d)
+settings_by d key.Timeout = take (statement_at setting.Timeout d)
 settings_by d _ = refuse why.Setting
 
 unfoldable pub settings_at : Drafted → Reader Drafted

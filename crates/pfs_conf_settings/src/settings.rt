@@ -4,11 +4,20 @@ ghost use Rattle.std.specs.Prelude.{◌≡◌, ◌≤◌, Some, IfOk};
 ghost use Rattle.pfs_conf_tokens.specs.Reading.{closes_braces, act, number_at, until_all, next_of};
 ghost use Rattle.pfs_conf_tokens.specs.Giving.{Gives};
 ghost use Rattle.pfs_conf_settings.specs.Draws.{Draws};
-ghost use Rattle.pfs_conf_settings.specs.Settings.{timeout_named, bounded_at, least_value, greatest_value, limit_statement, timeout_statement, set_limit_at, time_at, lined_limit_at, lined_time_at, limits_at, times_at, settings_at};
+ghost use Rattle.pfs_conf_settings.specs.Settings.{timeout_named, bounded_at, least_value, greatest_value, limit_statement, timeout_statement, limit_at, time_at, setting_at, lined_setting_at, statement_at, settings_at};
 
 use crate::drafts::Draft;
 use pfs_conf_tokens::{Cursor, Key, Refusal, Why, number, skip_lines};
 use pfs_conf_values::{LimitName, TimeoutName};
+
+/// What a `set` statement sets.
+#[derive(Debug, Clone, Copy, PartialEq, Eq)]
+pub enum Setting {
+    /// `set limit`
+    Limit,
+    /// `set timeout`
+    Timeout,
+}
 
 /// Reads what follows the word `set`, up to the line end, which stays, and sets it: a later value replaces an earlier one.
 ///
@@ -24,49 +33,36 @@ pub fn read_settings(cursor: &mut Cursor, draft: &mut Draft) -> Result<(), Refus
     match cursor.key() {
         Key::Limit => {
             cursor.advance();
-            limits(cursor, draft)
+            statement(cursor, draft, Setting::Limit)
         }
         Key::Timeout => {
             cursor.advance();
-            times(cursor, draft)
+            statement(cursor, draft, Setting::Timeout)
         }
         _ => Err(Refusal::Stop(Why::Setting)),
     }
 }
 
-#[tactic(auto, unfolding(crate::specs::Settings::limits_at))]
-fn limits(cursor: &mut Cursor, draft: &mut Draft) -> Result<(), Refusal>
-    ensures { Draws result cursor.new draft.new (limits_at draft.old cursor.old) }
+/// One setting, or a list of them in braces.
+#[tactic(auto, unfolding(crate::specs::Settings::statement_at))]
+fn statement(cursor: &mut Cursor, draft: &mut Draft, setting: Setting) -> Result<(), Refusal>
+    ensures { Draws result cursor.new draft.new (statement_at setting draft.old cursor.old) }
 {
     match cursor.key() {
         Key::OpenBrace => {
             cursor.advance();
-            lined_limit(cursor, draft)?;
-            more_limits(cursor, draft)
+            lined_setting(cursor, draft, setting)?;
+            more_settings(cursor, draft, setting)
         }
-        _ => limit(cursor, draft, false),
+        _ => one_setting(cursor, draft, setting, false),
     }
 }
 
-#[tactic(auto, unfolding(crate::specs::Settings::times_at))]
-fn times(cursor: &mut Cursor, draft: &mut Draft) -> Result<(), Refusal>
-    ensures { Draws result cursor.new draft.new (times_at draft.old cursor.old) }
-{
-    match cursor.key() {
-        Key::OpenBrace => {
-            cursor.advance();
-            lined_time(cursor, draft)?;
-            more_times(cursor, draft)
-        }
-        _ => time(cursor, draft, false),
-    }
-}
-
-fn more_limits(cursor: &mut Cursor, draft: &mut Draft) -> Result<(), Refusal>
-    ensures { Draws result cursor.new draft.new (until_all closes_braces (next_of lined_limit_at) draft.old cursor.old) }
+fn more_settings(cursor: &mut Cursor, draft: &mut Draft, setting: Setting) -> Result<(), Refusal>
+    ensures { Draws result cursor.new draft.new (until_all closes_braces (next_of (lined_setting_at setting)) draft.old cursor.old) }
 {
     while !cursor.is_at_close_brace() {
-        if let Err(refusal) = next_limit(cursor, draft) {
+        if let Err(refusal) = next_setting(cursor, draft, setting) {
             return Err(refusal);
         }
     }
@@ -74,58 +70,43 @@ fn more_limits(cursor: &mut Cursor, draft: &mut Draft) -> Result<(), Refusal>
     Ok(())
 }
 
-fn more_times(cursor: &mut Cursor, draft: &mut Draft) -> Result<(), Refusal>
-    ensures { Draws result cursor.new draft.new (until_all closes_braces (next_of lined_time_at) draft.old cursor.old) }
+fn next_setting(cursor: &mut Cursor, draft: &mut Draft, setting: Setting) -> Result<(), Refusal>
+    ensures { Draws result cursor.new draft.new (next_of (lined_setting_at setting) draft.old cursor.old) }
 {
-    while !cursor.is_at_close_brace() {
-        if let Err(refusal) = next_time(cursor, draft) {
-            return Err(refusal);
-        }
+    cursor.take(Key::Comma);
+    lined_setting(cursor, draft, setting)
+}
+
+/// A setting among line ends.
+#[tactic(auto, unfolding(crate::specs::Settings::lined_setting_at))]
+fn lined_setting(cursor: &mut Cursor, draft: &mut Draft, setting: Setting) -> Result<(), Refusal>
+    ensures { Draws result cursor.new draft.new (lined_setting_at setting draft.old cursor.old) }
+{
+    skip_lines(cursor);
+    one_setting(cursor, draft, setting, true)?;
+    skip_lines(cursor);
+    Ok(())
+}
+
+/// A limit or a timeout: its name and its value.
+fn one_setting(
+    cursor: &mut Cursor,
+    draft: &mut Draft,
+    setting: Setting,
+    inside: bool,
+) -> Result<(), Refusal>
+    ensures { Draws result cursor.new draft.new (setting_at setting inside draft.old cursor.old) }
+{
+    match setting {
+        Setting::Limit => limit(cursor, draft, inside),
+        Setting::Timeout => time(cursor, draft, inside),
     }
-    cursor.advance();
-    Ok(())
-}
-
-fn next_limit(cursor: &mut Cursor, draft: &mut Draft) -> Result<(), Refusal>
-    ensures { Draws result cursor.new draft.new (next_of lined_limit_at draft.old cursor.old) }
-{
-    cursor.take(Key::Comma);
-    lined_limit(cursor, draft)
-}
-
-fn next_time(cursor: &mut Cursor, draft: &mut Draft) -> Result<(), Refusal>
-    ensures { Draws result cursor.new draft.new (next_of lined_time_at draft.old cursor.old) }
-{
-    cursor.take(Key::Comma);
-    lined_time(cursor, draft)
-}
-
-/// A limit among line ends.
-#[tactic(auto, unfolding(crate::specs::Settings::lined_limit_at))]
-fn lined_limit(cursor: &mut Cursor, draft: &mut Draft) -> Result<(), Refusal>
-    ensures { Draws result cursor.new draft.new (lined_limit_at draft.old cursor.old) }
-{
-    skip_lines(cursor);
-    limit(cursor, draft, true)?;
-    skip_lines(cursor);
-    Ok(())
-}
-
-/// A timeout among line ends.
-#[tactic(auto, unfolding(crate::specs::Settings::lined_time_at))]
-fn lined_time(cursor: &mut Cursor, draft: &mut Draft) -> Result<(), Refusal>
-    ensures { Draws result cursor.new draft.new (lined_time_at draft.old cursor.old) }
-{
-    skip_lines(cursor);
-    time(cursor, draft, true)?;
-    skip_lines(cursor);
-    Ok(())
 }
 
 /// A limit: its name and its value.
-#[tactic(auto, unfolding(crate::specs::Settings::set_limit_at))]
+#[tactic(auto, unfolding(crate::specs::Settings::limit_at))]
 fn limit(cursor: &mut Cursor, draft: &mut Draft, inside: bool) -> Result<(), Refusal>
-    ensures { Draws result cursor.new draft.new (set_limit_at inside draft.old cursor.old) }
+    ensures { Draws result cursor.new draft.new (limit_at inside draft.old cursor.old) }
 {
     match cursor.key() {
         Key::States => set_limit(cursor, draft, inside, LimitName::States),

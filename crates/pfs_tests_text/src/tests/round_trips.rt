@@ -13,25 +13,6 @@ const LIMITS: [LimitName; 4] = [
     LimitName::TableEntries,
 ];
 
-const TIMEOUTS: [TimeoutName; 16] = [
-    TimeoutName::TcpFirst,
-    TimeoutName::TcpOpening,
-    TimeoutName::TcpEstablished,
-    TimeoutName::TcpClosing,
-    TimeoutName::TcpFinwait,
-    TimeoutName::TcpClosed,
-    TimeoutName::UdpFirst,
-    TimeoutName::UdpSingle,
-    TimeoutName::UdpMultiple,
-    TimeoutName::OtherFirst,
-    TimeoutName::OtherSingle,
-    TimeoutName::OtherMultiple,
-    TimeoutName::SrcTrack,
-    TimeoutName::Interval,
-    TimeoutName::AdaptiveStart,
-    TimeoutName::AdaptiveEnd,
-];
-
 /// Each part of a rules text, in usual and in unusual spellings.
 const TEXTS: [&[u8]; 38] = [
     b"",
@@ -79,8 +60,9 @@ fn same_settings(rt: &impl Abort, one: &Config, other: &Config) {
     for name in LIMITS {
         same!(*rt; one.limit(name), other.limit(name));
     }
-    for name in TIMEOUTS {
-        same!(*rt; one.timeout(name), other.timeout(name));
+    for place in 0..16 {
+        let name = TimeoutName::at(place);
+        same!(*rt; one.timeout(name), other.timeout(name), name);
     }
 }
 
