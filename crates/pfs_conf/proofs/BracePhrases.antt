@@ -15,7 +15,7 @@ use Rattle.pfs_conf_values.specs.declared.timeouts.TimeoutName.{TimeoutName}
 use Rattle.pfs_conf_settings.specs.Drafts.{Drafted, with_limit, with_timeout, is_defined}
 use Rattle.pfs_conf_settings.specs.declared.settings.Setting.{Setting}
 use Rattle.pfs_conf_settings.specs.declared.settings.Setting.TheVariants as variant
-use Rattle.pfs_conf_settings.specs.Settings.{timeout_named, bounded_at, limit_statement, limit_by, limit_at, least_value, greatest_value, unkept, timeout_statement, time_by, time_at, setting_at, lined_setting_at, statement_by, statement_at, settings_by, settings_at}
+use Rattle.pfs_conf_settings.specs.Settings.{timeout_named, bounded_at, limit_statement, limit_by, limit_at, least_value, greatest_value, unkept, timeout_statement, time_by, time_at, setting_at, lined_setting_at, some_settings_by, some_settings_at, settings_by, settings_at}
 use Rattle.pfs_conf_settings.specs.Tables.{sign_by, sign_at, again, entry_joined, entries_with, entry_by, entry_at, lined_entry_at, entries_by, braced_entries_at, unless, part_by, part_at, parts_at}
 use Rattle.pfs_conf_settings.specs.TableGrammar.{no_parts}
 use Rattle.pfs_conf_settings.specs.declared.tables.Parts.{Parts}
@@ -90,17 +90,17 @@ keeps_lined : (s : Setting) (d : Drafted) → Keeps true true (lined_setting_at 
 unfolding lined_setting_at
 keeps_lined s d = keeps_skipping (chain (setting_at s true d) (λ e. skipping (done e))) (keeps_chain (setting_at s true d) (λ e. skipping (done e)) (keeps_setting s true d) (λ e. keeps_lines e))
 
-statement_acts : (s : Setting) (d : Drafted) (k : Key) → KeepsAct false false k (statement_by s d k)
-statement_acts s d key.OpenBrace = (refl, keeps_list (lined_setting_at s) (keeps_lined s) d)
-statement_acts s d _ = keeps_setting s false d
+some_settings_acts : (s : Setting) (d : Drafted) (k : Key) → KeepsAct false false k (some_settings_by s d k)
+some_settings_acts s d key.OpenBrace = (refl, keeps_list (lined_setting_at s) (keeps_lined s) d)
+some_settings_acts s d _ = keeps_setting s false d
 
-keeps_statement : (s : Setting) (d : Drafted) → Keeps false false (statement_at s d)
-unfolding statement_at
-keeps_statement s d = keeps_front (λ t. statement_by s d t.key) (λ t. statement_acts s d t.key)
+keeps_some_settings : (s : Setting) (d : Drafted) → Keeps false false (some_settings_at s d)
+unfolding some_settings_at
+keeps_some_settings s d = keeps_front (λ t. some_settings_by s d t.key) (λ t. some_settings_acts s d t.key)
 
 settings_acts : (d : Drafted) (k : Key) → KeepsAct false false k (settings_by d k)
-settings_acts d key.Limit = (refl, keeps_statement variant.Limit d)
-settings_acts d key.Timeout = (refl, keeps_statement variant.Timeout d)
+settings_acts d key.Limit = (refl, keeps_some_settings variant.Limit d)
+settings_acts d key.Timeout = (refl, keeps_some_settings variant.Timeout d)
 settings_acts d _ = tt
 
 pub keeps_settings : (d : Drafted) → Keeps false false (settings_at d)

@@ -37,7 +37,7 @@ use Rattle.pfs_conf_options.specs.declared.clauses.StateClause.TheVariants as st
 use Rattle.pfs_conf_settings.specs.Settings as setting
 use Rattle.pfs_conf_settings.specs.declared.settings.Setting.{Setting}
 use Rattle.pfs_conf_settings.specs.declared.settings.Setting.TheVariants as variant
-use Rattle.pfs_conf_settings.specs.Settings.{timeout_named, limit_statement, limit_by, limit_at, least_value, greatest_value, unkept, timeout_statement, time_by, time_at, setting_at, lined_setting_at, statement_by, statement_at, settings_by, settings_at}
+use Rattle.pfs_conf_settings.specs.Settings.{timeout_named, limit_statement, limit_by, limit_at, least_value, greatest_value, unkept, timeout_statement, time_by, time_at, setting_at, lined_setting_at, some_settings_by, some_settings_at, settings_by, settings_at}
 use Rattle.pfs_conf_settings.specs.Tables as tables
 use Rattle.pfs_conf_settings.specs.Tables.{again, entry_joined, entries_with, entry_by, entry_at, lined_entry_at, entries_by, braced_entries_at, unless, part_by, part_at, parts_at}
 use Rattle.pfs_conf_settings.specs.TableGrammar.{no_parts}
@@ -437,17 +437,17 @@ unbroken_lined : (s : Setting) (d : Drafted) → Unbroken (lined_setting_at s d)
 unfolding lined_setting_at
 unbroken_lined s d = unbroken_skipping (chain (setting_at s true d) (λ e. skipping (done e))) (unbroken_chain (setting_at s true d) (λ e. skipping (done e)) (unbroken_setting s true d) unbroken_lines_behind)
 
-statement_acts : (s : Setting) (d : Drafted) (k : Key) → UnbrokenAct (statement_by s d k)
-statement_acts s d key.OpenBrace = unbroken_list closes_braces (lined_setting_at s) (unbroken_lined s) d
-statement_acts s d _ = unbroken_setting s false d
+some_settings_acts : (s : Setting) (d : Drafted) (k : Key) → UnbrokenAct (some_settings_by s d k)
+some_settings_acts s d key.OpenBrace = unbroken_list closes_braces (lined_setting_at s) (unbroken_lined s) d
+some_settings_acts s d _ = unbroken_setting s false d
 
-unbroken_statement : (s : Setting) (d : Drafted) → Unbroken (statement_at s d)
-unfolding statement_at
-unbroken_statement s d = unbroken_front (λ t. statement_by s d t.key) (λ t. statement_acts s d t.key)
+unbroken_some_settings : (s : Setting) (d : Drafted) → Unbroken (some_settings_at s d)
+unfolding some_settings_at
+unbroken_some_settings s d = unbroken_front (λ t. some_settings_by s d t.key) (λ t. some_settings_acts s d t.key)
 
 settings_acts : (d : Drafted) (k : Key) → UnbrokenAct (settings_by d k)
-settings_acts d key.Limit = unbroken_statement variant.Limit d
-settings_acts d key.Timeout = unbroken_statement variant.Timeout d
+settings_acts d key.Limit = unbroken_some_settings variant.Limit d
+settings_acts d key.Timeout = unbroken_some_settings variant.Timeout d
 settings_acts d _ = tt
 
 pub unbroken_settings : (d : Drafted) → Unbroken (settings_at d)

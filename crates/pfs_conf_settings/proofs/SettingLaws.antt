@@ -12,7 +12,7 @@ use Rattle.pfs_conf_values.specs.declared.timeouts.TimeoutName.{TimeoutName}
 use Rattle.pfs_conf_settings.specs.declared.settings.Setting.{Setting}
 use Rattle.pfs_conf_settings.specs.declared.settings.Setting.TheVariants as setting
 use Rattle.pfs_conf_settings.specs.Drafts.{Drafted, with_limit, with_timeout}
-use Rattle.pfs_conf_settings.specs.Settings.{timeout_named, bounded_at, limit_statement, limit_by, limit_at, least_value, greatest_value, unkept, timeout_statement, time_by, time_at, setting_at, lined_setting_at, statement_by, statement_at, settings_by, settings_at}
+use Rattle.pfs_conf_settings.specs.Settings.{timeout_named, bounded_at, limit_statement, limit_by, limit_at, least_value, greatest_value, unkept, timeout_statement, time_by, time_at, setting_at, lined_setting_at, some_settings_by, some_settings_at, settings_by, settings_at}
 
 -- ---- a pair of a name and a number
 
@@ -94,17 +94,17 @@ next_setting_shrinks s d = next_shrinks (lined_setting_at s) (lined_shrinks s) d
 
 -- ---- whole statements
 
-statement_act : (s : Setting) (d : Drafted) (k : Key) → OnlineAct across k (statement_by s d k)
-statement_act s d key.OpenBrace = (refl, online_list closes_braces (lined_setting_at s) closes_braces_before_end (lined_shrinks s) (online_lined s) d)
-statement_act s d _ = online_setting s false d
+some_settings_act : (s : Setting) (d : Drafted) (k : Key) → OnlineAct across k (some_settings_by s d k)
+some_settings_act s d key.OpenBrace = (refl, online_list closes_braces (lined_setting_at s) closes_braces_before_end (lined_shrinks s) (online_lined s) d)
+some_settings_act s d _ = online_setting s false d
 
-online_statement : (s : Setting) (d : Drafted) → Online across (statement_at s d)
-unfolding statement_at
-online_statement s d = online_front (λ t. statement_by s d t.key) (λ t. statement_act s d t.key)
+online_some_settings : (s : Setting) (d : Drafted) → Online across (some_settings_at s d)
+unfolding some_settings_at
+online_some_settings s d = online_front (λ t. some_settings_by s d t.key) (λ t. some_settings_act s d t.key)
 
 settings_act : (d : Drafted) (k : Key) → OnlineAct across k (settings_by d k)
-settings_act d key.Limit = (refl, online_statement setting.Limit d)
-settings_act d key.Timeout = (refl, online_statement setting.Timeout d)
+settings_act d key.Limit = (refl, online_some_settings setting.Limit d)
+settings_act d key.Timeout = (refl, online_some_settings setting.Timeout d)
 settings_act d _ = tt
 
 pub online_settings : (d : Drafted) → Online across (settings_at d)

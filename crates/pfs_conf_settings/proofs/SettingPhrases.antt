@@ -14,7 +14,7 @@ use Rattle.pfs_conf_values.specs.declared.timeouts.TimeoutName.{TimeoutName}
 use Rattle.pfs_conf_settings.specs.declared.settings.Setting.{Setting}
 use Rattle.pfs_conf_settings.specs.declared.settings.Setting.TheVariants as setting
 use Rattle.pfs_conf_settings.specs.Drafts.{Drafted, with_limit, with_timeout}
-use Rattle.pfs_conf_settings.specs.Settings.{timeout_named, bounded_at, limit_by, limit_at, least_value, greatest_value, timeout_statement, time_by, time_at, setting_at, lined_setting_at, statement_by, statement_at, settings_by, settings_at}
+use Rattle.pfs_conf_settings.specs.Settings.{timeout_named, bounded_at, limit_by, limit_at, least_value, greatest_value, timeout_statement, time_by, time_at, setting_at, lined_setting_at, some_settings_by, some_settings_at, settings_by, settings_at}
 use Rattle.pfs_conf_settings.specs.SettingGrammar.{ValueOf, plain, lined, LimitOf, states, src_nodes, tables, table_entries, frags, TimeOf, kept, frag, tsdiff, icmp_first, icmp_error, AmongLines, SettingOf, limit, limits, timeout, timeouts}
 use Rattle.pfs_conf_settings.proofs.SettingLaws.{lined_shrinks}
 use Rattle.pfs_conf_settings.proofs.TimeoutKeys.{placed, named}
@@ -92,11 +92,11 @@ list_of : (s : Setting) {d e : Drafted} {ts a b left : List Tok} → Word (word_
 list_of setting.Limit w o v = limits w o v
 list_of setting.Timeout w o v = timeouts w o v
 
-statement_is : (s : Setting) (d : Drafted) (ts a : List Tok) (e : Drafted) (left : List Tok) → Word (word_of s) ts a → statement_at s d a ≡ Ok (e, left) → SettingOf d ts e left
-unfolding statement_at
-statement_is s d ts a e left w h = by_key (head a).key refl h
+some_settings_are : (s : Setting) (d : Drafted) (ts a : List Tok) (e : Drafted) (left : List Tok) → Word (word_of s) ts a → some_settings_at s d a ≡ Ok (e, left) → SettingOf d ts e left
+unfolding some_settings_at
+some_settings_are s d ts a e left w h = by_key (head a).key refl h
   where
-    by_key : (k : Key) → (head a).key ≡ k → act (statement_by s d k) a ≡ Ok (e, left) → SettingOf d ts e left
+    by_key : (k : Key) → (head a).key ≡ k → act (some_settings_by s d k) a ≡ Ok (e, left) → SettingOf d ts e left
     by_key key.OpenBrace g q = list_of s w (word_is key.OpenBrace a g (λ r. cc)) (list_is key.CloseBrace closes_braces (AmongLines (OfSetting s true)) (lined_setting_at s) closes_braces_key (λ r. cc) (lined_is s) d (rest a) e left q)
     by_key _ g q = one_is s w (setting_is s false d a e left q)
 
@@ -105,8 +105,8 @@ unfolding settings_at
 settings_are d ts e left h = by_key (head ts).key refl h
   where
     by_key : (k : Key) → (head ts).key ≡ k → act (settings_by d k) ts ≡ Ok (e, left) → SettingOf d ts e left
-    by_key key.Limit g q = statement_is setting.Limit d ts (rest ts) e left (word_is key.Limit ts g (λ r. cc)) q
-    by_key key.Timeout g q = statement_is setting.Timeout d ts (rest ts) e left (word_is key.Timeout ts g (λ r. cc)) q
+    by_key key.Limit g q = some_settings_are setting.Limit d ts (rest ts) e left (word_is key.Limit ts g (λ r. cc)) q
+    by_key key.Timeout g q = some_settings_are setting.Timeout d ts (rest ts) e left (word_is key.Timeout ts g (λ r. cc)) q
     by_key _ g q = absurd (not_refused _ _ _ q)
 
 -- ---- reads
@@ -193,18 +193,18 @@ unfolding anything
 settings_readable s = record { closes = refl; close_follows = refl; comma_goes = refl; comma_follows = refl; begins = λ {a} {b} {ts} {left} q. lined_begins ts (setting_begins s true a (skip_lines ts) b q.mid q.item); reads = λ {a} {b} {ts} {left} q f. lined_reads s a ts b left q; shrinks = lined_shrinks s }
 
 -- what begins a pair is no brace
-limit_stays : (d : Drafted) {inside : Bool} {e : Drafted} {ts left : List Tok} → LimitOf inside d ts e left → statement_by setting.Limit d (head ts).key ≡ stay (limit_at false d)
+limit_stays : (d : Drafted) {inside : Bool} {e : Drafted} {ts left : List Tok} → LimitOf inside d ts e left → some_settings_by setting.Limit d (head ts).key ≡ stay (limit_at false d)
 limit_stays d (states w v) = rw (word_head w).0 refl
 limit_stays d (src_nodes w v) = rw (word_head w).0 refl
 limit_stays d (tables w v) = rw (word_head w).0 refl
 limit_stays d (table_entries w v) = rw (word_head w).0 refl
 limit_stays d (frags w v) = rw (word_head w).0 refl
 
-named_stays : (d : Drafted) (k : Key) (name : TimeoutName) → timeout_named k ≡ Some name → statement_by setting.Timeout d k ≡ stay (time_at false d)
+named_stays : (d : Drafted) (k : Key) (name : TimeoutName) → timeout_named k ≡ Some name → some_settings_by setting.Timeout d k ≡ stay (time_at false d)
 named_stays d key.OpenBrace name e = absurd cc
 named_stays d _ name e = refl
 
-time_stays : (d : Drafted) {inside : Bool} {e : Drafted} {ts left : List Tok} → TimeOf inside d ts e left → statement_by setting.Timeout d (head ts).key ≡ stay (time_at false d)
+time_stays : (d : Drafted) {inside : Bool} {e : Drafted} {ts left : List Tok} → TimeOf inside d ts e left → some_settings_by setting.Timeout d (head ts).key ≡ stay (time_at false d)
 time_stays d (kept {t = t} name e v) = named_stays d t.key name (named t.key name e)
 time_stays d (frag w v) = rw (word_head w).0 refl
 time_stays d (tsdiff w v) = rw (word_head w).0 refl
@@ -212,7 +212,7 @@ time_stays d (icmp_first w v) = rw (word_head w).0 refl
 time_stays d (icmp_error w v) = rw (word_head w).0 refl
 
 pub settings_read : {d e : Drafted} {ts left : List Tok} → SettingOf d ts e left → settings_at d ts ≡ Ok (e, left)
-unfolding settings_at statement_at
+unfolding settings_at some_settings_at
 settings_read {d = d} (limit w v) = let h = word_head w in rw (h.0, h.1, limit_stays d v) (limit_reads v)
 settings_read (limits w o v) = let h = word_head w in let i = word_head o in rw (h.0, h.1, i.0, i.1) (list_reads (settings_readable setting.Limit) v)
 settings_read {d = d} (timeout w v) = let h = word_head w in rw (h.0, h.1, time_stays d v) (time_reads v)

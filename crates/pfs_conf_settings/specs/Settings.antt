@@ -89,17 +89,17 @@ unfoldable pub lined_setting_at : Setting → Drafted → Reader Drafted
 lined_setting_at s d ts = skipping (chain (setting_at s true d) (λ e. skipping (done e))) ts
 
 -- one, or a list in braces
-abbrev pub statement_by : Setting → Drafted → Key → Act Drafted
-statement_by s d key.OpenBrace = take (list_all closes_braces (lined_setting_at s) d)
-statement_by s d _ = stay (setting_at s false d)
+abbrev pub some_settings_by : Setting → Drafted → Key → Act Drafted
+some_settings_by s d key.OpenBrace = take (list_all closes_braces (lined_setting_at s) d)
+some_settings_by s d _ = stay (setting_at s false d)
 
-unfoldable pub statement_at : Setting → Drafted → Reader Drafted
-statement_at s d ts = on_front (λ t. statement_by s d t.key) ts
+unfoldable pub some_settings_at : Setting → Drafted → Reader Drafted
+some_settings_at s d ts = on_front (λ t. some_settings_by s d t.key) ts
 
 -- what follows `set`
 abbrev pub settings_by : Drafted → Key → Act Drafted
-settings_by d key.Limit = take (statement_at setting.Limit d)
-settings_by d key.Timeout = take (statement_at setting.Timeout d)
+settings_by d key.Limit = take (some_settings_at setting.Limit d)
+settings_by d key.Timeout = take (some_settings_at setting.Timeout d)
 settings_by d _ = refuse why.Setting
 
 unfoldable pub settings_at : Drafted → Reader Drafted

@@ -4,7 +4,7 @@ ghost use Rattle.std.specs.Prelude.{◌≡◌, ◌≤◌, Some, IfOk};
 ghost use Rattle.pfs_conf_tokens.specs.Reading.{closes_braces, act, number_at, until_all, next_of};
 ghost use Rattle.pfs_conf_tokens.specs.Giving.{Gives};
 ghost use Rattle.pfs_conf_settings.specs.Draws.{Draws};
-ghost use Rattle.pfs_conf_settings.specs.Settings.{timeout_named, bounded_at, least_value, greatest_value, limit_statement, timeout_statement, limit_at, time_at, setting_at, lined_setting_at, statement_at, settings_at};
+ghost use Rattle.pfs_conf_settings.specs.Settings.{timeout_named, bounded_at, least_value, greatest_value, limit_statement, timeout_statement, limit_at, time_at, setting_at, lined_setting_at, some_settings_at, settings_at};
 
 use crate::drafts::Draft;
 use pfs_conf_tokens::{Cursor, Key, Refusal, Why, number, skip_lines};
@@ -33,20 +33,20 @@ pub fn read_settings(cursor: &mut Cursor, draft: &mut Draft) -> Result<(), Refus
     match cursor.key() {
         Key::Limit => {
             cursor.advance();
-            statement(cursor, draft, Setting::Limit)
+            some_settings(cursor, draft, Setting::Limit)
         }
         Key::Timeout => {
             cursor.advance();
-            statement(cursor, draft, Setting::Timeout)
+            some_settings(cursor, draft, Setting::Timeout)
         }
         _ => Err(Refusal::Stop(Why::Setting)),
     }
 }
 
 /// One setting, or a list of them in braces.
-#[tactic(auto, unfolding(crate::specs::Settings::statement_at))]
-fn statement(cursor: &mut Cursor, draft: &mut Draft, setting: Setting) -> Result<(), Refusal>
-    ensures { Draws result cursor.new draft.new (statement_at setting draft.old cursor.old) }
+#[tactic(auto, unfolding(crate::specs::Settings::some_settings_at))]
+fn some_settings(cursor: &mut Cursor, draft: &mut Draft, setting: Setting) -> Result<(), Refusal>
+    ensures { Draws result cursor.new draft.new (some_settings_at setting draft.old cursor.old) }
 {
     match cursor.key() {
         Key::OpenBrace => {

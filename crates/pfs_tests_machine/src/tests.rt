@@ -1,9 +1,9 @@
 //! The tests, with what they alone use.
 
-mod calls;
 mod comparing;
 mod engines;
 mod scenarios;
 mod stores;
 mod tallied;
+mod tried;
 mod works;

@@ -1,10 +1,7 @@
 //! The same thousands of calls, drawn from a fixed seed, over plain lists and over indexes: every answer and every
 //! count is the same.
 
-ghost use Rattle.std.specs.Prelude.{◌≡◌};
-ghost use Rattle.pfs_store_contract.specs.Worlds.{IsUpToNow};
-
-use super::calls::{admit, flush, kill, purge_nodes, purge_states, touch};
+use super::tried::Tried;
 use pfs_addr_values::{Addr, Flags, FlowKey, Packet};
 use pfs_conf::{Config, RuleNo, load};
 use pfs_store::IndexStore;
@@ -67,80 +64,54 @@ fn source(draw: u64) -> Addr {
 /// A packet comes: of the state that has its key, or for a new one
 fn come<S: Store>(
     rt: &impl Abort,
-    store: &mut S,
-    config: &Config,
+    tried: &mut Tried<S>,
     draw: u64,
-    now: u64,
-) -> Result<Answer, Fail>
-    requires made_for { S.config store.old ≡ config.now }
-    requires order { IsUpToNow now (S.world store.old) }
-    ensures made_for { S.config store.new ≡ config.now }
-    ensures order { IsUpToNow now (S.world store.new) }
-{
+) -> Result<Answer, Fail> {
     let packet = drawn(draw)?;
-    if store.find(&FlowKey::of(&packet)).is_some() {
-        return Ok(Answer::Touched(touch(store, &packet, now)?));
+    if tried.store().find(&FlowKey::of(&packet)).is_some() {
+        return Ok(Answer::Touched(tried.touch(&packet)?));
     }
     let rule = RuleNo((draw / 131_072 % 4) as u32);
-    Ok(Answer::Admitted(admit(rt, store, config, &packet, rule, now)?))
+    Ok(Answer::Admitted(tried.admit(rt, &packet, rule)?))
 }
 
 /// A source is flushed, of one rule or of all
-fn wash<S: Store>(store: &mut S, draw: u64, now: u64) -> Answer
-    requires order { IsUpToNow now (S.world store.old) }
-    ensures made_for { S.config store.new ≡ S.config store.old }
-    ensures order { IsUpToNow now (S.world store.new) }
-{
+fn wash<S: Store>(tried: &mut Tried<S>, draw: u64) -> Answer {
     let rule = if draw / 64 % 2 == 0 {
         Some(RuleNo((draw / 128 % 4) as u32))
     } else {
         None
     };
-    Answer::Killed(flush(store, source(draw), rule, now))
+    Answer::Killed(tried.flush(source(draw), rule))
 }
 
 /// A state is killed, where the drawn number is one
-fn end<S: Store>(rt: &impl Abort, store: &mut S, draw: u64, now: u64) -> Answer
-    requires order { IsUpToNow now (S.world store.old) }
-    ensures made_for { S.config store.new ≡ S.config store.old }
-    ensures order { IsUpToNow now (S.world store.new) }
-{
+fn end<S: Store>(rt: &impl Abort, tried: &mut Tried<S>, draw: u64) -> Answer {
     let number = StateNo(draw / 8 % 200);
-    if !store.holds(number) {
+    if !tried.store().holds(number) {
         return Answer::Killed(0);
     }
-    kill(rt, store, number, now);
+    tried.kill(rt, number);
     Answer::Killed(1)
 }
 
 /// The slices of a second
-fn purge<S: Store>(store: &mut S, now: u64) -> Answer
-    requires order { IsUpToNow now (S.world store.old) }
-    ensures made_for { S.config store.new ≡ S.config store.old }
-    ensures order { IsUpToNow now (S.world store.new) }
-{
-    let states = purge_states(store, now);
-    Answer::Purged(states, purge_nodes(store, now))
+fn purge<S: Store>(tried: &mut Tried<S>) -> Answer {
+    let states = tried.purge_states();
+    Answer::Purged(states, tried.purge_nodes())
 }
 
 /// One call, by the draw
 fn call<S: Store>(
     rt: &impl Abort,
-    store: &mut S,
-    config: &Config,
+    tried: &mut Tried<S>,
     draw: u64,
-    now: u64,
-) -> Result<Answer, Fail>
-    requires made_for { S.config store.old ≡ config.now }
-    requires order { IsUpToNow now (S.world store.old) }
-    ensures made_for { S.config store.new ≡ config.now }
-    ensures order { IsUpToNow now (S.world store.new) }
-{
+) -> Result<Answer, Fail> {
     match draw % 8 {
-        0 => Ok(wash(store, draw, now)),
-        1 => Ok(end(rt, store, draw, now)),
-        2 => Ok(purge(store, now)),
-        _ => come(rt, store, config, draw, now),
+        0 => Ok(wash(tried, draw)),
+        1 => Ok(end(rt, tried, draw)),
+        2 => Ok(purge(tried)),
+        _ => come(rt, tried, draw),
     }
 }
 
@@ -150,21 +121,18 @@ fn next(draw: u64) -> u64 {
         .wrapping_add(1_442_695_040_888_963_407)
 }
 
-/// What calls answer, of a store that was made for this configuration and holds nothing that came after moment 0
+/// What the calls answer, five in a second
 fn answers<S: Store>(
     rt: &(impl Abort + AllocGlobal),
-    store: &mut S,
-    config: &Config,
-    calls: u64,
-) -> Result<Vec<Told>, Fail>
-    requires made_for { S.config store.old ≡ config.now }
-    requires order { IsUpToNow 0 (S.world store.old) }
-{
+    tried: &mut Tried<S>,
+) -> Result<Vec<Told>, Fail> {
     let mut told = Vec::new(rt.alloc());
     let mut seed = 1u64;
-    for step in 0..calls {
+    for step in 0..CALLS {
         seed = next(seed);
-        let answer = call(rt, store, config, seed / 65_536, step / 5)?;
+        tried.go_to(rt, step / 5);
+        let answer = call(rt, tried, seed / 65_536)?;
+        let store = tried.store();
         told.push(Told {
             answer,
             states: store.state_count(),
@@ -177,14 +145,12 @@ fn answers<S: Store>(
 
 /// What the calls answer over plain lists
 fn listed(rt: &(impl Abort + AllocGlobal), config: &Config) -> Result<Vec<Told>, Fail> {
-    let mut store = PlainStore::new(rt.alloc(), config)?;
-    answers(rt, &mut store, config, CALLS)
+    answers(rt, &mut Tried::new(PlainStore::new(rt.alloc(), config)?, config))
 }
 
 /// What they answer over indexes
 fn indexed(rt: &(impl Abort + AllocGlobal), config: &Config) -> Result<Vec<Told>, Fail> {
-    let mut store = IndexStore::new(rt.alloc(), config)?;
-    answers(rt, &mut store, config, CALLS)
+    answers(rt, &mut Tried::new(IndexStore::new(rt.alloc(), config)?, config))
 }
 
 #[test]

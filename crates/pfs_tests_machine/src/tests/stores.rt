@@ -1,12 +1,7 @@
 //! Stores by themselves: the numbers of states, what is reported of handshakes, what leaves, and the slices of a round.
 
-ghost use Rattle.std.specs.Prelude.{◌≡◌, ◌≤◌};
-ghost use Rattle.pfs_store_contract.specs.Worlds.{IsUpToNow};
-
-use super::calls::{
-    admit, flush, kill, pass_over, purge_nodes, purge_states, touch, watch_nodes, watch_states,
-};
 use super::tallied::Tallied;
+use super::tried::Tried;
 use pfs_addr_values::{Addr, FlowKey};
 use pfs_conf::{Config, RuleNo};
 use pfs_store::IndexStore;
@@ -50,24 +45,12 @@ enum Step {
 type Row = (u64, Step);
 
 /// A handshake of the first source from this port: what its third packet did
-fn shake<S: Store>(
-    rt: &impl Abort,
-    store: &mut S,
-    config: &Config,
-    port: u16,
-    now: u64,
-) -> Result<Touched, Fail>
-    requires made_for { S.config store.old ≡ config.now }
-    requires order { IsUpToNow now (S.world store.old) }
-    ensures made_for { S.config store.new ≡ config.now }
-    ensures order { IsUpToNow now (S.world store.new) }
-{
-    let syn = packet(&Sent::Tcp(80, SYN), A1, port)?;
-    let answer = admit(rt, store, config, &syn, RuleNo(0), now)?;
+fn shake<S: Store>(rt: &impl Abort, tried: &mut Tried<S>, port: u16) -> Result<Touched, Fail> {
+    let answer = tried.admit(rt, &packet(&Sent::Tcp(80, SYN), A1, port)?, RuleNo(0))?;
     assert!(rt; answer.is_ok());
-    let second = touch(store, &packet(&Sent::Answer(SYN_ACK), A1, port)?, now)?;
+    let second = tried.touch(&packet(&Sent::Answer(SYN_ACK), A1, port)?)?;
     assert!(rt; !second.completed);
-    touch(store, &packet(&Sent::Tcp(80, ACK), A1, port)?, now)
+    tried.touch(&packet(&Sent::Tcp(80, ACK), A1, port)?)
 }
 
 fn numbered(answer: Result<StateNo, Limit>) -> Result<u64, Limit> {
@@ -85,40 +68,29 @@ fn rule_of(answer: Result<StateNo, Limit>, rule: u32) -> Option<RuleNo> {
     }
 }
 
-fn come<S: Store>(
-    rt: &impl Abort,
-    store: &mut S,
-    config: &Config,
-    now: u64,
-    step: &Step,
-) -> Result<(), Fail>
-    requires made_for { S.config store.old ≡ config.now }
-    requires order { IsUpToNow now (S.world store.old) }
-    ensures made_for { S.config store.new ≡ config.now }
-    ensures order { IsUpToNow now (S.world store.new) }
-{
-    match *step {
+fn come<S: Store>(rt: &impl Abort, tried: &mut Tried<S>, row: &Row) -> Result<(), Fail> {
+    match row.1 {
         Step::Admit(source, port, rule, want) => {
             let packet = packet(&Sent::Udp(53), source, port)?;
-            let answer = admit(rt, store, config, &packet, RuleNo(rule), now)?;
+            let answer = tried.admit(rt, &packet, RuleNo(rule))?;
             same!(rt; numbered(answer), want);
             let key = FlowKey::of(&packet);
-            same!(rt; store.find(&key), answer.ok());
-            same!(rt; store.rule_at(&key), rule_of(answer, rule));
+            same!(rt; tried.store().find(&key), answer.ok());
+            same!(rt; tried.store().rule_at(&key), rule_of(answer, rule));
         }
         Step::Again(source, port, rule) => {
-            let told = touch(store, &packet(&Sent::Udp(53), source, port)?, now)?;
+            let told = tried.touch(&packet(&Sent::Udp(53), source, port)?)?;
             same!(rt; (told.rule, told.source, told.completed), (RuleNo(rule), source, false));
             same!(rt; (told.connections, told.score), (0, Score::default()));
         }
         Step::Shake(port, connections, value) => {
-            let told = shake(rt, store, config, port, now)?;
+            let told = shake(rt, tried, port)?;
             let wanted = Touched {
                 rule: RuleNo(0),
                 source: A1,
                 completed: true,
                 connections,
-                score: Score { value, last: now },
+                score: Score { value, last: row.0 },
             };
             same!(rt; told, wanted);
         }
@@ -127,41 +99,33 @@ fn come<S: Store>(
     Ok(())
 }
 
-fn leave<S: Store>(rt: &impl Abort, store: &mut S, now: u64, step: &Step)
-    requires order { IsUpToNow now (S.world store.old) }
-    ensures order { IsUpToNow now (S.world store.new) }
-    ensures made_for { S.config store.new ≡ S.config store.old }
-{
+fn leave<S: Store>(rt: &impl Abort, tried: &mut Tried<S>, step: &Step) {
     match *step {
-        Step::Kill(number) => kill(rt, store, StateNo(number), now),
-        Step::Flush(rule, killed) => same!(rt; flush(store, A1, rule, now), killed),
+        Step::Kill(number) => tried.kill(rt, StateNo(number)),
+        Step::Flush(rule, killed) => same!(rt; tried.flush(A1, rule), killed),
         Step::States(examined, removed) => {
-            let slice = purge_states(store, now);
+            let slice = tried.purge_states();
             same!(rt; (slice.examined, slice.removed), (examined, removed));
         }
         Step::Nodes(examined, removed) => {
-            let slice = purge_nodes(store, now);
+            let slice = tried.purge_nodes();
             same!(rt; (slice.examined, slice.removed), (examined, removed));
         }
         _ => {}
     }
 }
 
-fn watch<S: Store>(rt: &impl Abort, store: &mut S, now: u64, step: &Step)
-    requires order { IsUpToNow now (S.world store.old) }
-    ensures order { IsUpToNow now (S.world store.new) }
-    ensures made_for { S.config store.new ≡ S.config store.old }
-{
+fn watch<S: Store>(rt: &impl Abort, tried: &mut Tried<S>, step: &Step) {
     match *step {
         Step::WatchStates(examined, until, over) => {
-            let told = watch_states(store, now);
+            let told = tried.watch_states();
             same!(rt; (told.slice.examined, told.until, told.over), (examined, until, over));
         }
         Step::WatchNodes(examined, until, over) => {
-            let told = watch_nodes(store, now);
+            let told = tried.watch_nodes();
             same!(rt; (told.slice.examined, told.until, told.over), (examined, until, over));
         }
-        Step::PassOver(seconds) => same!(rt; pass_over(store, now, seconds), seconds),
+        Step::PassOver(seconds) => same!(rt; tried.pass_over(seconds), seconds),
         _ => {}
     }
 }
@@ -176,42 +140,14 @@ fn look<S: Store>(rt: &impl Abort, store: &S, step: &Step) {
     }
 }
 
-/// Does one step at a moment that is not before the last one
-fn act<S: Store>(
-    rt: &impl Abort,
-    store: &mut S,
-    config: &Config,
-    last: u64,
-    row: &Row,
-) -> Result<(), Fail>
-    requires made_for { S.config store.old ≡ config.now }
-    requires order { IsUpToNow last (S.world store.old) }
-    requires later { last ≤ row.now.0 }
-    ensures made_for { S.config store.new ≡ config.now }
-    ensures order { IsUpToNow row.now.0 (S.world store.new) }
-{
-    let (now, step) = row;
-    come(rt, store, config, *now, step)?;
-    leave(rt, store, *now, step);
-    watch(rt, store, *now, step);
-    look(rt, store, step);
-    Ok(())
-}
-
-fn follow<S: Store>(
-    rt: &impl Abort,
-    store: &mut S,
-    config: &Config,
-    rows: &[Row],
-) -> Result<(), Fail>
-    requires made_for { S.config store.old ≡ config.now }
-    requires order { IsUpToNow 0 (S.world store.old) }
-{
-    let mut last = 0;
+/// The steps one by one
+fn follow<S: Store>(rt: &impl Abort, tried: &mut Tried<S>, rows: &[Row]) -> Result<(), Fail> {
     for row in rows {
-        assert!(rt; last <= row.0);
-        act(rt, store, config, last, row)?;
-        last = row.0;
+        tried.go_to(rt, row.0);
+        come(rt, tried, row)?;
+        leave(rt, tried, &row.1);
+        watch(rt, tried, &row.1);
+        look(rt, tried.store(), &row.1);
     }
     Ok(())
 }
@@ -242,8 +178,8 @@ fn tell(rt: &(impl Abort + AllocGlobal), rules: &str, rows: &[Row]) -> Result<()
 }
 
 fn tell_plain(rt: &(impl Abort + AllocGlobal), config: &Config, rows: &[Row]) -> Result<(), Fail> {
-    let mut store = PlainStore::new(rt.alloc(), config)?;
-    follow(rt, &mut store, config, rows)
+    let store = PlainStore::new(rt.alloc(), config)?;
+    follow(rt, &mut Tried::new(store, config), rows)
 }
 
 fn tell_tallied(
@@ -251,9 +187,10 @@ fn tell_tallied(
     config: &Config,
     rows: &[Row],
 ) -> Result<(), Fail> {
-    let mut store = Tallied::new(PlainStore::new(rt.alloc(), config)?);
-    follow(rt, &mut store, config, rows)?;
-    same!(rt; store.calls, all_changes(rows));
+    let store = Tallied::new(PlainStore::new(rt.alloc(), config)?);
+    let mut tried = Tried::new(store, config);
+    follow(rt, &mut tried, rows)?;
+    same!(rt; tried.store().calls, all_changes(rows));
     Ok(())
 }
 
@@ -262,8 +199,8 @@ fn tell_indexed(
     config: &Config,
     rows: &[Row],
 ) -> Result<(), Fail> {
-    let mut store = IndexStore::new(rt.alloc(), config)?;
-    follow(rt, &mut store, config, rows)
+    let store = IndexStore::new(rt.alloc(), config)?;
+    follow(rt, &mut Tried::new(store, config), rows)
 }
 
 const NUMBERED: &[Row] = &[
@@ -476,8 +413,6 @@ const PASSED: &[Row] = &[
 /// of the fourth has been idle since moment 13, and the other one since 15
 #[test]
 fn seconds_are_passed_over_by_rounds(rt: HostRuntime) -> Result<(), Fail> {
-    let alloc = rt.alloc();
-    let config = configured(alloc, UNSCALED, SLICES)?;
-    let mut indexed = IndexStore::new(alloc, &config)?;
-    follow(&rt, &mut indexed, &config, PASSED)
+    let config = configured(rt.alloc(), UNSCALED, SLICES)?;
+    tell_indexed(&rt, &config, PASSED)
 }

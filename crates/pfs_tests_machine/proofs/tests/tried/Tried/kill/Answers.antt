@@ -1,0 +1,9 @@
+-- Answer of kill: a kill keeps the configuration, and leaves no handshake to come.
+use Rattle.std.proofs.Common.{◌∙◌}
+use Rattle.pfs_store_contract.proofs.MomentLaws.{killed-up_to_now}
+use Rattle.pfs_tests_machine.proofs.tests.tried.Tried.kill.Goals as goal
+
+pub invariant_of-self : goal.invariant_of-self
+invariant_of-self g c = (
+    c.kill.ensures.config ∙ c.self.invariant.0,
+    rw c.kill.ensures.world (killed-up_to_now (g.S.Store.config c.self.inside.store) (g.S.Store.world c.self.inside.store) c.args.number.0 c.self.inside.now c.self.inside.now c.self.invariant.1))

@@ -1,0 +1,9 @@
+-- Answer of watch_nodes: a slice of the nodes keeps the configuration, and leaves no handshake to come.
+use Rattle.std.proofs.Common.{◌∙◌}
+use Rattle.pfs_store_contract.proofs.MomentLaws.{node_slice-up_to_now}
+use Rattle.pfs_tests_machine.proofs.tests.tried.Tried.watch_nodes.Goals as goal
+
+pub invariant_of-self : goal.invariant_of-self
+invariant_of-self g c = (
+    c.watch_nodes.ensures.config ∙ c.self.invariant.0,
+    rw c.watch_nodes.ensures.world (node_slice-up_to_now (g.S.Store.config c.self.inside.store) (g.S.Store.world c.self.inside.store) c.self.inside.now c.self.inside.now c.self.invariant.1))

@@ -1,0 +1,120 @@
+//! A store under test, with its configuration and the moment of its calls.
+
+ghost use Rattle.std.specs.Prelude.{◌≡◌};
+ghost use Rattle.pfs_store_contract.specs.Worlds.{empty_world};
+
+use pfs_addr_values::{Addr, FlowKey, Meter, Packet, RUN_LIMIT};
+use pfs_conf::{Config, RuleNo};
+use pfs_store_contract::{Limit, Slice, StateNo, Store, Touched, Watched};
+use std::marker::Model;
+use std::process::Abort;
+use std::test::Fail;
+
+/// A store that was made for a configuration, at a moment that is not before any handshake that it counts.
+#[derive(Drop)]
+pub struct Tried<'a, S: Store> {
+    store: S,
+    config: &'a Config,
+    now: u64,
+}
+
+impl<'a, S: Store> Model for Tried<'a, S> {
+    ghost use Rattle.std.specs.Prelude.{◌≡◌, ℕ};
+    ghost use Rattle.pfs_store_contract.specs.Worlds.{IsUpToNow};
+
+    ghost Value = { ℕ };
+
+    ghost view = { λ t. t.now };
+
+    ghost invariant = { λ t. (S.config t.store ≡ t.config.now) × IsUpToNow t.now (S.world t.store) };
+}
+
+impl<'a, S: Store> Tried<'a, S> {
+    /// An empty store, at moment 0.
+    pub fn new(store: S, config: &'a Config) -> Tried<'a, S>
+        requires empty { S.world store ≡ empty_world }
+        requires made_for { S.config store ≡ config.now }
+    {
+        Tried {
+            store,
+            config,
+            now: 0,
+        }
+    }
+
+    /// The store.
+    pub fn store(&self) -> &S {
+        &self.store
+    }
+
+    /// Goes on to a moment that is not before the last one.
+    pub fn go_to(&mut self, rt: &impl Abort, now: u64) {
+        assert!(rt; self.now <= now);
+        self.now = now;
+    }
+
+    /// A packet of no held state makes one at a rule, or is refused.
+    pub fn admit(
+        &mut self,
+        rt: &impl Abort,
+        packet: &Packet,
+        rule: RuleNo,
+    ) -> Result<Result<StateNo, Limit>, Fail> {
+        if self.store.find(&FlowKey::of(packet)).is_some() {
+            return Err("its key is held".into());
+        }
+        assert!(rt; self.config.options(rule).is_some());
+        assert!(rt; self.store.made() < RUN_LIMIT);
+        Ok(self.store.admit(packet, rule, self.now)?)
+    }
+
+    /// A packet of a held state comes.
+    pub fn touch(&mut self, packet: &Packet) -> Result<Touched, Fail> {
+        let number = self
+            .store
+            .find(&FlowKey::of(packet))
+            .ok_or("its key is not held")?;
+        let mut meter = Meter::new();
+        Ok(self.store.touch(number, packet, self.now, &mut meter))
+    }
+
+    /// A held state is killed.
+    pub fn kill(&mut self, rt: &impl Abort, number: StateNo) {
+        assert!(rt; self.store.holds(number));
+        let mut meter = Meter::new();
+        self.store.kill(number, self.now, &mut meter);
+    }
+
+    /// The states of a source leave, all or those of a rule: how many they are.
+    pub fn flush(&mut self, source: Addr, rule: Option<RuleNo>) -> u64 {
+        let mut meter = Meter::new();
+        self.store.flush(source, rule, self.now, &mut meter)
+    }
+
+    /// A slice of the states.
+    pub fn purge_states(&mut self) -> Slice {
+        let mut meter = Meter::new();
+        self.store.purge_states(self.now, &mut meter)
+    }
+
+    /// A slice of the source nodes.
+    pub fn purge_nodes(&mut self) -> Slice {
+        self.store.purge_nodes(self.now)
+    }
+
+    /// A slice of the states that returns up to when they stay.
+    pub fn watch_states(&mut self) -> Watched {
+        let mut meter = Meter::new();
+        self.store.watch_states(self.now, &mut meter)
+    }
+
+    /// A slice of the source nodes that returns up to when they stay.
+    pub fn watch_nodes(&mut self) -> Watched {
+        self.store.watch_nodes(self.now)
+    }
+
+    /// So many seconds are passed over: how many were.
+    pub fn pass_over(&mut self, seconds: u64) -> u64 {
+        self.store.pass_over(seconds)
+    }
+}
