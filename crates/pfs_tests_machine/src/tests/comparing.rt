@@ -62,11 +62,7 @@ fn source(draw: u64) -> Addr {
 }
 
 /// A packet comes: of the state that has its key, or for a new one
-fn come<S: Store>(
-    rt: &impl Abort,
-    tried: &mut Tried<S>,
-    draw: u64,
-) -> Result<Answer, Fail> {
+fn come<S: Store>(rt: &impl Abort, tried: &mut Tried<S>, draw: u64) -> Result<Answer, Fail> {
     let packet = drawn(draw)?;
     if tried.store().find(&FlowKey::of(&packet)).is_some() {
         return Ok(Answer::Touched(tried.touch(&packet)?));
@@ -102,11 +98,7 @@ fn purge<S: Store>(tried: &mut Tried<S>) -> Answer {
 }
 
 /// One call, by the draw
-fn call<S: Store>(
-    rt: &impl Abort,
-    tried: &mut Tried<S>,
-    draw: u64,
-) -> Result<Answer, Fail> {
+fn call<S: Store>(rt: &impl Abort, tried: &mut Tried<S>, draw: u64) -> Result<Answer, Fail> {
     match draw % 8 {
         0 => Ok(wash(tried, draw)),
         1 => Ok(end(rt, tried, draw)),
@@ -145,12 +137,18 @@ fn answers<S: Store>(
 
 /// What the calls answer over plain lists
 fn listed(rt: &(impl Abort + AllocGlobal), config: &Config) -> Result<Vec<Told>, Fail> {
-    answers(rt, &mut Tried::new(PlainStore::new(rt.alloc(), config)?, config))
+    answers(
+        rt,
+        &mut Tried::new(PlainStore::new(rt.alloc(), config)?, config),
+    )
 }
 
 /// What they answer over indexes
 fn indexed(rt: &(impl Abort + AllocGlobal), config: &Config) -> Result<Vec<Told>, Fail> {
-    answers(rt, &mut Tried::new(IndexStore::new(rt.alloc(), config)?, config))
+    answers(
+        rt,
+        &mut Tried::new(IndexStore::new(rt.alloc(), config)?, config),
+    )
 }
 
 #[test]

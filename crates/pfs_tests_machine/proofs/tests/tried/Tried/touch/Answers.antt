@@ -5,5 +5,6 @@ use Rattle.pfs_tests_machine.proofs.tests.tried.Tried.touch.Goals as goal
 
 pub invariant_of-self : goal.invariant_of-self
 invariant_of-self g c = (
-    c.touch.ensures.config ∙ c.self.invariant.0,
-    rw c.touch.ensures.world (world_touched-up_to_now (g.S.Store.config c.self.inside.store) (g.S.Store.world c.self.inside.store) c.args.packet.now c.self.inside.now _ c.self.invariant.1))
+  c.touch.ensures.config ∙ c.self.invariant.0,
+  rw c.touch.ensures.world (world_touched-up_to_now (g.S.Store.config c.self.inside.store) (g.S.Store.world c.self.inside.store) c.args.packet.now c.self.inside.now _ c.self.invariant.1),
+)
