@@ -8,7 +8,7 @@ use std::fmt;
 
 /// How many frames of a capture were read, and what became of them. Each is a record, or is counted under exactly one reason. A record
 /// that was seen before the frame in front of it is counted as late besides.
-#[derive(Clone, Copy, Debug, PartialEq, Eq)]
+#[derive(Clone, Copy)]
 pub struct Account {
     /// The frames that were read.
     pub frames: u64,

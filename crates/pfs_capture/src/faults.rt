@@ -7,7 +7,7 @@ use pfs_capture_files::FileFault;
 use std::{error, fmt};
 
 /// Why a trace ends before its capture does.
-#[derive(Clone, Copy, Debug, PartialEq, Eq)]
+#[derive(Clone, Copy, Debug)]
 pub enum TraceStop {
     /// The file is no capture, or ends or breaks off in the item after the frames that were read.
     File(FileFault),

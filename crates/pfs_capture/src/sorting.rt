@@ -8,7 +8,7 @@ use pfs_addr_values::{Addr, Dir, IfName, Prefix, parse_ifname};
 use pfs_capture_packets::{Answer, IpPacket, Logged, Reason, read_answer, read_log, read_packet};
 
 /// The packet of a frame, which way it goes, and on which interface.
-#[derive(Clone, Copy, Debug)]
+#[derive(Clone, Copy)]
 pub struct Found {
     /// Whether it comes in or goes out, and the name of its interface.
     pub way: Logged,

@@ -29,14 +29,14 @@ use std::io::{Read, Write};
 const MOST_ITEMS: u64 = 1_099_511_627_776;
 
 /// The account of the frames so far, and the second of the last one.
-#[derive(Clone, Copy, Debug)]
+#[derive(Clone, Copy)]
 pub struct Tally {
     pub last: u64,
     pub account: Account,
 }
 
 /// The texts of one frame: its row in the trace, and what pf answered. Each is empty where there is none.
-#[derive(Debug, Drop)]
+#[derive(Drop)]
 pub struct Lines {
     pub row: Vec<u8>,
     pub answer: Vec<u8>,

@@ -18,7 +18,7 @@ pub const SECTION: u32 = 0x0a0d_0d0a;
 const MOST_INTERFACES: usize = 1_024;
 
 /// What is known of the section that is read: its byte order, and its interfaces.
-#[derive(Debug, Drop)]
+#[derive(Drop)]
 pub struct Section {
     order: Order,
     interfaces: Vec<Interface>,
@@ -33,7 +33,7 @@ impl Model for Section {
 }
 
 /// How a block begins.
-#[derive(Clone, Copy, Debug, PartialEq, Eq)]
+#[derive(Clone, Copy)]
 pub struct BlockHead {
     /// The byte order of its numbers.
     pub order: Order,

@@ -9,7 +9,7 @@ use crate::frames::{Frame, MOST_OF_FRAME, Moment};
 use crate::orders::{Order, read_u32};
 
 /// Which of the two lengths of a record is that of the bytes that were kept.
-#[derive(Clone, Copy, Debug, PartialEq, Eq)]
+#[derive(Clone, Copy)]
 pub enum Lengths {
     /// The first.
     KeptFirst,
@@ -20,7 +20,7 @@ pub enum Lengths {
 }
 
 /// What the header of a pcap file says of its records.
-#[derive(Clone, Copy, Debug, PartialEq, Eq)]
+#[derive(Clone, Copy)]
 pub struct FileHeader {
     /// The byte order of their numbers.
     pub order: Order,

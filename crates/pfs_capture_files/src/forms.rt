@@ -17,7 +17,7 @@ use std::alloc::Global;
 use std::io::Read;
 
 /// The form of a capture file, and what is known of it while it is read.
-#[derive(Debug, Drop)]
+#[derive(Drop)]
 pub enum Form {
     /// pcap: what its header says.
     Classic(FileHeader),
@@ -26,7 +26,7 @@ pub enum Form {
 }
 
 /// What a file is by its first bytes.
-#[derive(Clone, Copy, Debug)]
+#[derive(Clone, Copy)]
 enum Start {
     Classic(Order, Lengths),
     Blocks,

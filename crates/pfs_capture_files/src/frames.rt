@@ -15,7 +15,7 @@ pub const MOST_OF_FRAME: u32 = 262_144;
 const LAST_SECOND: u64 = 4_294_967_295;
 
 /// When a frame was seen.
-#[derive(Clone, Copy, Debug, PartialEq, Eq)]
+#[derive(Clone, Copy)]
 pub enum Moment {
     /// In this second since 1970, at most 4294967295.
     At(u64),
@@ -26,7 +26,7 @@ pub enum Moment {
 }
 
 /// A frame, and where its bytes are in what was read last.
-#[derive(Clone, Copy, Debug, PartialEq, Eq)]
+#[derive(Clone, Copy)]
 pub struct Frame {
     /// The type of its link.
     pub link: u16,
@@ -39,7 +39,7 @@ pub struct Frame {
 }
 
 /// What is next in a file.
-#[derive(Clone, Copy, Debug, PartialEq, Eq)]
+#[derive(Clone, Copy)]
 pub enum Item {
     /// Its end.
     End,

@@ -9,7 +9,7 @@ use crate::options::{Wanted, find_option};
 use crate::orders::{Order, read_u32, read_u64};
 
 /// An interface of a section, as its block describes it.
-#[derive(Clone, Copy, Debug, PartialEq, Eq)]
+#[derive(Clone, Copy)]
 pub struct Interface {
     /// The type of its link.
     pub link: u16,

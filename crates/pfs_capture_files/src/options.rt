@@ -6,14 +6,14 @@ ghost use Rattle.pfs_capture_files.specs.Options.{FitsIn, find_option, option_st
 use crate::orders::{Order, read_u16};
 
 /// What is looked for: an option of this code, whose value has so many bytes.
-#[derive(Clone, Copy, Debug)]
+#[derive(Clone, Copy)]
 pub struct Wanted {
     pub code: u16,
     pub size: usize,
 }
 
 /// Where a look through options goes from one.
-#[derive(Clone, Copy, Debug)]
+#[derive(Clone, Copy)]
 pub enum Look {
     /// On to the next, which begins here.
     On(usize),

@@ -4,7 +4,7 @@ ghost use Rattle.std.specs.Prelude.{◌≡◌, ◌+◌, ◌≤◌, length};
 ghost use Rattle.pfs_capture_files.specs.Orders.{highest_first, u16_in, u32_in, u64_in};
 
 /// In which order the bytes of a number are written.
-#[derive(Clone, Copy, Debug, PartialEq, Eq)]
+#[derive(Clone, Copy)]
 pub enum Order {
     /// The highest first.
     Big,

@@ -9,7 +9,7 @@ use crate::packets::Reason;
 use crate::walks::Place;
 
 /// How the frames of a capture begin.
-#[derive(Clone, Copy, Debug, PartialEq, Eq)]
+#[derive(Clone, Copy)]
 pub enum Link {
     /// An Ethernet header.
     Ethernet,

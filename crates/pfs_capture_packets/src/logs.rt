@@ -8,7 +8,7 @@ use crate::bytes::{holds, read_u32};
 use pfs_addr_values::{Dir, IfName, parse_ifname};
 
 /// What pf says of a packet that it logged. (pflog(4))
-#[derive(Clone, Copy, Debug)]
+#[derive(Clone, Copy)]
 pub struct Logged {
     /// Whether the packet came in or went out.
     pub dir: Dir,
@@ -17,7 +17,7 @@ pub struct Logged {
 }
 
 /// What pf did with a packet that it logged, and by which rule. (pflog(4))
-#[derive(Clone, Copy, Debug)]
+#[derive(Clone, Copy)]
 pub struct Answer {
     /// The number of the action: 0 passes the packet, 1 blocks it.
     pub action: u8,

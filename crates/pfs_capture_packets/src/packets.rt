@@ -10,7 +10,7 @@ use crate::walks::{Layer, Place, walk};
 use pfs_addr_values::{Addr, Flags, OtherProto, Proto};
 
 /// Why a frame is no record of a trace. Each frame that is none has exactly one reason.
-#[derive(Clone, Copy, Debug, PartialEq, Eq)]
+#[derive(Clone, Copy)]
 pub enum Reason {
     /// The type of its link is not read.
     LinkType,
@@ -25,7 +25,7 @@ pub enum Reason {
 }
 
 /// What an IP packet carries.
-#[derive(Clone, Copy, Debug, PartialEq, Eq)]
+#[derive(Clone, Copy)]
 pub enum Carried {
     /// TCP, with the ports of its source and its destination, and its flags.
     Tcp(u16, u16, Flags),
@@ -36,7 +36,7 @@ pub enum Carried {
 }
 
 /// The outermost IP packet of a frame.
-#[derive(Clone, Copy, Debug, PartialEq, Eq)]
+#[derive(Clone, Copy)]
 pub struct IpPacket {
     /// The address from which it comes.
     pub source: Addr,

@@ -8,7 +8,7 @@ use crate::headers::behind;
 use crate::packets::Reason;
 
 /// Which headers a walk passes over.
-#[derive(Clone, Copy, Debug)]
+#[derive(Clone, Copy)]
 pub enum Layer {
     /// Tags and labels between a link's header and a packet.
     Link,
@@ -19,7 +19,7 @@ pub enum Layer {
 }
 
 /// A header: what the one before it says that it is, and where it begins.
-#[derive(Clone, Copy, Debug)]
+#[derive(Clone, Copy)]
 pub struct Place {
     /// An EtherType, or the number of a protocol.
     pub kind: u16,
@@ -28,7 +28,7 @@ pub struct Place {
 }
 
 /// Where a walk goes from a header.
-#[derive(Clone, Copy, Debug)]
+#[derive(Clone, Copy)]
 pub enum Next {
     /// On to the next header.
     On(Place),

@@ -21,7 +21,7 @@ use pfs_capture_packets::{Carried, IpPacket};
 pub const HEADER: &[u8] = b"time,dir,if,proto,src,sport,dst,dport,flags\n";
 
 /// A packet of a capture, as a trace has it.
-#[derive(Clone, Copy, Debug)]
+#[derive(Clone, Copy)]
 pub struct Row {
     /// The second in which it was seen.
     pub second: u64,
