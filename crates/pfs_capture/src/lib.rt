@@ -10,5 +10,4 @@ mod traces;
 pub use accounts::Account;
 pub use faults::{TraceStop, status};
 pub use pfs_cli_streams::{Feed, Sink};
-pub use sorting::interface;
 pub use traces::write_trace;

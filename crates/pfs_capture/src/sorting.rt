@@ -1,10 +1,10 @@
 //! Which way a frame's packet goes.
 
 ghost use Rattle.std.specs.Prelude.{◌≡◌, IfOk, IfSome, true};
-ghost use Rattle.pfs_addr_values.specs.Names.{is_name, name_of};
+ghost use Rattle.pfs_addr_values.specs.Names.{is_name};
 ghost use Rattle.pfs_capture.specs.Sorting.{IsFound, is_inside, found_in_frame, way_between, way_of};
 
-use pfs_addr_values::{Addr, Dir, IfName, Prefix, parse_ifname};
+use pfs_addr_values::{Addr, Dir, IfName, Prefix};
 use pfs_capture_packets::{Answer, IpPacket, Logged, Reason, read_answer, read_log, read_packet};
 
 /// The packet of a frame, which way it goes, and on which interface.
@@ -16,14 +16,6 @@ pub struct Found {
     pub packet: IpPacket,
     /// What pf answered, where the frame is of a log.
     pub answer: Option<Answer>,
-}
-
-/// The name of an interface that this text is, 1 to 15 bytes of letters, digits, `_`, `-` and `.`; `None` for every other text.
-pub fn interface(text: &[u8]) -> Option<IfName>
-    ensures is { result ≡ name_of 15 text.now }
-    ensures name { IfSome result (λ n. is_name 15 n ≡ true) }
-{
-    parse_ifname(text)
 }
 
 /// The packet of a frame of this link type with its way, or the one reason for which it is no record. A log of packets has the

@@ -165,7 +165,7 @@ fn take_frame(
     let outcome = outcome_of(inside, ifname, frame, held);
     let reason = reason_of(&outcome);
     write_row(&outcome, second, &mut lines.row)?;
-    write_answer(&outcome, tally.account.records + 1, &mut lines.answer)?;
+    write_answer(&outcome, tally.account, &mut lines.answer)?;
     Ok(Tally {
         last: second,
         account: tally.account.with(reason, is_before(frame.moment, second)),
@@ -198,13 +198,15 @@ fn write_row(
     }
 }
 
-/// Writes what pf answered for the record of this number into the line, if it is of a log.
+/// Writes what pf answered for the record after those of this account into the line, if it is of a log.
 fn write_answer(
     outcome: &Result<Found, Reason>,
-    number: u64,
+    account: Account,
     line: &mut Vec<u8>,
 ) -> Result<(), TraceStop>
-    ensures text { OnOk result (line.new.items ≡ line.old.items ++ answer_text number outcome.now) }
+    requires few { account.frames < 2 ^ 63 }
+    requires sum { AddsUp account }
+    ensures text { OnOk result (line.new.items ≡ line.old.items ++ answer_text (account.records + 1) outcome.now) }
     ensures fails { IfErr result (λ f. f ≡ TraceStop.Memory) }
 {
     let Ok(found) = outcome else {
@@ -213,7 +215,7 @@ fn write_answer(
     let Some(answer) = &found.answer else {
         return Ok(());
     };
-    match push_answer(line, number, answer) {
+    match push_answer(line, account.records + 1, answer) {
         Ok(()) => Ok(()),
         Err(_) => Err(TraceStop::Memory),
     }

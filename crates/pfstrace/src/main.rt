@@ -9,8 +9,8 @@ ghost use Rattle.pfs_addr_values.specs.Names.{is_name};
 use clap::error::ErrorKind;
 use clap::{Arg, ArgAction, ArgMatches, Command, Error};
 use pfs_addr::parse_prefix;
-use pfs_addr_values::{IfName, Prefix};
-use pfs_capture::{Account, Feed, Sink, TraceStop, interface, status, write_trace};
+use pfs_addr_values::{IfName, Prefix, parse_ifname};
+use pfs_capture::{Account, Feed, Sink, TraceStop, status, write_trace};
 use std::alloc::{AllocError, Global};
 use std::env;
 use std::fs::File;
@@ -114,7 +114,7 @@ fn capture<'a>(alloc: Global) -> Arg<'a> {
 
 /// Writes the trace that the words ask for; the status.
 fn trace_found(rt: &HostRuntime, found: &ArgMatches<'_>) -> u8 {
-    let Some(ifname) = interface(found.get_str("interface").unwrap_or("em0").as_bytes()) else {
+    let Some(ifname) = parse_ifname(found.get_str("interface").unwrap_or("em0").as_bytes()) else {
         return tell_mistake(rt, "--interface: no name of an interface");
     };
     let mut inside = Vec::new(rt.alloc());
