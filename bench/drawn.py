@@ -1,5 +1,6 @@
 """Drawn rulesets and traces: every limit with values of 1 to 5, several rules and scopes, sources of both families, short timeouts and short
-lives under load; floods, handshakes, endings, packets of held states and of none, entries that are taken out, and jumps of up to some hours.
+lives under load; floods, handshakes, endings, packets of held states and of none, an administrator's records, and jumps of up to some hours.
+A trace may end with a record that may be a fault, where that is asked for.
 
 The same generator of numbers draws the same.
 """
@@ -8,6 +9,9 @@ from typing import List
 
 HEADER = "time,dir,if,proto,src,sport,dst,dport,flags\n"
 SOURCES = ["198.51.100.1", "198.51.100.2", "198.51.100.3", "2001:db8::1", "2001:db8::2"]
+ENTRIES = [*SOURCES, "198.51.100.0/24", "198.51.100.77/24", "198.51.100.2/31", "0.0.0.0/0", "2001:DB8::/32", "2001:db8::1/127", "::/0", "203.0.113.9"]
+TABLES = ["bad", "bad", "bad", "good"]
+ODD = ["", "bad", "kept", "worse", "held", "add", "delete", "in", "7", "4294967296", "198.51.100.1", "!198.51.100.1", "! 198.51.100.1", "10.0.0.0/08", "S", "x"]
 LIMITS = ["states", "src-nodes", "table-entries"]
 TIMEOUTS = [
     "tcp.first", "tcp.opening", "tcp.established", "tcp.closing", "tcp.finwait", "tcp.closed",
@@ -58,8 +62,11 @@ def drawn_rules(draw: random.Random) -> str:
     often = draw.choice([0.1, 0.3, 0.6])
     lines = drawn_settings(draw, often)
     lines.append(draw.choice(["table <bad> persist", f"table <bad> {{ {draw.choice(SOURCES)} }}"]))
+    lines += ["table <good>", "table <kept> const"]
     if draw.random() < 0.5:
         lines.append("block in quick from <bad>")
+    if draw.random() < 0.3:
+        lines.append("block in quick proto udp from ! <good>")
     if draw.random() < 0.5:
         lines.append("pass all" + drawn_options(draw, False, often))
     for _ in range(draw.randint(1, 4)):
@@ -93,6 +100,25 @@ def answer(time: int, source: str, port: int, flags: str) -> str:
     return f"{time},out,em0,tcp,{server(source)},80,{source},{port},{flags}"
 
 
+def drawn_order(draw: random.Random, time: int) -> str:
+    """A record of an administrator."""
+    kind, table = draw.random(), draw.choice(TABLES)
+    if kind < 0.25:
+        return f"{time},held,,,,,,,"
+    if kind < 0.4:
+        return f"{time},expire,{table},,,{draw.choice([0, 1, 5, 60, 1000])},,,"
+    what = "add" if kind < 0.75 else "delete"
+    return f"{time},{what},{table},,{draw.choice(['', '', '!'])}{draw.choice(ENTRIES)},,,,"
+
+
+def odd_record(draw: random.Random, record: str) -> str:
+    """A record with a field that is another, or with one more or fewer."""
+    fields = record.split(",")
+    place = draw.randrange(len(fields))
+    fields[place : place + draw.choice([1, 1, 1, 1, 0, 2])] = [draw.choice(ODD)]
+    return ",".join(fields)
+
+
 def drawn_records(draw: random.Random, time: int) -> List[str]:
     """The records of one moment."""
     source, port = draw.choice(SOURCES), draw.randint(1, 6)
@@ -110,15 +136,18 @@ def drawn_records(draw: random.Random, time: int) -> List[str]:
     if kind < 0.9:
         flags = draw.choice(["S", "SA", "A", "FA", "R", "PA", ""])
         return [draw.choice([tcp, answer])(time, source, port, flags)]
-    if kind < 0.97:
-        return [f"{time},expire,bad,,,{draw.choice([0, 1, 5, 60, 1000])},,,"]
+    if kind < 0.98:
+        return [drawn_order(draw, time)]
     return [f"{time},in,em0,icmp,{source},,{server(source)},,"]
 
 
-def drawn_trace(draw: random.Random, records: int) -> str:
+def drawn_trace(draw: random.Random, records: int, may_fail: bool = False) -> str:
+    """A trace of so many records, of which the last may be a fault if `may_fail`."""
     lines: List[str] = []
     time = draw.randint(0, 1_000_000)
     while len(lines) < records:
         time += drawn_step(draw)
         lines += drawn_records(draw, time)
+    if may_fail and records and draw.random() < 0.2:
+        lines[records - 1] = odd_record(draw, draw.choice([lines[records - 1], drawn_order(draw, time)]))
     return HEADER + "\n".join(lines[:records]) + "\n"

@@ -1,7 +1,7 @@
 """Drawn rulesets of rules and anchors inside one another, and packets for them.
 
 The items ask for directions, interfaces, protocols, hosts, tables, ports and flags, often the same as the item before, so that a walk that
-skips has something to skip; some are `quick`. No rule keeps state: a report is the verdicts. The same generator of numbers draws the same.
+skips has something to skip; some are `quick`. No rule keeps state: a report is the verdicts. Between the packets the tables change. The same generator of numbers draws the same.
 """
 from __future__ import annotations
 
@@ -138,9 +138,19 @@ def record_of(packet: Packet) -> str:
     return f"1,{way},{interface},{proto},{source},{ports[0]},{destination},{ports[1]},{flags}\n"
 
 
+def drawn_change(numbers: random.Random) -> str:
+    """A record by which an entry comes or goes."""
+    sign = numbers.choice(["", "", "!"])
+    return f"1,{numbers.choice(['add', 'delete'])},{numbers.choice(list(TABLES))},,{sign}{numbers.choice(PREFIXES + ADDRESSES)},,,,\n"
+
+
+def drawn_record(numbers: random.Random) -> str:
+    return drawn_change(numbers) if numbers.random() < 0.05 else record_of(drawn_packet(numbers))
+
+
 def drawn_verdicts(numbers: random.Random, most: int, packets: int) -> tuple[str, str]:
-    """The rules text of up to `most` items, and a trace of packets for it."""
+    """The rules text of up to `most` items, and a trace of packets, and of changes of its tables, for it."""
     items = drawn_items(Draw(numbers, numbers.choice([5, 50, 500, most])), 0)
     tables = "".join(f"table <{name}> {{ {' '.join(entries)} }}\n" for name, entries in TABLES.items())
-    trace = HEADER + "".join(record_of(drawn_packet(numbers)) for _ in range(packets))
+    trace = HEADER + "".join(drawn_record(numbers) for _ in range(packets))
     return tables + "".join(text_of(item) for item in items), trace

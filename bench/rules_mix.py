@@ -2,11 +2,12 @@
 
 `bench/run` measures these beside its other scenarios.
 """
-from typing import Iterator, List, Set
+from typing import Callable, Iterator, List, Set
 
 from traces import SERVER, Numbers, Scenario
 
 INTERFACES = 20
+ADDED = 100_000
 PREFIXES = [(13, 100), (14, 200), (15, 400), (16, 800), (17, 1600), (18, 3000), (19, 5000), (20, 8000), (21, 10000), (22, 12000), (23, 14000), (24, 14900)]
 
 
@@ -41,10 +42,14 @@ def deep_rules(items: int) -> str:
     return "\n".join(lines) + "\n"
 
 
-def asking(name: str, rules: str, records: int) -> Scenario:
-    """Packets of sources without number: most are UDP to port 53, one in eight is TCP, one in sixteen comes in elsewhere."""
+def asking(name: str, rules: str, records: int, first: Callable[[], Iterator[str]] = lambda: iter(())) -> Scenario:
+    """Packets of sources without number: most are UDP to port 53, one in eight is TCP, one in sixteen comes in elsewhere.
+
+    `first` are records of moment 0 before them.
+    """
 
     def lines() -> Iterator[str]:
+        yield from first()
         chosen = Numbers()
         for n in range(records):
             source = f"{1 + chosen.below(10)}.{chosen.below(250)}.{chosen.below(250)}.{chosen.below(250)}"
@@ -72,6 +77,22 @@ def big_table(records: int) -> Scenario:
         prefixes += [f"{address(prefix)}/{bits}" for prefix in sorted(seen)]
     rules = f"table <big> {{\n{chr(10).join(prefixes)}\n}}\nblock in quick from <big>\npass in proto udp all no state\n"
     return asking("table of 70,000 prefixes, asked by each packet", rules, records)
+
+
+def added_tables(records: int) -> Scenario:
+    """Each packet asks two tables that got 100,000 addresses each by records, more than a rules text can hold."""
+
+    def added() -> Iterator[str]:
+        chosen = Numbers()
+        seen: Set[int] = set()
+        while len(seen) < 2 * ADDED:
+            number = (1 + chosen.below(9)) << 24 | chosen.below(1 << 24)
+            if number not in seen:
+                yield f"0,add,{'bad' if len(seen) < ADDED else 'worse'},,{address(number)},,,,\n"
+                seen.add(number)
+
+    rules = "table <bad>\ntable <worse>\nblock in quick from <bad>\nblock in quick from <worse>\npass in proto udp all no state\n"
+    return asking("two tables of 100,000 addresses, added by records, asked by each packet", rules, records, added)
 
 
 def long_rules(items: int) -> str:

@@ -3,7 +3,7 @@ import csv
 import io
 import re
 from dataclasses import dataclass
-from typing import List, Optional, Set, Tuple
+from typing import AbstractSet, List, Optional, Set, Tuple
 
 SINGLE = b"{}()<>,!="
 HEADER = [b"time", b"dir", b"if", b"proto", b"src", b"sport", b"dst", b"dport", b"flags"]
@@ -12,6 +12,8 @@ RULE_KINDS = {
     "GlobalConn", "GlobalRetention", "OverloadAlone", "AdaptivePair", "PortWithoutProto", "StateOnBlock", "TooDeep", "TooManyRules", "ConstOverload",
 }
 TEXT_KINDS = {"AdaptivePair", "TooManyTables", "TooManyEntries"}
+# What an administrator does, and the columns that say with what; the others are empty.
+COMMANDS = {b"expire": (3, 6), b"add": (3, 5), b"delete": (3, 5), b"held": ()}
 
 
 @dataclass(frozen=True)
@@ -134,6 +136,14 @@ def family(field: bytes) -> Optional[int]:
     return 4 if is_quad(field) else 6 if is_groups(field) else None
 
 
+def is_entry(field: bytes) -> bool:
+    """A prefix, directly behind a `!` where it is negated."""
+    address, slash, length = field.removeprefix(b"!").partition(b"/")
+    most = {4: 32, 6: 128}.get(family(address) or 0, -1)
+    is_length = re.fullmatch(rb"0|[1-9][0-9]{0,2}", length) is not None and int(length) <= most
+    return most > 0 and (is_length if slash else True)
+
+
 def protocol(field: bytes) -> Optional[int]:
     named = {b"tcp": 6, b"udp": 17, b"icmp": 1, b"icmp6": 58, b"esp": 50, b"ah": 51, b"gre": 47}
     return named.get(field, int(field) if is_number(field, 255) else None)
@@ -141,13 +151,30 @@ def protocol(field: bytes) -> Optional[int]:
 
 def bad_field(record: List[bytes]) -> int:
     """The first field that is not accepted, from 1; 0 where all are."""
+    accepted = accepted_of_command(record) if record[1] in COMMANDS else accepted_of_packet(record)
+    return 0 if all(accepted) else accepted.index(False) + 1
+
+
+def accepted_of_command(record: List[bytes]) -> List[bool]:
+    """Of each field of an administrator's record, whether it is accepted."""
+    fits = {
+        3: re.fullmatch(rb"[A-Za-z0-9_.-]{1,31}", record[2]) is not None,
+        5: is_entry(record[4]),
+        6: is_number(record[5], 4294967295),
+    }
+    asked = COMMANDS[record[1]]
+    return [is_number(record[0], 4294967295), True] + [fits[it] if it in asked else record[it - 1] == b"" for it in range(3, 10)]
+
+
+def accepted_of_packet(record: List[bytes]) -> List[bool]:
+    """Of each field of a packet's record, whether it is accepted."""
     time, way, name, proto, src, sport, dst, dport, flags = record
     number = protocol(proto)
 
     def port(field: bytes) -> bool:
         return is_number(field, 65535) if number in (6, 17) else field == b""
 
-    accepted = [
+    return [
         is_number(time, 4294967295),
         way in (b"in", b"out"),
         re.fullmatch(rb"[A-Za-z0-9_.-]{1,15}", name) is not None,
@@ -158,11 +185,10 @@ def bad_field(record: List[bytes]) -> int:
         port(dport),
         re.fullmatch(rb"[FSRPAUEW]*" if number == 6 else rb"", flags) is not None,
     ]
-    return 0 if all(accepted) else accepted.index(False) + 1
 
 
-def read_trace(trace: bytes) -> Tuple[List[List[bytes]], str]:
-    """The records before the first fault, and the fault, or nothing."""
+def read_trace(trace: bytes, tables: AbstractSet[bytes] = frozenset()) -> Tuple[List[List[bytes]], str]:
+    """The records before the first fault, and the fault, or nothing. An administrator may change these tables."""
     records = records_of(trace)
     if not records or records[0] != HEADER:
         return [], "trace: row 0: columns"
@@ -174,6 +200,8 @@ def read_trace(trace: bytes) -> Tuple[List[List[bytes]], str]:
             return good, f"trace: row {row}: field {bad_field(record)}"
         if good and int(record[0]) < int(good[-1][0]):
             return good, f"trace: row {row}: time falls"
+        if COMMANDS.get(record[1]) and record[2] not in tables:
+            return good, f"trace: row {row}: table"
         good.append(record)
     return good, ""
 

@@ -1,1 +1,1 @@
-"""pfplan: from a pf.conf and a capture, or an imagined flood, to an answer that one can look at. Tested, not proved."""
+"""pfplan: from a pf.conf and a capture, or a scenario, to an answer that one can look at. Tested, not proved."""

@@ -6,6 +6,7 @@ from collections.abc import Sequence
 from types import FrameType
 
 from .errors import Status, Trouble, reason_of
+from .markup import visible
 from .words import COMMANDS, parse
 
 
@@ -26,7 +27,7 @@ def main(words: Sequence[str] | None = None) -> int:
     except OSError as error:
         message, status = f"{error.filename or 'reading or writing'}: {reason_of(error)}", Status.FAILED
     if message:
-        print(f"{name}: {message}", file=sys.stderr)
+        print(visible(f"{name}: {message}"), file=sys.stderr)
     return status
 
 

@@ -123,7 +123,8 @@ class RulesText:
         known = [*settings, *dict.fromkeys(it.name for it in options), *(f"@{it.rules[0]}.{it.name}" for it in options)]
         near = difflib.get_close_matches(name, known, 1)
         if place is None and name in MAXIMA:
-            raise Trouble(f"{self.path}: no rule states {name}")
+            stated = ", ".join(dict.fromkeys(it.name for it in options if it.name in MAXIMA))
+            raise Trouble(f"{self.path}: no rule states {name}; --vary takes {stated + ', ' if stated else ''}a limit as states, or a timeout as tcp.first")
         raise Trouble(f"{self.path}: no number is named '{name}'" + (f"; is {near[0]} meant?" if near else f"; there are {', '.join(known)}"))
 
     def changed(self, values: Mapping[Number, int]) -> bytes:

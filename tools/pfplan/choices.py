@@ -3,11 +3,11 @@
 import ipaddress
 import re
 from collections.abc import Iterable, Sequence
-from dataclasses import dataclass, field
+from dataclasses import dataclass, field, replace
 
 from .interfaces import Location, Machine, prefix_of, shown
 from .leftovers import Reason, Teller, beyond, harmless, telling
-from .syntax import Filter, Host, HostKind, Interface, Place, Port, State
+from .syntax import Filter, Host, HostKind, Interface, Port, State, Statement
 from .tables import TableMaker
 from .words import Network
 
@@ -21,13 +21,14 @@ SPLIT = beyond("it makes several rules of one, and each would count states by it
 class Choice:
     """An item as a rules text writes it. `family` is that of an address, which the rule has to say where `is_said`.
 
-    `zone` is the interface that a link-local address is on.
+    `zone` is the interface that a link-local address is on. `is_piece` says that pf has it in one rule with the choice in front.
     """
 
     text: str
     family: str = ""
     zone: str = ""
     is_said: bool = False
+    is_piece: bool = False
 
 
 @dataclass(frozen=True)
@@ -109,13 +110,13 @@ class Chooser:
     teller: Teller
     contents: TableMaker
 
-    def interfaces(self, asked: Filter, place: Place, counts: bool) -> Options:
+    def interfaces(self, asked: Filter, statement: Statement, counts: bool) -> Options:
         """The choices of `on`: none, or one for each interface."""
         if not asked.interfaces:
             return NO_CHOICE
-        return [choice for it in asked.interfaces for choice in self._interface(it, place, counts)]
+        return [choice for it in asked.interfaces for choice in self._interface(it, statement, counts)]
 
-    def _interface(self, asked: Interface, place: Place, counts: bool) -> Options:
+    def _interface(self, asked: Interface, statement: Statement, counts: bool) -> Options:
         part = f"on {'! ' if asked.negated else ''}{asked.name}"
         if asked.domain is not None:
             return [Gap(f"{part} {asked.domain}", beyond("a trace does not carry routing domains"))]
@@ -123,10 +124,22 @@ class Chooser:
             return self._any_interface(asked, part, counts)
         members = None if asked.name in self.machine.interfaces else self.machine.members(asked.name)
         if members is None:
-            return self._plain_interface(asked, part, place)
+            return self._plain_interface(asked, part, statement)
         if not asked.negated:
             return _split([Choice(f"on {it}") for it in members], part, counts)
         return self._not_on(members, part, counts)
+
+    def skipped(self, name: str, statement: Statement) -> list[str]:
+        """The interfaces that `set skip on NAME` passes over: NAME, or those of a group; of `lo` the loopback interfaces."""
+        if name in self.machine.interfaces:
+            return [name]
+        members = self.machine.members(name) or (self.machine.loopbacks() if name == "lo" else None)
+        if members is None:
+            found = self._plain_interface(Interface(name), f"set skip on {name}", statement)
+            if any(isinstance(it, Gap) for it in found):
+                self.teller.tell(statement.place, f"set skip on {name}", harmless("a trace can't have an interface of that name"))
+                return []
+        return members or [name]
 
     def _any_interface(self, asked: Interface, part: str, counts: bool) -> Options:
         """`on any`, which is every interface but the loopback ones."""
@@ -139,21 +152,20 @@ class Chooser:
             return [Choice(f"on ! {names[0]}")]
         others = self.machine.others(names)
         if others is None:
-            return [Gap(part, beyond("it asks for all interfaces but several; --ifconfig says which there are"))]
+            return [Gap(part, beyond("it asks for all interfaces but several; --ifconfig says which there are", is_missing=True))]
         if not others:
             return [Gap(part, harmless("there is no such interface"))]
         return _split([Choice(f"on {it}") for it in others], part, counts)
 
-    def _plain_interface(self, asked: Interface, part: str, place: Place) -> Options:
+    def _plain_interface(self, asked: Interface, part: str, statement: Statement) -> Options:
         if not NAME.fullmatch(asked.name) or len(asked.name) > 15 or asked.name == "rdomain":
             return [Gap(part, beyond("a trace can't have an interface of that name"))]
         if asked.name not in self.machine.interfaces and not asked.name[-1].isdigit():
             help_ = f"give --interface {asked.name}=IF{self._or_ifconfig(asked.name)}"
             if asked.negated:
-                return [Gap(part, beyond(f"it asks for all interfaces outside of a group; {help_}"))]
-            self.teller.tell(
-                place, f"that {asked.name} is a group", telling(f"only records on an interface of that very name match; {help_}")
-            )
+                return [Gap(part, beyond(f"it asks for all interfaces outside of a group; {help_}", is_missing=True))]
+            reason = telling(f"only records on an interface of that very name match; {help_}", is_missing=True)
+            self.teller.tell(statement.place, f"that {asked.name} is a group", reason, statement)
         return [Choice(part)]
 
     def hosts(self, hosts: Sequence[Host], family: str, counts: bool) -> Options:
@@ -177,7 +189,8 @@ class Chooser:
     def _table(self, host: Host, sign: str) -> Options:
         """A table, unless entries that are not there would have it match more than it does in pf."""
         if host.text in (self.contents.narrower if host.negated else self.contents.wider):
-            return [Gap(host.shown(), beyond(f"entries of <{host.text}> are not there, and without them it matches other addresses too"))]
+            why = f"entries of <{host.text}> are not there, and without them it matches other addresses too"
+            return [Gap(host.shown(), beyond(why, is_missing=True))]
         return [Choice(f"{sign}<{host.text}>")]
 
     def _range(self, host: Host, sign: str) -> Options:
@@ -231,8 +244,9 @@ class Chooser:
 
     def _no_address(self, host: Host, family: str) -> Gap:
         which = f"{host.text} for {family}" if family else host.text
-        help_ = f"give it with --address {host.text}=PREFIX{self._or_ifconfig(host.text)}"
-        return Gap(host.shown(), beyond(f"the address of {which} is not there; {help_}"))
+        what = "PREFIX" if ":network" in host.text else "ADDRESS"
+        help_ = f"give it with --address {host.text}={what}{self._or_ifconfig(host.text)}"
+        return Gap(host.shown(), beyond(f"the address of {which} is not there; {help_}", is_missing=True))
 
     def _or_ifconfig(self, name: str) -> str:
         return "" if self.machine.interfaces or "." in name else " or --ifconfig"
@@ -250,7 +264,16 @@ def _cut(network: Network, length: int) -> Network:
 
 def _split(choices: list[Choice], part: str, counts: bool) -> Options:
     """Choices that pf has in one rule: a gap where that rule counts its states."""
-    return [Gap(part, SPLIT)] if counts and len(choices) > 1 else list(choices)
+    return [Gap(part, SPLIT)] if counts and len(choices) > 1 else [*choices[:1], *(replace(it, is_piece=True) for it in choices[1:])]
+
+
+def places_in_pf(options: Options) -> list[int]:
+    """For each choice of a list, the place of the item that it is of in the list that pfctl expands."""
+    places: list[int] = []
+    for it in options:
+        is_piece = isinstance(it, Choice) and it.is_piece
+        places.append(places[-1] if is_piece else places[-1] + 1 if places else 0)
+    return places
 
 
 def port_ranges(port: Port) -> list[tuple[int, int]]:

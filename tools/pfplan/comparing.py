@@ -3,7 +3,6 @@
 import argparse
 import contextlib
 import json
-import os
 from collections import Counter
 from collections.abc import Callable, Iterator, Sequence
 from dataclasses import asdict, dataclass, field
@@ -12,16 +11,19 @@ from typing import Any
 
 from . import comparing_texts
 from .connections import Key
+from .entries import entries_of_rules, mark_of
 from .errors import Status, Trouble
 from .inputs import check_rules, regular
+from .insertions import asking
 from .measuring import Measure, add_asked, measure_of, most_of, replayed
 from .outputs import whole_file
 from .progress import Progress
 from .records import Record, read_record
 from .replays import check_program, items_of, records_of, show_rules
+from .rule_texts import flushes_of
+from .scenarios.reading import is_scenario
 from .sides import Side, follow, side_of
 from .stepping import Steps, steps_of
-from .summaries import held_at
 from .timelines import Timeline, timeline_of
 from .words import file, number
 
@@ -184,8 +186,8 @@ def names_of(paths: Sequence[Path]) -> list[str]:
     return names if len(set(names)) == len(names) else [str(it) for it in paths]
 
 
-def compare(paths: Sequence[Path], trace: Path, arguments: argparse.Namespace) -> Comparison:
-    """Replays the trace under each ruleset, all at once. Trouble as the program's own for each."""
+def compare(paths: Sequence[Path], trace: Path, entries: Sequence[Sequence[str]], arguments: argparse.Namespace) -> Comparison:
+    """Replays the trace under each ruleset, all at once. `entries` are those of each that come by records. Trouble as the program's own for each."""
     names = names_of(paths)
     shown = [show_rules(it) for it in paths]
     rules = [items_of(it) for it in shown]
@@ -193,22 +195,27 @@ def compare(paths: Sequence[Path], trace: Path, arguments: argparse.Namespace) -
     progress = Progress("compare", records_of(trace), "records")
     with contextlib.ExitStack() as stack:
         stack.callback(progress.finish)
-        reports = [stack.enter_context(replayed(it, trace)) for it in paths]
+        asked = [stack.enter_context(asking(trace, arguments.held, it)) for it in entries]
+        heard = [one.heard(it) for one, it in zip(asked, paths)]
+        reports = [stack.enter_context(replayed(it, trace, asked[at], heard[at])) for at, it in enumerate(paths)]
         steps = [steps_of(trace) for _ in paths] if arguments.page else []
         told = [steps[at].told if steps else None for at in range(len(paths))]
-        sides = [side_of(name, reports[at], arguments.users, fates.ended(at), told[at]) for at, name in enumerate(names)]
+        flushes = [flushes_of(it) for it in rules]
+        sides = [
+            side_of(name, reports[at], arguments.users, fates.ended(at), told[at], flushes[at], asked[at].numbers) for at, name in enumerate(names)
+        ]
         pairs = Pairs(sides, rules, progress, steps)
         follow(trace, sides, arguments.users, pairs.take)
     fates.finish()
-    held = [held_at(it, trace, arguments.held, os.cpu_count() or 1) if arguments.held else [] for it in paths]
-    measures = [measure_of(side, most_of(moments, measure_of(side).end)) for side, moments in zip(sides, held)]
+    measures = [measure_of(side, most_of(it.held, measure_of(side).end)) for side, it in zip(sides, heard)]
+    lines_of = [[*lines, *([mark_of(it)] if it else [])] for lines, it in zip(shown, entries)]
     against = [
-        Against(pairs.texts[at], pairs.partings[at], fates.counts[at], fates.changed[at], _only(shown[0], shown[at + 1]))
+        Against(pairs.texts[at], pairs.partings[at], fates.counts[at], fates.changed[at], _only(lines_of[0], lines_of[at + 1]))
         for at in range(len(paths) - 1)
     ]
     lines = [
-        timeline_of(it.steps, it.seconds, [(at.moment, at.states) for at in moments], it.first, any(one.connections for one in measures))
-        for it, moments in zip(steps, held)
+        timeline_of(it.steps, it.seconds, [(at.moment, at.states) for at in said.held], it.first, any(one.connections for one in measures))
+        for it, said in zip(steps, heard)
     ]
     return Comparison(trace.name, ",".join(map(str, arguments.users)), names, measures, against, arguments.held, lines)
 
@@ -232,7 +239,7 @@ def add_words(parser: argparse.ArgumentParser) -> None:
     """The words of `compare`."""
     parser.description = DESCRIPTION
     parser.add_argument("rules", nargs="+", type=file, metavar="RULES", help="two rules texts or more")
-    parser.add_argument("trace", type=file, metavar="TRACE", help="the trace under which they are replayed")
+    parser.add_argument("trace", type=file, metavar="TRACE", help="the trace under which they are replayed, or the scenario that is played against each")
     add_asked(parser, 0)
     parser.add_argument("--top", type=number(0, 1000), default=5, metavar="N", help="how many of the connections that change are named (5)")
     parser.add_argument("--json", action="store_true", help="for machines")
@@ -244,12 +251,17 @@ def run(arguments: argparse.Namespace) -> int:
     """Compares rulesets and tells how they differ."""
     if len(arguments.rules) < 2:
         raise Trouble("two rules texts or more are wanted, and then a trace (pfplan compare --help)")
+    if is_scenario(arguments.trace):
+        from .scenarios.commands import compare_plays  # which needs modules above this one
+
+        return compare_plays(arguments)
     check_program()
     for path in arguments.rules:
         check_rules(path)
     with regular(arguments.trace) as trace, contextlib.ExitStack() as stack:
         paths = [stack.enter_context(regular(it)) for it in arguments.rules]
-        found = compare(paths, trace, arguments)
+        entries = [entries_of_rules(it, name) for it, name in zip(paths, arguments.rules)]
+        found = compare(paths, trace, entries, arguments)
     found.trace, found.names = arguments.trace.name, names_of(arguments.rules)
     with whole_file(arguments.out) as out:
         out.write(json.dumps(found.to_json(), indent=1) + "\n" if arguments.json else comparing_texts.text_of(found))

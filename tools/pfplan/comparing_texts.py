@@ -6,17 +6,18 @@ from collections import Counter
 from collections.abc import Iterator, Sequence
 from typing import TYPE_CHECKING
 
-from .connections import KINDS, MEANINGS
-from .figures import counted, share_text
+from .connections import KINDS, LATE, MEANINGS
+from .errors import Trouble
+from .figures import counted, moment_text, share_text
 from .frames import answer, bullets, code, document, gallery, paragraph, section, soft, table
 from .markup import Child, Markup, join, tag, visible
-from .pictures import PACKAGE, is_at_hand
 from .records import WORDS
 from .timelines import drawn_beside
 from .words_told import connection_text, letters, record_text, why
 
 if TYPE_CHECKING:
     from .comparing import Against, Comparison, Parting
+    from .measuring import Measure
 
 Row = tuple[str, list[str]]
 MOST_LINES = 12
@@ -28,12 +29,12 @@ def rows_of(found: Comparison) -> Iterator[Row]:
     if found.users:
         yield "users' connections", [f"{it.connections:,}" for it in measures]
         for kind in KINDS:
-            yield f"  {kind}", [f"{it.outcomes[kind]:,} ({share_text(it.outcomes[kind], it.connections)})" for it in measures]
+            yield f"  {kind}", [kind_text(it, kind) for it in measures]
     for word in WORDS:
         limits = [next((limit for limit in it.limits if limit.word == word), None) for it in measures]
         if any(limits):
             yield word, [f"{it.records:,}" if it else "0" for it in limits]
-            yield f"  {word}: first, last moment", [f"{it.first}, {it.last}" if it else "-" for it in limits]
+            yield f"  {word}: first, last moment", [f"{moment_text(it.first)}, {moment_text(it.last)}" if it else "-" for it in limits]
     if any(it.states_killed for it in measures):
         yield "states killed", [f"{it.states_killed:,}" for it in measures]
     for word in ("added", "full"):
@@ -45,6 +46,12 @@ def rows_of(found: Comparison) -> Iterator[Row]:
     yield "table entries at the end", [f"{it.end.entries:,}" for it in measures]
     if found.moments:
         yield f"most states at {counted(found.moments, 'moment')}", [f"{it.most_held or 0:,}" for it in measures]
+
+
+def kind_text(measure: Measure, kind: str) -> str:
+    """How many connections had an outcome, with their share of those that are counted."""
+    count = measure.outcomes.get(kind, 0)
+    return f"{count:,} (not counted)" if kind == LATE else f"{count:,} ({share_text(count, measure.counted)})"
 
 
 def text_of(found: Comparison) -> str:
@@ -70,7 +77,7 @@ def against_lines(against: Against, letter: str, has_users: bool) -> Iterator[st
     for (one, other), count in changed_words(against.words):
         yield f"  {one} -> {other}".ljust(48) + f"{count:>12,}"
     if against.parting:
-        yield f"they part at row {against.parting.row:,}, moment {against.parting.record.time}: {visible(record_text(against.parting.record))}"
+        yield f"they part at row {against.parting.row:,}, moment {moment_text(against.parting.record.time)}: {visible(record_text(against.parting.record))}"
         for name, text, rule in zip(("A", letter), against.parting.texts, against.parting.rules):
             yield f"  {name.ljust(2)} {text}: {why(text)}"
             yield from (f"       {it}" for it in [rule] if it)
@@ -132,11 +139,11 @@ def answer_of(found: Comparison) -> Markup:
         return answer("No users were named (--users), so it is not told who was served.", None)
     most = max(it.served for it in measures)
     best = [name for name, it in zip(found.names, measures) if it.served == most]
-    connections = max(it.connections for it in measures)
+    connections = max(it.counted for it in measures)
     share = share_text(most, connections)
     if len(best) == len(found.names) and connections:
         return answer(f"All serve alike: {most:,} of {connections:,} connections of users, {share}.", None)
-    others = [f"{name}: {it.served:,} of {it.connections:,} ({share_text(it.served, it.connections)})" for name, it in zip(found.names, measures)]
+    others = [f"{name}: {it.served:,} of {it.counted:,} ({share_text(it.served, it.counted)})" for name, it in zip(found.names, measures)]
     verb = "serves" if len(best) == 1 else "serve"
     return answer(f"{' and '.join(best)} {verb} the most users: {most:,} of {connections:,} connections, {share}.", None, bullets(others))
 
@@ -148,13 +155,15 @@ def table_of(found: Comparison) -> Markup:
 
 
 def pictures_parts(found: Comparison) -> Iterator[Child]:
-    """The rulesets over time, pictures of a kind on one scale; or which package draws them."""
+    """The rulesets over time, pictures of a kind on one scale; or why there are none."""
     if not found.timelines or not found.measures[0].records:
         return
-    if not is_at_hand():
-        yield section("Over time", soft(f"No pictures: gnuplot is not here (Debian package {PACKAGE})."))
+    try:
+        beside = drawn_beside(found.timelines)
+    except Trouble as trouble:
+        yield section("Over time", soft(f"No pictures: {trouble.message}."))
         return
-    galleries = [gallery([it.figure(name) for it, name in zip(drawn, found.names)]) for drawn in drawn_beside(found.timelines).values()]
+    galleries = [gallery([it.figure(name) for it, name in zip(drawn, found.names)]) for drawn in beside.values()]
     yield section("Over time", *galleries)
 
 
@@ -192,7 +201,7 @@ def parting_part(parting: Parting, first: str, name: str) -> Markup:
         join([f"{title}: ", code(text), f", {why(text)}" if why(text) else "", *([tag("br"), code(rule)] if rule else [])])
         for title, text, rule in zip((first, name), parting.texts, parting.rules)
     ]
-    head = paragraph(f"They part at row {parting.row:,}, moment {parting.record.time}: ", code(record))
+    head = paragraph(f"They part at row {parting.row:,}, moment {moment_text(parting.record.time)}: ", code(record))
     return join([tag("h3", "The first record at which they part"), head, bullets(said)])
 
 

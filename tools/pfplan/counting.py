@@ -1,21 +1,24 @@
 """Counts what a report and its trace hold, block by block. What is counted is told by summaries.Summary."""
 
 from collections import Counter
-from collections.abc import Iterable, Iterator, Sequence
+from collections.abc import Iterable, Iterator, Mapping, Sequence
 from dataclasses import dataclass, field
 from functools import lru_cache
-from itertools import compress, groupby
+from itertools import chain, compress, groupby
 from pathlib import Path
 from typing import NoReturn
 
-from .connections import Connections
+from .connections import Connections, Reply
 from .errors import Status, Trouble
-from .records import End, Traces, read_answer
+from .records import ORDERS, End, Traces, read_answer
+from .rows import Rows
 from .sources import Sources
 from .words import Network
 
 STEPS = (1, 2, 5, 10, 15, 30, 60, 120, 300, 600, 900, 1800, 3600, 7200, 14400, 43200, 86400, 604800, 2592000, 31536000)
 MOST_STEPS = 120
+# The words of records that are no packets with ports: those that are skipped, and those of an administrator.
+NO_PACKETS = ("skip", "expire", "held", "add", "delete")
 # Limits of a block whose last place is looked for one by one.
 FEW = 8
 # Texts of a report's lines that are remembered.
@@ -61,18 +64,22 @@ def _row_begins(first: int, count: int) -> tuple[str, ...]:
 
 
 class Answers:
-    """Counts the lines of a report: each word by rule, limits with their rows, kills and what overload did."""
+    """Counts the lines of a report: each word by rule, limits with their rows, kills and what overload did.
 
-    def __init__(self, name: Path | str, items: int | None) -> None:
+    `numbers` are those of the rows in the report where records were put into the trace; the counts are by the trace's own rows.
+    """
+
+    def __init__(self, name: Path | str, items: int | None, numbers: Rows | None = None) -> None:
         self.rows = 0
+        self._numbers = numbers or Rows(())
         self.by_rule: dict[str, Counter[str]] = {}
         self.limits: dict[str, Limit] = {}
         self.overloads: Counter[str] = Counter()
         self.end: End | None = None
         self._name = name
         self._items = items
-        # the word of a text behind the row's number, and the states that it killed
-        self._known: dict[str, tuple[str, int]] = {}
+        # what a text behind the row's number says
+        self._known: dict[str, Reply] = {}
 
     def take(self, lines: Sequence[str]) -> list[str]:
         """Counts the lines of a block, and answers the texts behind the rows' numbers, without that of the last line."""
@@ -88,8 +95,7 @@ class Answers:
             if text not in self._known:
                 self._know(text, first + texts.index(text))
         for text, count in counts.items():
-            word, killed = self._known[text]
-            self._count(word, text, count, killed)
+            self._count(self._known[text], count)
         self._count_limits(texts, counts, first)
         if len(lines) > len(texts):
             self._take_end(lines[len(texts)])
@@ -99,11 +105,15 @@ class Answers:
 
     def word_of(self, text: str) -> str:
         """The word of a text that `take` answered."""
-        return self._known[text][0]
+        return self._known[text].word
 
     def killed_of(self, text: str) -> int:
         """The states that a text of `take` says were killed."""
-        return self._known[text][1]
+        return self._known[text].killed
+
+    def reply_of(self, text: str) -> Reply:
+        """What a text of `take` says."""
+        return self._known[text]
 
     def finish(self, is_partial: bool) -> None:
         """The report is over. Trouble where it has no last line, unless `is_partial`."""
@@ -114,13 +124,18 @@ class Answers:
     def _texts(self, lines: Sequence[str]) -> list[str]:
         """What stands behind the numbers of the rows; the numbers have to be those that follow."""
         count = len(lines) - (1 if lines and lines[-1].startswith("end ") else 0)
-        begins = _row_begins(self.rows + 1, count)
+        begins = self._begins(count)
         if begins and all(map(str.startswith, lines, begins)):
             width = len(begins[0])
             if len(begins[-1]) == width:
                 return [it[width:] for it in lines[:count]]
             return [it[len(begin) :] for it, begin in zip(lines, begins)]
         return self._slow_texts(lines)
+
+    def _begins(self, count: int) -> tuple[str, ...]:
+        """How the lines of the next rows begin in the report."""
+        parts = self._numbers.parts(self.rows + 1, count)
+        return _row_begins(*parts[0]) if len(parts) == 1 else tuple(chain.from_iterable(_row_begins(*it) for it in parts))
 
     def _slow_texts(self, lines: Sequence[str]) -> list[str]:
         """As `_texts`, of lines that are not plainly those of the rows that follow: says what is wrong with them."""
@@ -129,19 +144,20 @@ class Answers:
         numbers = [it[0] for it in parts]
         if "end" in numbers:
             count = numbers.index("end")
-        if numbers[:count] != list(map(str, range(self.rows + 1, self.rows + count + 1))):
+        if numbers[:count] != [it[:-1] for it in self._begins(count)]:
             self._refuse_first(lines)
         return [it[2] for it in parts[:count]]
 
     def _refuse_first(self, lines: Sequence[str]) -> NoReturn:
-        for row, line in enumerate(lines, self.rows + 1):
+        for line, begin in zip(lines, self._begins(len(lines)), strict=True):
+            row = int(begin)
             try:
                 found = read_answer(line)
             except ValueError as error:
                 self._refuse(row, str(error))
             if isinstance(found, End):
                 break
-            if found.row != row or not line.startswith(f"{row} "):
+            if found.row != row or not line.startswith(begin):
                 self._refuse(row, f"row {row} is wanted")
         self._refuse(self.rows + len(lines), "no line of a report")
 
@@ -153,21 +169,20 @@ class Answers:
         assert not isinstance(answer, End)
         if self._items is not None and answer.rule != "-" and int(answer.rule[1:]) >= self._items:
             self._refuse(row, f"the rules have no {answer.rule}")
-        self._known[text] = answer.word, answer.killed
+        self._known[text] = Reply(answer.word, answer.rule, answer.overload, answer.killed)
 
-    def _count(self, word: str, text: str, count: int, killed: int) -> None:
-        part = text.split(" ")
-        self.by_rule.setdefault(word, Counter())[part[1]] += count
-        if not word.startswith(("drop:", "kill:")):
+    def _count(self, reply: Reply, count: int) -> None:
+        self.by_rule.setdefault(reply.word, Counter())[reply.rule] += count
+        if not reply.word.startswith(("drop:", "kill:")):
             return
-        limit = self.limits.setdefault(word, Limit(word))
+        limit = self.limits.setdefault(reply.word, Limit(reply.word))
         limit.records += count
-        if word.startswith("kill:"):
-            self.overloads[part[2].removeprefix("overload=")] += count
-            limit.killed += killed * count
+        if reply.word.startswith("kill:"):
+            self.overloads[reply.overload] += count
+            limit.killed += reply.killed * count
 
     def _count_limits(self, texts: Sequence[str], counts: Iterable[str], first: int) -> None:
-        met = [it for it in counts if self._known[it][0] in self.limits]
+        met = [it for it in counts if self._known[it].word in self.limits]
         if not met:
             return
         # the last place of each: from the end for a few, by one walk for many
@@ -178,7 +193,7 @@ class Answers:
             places = dict(zip(texts, range(len(texts)), strict=True))
             last = {it: places[it] for it in met}
         for text in met:
-            limit = self.limits[self._known[text][0]]
+            limit = self.limits[self._known[text].word]
             limit.last_row = max(limit.last_row, first + last[text])
             if not limit.first_row or limit.first_row >= first:
                 row = first + texts.index(text)
@@ -201,14 +216,14 @@ class Answers:
 class Moments:
     """Counts the records of a trace beside the answers that they got: by the step of their moment, by source and by interface."""
 
-    def __init__(self, trace: Traces, answers: Answers, users: Sequence[Network], step: int) -> None:
+    def __init__(self, trace: Traces, answers: Answers, users: Sequence[Network], step: int, flushes: Mapping[str, bool] | None = None) -> None:
         self.first: int | None = None
         self.last = 0
         self.step = step
         self.steps: dict[int, Step] = {}
         self.refused, self.killed, self.made, self.seen = Sources(), Sources(), Sources(), Sources()
         self.interfaces: set[str] = set()
-        self.connections = Connections(users, self._count_connection)
+        self.connections = Connections(users, self._count_connection, flushes=flushes)
         self._trace = trace
         self._back: list[str] = []
         self._lines = self._ahead()
@@ -244,12 +259,12 @@ class Moments:
 
     def _count(self, lines: Sequence[str], texts: Sequence[str]) -> None:
         columns = self._columns(lines)
+        if not ORDERS.isdisjoint(columns[1]):
+            _blank_orders(columns)
         self._count_moments(columns[0], texts)
         self._count_sources(columns[4], texts)
-        if "expire" in columns[1]:
-            self._see(name for direction, name in zip(columns[1], columns[2], strict=True) if direction != "expire")
-        else:
-            self._see(columns[2])
+        self._see(columns[2])
+        self.connections.last = self.last
         if self._has_users:
             self._follow(columns, texts)
         self._row += len(lines)
@@ -265,6 +280,7 @@ class Moments:
     def _see(self, names: Iterable[str]) -> None:
         if len(self.interfaces) < INTERFACES:
             self.interfaces.update(names)
+            self.interfaces.discard("")
 
     def _count_moments(self, times: Sequence[str], texts: Sequence[str]) -> None:
         at = 0
@@ -327,16 +343,30 @@ class Moments:
         sources, targets = columns[4], columns[6]
         is_user = self.connections.members.of({*sources, *targets}).__contains__
         rows = range(len(texts))
-        for at in sorted({*compress(rows, map(is_user, sources)), *compress(rows, map(is_user, targets))}):
-            word = self._answers.word_of(texts[at])
-            row = self._row + at + 1
-            if word not in ("skip", "expire"):
-                self.connections.follow(row, int(columns[0][at]), word, [it[at] for it in columns])
-            if word.startswith("kill:"):
-                self.connections.kill(row, sources[at])
+        users = {*compress(rows, map(is_user, sources)), *compress(rows, map(is_user, targets))}
+        replies = {it: self._answers.reply_of(it) for it in set(texts)}
+        kills = {text for text, it in replies.items() if it.word.startswith("kill:")}
+        killing = {*compress(rows, map(kills.__contains__, texts))} if kills else set()
+        passed_over = {text for text, it in replies.items() if it.word in NO_PACKETS}
+        places = sorted(users | killing)
+        records = zip(*([column[at] for at in places] for column in columns), strict=True)
+        follow, row = self.connections.follow, self._row + 1
+        for at, record in zip(places, records, strict=True):
+            text = texts[at]
+            if text not in passed_over and (not killing or at in users):
+                follow(row + at, replies[text], record)
+            if text in kills:
+                self.connections.kill(int(record[0]), record[4], replies[text])
 
     def _refuse(self, why: str) -> NoReturn:
         raise Trouble(f"{self._trace.name}: row {self._row}: {why}", Status.REFUSED)
+
+
+def _blank_orders(columns: Sequence[list[str]]) -> None:
+    """Takes tables and entries of an administrator's records out of the columns of packets, where they are no interface and no source."""
+    for at, direction in enumerate(columns[1]):
+        if direction in ORDERS:
+            columns[2][at] = columns[4][at] = ""
 
 
 def last_moment_of(trace: Path) -> int | None:

@@ -1,6 +1,11 @@
 """How numbers are written for people: thousands by commas, shares that never round up to all or down to none."""
 from __future__ import annotations
 
+import datetime
+
+# A moment from here on is one since 1970, and is told as a clock's time: this one is the first of 1980.
+SINCE_1970 = 315_532_800
+
 
 def counted(count: int, unit: str, units: str | None = None) -> str:
     """`1 state`, `1,200 states`."""
@@ -24,3 +29,10 @@ def share_text(part: int, whole: int) -> str:
     if tenths == 0:
         return "< 0.1 %"
     return f"{tenths // 10}.{tenths % 10} %"
+
+
+def moment_text(moment: int) -> str:
+    """A moment for people: a date and a time of day (UTC) where it counts from 1970, else the number of seconds."""
+    if moment < SINCE_1970:
+        return str(moment)
+    return datetime.datetime.fromtimestamp(moment, datetime.UTC).strftime("%Y-%m-%d %H:%M:%S UTC")

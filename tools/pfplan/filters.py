@@ -30,6 +30,15 @@ PARTS = (
 )  # fmt: skip
 AFTER_HOSTS = (*PARTS, "flags", "keep", "modulate", "synproxy", "no")
 HEAD = ("in", "out", "log", "quick", "on", "inet", "inet6", "proto", "all", "from", "to")
+# the words that are no strings to pfctl, so none of them is the key of source-hash
+KEYWORDS = frozenset((
+    *HEAD, *AFTER_HOSTS, *_POOL_WORDS, *_STATE_NUMBERS, *_STATE_WORDS, *PARTS, "anchor", "antispoof", "any", "bandwidth", "block", "block-policy",
+    "burst", "code", "debug", "default", "delay", "file", "fingerprints", "flows", "flush", "for", "global", "hostid", "include", "limit", "load",
+    "loginterface", "match", "matches", "max-mss", "max-src-conn-rate", "min-ttl", "no-df", "no-route", "optimization", "overload", "parent",
+    "pass", "port", "qlimit", "quantum", "random-id", "rdomain", "reassemble", "return", "return-icmp", "return-icmp6", "return-rst", "route",
+    "rule", "ruleset-optimization", "skip", "source-hash", "source-track", "state", "state-defaults", "state-policy", "syncookies", "table",
+    "target", "timeout", "ttl", "urpf-failed", "weight",
+))  # fmt: skip
 
 
 class FilterReader:
@@ -108,6 +117,8 @@ class FilterReader:
         number = protocol_of(self.at.want_name("a protocol"))
         if number is None:
             raise trouble(token, f"{token.shown()} is no protocol that /etc/protocols has")
+        if number == 0:
+            raise trouble(token, f"{token.shown()}: protocol 0 can't be asked for; a rule without 'proto' is for all")
         return number
 
     def sides(self, protocols: tuple[int, ...], parts: list[Part]) -> tuple[Side, Side]:
@@ -346,8 +357,8 @@ class FilterReader:
     def _pool_words(self) -> None:
         while True:
             if self.at.take_word("source-hash"):
-                if self.at.is_name() and not self.at.is_word(*_POOL_WORDS, *AFTER_HOSTS, "to", "port"):
-                    self.at.take()
+                if self.at.is_name() and not self.at.is_word(*KEYWORDS):
+                    self.at.take()  # the key: 0x and 32 digits, or a string (pf.conf(5), "source-hash")
             elif not self.at.take_word(*_POOL_WORDS):
                 return
             elif self.at.take_word("port"):

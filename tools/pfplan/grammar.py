@@ -1,13 +1,15 @@
 """The statements of a pf.conf of OpenBSD 7.4, and of older ones as far as they are told (pf.conf(5), GRAMMAR)."""
 
+import contextlib
 import re
-from collections.abc import Callable
+from collections.abc import Callable, Iterator
 from dataclasses import replace
 from pathlib import Path
 
 from .cursor import DEEPEST_LIST, Cursor
+from .errors import Status, Trouble
 from .filters import AFTER_HOSTS, HEAD, MOST_SECONDS, MOST_STATES, TIMEOUTS, TIMEOUTS_FOR_NOTHING, FilterReader
-from .lexer import Kind, Lexer, Token, trouble
+from .lexer import Kind, Lexer, Token, printable, trouble
 from .named_files import NamedFiles, read_text
 from .syntax import Anchor, Antispoof, Host, HostKind, Load, Other, Parsed, Part, Place, Rule, Setting, Statement, StateOption, Table
 
@@ -40,7 +42,7 @@ class Parser:
         self._fixed = fixed
         self._depth = depth
         self._anchors = 0
-        self.at = Cursor(Lexer(text, file, parsed.macros))
+        self.at = Cursor(Lexer(text, file, parsed.macros, sources.budget))
         self.filters = FilterReader(self.at)
 
     def text(self) -> list[Statement]:
@@ -120,7 +122,7 @@ class Parser:
         token = self.at.token
         name = self.at.want_name("the name of a file")
         text = self.at.text_since()
-        path = self._sources.find(name, self._file)
+        path = self._sources.find(name, place)
         if path is None:
             self.at.want_line_end()
             return [Other(place, text, "include")]
@@ -129,7 +131,8 @@ class Parser:
         # what is behind the end of this line is read after the file, whose macros it may use
         if not self.at.is_end():
             raise self.at.wanted("the end of the line")
-        return Parser(read_text(path), str(path), self._parsed, self._sources, self._fixed, self._depth + 1).text()
+        with unquoted(path, self._sources, place):
+            return Parser(read_text(path), str(path), self._parsed, self._sources, self._fixed, self._depth + 1).text()
 
     def _rule(self, place: Place) -> Rule:
         action = self.at.take().text
@@ -250,6 +253,7 @@ class Parser:
         name = self.at.want_word(*SETTINGS)
         pairs: tuple[tuple[str, int], ...] = ()
         options: list[StateOption] = []
+        interfaces: tuple[str, ...] = ()
         value = ""
         mark = self.at.mark()
         if name in ("limit", "timeout"):
@@ -258,7 +262,7 @@ class Parser:
             value = self.at.want_word(*OPTIMIZATIONS)
         elif name == "skip":
             self.at.want_word("on")
-            self.at.listed(self._skipped)
+            interfaces = self.at.listed(self._skipped)
         elif name == "block-policy":
             self.at.want_word("drop", "return")
         elif name == "state-policy":
@@ -274,7 +278,7 @@ class Parser:
         if not self.at.is_end():
             raise self.at.wanted("the end of the line")
         self.at.take()
-        return Setting(place, text, name, pairs, tuple(options), value)
+        return Setting(place, text, name, pairs, tuple(options), value, interfaces)
 
     def _pairs(self, read: Callable[[], tuple[str, int]]) -> tuple[tuple[str, int], ...]:
         if not self.at.take_mark("{"):
@@ -297,9 +301,24 @@ class Parser:
         most = MOST_STATES if name.startswith("adaptive.") else MOST_SECONDS
         return name, self.at.want_number(1 if name == "interval" else 0, most, f"the timeout {name}")
 
-    def _skipped(self) -> None:
-        self.at.take_mark("!")
-        self.at.want_name("an interface")
+    def _skipped(self) -> str:
+        if self.at.is_mark("!"):
+            raise trouble(self.at.token, "'!': pf skips interfaces by their names alone")
+        return self.at.want_name("an interface")
+
+
+@contextlib.contextmanager
+def unquoted(path: Path, sources: NamedFiles, place: Place) -> Iterator[None]:
+    """Tells a syntax error in a file by its line alone, where a text named it by an absolute name: it may be any file of this machine."""
+    try:
+        yield
+    except Trouble as trouble:
+        if path not in sources.strange or trouble.status != Status.RULES:
+            raise
+        line = re.search(r": line (\d+): ", trouble.message.removeprefix(printable(str(path))))
+        where = f" at its line {line[1]}" if line else ""
+        why = f"{path} is no text of rules{where}; nothing of it is quoted, as its name is absolute (--root confines such names)"
+        raise Trouble(f"{printable(place.file)}: line {place.line}: {why}", Status.RULES) from None
 
 
 def parse(text: str, file: str, macros: dict[str, str], sources: NamedFiles) -> Parsed:

@@ -2,13 +2,17 @@
 
 import contextlib
 import enum
+import errno
 import os
 import re
 import shutil
 import stat
+import subprocess
+import sys
 import tempfile
 from collections.abc import Iterator
 from pathlib import Path
+from typing import BinaryIO
 
 from .errors import Status, Trouble, reason_of
 
@@ -28,16 +32,25 @@ class Kind(enum.Enum):
 
 
 def check_readable(path: Path) -> None:
-    """Trouble with status 4 where the file is not there, is a folder, or may not be read."""
+    """Trouble with status 4 where the file is not there, is a folder, or may not be read. A pipe is not opened: it is read once."""
     try:
-        with open(path, "rb"):
-            pass
+        mode = os.stat(path).st_mode
+        if stat.S_ISREG(mode) or stat.S_ISDIR(mode):
+            with open(path, "rb"):
+                pass
+        elif not os.access(path, os.R_OK):
+            raise PermissionError(errno.EACCES, os.strerror(errno.EACCES))
     except FileNotFoundError:
         raise Trouble(f"{path}: no such file", Status.FAILED) from None
     except IsADirectoryError:
         raise Trouble(f"{path}: a folder, where a file is wanted", Status.FAILED) from None
     except OSError as error:
         raise Trouble(f"{path}: can't be read: {reason_of(error)}", Status.FAILED) from None
+
+
+def name_of(path: Path) -> str:
+    """How a message names a file that was given."""
+    return "standard input" if str(path) == "-" else str(path)
 
 
 def is_regular(path: Path) -> bool:
@@ -81,24 +94,69 @@ def check_trace(path: Path) -> None:
 
 
 def check_rules(path: Path) -> None:
-    """Trouble where the file can't be read (status 4) or is a trace, a capture or a report (status 3)."""
+    """Trouble where the file can't be read (status 4) or is empty, a trace, a capture or a report (status 3)."""
     kind = kind_of(path)
-    if kind in (Kind.TRACE, Kind.CAPTURE, Kind.REPORT):
+    if kind in (Kind.EMPTY, Kind.TRACE, Kind.CAPTURE, Kind.REPORT):
         raise Trouble(f"{path}: {_told(kind)}, where rules are wanted", Status.RULES)
 
 
 @contextlib.contextmanager
 def regular(path: Path) -> Iterator[Path]:
-    """The file itself, or a copy of what a pipe gives, which goes at the end. Trouble as `check_readable`, or where the copy fails."""
-    check_readable(path)
-    if is_regular(path):
+    """The file itself, or a copy of what a pipe gives, which goes at the end; `-` is standard input, and each is opened once.
+
+    Trouble as `check_readable`, or where the copy fails.
+    """
+    if str(path) != "-":
+        check_readable(path)
+    if str(path) != "-" and is_regular(path):
         yield path
         return
     with tempfile.NamedTemporaryFile(prefix="pfplan-") as copy:
         try:
-            with open(path, "rb") as file:
+            with _opened(path) as file:
                 shutil.copyfileobj(file, copy)
             copy.flush()
         except OSError as error:
             raise Trouble(f"{path}: can't be copied into {tempfile.gettempdir()}: {reason_of(error)}", Status.FAILED) from None
         yield Path(copy.name)
+
+
+@contextlib.contextmanager
+def _opened(path: Path) -> Iterator[BinaryIO]:
+    """A file, or standard input, which is not closed."""
+    if str(path) == "-":
+        yield sys.stdin.buffer
+        return
+    with open(path, "rb") as file:
+        yield file
+
+
+@contextlib.contextmanager
+def unpacked(path: Path, name: Path | str) -> Iterator[Path]:
+    """The file itself, or where gzip or zstd packed it, what they unpack, in a copy that goes at the end. `name` stands in messages.
+
+    Trouble: status 1 where it can't be unpacked, 4 where the command is not installed. A pipe is left as it is.
+    """
+    command = _packed_by(path) if str(path) != "-" and is_regular(path) else ""
+    if not command:
+        yield path
+        return
+    if shutil.which(command) is None:
+        raise Trouble(f"{name}: packed by {command}, which is not here (Debian package {command})", Status.FAILED)
+    with tempfile.NamedTemporaryFile(prefix="pfplan-") as copy:
+        with open(path, "rb") as file:
+            done = subprocess.run([command, "-d", "-c"], stdin=file, stdout=copy, stderr=subprocess.PIPE, check=False)
+        if done.returncode:
+            said = done.stderr.decode("utf-8", "replace").strip().splitlines()
+            raise Trouble(f"{name}: {command} can't unpack it{': ' + said[-1] if said else ''}", Status.REFUSED)
+        yield Path(copy.name)
+
+
+def _packed_by(path: Path) -> str:
+    """The command that packed a file, by its first bytes; nothing where none did."""
+    try:
+        with open(path, "rb") as file:
+            begin = file.read(4)
+    except OSError:
+        return ""
+    return "gzip" if begin.startswith(b"\x1f\x8b") else "zstd" if begin == b"\x28\xb5\x2f\xfd" else ""

@@ -7,7 +7,9 @@ from dataclasses import dataclass, field
 
 from .words import Address, Network
 
+Given = ipaddress.IPv4Interface | ipaddress.IPv6Interface
 MODIFIERS = ("network", "broadcast", "peer", "0")
+_MAC = re.compile(r"[0-9A-Fa-f]{2}(:[0-9A-Fa-f]{2}){5}")
 _HEAD = re.compile(r"([A-Za-z0-9_.-]+): flags=[0-9a-f]+(?:<([A-Z0-9_,]*)>)?")
 
 
@@ -31,20 +33,25 @@ class Configured:
 
 @dataclass
 class Interface:
-    """One interface of the firewall."""
+    """One interface of the firewall; `mac` is its address on its link, and `parent` the interface that a carp(4) is on, where it has one."""
 
     name: str
     is_loopback: bool = False
     groups: tuple[str, ...] = ()
     addresses: list[Configured] = field(default_factory=list)
+    mac: str = ""
+    parent: str = ""
 
 
 @dataclass
 class Machine:
-    """What is known of the firewall: `interfaces` by name (none without ifconfig), and what the command line says of names."""
+    """What is known of the firewall: `interfaces` by name (none without ifconfig), and what the command line says of names.
+
+    Of `given`, a name with `:network` has networks, and any other has addresses, whose networks are known where they have a length.
+    """
 
     interfaces: dict[str, Interface] = field(default_factory=dict)
-    given: dict[str, list[Network]] = field(default_factory=dict)
+    given: dict[str, list[Given]] = field(default_factory=dict)
     members_given: dict[str, list[str]] = field(default_factory=dict)
 
     def members(self, name: str) -> list[str] | None:
@@ -68,13 +75,15 @@ class Machine:
 
         (pf.conf(5), PARAMETERS, "from source")
         """
-        if text in self.given:
-            return [Location(it) for it in self.given[text]]
         name, *modifiers = text.split(":")
+        if text in self.given:
+            return _locations_of(self.given[text], modifiers)
         if any(it not in MODIFIERS for it in modifiers):
             return None
-        if modifiers == ["0"] and name in self.given:
-            return _first_of_each_family([Location(it) for it in self.given[name]])
+        if set(modifiers) <= {"0", "network"} and name in self.given:
+            given = self.given[name]
+            is_known = "network" not in modifiers or all(it.network.prefixlen < it.max_prefixlen for it in given)
+            return _locations_of(given, modifiers) if is_known else None
         if name == "self":
             names = list(self.interfaces)
         else:
@@ -82,6 +91,10 @@ class Machine:
         if not all(it in self.interfaces for it in names) or not names:
             return None
         return [found for it in names for found in _locations_on(self.interfaces[it], modifiers)]
+
+    def macs(self, name: str) -> list[str]:
+        """The addresses to which the frames of an interface go: its own, and those of each carp(4) on it. None where it has none."""
+        return [it.mac for it in self.interfaces.values() if it.mac and name in (it.name, it.parent)]
 
     def inside(self) -> list[Network]:
         """What is behind the firewall, with its own addresses: the networks of interfaces that are neither loopback nor `egress`."""
@@ -93,6 +106,12 @@ class Machine:
                 own = ipaddress.ip_network(configured.address)
                 found.append(own if "egress" in it.groups else configured.network)
         return list(dict.fromkeys(found))
+
+
+def _locations_of(given: Iterable[Given], modifiers: list[str]) -> list[Location]:
+    """What addresses stand for that were given on the command line."""
+    found = [Location(it.network if "network" in modifiers else ipaddress.ip_network(it.ip)) for it in given]
+    return _first_of_each_family(found) if "0" in modifiers else found
 
 
 def _locations_on(interface: Interface, modifiers: list[str]) -> list[Location]:
@@ -136,6 +155,10 @@ def read_ifconfig(text: str) -> dict[str, Interface]:
 def _read_line(interface: Interface, words: list[str]) -> None:
     if words[:1] == ["groups:"]:
         interface.groups = (*interface.groups, *words[1:])
+    elif words[:1] == ["lladdr"] and _MAC.fullmatch(" ".join(words[1:])):
+        interface.mac = words[1]
+    elif words[:1] == ["carp:"] and "carpdev" in words[:-1]:
+        interface.parent = words[words.index("carpdev") + 1]
     elif words[:1] in (["inet"], ["inet6"]) and len(words) > 1:
         configured = _configured(words)
         if configured is not None:

@@ -1,35 +1,52 @@
-"""What is left out of a rules text, why, and whether that can change an answer."""
+"""What is left out of a rules text, why, whether that can change an answer, and which way."""
 
 from dataclasses import dataclass, field
 
 from .errors import Status, Trouble
 from .lexer import printable
-from .syntax import Part, Place, Statement
+from .syntax import Antispoof, Part, Place, Rule, Setting, Statement
+
+# which way pf answers otherwise than what is left
+BLOCKS_MORE = "pf blocks more"
+PASSES_MORE = "pf passes more"
+OTHER_STATES = "pf makes other states"
+EITHER_WAY = "pf may block or pass more"
 
 
 @dataclass(frozen=True)
 class Leftover:
-    """One thing that was left out: where it stands, its text, the reason, and whether it can change an answer."""
+    """One thing that was left out: where it stands, its text, the reason, whether it can change an answer, and which way.
+
+    It `is_missing` where the reason names a word of the command line that gives what is not there.
+    """
 
     file: str
     line: int
     text: str
     reason: str
     changes_answer: bool
+    way: str = ""
+    is_missing: bool = False
 
     def shown(self) -> str:
         """The line that tells it."""
-        can = "can change an answer" if self.changes_answer else "changes no answer"
+        can = f"can change an answer ({self.way})" if self.changes_answer else "changes no answer"
         return f"{printable(self.file)}: line {self.line}: left out: {self.text}: {can}: {self.reason}"
 
 
 @dataclass(frozen=True)
 class Reason:
-    """Why something is left out. A rule `goes` whole where it would match other packets without it."""
+    """Why something is left out. A rule `goes` whole where it would match other packets without it.
+
+    `way` is which way pf answers otherwise; where it is empty, that follows from what the statement does. With `is_missing` the text
+    says which word of the command line gives what is not there.
+    """
 
     text: str
     changes: bool
     goes: bool = False
+    way: str = ""
+    is_missing: bool = False
 
 
 def harmless(text: str) -> Reason:
@@ -37,17 +54,29 @@ def harmless(text: str) -> Reason:
     return Reason(text, changes=False)
 
 
-def telling(text: str) -> Reason:
+def telling(text: str, way: str = "", *, is_missing: bool = False) -> Reason:
     """A part without which the rule matches the same packets, and an answer can change."""
-    return Reason(text, changes=True)
+    return Reason(text, changes=True, way=way, is_missing=is_missing)
 
 
-def beyond(text: str) -> Reason:
+def beyond(text: str, *, is_missing: bool = False) -> Reason:
     """A part without which the rule would match other packets: it goes whole, which can change an answer."""
-    return Reason(text, changes=True, goes=True)
+    return Reason(text, changes=True, goes=True, is_missing=is_missing)
 
 
-ELSEWHERE = "the packet goes another way"
+def way_of(statement: Statement | None) -> str:
+    """Which way pf answers otherwise than without a statement, by what it does."""
+    if isinstance(statement, Antispoof) or isinstance(statement, Rule) and statement.action == "block":
+        return BLOCKS_MORE
+    if isinstance(statement, Rule):
+        return PASSES_MORE if statement.action == "pass" else OTHER_STATES
+    if isinstance(statement, Setting) and statement.name == "skip":
+        return PASSES_MORE
+    return EITHER_WAY
+
+
+ELSEWHERE = telling("the packet goes another way", OTHER_STATES)
+BY_TIMESTAMPS = telling("pf drops packets by their timestamps", BLOCKS_MORE)
 ORDERS = "it orders or marks packets that pass"
 SCRUBS = "it changes fragments and options, which a trace does not have"
 TRANSLATED = "addresses are translated, and a trace has those of one side"
@@ -62,16 +91,16 @@ _REASONS = {
     "allow-opts": harmless("a trace does not carry IP options"),
     "rtable": harmless("the packet passes all the same"),
     "dup-to": harmless("the packet passes all the same"),
-    "fastroute": telling(ELSEWHERE),
-    "route-to": telling(ELSEWHERE),
-    "reply-to": telling(ELSEWHERE),
-    "divert-to": telling(ELSEWHERE),
-    "divert-reply": telling(ELSEWHERE),
-    "divert-packet": telling(ELSEWHERE),
-    "nat-to": telling(TRANSLATED),
-    "rdr-to": telling(TRANSLATED),
-    "binat-to": telling(f"{TRANSLATED}; the rule is carried for packets out, and that for packets in is not"),
-    "af-to": telling(TRANSLATED),
+    "fastroute": ELSEWHERE,
+    "route-to": ELSEWHERE,
+    "reply-to": ELSEWHERE,
+    "divert-to": ELSEWHERE,
+    "divert-reply": ELSEWHERE,
+    "divert-packet": ELSEWHERE,
+    "nat-to": telling(TRANSLATED, OTHER_STATES),
+    "rdr-to": telling(TRANSLATED, OTHER_STATES),
+    "binat-to": telling(f"{TRANSLATED}; the rule is carried for packets out, and that for packets in is not", OTHER_STATES),
+    "af-to": telling(TRANSLATED, OTHER_STATES),
     "once": beyond("the rule leaves at its first match"),
     "max-pkt-rate": beyond("it counts packets, not states"),
     "probability": beyond("it matches by chance"),
@@ -86,16 +115,16 @@ TRANSLATION_NOTE = (
     " addresses of that side; for a trace of the other side the answer can be wrong"
 )
 _OTHERS = {
-    "include": telling("its file is not there, so its rules are not; --root says below which folder to look"),
+    "include": telling("its file is not there, so its rules are not; --root says below which folder to look", is_missing=True),
     "scrub": harmless(f"old syntax; {SCRUBS}"),
     "scrub-anchor": harmless(f"old syntax; {SCRUBS}"),
     "queue": harmless("it orders packets that pass"),
     "altq": harmless("old syntax; it orders packets that pass"),
-    "dummynet": telling("it is none of OpenBSD's; it delays and drops packets"),
-    "dummynet-anchor": telling("it is none of OpenBSD's; it delays and drops packets"),
+    "dummynet": telling("it is none of OpenBSD's; it delays and drops packets", BLOCKS_MORE),
+    "dummynet-anchor": telling("it is none of OpenBSD's; it delays and drops packets", BLOCKS_MORE),
     "ether": telling("it is none of OpenBSD's; it asks for Ethernet headers"),
 }
-_OLD_TRANSLATION = telling("old syntax; addresses are translated before the rules are asked")
+_OLD_TRANSLATION = telling("old syntax; addresses are translated before the rules are asked", OTHER_STATES)
 
 
 def reason_of_part(part: Part, direction: str) -> Reason:
@@ -103,12 +132,14 @@ def reason_of_part(part: Part, direction: str) -> Reason:
     if part.kind == "binat-to" and direction == "in":
         return beyond("binat-to stands for a rule of packets out, and one of packets in with other addresses")
     if part.kind == "scrub":
-        return telling("pf drops packets by their timestamps") if "reassemble tcp" in part.text else harmless(SCRUBS)
+        return BY_TIMESTAMPS if "reassemble tcp" in part.text else harmless(SCRUBS)
     return _REASONS[part.kind]
 
 
-def reason_of_other(kind: str) -> Reason:
-    """Why a statement is left out, by its first word."""
+def reason_of_other(kind: str, text: str) -> Reason:
+    """Why a statement is left out, by its first word and, of `scrub`, by what it does."""
+    if kind == "scrub" and "reassemble tcp" in text:
+        return BY_TIMESTAMPS
     return _OTHERS.get(kind, _OLD_TRANSLATION)
 
 
@@ -116,13 +147,13 @@ def reason_of_match(parts: tuple[Part, ...], has_state: bool, log: str) -> Reaso
     """Why a match rule is left out, by what it does."""
     kinds = {it.kind for it in parts}
     if kinds & set(TRANSLATIONS):
-        return telling("addresses are translated for the rules behind it")
+        return telling("addresses are translated for the rules behind it", OTHER_STATES)
     if kinds & {"divert-to", "divert-reply", "divert-packet", "route-to", "reply-to", "rtable"}:
-        return telling(ELSEWHERE)
+        return ELSEWHERE
     if any(it.kind == "scrub" and "reassemble tcp" in it.text for it in parts):
-        return telling("pf drops packets by their timestamps")
+        return BY_TIMESTAMPS
     if kinds & {"max-pkt-rate", "once"} or has_state:
-        return telling("it counts packets or states")
+        return telling("it counts packets or states", OTHER_STATES)
     if "scrub" in kinds:
         return harmless(SCRUBS)
     if "tag" in kinds:
@@ -141,9 +172,10 @@ class Teller:
     notes: list[str] = field(default_factory=list)
     _seen: set[Leftover] = field(default_factory=set)
 
-    def tell(self, place: Place, text: str, reason: Reason) -> None:
-        """Tells a thing once, however often the same statement is expanded."""
-        leftover = Leftover(place.file, place.line, text, reason.text, reason.changes)
+    def tell(self, place: Place, text: str, reason: Reason, of: Statement | None = None) -> None:
+        """Tells a thing once, however often the statement that it is a part of is expanded."""
+        way = reason.way or way_of(of) if reason.changes else ""
+        leftover = Leftover(place.file, place.line, text, reason.text, reason.changes, way, reason.is_missing)
         if leftover in self._seen:
             return
         self._seen.add(leftover)
@@ -153,7 +185,7 @@ class Teller:
 
     def tell_whole(self, statement: Statement, reason: Reason) -> None:
         """Tells a statement that is left out whole."""
-        self.tell(statement.place, statement.text, reason)
+        self.tell(statement.place, statement.text, reason, statement)
 
     def note(self, text: str) -> None:
         """Says a thing once that is no leftover."""

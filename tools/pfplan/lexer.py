@@ -5,6 +5,7 @@ from collections.abc import Mapping
 from dataclasses import dataclass
 
 from .errors import Status, Trouble
+from .markup import visible
 
 _LEFT_OUT_OF_WORDS = set("(){}<>!=/#,")
 _ENDS_NUMBER = set(" \t\r\n),/}=")
@@ -48,8 +49,8 @@ class Token:
 
 
 def printable(text: str) -> str:
-    """The text on one line: bytes that are no text, and marks that steer a terminal, become `?`."""
-    return "".join(it if it.isprintable() else "?" for it in text)
+    """The text on one line: bytes that are no text, and marks that steer a terminal, are written out, as `\\x1b`."""
+    return visible(text)
 
 
 def text_of(tokens: list[Token]) -> str:
@@ -72,6 +73,25 @@ def trouble(token: Token, message: str) -> Trouble:
     return Trouble(f"{printable(token.file)}: line {token.line}: {message}", Status.RULES)
 
 
+@dataclass
+class Budget:
+    """What the texts of one call may stand for together: far more than any ruleset has, so that none takes minutes or all memory."""
+
+    tokens: int = 1_000_000
+    expanded: int = 2_000_000  # characters that macros stand for
+    files: int = 500
+    rules: int = 500_000  # combinations of lists, also of those that are left out
+
+    def take(self, what: str, count: int, file: str, line: int) -> None:
+        """Takes so much of one of them. Trouble with status 3 at this line where nothing is left."""
+        left = getattr(self, what) - count
+        setattr(self, what, left)
+        if left < 0:
+            named = {"tokens": "words", "expanded": "characters by its macros", "files": "files that it includes", "rules": "rules by its lists"}
+            whole: int = getattr(Budget, what)
+            raise Trouble(f"{printable(file)}: line {line}: the text stands for more than {whole:,} {named[what]}", Status.RULES)
+
+
 class Lexer:
     """Reads a text token by token. The macros are asked as they are when a `$name` is reached.
 
@@ -79,16 +99,19 @@ class Lexer:
     word. Inside of it `$` means nothing, as in pfctl.
     """
 
-    def __init__(self, text: str, file: str, macros: Mapping[str, str]) -> None:
+    def __init__(self, text: str, file: str, macros: Mapping[str, str], budget: Budget | None = None) -> None:
         self._text = text
         self._file = file
         self._macros = macros
         self._place = 0
         self._line = 1
         self._pushed: list[str] = []
+        self._open_macros = 0
+        self._budget = budget or Budget()
 
     def next(self) -> Token:
-        """The next token; at the end of the text END, again and again. Trouble with status 3 at what is no token."""
+        """The next token; at the end of the text END, again and again. Trouble with status 3 at what is no token, or past the budget."""
+        self._budget.take("tokens", 1, self._file, self._line)
         spaced = False
         while True:
             char = self._read()
@@ -189,11 +212,13 @@ class Lexer:
         self._unread(char)
         if name not in self._macros:
             raise self._trouble(f"macro '{name}' is not defined (-D {name or 'NAME'}=VALUE defines one)")
+        self._budget.take("expanded", len(self._macros[name]), self._file, self._line)
         self._pushed.append(_EXPANDED)
         self._pushed.extend(reversed(self._macros[name]))
+        self._open_macros += 1
 
     def _is_expanding(self) -> bool:
-        return _EXPANDED in self._pushed
+        return self._open_macros > 0
 
     def _read(self) -> str:
         """The next character; a backslash and a line end behind it stand for nothing."""
@@ -214,6 +239,7 @@ class Lexer:
             char = self._pushed.pop()
             if char != _EXPANDED:
                 return char
+            self._open_macros -= 1
         if self._place >= len(self._text):
             return ""
         self._place += 1

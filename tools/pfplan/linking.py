@@ -4,10 +4,10 @@ from collections.abc import Mapping
 from dataclasses import dataclass, field, replace
 from pathlib import Path
 
-from .grammar import parse_file
+from .grammar import parse_file, unquoted
 from .leftovers import Teller, harmless, telling
 from .named_files import NamedFiles
-from .syntax import Anchor, Load, Setting, Statement
+from .syntax import Anchor, Load, Place, Setting, Statement
 
 DEEPEST = 16  # anchors inside one another, as pfsrc takes them
 
@@ -21,16 +21,18 @@ class Linker:
     macros: Mapping[str, str]
     files: dict[str, Path]
     _bodies: dict[str, tuple[Statement, ...]] = field(default_factory=dict)
+    _places: dict[Path, Place] = field(default_factory=dict)
 
     def link(self, statements: list[Statement]) -> list[Statement]:
         """The statements, with a body for each anchor whose file is known; loads are told where they lead nowhere."""
         loads = [it for it in statements if isinstance(it, Load)]
         for it in loads:
-            path = self.sources.find(it.path, it.place.file)
+            path = self.sources.find(it.path, it.place)
             if path is None:
-                self.teller.tell_whole(it, telling("its file is not there, so its rules are not; --anchor NAME=FILE gives it"))
+                self.teller.tell_whole(it, telling("its file is not there, so its rules are not; --anchor NAME=FILE gives it", is_missing=True))
             else:
                 self.files.setdefault(it.name.strip("/"), path)
+                self._places.setdefault(path, it.place)
         linked = [self._linked(it, "", 0) for it in statements if not isinstance(it, Load)]
         for it in loads:
             if it.name.strip("/") in self.files and it.name.strip("/") not in self._bodies:
@@ -58,10 +60,11 @@ class Linker:
 
     def _loaded(self, path: Path) -> list[Statement]:
         """The rules of an anchor's file, read with macros of its own. Settings in it are told: pf takes none of them."""
-        found = parse_file(path, dict(self.macros), self.sources).statements
+        with unquoted(path, self.sources, self._places.get(path, Place(str(path), 1))):
+            found = parse_file(path, dict(self.macros), self.sources).statements
         for it in found:
             if isinstance(it, Setting):
                 self.teller.tell_whole(it, harmless("pf takes no settings from the file of an anchor"))
             if isinstance(it, Load):
-                self.teller.tell_whole(it, telling("an anchor's file loads no others here; --anchor NAME=FILE gives them"))
+                self.teller.tell_whole(it, telling("an anchor's file loads no others here; --anchor NAME=FILE gives them", is_missing=True))
         return [it for it in found if not isinstance(it, Setting | Load)]

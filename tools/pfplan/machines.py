@@ -1,6 +1,7 @@
 """Where the runs of `size` and `margins` go on: side by side on this machine, or over several by GNU parallel.
 
-A run is the command `pfplan measure` with a rules text, the trace and words that hold no name of the user's: numbers and networks. Names
+A run is the command `pfplan measure` with a rules text, the trace and words that hold no name of the user's: numbers and networks. On this
+machine one process measures many texts, whose names are written to it. Names
 never come into a command that a shell reads: the files of the runs have names of our own in a temporary folder, and what words are the
 user's (the path of pfplan and of pfsrc) are quoted for the shell. On other machines pfplan has to stand under the same path, or under the one
 that `--there` names; rules and trace are brought by rsync over ssh into a folder that goes when they are done.
@@ -10,6 +11,7 @@ import argparse
 import concurrent.futures
 import contextlib
 import os
+import queue
 import shlex
 import shutil
 import signal
@@ -22,6 +24,7 @@ from dataclasses import dataclass
 from pathlib import Path
 from types import TracebackType
 
+from .entries import beside, write_entries
 from .errors import Status, Trouble, reason_of
 from .inputs import check_readable
 from .progress import Progress
@@ -29,6 +32,8 @@ from .replays import TOP
 from .words import file, number
 
 PACKAGES = {"parallel": "parallel", "rsync": "rsync", "ssh": "openssh-client"}
+# pfplan needs no package beside the standard library, and a run starts faster without looking for some.
+PLAIN = ("-S", "-E")
 # Seconds that a run has to end by itself once it was told to.
 GRACE = 5
 SECONDS_TO_CLEAR = 20
@@ -84,19 +89,23 @@ def check_parallel() -> None:
 class Runs:
     """Runs of one trace. Leaving it ends those that still go on, and takes the temporary folder away."""
 
-    def __init__(self, machines: Machines, trace: Path, words: Sequence[str]) -> None:
-        """`words` follow the names of rules and trace in each run's command line."""
+    def __init__(self, machines: Machines, trace: Path, words: Sequence[str], entries: Sequence[str] = ()) -> None:
+        """`words` follow the names of rules and trace in each run's command line. `entries` are those of tables that come by records."""
         self._machines = machines
         self._trace = trace
         self._words = list(words)
+        self._entries = entries
         self._lock = threading.Lock()
         self._processes: set[subprocess.Popen[str]] = set()
+        self._idle: queue.SimpleQueue[subprocess.Popen[str]] = queue.SimpleQueue()
         self._is_stopped = False
         self._count = 0
 
     def __enter__(self) -> "Runs":
         self._place = tempfile.TemporaryDirectory(prefix="pfplan-")
         self._folder = Path(self._place.name)
+        if self._entries:
+            write_entries(self._folder / "all", self._entries)
         if not self._machines.is_here:
             try:
                 shutil.copyfile(self._trace, self._folder / "trace")
@@ -106,6 +115,7 @@ class Runs:
         return self
 
     def __exit__(self, kind: type[BaseException] | None, error: BaseException | None, trace: TracebackType | None) -> None:
+        self._dismiss()
         self.stop()
         if error is not None and not self._machines.is_here and self._count:
             self._clear_there()
@@ -136,10 +146,8 @@ class Runs:
 
     def _here(self, names: Sequence[str], progress: Progress | None) -> list[str]:
         jobs = self._machines.jobs or os.cpu_count() or 1
-        trace = str(self._trace.resolve())
         pool = concurrent.futures.ThreadPoolExecutor(max_workers=min(jobs, max(1, len(names))))
-        commands = [[sys.executable, str(TOP / "pfplan"), "measure", str(self._folder / it), trace, *self._words] for it in names]
-        futures = [pool.submit(self._one, it) for it in commands]
+        futures = [pool.submit(self._one, it) for it in names]
         try:
             for future in concurrent.futures.as_completed(futures):
                 future.result()
@@ -152,14 +160,29 @@ class Runs:
         pool.shutdown()
         return [it.result() for it in futures]
 
-    def _one(self, command: Sequence[str]) -> str:
-        """One run on this machine, up to its end; the line that it printed."""
-        process = self._start(command, None)
-        said, told = process.communicate()
-        self._drop(process)
-        if process.returncode != 0:
-            raise _trouble(told, process.returncode)
+    def _one(self, name: str) -> str:
+        """One run on this machine, up to its end; the line that was printed."""
+        process = self._worker()
+        assert process.stdin is not None and process.stdout is not None and process.stderr is not None
+        with contextlib.suppress(BrokenPipeError):
+            process.stdin.write(f"{self._folder / name}\n")
+            process.stdin.flush()
+        said = process.stdout.readline()
+        if not said.endswith("\n"):
+            told = process.stderr.read()
+            status = process.wait()
+            self._drop(process)
+            raise _trouble(told, status)
+        self._idle.put(process)
         return said
+
+    def _worker(self) -> "subprocess.Popen[str]":
+        """A process that measures one rules text after another, as their names are written to it: one that has nothing to do, or a new one."""
+        with contextlib.suppress(queue.Empty):
+            return self._idle.get_nowait()
+        entries = [f"--entries={beside(self._folder / 'all')}"] if self._entries else []
+        command = [sys.executable, *PLAIN, str(TOP / "pfplan"), "measure", "-", str(self._trace.resolve()), *self._words, *entries]
+        return self._start(command, self._folder)
 
     def _spread(self, names: Sequence[str], progress: Progress | None) -> list[str]:
         """Runs by GNU parallel. Each prints one line, which begins with the name of its rules."""
@@ -204,28 +227,37 @@ class Runs:
         machines = self._machines
         command = ["parallel", "--plain", "--will-cite", "--null", "--halt", "now,fail=1", "--cleanup", "--termseq", "TERM,2000,KILL,50"]
         command += [f"--jobs={machines.jobs}"] if machines.jobs else []
+        entries = beside(Path("all")).name if self._entries else ""
         command += [*self._logins(), "--workdir", self._workdir, "--basefile", "./trace", "--transferfile", "./{}"]
+        command += ["--basefile", f"./{entries}"] if entries else []
         program = [f"PFSRC={os.environ['PFSRC']}"] if os.environ.get("PFSRC") else []
         path = machines.there or str(TOP / "pfplan")
         words = [shlex.quote(it) for it in ("env", *program, path, "measure", "--named")]
         # on this machine itself, the login `:`, nothing is brought: the files are where they were made
         here = f"test -e trace || cd {shlex.quote(str(self._folder))};"
-        return [*command, " ".join([here, *words, "{}", "trace", *map(shlex.quote, self._words)])]
+        last = [*self._words, *([f"--entries={entries}"] if entries else [])]
+        return [*command, " ".join([here, *words, "{}", "trace", *map(shlex.quote, last)])]
 
-    def _start(self, command: Sequence[str], folder: Path | None) -> "subprocess.Popen[str]":
+    def _start(self, command: Sequence[str], folder: Path) -> "subprocess.Popen[str]":
         """A process in a session of its own, so that an interrupt from the keyboard reaches it through `stop` alone."""
-        source = subprocess.DEVNULL if folder is None else subprocess.PIPE
         with self._lock:
             if self._is_stopped:
                 raise Trouble("ended", Status.INTERRUPTED)
             try:
                 process = subprocess.Popen(
-                    command, stdin=source, stdout=subprocess.PIPE, stderr=subprocess.PIPE, text=True, cwd=folder, start_new_session=True
+                    command, stdin=subprocess.PIPE, stdout=subprocess.PIPE, stderr=subprocess.PIPE, text=True, cwd=folder, start_new_session=True
                 )
             except OSError as error:
                 raise Trouble(f"{command[0]}: can't be run: {reason_of(error)}", Status.FAILED) from None
             self._processes.add(process)
             return process
+
+    def _dismiss(self) -> None:
+        """Lets the processes that wait for a name end."""
+        while not self._idle.empty():
+            process = self._idle.get()
+            process.communicate()
+            self._drop(process)
 
     def _drop(self, process: "subprocess.Popen[str]") -> None:
         with self._lock:

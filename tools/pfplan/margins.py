@@ -10,6 +10,7 @@ from typing import Any
 
 from . import machines, margins_texts
 from .changes import ADAPTIVE, Kind, Number, RulesText
+from .entries import entries_of_rules
 from .errors import Status, Trouble
 from .inputs import check_rules, check_trace, regular
 from .machines import Machines, Runs
@@ -18,10 +19,12 @@ from .outputs import whole_file
 from .progress import Progress
 from .records import WORDS, Traces
 from .replays import check_program
+from .scenarios.measures import Subject, users_text
+from .scenarios.reading import is_scenario
 from .sizing import serves, share_word
 from .words import Network, file
 
-DESCRIPTION = """Replays a trace under the rules, and again with each limit, maximum and timeout a tenth lower and a tenth higher, and with
+DESCRIPTION = """Replays a trace under the rules, or plays a scenario, and again with each limit, maximum and timeout a tenth lower and a tenth higher, and with
 all timeouts longer by `interval` seconds, as if pf's purge always came last. Tells which answers turn over: whether the wanted share of the
 users is served, and whether each limit is met. Rules that state the same number of one option are moved together."""
 LONGER = "each timeout longer by interval"
@@ -147,31 +150,45 @@ def values_text(move: Move) -> str:
 
 
 def measure_margins(
-    rules: Path, trace: Path, users: Sequence[Network], want: Fraction, where: Machines, words: Sequence[str], names: tuple[str, str]
+    rules: Path,
+    trace: Path,
+    users: Sequence[Network],
+    want: Fraction,
+    where: Machines,
+    words: Sequence[str],
+    names: tuple[str, str],
+    entries: Sequence[str] = (),
 ) -> Margins:
-    """Replays the rules as they are and under each change. `names` are those of trace and rules in what is told. Trouble as the program's."""
+    """Replays the rules as they are and under each change. `names` are those of trace and rules in what is told, and `entries` come by records.
+
+    Trouble as the program's.
+    """
     text = RulesText(rules)
-    moves = list(moves_of(text, protocols_of(trace)))
+    subject = Subject(text, trace if is_scenario(trace) else None)
+    if not where.is_here:
+        subject.check_elsewhere()
+    moves = list(moves_of(text, subject.protocols() or protocols_of(trace)))
     progress = Progress("margins", len(moves) + 1, "runs")
-    with Runs(where, trace, words) as runs:
+    with Runs(where, trace, words, entries) as runs:
         try:
-            lines = runs.measure([text.changed({}), *(text.changed(it.values) for it in moves)], progress)
+            lines = runs.measure([subject.text_of({}), *(subject.text_of(dict(it.values.items())) for it in moves)], progress)
         finally:
             progress.finish()
     base, *moved = [from_json(it) for it in lines]
     if base.refused:
         raise Trouble(f"{names[1]}: {base.refused}", Status.RULES)
+    told = users_text(subject.scenario) if subject.scenario else ",".join(map(str, users))
     margins = tuple(
-        Margin(it.title, it.step, values_text(it), measure, turns_of(base, measure, want, bool(users))) for it, measure in zip(moves, moved)
+        Margin(it.title, it.step, values_text(it), measure, turns_of(base, measure, want, bool(told))) for it, measure in zip(moves, moved)
     )
-    return Margins(names[0], ",".join(map(str, users)), want, base, margins)
+    return Margins(names[0], told, want, base, margins)
 
 
 def add_words(parser: argparse.ArgumentParser) -> None:
     """The words of `margins`."""
     parser.description = DESCRIPTION
     parser.add_argument("rules", type=file, metavar="RULES", help="a rules text")
-    parser.add_argument("trace", type=file, metavar="TRACE", help="the trace under which it is replayed")
+    parser.add_argument("trace", type=file, metavar="TRACE", help="the trace under which it is replayed, or the scenario that is played")
     add_asked(parser, 0)
     parser.add_argument("--want", type=share_word, default=Fraction(99, 100), metavar="SHARE", help="of the users' connections, as 99%% (99%%)")
     parser.add_argument("--json", action="store_true", help="for machines")
@@ -185,10 +202,14 @@ def run(arguments: argparse.Namespace) -> int:
     where = machines.of(arguments)
     check_program()
     check_rules(arguments.rules)
-    check_trace(arguments.trace)
+    if not is_scenario(arguments.trace):
+        check_trace(arguments.trace)
+    elif arguments.users:
+        raise Trouble(f"--users: {arguments.trace} is a scenario, which says itself who the users are")
     names = (arguments.trace.name, str(arguments.rules))
     with regular(arguments.rules) as rules, regular(arguments.trace) as trace:
-        found = measure_margins(rules, trace, arguments.users, arguments.want, where, words_of(arguments), names)
+        entries = entries_of_rules(rules, arguments.rules)
+        found = measure_margins(rules, trace, arguments.users, arguments.want, where, words_of(arguments), names, entries)
     with whole_file(arguments.out) as out:
         out.write(json.dumps(found.to_json(), indent=1) + "\n" if arguments.json else margins_texts.text_of(found))
     if arguments.page:

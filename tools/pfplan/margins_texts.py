@@ -17,7 +17,7 @@ if TYPE_CHECKING:
 
 def served_text(measure: Measure) -> str:
     """How many users' connections were served: `298, 99.3 %`."""
-    return f"{measure.served:,}, {share_text(measure.served, measure.connections)}"
+    return f"{measure.served:,}, {share_text(measure.served, measure.counted)}"
 
 
 def verdict(found: Margins) -> str:
@@ -34,7 +34,7 @@ def as_is(found: Margins) -> str:
     limits = f"limits met: {', '.join(met)}" if met else "no limit met"
     if not found.users:
         return f"as it is: {limits}"
-    return f"as it is: {served_text(found.base)} of {found.base.connections:,} connections served (wanted: at least {want_text(found.want)}); {limits}"
+    return f"as it is: {served_text(found.base)} of {found.base.counted:,} connections served (wanted: at least {want_text(found.want)}); {limits}"
 
 
 def text_of(found: Margins) -> str:

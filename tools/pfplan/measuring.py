@@ -4,21 +4,25 @@ import argparse
 import contextlib
 import itertools
 import json
-from collections.abc import Iterator, Sequence
+import sys
+from collections.abc import Callable, Iterator, Sequence
 from dataclasses import asdict, dataclass, field
 from pathlib import Path
 from typing import Any
 
-from .connections import KINDS
+from .connections import KINDS, LATE
+from .entries import entries_of_rules, read_entries
 from .errors import Status, Trouble
-from .inputs import regular
+from .inputs import Kind, kind_of, regular
+from .insertions import NOTHING, Asking, Heard, Held, asking
 from .records import WORDS, End
-from .replays import stream_blocks
-from .sides import Side, follow, side_of, word_counts
-from .summaries import Held, held_at
+from .replays import items_of, show_rules, stream_blocks, stream_texts
+from .rule_texts import flushes_of
+from .sides import Side, word_counts
+from .tallies import tally, trace_texts
 from .words import Network, file, networks, number
 
-DESCRIPTION = """Replays a trace and prints a line of JSON: records by word, limits that were met and when, what became of the users'
+DESCRIPTION = """Replays a trace, or plays a scenario, and prints a line of JSON: records by word, limits that were met and when, what became of the users'
 connections, and what is held. Rules that are refused are told in it, as "refused"."""
 
 
@@ -52,8 +56,13 @@ class Measure:
 
     @property
     def connections(self) -> int:
-        """How many connections of users there were."""
+        """How many connections of users there were, those among them that the end of the trace cut."""
         return sum(self.outcomes.values())
+
+    @property
+    def counted(self) -> int:
+        """Of how many of them shares are told: all but those that the end of the trace cut."""
+        return self.connections - self.outcomes.get(LATE, 0)
 
     @property
     def served(self) -> int:
@@ -102,9 +111,9 @@ def measure_of(side: Side, most_held: int | None = None) -> Measure:
 
 
 @contextlib.contextmanager
-def replayed(rules: Path, trace: Path) -> Iterator[Iterator[str]]:
-    """The lines of a report as they come. The program is ended where the body leaves before it has."""
-    with contextlib.closing(stream_blocks(rules, trace)) as blocks:
+def replayed(rules: Path, trace: Path, asked: Asking = NOTHING, heard: Heard | None = None) -> Iterator[Iterator[str]]:
+    """The lines of a report as they come, as `stream_blocks`. The program is ended where the body leaves before it has."""
+    with contextlib.closing(stream_blocks(rules, trace, asked, heard)) as blocks:
         yield itertools.chain.from_iterable(blocks)
 
 
@@ -113,26 +122,36 @@ def most_of(held: Sequence[Held], end: End) -> int | None:
     return max([it.states for it in held] + [end.states]) if held else None
 
 
-def measure(rules: Path, trace: Path, users: Sequence[Network], moments: int) -> Measure:
-    """Replays a trace and counts it. Rules that the program refuses are a measure that says why."""
+def measure(rules: Path, trace: Path, users: Sequence[Network], moments: int, entries: Sequence[str] = ()) -> Measure:
+    """Replays a trace and counts it. Rules that the program refuses are a measure that says why.
+
+    It is asked at so many moments how many states are held. `entries` are those that come by records (entries.py).
+    """
+    with asking(trace, moments, entries) as asked:
+        return measure_asked(rules, trace, users, asked)
+
+
+def measure_asked(rules: Path, trace: Path, users: Sequence[Network], asked: Asking) -> Measure:
+    """As `measure`, where it is known already what is put into the trace."""
     try:
-        with replayed(rules, trace) as report:
-            side = side_of(rules.name, report, users)
-            follow(trace, [side], users)
+        flushes = flushes_of(items_of(show_rules(rules))) if users else None
+        heard = asked.heard(rules)
+        records = trace_texts(trace, asked.plain)
+        side = tally(trace, records, stream_texts(rules, trace, asked, heard), users, flushes, asked.numbers, rules.name)
     except Trouble as trouble:
         if trouble.status != Status.RULES:
             raise
         return Measure(refused=trouble.message.removeprefix(f"{rules}: "))
-    held = held_at(rules, trace, moments) if moments else []
-    return measure_of(side, most_of(held, measure_of(side).end))
+    return measure_of(side, most_of(heard.held, measure_of(side).end))
 
 
 def add_words(parser: argparse.ArgumentParser) -> None:
     """The words of `measure`."""
     parser.description = DESCRIPTION
-    parser.add_argument("rules", type=file, metavar="RULES", help="a rules text")
-    parser.add_argument("trace", type=file, metavar="TRACE", help="the trace to replay")
+    parser.add_argument("rules", type=file, metavar="RULES", help="a rules text; - for those whose names come on standard input, a line each")
+    parser.add_argument("trace", type=file, metavar="TRACE", help="the trace to replay, or the scenario to play")
     add_asked(parser, 0)
+    parser.add_argument("--entries", type=file, metavar="FILE", help="entries of tables that come by records (the file that the rules name)")
     parser.add_argument("--named", action="store_true", help="the name of the rules before the line")
 
 
@@ -141,7 +160,7 @@ def add_asked(parser: argparse.ArgumentParser, moments: int) -> None:
     parser.add_argument("--users", type=networks, default=(), metavar="PREFIX..", help="networks of the users, split by commas")
     parser.add_argument(
         "--held", type=number(0, 1000), default=moments, metavar="N",
-        help=f"asks at N moments how many states are held, which takes N/2 times as long as a replay ({moments})",
+        help=f"asks at N moments how many states are held ({moments})",
     )  # fmt: skip
 
 
@@ -151,9 +170,48 @@ def words_of(arguments: argparse.Namespace) -> list[str]:
     return [*users, f"--held={arguments.held}"]
 
 
+def _is_scenario(path: Path) -> bool:
+    """Whether a file is a scenario. A run of a trace does not load their code: `size` starts many."""
+    if path.suffix != ".toml" and kind_of(path) is Kind.TRACE:
+        return False
+    from .scenarios.reading import is_scenario
+
+    return is_scenario(path)
+
+
 def run(arguments: argparse.Namespace) -> int:
-    """Prints the measure of one replay."""
-    with regular(arguments.trace) as trace:
-        told = json.dumps(measure(arguments.rules, trace, arguments.users, arguments.held).to_json())
+    """Prints the measure of one replay, or of one after another."""
+    if str(arguments.rules) == "-":
+        return _run_many(arguments)
+    with regular(arguments.rules) as rules:
+        entries = read_entries(arguments.entries) if arguments.entries else entries_of_rules(rules, arguments.rules)
+        if _is_scenario(arguments.trace):
+            from .scenarios.measures import measure_play  # which makes measures of this module
+
+            told = json.dumps(measure_play(rules, arguments.trace, entries).to_json())
+        else:
+            with regular(arguments.trace) as trace:
+                told = json.dumps(measure(rules, trace, arguments.users, arguments.held, entries).to_json())
     print(f"{arguments.rules.name} {told}" if arguments.named else told)
     return Status.DONE
+
+
+def _run_many(arguments: argparse.Namespace) -> int:
+    """Prints the measure of each rules text that is named on standard input, before it reads the next name."""
+    with contextlib.ExitStack() as stack:
+        measured = _measurer(arguments, stack)
+        for line in sys.stdin:
+            print(json.dumps(measured(Path(line.removesuffix("\n"))).to_json()), flush=True)
+    return Status.DONE
+
+
+def _measurer(arguments: argparse.Namespace, stack: contextlib.ExitStack) -> Callable[[Path], Measure]:
+    """What measures a rules text. What it needs of the trace is made once, and goes with the stack."""
+    entries = read_entries(arguments.entries) if arguments.entries else []
+    if _is_scenario(arguments.trace):
+        from .scenarios.measures import measure_play
+
+        return lambda rules: measure_play(rules, arguments.trace, entries)
+    trace = stack.enter_context(regular(arguments.trace))
+    asked = stack.enter_context(asking(trace, arguments.held, entries))
+    return lambda rules: measure_asked(rules, trace, arguments.users, asked)

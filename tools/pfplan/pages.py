@@ -4,25 +4,27 @@ import os
 import shutil
 from collections.abc import Iterator, Mapping, Sequence
 from dataclasses import dataclass
+from fractions import Fraction
 from pathlib import Path
 from typing import Protocol
 
 from . import timelines
-from .connections import KINDS, MEANINGS
+from .connections import KINDS, LATE, MEANINGS
 from .counting import Limit
 from .errors import Status, Trouble, reason_of
-from .figures import counted, share_text
+from .figures import SINCE_1970, counted, moment_text, share_text
 from .frames import PICTURE_STYLE, answer, bullets, code, document, gallery, paragraph, section, soft, table
 from .margins import Margins
 from .margins_texts import table_of as margins_table
 from .margins_texts import verdict
 from .markup import Child, Markup, join, tag
+from .notes_told import TWO_STATES, does_fill_decide, entering_of, frame_lines, note_of, skipped_lines
 from .outputs import whole_file
-from .pictures import PACKAGE, is_at_hand, standalone
+from .pictures import standalone
 from .replays import TOP
 from .sources import Source
-from .summaries import Summary
-from .timelines import FILES, Timeline, drawn_kinds
+from .summaries import Summary, Users
+from .timelines import FILES, Drawn, Timeline, drawn_kinds
 
 PAGE = "report.html"
 DIFFERENCES = TOP / "docs" / "DIFFERENCES.md"
@@ -31,8 +33,8 @@ LIMITS_OF_A_REPLAY = (
     "pf lets states that have expired or were killed go later, by up to some interval seconds, so near a limit it refuses more than is told here.",
     "What the trace lacks is not counted: ICMP, other interfaces, sequence numbers, and states from before its first packet.",
 )
-# Rules that are shown of a long text, besides those that decided.
-MOST_RULES = 200
+# Rules that are shown of a long text, besides those that decided; missing things that are named first; rules named for a limit.
+MOST_RULES, MOST_MISSING, MOST_LIMITING = 200, 20, 5
 
 
 class Left(Protocol):
@@ -58,6 +60,14 @@ class Left(Protocol):
     def changes_answer(self) -> bool:
         """Whether that can change an answer."""
 
+    @property
+    def way(self) -> str:
+        """Which way pf answers otherwise."""
+
+    @property
+    def is_missing(self) -> bool:
+        """Whether a word of the command line gives what is not there, and the reason names it."""
+
 
 @dataclass(frozen=True)
 class Subject:
@@ -68,14 +78,22 @@ class Subject:
     leftovers: Sequence[Left] = ()
     notes: Sequence[str] = ()
     margins: Margins | None = None
+    want: Fraction = Fraction(99, 100)  # the share of the users' connections that makes the answer a good one
 
 
-def write_page(folder: Path, summary: Summary, subject: Subject) -> list[Path]:
+def write_page(folder: Path, summary: Summary, subject: Subject, place: Path | None = None) -> list[Path]:
     """Writes report.html and its pictures into a folder, and answers what was written, the page first.
 
-    Without gnuplot the page has no pictures, and says which Debian package draws them. Trouble with status 4 where writing fails.
+    `place` is where the folder will be, if it is elsewhere. Without gnuplot, or where it fails, the page has no pictures, and says why.
+    Trouble with status 4 where writing fails.
     """
-    pictures = drawn_kinds(timeline_of(summary)) if is_at_hand() and summary.steps else {}
+    pictures: dict[str, Drawn] = {}
+    why = ""
+    if summary.steps:
+        try:
+            pictures = drawn_kinds(timeline_of(summary))
+        except Trouble as trouble:
+            why = trouble.message
     written = []
     for kind, figure in pictures.items():
         path = folder / FILES[kind]
@@ -83,27 +101,30 @@ def write_page(folder: Path, summary: Summary, subject: Subject) -> list[Path]:
             file.write(standalone(figure.picture, PICTURE_STYLE))
         written.append(path)
     with whole_file(folder / PAGE) as file:
-        file.write(page_of(summary, subject, [it.figure() for it in pictures.values()], differences_beside(folder)))
+        file.write(page_of(summary, subject, [it.figure() for it in pictures.values()], differences_beside(folder, place), why))
     return [folder / PAGE, *written]
 
 
-def differences_beside(folder: Path) -> str:
-    """A link from the folder to docs/DIFFERENCES.md: in the repository to the file itself, elsewhere to a copy that is put beside the page."""
-    place = folder.resolve()
-    if place.is_relative_to(TOP):
-        return os.path.relpath(DIFFERENCES, place)
+def differences_beside(folder: Path, place: Path | None = None) -> str:
+    """A link from the folder to docs/DIFFERENCES.md: in the repository to the file itself, elsewhere to a copy that is put beside the page.
+
+    `place` is where the folder will be, if it is elsewhere.
+    """
+    resolved = (place or folder).resolve()
+    if resolved.is_relative_to(TOP):
+        return os.path.relpath(DIFFERENCES, resolved)
     try:
-        shutil.copyfile(DIFFERENCES, place / DIFFERENCES.name)
+        shutil.copyfile(DIFFERENCES, folder / DIFFERENCES.name)
     except OSError as error:
-        raise Trouble(f"{place / DIFFERENCES.name}: can't be written: {reason_of(error)}", Status.FAILED) from None
+        raise Trouble(f"{folder / DIFFERENCES.name}: can't be written: {reason_of(error)}", Status.FAILED) from None
     return DIFFERENCES.name
 
 
-def page_of(summary: Summary, subject: Subject, figures: Sequence[Markup], differences: str) -> str:
-    """The text of the page."""
+def page_of(summary: Summary, subject: Subject, figures: Sequence[Markup], differences: str, why_none: str = "") -> str:
+    """The text of the page. `why_none` says why there are no pictures."""
     title = f"{subject.rules} under {subject.trace}"
-    parts: list[Child] = [tag("h1", title), soft(span_of(summary)), answer_of(summary, subject)]
-    parts.extend(pictures_parts(summary, figures))
+    parts: list[Child] = [tag("h1", title), soft(span_of(summary)), *missing_parts(subject), answer_of(summary, subject)]
+    parts.extend(pictures_parts(summary, figures, why_none))
     parts.extend(limits_parts(summary))
     parts.extend(users_parts(summary))
     parts.extend(leftovers_parts(subject))
@@ -127,26 +148,46 @@ def span_of(summary: Summary) -> str:
     if summary.first_moment is None or summary.last_moment is None:
         return counted(summary.records, "record")
     seconds = summary.last_moment - summary.first_moment
-    begin = f", from moment {summary.first_moment}" if summary.first_moment else ""
+    begin = f", from {moment_name(summary.first_moment)}" if summary.first_moment else ""
     return f"{counted(summary.records, 'record')} over {counted(seconds, 'second')}{begin}"
+
+
+def moment_name(moment: int) -> str:
+    """A moment in a sentence: a date and time of day, or `moment 100`."""
+    return moment_text(moment) if moment >= SINCE_1970 else f"moment {moment}"
+
+
+def missing_parts(subject: Subject) -> Iterator[Child]:
+    """What the pf.conf leaves to its machine and nobody gave, before any answer: it may be wrong by that alone."""
+    missing = [it for it in subject.leftovers if it.changes_answer and it.is_missing]
+    if missing:
+        rows: list[Sequence[Child]] = [[f"{it.file}:{it.line}", it.text, it.way, it.reason] for it in missing[:MOST_MISSING]]
+        more = [soft(f"And {len(missing) - MOST_MISSING:,} more.")] if len(missing) > MOST_MISSING else []
+        yield section("Missing, so the answer may be wrong", table(["where", "what", "which way", "how to give it"], rows, "cctt"), *more)
 
 
 def answer_of(summary: Summary, subject: Subject) -> Markup:
     """The answer: users served, refused and killed, by which limit, and when."""
     points: list[Child] = list(fate_points(summary))
     points.extend(limit_points(summary))
+    if does_fill_decide(summary):
+        points.append(TWO_STATES)
     points.append(held_point(summary))
+    points.extend(skipped_lines(summary))
+    points.extend(frame_lines(summary.frames) if summary.frames else ())
     doubts = [it for it in subject.leftovers if it.changes_answer]
     if doubts:
         points.append(join([tag("strong", f"{counted(len(doubts), 'thing')} left out of the pf.conf can change this answer"), "; see below."]))
     users = summary.users
     if users is None:
         return answer(limits_headline(summary), None, bullets(points), soft("No users were named (--users), so it is not told who was served."))
-    if users.connections == 0:
-        return answer(f"No connection of the users {users.of} is in the trace.", None, bullets(points))
+    if users.counted == 0:
+        why = f"All {users.connections:,} connections of the users {users.of} were cut by the end of the trace."
+        return answer(why if users.connections else f"No connection of the users {users.of} is in the trace.", None, bullets(points))
     served = users.outcomes["served"]
-    headline = f"{share_text(served, users.connections)} of the users' connections were served: {served:,} of {users.connections:,}."
-    return answer(headline, served == users.connections, bullets(points), soft(f"Users: {users.of}"))
+    headline = f"{share_text(served, users.counted)} of the users' connections were served: {served:,} of {users.counted:,}."
+    wanted = soft(f"Users: {users.of}; wanted: at least {float(100 * subject.want):g} % served")
+    return answer(headline, served >= subject.want * users.counted, bullets(points), wanted)
 
 
 def fate_points(summary: Summary) -> Iterator[Child]:
@@ -155,27 +196,43 @@ def fate_points(summary: Summary) -> Iterator[Child]:
     if users is None:
         return
     for kind in KINDS[1:]:
-        count = users.outcomes[kind]
-        if count:
+        count = users.outcomes.get(kind, 0)
+        if count and kind == LATE:
+            yield f"not counted: {count:,}, {MEANINGS[kind]}"
+        elif count:
             by = ", ".join(f"{number:,} by {word}" for word, number in users.refused_by.items()) if kind == "refused" else MEANINGS[kind]
-            yield f"{kind}: {count:,} ({share_text(count, users.connections)}): {by}"
+            yield f"{kind}: {count:,} ({share_text(count, users.counted)}): {by}"
 
 
 def limit_points(summary: Summary) -> Iterator[Child]:
     """The limits that were met, and when."""
     for it in summary.limits:
         killed = f"; {counted(it.killed, 'state')} killed" if it.killed else ""
-        yield join([code(it.word), f" {counted(it.records, 'time')}, {when(it, summary)}{killed}"])
+        by = "; ".join(limiting(summary, it.word)[:2])
+        yield join([code(it.word), f" {counted(it.records, 'time')}, {when(it, summary)}{killed}", f" ({by})" if by else ""])
     if not summary.limits:
         yield "no limit was met"
 
 
 def when(limit: Limit, summary: Summary) -> str:
-    """When a limit was met: seconds from the first moment of the trace."""
+    """When a limit was met: seconds from the first moment of the trace, and times of day where moments are since 1970."""
     if limit.first_moment is None or limit.last_moment is None or summary.first_moment is None:
         return f"in rows {limit.first_row:,} to {limit.last_row:,}"
     first, last = limit.first_moment - summary.first_moment, limit.last_moment - summary.first_moment
-    return f"at second {first:,}" if first == last else f"from second {first:,} to {last:,}"
+    told = f"at second {first:,}" if first == last else f"from second {first:,} to {last:,}"
+    if limit.first_moment < SINCE_1970:
+        return told
+    begin, end = moment_text(limit.first_moment), moment_text(limit.last_moment)
+    return f"{told} ({begin})" if first == last else f"{told} ({begin} to {end})"
+
+
+def limiting(summary: Summary, word: str) -> list[str]:
+    """The limits that a word is about, as `@2 pf.conf:7, max-src-conn 5`, by the rules that named it most; that of all rules once."""
+    rules = summary.answers.get(word, {})
+    notes = {rule: note for rule in sorted(rules, key=lambda it: -rules[it]) if (note := note_of(summary, word, rule))}
+    if word in ("drop:states", "drop:src-nodes"):
+        return list(notes.values())[:1]
+    return [f"{rule} {note}" for rule, note in notes.items()][:MOST_LIMITING]
 
 
 def held_point(summary: Summary) -> str:
@@ -192,25 +249,29 @@ def limits_headline(summary: Summary) -> str:
     return f"{counted(len(summary.limits), 'limit was', 'limits were')} met: {', '.join(it.word for it in summary.limits)}."
 
 
-def pictures_parts(summary: Summary, figures: Sequence[Markup]) -> Iterator[Child]:
-    """The pictures, or which package draws them."""
+def pictures_parts(summary: Summary, figures: Sequence[Markup], why_none: str) -> Iterator[Child]:
+    """The pictures, or why there are none."""
     if figures:
         yield section("Over time", gallery(figures))
-    elif summary.steps:
-        yield section("Over time", soft(f"No pictures: gnuplot is not here (Debian package {PACKAGE})."))
+    elif summary.steps and why_none:
+        yield section("Over time", soft(f"No pictures: {why_none}."))
 
 
 def limits_parts(summary: Summary) -> Iterator[Child]:
     """The table of limits that were met."""
     if not summary.limits:
         return
-    rows: list[Sequence[Child]] = [[it.word, f"{it.records:,}", when(it, summary), f"{it.seconds:,}", f"{it.killed:,}"] for it in summary.limits]
+    rows: list[Sequence[Child]] = [
+        [it.word, "; ".join(limiting(summary, it.word)), f"{it.records:,}", when(it, summary), f"{it.seconds:,}", f"{it.killed:,}"]
+        for it in summary.limits
+    ]
     extra = []
     if summary.overloads.get("added"):
         extra.append(soft(f"Sources put into an overload table: {summary.overloads['added']:,}."))
     if summary.overloads.get("full"):
         extra.append(soft(f"Sources for which the tables had no room: {summary.overloads['full']:,}."))
-    yield section("Limits met", table(["limit", "times", "when", "in seconds", "states killed"], rows, "cnsnn"), *extra)
+    heads = ["word", "limit, and where it stands", "times", "when", "in seconds", "states killed"]
+    yield section("Limits met", table(heads, rows, "ccnsnn"), *extra)
 
 
 def users_parts(summary: Summary) -> Iterator[Child]:
@@ -218,11 +279,27 @@ def users_parts(summary: Summary) -> Iterator[Child]:
     users = summary.users
     if users is None:
         return
-    rows: list[Sequence[Child]] = [[it, f"{users.outcomes[it]:,}", share_text(users.outcomes[it], users.connections), MEANINGS[it]] for it in KINDS]
-    parts: list[Child] = [table(["connections", "number", "share", "what it means"], rows, "snnt")]
+    counts = {it: users.outcomes.get(it, 0) for it in KINDS}
+    rows: list[Sequence[Child]] = [
+        [it, f"{count:,}", "not counted" if it == LATE else share_text(count, users.counted), MEANINGS[it]] for it, count in counts.items()
+    ]
+    rows.append(["all", f"{users.connections:,}", f"of {users.counted:,}", ""])
+    parts: list[Child] = [table(["connections", "number", "share", "what it means"], rows, "snnt"), *refusals_parts(summary, users)]
     if users.without_beginning:
         parts.append(soft(f"Not counted: {users.without_beginning:,} whose beginning is not in the trace."))
+    if users.begun_by_others:
+        parts.append(soft(f"Not counted: {users.begun_by_others:,} that others began."))
     yield section("What became of the users", *parts)
+
+
+def refusals_parts(summary: Summary, users: Users) -> Iterator[Child]:
+    """By which words of which rules connections were refused, and how their sources got into a table."""
+    if users.refusals:
+        rows: list[Sequence[Child]] = [
+            [it.word, it.rule, note_of(summary, it.word, it.rule), f"{it.connections:,}", entering_of(summary, it)] for it in users.refusals
+        ]
+        yield tag("h3", "Refused by")
+        yield table(["word", "rule", "where, table, limit", "connections", "how the source got into the table"], rows, "cccnt")
 
 
 def leftovers_parts(subject: Subject) -> Iterator[Child]:
@@ -231,8 +308,8 @@ def leftovers_parts(subject: Subject) -> Iterator[Child]:
     others = len(subject.leftovers) - len(doubts)
     parts: list[Child] = []
     if doubts:
-        rows: list[Sequence[Child]] = [[f"{it.file}:{it.line}", it.text, it.reason] for it in doubts]
-        parts.append(table(["where", "left out", "why"], rows, "cct"))
+        rows: list[Sequence[Child]] = [[f"{it.file}:{it.line}", it.text, it.way, it.reason] for it in doubts]
+        parts.append(table(["where", "left out", "which way", "why"], rows, "cctt"))
     if subject.notes:
         parts.append(bullets(subject.notes))
     if others:
@@ -254,14 +331,16 @@ def rules_parts(summary: Summary) -> Iterator[Child]:
     decided = decisions_of(summary.answers)
     shown = [it for it in range(len(summary.rules)) if it in decided or it < MOST_RULES]
     has_labels = any(it in summary.labels for it in shown)
+    places = summary.origins.items
     rows: list[Sequence[Child]] = []
     for item in shown:
         words = decided.get(item, {})
         told = ", ".join(f"{word} {count:,}" for word, count in words.items()) or ("never" if item in summary.undecided else "")
         label = [summary.labels.get(item, "")] if has_labels else []
-        rows.append([f"@{item}", f"{sum(words.values()):,}", told, *label, summary.rules[item]])
-    heads = ["rule", "records", "answers", *(["label"] if has_labels else []), "text"]
-    parts: list[Child] = [table(heads, rows, "snt" + ("c" if has_labels else "") + "c")]
+        place = [places.get(item, "")] if places else []
+        rows.append([f"@{item}", *place, f"{sum(words.values()):,}", told, *label, summary.rules[item]])
+    heads = ["rule", *(["stands at"] if places else []), "records", "answers", *(["label"] if has_labels else []), "text"]
+    parts: list[Child] = [table(heads, rows, "s" + ("c" if places else "") + "nt" + ("c" if has_labels else "") + "c")]
     if len(shown) < len(summary.rules):
         parts.append(soft(f"Not shown: {len(summary.rules) - len(shown):,} rules that never decided."))
     yield section("Rules, and how often each decided", *parts)

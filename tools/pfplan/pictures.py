@@ -18,7 +18,7 @@ from .errors import Status, Trouble
 from .markup import Markup, join, tag
 
 PACKAGE = "gnuplot-nox"
-SECONDS_FOR_A_PICTURE = 60
+SECONDS_FOR_A_PICTURE = 30
 SVG = "{http://www.w3.org/2000/svg}"
 LINK = "{http://www.w3.org/1999/xlink}href"
 
@@ -97,7 +97,7 @@ def is_at_hand() -> bool:
 def draw(pictures: Sequence[Picture]) -> list[Markup]:
     """An SVG element for each picture, with classes in place of colours.
 
-    Trouble with status 4 where gnuplot is not there, fails, or takes longer than a minute for one.
+    Trouble with status 4 where gnuplot is not there, fails, or takes longer than 30 seconds for one.
     """
     return [element_of(drawn_by_gnuplot(script_of(picture)), picture) for picture in pictures]
 

@@ -18,8 +18,12 @@ LONGEST = 1 << 16
 WORDS = (
     "state", "new", "pass", "block", "skip", "drop:max", "drop:max-src-nodes", "drop:src-nodes", "drop:max-src-states", "drop:states",
     "kill:max-src-conn", "kill:max-src-conn-rate", "kill:max-src-conn+max-src-conn-rate", "expire",
+    "held", "add", "delete",
 )  # fmt: skip
 OVERLOADS = ("added", "held", "full", "none")
+ADDED = ("added", "held", "conflict", "full")
+# the second columns of an administrator's records: these are no packets, and have no interface, source and target
+ORDERS = frozenset(("expire", "held", "add", "delete"))
 
 
 @dataclass(frozen=True, slots=True)
@@ -39,7 +43,7 @@ class Record:
 
 @dataclass(frozen=True, slots=True)
 class Answer:
-    """A line of a report. `rule` is `@N` or `-`; the last three say what a kill and an expiry did."""
+    """A line of a report. `rule` is `@N` or `-`; the others say what a kill did, what left a table, and what became of an added entry."""
 
     row: int
     word: str
@@ -47,11 +51,12 @@ class Answer:
     overload: str = ""
     killed: int = 0
     removed: int = 0
+    added: str = ""
 
 
 @dataclass(frozen=True, slots=True)
 class End:
-    """The last line of a report: records, and what is held."""
+    """The last line of a report, or that of a record `held`: records up to it, and what is held."""
 
     rows: int
     states: int
@@ -157,13 +162,32 @@ def read_answer(line: str) -> Answer | End:
         if len(part) != 5 or part[3].removeprefix("overload=") not in OVERLOADS:
             raise ValueError("no line of a report")
         return Answer(row, word, rule, part[3].removeprefix("overload="), _value(part[4], "killed"))
-    if word == "expire":
-        if len(part) != 4:
-            raise ValueError("no line of a report")
-        return Answer(row, word, rule, removed=_value(part[3], "removed"))
+    if word in ORDERS:
+        return _read_order(row, part)
     if len(part) != 3:
         raise ValueError("no line of a report")
     return Answer(row, word, rule)
+
+
+def read_held(line: str) -> End:
+    """What a line of a report says of a record `held`. ValueError where it is no such line."""
+    part = line.split(" ")
+    if len(part) != 6 or part[1:3] != ["held", "-"] or not part[0].isdigit():
+        raise ValueError("no line of a report")
+    return End(int(part[0]), _value(part[3], "states"), _value(part[4], "nodes"), _value(part[5], "entries"))
+
+
+def _read_order(row: int, part: list[str]) -> Answer:
+    """The answer to an administrator's record."""
+    word = part[1]
+    if word == "held":
+        read_held(" ".join(part))
+        return Answer(row, word, part[2])
+    if len(part) != 4 or part[2] != "-" or word == "add" and part[3] not in ADDED:
+        raise ValueError("no line of a report")
+    if word == "add":
+        return Answer(row, word, part[2], added=part[3])
+    return Answer(row, word, part[2], removed=_value(part[3], "removed"))
 
 
 def _read_end(part: list[str]) -> End:

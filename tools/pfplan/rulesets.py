@@ -1,32 +1,37 @@
 """`pfplan rules`: a rules text of a pf.conf as it stands in /etc, or of what pfctl -nvf prints, and what was left out of it."""
 
 import argparse
+import ipaddress
 import re
 import sys
+from collections import Counter
 from collections.abc import Sequence
-from dataclasses import dataclass, field
+from dataclasses import dataclass, field, replace
 from pathlib import Path
 
 from . import words
 from .choices import NAME, Chooser, MadeTables
+from .entries import beside, by_table, entries_of_text, mark_of, marked, moved, names_to_move, write_entries
 from .errors import Status, Trouble
-from .expansion import Expander, table_names, walk
+from .expansion import Expander, overloaded_tables, table_names, walk
 from .grammar import parse
-from .inputs import check_rules
-from .interfaces import Machine, read_ifconfig, shown
+from .inputs import check_rules, is_regular, name_of
+from .interfaces import Given, Machine, read_ifconfig, shown
 from .leftovers import Leftover, Teller
 from .lexer import printable
 from .linking import Linker
 from .outputs import whole_file
 from .settings import Settings
 from .named_files import NamedFiles, read_text
+from .numbering import Numbers, PfRule
 from .syntax import Place, Setting, Statement, Table
 from .tables import TableMaker
 
 MOST_BYTES = 1_048_576  # of a rules text of pfsrc
+MOST_ALIKE = 20  # leftovers that change no answer, for one reason, each in a line
 DESCRIPTION = """Makes a rules text for ./pfsrc of a pf.conf as it stands in /etc, with no OpenBSD at hand, or of what pfctl -nvf
 prints. Macros and lists are expanded as pfctl does. Standard error says what is left out, a line each:
-  FILE: line N: left out: TEXT: can change an answer: WHY     or     .. : changes no answer: WHY
+  FILE: line N: left out: TEXT: can change an answer (WHICH WAY): WHY     or     .. : changes no answer: WHY
 No rule comes out wider than it was: a part goes alone only where the rule matches the same packets without it, else the
 whole rule does. docs/PFCONF.md says of each construct of pf.conf(5) what becomes of it."""
 
@@ -36,41 +41,87 @@ class RuleOptions:
     """What the command line says of a text: macros, addresses and interfaces by name, and files for tables, anchors and ifconfig."""
 
     macros: tuple[tuple[str, str], ...] = ()
-    addresses: tuple[tuple[str, words.Network], ...] = ()
+    addresses: tuple[tuple[str, Given], ...] = ()
     interfaces: tuple[tuple[str, str], ...] = ()
     entries: tuple[tuple[str, Path], ...] = ()
     anchors: tuple[tuple[str, Path], ...] = ()
     ifconfig: Path | None = None
     root: Path | None = None
     strict: bool = False
+    by_records: bool = False  # whether tables may get entries by records (entries.py)
 
 
 @dataclass(frozen=True)
 class Ruleset:
-    """A rules text, the label and the place of each of its items by number, and what was left out of the pf.conf."""
+    """A rules text, the label and the place of each of its items by number, and what was left out of the pf.conf.
+
+    The items in `skipped` stand for `set skip`, and come before all others. `limits` has the place of each limit for all rules.
+    `records` are those by which tables get their entries before the first packet (entries.py); the text names them.
+    `pf_rules` are all rules and anchors as pf numbers them, also those that the rules text has not; behind `guessed`, where that is a place,
+    the numbers may be others.
+    """
 
     text: str
     labels: dict[int, str]
     leftovers: tuple[Leftover, ...]
     notes: tuple[str, ...]
     origins: tuple[Place, ...] = field(default=())
+    records: tuple[str, ...] = ()
+    pf_rules: tuple[PfRule, ...] = ()
+    guessed: Place | None = None
+    skipped: frozenset[int] = frozenset()
+    limits: dict[str, Place] = field(default_factory=dict)
 
     def told(self) -> list[str]:
         """The lines for standard error: what was left out, what else is to know, and how much there is of each."""
         changing = sum(it.changes_answer for it in self.leftovers)
-        lines = [it.shown() for it in self.leftovers] + [f"note: {it}" for it in self.notes]
+        lines = [*_shown(self.leftovers), *(f"note: {it}" for it in self.notes)]
         count = f"{len(self.origins)} item{'' if len(self.origins) == 1 else 's'}; left out: {changing} that can change an answer, {len(self.leftovers) - changing} that change none"
         return [*lines, count]
+
+
+def _shown(leftovers: Sequence[Leftover]) -> list[str]:
+    """The lines of leftovers. Of those that change no answer, many for one reason are one line, where the first of them stands."""
+
+    def kind(it: Leftover) -> tuple[str, str, str]:
+        return it.file, it.text.split(" ")[0], it.reason
+
+    counts = Counter(kind(it) for it in leftovers if not it.changes_answer)
+    seen: set[tuple[str, str, str]] = set()
+    lines = []
+    for it in leftovers:
+        if it.changes_answer or counts[kind(it)] <= MOST_ALIKE:
+            lines.append(it.shown())
+        elif kind(it) not in seen:
+            seen.add(kind(it))
+            same = [other.line for other in leftovers if not other.changes_answer and kind(other) == kind(it)]
+            word = printable(it.text.split(" ")[0])
+            lines.append(f"{printable(it.file)}: lines {min(same)} to {max(same)}: left out: {word}, {len(same):,} times: changes no answer: {it.reason}")
+    return lines
 
 
 def convert(path: Path, options: RuleOptions) -> Ruleset:
     """The rules text of a file. Trouble with status 3 at a syntax error, and with status 4 where the file can't be read."""
     check_rules(path)
-    return convert_text(read_text(path), str(path), options)
+    text = read_text(path)
+    return convert_text(text, str(path), options, entries_of_text(text, path))
 
 
-def convert_text(text: str, name: str, options: RuleOptions) -> Ruleset:
-    """The rules text of a text; `name` stands for its file in what is told, and says where the files are that it names."""
+def convert_named(path: Path, given: Path, options: RuleOptions) -> Ruleset:
+    """The rules text of a file that may be a copy of the pipe or the standard input that was `given`, by whose name it is told. Trouble as `convert`."""
+    if path == given:
+        return convert(path, options)
+    text = read_text(path)
+    return convert_text(text, name_of(given), options, entries_of_text(text, given))
+
+
+def convert_text(text: str, name: str, options: RuleOptions, records: Sequence[str] = ()) -> Ruleset:
+    """The rules text of a text; `name` stands for its file in what is told, and says where the files are that it names.
+
+    `records` give tables their entries where the text is a rules text that was made before. Trouble where it says of such, and there are none.
+    """
+    if marked(text) and not records:
+        raise Trouble(f"{name}: a rules text whose tables get entries by records, from a file beside it: it is to be given by its name", Status.RULES)
     teller = Teller(options.strict)
     sources = NamedFiles(options.root)
     parsed = parse(text, name, dict(options.macros), sources)
@@ -79,27 +130,53 @@ def convert_text(text: str, name: str, options: RuleOptions) -> Ruleset:
     statements = linker.link(parsed.statements)
     if not statements and not teller.told:
         raise Trouble(f"{name}: there is no statement in it", Status.RULES)
-    expander = _expander(statements, teller, sources, options)
+    expander = _expander(statements, teller, sources, options, by_table(records))
     expander.expand(statements)
     _note_unused(teller, statements, linker, options)
     made = expander.chooser.tables
     lines = [*made.lines(), *expander.lines, *expander.settings.last_lines()]
+    left, moving = _by_records(lines, expander, teller) if options.by_records else (lines, [])
     files = list(dict.fromkeys([name, *(it.file for it in teller.told)]))
     told = sorted(teller.told, key=lambda it: (files.index(it.file), it.line))
-    whole = "".join(f"{it}\n" for it in lines)
-    ruleset = Ruleset(whole, expander.labels, tuple(told), _notes(teller, made, sources), tuple(expander.origins))
+    whole = "".join(f"{it}\n" for it in left)
+    limits = {limit: it.place for it in statements if isinstance(it, Setting) and it.name == "limit" for limit, _ in it.pairs}
+    ruleset = Ruleset(
+        whole, expander.labels, tuple(told), _notes(teller, made, sources), tuple(expander.origins), tuple(moving),
+        tuple(expander.numbers.found), expander.numbers.guessed, frozenset(expander.skipped), limits,
+    )  # fmt: skip
     _check_size(name, lines, ruleset, expander.settings.limits)
     return ruleset
 
 
-def _expander(statements: list[Statement], teller: Teller, sources: NamedFiles, options: RuleOptions) -> Expander:
+def _by_records(lines: Sequence[str], expander: Expander, teller: Teller) -> tuple[list[str], list[str]]:
+    """The lines without the entries of tables that get theirs by records, and these records. A note says which tables they are."""
+    moving = names_to_move(lines, expander.tables.persisting, MOST_BYTES)
+    for name, (count, is_const) in moving.items():
+        constant = "; the table is not const here, so that they can" if is_const else ""
+        teller.note(f"table <{name}> has no entries in the rules text: {count:,} come by records, before the first packet{constant}")
+    left, records = moved(lines, moving)
+    return ([mark_of(records), *left], records) if records else (left, records)
+
+
+def write_rules(path: Path | None, ruleset: Ruleset) -> None:
+    """Writes a rules text, and beside it the entries that come by records. None is standard output. Trouble with status 4 where that fails."""
+    if path and ruleset.records:
+        write_entries(path, ruleset.records)
+    with whole_file(path) as file:
+        file.write(ruleset.text or "# no rule and no setting is left\n")
+
+
+def _expander(
+    statements: list[Statement], teller: Teller, sources: NamedFiles, options: RuleOptions, recorded: dict[str, list[str]]
+) -> Expander:
     machine = _machine(options)
     tables = MadeTables()
     tables.take(table_names(statements))
     settings = Settings(teller)
     settings.look(it for it in walk(statements) if isinstance(it, Setting))
-    maker = TableMaker(machine, sources, teller, dict(options.entries))
-    return Expander(Chooser(machine, tables, teller, maker), maker, settings, teller)
+    maker = TableMaker(machine, sources, teller, dict(options.entries), recorded)
+    overloaded = overloaded_tables(statements)
+    return Expander(Chooser(machine, tables, teller, maker), maker, settings, teller, Numbers(machine), overloaded)
 
 
 def machine_of(ifconfig: Path | None) -> Machine:
@@ -146,7 +223,7 @@ def _check_size(name: str, lines: list[str], ruleset: Ruleset, limits: dict[str,
     tables = len(set(re.findall(r"<([A-Za-z0-9_.-]+)>", ruleset.text)))
     entries = sum(it.count(",") + 1 for it in lines if it.startswith("table ") and "{" in it)
     for count, most, what in (
-        (len(ruleset.text), MOST_BYTES, f"bytes of rules text; pfsrc takes {MOST_BYTES}"),
+        (len(ruleset.text), MOST_BYTES, f"bytes of rules text; pfsrc takes {MOST_BYTES} (with --out FILE, entries of tables go into FILE.entries)"),
         (tables, limits["tables"], f"tables; set limit tables is {limits['tables']}"),
         (entries, limits["table-entries"], f"entries of tables; set limit table-entries is {limits['table-entries']}"),
     ):
@@ -170,9 +247,17 @@ def _macro(text: str) -> tuple[str, str]:
     return name, value
 
 
-def _address(text: str) -> tuple[str, words.Network]:
+def _address(text: str) -> tuple[str, Given]:
     name, value = _pair(text)
-    return name, words.network(value)
+    try:
+        given = ipaddress.ip_interface(value)
+    except ValueError:
+        raise argparse.ArgumentTypeError(f"'{value}' is no address and no prefix") from None
+    is_network = given.ip == given.network.network_address and given.network.prefixlen < given.max_prefixlen - 1
+    if is_network and "network" not in name.split(":"):
+        plain = name.split(":")[0]
+        raise argparse.ArgumentTypeError(f"'{value}' is a network, and {name} is an address; {plain}:network={value} gives the network of {plain}")
+    return name, given
 
 
 def _interface(text: str) -> tuple[str, str]:
@@ -194,11 +279,11 @@ def add_rule_words(parser: argparse.ArgumentParser) -> None:
     add("-D", dest="macros", type=_macro, action="append", default=[], metavar="NAME=VALUE", help="define a macro, which the text does not change")
     add("--ifconfig", type=words.file, metavar="FILE", help="what ifconfig prints on the firewall: interfaces, groups, addresses")
     add(
-        "--address", dest="addresses", type=_address, action="append", default=[], metavar="NAME=PREFIX",
-        help="an address of NAME, (NAME) or NAME:network, as em0, self or a host's name; may stand more than once",
+        "--address", dest="addresses", type=_address, action="append", default=[], metavar="NAME=ADDRESS",
+        help="an address of NAME, as em0, self or a host's name, with its length where NAME:network is asked for; or NAME:network=PREFIX. May stand more than once",
     )  # fmt: skip
     add("--interface", dest="interfaces", type=_interface, action="append", default=[], metavar="GROUP=IF", help="an interface of a group")
-    add("--entries", type=_file, action="append", default=[], metavar="TABLE=FILE", help="the entries of a table, in place of its files")
+    add("--entries", type=_file, action="append", default=[], metavar="TABLE=FILE", help="the entries of a table, in place of its files; also what pfctl -t TABLE -T show prints")
     add("--anchor", dest="anchors", type=_file, action="append", default=[], metavar="NAME=FILE", help="the rules of an anchor by name")
     add("--root", type=words.file, metavar="FOLDER", help="where files with absolute names are looked for: FOLDER/etc/..")
 
@@ -227,13 +312,15 @@ def add_words(parser: argparse.ArgumentParser) -> None:
 
 def run(arguments: argparse.Namespace) -> int:
     """Writes the rules text, and tells on standard error what was left out. Nothing is written where the text is refused."""
-    options = options_of(arguments)
+    out: Path | None = arguments.out
+    options = replace(options_of(arguments), by_records=out is not None and (is_regular(out) or not out.exists()))
     if str(arguments.file) == "-":
         ruleset = convert_text(sys.stdin.buffer.read().decode("utf-8", "surrogateescape"), "standard input", options)
     else:
         ruleset = convert(arguments.file, options)
-    with whole_file(arguments.out) as file:
-        file.write(ruleset.text)
+    write_rules(out, ruleset)
+    if out and ruleset.records:
+        print(f"note: entries by records: {beside(out)}", file=sys.stderr)
     _tell(arguments.file, ruleset.told())
     return Status.DONE
 
@@ -242,6 +329,4 @@ def _tell(path: Path, lines: Sequence[str]) -> None:
     *told, count = lines
     for it in told:
         print(it, file=sys.stderr)
-    print(f"{'standard input' if str(path) == '-' else path}: {count}", file=sys.stderr)
-
-
+    print(f"{printable(name_of(path))}: {count}", file=sys.stderr)

@@ -1,34 +1,47 @@
 """The command `run`: from a pf.conf and a capture to a folder with the answer."""
 
 import argparse
+import contextlib
 import json
-import os
 import sys
-from collections.abc import Iterable
-from dataclasses import dataclass
+from collections.abc import Iterable, Sequence
+from dataclasses import dataclass, replace
 from fractions import Fraction
 from pathlib import Path
 
 from . import machines, margins, measuring, rulesets, sizing
+from .accounts import Frames, frames_of
 from .captures import make_trace
-from .errors import Status, Trouble, reason_of
+from .errors import Status, Trouble
 from .figures import share_text
-from .inputs import Kind, check_readable, kind_of
-from .outputs import make_folder, whole_file
-from .pages import Subject, write_page
+from .inputs import Kind, check_readable, kind_of, name_of, regular, unpacked
+from .insertions import Held, asking
+from .lexer import printable
+from .notes_told import frame_lines
+from .origins import origins_of
+from .outputs import whole_file, whole_folder
+from .pages import DIFFERENCES, PAGE, Subject, write_page
 from .progress import Progress
 from .replays import Replay, check_program, records_of, run_replay
 from .rulesets import Ruleset
-from .summaries import Summary, Wanted, held_at, summarize
+from .scenarios.commands import run_play
+from .scenarios.reading import is_scenario
+from .summaries import Summary, Wanted, summarize
+from .timelines import FILES
 from .words import Parser, file, interface, networks, number
 
 DESCRIPTION = """Makes a rules text and a trace where they are not yet, replays, and puts into a folder:
 
   rules, left-out.txt            the rules text, and what of the pf.conf is not in it
+  rules.entries                  entries of tables that come by records, where there are any
   trace.csv                      the trace, where it was not given as one
   report                         what became of each record
   summary.txt, summary.json      counts, and what became of the users
   report.html, *.svg             the answer to look at (pictures where gnuplot is installed)"""
+OURS = (
+    "rules", "rules.entries", "left-out.txt", "trace.csv", "report", "summary.txt", "summary.json", PAGE, DIFFERENCES.name, *FILES.values(),
+)  # fmt: skip
+MOST_MISSING = 5
 # Moments at which the program is asked what is held.
 MOMENTS = 20
 
@@ -51,8 +64,8 @@ class Files:
 def add_words(parser: Parser) -> None:
     """The words of the command."""
     parser.description = DESCRIPTION
-    parser.add_argument("rules_from", type=file, metavar="PF.CONF", help="a pf.conf as it stands in /etc, what pfctl -nvf prints, or a rules text")
-    parser.add_argument("capture", type=file, metavar="CAPTURE", help="a capture, or a trace")
+    parser.add_argument("rules_from", type=file, metavar="PF.CONF", help="a pf.conf as it stands in /etc, what pfctl -nvf prints, or a rules text; - is standard input")
+    parser.add_argument("capture", type=file, metavar="CAPTURE", help="a capture, also packed by gzip or zstd, a trace, or a scenario, which is played; - is standard input")
     parser.add_argument("--into", type=file, required=True, metavar="FOLDER", help="the folder; it is made where it is not there")
     parser.add_argument("--users", type=networks, metavar="PREFIX,..", default=(), help="the networks of the users: says who of them was served")
     parser.add_argument("--inside", type=networks, metavar="PREFIX,..", action="extend", default=[], help="the networks behind the firewall, as pfplan trace takes them (by --ifconfig)")
@@ -61,7 +74,8 @@ def add_words(parser: Parser) -> None:
     parser.add_argument("--held", type=number(0, 10_000), metavar="N", default=MOMENTS, help=f"asks the program how much is held at N moments ({MOMENTS})")
     parser.add_argument("--top", type=number(1, 1000), metavar="N", default=5, help="how many sources are named (5)")
     parser.add_argument("--margins", action="store_true", help="also tells how sure the answer is, as pfplan margins does, which takes many replays")
-    parser.add_argument("--want", type=sizing.share_word, default=Fraction(99, 100), metavar="SHARE", help="of the users' connections, for the margins (99%%)")
+    parser.add_argument("--want", type=sizing.share_word, default=Fraction(99, 100), metavar="SHARE", help="of the users' connections: with as many served the answer is a good one (99%%)")
+    parser.add_argument("--partial", action="store_true", help="takes a capture that is cut at its end, up to there")
     machines.add_words(parser)
     rulesets.add_rule_words(parser)
 
@@ -69,61 +83,95 @@ def add_words(parser: Parser) -> None:
 def run(arguments: argparse.Namespace) -> int:
     """Runs the command."""
     where = machines.of(arguments)
-    check_readable(arguments.rules_from)
-    check_readable(arguments.capture)
-    ruleset = rulesets.convert(arguments.rules_from, rulesets.options_of(arguments))
-    check_program()
-    make_folder(arguments.into)
-    files = Files(arguments.into)
-    files.write("rules", [ruleset.text])
-    files.write("left-out.txt", (f"{it}\n" for it in ruleset.told()))
-    trace = _trace(arguments, files)
-    _replay(files / "rules", trace, files / "report")
-    summary = summarize(files / "report", Wanted(trace, arguments.users, files / "rules", ruleset.labels, top=arguments.top))
-    if arguments.held:
-        summary.held = held_at(files / "rules", trace, arguments.held, where.jobs or os.cpu_count() or 1)
-    files.write("summary.txt", [summary.to_text()])
-    files.write("summary.json", [json.dumps(summary.to_json(), indent=2), "\n"])
-    _page(arguments, where, files, trace, ruleset, summary)
+    if str(arguments.rules_from) == str(arguments.capture) == "-":
+        raise Trouble("-: standard input gives the rules or the capture, and not both")
+    for path in (arguments.rules_from, arguments.capture):
+        if str(path) != "-":
+            check_readable(path)
+    if str(arguments.capture) != "-" and is_scenario(arguments.capture):
+        return run_play(arguments)
+    with contextlib.ExitStack() as stack:
+        ruleset = rulesets.convert_named(stack.enter_context(regular(arguments.rules_from)), arguments.rules_from, _options(arguments))
+        check_program()
+        given = stack.enter_context(regular(arguments.capture))
+        capture = stack.enter_context(unpacked(given, name_of(arguments.capture)))
+        with whole_folder(arguments.into, OURS) as folder:
+            summary = _fill(arguments, where, Files(folder), capture, ruleset)
     _tell(arguments, ruleset, summary)
     return Status.DONE
 
 
-def _trace(arguments: argparse.Namespace, files: Files) -> Path:
-    """The trace that was given, or that of the capture."""
-    given: Path = arguments.capture
+def _options(arguments: argparse.Namespace) -> rulesets.RuleOptions:
+    return replace(rulesets.options_of(arguments), by_records=True)
+
+
+def _fill(arguments: argparse.Namespace, where: machines.Machines, files: Files, capture: Path, ruleset: Ruleset) -> Summary:
+    """Writes all files of the folder, and answers the summary."""
+    rulesets.write_rules(files / "rules", ruleset)
+    files.write("left-out.txt", (f"{it}\n" for it in ruleset.told()))
+    trace, frames = _trace(arguments, capture, files)
+    held = _replay(files, trace, ruleset.records, arguments.held)
+    wanted = Wanted(trace, arguments.users, files / "rules", ruleset.labels, origins_of(ruleset), frames, top=arguments.top)
+    summary = summarize(files / "report", wanted)
+    summary.held = held
+    files.write("summary.txt", [summary.to_text()])
+    files.write("summary.json", [json.dumps(summary.to_json(), indent=2), "\n"])
+    _page(arguments, where, files, trace, ruleset, summary)
+    return summary
+
+
+def _trace(arguments: argparse.Namespace, given: Path, files: Files) -> tuple[Path, Frames | None]:
+    """The trace that was given, or that of the capture with what became of its frames."""
     if kind_of(given) is Kind.TRACE:
-        return given
-    inside = arguments.inside or rulesets.machine_of(arguments.ifconfig).inside()
-    for line in make_trace(given, inside, files / "trace.csv", name=arguments.name, is_zero=arguments.zero):
+        return given, None
+    machine = rulesets.machine_of(arguments.ifconfig)
+    inside, macs = arguments.inside or machine.inside(), machine.macs(arguments.name or "")
+    shown = name_of(arguments.capture)
+    account = make_trace(
+        given, inside, files / "trace.csv", name=arguments.name, macs=macs, is_zero=arguments.zero, is_partial=arguments.partial, shown=shown
+    )
+    for line in account:
         print(line, file=sys.stderr)
-    return files / "trace.csv"
+    return files / "trace.csv", frames_of(account)
 
 
-def _replay(rules: Path, trace: Path, report: Path) -> None:
+def _replay(files: Files, trace: Path, entries: Sequence[str], moments: int) -> list[Held]:
+    """Replays the trace into the folder's report, and answers how much is held at so many moments. `entries` come by records."""
+    rules = files / "rules"
     progress = Progress("replay", records_of(trace), "records")
     try:
-        run_replay(Replay(rules, trace, report), progress)
+        with asking(trace, moments, entries) as asked:
+            heard = asked.heard(rules)
+            run_replay(Replay(rules, trace, files / "report"), progress, asked, heard)
     finally:
         progress.finish()
+    return heard.held
 
 
 def _page(arguments: argparse.Namespace, where: machines.Machines, files: Files, trace: Path, ruleset: Ruleset, summary: Summary) -> None:
-    names = (arguments.capture.name, str(arguments.rules_from))
+    names = (Path(name_of(arguments.capture)).name, name_of(arguments.rules_from))
     found = None
     if arguments.margins:
         words = measuring.words_of(argparse.Namespace(users=arguments.users, held=0))
-        found = margins.measure_margins(files / "rules", trace, arguments.users, arguments.want, where, words, names)
-    write_page(files.folder, summary, Subject(names[1], names[0], ruleset.leftovers, ruleset.notes, found))
+        found = margins.measure_margins(files / "rules", trace, arguments.users, arguments.want, where, words, names, ruleset.records)
+    subject = Subject(names[1], names[0], ruleset.leftovers, ruleset.notes, found, arguments.want)
+    write_page(files.folder, summary, subject, arguments.into)
 
 
 def _tell(arguments: argparse.Namespace, ruleset: Ruleset, summary: Summary) -> None:
     """The answer in a line, and where the rest is."""
+    missing = [it for it in ruleset.leftovers if it.changes_answer and it.is_missing]
+    for it in missing[:MOST_MISSING]:
+        print(f"missing: {it.text} ({printable(it.file)}:{it.line}): {it.reason} ({it.way})")
+    if len(missing) > MOST_MISSING:
+        print(f"missing: {len(missing) - MOST_MISSING} things more")
     users = summary.users
-    if users and users.connections:
+    if users and users.counted:
         served = users.outcomes["served"]
-        print(f"{share_text(served, users.connections)} of the users' connections were served: {served:,} of {users.connections:,}")
+        print(f"{share_text(served, users.counted)} of the users' connections were served: {served:,} of {users.counted:,}")
+    for line in frame_lines(summary.frames) if summary.frames else ():
+        print(line)
     doubts = sum(it.changes_answer for it in ruleset.leftovers)
     if doubts:
-        print(f"left out of {arguments.rules_from}: {doubts} that can change this answer ({arguments.into / 'left-out.txt'})")
-    print(arguments.into / "report.html")
+        print(printable(f"left out of {name_of(arguments.rules_from)}: {doubts} that can change this answer ({arguments.into / 'left-out.txt'})"))
+    print(printable(str(arguments.into / PAGE)))

@@ -5,7 +5,7 @@ from dataclasses import dataclass, field
 
 from .filters import TIMEOUTS_FOR_NOTHING
 from .grammar import LIMITS
-from .leftovers import Reason, Teller, harmless, telling
+from .leftovers import OTHER_STATES, Reason, Teller, harmless, telling
 from .syntax import Setting, State, StateOption
 
 # the timeouts that pfctl sets for a name, in seconds
@@ -17,12 +17,11 @@ _OPTIMIZATIONS = {
 }
 _SAME = {"high-latency": "satellite", "default": "normal"}
 _ADAPTIVE = {"adaptive.start": 60000, "adaptive.end": 120000}  # what the one is in pf where the other alone is set
+BOUND = telling("states are bound to interfaces", OTHER_STATES)
 _NO_PACKET = harmless("no packet is passed or blocked by it")
 _REASONS = {
-    "skip": harmless("a trace is of the filtered interfaces; give no records of these"),
-    "block-policy": harmless("the answer is block either way"),
     "fail-policy": harmless("the answer is block either way"),
-    "syncookies": telling("pf answers SYN packets itself, and makes no state for those that are forged"),
+    "syncookies": telling("pf answers SYN packets itself, and makes no state for those that are forged", OTHER_STATES),
     "reassemble": harmless("a trace has no fragments"),
 }
 _DEFAULTS_FOR_NOTHING = ("pflow", *TIMEOUTS_FOR_NOTHING)
@@ -31,10 +30,11 @@ MOST_TABLES, MOST_ENTRIES = 1000, 200000  # what pf and pfsrc have where nothing
 
 @dataclass
 class Settings:
-    """Writes settings, and keeps the limits that they set."""
+    """Writes settings, and keeps the limits that they set, and the block policy of the rules behind."""
 
     teller: Teller
     limits: dict[str, int] = field(default_factory=lambda: {"tables": MOST_TABLES, "table-entries": MOST_ENTRIES})
+    block_policy: str = "drop"
     _adaptive: dict[str, int] = field(default_factory=dict)
     _is_adaptive_fit: bool = True
 
@@ -49,27 +49,32 @@ class Settings:
             self._is_adaptive_fit = start < end or start == end == 0
 
     def last_lines(self) -> list[str]:
-        """The adaptive timeout that the text leaves at its default, where it sets the other one."""
-        if not self._is_adaptive_fit or len(self._adaptive) != 1:
+        """The adaptive timeouts that the text leaves at their default, or that turn scaling off, as pf takes a start that is not below the end."""
+        if not self._is_adaptive_fit:
+            return ["set timeout { adaptive.start 0, adaptive.end 0 }"]
+        if len(self._adaptive) != 1:
             return []
         return [f"set timeout {{ {name} {value} }}" for name, value in _ADAPTIVE.items() if name not in self._adaptive]
 
     def lines(self, setting: Setting) -> list[str]:
         """The line of a setting, or nothing where it is told."""
+        if setting.name == "block-policy":
+            self.block_policy = setting.value
+            return []
         if setting.name == "limit":
             return self._limits(setting)
         if setting.name == "timeout":
             return self._timeouts(setting)
         if setting.name == "optimization":
             return [f"set timeout {{ {_OPTIMIZATIONS[_SAME.get(setting.value, setting.value)]} }}"]
-        if setting.name != "state-defaults":
+        if setting.name not in ("state-defaults", "skip"):
             self.teller.tell_whole(setting, self._reason(setting))
         return []
 
     def _reason(self, setting: Setting) -> Reason:
         if setting.name == "state-policy":
             is_bound = setting.value == "if-bound"
-            return telling("states are bound to interfaces") if is_bound else harmless("states are not bound to interfaces")
+            return BOUND if is_bound else harmless("states are not bound to interfaces")
         return _REASONS.get(setting.name, _NO_PACKET)
 
     def _limits(self, setting: Setting) -> list[str]:
@@ -83,11 +88,7 @@ class Settings:
         return _set_line("limit", kept)
 
     def _timeouts(self, setting: Setting) -> list[str]:
-        kept = dict(setting.pairs)
-        for name in _ADAPTIVE:
-            if name in kept and not self._is_adaptive_fit:
-                self.teller.tell(setting.place, f"set timeout {name} {kept.pop(name)}", telling("adaptive.start is not below adaptive.end"))
-        return _set_line("timeout", kept)
+        return _set_line("timeout", {name: value for name, value in setting.pairs if self._is_adaptive_fit or name not in _ADAPTIVE})
 
     def defaults(self, setting: Setting) -> State | None:
         """The state clause that `set state-defaults` gives to the rules behind it that have none. What is not carried is told."""
@@ -96,7 +97,7 @@ class Settings:
         kept: list[StateOption] = []
         for it in setting.options:
             if it.name == "if-bound":
-                self.teller.tell(setting.place, f"set state-defaults {it.shown()}", telling("states are bound to interfaces"))
+                self.teller.tell(setting.place, f"set state-defaults {it.shown()}", BOUND)
             elif it.name in _DEFAULTS_FOR_NOTHING:
                 self.teller.tell(setting.place, f"set state-defaults {it.shown()}", _NO_PACKET)
             else:

@@ -6,7 +6,7 @@ taken apart only where it may be one of a user or is the first or last at which 
 
 import ipaddress
 from collections import Counter
-from collections.abc import Callable, Iterator, Sequence
+from collections.abc import Callable, Iterator, Mapping, Sequence
 from dataclasses import dataclass, field
 from itertools import islice
 from pathlib import Path
@@ -15,6 +15,7 @@ from .connections import Connections, Key
 from .counting import Answers
 from .errors import Status, Trouble
 from .records import Traces
+from .rows import Rows
 from .words import Network
 
 
@@ -44,9 +45,14 @@ def side_of(
     users: Sequence[Network],
     ended: Callable[[Key, int, str], None] | None = None,
     told: Callable[[int, str], None] | None = None,
+    flushes: Mapping[str, bool] | None = None,
+    numbers: Rows | None = None,
 ) -> Side:
-    """A ruleset at the beginning of its report. `ended` and `told` hear of each connection of a user that is over, as Connections says."""
-    return Side(name, report, Answers(name, None), Connections(users, told or _pass_over, ended))
+    """A ruleset at the beginning of its report. `ended` and `told` hear of each connection of a user that is over, as Connections says.
+
+    `flushes` are as Connections takes them, and `numbers` are those of the report's rows, as Answers says.
+    """
+    return Side(name, report, Answers(name, None, numbers), Connections(users, told or _pass_over, ended, flushes))
 
 
 def follow(trace: Path, sides: Sequence[Side], users: Sequence[Network], each: Callable[[int, Sequence[str]], None] | None = None) -> None:
@@ -63,6 +69,9 @@ def follow(trace: Path, sides: Sequence[Side], users: Sequence[Network], each: C
                 raise Trouble(f"{trace}: row {row + len(side.texts) + 1}: the trace has more records than the report of {side.name}", Status.REFUSED)
             _note_limits(side, row, lines)
         if users:
+            last = _moment_of(lines[-1])
+            for side in sides:
+                side.connections.last = last
             _follow_users(sides, row, lines, picks)
         if each:
             each(row, lines)
@@ -90,6 +99,21 @@ class Picks:
             text = texts[0]
             return [at for at, line in enumerate(lines) if text in line]
         return [at for at, line in enumerate(lines) if any(it in line for it in texts)]
+
+
+    def rows_in(self, text: str, behind: int) -> Iterator[tuple[int, str]]:
+        """The same of a text of whole lines, the first of which is that of the row behind `behind`: rows, and their lines."""
+        if "," in self._texts or len(self._texts) > 1:
+            lines = text.split("\n")[:-1]
+            yield from ((behind + at + 1, lines[at]) for at in self.of(lines))
+            return
+        row, counted = behind + 1, 0
+        at = text.find(self._texts[0])
+        while at >= 0:
+            row += text.count("\n", counted, at)
+            counted, end = at, text.index("\n", at)
+            yield row, text[text.rfind("\n", 0, at) + 1 : end]
+            at = text.find(self._texts[0], end)
 
 
 def common_text(network: Network) -> str:
@@ -126,23 +150,31 @@ def _follow_users(sides: Sequence[Side], row: int, lines: Sequence[str], picks: 
     """Gives the records of users to each side, with the words that it told of them."""
     members = sides[0].connections.members
     members.of(set())  # what it remembers is kept within bounds there
-    kills = [{it for it in set(side.texts) if it.startswith("kill:")} for side in sides]
-    for at in picks.of(lines):
+    kills = {at for side in sides for at in _kills_of(side)}
+    for at in sorted({*picks.of(lines), *kills}) if kills else picks.of(lines):
         column = lines[at].split(",")
-        if len(column) != 9 or column[1] == "expire":
+        if len(column) != 9 or column[1] not in ("in", "out"):
             continue
-        source = column[4]
-        if not (members.has(source) or members.has(column[6])):
-            continue
-        moment = int(column[0])
-        for side, killing in zip(sides, kills):
-            text = side.texts[at]
-            word = text.partition(" ")[0]
-            if word == "skip":
-                continue
-            side.connections.follow(row + at + 1, moment, word, column)
-            if text in killing:
-                side.connections.kill(row + at + 1, source)
+        is_of_user = members.has(column[4]) or members.has(column[6])
+        if is_of_user or at in kills:
+            _follow_record(sides, row + at + 1, at, column, is_of_user)
+
+
+def _kills_of(side: Side) -> Iterator[int]:
+    """The places in the block of a side's kills."""
+    if any(it.startswith("kill:") for it in set(side.texts)):
+        yield from (at for at, text in enumerate(side.texts) if text.startswith("kill:"))
+
+
+def _follow_record(sides: Sequence[Side], row: int, at: int, column: Sequence[str], is_of_user: bool) -> None:
+    """Gives a record to each side, with what its report says of it."""
+    moment = int(column[0])
+    for side in sides:
+        reply = side.answers.reply_of(side.texts[at])
+        if is_of_user and reply.word != "skip":
+            side.connections.follow(row, reply, column)
+        if reply.word.startswith("kill:"):
+            side.connections.kill(moment, column[4], reply)
 
 
 def word_counts(answers: Answers) -> Counter[str]:

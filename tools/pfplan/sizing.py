@@ -11,6 +11,7 @@ from typing import Any
 
 from . import grids, machines, sizing_texts
 from .changes import Number, RulesText
+from .entries import entries_of_rules
 from .errors import Status, Trouble
 from .inputs import check_rules, check_trace, regular
 from .machines import Machines, Runs
@@ -18,11 +19,14 @@ from .measuring import Measure, add_asked, from_json, words_of
 from .outputs import whole_file
 from .progress import Progress
 from .replays import check_program
+from .scenarios.measures import Amount, Subject, users_text
+from .scenarios.reading import is_scenario
 from .words import file, number
 
-DESCRIPTION = """Replays a trace under rules in which one number takes several values, and tells which of them serve the users.
+DESCRIPTION = """Replays a trace, or plays a scenario, with several values of one number, and tells which of them serve the users. Served in a
+scenario is who is served without waiting.
 
-NAME is a limit (states, src-nodes, tables, table-entries), a timeout (tcp.first, interval, adaptive.start ..), or a maximum or timeout of
+NAME is a number of the scenario (botnet.rate, homes.hosts, seconds), a limit (states, src-nodes, tables, table-entries), a timeout (tcp.first, interval, adaptive.start ..), or a maximum or timeout of
 rules: max-src-conn is that of all rules that state one, @5.max-src-conn that of rule @5. Of max-src-conn-rate the handshakes are varied.
 Values are tried evenly from FROM to TO, and then around each edge where the wanted share begins or ends to be served."""
 # Values that are tried at an edge at a time, and around the best value where none serves the wanted share.
@@ -47,7 +51,7 @@ class Sizing:
 
     trace: str
     users: str
-    varied: Number
+    varied: Number | Amount
     want: Fraction
     measures: Mapping[int, Measure]
     moments: int
@@ -61,7 +65,7 @@ class Sizing:
     @property
     def shares(self) -> dict[int, float]:
         """The share of users' connections that each value serves; values that the program refuses are left out."""
-        return {value: it.served / max(1, it.connections) for value, it in self.measures.items() if not it.refused}
+        return {value: it.served / max(1, it.counted) for value, it in self.measures.items() if not it.refused}
 
     def to_json(self) -> dict[str, Any]:
         """The numbers for machines (tools/README.md)."""
@@ -79,7 +83,7 @@ class Sizing:
 
 def serves(measure: Measure, want: Fraction) -> bool:
     """Whether a run serves at least the wanted share of the users' connections."""
-    return not measure.refused and measure.connections > 0 and measure.served >= want * measure.connections
+    return not measure.refused and measure.counted > 0 and measure.served >= want * measure.counted
 
 
 def share_word(text: str) -> Fraction:
@@ -94,7 +98,7 @@ def share_word(text: str) -> Fraction:
 
 def vary_word(text: str) -> Vary:
     """A reader of `NAME=FROM..TO` for argparse."""
-    found = re.fullmatch(r"([@a-z0-9.-]{1,64})=([0-9]{1,10})\.\.([0-9]{1,10})", text)
+    found = re.fullmatch(r"([@A-Za-z0-9_.-]{1,128})=([0-9]{1,10})\.\.([0-9]{1,10})", text)
     if not found:
         raise argparse.ArgumentTypeError(f"'{text}' is not NAME=FROM..TO, as states=500..5000")
     if int(found[2]) >= int(found[3]):
@@ -102,9 +106,9 @@ def vary_word(text: str) -> Vary:
     return Vary(found[1], int(found[2]), int(found[3]))
 
 
-def checked(vary: Vary, text: RulesText) -> Number:
-    """The number that is varied. Trouble where the rules have none of that name, or a bound is none that a rules text may have."""
-    varied = text.find(vary.name)
+def checked(vary: Vary, subject: Subject) -> Number | Amount:
+    """The number that is varied. Trouble where neither the rules nor the scenario have one of that name, or a bound is none that it may have."""
+    varied = subject.find(vary.name)
     least, most = varied.bounds
     for bound in (vary.low, vary.high):
         if not least <= bound <= most:
@@ -128,39 +132,49 @@ def search(vary: Vary, now: int, want: Fraction, first: int, most: int, measure:
         values = grids.refined(meets, BETWEEN)
         if not any(meets.values()) and around < ROUNDS_AROUND_BEST:
             around += 1
-            values = grids.around_best({value: it.served / max(1, it.connections) for value, it in measured.items()})
+            values = grids.around_best({value: it.served / max(1, it.counted) for value, it in measured.items()})
     return measured, False
 
 
-def size(text: RulesText, trace: Path, where: Machines, arguments: argparse.Namespace) -> Sizing:
-    """Replays the trace for value after value. Trouble as the program's own."""
-    vary: Vary = arguments.vary
-    varied = checked(vary, text)
+def size(subject: Subject, trace: Path, where: Machines, entries: Sequence[str], arguments: argparse.Namespace) -> Sizing:
+    """Replays the trace, or plays the scenario, for value after value. `entries` are those that come by records. Trouble as the program's own."""
+    vary: Vary = arguments.vary[0]
+    varied = checked(vary, subject)
     done = 0
-    with Runs(where, trace, words_of(arguments)) as runs:
+    with Runs(where, trace, words_of(arguments), entries) as runs:
 
         def measure(values: Sequence[int]) -> list[Measure]:
             nonlocal done
             progress = Progress("size", done + len(values), "runs so far")
             progress.at(done)
             try:
-                lines = runs.measure([text.changed({varied: it}) for it in values], progress)
+                lines = runs.measure([subject.text_of({varied: it}) for it in values], progress)
             finally:
                 progress.finish()
             done += len(values)
             return [from_json(it) for it in lines]
 
         measures, is_cut = search(vary, varied.value, arguments.want, arguments.grid, arguments.runs, measure)
-    users = ",".join(map(str, arguments.users))
+    users = users_text(subject.scenario) if subject.scenario else ",".join(map(str, arguments.users))
     return Sizing(arguments.trace.name, users, varied, arguments.want, measures, arguments.held, is_cut)
+
+
+def check_users(arguments: argparse.Namespace, is_played: bool) -> None:
+    """Trouble where it is not told who the users are, or told twice."""
+    if is_played and arguments.users:
+        raise Trouble(f"--users: {arguments.trace} is a scenario, which says itself who the users are")
+    if not is_played and not arguments.users:
+        raise Trouble("--users: whose connections are to be served? (networks, split by commas)")
 
 
 def add_words(parser: argparse.ArgumentParser) -> None:
     """The words of `size`."""
     parser.description = DESCRIPTION
     parser.add_argument("rules", type=file, metavar="RULES", help="a rules text")
-    parser.add_argument("trace", type=file, metavar="TRACE", help="the trace under which it is replayed")
-    parser.add_argument("--vary", type=vary_word, required=True, metavar="NAME=FROM..TO", help="the number, and its bounds")
+    parser.add_argument("trace", type=file, metavar="TRACE", help="the trace under which it is replayed, or the scenario that is played")
+    parser.add_argument(
+        "--vary", type=vary_word, required=True, action="append", metavar="NAME=FROM..TO", help="the number, and its bounds; given twice it makes a map",
+    )  # fmt: skip
     parser.add_argument("--want", type=share_word, default=Fraction(99, 100), metavar="SHARE", help="of the users' connections, as 99%% (99%%)")
     add_asked(parser, 8)
     parser.add_argument("--grid", type=number(2, 1000), default=9, metavar="N", help="values at first (9)")
@@ -173,16 +187,27 @@ def add_words(parser: argparse.ArgumentParser) -> None:
 
 def run(arguments: argparse.Namespace) -> int:
     """Tries values and tells which serve the users."""
-    if not arguments.users:
-        raise Trouble("--users: whose connections are to be served? (networks, split by commas)")
+    is_played = is_scenario(arguments.trace)
+    check_users(arguments, is_played)
+    if len(arguments.vary) > 2 or len({it.name for it in arguments.vary}) != len(arguments.vary):
+        raise Trouble("--vary: one number, or two different ones for a map")
     where = machines.of(arguments)
     check_program()
     check_rules(arguments.rules)
-    check_trace(arguments.trace)
+    if not is_played:
+        check_trace(arguments.trace)
     with regular(arguments.rules) as rules, regular(arguments.trace) as trace:
-        found = size(RulesText(rules), trace, where, arguments)
+        subject = Subject(RulesText(rules), arguments.trace if is_played else None)
+        if not where.is_here:
+            subject.check_elsewhere()
+        entries = entries_of_rules(rules, arguments.rules)
+        if len(arguments.vary) == 2:
+            from . import maps  # which needs this module
+
+            return maps.run(subject, trace, where, entries, arguments)
+        found = size(subject, trace, where, entries, arguments)
     if not any(it.connections for it in found.measures.values()):
-        raise Trouble(f"{arguments.trace}: no connection of the users {found.users} is in it", Status.REFUSED)
+        raise Trouble(f"{arguments.trace}: no connection of the users {found.users} is in it; --users names their networks", Status.REFUSED)
     with whole_file(arguments.out) as out:
         out.write(json.dumps(found.to_json(), indent=1) + "\n" if arguments.json else sizing_texts.text_of(found))
     if arguments.page:

@@ -7,17 +7,26 @@ from fractions import Fraction
 from typing import TYPE_CHECKING
 
 from . import grids
+from .connections import KINDS
+from .errors import Trouble
 from .figures import counted, share_text
 from .frames import answer, bullets, document, figure, gallery, key, section, soft, table
 from .markup import Child, Markup, tag, visible
 from .measuring import Measure
-from .pictures import PACKAGE, Across, Picture, Role, Series, Style, draw, is_at_hand
+from .pictures import Across, Picture, Role, Series, Style, draw
+from .scenarios.measures import GAVE_UP, WAITED
 
 if TYPE_CHECKING:
     from .sizing import Sizing
 
 WIDTH = 25
-HEADS = ("value", "served", "share", "refused", "killed", "cut", "dropped", "held")
+FATES = KINDS[1:]
+PLAYED = (WAITED, GAVE_UP)
+
+
+def fates_of(found: Sizing) -> tuple[str, ...]:
+    """What may become of a connection that was not served: under a trace, or in a play."""
+    return PLAYED if any(GAVE_UP in it.outcomes for it in found.measures.values()) else FATES
 
 
 def want_text(want: Fraction) -> str:
@@ -25,19 +34,19 @@ def want_text(want: Fraction) -> str:
     return f"{float(100 * want):g} %"
 
 
-def cells_of(value: int, measure: Measure, moments: int) -> list[str]:
-    """The cells of a value's row, in the order of HEADS."""
+def cells_of(value: int, measure: Measure, moments: int, fates: Sequence[str] = FATES) -> list[str]:
+    """The cells of a value's row: the value, served, its share, what became of the others, dropped, held."""
     outcomes = measure.outcomes
     held = measure.most_held if moments else measure.end.states
-    shares = [share_text(measure.served, measure.connections), *(f"{outcomes.get(it, 0):,}" for it in ("refused", "killed", "cut"))]
+    shares = [share_text(measure.served, measure.counted), *(f"{outcomes.get(it, 0):,}" for it in fates)]
     return [f"{value:,}", f"{measure.served:,}", *shares, f"{measure.dropped:,}", f"{held or 0:,}"]
 
 
 def bar(measure: Measure) -> str:
     """The share as a bar of signs; full only where all are served, empty only where none is."""
-    if not measure.connections:
+    if not measure.counted:
         return ""
-    signs = WIDTH * measure.served // measure.connections
+    signs = WIDTH * measure.served // measure.counted
     return "#" * (max(signs, 1) if measure.served else 0)
 
 
@@ -77,7 +86,7 @@ def beyond(found: Sizing, low: int, high: int) -> str:
 def share_of(found: Sizing, value: int) -> str:
     """The share that a value serves."""
     measure = found.measures[value]
-    return share_text(measure.served, measure.connections)
+    return share_text(measure.served, measure.counted)
 
 
 def subject_of(found: Sizing) -> str:
@@ -90,8 +99,9 @@ def text_of(found: Sizing) -> str:
     """The table with a curve, and what it comes to, for people."""
     values = sorted(found.measures)
     lines = [f"{found.varied.title}, now {found.varied.value:,}: {counted(len(values), 'value')} from {values[0]:,} to {values[-1]:,}", subject_of(found), ""]
-    rows = [(value, cells_of(value, found.measures[value], found.moments)) for value in values]
-    heads = [*HEADS[:-1], "most held" if found.moments else "held last"]
+    fates = fates_of(found)
+    rows = [(value, cells_of(value, found.measures[value], found.moments, fates)) for value in values]
+    heads = ["value", "served", "share", *fates, "dropped", "most held" if found.moments else "held last"]
     widths = [max(len(head), *(len(cells[at]) for _, cells in rows)) for at, head in enumerate(heads)]
     lines.append("  " + "  ".join(head.rjust(width) for head, width in zip(heads, widths)) + "  share")
     for value, cells in rows:
@@ -128,18 +138,16 @@ def table_of(found: Sizing) -> Markup:
     for at, value in enumerate(sorted(found.measures)):
         measure = found.measures[value]
         note = "refused: " + measure.refused if measure.refused else "now" if value == found.varied.value else ""
-        rows.append([*cells_of(value, measure, found.moments), note])
+        rows.append([*cells_of(value, measure, found.moments, fates_of(found)), note])
         if found.meets[value]:
             told.add(at)
     held = f"most states at {counted(found.moments, 'moment')}" if found.moments else "states at the end"
-    return table(["value", "served", "share", "refused", "killed", "cut", "dropped by limits", held, ""], rows, "n" * 8 + "t", frozenset(told))
+    heads = ["value", "served", "share", *fates_of(found), "dropped by limits", held]
+    return table([*heads, ""], rows, "n" * len(heads) + "t", frozenset(told))
 
 
 def curve_parts(found: Sizing) -> Iterator[Child]:
-    """The curves of the share and of what is held, or which package draws them."""
-    if not is_at_hand():
-        yield soft(f"No pictures: gnuplot is not here (Debian package {PACKAGE}).")
-        return
+    """The curves of the share and of what is held, or why there are none."""
     values = [it for it in sorted(found.measures) if not found.measures[it].refused]
     shares = tuple((float(it), 100 * found.shares[it]) for it in values)
     held = tuple((float(it), float((found.measures[it].most_held if found.moments else found.measures[it].end.states) or 0)) for it in values)
@@ -151,7 +159,11 @@ def curve_parts(found: Sizing) -> Iterator[Child]:
     most = max(it[1] for it in held) * 1.08
     served = Picture((wanted, Series(Role.SERVED, Style.POINTS, shares)), Across.VALUE, first, last, 104.0, per_cent=True, logarithmic=log)
     states = Picture((Series(Role.HELD, Style.POINTS, held),), Across.VALUE, first, last, most, logarithmic=log)
-    drawn = draw([served, states])
+    try:
+        drawn = draw([served, states])
+    except Trouble as trouble:
+        yield soft(f"No pictures: {trouble.message}.")
+        return
     captions: list[list[Child]] = [
         ["connections of users", key("served", Role.SERVED), key("wanted", Role.WANTED)],
         ["most states held" if found.moments else "states held at the end"],

@@ -1,8 +1,10 @@
 """The state clause of a rule, as a rules text of pfsrc writes it (pf.conf(5), STATEFUL TRACKING OPTIONS)."""
 
+from dataclasses import replace
+
 from .errors import Status, Trouble
-from .filters import MOST_SECONDS, TIMEOUTS_FOR_NOTHING
-from .leftovers import Reason, Teller, beyond, harmless, telling
+from .filters import MOST_SECONDS, MOST_STATES, TIMEOUTS_FOR_NOTHING
+from .leftovers import OTHER_STATES, Reason, Teller, beyond, harmless, telling
 from .lexer import printable
 from .syntax import Place, Rule, State, StateOption
 
@@ -11,7 +13,7 @@ _BY_RULE = ("max-src-nodes", "max-src-conn", "max-src-conn-rate")
 _CONNECTIONS = ("max-src-conn", "max-src-conn-rate")
 _KIND_OF_STATE = {
     "modulate": harmless("only sequence numbers change, which a trace does not have"),
-    "synproxy": telling("pf answers SYN packets itself, and makes no state for those that are forged"),
+    "synproxy": telling("pf answers SYN packets itself, and makes no state for those that are forged", OTHER_STATES),
 }
 
 
@@ -54,7 +56,7 @@ def carried_state(state: State | None, place: Place, teller: Teller, overload: d
         teller.tell(place, f"{state.word} state", _KIND_OF_STATE[state.word])
     kept: list[str] = []
     names = {it.name: it.value for it in state.options}
-    for option in state.options:
+    for option in _turned_off(state.options, names):
         reason = _reason_of_option(option, names)
         if reason is not None:
             teller.tell(place, option.shown(), reason)
@@ -69,14 +71,23 @@ def _reason_of_option(option: StateOption, names: dict[str, str]) -> Reason | No
     if name == "pflow" or name in TIMEOUTS_FOR_NOTHING:
         return harmless("no packet is passed or blocked by it")
     if name == "if-bound":
-        return telling("its states are bound to an interface")
+        return telling("its states are bound to an interface", OTHER_STATES)
     if name == "interval":
-        return telling("the interval of the purge is one for all rules")
+        return telling("the interval of the purge is one for all rules", OTHER_STATES)
     if name == "src.track" and _is_global(names):
-        return telling("source nodes that rules share are kept as long as set timeout src.track says")
+        return telling("source nodes that rules share are kept as long as set timeout src.track says", OTHER_STATES)
     if name.startswith("adaptive.") and not _is_pair(names):
-        return telling("adaptive.start and adaptive.end want one another, the start from 1 and below the end")
+        return telling("adaptive.start and adaptive.end want one another, both from 1 on", OTHER_STATES)
     return None
+
+
+def _turned_off(options: tuple[StateOption, ...], names: dict[str, str]) -> tuple[StateOption, ...]:
+    """A start that is not below the end turns the scaling of a rule off, as pf takes it: so does a pair that no count of states reaches."""
+    start, end = int(names.get("adaptive.start", 0)), int(names.get("adaptive.end", 0))
+    if not 1 <= end <= start:
+        return options
+    never = {"adaptive.start": str(MOST_STATES - 1), "adaptive.end": str(MOST_STATES)}
+    return tuple(replace(it, value=never.get(it.name, it.value)) for it in options)
 
 
 def _is_global(names: dict[str, str]) -> bool:
@@ -88,4 +99,4 @@ def _is_global(names: dict[str, str]) -> bool:
 
 def _is_pair(names: dict[str, str]) -> bool:
     start, end = names.get("adaptive.start"), names.get("adaptive.end")
-    return start is not None and end is not None and 1 <= int(start) < int(end)
+    return start is not None and end is not None and int(start) >= 1 and int(end) >= 1

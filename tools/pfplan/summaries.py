@@ -1,64 +1,69 @@
 """The command `summary`: what a report holds, and what became of the users."""
 
 import argparse
-import bisect
 import concurrent.futures
+import contextlib
 import json
 import sys
 from collections import Counter
 from collections.abc import Iterable, Mapping, Sequence
-from dataclasses import asdict, dataclass, field
+from dataclasses import asdict, dataclass, field, replace
 from pathlib import Path
 from typing import Any
 
 from . import summary_texts
-from .connections import KINDS
+from .accounts import Frames
+from .connections import KINDS, LATE, Refusal
 from .counting import Answers, Limit, Moments, Step, count, first_moment_of, last_moment_of, step_of
+from .entries import entries_of_rules
 from .errors import Status, Trouble
 from .inputs import Kind, check_trace, kind_of, regular
+from .insertions import Held, asking
+from .origins import Origins
 from .outputs import whole_file
-from .progress import Progress
 from .records import WORDS, End, Traces, blocks_of, line_blocks
-from .replays import check_program, held_after, items_of, show_rules
+from .replays import check_program, items_of, show_rules, stream_blocks
+from .rule_texts import flushes_of, settings_of
 from .sources import Source
 from .words import Network, Parser, file, networks, number
 
 DESCRIPTION = """Sums up a report of ./pfsrc replay.
 
-A connection of a user begins with a SYN from the user (for other protocols: with its first packet). It is
+A connection is of who began it: with a SYN, and for other protocols with its first packet. That of a user is
   served      its handshake went through, and every packet of it up to the first FIN or RST
   unanswered  it was let in, and the trace shows no handshake: the server refused it or did not answer
-  refused     its first packet was blocked or dropped, and so was each repetition of it
-  killed      its state was killed by a limit on its source, or by the flush that followed
+  refused     its first packet was blocked or dropped, on one interface or the next, and so was each repetition of it
+  killed      its state was killed by a limit on its source, or by the flush that followed (with --rules: of which states)
   cut         it was let in, and a later packet was not: its state had run out, which adaptive timeouts hasten
-Where a connection has no first packet in the trace it is counted apart."""
+  late        it was let in, in the last 3 seconds of the trace, and had no handshake by then: it counts neither way
+Where a connection has no first packet in the trace it is counted apart, as are those that others began."""
 MOST_SERIES = 100_000
 
 
 @dataclass(slots=True)
 class Users:
-    """What became of the connections of users: how many had which outcome (connections.KINDS), and by which words they were refused."""
+    """What became of the connections of users: how many had which outcome (connections.KINDS), and by what they were refused.
+
+    `connections` are all; those that the end of the trace cut are among them, and count for no share.
+    """
 
     of: str
     connections: int
     outcomes: dict[str, int]
     refused_by: dict[str, int]
     without_beginning: int
+    begun_by_others: int = 0
+    refusals: list[Refusal] = field(default_factory=list)
+
+    @property
+    def counted(self) -> int:
+        """Of how many connections the shares are told: all but those that the end of the trace cut."""
+        return self.connections - self.outcomes.get(LATE, 0)
 
     @property
     def served(self) -> float:
-        """The share of the connections that were served, 0 to 1; 1 where there were none."""
-        return self.outcomes["served"] / self.connections if self.connections else 1.0
-
-
-@dataclass(frozen=True, slots=True)
-class Held:
-    """What is held at a moment."""
-
-    moment: int
-    states: int
-    nodes: int
-    entries: int
+        """The share of the counted connections that were served, 0 to 1; 1 where there were none."""
+        return self.outcomes["served"] / self.counted if self.counted else 1.0
 
 
 @dataclass(slots=True)
@@ -100,6 +105,10 @@ class Summary:
     undecided: list[int] = field(default_factory=list)  # rules, not anchors, that no record has
     interfaces: Interfaces | None = None
     held: list[Held] = field(default_factory=list)
+    settings: dict[str, int] = field(default_factory=dict)  # the limits for all rules
+    origins: Origins = field(default_factory=Origins)
+    frames: Frames | None = None  # of the capture that the trace was made of
+    seen_on: list[str] = field(default_factory=list)  # the interfaces that records have
 
     def words(self) -> dict[str, int]:
         """How many records have each word, in the order of the report's words."""
@@ -117,9 +126,10 @@ class Summary:
             "limits": [asdict(it) for it in self.limits],
             "overloads": self.overloads,
             "sources": asdict(self.sources),
-            "users": asdict(self.users) | {"served": self.users.served} if self.users else None,
+            "users": asdict(self.users) | {"counted": self.users.counted, "served": self.users.served} if self.users else None,
             "series": {"seconds": self.step_seconds, "steps": [_step_json(it) for it in self.steps]},
             "held": [asdict(it) for it in self.held],
+            "frames": asdict(self.frames) if self.frames else None,
             "end": asdict(self.end) if self.end else None,
         }
 
@@ -136,14 +146,14 @@ class Summary:
 
     def _rule(self, item: int) -> dict[str, Any]:
         text = self.rules[item] if item < len(self.rules) else None
-        return {"rule": f"@{item}", "text": text, "label": self.labels.get(item)}
+        return {"rule": f"@{item}", "text": text, "label": self.labels.get(item), "place": self.origins.items.get(item)}
 
 
 @dataclass(frozen=True, slots=True)
 class Wanted:
     """What a summary is made of besides the report, and what it shows.
 
-    `trace` and `rules` are those of the replay; `labels` are of items of the rules; `every` is the seconds in a step of the series, 0 for
+    `trace` and `rules` are those of the replay; `labels` and `origins` are of items of the rules; `every` is the seconds in a step of the series, 0 for
     what gives at most 120 steps; `top` is how many sources are named; `is_partial` takes a report without its last line.
     """
 
@@ -151,6 +161,8 @@ class Wanted:
     users: Sequence[Network] = ()
     rules: Path | None = None
     labels: Mapping[int, str] = field(default_factory=dict)
+    origins: Origins = field(default_factory=Origins)
+    frames: Frames | None = None
     every: int = 0
     top: int = 5
     is_partial: bool = False
@@ -165,16 +177,18 @@ def summarize(report: Path, wanted: Wanted) -> Summary:
 
 def summarize_blocks(blocks: Iterable[list[str]], name: Path | str, wanted: Wanted) -> Summary:
     """Sums up the lines of a report as they come (records.blocks_of_lines, replays.stream_report); `name` stands in messages."""
-    texts = items_of(show_rules(wanted.rules)) if wanted.rules else []
+    shown = show_rules(wanted.rules) if wanted.rules else []
+    texts = items_of(shown)
     answers = Answers(name, len(texts) if wanted.rules else None)
     if wanted.trace is None:
         count(blocks, answers, None, wanted.is_partial)
-        return _summary(answers, None, texts, wanted)
+        return summary_of(answers, None, shown, wanted)
     check_trace(wanted.trace)
     with regular(wanted.trace) as kept:
-        moments = Moments(Traces(kept, wanted.trace), answers, wanted.users, _step(kept, wanted.every))
+        flushes = flushes_of(texts) if wanted.rules else None
+        moments = Moments(Traces(kept, wanted.trace), answers, wanted.users, _step(kept, wanted.every), flushes)
         count(blocks, answers, moments, wanted.is_partial)
-    return _summary(answers, moments, texts, wanted)
+    return summary_of(answers, moments, shown, wanted)
 
 
 def _step(trace: Path, every: int) -> int:
@@ -185,11 +199,14 @@ def _step(trace: Path, every: int) -> int:
     return every or step_of(first, last)
 
 
-def _summary(answers: Answers, moments: Moments | None, rules: list[str], wanted: Wanted) -> Summary:
+def summary_of(answers: Answers, moments: Moments | None, shown: list[str], wanted: Wanted) -> Summary:
+    """The summary of what was counted to the end. `shown` is the canonical text of the rules, or nothing."""
+    rules = items_of(shown)
     by_rule = {word: _by_number(answers.by_rule[word]) for word in WORDS if word in answers.by_rule}
     summary = Summary(
         answers.rows, by_rule, [answers.limits[it] for it in WORDS if it in answers.limits], dict(answers.overloads), answers.end,
-        rules=rules, labels=dict(wanted.labels), undecided=_undecided(rules, by_rule),
+        rules=rules, labels=dict(wanted.labels), undecided=_undecided(rules, by_rule), settings=settings_of(shown),
+        origins=wanted.origins, frames=wanted.frames,
     )  # fmt: skip
     if moments is None or moments.first is None:
         return summary
@@ -198,6 +215,7 @@ def _summary(answers: Answers, moments: Moments | None, rules: list[str], wanted
     tops = (moments.refused, moments.killed, moments.made, moments.seen)
     refused, killed, made, seen = (it.top(wanted.top) for it in tops)
     summary.sources = Tops(refused, killed, made, seen, not any(it.dropped for it in tops))
+    summary.seen_on = sorted(moments.interfaces)
     if wanted.users:
         summary.users = _users(moments, wanted.users)
     if rules:
@@ -210,7 +228,11 @@ def _users(moments: Moments, users: Sequence[Network]) -> Users:
     connections = moments.connections
     outcomes = {it: connections.outcomes[it] for it in KINDS}
     refused_by = {it: connections.refused_by[it] for it in WORDS if it in connections.refused_by}
-    return Users(",".join(_short(it) for it in users), sum(outcomes.values()), outcomes, refused_by, connections.without_beginning)
+    refusals = sorted(connections.refusals.values(), key=lambda it: (WORDS.index(it.word), -it.connections, it.rule))
+    return Users(
+        ",".join(_short(it) for it in users), sum(outcomes.values()), outcomes, refused_by, connections.without_beginning,
+        connections.begun_by_others, refusals,
+    )  # fmt: skip
 
 
 def _short(network: Network) -> str:
@@ -246,41 +268,18 @@ def _step_json(step: Step) -> dict[str, Any]:
     return {"moment": step.moment, "words": dict(step.words), "killed": step.killed, "tried": step.tried, "outcomes": dict(step.outcomes)}
 
 
-def held_at(rules: Path, trace: Path, count: int, jobs: int = 1) -> list[Held]:
+def held_at(rules: Path, trace: Path, count: int, entries: Sequence[str] = ()) -> list[Held]:
     """What is held at so many moments of a trace, evenly from its first to its last.
 
-    A report does not tell when states run out, so the program replays a beginning of the trace for each moment: together half
-    as many times the whole trace as there are moments.
+    A report does not tell when states run out, so the program is asked in a replay of its own, with records that are put into the trace.
+    `entries` are those that come by records (entries.py).
     """
-    places = _moments(trace, count)
-    progress = Progress("held", len(places), "moments")
-
-    def ask(place: tuple[int, int]) -> Held:
-        held = Held(place[1], *held_after(rules, trace, *place))
-        progress.advance()
-        return held
-
-    try:
-        with concurrent.futures.ThreadPoolExecutor(max(1, jobs)) as pool:
-            return list(pool.map(ask, places))
-    finally:
-        progress.finish()
-
-
-def _moments(trace: Path, count: int) -> list[tuple[int, int]]:
-    """For each of some moments: how many lines of the trace are not after it, and the moment."""
-    first, last = first_moment_of(trace), last_moment_of(trace)
-    if first is None or last is None:
-        return []
-    wanted = sorted({first + (it * (last - first) // (count - 1) if count > 1 else last - first) for it in range(count)})
-    found: list[tuple[int, int]] = []
-    records = 0
-    for lines in Traces(trace).blocks():
-        times = [int(it.partition(",")[0]) for it in lines]
-        while wanted and times[-1] > wanted[0]:
-            found.append((records + bisect.bisect(times, wanted[0]), wanted.pop(0)))
-        records += len(lines)
-    return found + [(records, it) for it in wanted]
+    with asking(trace, count, entries) as asked:
+        heard = asked.heard(rules)
+        if asked.moments:
+            for _ in stream_blocks(rules, trace, asked, heard):
+                pass
+    return heard.held
 
 
 def add_words(parser: Parser) -> None:
@@ -290,8 +289,8 @@ def add_words(parser: Parser) -> None:
     parser.add_argument("--trace", type=file, metavar="TRACE", help="the trace that was replayed: adds moments, sources, and what is said of users")
     parser.add_argument("--rules", type=file, metavar="RULES", help="the rules that were replayed: adds the text of each rule, as ./pfsrc show prints it")
     parser.add_argument("--users", type=networks, metavar="PREFIX,..", default=(), help="the networks of the users (with --trace)")
-    parser.add_argument("--held", type=number(1, 10_000), metavar="N", help="asks the program how much was held at N moments (with --trace and --rules)")
-    parser.add_argument("--jobs", type=number(1, 1000), metavar="N", default=1, help="how many replays --held runs side by side (1)")
+    parser.add_argument("--held", type=number(1, 10_000), metavar="N", help="asks the program how much was held at N moments, in one replay (with --trace and --rules)")
+    parser.add_argument("--jobs", type=number(1, 1000), metavar="N", default=1, help="has no effect: --held takes one replay")
     parser.add_argument("--every", type=number(1, 4294967295), metavar="N", default=0, help="seconds in a step of the series (so that there are at most 120)")
     parser.add_argument("--top", type=number(1, 1000), metavar="N", default=5, help="how many sources are named (5)")
     parser.add_argument("--json", action="store_true", help="for machines")
@@ -308,12 +307,20 @@ def run(arguments: argparse.Namespace) -> int:
     if arguments.rules:
         check_program()
     wanted = Wanted(arguments.trace, arguments.users, arguments.rules, every=arguments.every, top=arguments.top, is_partial=arguments.partial)
-    if str(arguments.report) == "-":
-        summary = summarize_blocks(blocks_of(sys.stdin, "report"), "report", wanted)
-    else:
-        summary = summarize(arguments.report, wanted)
-    if arguments.held:
-        summary.held = held_at(arguments.rules, arguments.trace, arguments.held, arguments.jobs)
+    with contextlib.ExitStack() as stack:
+        held: concurrent.futures.Future[list[Held]] | None = None
+        if arguments.held:
+            check_trace(arguments.trace)
+            rules, trace = (stack.enter_context(regular(it)) for it in (arguments.rules, arguments.trace))
+            wanted = replace(wanted, trace=trace, rules=rules)
+            # this replay goes on beside the counting
+            pool = stack.enter_context(concurrent.futures.ThreadPoolExecutor(1))
+            held = pool.submit(held_at, rules, trace, arguments.held, entries_of_rules(rules, arguments.rules))
+        if str(arguments.report) == "-":
+            summary = summarize_blocks(blocks_of(sys.stdin, "report"), "report", wanted)
+        else:
+            summary = summarize(arguments.report, wanted)
+        summary.held = held.result() if held else []
     with whole_file(arguments.out) as out:
         out.write(json.dumps(summary.to_json(), indent=2) + "\n" if arguments.json else summary.to_text())
     return Status.DONE

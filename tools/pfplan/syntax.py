@@ -132,12 +132,13 @@ class Statement:
 
 @dataclass(frozen=True)
 class Setting(Statement):
-    """`set`: its name, the pairs of `limit` and `timeout`, the options of `state-defaults`, or what else stands there."""
+    """`set`: its name, the pairs of `limit` and `timeout`, the options of `state-defaults`, the interfaces of `skip`, or what else stands there."""
 
     name: str
     pairs: tuple[tuple[str, int], ...] = ()
     options: tuple[StateOption, ...] = ()
     value: str = ""
+    interfaces: tuple[str, ...] = ()
 
 
 @dataclass(frozen=True)

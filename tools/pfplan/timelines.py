@@ -57,7 +57,7 @@ def moment_of(step: Step, first: int, seconds: int) -> Moment:
     lost = outcomes["killed"] + outcomes["cut"]
     return Moment(
         float(step.moment - first), step.words["new"] / seconds, dropped / seconds, step.killed / seconds,
-        (outcomes["served"] + outcomes["unanswered"]) / seconds, outcomes["refused"] / seconds, lost / seconds,
+        (outcomes["served"] + outcomes["unanswered"] + outcomes["late"]) / seconds, outcomes["refused"] / seconds, lost / seconds,
     )  # fmt: skip
 
 

@@ -14,10 +14,14 @@ from .errors import Trouble
 # command, the module that has it, what it does
 COMMANDS = (
     ("rules", "rulesets", "a rules text of a pf.conf, and what was left out of it"),
-    ("trace", "captures", "a trace of a capture"),
-    ("flood", "floods", "a trace of an imagined flood, with users beside it"),
+    ("trace", "captures", "a trace of a capture, or of a scenario"),
+    ("scenario", "scenarios.sketching", "a commented example of a scenario, to begin with"),
+    ("play", "scenarios.commands", "a scenario against rulesets, with clients that react"),
     ("run", "running", "all at once: rules, trace, report, summary, pictures and report.html in a folder"),
+    ("watch", "watching", "new limits beside the traffic of this minute, without touching the firewall"),
+    ("agree", "agreeing", "what a running pf said of the packets of its log, beside what pfsrc says"),
     ("summary", "summaries", "what a report holds, and what became of the users"),
+    ("explain", "stories.commands", "the story of one source or one record in plain words"),
     ("compare", "comparing", "rulesets under one trace, side by side"),
     ("size", "sizing", "which values of a limit, a maximum or a timeout serve the users"),
     ("margins", "margins", "how sure an answer is"),
@@ -64,7 +68,7 @@ class Parser(argparse.ArgumentParser):
 
 def make_parser(asked: str) -> Parser:
     """The parser with every command, and with the words of the one that is asked for: the code of no other is loaded."""
-    parser = Parser(prog="pfplan", description="From a pf.conf and a capture, or an imagined flood, to an answer that one can look at.", epilog=ENDS)
+    parser = Parser(prog="pfplan", description="From a pf.conf and a capture, or a scenario, to an answer that one can look at.", epilog=ENDS)
     commands = parser.add_subparsers(dest="command", metavar="COMMAND", parser_class=Parser)
     for name, module, does in COMMANDS:
         words = commands.add_parser(name, help=does)
@@ -140,4 +144,5 @@ def file(text: str) -> Path:
     """A reader of a file's name, for argparse."""
     if not text:
         raise argparse.ArgumentTypeError("an empty name of a file")
-    return Path(text)
+    # a path forgets the folder of ./-, which is a file and not standard input
+    return Path.cwd() / "-" if text != "-" and Path(text) == Path("-") else Path(text)

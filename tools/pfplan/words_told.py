@@ -3,7 +3,7 @@
 from collections.abc import Sequence
 
 from .connections import Key
-from .records import Record
+from .records import ORDERS, Record
 
 WHY = {
     "state": "it belongs to a state that is held",
@@ -20,6 +20,9 @@ WHY = {
     "kill:max-src-conn-rate": "the handshake took the source past max-src-conn-rate",
     "kill:max-src-conn+max-src-conn-rate": "the handshake took the source past max-src-conn and max-src-conn-rate",
     "expire": "old entries leave a table",
+    "held": "it asks how much is held",
+    "add": "an entry comes into a table",
+    "delete": "an entry leaves a table",
 }
 
 
@@ -30,6 +33,8 @@ def why(text: str) -> str:
 
 def record_text(record: Record) -> str:
     """A record in one line: `in em0 tcp 198.51.100.7:40001 to 192.0.2.1:80 flags S`."""
+    if record.direction in ORDERS:
+        return " ".join(it for it in (record.direction, record.interface, record.source, record.source_port) if it)
     ends = f"{end_text(record.source, record.source_port)} to {end_text(record.target, record.target_port)}"
     flags = f" flags {record.flags}" if record.flags else ""
     return f"{record.direction} {record.interface} {record.protocol} {ends}{flags}"

@@ -115,7 +115,7 @@ impl Book {
                 Some(PARAMETERS) => place = item.end,
                 Some(parameter) => place = self.skips[place][parameter] as usize,
                 None => {
-                    if let Action::Anchor = item.action {
+                    if let Action::Anchor(_) = item.action {
                         let before = *last;
                         if self.walk(config, packet, tables, place + 1, item.end, last) || (item.quick && *last != before) {
                             return true;

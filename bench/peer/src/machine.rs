@@ -2,7 +2,7 @@
 use crate::book::Book;
 use crate::packet::{Key, Packet};
 use crate::phase::Phase;
-use crate::rules::{Action, Config, Flush, Scope, ADAPTIVE_END, ADAPTIVE_START, INTERVAL};
+use crate::rules::{Action, Config, Flush, Prefix, Scope, ADAPTIVE_END, ADAPTIVE_START, INTERVAL};
 use crate::tables::Tables;
 use slab::Slab;
 use std::collections::{BTreeMap, BTreeSet, HashMap};
@@ -336,11 +336,22 @@ impl<'a> Machine<'a> {
         Outcome::Kill { rule, conn, rate, overload, killed: leaving.len() }
     }
 
-    /// Takes old entries out of a table, and answers how many.
-    pub fn expire(&mut self, table: &[u8], age: u32) -> Option<usize> {
-        let name = format!("<{}>", String::from_utf8_lossy(table));
-        let table = self.config.tables.iter().position(|(it, _)| *it == name)?;
+    /// Takes old entries out of a table, and answers how many. None where no table of this name may change.
+    pub fn expire(&mut self, table: &str, age: u32) -> Option<usize> {
+        let table = self.config.changing_table(table)?;
         Some(self.tables.expire(table, self.first.unwrap_or(0), self.last, age))
+    }
+
+    /// Adds an entry to a table, and answers what a report says of it. None as for `expire`.
+    pub fn add(&mut self, table: &str, (prefix, negated): (Prefix, bool)) -> Option<&'static str> {
+        let table = self.config.changing_table(table)?;
+        Some(self.tables.add(table, prefix, negated, self.last))
+    }
+
+    /// Takes an entry out of a table, and answers how many left. None as for `expire`.
+    pub fn delete(&mut self, table: &str, (prefix, negated): (Prefix, bool)) -> Option<usize> {
+        let table = self.config.changing_table(table)?;
+        Some(self.tables.delete(table, prefix, negated))
     }
 }
 

@@ -1,4 +1,6 @@
 //! A record of a trace.
+use crate::addresses::{address, flags, is_name, number, prefix, protocol};
+use crate::rules::Prefix;
 use csv::ByteRecord;
 use std::net::IpAddr;
 
@@ -21,10 +23,21 @@ pub struct Packet<'a> {
     pub flags: u8,
 }
 
+/// What a record brings. Tables are named.
 pub enum Event<'a> {
     Skip,
     Packet(Packet<'a>),
-    Expire { table: &'a [u8], age: u32 },
+    Expire { table: &'a str, age: u32 },
+    Held,
+    Add { table: &'a str, entry: (Prefix, bool) },
+    Delete { table: &'a str, entry: (Prefix, bool) },
+}
+
+/// What is wrong with a record.
+pub enum Fault {
+    Columns,
+    /// The field of this column, which count from 1.
+    Field(usize),
 }
 
 #[derive(Clone, Copy, PartialEq, Eq, Hash)]
@@ -40,46 +53,97 @@ impl Packet<'_> {
     }
 }
 
-fn parse<T: std::str::FromStr>(field: &[u8]) -> Option<T> {
-    std::str::from_utf8(field).ok()?.parse().ok()
+fn text<'a>(record: &'a ByteRecord, column: usize) -> &'a str {
+    std::str::from_utf8(&record[column - 1]).unwrap_or("\u{0}")
 }
 
-fn flags(field: &[u8]) -> Option<u8> {
-    field.iter().try_fold(0, |set, it| Some(set | 1 << b"FSRPAUEW".iter().position(|flag| flag == it)?))
+/// The field of a column, read; or its fault.
+fn field<'a, T>(record: &'a ByteRecord, column: usize, read: impl FnOnce(&'a str) -> Option<T>) -> Result<T, Fault> {
+    read(text(record, column)).ok_or(Fault::Field(column))
 }
 
-/// Reads a record: its moment, and what comes. None for what a trace may not have.
-pub fn read(record: &ByteRecord) -> Option<(u32, Event<'_>)> {
-    if record.len() != 9 {
-        return None;
-    }
-    let moment = parse(&record[0])?;
-    if &record[1] == b"expire" {
-        return Some((moment, Event::Expire { table: &record[2], age: parse(&record[5])? }));
-    }
-    let proto = match &record[3] {
-        b"tcp" => TCP,
-        b"udp" => UDP,
-        b"icmp" => 1,
-        b"icmp6" => 58,
-        b"esp" => 50,
-        b"ah" => 51,
-        b"gre" => 47,
-        text => parse(text)?,
+fn nothing(text: &str) -> Option<()> {
+    text.is_empty().then_some(())
+}
+
+/// These columns are empty.
+fn empty(record: &ByteRecord, columns: impl IntoIterator<Item = usize>) -> Result<(), Fault> {
+    columns.into_iter().try_for_each(|it| field(record, it, nothing))
+}
+
+fn table_name(text: &str) -> Option<&str> {
+    is_name(text, 31).then_some(text)
+}
+
+fn entry(text: &str) -> Option<(Prefix, bool)> {
+    let (negated, text) = text.strip_prefix('!').map_or((false, text), |rest| (true, rest));
+    Some((prefix(text)?, negated))
+}
+
+fn seconds(text: &str) -> Option<u32> {
+    number(text, u32::MAX.into()).map(|it| it as u32)
+}
+
+/// The table and the entry of a record that adds or deletes one.
+fn table_and_entry(record: &ByteRecord) -> Result<(&str, (Prefix, bool)), Fault> {
+    let table = field(record, 3, table_name)?;
+    empty(record, [4])?;
+    let entry = field(record, 5, entry)?;
+    empty(record, 6..=9)?;
+    Ok((table, entry))
+}
+
+fn expiry(record: &ByteRecord) -> Result<Event<'_>, Fault> {
+    let table = field(record, 3, table_name)?;
+    empty(record, 4..=5)?;
+    let age = field(record, 6, seconds)?;
+    empty(record, 7..=9)?;
+    Ok(Event::Expire { table, age })
+}
+
+fn arrival(record: &ByteRecord) -> Result<Event<'_>, Fault> {
+    let is_in = match &record[1] {
+        b"in" => true,
+        b"out" => false,
+        _ => return Err(Fault::Field(2)),
     };
-    if proto == 1 || proto == 58 {
-        return Some((moment, Event::Skip));
-    }
+    let interface =
+        field(record, 3, |it| (is_name(it, 15) && it != "any" && it != "rdomain").then_some(it.as_bytes()))?;
+    let proto = field(record, 4, protocol)?;
     let has_ports = proto == TCP || proto == UDP;
-    let packet = Packet {
-        is_in: &record[1] == b"in",
-        interface: &record[2],
-        proto,
-        src: parse(&record[4])?,
-        sport: if has_ports { parse(&record[5])? } else { 0 },
-        dst: parse(&record[6])?,
-        dport: if has_ports { parse(&record[7])? } else { 0 },
-        flags: if proto == TCP { flags(&record[8])? } else { 0 },
+    let port = |it: &str| if has_ports { number(it, 65_535).map(|it| it as u16) } else { nothing(it).map(|()| 0) };
+    let src = field(record, 5, address)?;
+    let sport = field(record, 6, port)?;
+    let dst = field(record, 7, |it| address(it).filter(|it| it.is_ipv4() == src.is_ipv4()))?;
+    let dport = field(record, 8, port)?;
+    let flags = field(record, 9, |it| if proto == TCP { flags(it) } else { nothing(it).map(|()| 0) })?;
+    if proto == 1 || proto == 58 {
+        return Ok(Event::Skip);
+    }
+    Ok(Event::Packet(Packet { is_in, interface, proto, src, sport, dst, dport, flags }))
+}
+
+/// Reads a record: its moment, and what comes.
+pub fn read(record: &ByteRecord) -> Result<(u32, Event<'_>), Fault> {
+    if record.len() != 9 {
+        return Err(Fault::Columns);
+    }
+    let moment = field(record, 1, seconds)?;
+    let event = match &record[1] {
+        b"expire" => expiry(record)?,
+        b"held" => {
+            empty(record, 3..=9)?;
+            Event::Held
+        }
+        b"add" => {
+            let (table, entry) = table_and_entry(record)?;
+            Event::Add { table, entry }
+        }
+        b"delete" => {
+            let (table, entry) = table_and_entry(record)?;
+            Event::Delete { table, entry }
+        }
+        _ => arrival(record)?,
     };
-    Some((moment, Event::Packet(packet)))
+    Ok((moment, event))
 }

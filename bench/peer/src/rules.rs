@@ -1,4 +1,4 @@
-//! The configuration, read from the canonical text that `pfsrc show` prints.
+//! The configuration: what a rules text says.
 use std::net::IpAddr;
 
 pub const NAMES: [&str; 16] = [
@@ -35,7 +35,9 @@ impl Prefix {
     pub fn network(addr: IpAddr, bits: u8) -> Self {
         let addr = match addr {
             IpAddr::V4(it) => IpAddr::V4((u32::from(it) & u32::MAX.checked_shl(32 - bits as u32).unwrap_or(0)).into()),
-            IpAddr::V6(it) => IpAddr::V6((u128::from(it) & u128::MAX.checked_shl(128 - bits as u32).unwrap_or(0)).into()),
+            IpAddr::V6(it) => {
+                IpAddr::V6((u128::from(it) & u128::MAX.checked_shl(128 - bits as u32).unwrap_or(0)).into())
+            }
         };
         Prefix { addr, bits }
     }
@@ -51,6 +53,9 @@ impl Prefix {
 
 #[derive(Default)]
 pub struct Table {
+    pub name: String,
+    pub is_defined: bool,
+    pub is_const: bool,
     pub entries: Vec<(Prefix, bool)>,
 }
 
@@ -108,7 +113,7 @@ pub enum Action {
     Block,
     Pass,
     Keep(Box<Options>),
-    Anchor,
+    Anchor(Option<String>),
 }
 
 pub struct Item {
@@ -119,17 +124,29 @@ pub struct Item {
     pub end: usize,
 }
 
-#[derive(Default)]
 pub struct Config {
     pub states: u64,
     pub src_nodes: u64,
+    pub tables_limit: u64,
     pub table_entries: u64,
     pub timeouts: [u32; 16],
-    pub tables: Vec<(String, Table)>,
+    pub tables: Vec<Table>,
     pub items: Vec<Item>,
 }
 
 impl Config {
+    pub fn new() -> Self {
+        Config {
+            states: 100_000,
+            src_nodes: 10_000,
+            tables_limit: 1_000,
+            table_entries: 200_000,
+            timeouts: [120, 30, 86_400, 900, 45, 90, 60, 30, 60, 60, 30, 60, 0, 10, 0, 0],
+            tables: Vec::new(),
+            items: Vec::new(),
+        }
+    }
+
     pub fn timeout(&self, options: &Options, name: usize) -> u32 {
         options.timeouts[name].unwrap_or(self.timeouts[name])
     }
@@ -152,219 +169,8 @@ impl Config {
         }
     }
 
-    fn table(&self, name: &str) -> usize {
-        self.tables.iter().position(|(it, _)| it == name).expect("a table of this name")
+    /// The table of a name that may change while a trace runs.
+    pub fn changing_table(&self, name: &str) -> Option<usize> {
+        self.tables.iter().position(|it| it.name == name && !it.is_const)
     }
-}
-
-struct Words<'a> {
-    left: std::iter::Peekable<std::slice::Iter<'a, String>>,
-}
-
-impl<'a> Words<'a> {
-    fn next(&mut self) -> &'a str {
-        self.left.next().map_or("", String::as_str)
-    }
-
-    fn peek(&mut self) -> &'a str {
-        self.left.peek().map_or("", |it| it.as_str())
-    }
-
-    fn take(&mut self, word: &str) -> bool {
-        let found = self.peek() == word;
-        if found {
-            self.left.next();
-        }
-        found
-    }
-
-    fn number(&mut self) -> u32 {
-        self.next().parse().expect("a number")
-    }
-}
-
-fn words_of(line: &str) -> Vec<String> {
-    let mut spaced = String::with_capacity(2 * line.len());
-    for letter in line.chars() {
-        match letter {
-            ',' => spaced.push(' '),
-            '{' | '}' | '(' | ')' | '!' => {
-                spaced.push(' ');
-                spaced.push(letter);
-                spaced.push(' ');
-            }
-            _ => spaced.push(letter),
-        }
-    }
-    spaced.split_whitespace().map(str::to_owned).collect()
-}
-
-fn prefix(text: &str) -> Prefix {
-    match text.split_once('/') {
-        Some((addr, bits)) => Prefix::network(addr.parse().expect("an address"), bits.parse().expect("a length")),
-        None => Prefix::host(text.parse().expect("an address")),
-    }
-}
-
-fn entries(words: &mut Words) -> Vec<(Prefix, bool)> {
-    let mut found = Vec::new();
-    while !words.take("}") {
-        let negated = words.take("!");
-        found.push((prefix(words.next()), negated));
-    }
-    found
-}
-
-fn side(config: &Config, words: &mut Words) -> Side {
-    let negated = words.take("!");
-    let host = match words.next() {
-        "any" => Host::Any,
-        name if name.starts_with('<') => Host::Table { number: config.table(name), negated },
-        text => Host::Net { prefix: prefix(text), negated },
-    };
-    let port = words.take("port").then(|| {
-        let text = words.next();
-        let (low, high) = text.split_once(':').unwrap_or((text, text));
-        (low.parse().expect("a port"), high.parse().expect("a port"))
-    });
-    Side { host, port }
-}
-
-fn flag_set(text: &str) -> u8 {
-    text.bytes().map(|it| 1 << b"FSRPAUEW".iter().position(|flag| *flag == it).expect("a flag")).sum()
-}
-
-fn filter(config: &Config, words: &mut Words) -> (Filter, bool) {
-    let is_in = if words.take("in") {
-        Some(true)
-    } else {
-        words.take("out").then_some(false)
-    };
-    let quick = words.take("quick");
-    let interface = words.take("on").then(|| {
-        let negated = words.take("!");
-        (words.next().as_bytes().to_vec(), negated)
-    });
-    let is_wide = if words.take("inet6") { Some(true) } else { words.take("inet").then_some(false) };
-    let proto = words.take("proto").then(|| match words.next() {
-        "tcp" => 6,
-        "udp" => 17,
-        text => text.parse().expect("a protocol"),
-    });
-    let any = || Side { host: Host::Any, port: None };
-    let (from, to) = if words.take("all") {
-        (any(), any())
-    } else {
-        words.take("from");
-        let from = side(config, words);
-        words.take("to");
-        (from, side(config, words))
-    };
-    words.take("flags");
-    let flags = match words.next() {
-        "any" => None,
-        text => text.split_once('/').map(|(set, of)| (flag_set(set), flag_set(of))),
-    };
-    (Filter { is_in, interface, is_wide, proto, from, to, flags }, quick)
-}
-
-fn options(config: &Config, words: &mut Words, rule: usize) -> Options {
-    let mut found = Options::default();
-    if !words.take("(") {
-        return found;
-    }
-    while !words.take(")") {
-        match words.next() {
-            "max" => found.max = Some(words.number()),
-            "source-track" => found.scope = Some(if words.next() == "rule" { Scope::Rule(rule) } else { Scope::Global }),
-            "max-src-nodes" => found.max_src_nodes = Some(words.number()),
-            "max-src-states" => found.max_src_states = Some(words.number()),
-            "max-src-conn" => found.max_src_conn = Some(words.number()),
-            "max-src-conn-rate" => {
-                let (count, seconds) = words.next().split_once('/').expect("a rate");
-                found.rate = Some((count.parse().expect("a number"), seconds.parse().expect("a number")));
-            }
-            "overload" => {
-                let table = config.table(words.next());
-                let flush = match (words.take("flush"), words.take("global")) {
-                    (true, true) => Flush::Global,
-                    (true, false) => Flush::Rule,
-                    _ => Flush::No,
-                };
-                found.overload = Some((table, flush));
-            }
-            name => {
-                let place = NAMES.iter().position(|it| *it == name).expect("a timeout");
-                found.timeouts[place] = Some(words.number());
-            }
-        }
-    }
-    found
-}
-
-fn settings(config: &mut Config, words: &mut Words) {
-    let is_limit = words.next() == "limit";
-    words.take("{");
-    while !words.take("}") {
-        let (name, value) = (words.next(), words.number());
-        match name {
-            "states" if is_limit => config.states = value.into(),
-            "src-nodes" => config.src_nodes = value.into(),
-            "table-entries" => config.table_entries = value.into(),
-            _ => {
-                if let Some(place) = NAMES.iter().position(|it| *it == name) {
-                    config.timeouts[place] = value;
-                }
-            }
-        }
-    }
-}
-
-fn item(config: &Config, words: &mut Words, first: &str) -> Item {
-    let place = config.items.len();
-    if first == "anchor" && words.peek().starts_with('"') {
-        words.next();
-    }
-    let (filter, quick) = filter(config, words);
-    let action = match first {
-        "anchor" => Action::Anchor,
-        "block" => Action::Block,
-        _ if words.next() == "no" => Action::Pass,
-        _ => {
-            words.take("state");
-            Action::Keep(Box::new(options(config, words, place)))
-        }
-    };
-    Item { action, quick, filter, end: place + 1 }
-}
-
-/// Reads a canonical text. It is right as it comes from `pfsrc show`, so a fault in it is a panic.
-pub fn read(text: &str) -> Config {
-    let mut config = Config::default();
-    let mut open = Vec::new();
-    for line in text.lines() {
-        let split = words_of(line);
-        let mut words = Words { left: split.iter().peekable() };
-        match words.next() {
-            "set" => settings(&mut config, &mut words),
-            "table" => {
-                let name = words.next().to_owned();
-                words.take("const");
-                let entries = if words.take("{") { entries(&mut words) } else { Vec::new() };
-                config.tables.push((name, Table { entries }));
-            }
-            "}" => {
-                let anchor: usize = open.pop().expect("an open anchor");
-                config.items[anchor].end = config.items.len();
-            }
-            first => {
-                let made = item(&config, &mut words, first);
-                if first == "anchor" {
-                    open.push(config.items.len());
-                }
-                config.items.push(made);
-            }
-        }
-    }
-    config
 }

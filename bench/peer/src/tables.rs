@@ -1,11 +1,11 @@
-//! The tables while a trace runs: which entry of an address is the narrowest, and what `overload` and `expire` change.
+//! The tables while a trace runs: which entry of an address is the narrowest, and what `overload` and the records of an administrator change.
 use crate::rules::{Config, Prefix};
 use indexmap::IndexMap;
 use std::net::IpAddr;
 
 struct Entry {
     negated: bool,
-    /// When `overload` added it.
+    /// When it was added; none for an entry of the rules.
     moment: Option<u32>,
 }
 
@@ -39,6 +39,19 @@ impl Table {
         }
     }
 
+    fn delete(&mut self, prefix: Prefix, negated: bool) -> usize {
+        if self.entries.get(&prefix).map_or(true, |it| it.negated != negated) {
+            return 0;
+        }
+        self.entries.swap_remove(&prefix);
+        let counts: &mut [u32] = if prefix.addr.is_ipv4() { &mut self.narrow } else { &mut self.wide };
+        counts[prefix.bits as usize] -= 1;
+        if counts[prefix.bits as usize] == 0 {
+            self.list_lengths();
+        }
+        1
+    }
+
     fn matches(&self, addr: IpAddr) -> bool {
         let lengths = if addr.is_ipv4() { &self.narrow_lengths } else { &self.wide_lengths };
         lengths.iter().find_map(|bits| self.entries.get(&Prefix::network(addr, *bits))).map_or(false, |it| !it.negated)
@@ -54,7 +67,7 @@ pub struct Tables {
 impl Tables {
     pub fn new(config: &Config) -> Self {
         let mut tables: Vec<Table> = Vec::new();
-        for (_, listed) in &config.tables {
+        for listed in &config.tables {
             let mut table = Table::new();
             for (prefix, negated) in &listed.entries {
                 table.insert(*prefix, *negated, None);
@@ -69,18 +82,33 @@ impl Tables {
         self.tables[table].matches(addr)
     }
 
-    /// Adds a host. What a report says of it.
+    /// Adds a host. What a report says of it: a host that is held negated is held.
     pub fn add_host(&mut self, table: usize, addr: IpAddr, now: u32) -> &'static str {
-        let host = Prefix::host(addr);
-        if self.tables[table].entries.contains_key(&host) {
-            "held"
-        } else if self.count >= self.limit {
-            "full"
-        } else {
-            self.tables[table].insert(host, false, Some(now));
-            self.count += 1;
-            "added"
+        match self.add(table, Prefix::host(addr), false, now) {
+            "conflict" => "held",
+            told => told,
         }
+    }
+
+    /// Adds an entry. What a report says of it.
+    pub fn add(&mut self, table: usize, prefix: Prefix, negated: bool, now: u32) -> &'static str {
+        match self.tables[table].entries.get(&prefix) {
+            Some(held) if held.negated == negated => "held",
+            Some(_) => "conflict",
+            None if self.count >= self.limit => "full",
+            None => {
+                self.tables[table].insert(prefix, negated, Some(now));
+                self.count += 1;
+                "added"
+            }
+        }
+    }
+
+    /// Takes out this very entry, and answers how many left.
+    pub fn delete(&mut self, table: usize, prefix: Prefix, negated: bool) -> usize {
+        let left = self.tables[table].delete(prefix, negated);
+        self.count -= left as u64;
+        left
     }
 
     /// Takes out the entries of an age, and answers how many.

@@ -5,7 +5,7 @@
 
 ghost use Rattle.std.specs.Prelude.{◌≡◌, ◌<◌, ◌≤◌, ◌^◌, true};
 ghost use Rattle.std.specs.Option.{ForSome};
-ghost use Rattle.pfs_engine_machine.specs.Runs.{MayCome, MayExpire};
+ghost use Rattle.pfs_engine_machine.specs.Runs.{MayCome, MayChange};
 
 use csv::{ByteRecord, Reader, ReaderBuilder};
 use pfs_addr_values::RUN_LIMIT;
@@ -219,9 +219,7 @@ fn held<S: Store>(engine: &Engine<S>) -> (u64, u64, u64, u64) {
 fn end_line<S: Store>(rows: u64, engine: &Engine<S>) -> EndLine {
     EndLine {
         rows,
-        states: engine.states(),
-        nodes: engine.nodes(),
-        entries: engine.entries(),
+        held: engine.amounts(),
     }
 }
 
@@ -239,13 +237,13 @@ fn may_come(config: &Config, what: &Arrival) -> bool
     ensures { result ≡ true → MayCome config.now what.now }
 {
     match what {
-        Arrival::Expire { table, .. } => may_expire(config, *table),
+        Arrival::Table { table, .. } => may_change(config, *table),
         _ => true,
     }
 }
 
-fn may_expire(config: &Config, table: TableNo) -> bool
-    ensures { result ≡ true → MayExpire config.now table.0 }
+fn may_change(config: &Config, table: TableNo) -> bool
+    ensures { result ≡ true → MayChange config.now table.0 }
 {
     table.0 < config.table_count() && !config.is_const(table)
 }

@@ -6,9 +6,8 @@ use Rattle.std.specs.Io.KnownBytes.{Appends}
 use Rattle.std.proofs.KnownBytes.{Appends-nil, Appends-trans}
 use Rattle.std.proofs.lemmas.List.{take-append-drop}
 use Rattle.std.proofs.Math.Seq.{take-append_seam}
-use Rattle.pfs_addr_values.specs.Prefixes.{Network}
 use Rattle.pfs_capture_files.specs.Faults.{is_outside}
-use Rattle.pfs_capture_files.specs.Forms.{Begins, ReadsItem, Turn, turn_of}
+use Rattle.pfs_capture_files.specs.Forms.{Begins, IsWithinStart, ReadsItem, Turn, turn_of}
 use Rattle.pfs_capture_files.specs.declared.faults.FileFault.{FileFault}
 use Rattle.pfs_capture_files.specs.declared.forms.Form.{Form}
 use Rattle.pfs_capture_files.specs.declared.frames.Frame.{Frame}
@@ -17,15 +16,21 @@ use Rattle.pfs_capture_files.specs.declared.frames.Moment.{Moment}
 use Rattle.pfs_capture_files.specs.declared.frames.Moment.TheVariants.{At, Untold, Outside}
 use Rattle.pfs_capture.specs.Accounts.{frame_counted, no_frames}
 use Rattle.pfs_capture.specs.Captures.{Frames, Seen, at_turn, frames_from, most_items, seen_of}
+use Rattle.pfs_capture.specs.Points.{Point}
 use Rattle.pfs_capture.specs.Sorting.{found_in_frame}
 use Rattle.pfs_capture.specs.Traces.{BeginsText, Judged, Run, TellsAll, TellsCapture, TellsFirst, TellsFront, TellsRun, account_of, answer_text, answers_text, at_second, judged_at, judged_frames, judged_from, capture_run, second_after, trace_text}
-use Rattle.pfs_capture.specs.Turns.{IsFront, Sends, Taken, TakesFrame, at_told, frame_taken, reason_of, taken_at}
+use Rattle.pfs_capture.specs.Turns.{IsFront, Sends, Taken, TakesFrame, at_told, frame_taken, taken_at}
 use Rattle.pfs_capture.specs.declared.accounts.Account.{Account}
 use Rattle.pfs_capture.specs.declared.faults.TraceStop.{TraceStop}
 use Rattle.pfs_capture.specs.declared.faults.TraceStop.TheVariants as stop
 use Rattle.pfs_capture.specs.declared.traces.Tally.{Tally}
 use Rattle.pfs_capture.proofs.Counting.{account-more}
 use Rattle.pfs_capture.proofs.Texts.{answers-more, answers-none, trace-more}
+
+-- what is kept unless a call fails so is kept where it does not fail
+pub kept-ok : {A E P : Type 0} (x : A) (e : E) → ◌≡◌ {A = Result A E} (Ok x) (Err e) ⊎ P → P
+kept-ok x e (inl clash) = absurd (cc clash)
+kept-ok x e (inr kept) = kept
 
 -- ---- one turn of the definitions
 
@@ -55,19 +60,19 @@ behind seen run = (seen ++ run.0, run.1)
 behind-none : (seen : List Judged) (end : Option TraceStop) → behind seen ([], end) ≡ (seen, end)
 behind-none seen end = ap (λ (js : List Judged). (js, end)) (append-nil seen)
 
-judged-none : (inside : List Network) (ifname : List ℕ) (last : ℕ) (end : Option TraceStop) → judged_from inside ifname last [] end ≡ ([], end)
+judged-none : (point : Point) (last : ℕ) (end : Option TraceStop) → judged_from point last [] end ≡ ([], end)
 unfolding judged_from
-judged-none inside ifname last end = refl
+judged-none point last end = refl
 
-judged-more : (inside : List Network) (ifname : List ℕ) (last second : ℕ) (f : Seen) (fs : List Seen) (end : Option TraceStop) → second_after last f.moment ≡ Ok second
-    → judged_from inside ifname last (f ∷ fs) end ≡ behind (judged_at inside ifname f second ∷ []) (judged_from inside ifname second fs end)
+judged-more : (point : Point) (last second : ℕ) (f : Seen) (fs : List Seen) (end : Option TraceStop) → second_after last f.moment ≡ Ok second
+    → judged_from point last (f ∷ fs) end ≡ behind (judged_at point f second ∷ []) (judged_from point second fs end)
 unfolding judged_from
-judged-more inside ifname last second f fs end e = ap (λ (r : Result ℕ TraceStop). at_second r (λ s. judged_at inside ifname f s) (λ s. judged_from inside ifname s fs end)) e
+judged-more point last second f fs end e = ap (λ (r : Result ℕ TraceStop). at_second r (λ s. judged_at point f s) (λ s. judged_from point s fs end)) e
 
-judged-fault : (inside : List Network) (ifname : List ℕ) (last : ℕ) (f : Seen) (fs : List Seen) (end : Option TraceStop) (g : TraceStop) → second_after last f.moment ≡ Err g
-    → judged_from inside ifname last (f ∷ fs) end ≡ ([], Some g)
+judged-fault : (point : Point) (last : ℕ) (f : Seen) (fs : List Seen) (end : Option TraceStop) (g : TraceStop) → second_after last f.moment ≡ Err g
+    → judged_from point last (f ∷ fs) end ≡ ([], Some g)
 unfolding judged_from
-judged-fault inside ifname last f fs end g e = ap (λ (r : Result ℕ TraceStop). at_second r (λ s. judged_at inside ifname f s) (λ s. judged_from inside ifname s fs end)) e
+judged-fault point last f fs end g e = ap (λ (r : Result ℕ TraceStop). at_second r (λ s. judged_at point f s) (λ s. judged_from point s fs end)) e
 
 -- ---- what is written
 
@@ -110,23 +115,23 @@ tells-file run trace answers account f false e first all = all refl
 -- ---- between two items
 
 -- what was read, written and counted so far of a run, before the item of this turn
-pub record SoFar {S : Type 0} (rem : S → Option (List ℕ)) (inside : List Network) (ifname : List ℕ) (run : Run) (before now before2 now2 : Option (List ℕ)) (turn : ℕ) (tally : Tally) (form : Form) (rdr : S) : Type 0 where
+pub record SoFar {S : Type 0} (rem : S → Option (List ℕ)) (point : Point) (run : Run) (before now before2 now2 : Option (List ℕ)) (turn : ℕ) (tally : Tally) (form : Form) (rdr : S) : Type 0 where
   pub seen : List Judged
   pub left : List ℕ
   pub source : rem rdr ≡ Some left
   pub trace : Appends before now (trace_text seen)
   pub answers : Appends before2 now2 (answers_text seen)
   pub counts : tally.account ≡ account_of seen
-  pub split : run ≡ behind seen (judged_frames inside ifname tally.last (frames_from (most_items - turn) form left))
+  pub split : run ≡ behind seen (judged_frames point tally.last (frames_from (most_items - turn) form left))
 
 -- how a run ends
 abbrev pub Ends : Run → Option (List ℕ) → Option (List ℕ) → Option (List ℕ) → Option (List ℕ) → Account → Result Unit TraceStop → Type 0
 Ends run before now before2 now2 account result = (t : List ℕ) × (u : List ℕ) × Appends before now t × Appends before2 now2 u × TellsRun run t u account result
 
-pub so_far-start : {S : Type 0} (rem : S → Option (List ℕ)) (inside : List Network) (ifname : List ℕ) (form : Form) (before now before2 now2 : Option (List ℕ)) (rdr : S) (xs : List ℕ)
+pub so_far-start : {S : Type 0} (rem : S → Option (List ℕ)) (point : Point) (form : Form) (before now before2 now2 : Option (List ℕ)) (rdr : S) (xs : List ℕ)
     → rem rdr ≡ Some xs → Appends before now (trace_text []) → Appends before2 now2 (answers_text [])
-    → SoFar rem inside ifname (capture_run inside ifname form xs) before now before2 now2 0 (record { last = 0; account = no_frames }) form rdr
-so_far-start rem inside ifname form before now before2 now2 rdr xs source trace answers = record {
+    → SoFar rem point (capture_run point form xs) before now before2 now2 0 (record { last = 0; account = no_frames }) form rdr
+so_far-start rem point form before now before2 now2 rdr xs source trace answers = record {
   seen = [];
   left = xs;
   source = source;
@@ -137,39 +142,39 @@ so_far-start rem inside ifname form before now before2 now2 rdr xs source trace 
 }
 
 -- a block without a frame
-pub so_far-other : {S : Type 0} (rem : S → Option (List ℕ)) (inside : List Network) (ifname : List ℕ) (run : Run) (before now before2 now2 : Option (List ℕ)) (turn : ℕ) (tally : Tally) (form form2 : Form) (held : List ℕ) (a b : S)
-    → (h : SoFar rem inside ifname run before now before2 now2 turn tally form a) → turn < most_items
+pub so_far-other : {S : Type 0} (rem : S → Option (List ℕ)) (point : Point) (run : Run) (before now before2 now2 : Option (List ℕ)) (turn : ℕ) (tally : Tally) (form form2 : Form) (held : List ℕ) (a b : S)
+    → (h : SoFar rem point run before now before2 now2 turn tally form a) → turn < most_items
     → ReadsItem (turn_of form h.left) (Ok item.Other) form2 held (rem b)
-    → SoFar rem inside ifname run before now before2 now2 (turn + 1) tally form2 b
-so_far-other rem inside ifname run before now before2 now2 turn tally form form2 held a b h few (ys, source, found) = record {
+    → SoFar rem point run before now before2 now2 (turn + 1) tally form2 b
+so_far-other rem point run before now before2 now2 turn tally form form2 held a b h few (ys, source, found) = record {
   seen = h.seen;
   left = ys;
   source = source;
   trace = h.trace;
   answers = h.answers;
   counts = h.counts;
-  split = h.split ∙ ap (λ (fs : Frames). behind h.seen (judged_frames inside ifname tally.last fs)) (left-turn most_items turn form h.left _ few found);
+  split = h.split ∙ ap (λ (fs : Frames). behind h.seen (judged_frames point tally.last fs)) (left-turn most_items turn form h.left _ few found);
 }
 
-pub ends-end : {S : Type 0} (rem : S → Option (List ℕ)) (inside : List Network) (ifname : List ℕ) (run : Run) (before now before2 now2 : Option (List ℕ)) (turn : ℕ) (tally : Tally) (form form2 : Form) (held : List ℕ) (a b : S)
-    → (h : SoFar rem inside ifname run before now before2 now2 turn tally form a) → turn < most_items
+pub ends-end : {S : Type 0} (rem : S → Option (List ℕ)) (point : Point) (run : Run) (before now before2 now2 : Option (List ℕ)) (turn : ℕ) (tally : Tally) (form form2 : Form) (held : List ℕ) (a b : S)
+    → (h : SoFar rem point run before now before2 now2 turn tally form a) → turn < most_items
     → ReadsItem (turn_of form h.left) (Ok item.End) form2 held (rem b)
     → Ends run before now before2 now2 tally.account (Ok tt)
-ends-end rem inside ifname run before now before2 now2 turn tally form form2 held a b h few (ys, source, found) =
+ends-end rem point run before now before2 now2 turn tally form form2 held a b h few (ys, source, found) =
     let all : run ≡ (h.seen, None) =
-    h.split ∙ (ap (λ (fs : Frames). behind h.seen (judged_frames inside ifname tally.last fs)) (left-turn most_items turn form h.left _ few found)
-    ∙ (ap (λ (r : Run). behind h.seen r) (judged-none inside ifname tally.last None) ∙ behind-none h.seen None)) in
+    h.split ∙ (ap (λ (fs : Frames). behind h.seen (judged_frames point tally.last fs)) (left-turn most_items turn form h.left _ few found)
+    ∙ (ap (λ (r : Run). behind h.seen r) (judged-none point tally.last None) ∙ behind-none h.seen None)) in
     (trace_text h.seen, answers_text h.seen, h.trace, h.answers, tells-all run h.seen None tally.account all h.counts)
 
-pub ends-read : {S : Type 0} (rem : S → Option (List ℕ)) (inside : List Network) (ifname : List ℕ) (run : Run) (before now before2 now2 : Option (List ℕ)) (turn : ℕ) (tally : Tally) (form form2 : Form) (held : List ℕ) (a b : S) (f : FileFault)
-    → (h : SoFar rem inside ifname run before now before2 now2 turn tally form a) → turn < most_items
+pub ends-read : {S : Type 0} (rem : S → Option (List ℕ)) (point : Point) (run : Run) (before now before2 now2 : Option (List ℕ)) (turn : ℕ) (tally : Tally) (form form2 : Form) (held : List ℕ) (a b : S) (f : FileFault)
+    → (h : SoFar rem point run before now before2 now2 turn tally form a) → turn < most_items
     → ReadsItem (turn_of form h.left) (Err f) form2 held (rem b)
     → Ends run before now before2 now2 tally.account (Err (stop.File f))
-ends-read rem inside ifname run before now before2 now2 turn tally form form2 held a b f h few found =
-    let first = tells-first run (judged_frames inside ifname tally.last (frames_from (most_items - turn) form h.left)) h.seen tally.account h.split h.counts in
+ends-read rem point run before now before2 now2 turn tally form form2 held a b f h few found =
+    let first = tells-first run (judged_frames point tally.last (frames_from (most_items - turn) form h.left)) h.seen tally.account h.split h.counts in
     let all : is_outside f ≡ false → run ≡ (h.seen, Some (stop.File f)) = λ e.
-    h.split ∙ (ap (λ (fs : Frames). behind h.seen (judged_frames inside ifname tally.last fs)) (left-turn most_items turn form h.left _ few (found e))
-    ∙ (ap (λ (r : Run). behind h.seen r) (judged-none inside ifname tally.last (Some (stop.File f))) ∙ behind-none h.seen (Some (stop.File f)))) in (
+    h.split ∙ (ap (λ (fs : Frames). behind h.seen (judged_frames point tally.last fs)) (left-turn most_items turn form h.left _ few (found e))
+    ∙ (ap (λ (r : Run). behind h.seen r) (judged-none point tally.last (Some (stop.File f))) ∙ behind-none h.seen (Some (stop.File f)))) in (
       trace_text h.seen,
       answers_text h.seen,
       h.trace,
@@ -177,13 +182,13 @@ ends-read rem inside ifname run before now before2 now2 turn tally form form2 he
       tells-file run (trace_text h.seen) (answers_text h.seen) tally.account f (is_outside f) refl first (λ e. tells-all run h.seen (Some (stop.File f)) tally.account (all e) h.counts),
     )
 
-pub ends-many : {S : Type 0} (rem : S → Option (List ℕ)) (inside : List Network) (ifname : List ℕ) (run : Run) (before now before2 now2 : Option (List ℕ)) (turn : ℕ) (tally : Tally) (form : Form) (a : S)
-    → SoFar rem inside ifname run before now before2 now2 turn tally form a → most_items ≤ turn
+pub ends-many : {S : Type 0} (rem : S → Option (List ℕ)) (point : Point) (run : Run) (before now before2 now2 : Option (List ℕ)) (turn : ℕ) (tally : Tally) (form : Form) (a : S)
+    → SoFar rem point run before now before2 now2 turn tally form a → most_items ≤ turn
     → Ends run before now before2 now2 tally.account (Err stop.TooMany)
-ends-many rem inside ifname run before now before2 now2 turn tally form a h many =
+ends-many rem point run before now before2 now2 turn tally form a h many =
     let all : run ≡ (h.seen, Some stop.TooMany) =
-    h.split ∙ (ap (λ (fs : Frames). behind h.seen (judged_frames inside ifname tally.last fs)) (left-none most_items turn form h.left many)
-    ∙ (ap (λ (r : Run). behind h.seen r) (judged-none inside ifname tally.last (Some stop.TooMany)) ∙ behind-none h.seen (Some stop.TooMany))) in
+    h.split ∙ (ap (λ (fs : Frames). behind h.seen (judged_frames point tally.last fs)) (left-none most_items turn form h.left many)
+    ∙ (ap (λ (r : Run). behind h.seen r) (judged-none point tally.last (Some stop.TooMany)) ∙ behind-none h.seen (Some stop.TooMany))) in
     (trace_text h.seen, answers_text h.seen, h.trace, h.answers, tells-all run h.seen (Some stop.TooMany) tally.account all h.counts)
 
 -- ---- a frame
@@ -207,7 +212,7 @@ moment-err last (At second) f e = go (nat_lt 4294967295 second) e
     go false q = absurd (cc q)
 
 -- what is known when a frame is counted and its texts are to be written
-pub record Counted {S : Type 0} (rem : S → Option (List ℕ)) (inside : List Network) (ifname : List ℕ) (run : Run) (before now before2 now2 : Option (List ℕ)) (turn : ℕ) (tally : Tally) (form : Form) (rdr : S) (row answer : List ℕ) : Type 0 where
+pub record Counted {S : Type 0} (rem : S → Option (List ℕ)) (point : Point) (run : Run) (before now before2 now2 : Option (List ℕ)) (turn : ℕ) (tally : Tally) (form : Form) (rdr : S) (row answer : List ℕ) : Type 0 where
   pub seen : List Judged
   pub more : List Judged
   pub left : List ℕ
@@ -217,30 +222,30 @@ pub record Counted {S : Type 0} (rem : S → Option (List ℕ)) (inside : List N
   pub row_more : trace_text more ≡ trace_text seen ++ row
   pub answer_more : answers_text more ≡ answers_text seen ++ answer
   pub counts : tally.account ≡ account_of more
-  pub split : run ≡ behind more (judged_frames inside ifname tally.last (frames_from (most_items - turn) form left))
+  pub split : run ≡ behind more (judged_frames point tally.last (frames_from (most_items - turn) form left))
 
 -- the run goes on after a frame
-split-frame : (inside : List Network) (ifname : List ℕ) (run : Run) (seen : List Judged) (turn last second : ℕ) (form form2 : Form) (frame : Frame) (left held ys : List ℕ)
-    → turn < most_items → run ≡ behind seen (judged_frames inside ifname last (frames_from (most_items - turn) form left))
+split-frame : (point : Point) (run : Run) (seen : List Judged) (turn last second : ℕ) (form form2 : Form) (frame : Frame) (left held ys : List ℕ)
+    → turn < most_items → run ≡ behind seen (judged_frames point last (frames_from (most_items - turn) form left))
     → turn_of form left ≡ Ok (record { form = form2; item = item.Frame frame; held = held; left = ys }) → second_after last frame.moment ≡ Ok second
-    → run ≡ behind (seen ++ judged_at inside ifname (seen_of frame held) second ∷ []) (judged_frames inside ifname second (frames_from (most_items - (turn + 1)) form2 ys))
-split-frame inside ifname run seen turn last second form form2 frame left held ys few split found told =
+    → run ≡ behind (seen ++ judged_at point (seen_of frame held) second ∷ []) (judged_frames point second (frames_from (most_items - (turn + 1)) form2 ys))
+split-frame point run seen turn last second form form2 frame left held ys few split found told =
     let more = frames_from (most_items - (turn + 1)) form2 ys in
-    let j : Judged = judged_at inside ifname (seen_of frame held) second in
+    let j : Judged = judged_at point (seen_of frame held) second in
     split
-    ∙ (ap (λ (fs : Frames). behind seen (judged_frames inside ifname last fs)) (left-turn most_items turn form left _ few found)
-    ∙ (ap (λ (r : Run). behind seen r) (judged-more inside ifname last second (seen_of frame held) more.0 more.1 told)
-    ∙ ap (λ (js : List Judged). (js, (judged_frames inside ifname second more).1)) (sym (append_assoc seen (j ∷ []) (judged_frames inside ifname second more).0))))
+    ∙ (ap (λ (fs : Frames). behind seen (judged_frames point last fs)) (left-turn most_items turn form left _ few found)
+    ∙ (ap (λ (r : Run). behind seen r) (judged-more point last second (seen_of frame held) more.0 more.1 told)
+    ∙ ap (λ (js : List Judged). (js, (judged_frames point second more).1)) (sym (append_assoc seen (j ∷ []) (judged_frames point second more).0))))
 
-pub counted : {S : Type 0} (rem : S → Option (List ℕ)) (inside : List Network) (ifname : List ℕ) (run : Run) (before now before2 now2 : Option (List ℕ)) (turn : ℕ) (tally tally2 : Tally) (form form2 : Form) (held : List ℕ) (a b : S) (frame : Frame) (row answer : List ℕ)
-    → (h : SoFar rem inside ifname run before now before2 now2 turn tally form a) → turn < most_items
+pub counted : {S : Type 0} (rem : S → Option (List ℕ)) (point : Point) (run : Run) (before now before2 now2 : Option (List ℕ)) (turn : ℕ) (tally tally2 : Tally) (form form2 : Form) (held : List ℕ) (a b : S) (frame : Frame) (row answer : List ℕ)
+    → (h : SoFar rem point run before now before2 now2 turn tally form a) → turn < most_items
     → ReadsItem (turn_of form h.left) (Ok (item.Frame frame)) form2 held (rem b)
-    → TakesFrame (frame_taken inside ifname tally (seen_of frame held)) (Ok tally2) row answer
-    → Counted rem inside ifname run before now before2 now2 (turn + 1) tally2 form2 b row answer
-counted rem inside ifname run before now before2 now2 turn tally tally2 form form2 held a b frame row answer h few (ys, source, found) takes =
-    let outcome = found_in_frame inside ifname frame.link (seen_of frame held).octets in
-    let (second, told, taken) = told-ok (second_after tally.last frame.moment) (λ s. taken_at tally (judged_at inside ifname (seen_of frame held) s)) _ takes in
-    let j : Judged = judged_at inside ifname (seen_of frame held) second in
+    → TakesFrame (frame_taken point tally (seen_of frame held)) (Ok tally2) row answer
+    → Counted rem point run before now before2 now2 (turn + 1) tally2 form2 b row answer
+counted rem point run before now before2 now2 turn tally tally2 form form2 held a b frame row answer h few (ys, source, found) takes =
+    let outcome = found_in_frame point frame.link (seen_of frame held).octets in
+    let (second, told, taken) = told-ok (second_after tally.last frame.moment) (λ s. taken_at tally (judged_at point (seen_of frame held) s)) _ takes in
+    let j : Judged = judged_at point (seen_of frame held) second in
     let last : second ≡ tally2.last = ap (λ (t : Taken). t.tally.last) taken in
     record {
       seen = h.seen;
@@ -252,40 +257,40 @@ counted rem inside ifname run before now before2 now2 turn tally tally2 form for
       row_more = trace-more h.seen j ∙ ap (λ (t : List ℕ). trace_text h.seen ++ t) (ap (λ (t : Taken). t.row) taken);
       answer_more = answers-more h.seen j
           ∙ ap (λ (t : List ℕ). answers_text h.seen ++ t) (ap (λ (a : Account). answer_text (a.records + 1) outcome) (sym h.counts) ∙ ap (λ (t : Taken). t.answer) taken);
-      counts = sym (ap (λ (t : Taken). t.tally.account) taken) ∙ (ap (λ (a : Account). frame_counted a j.is_late (reason_of outcome)) h.counts ∙ account-more h.seen second j.is_late outcome);
-      split = split-frame inside ifname run h.seen turn tally.last second form form2 frame h.left held ys few h.split found told
-          ∙ ap (λ (s : ℕ). behind (h.seen ++ j ∷ []) (judged_frames inside ifname s (frames_from (most_items - (turn + 1)) form2 ys))) last;
+      counts = sym (ap (λ (t : Taken). t.tally.account) taken) ∙ (ap (λ (a : Account). frame_counted a j.is_late outcome) h.counts ∙ account-more h.seen second j.is_late outcome);
+      split = split-frame point run h.seen turn tally.last second form form2 frame h.left held ys few h.split found told
+          ∙ ap (λ (s : ℕ). behind (h.seen ++ j ∷ []) (judged_frames point s (frames_from (most_items - (turn + 1)) form2 ys))) last;
     }
 
 -- a frame that is not taken
-pub ends-frame : {S : Type 0} (rem : S → Option (List ℕ)) (inside : List Network) (ifname : List ℕ) (run : Run) (before now before2 now2 : Option (List ℕ)) (turn : ℕ) (tally : Tally) (form form2 : Form) (held : List ℕ) (a b : S) (frame : Frame) (f : TraceStop) (row answer : List ℕ)
-    → (h : SoFar rem inside ifname run before now before2 now2 turn tally form a) → turn < most_items
+pub ends-frame : {S : Type 0} (rem : S → Option (List ℕ)) (point : Point) (run : Run) (before now before2 now2 : Option (List ℕ)) (turn : ℕ) (tally : Tally) (form form2 : Form) (held : List ℕ) (a b : S) (frame : Frame) (f : TraceStop) (row answer : List ℕ)
+    → (h : SoFar rem point run before now before2 now2 turn tally form a) → turn < most_items
     → ReadsItem (turn_of form h.left) (Ok (item.Frame frame)) form2 held (rem b)
-    → TakesFrame (frame_taken inside ifname tally (seen_of frame held)) (Err f) row answer
+    → TakesFrame (frame_taken point tally (seen_of frame held)) (Err f) row answer
     → Ends run before now before2 now2 tally.account (Err f)
-ends-frame rem inside ifname run before now before2 now2 turn tally form form2 held a b frame f row answer h few reads (inl memory) =
-    let more = judged_frames inside ifname tally.last (frames_from (most_items - turn) form h.left) in
+ends-frame rem point run before now before2 now2 turn tally form form2 held a b frame f row answer h few reads (inl memory) =
+    let more = judged_frames point tally.last (frames_from (most_items - turn) form h.left) in
     subst (λ (g : TraceStop). Ends run before now before2 now2 tally.account (Err g)) (sym memory)
     (trace_text h.seen, answers_text h.seen, h.trace, h.answers, tells-first run more h.seen tally.account h.split h.counts)
-ends-frame rem inside ifname run before now before2 now2 turn tally form form2 held a b frame f row answer h few (ys, source, found) (inr stopped) =
-    let told = told-err (second_after tally.last frame.moment) (λ s. taken_at tally (judged_at inside ifname (seen_of frame held) s)) f stopped in
+ends-frame rem point run before now before2 now2 turn tally form form2 held a b frame f row answer h few (ys, source, found) (inr stopped) =
+    let told = told-err (second_after tally.last frame.moment) (λ s. taken_at tally (judged_at point (seen_of frame held) s)) f stopped in
     let moment : f ≡ stop.Moment = moment-err tally.last frame.moment f told in
     let more = frames_from (most_items - (turn + 1)) form2 ys in
     let all : run ≡ (h.seen, Some f) =
     h.split
-    ∙ (ap (λ (fs : Frames). behind h.seen (judged_frames inside ifname tally.last fs)) (left-turn most_items turn form h.left _ few found)
-    ∙ (ap (λ (r : Run). behind h.seen r) (judged-fault inside ifname tally.last (seen_of frame held) more.0 more.1 f told) ∙ behind-none h.seen (Some f))) in
+    ∙ (ap (λ (fs : Frames). behind h.seen (judged_frames point tally.last fs)) (left-turn most_items turn form h.left _ few found)
+    ∙ (ap (λ (r : Run). behind h.seen r) (judged-fault point tally.last (seen_of frame held) more.0 more.1 f told) ∙ behind-none h.seen (Some f))) in
     let ends : TellsAll run (Some f) (trace_text h.seen) (answers_text h.seen) tally.account = tells-all run h.seen (Some f) tally.account all h.counts in
     let here : TellsAll run (Some stop.Moment) (trace_text h.seen) (answers_text h.seen) tally.account =
     subst (λ (g : TraceStop). TellsAll run (Some g) (trace_text h.seen) (answers_text h.seen) tally.account) moment ends in
     subst (λ (g : TraceStop). Ends run before now before2 now2 tally.account (Err g)) (sym moment) (trace_text h.seen, answers_text h.seen, h.trace, h.answers, here)
 
 -- both texts of a frame are written
-pub so_far-frame : {S : Type 0} (rem : S → Option (List ℕ)) (inside : List Network) (ifname : List ℕ) (run : Run) (before now after before2 now2 after2 : Option (List ℕ)) (turn : ℕ) (tally : Tally) (form : Form) (rdr : S) (row answer t u : List ℕ)
-    → Counted rem inside ifname run before now before2 now2 turn tally form rdr row answer
+pub so_far-frame : {S : Type 0} (rem : S → Option (List ℕ)) (point : Point) (run : Run) (before now after before2 now2 after2 : Option (List ℕ)) (turn : ℕ) (tally : Tally) (form : Form) (rdr : S) (row answer t u : List ℕ)
+    → Counted rem point run before now before2 now2 turn tally form rdr row answer
     → Appends now after t → Appends now2 after2 u → Sends row answer t u (Ok tt)
-    → SoFar rem inside ifname run before after before2 after2 turn tally form rdr
-so_far-frame rem inside ifname run before now after before2 now2 after2 turn tally form rdr row answer t u h trace answers sends = record {
+    → SoFar rem point run before after before2 after2 turn tally form rdr
+so_far-frame rem point run before now after before2 now2 after2 turn tally form rdr row answer t u h trace answers sends = record {
   seen = h.more;
   left = h.left;
   source = h.source;
@@ -308,35 +313,35 @@ none-begins : (text t line whole : List ℕ) → t ≡ [] → whole ≡ text ++ 
 none-begins text t line whole none e = (line, e ∙ ap (λ (x : List ℕ). x ++ line) (sym (append-nil text)) ∙ ap (λ (x : List ℕ). (text ++ x) ++ line) (sym none))
 
 -- only fronts of them are
-ends-front : {S : Type 0} (rem : S → Option (List ℕ)) (inside : List Network) (ifname : List ℕ) (run : Run) (before now after before2 now2 after2 : Option (List ℕ)) (turn : ℕ) (tally : Tally) (form : Form) (rdr : S) (row answer t u : List ℕ)
-    → (h : Counted rem inside ifname run before now before2 now2 turn tally form rdr row answer)
+ends-front : {S : Type 0} (rem : S → Option (List ℕ)) (point : Point) (run : Run) (before now after before2 now2 after2 : Option (List ℕ)) (turn : ℕ) (tally : Tally) (form : Form) (rdr : S) (row answer t u : List ℕ)
+    → (h : Counted rem point run before now before2 now2 turn tally form rdr row answer)
     → Appends now after t → Appends now2 after2 u → BeginsText (trace_text h.seen ++ t) (trace_text h.more) → BeginsText (answers_text h.seen ++ u) (answers_text h.more)
     → (v : List ℕ) × (w : List ℕ) × Appends before after v × Appends before2 after2 w × TellsFront run v w tally.account
-ends-front rem inside ifname run before now after before2 now2 after2 turn tally form rdr row answer t u h trace answers begins begins2 = (
+ends-front rem point run before now after before2 now2 after2 turn tally form rdr row answer t u h trace answers begins begins2 = (
   trace_text h.seen ++ t,
   answers_text h.seen ++ u,
   Appends-trans before now after (trace_text h.seen) t h.trace trace,
   Appends-trans before2 now2 after2 (answers_text h.seen) u h.answers answers,
-  tells-front run (judged_frames inside ifname tally.last (frames_from (most_items - turn) form h.left)) h.more tally.account (trace_text h.seen ++ t) (answers_text h.seen ++ u) h.split h.counts begins begins2,
+  tells-front run (judged_frames point tally.last (frames_from (most_items - turn) form h.left)) h.more tally.account (trace_text h.seen ++ t) (answers_text h.seen ++ u) h.split h.counts begins begins2,
 )
 
 -- they are not
-pub ends-send : {S : Type 0} (rem : S → Option (List ℕ)) (inside : List Network) (ifname : List ℕ) (run : Run) (before now after before2 now2 after2 : Option (List ℕ)) (turn : ℕ) (tally : Tally) (form : Form) (rdr : S) (row answer t u : List ℕ) (f : TraceStop)
-    → Counted rem inside ifname run before now before2 now2 turn tally form rdr row answer
+pub ends-send : {S : Type 0} (rem : S → Option (List ℕ)) (point : Point) (run : Run) (before now after before2 now2 after2 : Option (List ℕ)) (turn : ℕ) (tally : Tally) (form : Form) (rdr : S) (row answer t u : List ℕ) (f : TraceStop)
+    → Counted rem point run before now before2 now2 turn tally form rdr row answer
     → Appends now after t → Appends now2 after2 u → Sends row answer t u (Err f)
     → Ends run before after before2 after2 tally.account (Err f)
-ends-send rem inside ifname run before now after before2 now2 after2 turn tally form rdr row answer t u stop.Write h trace answers (front, none) =
-    ends-front rem inside ifname run before now after before2 now2 after2 turn tally form rdr row answer t u h trace answers
+ends-send rem point run before now after before2 now2 after2 turn tally form rdr row answer t u stop.Write h trace answers (front, none) =
+    ends-front rem point run before now after before2 now2 after2 turn tally form rdr row answer t u h trace answers
     (front-begins (trace_text h.seen) t row (trace_text h.more) front h.row_more)
     (none-begins (answers_text h.seen) u answer (answers_text h.more) none h.answer_more)
-ends-send rem inside ifname run before now after before2 now2 after2 turn tally form rdr row answer t u stop.Told h trace answers (same, front) =
-    ends-front rem inside ifname run before now after before2 now2 after2 turn tally form rdr row answer t u h trace answers
+ends-send rem point run before now after before2 now2 after2 turn tally form rdr row answer t u stop.Told h trace answers (same, front) =
+    ends-front rem point run before now after before2 now2 after2 turn tally form rdr row answer t u h trace answers
     (whole-begins (trace_text h.seen) t row (trace_text h.more) same h.row_more)
     (front-begins (answers_text h.seen) u answer (answers_text h.more) front h.answer_more)
-ends-send rem inside ifname run before now after before2 now2 after2 turn tally form rdr row answer t u (stop.File g) h trace answers sends = absurd sends
-ends-send rem inside ifname run before now after before2 now2 after2 turn tally form rdr row answer t u stop.Moment h trace answers sends = absurd sends
-ends-send rem inside ifname run before now after before2 now2 after2 turn tally form rdr row answer t u stop.TooMany h trace answers sends = absurd sends
-ends-send rem inside ifname run before now after before2 now2 after2 turn tally form rdr row answer t u stop.Memory h trace answers sends = absurd sends
+ends-send rem point run before now after before2 now2 after2 turn tally form rdr row answer t u (stop.File g) h trace answers sends = absurd sends
+ends-send rem point run before now after before2 now2 after2 turn tally form rdr row answer t u stop.Moment h trace answers sends = absurd sends
+ends-send rem point run before now after before2 now2 after2 turn tally form rdr row answer t u stop.TooMany h trace answers sends = absurd sends
+ends-send rem point run before now after before2 now2 after2 turn tally form rdr row answer t u stop.Memory h trace answers sends = absurd sends
 
 -- what is sent are these texts
 pub sends-these : (a b row answer t u : List ℕ) (result : Result Unit TraceStop) → a ≡ row → b ≡ answer → Sends a b t u result → Sends row answer t u result
@@ -345,25 +350,25 @@ sends-these a b row answer t u result p q sends = subst (λ (x : List ℕ). Send
 -- ---- the beginning
 
 -- what is written of a capture that begins like this
-abbrev pub Captured : List Network → List ℕ → Result (Form × List ℕ) FileFault → Option (List ℕ) → Option (List ℕ) → Option (List ℕ) → Option (List ℕ) → Account → Result Unit TraceStop → Type 0
-Captured inside ifname begin before now before2 now2 account result =
-    (t : List ℕ) × (u : List ℕ) × Appends before now t × Appends before2 now2 u × TellsCapture inside ifname begin t u account result
+abbrev pub Captured : Point → Result (Form × List ℕ) FileFault → Option (List ℕ) → Option (List ℕ) → Option (List ℕ) → Option (List ℕ) → Option (List ℕ) → Account → Result Unit TraceStop → Type 0
+Captured point begin left before now before2 now2 account result =
+    (t : List ℕ) × (u : List ℕ) × Appends before now t × Appends before2 now2 u × TellsCapture point begin left t u account result
 
-pub captured-run : (inside : List Network) (ifname : List ℕ) (begin : Result (Form × List ℕ) FileFault) (form : Form) (xs : List ℕ) (before now before2 now2 : Option (List ℕ)) (account : Account) (result : Result Unit TraceStop)
-    → begin ≡ Ok (form, xs) → Ends (capture_run inside ifname form xs) before now before2 now2 account result → Captured inside ifname begin before now before2 now2 account result
-captured-run inside ifname begin form xs before now before2 now2 account result e (t, u, trace, answers, tells) =
-    subst (λ (b : Result (Form × List ℕ) FileFault). Captured inside ifname b before now before2 now2 account result) (sym e) (t, u, trace, answers, inl tells)
+pub captured-run : (point : Point) (begin : Result (Form × List ℕ) FileFault) (form : Form) (xs : List ℕ) (left before now before2 now2 : Option (List ℕ)) (account : Account) (result : Result Unit TraceStop)
+    → begin ≡ Ok (form, xs) → Ends (capture_run point form xs) before now before2 now2 account result → Captured point begin left before now before2 now2 account result
+captured-run point begin form xs left before now before2 now2 account result e (t, u, trace, answers, tells) =
+    subst (λ (b : Result (Form × List ℕ) FileFault). Captured point b left before now before2 now2 account result) (sym e) (t, u, trace, answers, inl tells)
 
 -- it does not begin
-pub captured-none : (inside : List Network) (ifname : List ℕ) (begin : Result (Form × List ℕ) FileFault) (before before2 left : Option (List ℕ)) (f : FileFault)
-    → Begins begin (Err f) left → Captured inside ifname begin before before before2 before2 no_frames (Err (stop.File f))
-captured-none inside ifname (Ok begun) before before2 left f begins =
-    ([], [], Appends-nil before, Appends-nil before2, inr ((refl, refl, refl), (f, outside (is_outside f) refl, refl)))
+pub captured-none : (point : Point) (begin : Result (Form × List ℕ) FileFault) (before before2 left : Option (List ℕ)) (f : FileFault)
+    → Begins begin (Err f) left → IsWithinStart begin left → Captured point begin left before before before2 before2 no_frames (Err (stop.File f))
+captured-none point (Ok begun) before before2 left f begins within =
+    ([], [], Appends-nil before, Appends-nil before2, inr ((refl, refl, refl), (f, outside (is_outside f) refl, refl), within))
   where
     outside : (b : Bool) → is_outside f ≡ b → is_outside f ≡ true
     outside true e = e
     outside false e = absurd (cc (begins e))
-captured-none inside ifname (Err g) before before2 left f begins =
+captured-none point (Err g) before before2 left f begins within =
     ([], [], Appends-nil before, Appends-nil before2, ((refl, refl, refl), why (is_outside f) refl))
   where
     why : (b : Bool) → is_outside f ≡ b
@@ -384,8 +389,8 @@ ends-headers run before now before2 now2 t u stop.TooMany trace answers sends = 
 ends-headers run before now before2 now2 t u stop.Memory trace answers sends = absurd sends
 
 -- the header of the answers is all that is written of none
-no-answers : answers_text [] ≡ codes "row,action,rule,anchor,subrule\n"
-no-answers = ap (λ (x : List ℕ). codes "row,action,rule,anchor,subrule\n" ++ x) (answers-none 0)
+no-answers : answers_text [] ≡ codes "row,action,rule,anchor,subrule,reason,rewritten\n"
+no-answers = ap (λ (x : List ℕ). codes "row,action,rule,anchor,subrule,reason,rewritten\n" ++ x) (answers-none 0)
 
-pub headers : (t u : List ℕ) (result : Result Unit TraceStop) → Sends (trace_text []) (codes "row,action,rule,anchor,subrule\n") t u result → Sends (trace_text []) (answers_text []) t u result
+pub headers : (t u : List ℕ) (result : Result Unit TraceStop) → Sends (trace_text []) (codes "row,action,rule,anchor,subrule,reason,rewritten\n") t u result → Sends (trace_text []) (answers_text []) t u result
 headers t u result sends = subst (λ (a : List ℕ). Sends (trace_text []) a t u result) (sym no-answers) sends

@@ -35,6 +35,6 @@ answers_from-more n (x ∷ js) j =
 pub answers-more : (js : List Judged) (j : Judged) → answers_text (js ++ j ∷ []) ≡ answers_text js ++ answer_text (count_by (λ x. is_record x.outcome) js + 1) j.outcome
 answers-more js j =
     let n : records_after 0 js ≡ count_by (λ x. is_record x.outcome) js = omega (arith, records_counted 0 js) in
-    let header = codes "row,action,rule,anchor,subrule\n" in
+    let header = codes "row,action,rule,anchor,subrule,reason,rewritten\n" in
     ap (λ (t : List ℕ). header ++ t) (answers_from-more 0 js j ∙ ap (λ (k : ℕ). answers_from 0 js ++ answer_text (k + 1) j.outcome) n)
     ∙ sym (append_assoc header (answers_from 0 js) (answer_text (count_by (λ x. is_record x.outcome) js + 1) j.outcome))

@@ -1,40 +1,72 @@
 -- The packet of a frame and its way, or why the frame is no record.
-use Rattle.std.specs.Prelude.{ℕ, ◌≡◌, ◌==◌, Bool, true, false, List, Option, Some, None, Result, Ok, if◌then◌else◌, ok_or, option_map}
-use Rattle.std.specs.List.{list_any}
+use Rattle.std.specs.Prelude.{ℕ, ◌≡◌, ◌==◌, ◌&&◌, not, Bool, true, false, List, length, Option, Some, None, Result, Ok, if◌then◌else◌, ok_or, option_map}
+use Rattle.std.specs.Option.{option_map_or}
 use Rattle.pfs_addr_values.specs.Addresses.{same_family}
 use Rattle.pfs_addr_values.specs.Names.{is_name}
-use Rattle.pfs_addr_values.specs.Prefixes.{Network, covers}
-use Rattle.pfs_addr_values.specs.declared.addresses.Addr.{Addr}
 use Rattle.pfs_addr_values.specs.declared.packets.Dir.{Dir}
 use Rattle.pfs_addr_values.specs.declared.packets.Dir.TheVariants.{In, Out}
 use Rattle.pfs_capture_packets.specs.Logs.{answer_in, logged_of}
 use Rattle.pfs_capture_packets.specs.Packets.{IsCarried, then_read, packet_of}
-use Rattle.pfs_capture_packets.specs.declared.logs.Logged.{Logged}
+use Rattle.pfs_capture_packets.specs.Ways.{cooked_dir, ethernet_dir}
 use Rattle.pfs_capture_packets.specs.declared.packets.IpPacket.{IpPacket}
 use Rattle.pfs_capture_packets.specs.declared.packets.Reason.{Reason}
 use Rattle.pfs_capture_packets.specs.declared.packets.Reason.TheVariants as reason
+use Rattle.pfs_capture.specs.Points.{Point, is_behind}
+use Rattle.pfs_capture.specs.declared.sorting.Evidence.TheVariants as evidence
 use Rattle.pfs_capture.specs.declared.sorting.Found.{Found}
+use Rattle.pfs_capture.specs.declared.sorting.Heading.{Heading}
+use Rattle.pfs_capture.specs.declared.sorting.LinkWay.{LinkWay}
+use Rattle.pfs_capture.specs.declared.sorting.LinkWay.TheVariants.{Says, Neither, Silent}
+use Rattle.pfs_capture.specs.declared.sorting.Way.{Way}
 
--- one of the prefixes covers an address
-abbrev pub is_inside : List Network → Addr → Bool
-is_inside inside addr = list_any (λ p. covers p addr) inside
-
--- a packet from elsewhere to inside comes in, one from inside to elsewhere goes out, any other goes neither way
+-- a packet from the front of an interface to behind it comes in, one from behind it to its front goes out, any other goes neither way
 abbrev pub way_between : Bool → Bool → Option Dir
 way_between false true = Some In
 way_between true false = Some Out
 way_between from to = None
 
+-- the direction by the networks of a packet's addresses
+abbrev pub networks_dir : Point → IpPacket → Option Dir
+networks_dir point packet = way_between (is_behind point packet.source) (is_behind point packet.destination)
+
+-- what the addresses of an Ethernet frame (LINKTYPE_ETHERNET, 1) say, where those of the interface are given: a frame that is neither
+-- from it nor to it goes neither way
+abbrev pub by_mac : Point → ℕ → List ℕ → LinkWay
+by_mac point link_type frame =
+    if (link_type == 1) && not (length point.macs == 0)
+    then option_map_or (λ dir. Says dir evidence.Mac) (ethernet_dir point.macs frame) Neither
+    else Silent
+
+-- what the header of a frame's link says: that of a Linux cooked capture has the direction
+abbrev pub by_link : Point → ℕ → List ℕ → LinkWay
+by_link point link_type frame = option_map_or (λ dir. Says dir evidence.Cooked) (cooked_dir link_type frame) (by_mac point link_type frame)
+
+-- whether the other direction is said
+abbrev pub contradicts : Dir → Option Dir → Bool
+contradicts In (Some Out) = true
+contradicts Out (Some In) = true
+contradicts dir said = false
+
+-- the direction that a link's header says, or else that of the networks
+abbrev pub heading_from : LinkWay → Option Dir → Option Heading
+heading_from (Says dir by) networks = Some (record { dir = dir; by = by; is_contradicted = contradicts dir networks })
+heading_from Neither networks = None
+heading_from Silent networks = option_map (λ dir. record { dir = dir; by = evidence.Networks; is_contradicted = false }) networks
+
+-- the way that a log of packets has itself
+abbrev pub logged_way : List ℕ → Option Way
+logged_way frame = option_map (λ l. record { heading = record { dir = l.dir; by = evidence.Log; is_contradicted = false }; ifname = l.ifname }) (logged_of frame)
+
 -- the way of a frame's packet and its interface: a log of packets (LINKTYPE_PFLOG, 117) has them itself
-abbrev pub way_of : List Network → List ℕ → ℕ → List ℕ → IpPacket → Option Logged
-way_of inside ifname link_type frame packet =
-    if link_type == 117 then logged_of frame
-    else option_map (λ dir. record { dir = dir; ifname = ifname }) (way_between (is_inside inside packet.source) (is_inside inside packet.destination))
+abbrev pub way_of : Point → ℕ → List ℕ → IpPacket → Option Way
+way_of point link_type frame packet =
+    if link_type == 117 then logged_way frame
+    else option_map (λ heading. record { heading = heading; ifname = point.ifname }) (heading_from (by_link point link_type frame) (networks_dir point packet))
 
 -- the packet of a frame, its way and what pf answered, or the one reason why it is no record
-abbrev pub found_in_frame : List Network → List ℕ → ℕ → List ℕ → Result Found Reason
-found_in_frame inside ifname link_type frame =
-    then_read (packet_of link_type frame) (λ packet. then_read (ok_or (way_of inside ifname link_type frame packet) reason.NeitherWay) (λ way. Ok (record { way = way; packet = packet; answer = answer_in link_type frame })))
+abbrev pub found_in_frame : Point → ℕ → List ℕ → Result Found Reason
+found_in_frame point link_type frame =
+    then_read (packet_of link_type frame) (λ packet. then_read (ok_or (way_of point link_type frame packet) reason.NeitherWay) (λ way. Ok (record { way = way; packet = packet; answer = answer_in link_type frame })))
 
 -- a packet whose ends are of one family, on an interface with a name, as a row has it
 abbrev pub IsFound : Found → Type 0

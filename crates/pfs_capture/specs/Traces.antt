@@ -3,8 +3,8 @@ use Rattle.std.specs.Prelude.{ℕ, ◌≡◌, ◌⊎◌, ◌+◌, ◌++◌, ◌&
 use Rattle.std.specs.Bool.{MatchBool}
 use Rattle.std.specs.List.{count_by}
 use Rattle.std.specs.Option.{option_map_or}
-use Rattle.pfs_addr_values.specs.Prefixes.{Network}
 use Rattle.pfs_capture_files.specs.Faults.{is_outside}
+use Rattle.pfs_capture_files.specs.Forms.{IsWithinStart}
 use Rattle.pfs_capture_files.specs.declared.faults.FileFault.{FileFault}
 use Rattle.pfs_capture_files.specs.declared.forms.Form.{Form}
 use Rattle.pfs_capture_files.specs.declared.frames.Moment.{Moment}
@@ -16,10 +16,14 @@ use Rattle.pfs_capture_rows.specs.Rows.{capture_row}
 use Rattle.pfs_capture_rows.specs.declared.rows.Row.{Row}
 use Rattle.pfs_capture.specs.Accounts.{no_frames}
 use Rattle.pfs_capture.specs.Captures.{Frames, Seen, frames_from, most_items}
+use Rattle.pfs_capture.specs.Points.{Point}
 use Rattle.pfs_capture.specs.Sorting.{found_in_frame}
 use Rattle.pfs_capture.specs.declared.accounts.Account.{Account}
+use Rattle.pfs_capture.specs.declared.directions.Directions.{Directions}
 use Rattle.pfs_capture.specs.declared.faults.TraceStop.{TraceStop}
 use Rattle.pfs_capture.specs.declared.faults.TraceStop.TheVariants as stop
+use Rattle.pfs_capture.specs.declared.sorting.Evidence.{Evidence}
+use Rattle.pfs_capture.specs.declared.sorting.Evidence.TheVariants as evidence
 use Rattle.pfs_capture.specs.declared.sorting.Found.{Found}
 
 -- the second of a frame after one of this second: its own, but none before that
@@ -41,8 +45,8 @@ pub record Judged : Type 0 where
   pub outcome : Result Found Reason
 
 -- a frame of a capture in this second
-abbrev pub judged_at : List Network → List ℕ → Seen → ℕ → Judged
-judged_at inside ifname f second = record { second = second; is_late = is_before f.moment second; outcome = found_in_frame inside ifname f.link f.octets }
+abbrev pub judged_at : Point → Seen → ℕ → Judged
+judged_at point f second = record { second = second; is_late = is_before f.moment second; outcome = found_in_frame point f.link f.octets }
 
 -- the frames of a capture in their seconds, and what stops the trace before the capture's end, if anything does
 abbrev pub Run : Type 0
@@ -54,23 +58,23 @@ at_second (Ok second) judged more = (judged second ∷ (more second).0, (more se
 at_second (Err f) judged more = ([], Some f)
 
 -- these frames after one of this second
-unfoldable pub judged_from : List Network → List ℕ → ℕ → List Seen → Option TraceStop → Run
-judged_from inside ifname last [] end = ([], end)
-judged_from inside ifname last (f ∷ fs) end =
-    at_second (second_after last f.moment) (λ second. judged_at inside ifname f second) (λ second. judged_from inside ifname second fs end)
+unfoldable pub judged_from : Point → ℕ → List Seen → Option TraceStop → Run
+judged_from point last [] end = ([], end)
+judged_from point last (f ∷ fs) end =
+    at_second (second_after last f.moment) (λ second. judged_at point f second) (λ second. judged_from point second fs end)
 
-abbrev pub judged_frames : List Network → List ℕ → ℕ → Frames → Run
-judged_frames inside ifname last frames = judged_from inside ifname last frames.0 frames.1
+abbrev pub judged_frames : Point → ℕ → Frames → Run
+judged_frames point last frames = judged_from point last frames.0 frames.1
 
 -- all frames of a capture that begins in this form, after its first bytes
-abbrev pub capture_run : List Network → List ℕ → Form → List ℕ → Run
-capture_run inside ifname form xs = judged_frames inside ifname 0 (frames_from most_items form xs)
+abbrev pub capture_run : Point → Form → List ℕ → Run
+capture_run point form xs = judged_frames point 0 (frames_from most_items form xs)
 
 -- ---- the texts
 
 -- the row of a packet that was found
 abbrev pub row_from : ℕ → Found → Row
-row_from second found = record { second = second; dir = found.way.dir; ifname = found.way.ifname; packet = found.packet }
+row_from second found = record { second = second; dir = found.way.heading.dir; ifname = found.way.ifname; packet = found.packet }
 
 -- a frame's row, or nothing
 abbrev pub frame_text : ℕ → Result Found Reason → List ℕ
@@ -98,7 +102,7 @@ answers_from records (j ∷ js) = answer_text (records + 1) j.outcome ++ answers
 
 -- what pf answered: a header, and a row for each record of a log
 abbrev pub answers_text : List Judged → List ℕ
-answers_text frames = codes "row,action,rule,anchor,subrule\n" ++ answers_from 0 frames
+answers_text frames = codes "row,action,rule,anchor,subrule,reason,rewritten\n" ++ answers_from 0 frames
 
 -- ---- the account
 
@@ -117,6 +121,7 @@ same_reason reason.LinkType reason.LinkType = true
 same_reason reason.NotIp reason.NotIp = true
 same_reason reason.LaterFragment reason.LaterFragment = true
 same_reason reason.Cut reason.Cut = true
+same_reason reason.TooShort reason.TooShort = true
 same_reason reason.NeitherWay reason.NeitherWay = true
 same_reason r s = false
 
@@ -129,6 +134,38 @@ is_none_for r (Err s) = same_reason r s
 abbrev pub left_out : Reason → List Judged → ℕ
 left_out r frames = count_by (λ j. is_none_for r j.outcome) frames
 
+-- whether two kinds of evidence are one
+abbrev pub same_evidence : Evidence → Evidence → Bool
+same_evidence evidence.Log evidence.Log = true
+same_evidence evidence.Cooked evidence.Cooked = true
+same_evidence evidence.Mac evidence.Mac = true
+same_evidence evidence.Networks evidence.Networks = true
+same_evidence e f = false
+
+-- whether a frame is a record whose direction was found so
+abbrev pub is_found_by : Evidence → Result Found Reason → Bool
+is_found_by e (Ok found) = same_evidence e found.way.heading.by
+is_found_by e (Err r) = false
+
+-- whether a frame is a record of which the networks say the other way
+abbrev pub is_contradicted : Result Found Reason → Bool
+is_contradicted (Ok found) = found.way.heading.is_contradicted
+is_contradicted (Err r) = false
+
+-- how many frames are records whose direction was found so
+abbrev pub found_by : Evidence → List Judged → ℕ
+found_by e frames = count_by (λ j. is_found_by e j.outcome) frames
+
+-- how many records have their direction by each kind of evidence, and how many are contradicted
+abbrev pub directions_of : List Judged → Directions
+directions_of frames = record {
+  log = found_by evidence.Log frames;
+  cooked = found_by evidence.Cooked frames;
+  mac = found_by evidence.Mac frames;
+  networks = found_by evidence.Networks frames;
+  contradicted = count_by (λ j. is_contradicted j.outcome) frames;
+}
+
 -- how many frames there are, how many of them are records, how many are none for each reason, and how many records are late
 abbrev pub account_of : List Judged → Account
 account_of frames = record {
@@ -138,8 +175,10 @@ account_of frames = record {
   not_ip = left_out reason.NotIp frames;
   later_fragments = left_out reason.LaterFragment frames;
   cut = left_out reason.Cut frames;
+  too_short = left_out reason.TooShort frames;
   neither_way = left_out reason.NeitherWay frames;
   late = count_by is_late_record frames;
+  directions = directions_of frames;
 }
 
 -- ---- what is written by the end of a run
@@ -175,13 +214,15 @@ TellsRun run trace answers account (Err stop.Memory) = TellsFirst run trace answ
 abbrev pub TellsNothing : List ℕ → List ℕ → Account → Type 0
 TellsNothing trace answers account = (trace ≡ []) × (answers ≡ []) × (account ≡ no_frames)
 
--- the first read failed, or memory was refused for it
+-- a read of how the capture begins failed, or memory was refused for it
 abbrev pub FailsToStart : Result Unit TraceStop → Type 0
 FailsToStart result = (f : FileFault) × (is_outside f ≡ true) × (result ≡ Err (stop.File f))
 
--- what is written of a capture, by how it begins and how the call ends
-abbrev pub TellsCapture : List Network → List ℕ → Result (Form × List ℕ) FileFault → List ℕ → List ℕ → Account → Result Unit TraceStop → Type 0
-TellsCapture inside ifname (Ok begun) trace answers account result =
-    TellsRun (capture_run inside ifname begun.0 begun.1) trace answers account result ⊎ (TellsNothing trace answers account × FailsToStart result)
-TellsCapture inside ifname (Err f) trace answers account result =
+-- What is written of a capture, by how it begins, what of it is unread afterwards, and how the call ends. Nothing is written of one
+-- that begins only where no byte behind its beginning was read.
+abbrev pub TellsCapture : Point → Result (Form × List ℕ) FileFault → Option (List ℕ) → List ℕ → List ℕ → Account → Result Unit TraceStop → Type 0
+TellsCapture point (Ok begun) left trace answers account result =
+    TellsRun (capture_run point begun.0 begun.1) trace answers account result
+    ⊎ (TellsNothing trace answers account × FailsToStart result × IsWithinStart (Ok begun) left)
+TellsCapture point (Err f) left trace answers account result =
     TellsNothing trace answers account × ((result ≡ Err (stop.File f)) ⊎ FailsToStart result)

@@ -1,19 +1,14 @@
 -- What the frame of one turn makes of a tally, and what a turn writes.
 use Rattle.std.specs.Prelude.{ℕ, ◌≡◌, ◌⊎◌, ◌+◌, List, [], take, Option, Some, None, Result, Ok, Err}
-use Rattle.pfs_addr_values.specs.Prefixes.{Network}
 use Rattle.pfs_capture_packets.specs.declared.packets.Reason.{Reason}
 use Rattle.pfs_capture.specs.Accounts.{frame_counted}
 use Rattle.pfs_capture.specs.Captures.{Seen}
+use Rattle.pfs_capture.specs.Points.{Point}
 use Rattle.pfs_capture.specs.Traces.{Judged, answer_text, frame_text, judged_at, second_after}
 use Rattle.pfs_capture.specs.declared.faults.TraceStop.{TraceStop}
 use Rattle.pfs_capture.specs.declared.faults.TraceStop.TheVariants as stop
 use Rattle.pfs_capture.specs.declared.sorting.Found.{Found}
 use Rattle.pfs_capture.specs.declared.traces.Tally.{Tally}
-
--- why a frame is no record, if it is none
-abbrev pub reason_of : Result Found Reason → Option Reason
-reason_of (Ok found) = None
-reason_of (Err r) = Some r
 
 -- a tally with its frame counted, the frame's row, and what pf answered
 pub record Taken : Type 0 where
@@ -24,7 +19,7 @@ pub record Taken : Type 0 where
 -- a frame in its second
 abbrev pub taken_at : Tally → Judged → Taken
 taken_at tally j = record {
-  tally = record { last = j.second; account = frame_counted tally.account j.is_late (reason_of j.outcome) };
+  tally = record { last = j.second; account = frame_counted tally.account j.is_late j.outcome };
   row = frame_text j.second j.outcome;
   answer = answer_text (tally.account.records + 1) j.outcome;
 }
@@ -35,8 +30,8 @@ at_told (Ok second) more = Ok (more second)
 at_told (Err f) more = Err f
 
 -- what a frame makes
-abbrev pub frame_taken : List Network → List ℕ → Tally → Seen → Result Taken TraceStop
-frame_taken inside ifname tally seen = at_told (second_after tally.last seen.moment) (λ second. taken_at tally (judged_at inside ifname seen second))
+abbrev pub frame_taken : Point → Tally → Seen → Result Taken TraceStop
+frame_taken point tally seen = at_told (second_after tally.last seen.moment) (λ second. taken_at tally (judged_at point seen second))
 
 -- a call returns and leaves what a frame makes, unless memory was refused
 abbrev pub TakesFrame : Result Taken TraceStop → Result Tally TraceStop → List ℕ → List ℕ → Type 0

@@ -3,11 +3,16 @@
 #![tactic(auto)]
 
 mod accounts;
+mod directions;
 mod faults;
+mod points;
 mod sorting;
 mod traces;
 
 pub use accounts::Account;
+pub use directions::Directions;
 pub use faults::{TraceStop, status};
+pub use pfs_capture_packets::{Mac, parse_mac};
 pub use pfs_cli_streams::{Feed, Sink};
+pub use points::{CapturePoint, Side};
 pub use traces::write_trace;

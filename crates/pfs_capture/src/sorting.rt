@@ -2,16 +2,64 @@
 
 ghost use Rattle.std.specs.Prelude.{◌≡◌, IfOk, IfSome, true};
 ghost use Rattle.pfs_addr_values.specs.Names.{is_name};
-ghost use Rattle.pfs_capture.specs.Sorting.{IsFound, is_inside, found_in_frame, way_between, way_of};
+ghost use Rattle.pfs_capture.specs.Sorting.{IsFound, by_link, by_mac, contradicts, found_in_frame, heading_from, logged_way, networks_dir, way_between, way_of};
 
-use pfs_addr_values::{Addr, Dir, IfName, Prefix};
-use pfs_capture_packets::{Answer, IpPacket, Logged, Reason, read_answer, read_log, read_packet};
+use crate::points::CapturePoint;
+use pfs_addr_values::{Dir, IfName};
+use pfs_capture_packets::{
+    Answer, IpPacket, Reason, read_answer, read_cooked_dir, read_ethernet_dir, read_log,
+    read_packet,
+};
+
+/// By what a packet's direction was found.
+#[derive(Clone, Copy)]
+pub enum Evidence {
+    /// The header of pflog(4).
+    Log,
+    /// The header of a Linux cooked capture.
+    Cooked,
+    /// The addresses of its Ethernet frame.
+    Mac,
+    /// The networks of its own addresses.
+    Networks,
+}
+
+/// A direction, by what it was found, and whether the networks of the packet's addresses say the other one.
+#[derive(Clone, Copy)]
+pub struct Heading {
+    /// Whether the packet comes in or goes out.
+    pub dir: Dir,
+    /// By what this was found.
+    pub by: Evidence,
+    /// Whether the networks say the other way.
+    pub is_contradicted: bool,
+}
+
+/// What the header of a link says of a direction.
+#[derive(Clone, Copy)]
+pub enum LinkWay {
+    /// This direction, in this header.
+    Says(Dir, Evidence),
+    /// That the frame is none of the interface's.
+    Neither,
+    /// Nothing.
+    Silent,
+}
+
+/// The way of a packet: its direction, and the name of its interface.
+#[derive(Clone, Copy)]
+pub struct Way {
+    /// Its direction.
+    pub heading: Heading,
+    /// The name of its interface.
+    pub ifname: IfName,
+}
 
 /// The packet of a frame, which way it goes, and on which interface.
 #[derive(Clone, Copy)]
 pub struct Found {
     /// Whether it comes in or goes out, and the name of its interface.
-    pub way: Logged,
+    pub way: Way,
     /// The packet.
     pub packet: IpPacket,
     /// What pf answered, where the frame is of a log.
@@ -19,19 +67,15 @@ pub struct Found {
 }
 
 /// The packet of a frame of this link type with its way, or the one reason for which it is no record. A log of packets has the
-/// way itself. Else what goes to an address inside comes in, and what goes away from one goes out, on the interface of this name.
-pub fn sort(
-    inside: &[Prefix],
-    ifname: IfName,
-    link_type: u16,
-    frame: &[u8],
-) -> Result<Found, Reason>
-    requires { is_name 15 ifname ≡ true }
-    ensures is { result ≡ found_in_frame inside.now ifname link_type frame.now }
+/// way itself, and a Linux cooked capture the direction. Of an Ethernet frame the interface's own addresses tell it, where
+/// they are given. Else what goes from the front of the interface to behind it comes in, and what goes the other way goes out.
+pub fn sort(point: &CapturePoint, link_type: u16, frame: &[u8]) -> Result<Found, Reason>
+    requires { is_name 15 point.now.ifname ≡ true }
+    ensures is { result ≡ found_in_frame point.now link_type frame.now }
     ensures row { IfOk result IsFound }
 {
     let packet = read_packet(link_type, frame)?;
-    let way = way_of(inside, ifname, link_type, frame, &packet).ok_or(Reason::NeitherWay)?;
+    let way = way_of(point, link_type, frame, &packet).ok_or(Reason::NeitherWay)?;
     Ok(Found {
         way,
         packet,
@@ -39,39 +83,112 @@ pub fn sort(
     })
 }
 
-fn way_of(
-    inside: &[Prefix],
-    ifname: IfName,
-    link_type: u16,
-    frame: &[u8],
-    packet: &IpPacket,
-) -> Option<Logged>
-    requires { is_name 15 ifname ≡ true }
-    ensures is { result ≡ way_of inside.now ifname link_type frame.now packet.now }
-    ensures name { IfSome result (λ l. is_name 15 l.ifname ≡ true) }
+fn way_of(point: &CapturePoint, link_type: u16, frame: &[u8], packet: &IpPacket) -> Option<Way>
+    requires { is_name 15 point.now.ifname ≡ true }
+    ensures is { result ≡ way_of point.now link_type frame.now packet.now }
+    ensures name { IfSome result (λ w. is_name 15 w.ifname ≡ true) }
 {
     if link_type == 117 {
-        return read_log(frame);
+        return logged_way(frame);
     }
-    let dir = way_between(
-        is_inside(inside, packet.source),
-        is_inside(inside, packet.destination),
+    let heading = heading_from(
+        by_link(point, link_type, frame),
+        networks_dir(point, packet),
     )?;
-    Some(Logged { dir, ifname })
+    Some(Way {
+        heading,
+        ifname: point.ifname(),
+    })
 }
 
-fn way_between(from_inside: bool, to_inside: bool) -> Option<Dir>
-    ensures { result ≡ way_between from_inside to_inside }
+/// The way that a log of packets has itself.
+fn logged_way(frame: &[u8]) -> Option<Way>
+    ensures is { result ≡ logged_way frame.now }
+    ensures name { IfSome result (λ w. is_name 15 w.ifname ≡ true) }
 {
-    match (from_inside, to_inside) {
+    let logged = read_log(frame)?;
+    Some(Way {
+        heading: Heading {
+            dir: logged.dir,
+            by: Evidence::Log,
+            is_contradicted: false,
+        },
+        ifname: logged.ifname,
+    })
+}
+
+/// What the header of a frame's link says.
+fn by_link(point: &CapturePoint, link_type: u16, frame: &[u8]) -> LinkWay
+    ensures { result ≡ by_link point.now link_type frame.now }
+{
+    match read_cooked_dir(link_type, frame) {
+        Some(dir) => LinkWay::Says(dir, Evidence::Cooked),
+        None => by_mac(point, link_type, frame),
+    }
+}
+
+/// What the addresses of an Ethernet frame say, where those of the interface are given.
+fn by_mac(point: &CapturePoint, link_type: u16, frame: &[u8]) -> LinkWay
+    ensures { result ≡ by_mac point.now link_type frame.now }
+{
+    let own = point.macs();
+    if link_type != 1 || own.is_empty() {
+        return LinkWay::Silent;
+    }
+    match read_ethernet_dir(own, frame) {
+        Some(dir) => LinkWay::Says(dir, Evidence::Mac),
+        None => LinkWay::Neither,
+    }
+}
+
+/// The direction by the networks of a packet's addresses.
+fn networks_dir(point: &CapturePoint, packet: &IpPacket) -> Option<Dir>
+    ensures { result ≡ networks_dir point.now packet.now }
+{
+    way_between(
+        point.is_behind(packet.source),
+        point.is_behind(packet.destination),
+    )
+}
+
+fn way_between(from_behind: bool, to_behind: bool) -> Option<Dir>
+    ensures { result ≡ way_between from_behind to_behind }
+{
+    match (from_behind, to_behind) {
         (false, true) => Some(Dir::In),
         (true, false) => Some(Dir::Out),
         _ => None,
     }
 }
 
-fn is_inside(inside: &[Prefix], addr: Addr) -> bool
-    ensures { result ≡ is_inside inside.now addr }
+/// The direction that a link's header says, or else that of the networks.
+fn heading_from(by_link: LinkWay, by_networks: Option<Dir>) -> Option<Heading>
+    ensures { result ≡ heading_from by_link by_networks }
 {
-    inside.iter().any(|prefix| prefix.contains(addr))
+    match by_link {
+        LinkWay::Says(dir, by) => Some(Heading {
+            dir,
+            by,
+            is_contradicted: contradicts(dir, by_networks),
+        }),
+        LinkWay::Neither => None,
+        LinkWay::Silent => {
+            let dir = by_networks?;
+            Some(Heading {
+                dir,
+                by: Evidence::Networks,
+                is_contradicted: false,
+            })
+        }
+    }
+}
+
+/// Whether the other direction is said.
+fn contradicts(dir: Dir, said: Option<Dir>) -> bool
+    ensures { result ≡ contradicts dir said }
+{
+    match (dir, said) {
+        (Dir::In, Some(Dir::Out)) | (Dir::Out, Some(Dir::In)) => true,
+        _ => false,
+    }
 }

@@ -6,18 +6,18 @@ ghost use Rattle.pfs_addr_values.specs.Names.{is_name};
 ghost use Rattle.pfs_capture_files.specs.Faults.{HasFailed};
 ghost use Rattle.pfs_capture_files.specs.Forms.{start_of};
 ghost use Rattle.pfs_capture_files.specs.declared.faults.FileFault.TheVariants as fault;
-ghost use Rattle.pfs_cli_streams.specs.Feeds.{unread};
+ghost use Rattle.pfs_cli_streams.specs.Feeds.{read_failures, unread};
 ghost use Rattle.pfs_cli_streams.specs.Sinks.{bytes_held, write_failures};
 ghost use Rattle.pfs_capture.specs.Accounts.{AddsUp, no_frames};
 ghost use Rattle.pfs_capture.specs.Captures.{frame_bytes, seen_of};
 ghost use Rattle.pfs_capture.specs.Sorting.{IsFound, found_in_frame};
 ghost use Rattle.pfs_capture.specs.Traces.{TellsCapture, answer_text, frame_text, is_before, second_after};
-ghost use Rattle.pfs_capture.specs.Turns.{Sends, TakesFrame, frame_taken, reason_of};
+ghost use Rattle.pfs_capture.specs.Turns.{Sends, TakesFrame, frame_taken};
 
 use crate::accounts::Account;
 use crate::faults::TraceStop;
+use crate::points::CapturePoint;
 use crate::sorting::{Found, sort};
-use pfs_addr_values::{IfName, Prefix};
 use pfs_capture_files::{Frame, Item, Moment, read_item, read_start};
 use pfs_capture_packets::Reason;
 use pfs_capture_rows::{ANSWER_HEADER, HEADER, Row, push_answer, push_row};
@@ -46,32 +46,36 @@ pub struct Lines {
 /// Each row is written before the next frame is read. `told` gets what pf answered: a header, and a row for each record
 /// that is of a log of pflog(4). `account` counts the frames from 0 on, also where the trace ends before the capture.
 ///
-/// A packet to an address of `inside` from elsewhere comes in, one from there to elsewhere goes out, on the interface
-/// of this name; a log of pflog(4) has its packets' ways itself. A frame that was seen before the one in front of it
+/// Which way a packet goes is told by the log or the Linux cooked capture itself, by the addresses that the interface has on
+/// its link, or by the networks on one side of it (`sort`). A frame that was seen before the one in front of it
 /// has that one's second, and is counted as late if it is a record. `TraceStop` says why the trace is not whole. Of a
 /// faulty capture all is written up to its fault; where a read or a write fails or memory is refused, only its first
 /// part is written. A failed read or write is reported only where the reader or that writer failed. It takes memory
 /// for one block of the capture, and for two rows.
 pub fn write_trace<R: Read, W: Write, T: Write>(
     alloc: Global,
-    inside: &[Prefix],
-    ifname: IfName,
+    point: &CapturePoint,
     reader: &mut Feed<R>,
     out: &mut Sink<W>,
     told: &mut Sink<T>,
     account: &mut Account,
 ) -> Result<(), TraceStop>
-    requires { is_name 15 ifname ≡ true }
+    requires { is_name 15 point.now.ifname ≡ true }
     ensures sum { AddsUp account.new }
     ensures tells { (xs : List ℕ) → unread R.remaining reader.old ≡ Some xs →
         ((t : List ℕ) × (u : List ℕ) × Appends (bytes_held W.contents out.old) (bytes_held W.contents out.new) t
         × Appends (bytes_held T.contents told.old) (bytes_held T.contents told.new) u
-        × TellsCapture inside.now ifname (start_of xs) t u account.new result) }
+        × TellsCapture point.now (start_of xs) (unread R.remaining reader.new) t u account.new result) }
 
     // No failure is reported of a reader or a writer that did not have it.
     ensures read { result ≡ Err (TraceStop.File fault.Read) → HasFailed reader.new }
     ensures write { result ≡ Err TraceStop.Write → 0 < write_failures out.new }
     ensures told { result ≡ Err TraceStop.Told → 0 < write_failures told.new }
+
+    // Whatever failed is named, so nothing failed before it.
+    ensures first_read { (result ≡ Err (TraceStop.File fault.Read)) ⊎ (read_failures reader.new ≡ read_failures reader.old) }
+    ensures first_write { (result ≡ Err TraceStop.Write) ⊎ (write_failures out.new ≡ write_failures out.old) }
+    ensures first_told { (result ≡ Err TraceStop.Told) ⊎ (write_failures told.new ≡ write_failures told.old) }
 {
     *account = Account::new();
     let mut held = Vec::new(alloc);
@@ -89,7 +93,7 @@ pub fn write_trace<R: Read, W: Write, T: Write>(
             Ok(Item::Frame(frame)) => frame,
             Err(fault) => return Err(TraceStop::File(fault)),
         };
-        tally = take_frame(inside, ifname, tally, frame, &held, &mut lines)?;
+        tally = take_frame(point, tally, frame, &held, &mut lines)?;
         *account = tally.account;
         send(out, told, &lines.row, &lines.answer)?;
     }
@@ -130,6 +134,8 @@ fn send<W: Write, T: Write>(
         × Sends row.now answer.now t u result }
     ensures write { result ≡ Err TraceStop.Write → 0 < write_failures out.new }
     ensures told { result ≡ Err TraceStop.Told → 0 < write_failures told.new }
+    ensures first_write { (result ≡ Err TraceStop.Write) ⊎ (write_failures out.new ≡ write_failures out.old) }
+    ensures first_told { (result ≡ Err TraceStop.Told) ⊎ (write_failures told.new ≡ write_failures told.old) }
 {
     match write_whole(out, row) {
         Ok(()) => {}
@@ -143,8 +149,7 @@ fn send<W: Write, T: Write>(
 
 /// The tally of one frame more, whose texts are in the lines.
 fn take_frame(
-    inside: &[Prefix],
-    ifname: IfName,
+    point: &CapturePoint,
     tally: Tally,
     frame: Frame,
     held: &[u8],
@@ -153,8 +158,8 @@ fn take_frame(
     requires few { tally.account.frames < 2 ^ 63 }
     requires sum { AddsUp tally.account }
     requires last { tally.last ≤ 4294967295 }
-    requires name { is_name 15 ifname ≡ true }
-    ensures takes { TakesFrame (frame_taken inside.now ifname tally (seen_of frame held.now)) result lines.new.row.items lines.new.answer.items }
+    requires name { is_name 15 point.now.ifname ≡ true }
+    ensures takes { TakesFrame (frame_taken point.now tally (seen_of frame held.now)) result lines.new.row.items lines.new.answer.items }
     ensures sum { IfOk result (λ t. AddsUp t.account) }
     ensures one { IfOk result (λ t. (t.account.frames ≡ tally.account.frames + 1) × (t.last ≤ 4294967295)) }
     ensures fails { IfErr result (λ f. (f ≡ TraceStop.Memory) ⊎ (f ≡ TraceStop.Moment)) }
@@ -162,13 +167,14 @@ fn take_frame(
     lines.row.clear();
     lines.answer.clear();
     let second = second_after(tally.last, frame.moment)?;
-    let outcome = outcome_of(inside, ifname, frame, held);
-    let reason = reason_of(&outcome);
+    let outcome = outcome_of(point, frame, held);
     write_row(&outcome, second, &mut lines.row)?;
     write_answer(&outcome, tally.account, &mut lines.answer)?;
     Ok(Tally {
         last: second,
-        account: tally.account.with(reason, is_before(frame.moment, second)),
+        account: tally
+            .account
+            .with(&outcome, is_before(frame.moment, second)),
     })
 }
 
@@ -188,7 +194,7 @@ fn write_row(
     };
     let row = Row {
         second,
-        dir: found.way.dir,
+        dir: found.way.heading.dir,
         ifname: found.way.ifname,
         packet: found.packet,
     };
@@ -221,16 +227,6 @@ fn write_answer(
     }
 }
 
-/// Why a frame is no record, if it is none.
-fn reason_of(outcome: &Result<Found, Reason>) -> Option<Reason>
-    ensures { result ≡ reason_of outcome.now }
-{
-    match outcome {
-        Ok(_) => None,
-        Err(reason) => Some(*reason),
-    }
-}
-
 /// The second of a frame, after one of this second.
 fn second_after(last: u64, moment: Moment) -> Result<u64, TraceStop>
     requires { last ≤ 4294967295 }
@@ -257,16 +253,11 @@ fn is_before(moment: Moment, second: u64) -> bool
 }
 
 /// The packet of a frame in what was read, with its way, or why it is no record.
-fn outcome_of(inside: &[Prefix], ifname: IfName, frame: Frame, held: &[u8]) -> Result<Found, Reason>
-    requires { is_name 15 ifname ≡ true }
-    ensures is { result ≡ found_in_frame inside.now ifname frame.link (frame_bytes frame held.now) }
+fn outcome_of(point: &CapturePoint, frame: Frame, held: &[u8]) -> Result<Found, Reason>
+    requires { is_name 15 point.now.ifname ≡ true }
+    ensures is { result ≡ found_in_frame point.now frame.link (frame_bytes frame held.now) }
     ensures row { IfOk result IsFound }
 {
     let rest = &held[frame.from.min(held.len())..];
-    sort(
-        inside,
-        ifname,
-        frame.link,
-        &rest[..frame.count.min(rest.len())],
-    )
+    sort(point, frame.link, &rest[..frame.count.min(rest.len())])
 }

@@ -1,4 +1,4 @@
--- The blocks of a pcapng file (pcapng, sections 3.1, 4.1 to 4.4).
+-- The blocks of a pcapng file (pcapng, sections 3.1, 4.1 to 4.4, and appendix A).
 use Rattle.std.specs.Prelude.{ℕ, ◌≡◌, ◌⊎◌, Bool, ◌-◌, ◌%◌, ◌==◌, ◌&&◌, ◌||◌, ◌++◌, not, List, [], ◌∷◌, length, take, nat_lt, Result, Ok, Err, if◌then◌else◌, ok_or, slice_get}
 use Rattle.pfs_capture_files.specs.declared.orders.Order.{Order}
 use Rattle.pfs_capture_files.specs.declared.orders.Order.TheVariants.{Big, Little}
@@ -61,14 +61,20 @@ described_at known number = ok_or (slice_get known.interfaces number) fault.Bloc
 abbrev pub body_of : List ℕ → List ℕ
 body_of rest = take (length rest - 4) rest
 
--- what a block holds that changes nothing of its section: a frame in a simple packet block (3) or an enhanced one (6)
+-- the frame of a packet block with its moment, on the interface of this number
+abbrev pub packet_on : Known → Order → ℕ → List ℕ → Result Item FileFault
+packet_on known order number body =
+    then_known (described_at known number) (λ i. then_known (enhanced_frame order i body) (λ f. Ok (item.Frame f)))
+
+-- what a block holds that changes nothing of its section: a frame in a simple packet block (3), in an enhanced one (6), or in an obsolete
+-- packet block (2), which has its interface's number in two bytes, then a count of drops, and goes on as an enhanced one (appendix A)
 abbrev pub held_in : Known → BlockHead → List ℕ → Result Item FileFault
 held_in known head rest =
     if head.kind == 3
     then then_known (described_at known 0) (λ i. then_known (simple_frame i head.third (body_of rest)) (λ f. Ok (item.Frame f)))
-    else (if head.kind == 6
-    then then_known (described_at known head.third) (λ i. then_known (enhanced_frame head.order i (body_of rest)) (λ f. Ok (item.Frame f)))
-    else Ok item.Other)
+    else (if head.kind == 6 then packet_on known head.order head.third (body_of rest)
+    else (if head.kind == 2 then packet_on known head.order head.half (body_of rest)
+    else Ok item.Other))
 
 -- what a block holds, and what is known after it: a section's block begins a section, without interfaces, and an interface's (1) adds
 -- one

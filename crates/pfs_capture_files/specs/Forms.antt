@@ -1,5 +1,5 @@
 -- The two forms of capture files, item by item (pcap, sections 4 and 5; pcapng, sections 3.1 and 4.1).
-use Rattle.std.specs.Prelude.{ℕ, ◌≡◌, ◌/◌, ◌%◌, ◌==◌, ◌||◌, false, List, [], length, take, drop, nat_lt, Option, Some, Result, Ok, Err, if◌then◌else◌}
+use Rattle.std.specs.Prelude.{ℕ, ⊤, ◌≡◌, ◌≤◌, ◌/◌, ◌%◌, ◌==◌, ◌||◌, false, List, [], length, take, drop, nat_lt, Option, Some, Result, Ok, Err, if◌then◌else◌}
 use Rattle.pfs_capture_files.specs.declared.orders.Order.{Order}
 use Rattle.pfs_capture_files.specs.declared.orders.Order.TheVariants.{Big, Little}
 use Rattle.pfs_capture_files.specs.declared.blocks.BlockHead.{BlockHead}
@@ -110,3 +110,8 @@ start_of xs = then_known (what_begins (take 12 xs)) (λ s. start_at s xs)
 abbrev pub Begins : Result (Form × List ℕ) FileFault → Result Form FileFault → Option (List ℕ) → Type 0
 Begins begin (Ok f) left = (ys : List ℕ) × (left ≡ Some ys) × (begin ≡ Ok (f, ys))
 Begins begin (Err f) left = is_outside f ≡ false → begin ≡ Err f
+
+-- where a call ends within how a capture begins, no byte behind that has been read
+abbrev pub IsWithinStart : Result (Form × List ℕ) FileFault → Option (List ℕ) → Type 0
+IsWithinStart (Ok begun) left = (ys : List ℕ) × (left ≡ Some ys) × (length begun.1 ≤ length ys)
+IsWithinStart (Err f) left = ⊤

@@ -1,7 +1,7 @@
 //! The blocks of a pcapng file.
 
 ghost use Rattle.std.specs.Prelude.{◌≡◌, ◌≢◌, ◌-◌, ◌≤◌, [], false, Err, IfErr, IfOk, length};
-ghost use Rattle.pfs_capture_files.specs.Blocks.{TakesItem, with_interface, block_head, body_item, held_in, described_at, is_version, order_of_block, order_of_magic, with_section};
+ghost use Rattle.pfs_capture_files.specs.Blocks.{TakesItem, with_interface, block_head, body_item, held_in, described_at, is_version, order_of_block, order_of_magic, packet_on, with_section};
 ghost use Rattle.pfs_capture_files.specs.Faults.{is_outside};
 
 use crate::faults::FileFault;
@@ -168,18 +168,25 @@ impl Section {
     {
         let body = &rest[..front(rest)];
         match head.kind {
+            2 => self.packet(head.order, usize::from(head.half), body),
             3 => {
                 let interface = self.interface(0)?;
                 let frame = simple_frame(&interface, head.third, body)?;
                 Ok(Item::Frame(frame))
             }
-            6 => {
-                let interface = self.interface(head.third as usize)?;
-                let frame = enhanced_frame(head.order, &interface, body)?;
-                Ok(Item::Frame(frame))
-            }
+            6 => self.packet(head.order, head.third as usize, body),
             _ => Ok(Item::Other),
         }
+    }
+
+    /// The frame of a packet block with its moment, on the interface of this number.
+    fn packet(&self, order: Order, number: usize, body: &[u8]) -> Result<Item, FileFault>
+        ensures is { result ≡ packet_on self.now order number body.now }
+        ensures of_file { IfErr result (λ f. is_outside f ≡ false) }
+    {
+        let interface = self.interface(number)?;
+        let frame = enhanced_frame(order, &interface, body)?;
+        Ok(Item::Frame(frame))
     }
 
     /// The interface of this number, from 0.

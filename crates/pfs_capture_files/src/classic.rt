@@ -70,11 +70,11 @@ fn kept_in(header: FileHeader, head: &[u8]) -> u32
     requires { 16 ≤ length head.now }
     ensures { result ≡ kept_in header head.now }
 {
-    let first = read_u32(header.order, head, 8);
-    let last = read_u32(header.order, head, 12);
     match header.lengths {
-        Lengths::KeptFirst => first,
-        Lengths::KeptLast => last,
-        Lengths::KeptLess => first.min(last),
+        Lengths::KeptFirst => read_u32(header.order, head, 8),
+        Lengths::KeptLast => read_u32(header.order, head, 12),
+        Lengths::KeptLess => {
+            read_u32(header.order, head, 8).min(read_u32(header.order, head, 12))
+        }
     }
 }

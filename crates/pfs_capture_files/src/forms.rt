@@ -1,10 +1,11 @@
 //! The two forms of capture files.
 
-ghost use Rattle.std.specs.Prelude.{◌≡◌, ◌≤◌, false, ℕ, List, Some, Err, IfErr, length};
-ghost use Rattle.pfs_cli_streams.specs.Feeds.{unread};
+ghost use Rattle.std.specs.Prelude.{◌≡◌, ◌⊎◌, ◌<◌, ◌≤◌, false, ℕ, List, Some, Err, IfErr, OnErr, drop, length};
+ghost use Rattle.std.specs.Vec.{vec_capacity};
+ghost use Rattle.pfs_cli_streams.specs.Feeds.{read_failures, unread};
 ghost use Rattle.pfs_capture_files.specs.declared.forms.Form.TheVariants as form;
 ghost use Rattle.pfs_capture_files.specs.Faults.{HasFailed, is_outside};
-ghost use Rattle.pfs_capture_files.specs.Forms.{Begins, ReadsItem, block_turn, blocks_start, classic_form, classic_start, frame_turn, record_turn, rest_turn, start_of, start_of_magic, start_of_version, turn_of, what_begins};
+ghost use Rattle.pfs_capture_files.specs.Forms.{Begins, IsWithinStart, ReadsItem, block_turn, blocks_start, classic_form, classic_start, frame_turn, record_turn, rest_turn, start_of, start_of_magic, start_of_version, turn_of, what_begins};
 
 use crate::blocks::{BlockHead, SECTION, Section, block_head};
 use crate::classic::{FileHeader, Lengths, lengths_of, record_frame};
@@ -44,7 +45,9 @@ pub fn read_start<R: Read>(
     buffer: &mut Vec<u8>,
 ) -> Result<Form, FileFault>
     ensures is { (xs : List ℕ) → unread R.remaining reader.old ≡ Some xs → Begins (start_of xs) result (unread R.remaining reader.new) }
+    ensures within { OnErr result ((xs : List ℕ) → unread R.remaining reader.old ≡ Some xs → IsWithinStart (start_of xs) (unread R.remaining reader.new)) }
     ensures read { result ≡ Err FileFault.Read → HasFailed reader.new }
+    ensures sound { (result ≡ Err FileFault.Read) ⊎ (read_failures reader.new ≡ read_failures reader.old) }
 {
     fill(reader, buffer, 12)?;
     match what_begins(buffer)? {
@@ -67,6 +70,7 @@ pub fn read_item<R: Read>(
 ) -> Result<Item, FileFault>
     ensures is { (xs : List ℕ) → unread R.remaining reader.old ≡ Some xs → ReadsItem (turn_of form.old xs) result form.new buffer.new.items (unread R.remaining reader.new) }
     ensures read { result ≡ Err FileFault.Read → HasFailed reader.new }
+    ensures sound { (result ≡ Err FileFault.Read) ⊎ (read_failures reader.new ≡ read_failures reader.old) }
 {
     match form {
         Form::Classic(header) => next_record(reader, buffer, *header),
@@ -120,7 +124,9 @@ fn start_classic<R: Read>(
     lengths: Lengths,
 ) -> Result<Form, FileFault>
     ensures is { (xs : List ℕ) → unread R.remaining reader.old ≡ Some xs → Begins (classic_start order lengths xs) result (unread R.remaining reader.new) }
+    ensures within { OnErr result ((xs : List ℕ) → unread R.remaining reader.old ≡ Some xs → IsWithinStart (classic_start order lengths xs) (unread R.remaining reader.new)) }
     ensures read { result ≡ Err FileFault.Read → HasFailed reader.new }
+    ensures sound { (result ≡ Err FileFault.Read) ⊎ (read_failures reader.new ≡ read_failures reader.old) }
 {
     fill(reader, buffer, 12)?;
     classic_form(order, lengths, buffer)
@@ -148,7 +154,9 @@ fn start_blocks<R: Read>(
     buffer: &mut Vec<u8>,
 ) -> Result<Form, FileFault>
     ensures is { (xs : List ℕ) → unread R.remaining reader.old ≡ Some xs → Begins (blocks_start buffer.old.items xs) result (unread R.remaining reader.new) }
+    ensures within { OnErr result ((xs : List ℕ) → unread R.remaining reader.old ≡ Some xs → IsWithinStart (blocks_start buffer.old.items xs) (unread R.remaining reader.new)) }
     ensures read { result ≡ Err FileFault.Read → HasFailed reader.new }
+    ensures sound { (result ≡ Err FileFault.Read) ⊎ (read_failures reader.new ≡ read_failures reader.old) }
 {
     let head = block_head(Order::Big, buffer)?;
     let mut section = Section::new(alloc, head.order);
@@ -164,6 +172,7 @@ fn next_record<R: Read>(
 ) -> Result<Item, FileFault>
     ensures is { (xs : List ℕ) → unread R.remaining reader.old ≡ Some xs → ReadsItem (record_turn header xs) result (form.Classic header) buffer.new.items (unread R.remaining reader.new) }
     ensures read { result ≡ Err FileFault.Read → HasFailed reader.new }
+    ensures sound { (result ≡ Err FileFault.Read) ⊎ (read_failures reader.new ≡ read_failures reader.old) }
 {
     fill(reader, buffer, 16)?;
     if buffer.is_empty() {
@@ -183,6 +192,7 @@ fn read_frame<R: Read>(
     requires { frame.count ≤ 524288 }
     ensures is { (xs : List ℕ) → unread R.remaining reader.old ≡ Some xs → ReadsItem (frame_turn header frame xs) result (form.Classic header) buffer.new.items (unread R.remaining reader.new) }
     ensures read { result ≡ Err FileFault.Read → HasFailed reader.new }
+    ensures sound { (result ≡ Err FileFault.Read) ⊎ (read_failures reader.new ≡ read_failures reader.old) }
 {
     fill(reader, buffer, frame.count)?;
     if buffer.len() < frame.count {
@@ -199,6 +209,7 @@ fn next_block<R: Read>(
 ) -> Result<Item, FileFault>
     ensures is { (xs : List ℕ) → unread R.remaining reader.old ≡ Some xs → ReadsItem (block_turn section.old xs) result (form.Blocks section.new) buffer.new.items (unread R.remaining reader.new) }
     ensures read { result ≡ Err FileFault.Read → HasFailed reader.new }
+    ensures sound { (result ≡ Err FileFault.Read) ⊎ (read_failures reader.new ≡ read_failures reader.old) }
 {
     fill(reader, buffer, 12)?;
     if buffer.is_empty() {
@@ -208,7 +219,7 @@ fn next_block<R: Read>(
     read_rest(reader, buffer, section, head)
 }
 
-/// Reads what follows the first twelve bytes of a block.
+/// Reads what follows the first twelve bytes of a block. It asks for memory for an interface, and where the buffer has no room.
 fn read_rest<R: Read>(
     reader: &mut Feed<R>,
     buffer: &mut Vec<u8>,
@@ -217,7 +228,10 @@ fn read_rest<R: Read>(
 ) -> Result<Item, FileFault>
     requires { head.count ≤ 524288 }
     ensures is { (xs : List ℕ) → unread R.remaining reader.old ≡ Some xs → ReadsItem (rest_turn section.old head xs) result (form.Blocks section.new) buffer.new.items (unread R.remaining reader.new) }
+    ensures few { (xs : List ℕ) → unread R.remaining reader.old ≡ Some xs → (k : ℕ) × (k ≤ head.count) × (unread R.remaining reader.new ≡ Some (drop k xs)) }
     ensures read { result ≡ Err FileFault.Read → HasFailed reader.new }
+    ensures sound { (result ≡ Err FileFault.Read) ⊎ (read_failures reader.new ≡ read_failures reader.old) }
+    ensures free { result ≡ Err FileFault.Memory → (head.kind ≡ 1) ⊎ (vec_capacity buffer.old < head.count) }
 {
     fill(reader, buffer, head.count)?;
     if buffer.len() < head.count {

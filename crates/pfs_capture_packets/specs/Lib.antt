@@ -5,3 +5,4 @@ pub mod Links
 pub mod Headers
 pub mod Packets
 pub mod Logs
+pub mod Ways

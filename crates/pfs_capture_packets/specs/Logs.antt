@@ -1,6 +1,6 @@
 -- What the header of pflog(4) says of its packet: `struct pfloghdr` of OpenBSD's net/if_pflog.h, which other systems have up to its
 -- direction.
-use Rattle.std.specs.Prelude.{ℕ, ◌+◌, ◌==◌, List, length, take, nat_le, Option, Some, None, if◌then◌else◌, slice_index, position, unwrap_or}
+use Rattle.std.specs.Prelude.{ℕ, ◌+◌, ◌==◌, ◌&&◌, not, Bool, List, length, take, nat_le, Option, Some, None, if◌then◌else◌, slice_index, position, unwrap_or}
 use Rattle.pfs_addr_values.specs.Names.{name_of}
 use Rattle.pfs_addr_values.specs.declared.packets.Dir.{Dir}
 use Rattle.pfs_addr_values.specs.declared.packets.Dir.TheVariants.{In, Out}
@@ -32,12 +32,24 @@ logged_of frame =
     then if_some (logged_dir_at (slice_index frame 60)) (λ dir. if_some (name_at (octets_at frame 4 16)) (λ ifname. Some (record { dir = dir; ifname = ifname })))
     else None
 
--- what pf did is the byte 2, the number of the rule the four bytes from 36 on, the name of its anchor the sixteen from 20 on, and the
--- number of the rule in that anchor the four from 40 on
+-- whether the packet was translated is the byte 61, of a header that by its first byte has it
+abbrev pub rewritten_in : List ℕ → Option Bool
+rewritten_in frame =
+    if nat_le (0 + 62) (length frame) && nat_le 62 (slice_index frame 0) then Some (not (slice_index frame 61 == 0)) else None
+
+-- what pf did is the byte 2, and why the byte 3; the number of the rule is the four bytes from 36 on, the name of its anchor the sixteen
+-- from 20 on, and the number of the rule in that anchor the four from 40 on
 abbrev pub logged_answer : List ℕ → Option Answer
 logged_answer frame =
     if nat_le (0 + 61) (length frame)
-    then Some (record { action = slice_index frame 2; rule = u32_at frame 36; anchor = octets_at frame 20 16; subrule = u32_at frame 40 })
+    then Some (record {
+      action = slice_index frame 2;
+      rule = u32_at frame 36;
+      anchor = octets_at frame 20 16;
+      subrule = u32_at frame 40;
+      reason = slice_index frame 3;
+      rewritten = rewritten_in frame;
+    })
     else None
 
 -- what pf answered for a frame of this link type: only LINKTYPE_PFLOG, 117, has it

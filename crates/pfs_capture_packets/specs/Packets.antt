@@ -1,5 +1,5 @@
 -- The outermost IP packet of a frame: RFC 791, RFC 8200, and of what it carries the ports and the flags (RFC 9293, RFC 3168, RFC 768).
-use Rattle.std.specs.Prelude.{ℕ, ◌≢◌, ◌<◌, ◌≤◌, ◌+◌, ◌*◌, ◌/◌, ◌%◌, ◌==◌, ◌||◌, not, List, length, take, drop, nat_le, nat_lt, min, Result, Ok, Err, if◌then◌else◌, slice_index}
+use Rattle.std.specs.Prelude.{ℕ, ◌≢◌, ◌<◌, ◌≤◌, ◌+◌, ◌*◌, ◌/◌, ◌%◌, ◌==◌, ◌||◌, not, List, length, take, drop, nat_le, nat_lt, min, Option, Some, None, Bool, false, Result, Ok, Err, if◌then◌else◌, slice_index}
 use Rattle.std.specs.Option.{option_map_or}
 use Rattle.pfs_addr_values.specs.Protocols.{proto_of}
 use Rattle.pfs_addr_values.specs.declared.protocols.Proto.{Proto}
@@ -46,13 +46,42 @@ flags_in byte = record {
   cwr = byte / 128 == 1;
 }
 
--- What is carried by a protocol from a place on. The ports are the first two numbers of TCP (RFC 9293, section 3.1) and of UDP
--- (RFC 768); TCP's flags are in its fourteenth byte.
-abbrev pub carried_by : Proto → List ℕ → ℕ → Result Carried Reason
-carried_by proto.Tcp packet at =
-    if nat_le (at + 14) (length packet) then Ok (Tcp (u16_at packet at) (u16_at packet (at + 2)) (flags_in (slice_index packet (at + 13)))) else Err reason.Cut
-carried_by proto.Udp packet at = if nat_le (at + 4) (length packet) then Ok (Udp (u16_at packet at) (u16_at packet (at + 2))) else Err reason.Cut
-carried_by (proto.Other n) packet at = if nat_le (at + 0) (length packet) then Ok (Other n) else Err reason.Cut
+-- where a packet ends that says that it has so many bytes after its first ones. With 0 it says no length, as where a network card
+-- cuts it, or where it is a jumbogram (RFC 2675, section 3).
+abbrev pub own_end : ℕ → ℕ → Option ℕ
+own_end before told = if told == 0 then None else Some (before + told)
+
+-- whether a header that ends here ends past its packet's own end
+abbrev pub ends_past : Option ℕ → ℕ → Bool
+ends_past None here = false
+ends_past (Some end) here = nat_lt end here
+
+-- how many bytes of a packet were captured, of those up to its own end: what a link fills up is none of it
+abbrev pub kept_length : ℕ → Option ℕ → ℕ
+kept_length captured None = captured
+kept_length captured (Some end) = min captured end
+
+-- A TCP header has its ports first, and its flags in the fourteenth byte. By its own packet it has 20 bytes at least, and it says so in
+-- words of four bytes in the upper half of its thirteenth byte; pf drops a shorter one. (RFC 9293, section 3.1)
+abbrev pub tcp_at : List ℕ → Option ℕ → ℕ → Result Carried Reason
+tcp_at packet own at =
+    if ends_past own (at + 20) then Err reason.TooShort
+    else (if nat_le (at + 14) (length packet)
+    then (if nat_lt (slice_index packet (at + 12) / 16) 5 then Err reason.TooShort
+    else Ok (Tcp (u16_at packet at) (u16_at packet (at + 2)) (flags_in (slice_index packet (at + 13)))))
+    else Err reason.Cut)
+
+-- a UDP header has its ports first, and 8 bytes by its own packet; pf drops a shorter one (RFC 768)
+abbrev pub udp_at : List ℕ → Option ℕ → ℕ → Result Carried Reason
+udp_at packet own at =
+    if ends_past own (at + 8) then Err reason.TooShort
+    else (if nat_le (at + 4) (length packet) then Ok (Udp (u16_at packet at) (u16_at packet (at + 2))) else Err reason.Cut)
+
+-- what is carried by a protocol from a place on, in a packet with this end
+abbrev pub carried_by : Proto → List ℕ → Option ℕ → ℕ → Result Carried Reason
+carried_by proto.Tcp packet own at = tcp_at packet own at
+carried_by proto.Udp packet own at = udp_at packet own at
+carried_by (proto.Other n) packet own at = if nat_le (at + 0) (length packet) then Ok (Other n) else Err reason.Cut
 
 -- the numbers of what is carried are those of their fields, and another protocol is neither TCP nor UDP
 abbrev pub IsCarried : Carried → Type 0
@@ -61,35 +90,32 @@ IsCarried (Udp from to) = (from ≤ 65535) × (to ≤ 65535)
 IsCarried (Other n) = (n < 256) × (n ≢ 6) × (n ≢ 17)
 
 -- what is carried by the protocol of a place from there on
-abbrev pub carried_at : List ℕ → Place → Result Carried Reason
-carried_at packet place = carried_by (proto_of (place.kind % 256)) packet place.at
+abbrev pub carried_at : List ℕ → Option ℕ → Place → Result Carried Reason
+carried_at packet own place = carried_by (proto_of (place.kind % 256)) packet own place.at
 
--- what is carried after the headers that follow a packet's own
-abbrev pub found_at : Layer → List ℕ → Place → Result Carried Reason
-found_at which packet first = then_read (walk_from (length packet) which packet first) (λ place. carried_at packet place)
+-- what is carried after the headers that follow a packet's own, of a packet with this end, of which so much was captured
+abbrev pub found_at : Layer → List ℕ → Option ℕ → Place → Result Carried Reason
+found_at which packet own first = then_read (walk_from (length packet) which packet first) (λ place. carried_at packet own place)
 
--- where a packet ends that says that it has so many bytes after its first ones, of those that were captured: what a link fills
--- up is none of it. With 0 it says no length, as where a network card cuts it, or where it is a jumbogram (RFC 2675, section 3).
-abbrev pub own_length : ℕ → ℕ → ℕ → ℕ
-own_length captured before told = if told == 0 then captured else min captured (before + told)
-
--- The packet after an IPv4 header. Its length in words of four bytes is in the lower half of the first byte, at least
--- 5; the offset of a fragment is in the lower 13 bits of the seventh and eighth. (RFC 791, section 3.1)
+-- The packet after an IPv4 header. Its length in words of four bytes is in the lower half of the first byte, at least 5, and no more
+-- than the whole packet's in the third and fourth; the offset of a fragment is in the lower 13 bits of the seventh and eighth.
+-- (RFC 791, section 3.1)
 abbrev pub ipv4_in : List ℕ → Result IpPacket Reason
 ipv4_in packet =
     if nat_lt (length packet) 20 then Err reason.Cut
     else (if not (slice_index packet 0 / 16 == 4) || nat_lt (slice_index packet 0 % 16 * 4) 20 then Err reason.NotIp
+    else (if ends_past (own_end 0 (u16_at packet 2)) (0 + slice_index packet 0 % 16 * 4) then Err reason.TooShort
     else (if u16_at packet 6 % 8192 == 0
-    then then_read (found_at layer.Ip4 (take (own_length (length packet) 0 (u16_at packet 2)) packet) (record { kind = slice_index packet 9; at = slice_index packet 0 % 16 * 4 }))
+    then then_read (found_at layer.Ip4 (take (kept_length (length packet) (own_end 0 (u16_at packet 2))) packet) (own_end 0 (u16_at packet 2)) (record { kind = slice_index packet 9; at = slice_index packet 0 % 16 * 4 }))
     (λ carried. Ok (record { source = v4_at packet 12; destination = v4_at packet 16; carried = carried }))
-    else Err reason.LaterFragment))
+    else Err reason.LaterFragment)))
 
 -- the packet after an IPv6 header, of 40 bytes (RFC 8200, section 3)
 abbrev pub ipv6_in : List ℕ → Result IpPacket Reason
 ipv6_in packet =
     if nat_lt (length packet) 40 then Err reason.Cut
     else (if slice_index packet 0 / 16 == 6
-    then then_read (found_at layer.Ip6 (take (own_length (length packet) 40 (u16_at packet 4)) packet) (record { kind = slice_index packet 6; at = 40 }))
+    then then_read (found_at layer.Ip6 (take (kept_length (length packet) (own_end 40 (u16_at packet 4))) packet) (own_end 40 (u16_at packet 4)) (record { kind = slice_index packet 6; at = 40 }))
     (λ carried. Ok (record { source = v6_at packet 8; destination = v6_at packet 24; carried = carried }))
     else Err reason.NotIp)
 

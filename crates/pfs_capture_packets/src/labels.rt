@@ -64,7 +64,7 @@ fn behind_switched(frame: &[u8], place: Place) -> Next
 }
 
 /// The EtherType of what PPP carries, 0 where that can be no packet.
-fn kind_of_ppp(protocol: u16) -> u16
+pub fn kind_of_ppp(protocol: u16) -> u16
     ensures { result ≡ kind_of_ppp protocol }
 {
     match protocol {

@@ -1,10 +1,10 @@
 //! The headers of links.
 
-ghost use Rattle.std.specs.Prelude.{◌≡◌, ◌+◌, ◌≤◌};
-ghost use Rattle.pfs_capture_packets.specs.Links.{first_place, place_behind_header, kind_of_family, link_of, loopback_place, log_place, raw_place};
+ghost use Rattle.std.specs.Prelude.{◌≡◌, ◌+◌, ◌≤◌, length};
+ghost use Rattle.pfs_capture_packets.specs.Links.{either_order, encapsulated_place, first_place, place_behind_header, kind_of_family, link_of, loopback_place, log_place, ppp_behind, ppp_place, raw_or_loopback_place, raw_place};
 
 use crate::bytes::{holds, read_u16};
-use crate::labels::kind_of_version;
+use crate::labels::{kind_of_ppp, kind_of_version};
 use crate::packets::Reason;
 use crate::walks::Place;
 
@@ -17,6 +17,14 @@ pub enum Link {
     Loopback,
     /// Nothing: the packet is the frame.
     Raw,
+    /// Nothing, or as OpenBSD writes it an address family as BSD's loopback has it.
+    RawOrLoopback,
+    /// The header of enc(4), which begins with an address family.
+    Encapsulated,
+    /// The header of PPP, with or without the two bytes of HDLC.
+    Ppp,
+    /// The header of a session of PPP over Ethernet.
+    PppOverEthernet,
     /// The header of a Linux cooked capture.
     Cooked,
     /// The header of a Linux cooked capture, version 2.
@@ -33,7 +41,11 @@ impl Link {
         match number {
             1 => Some(Link::Ethernet),
             0 | 108 => Some(Link::Loopback),
-            12 | 14 | 101 | 228 | 229 => Some(Link::Raw),
+            14 | 101 | 228 | 229 => Some(Link::Raw),
+            12 => Some(Link::RawOrLoopback),
+            13 | 109 => Some(Link::Encapsulated),
+            9 | 50 => Some(Link::Ppp),
+            51 => Some(Link::PppOverEthernet),
             113 => Some(Link::Cooked),
             276 => Some(Link::CookedAgain),
             117 => Some(Link::Log),
@@ -52,6 +64,13 @@ pub fn first_place(link: Link, frame: &[u8]) -> Result<Place, Reason>
         Link::CookedAgain => framed(frame, 20, 0),
         Link::Loopback => loopback_place(frame),
         Link::Raw => raw_place(frame),
+        Link::RawOrLoopback => raw_or_loopback_place(frame),
+        Link::Encapsulated => encapsulated_place(frame),
+        Link::Ppp => ppp_place(frame),
+        Link::PppOverEthernet => Ok(Place {
+            kind: 0x8864,
+            at: 0,
+        }),
         Link::Log => log_place(frame),
     }
 }
@@ -76,16 +95,75 @@ fn loopback_place(frame: &[u8]) -> Result<Place, Reason>
     if !holds(frame, 0, 4) {
         return Err(Reason::Cut);
     }
-    let family = if frame[0] == 0 && frame[1] == 0 && frame[2] == 0 {
+    Ok(Place {
+        kind: kind_of_family(either_order(frame)),
+        at: 4,
+    })
+}
+
+/// The address family in the first four bytes, in either byte order; 0 where it is past 255.
+fn either_order(frame: &[u8]) -> u8
+    requires { 4 ≤ length frame.now }
+    ensures { result ≡ either_order frame.now }
+{
+    if frame[0] == 0 && frame[1] == 0 && frame[2] == 0 {
         frame[3]
     } else if frame[1] == 0 && frame[2] == 0 && frame[3] == 0 {
         frame[0]
     } else {
         0
-    };
+    }
+}
+
+/// A packet begins with its version; an address family of OpenBSD's loopback with a zero.
+fn raw_or_loopback_place(frame: &[u8]) -> Result<Place, Reason>
+    ensures { result ≡ raw_or_loopback_place frame.now }
+{
+    let raw = raw_place(frame)?;
+    if raw.kind != 0 {
+        return Ok(raw);
+    }
+    loopback_place(frame)
+}
+
+fn encapsulated_place(frame: &[u8]) -> Result<Place, Reason>
+    ensures { result ≡ encapsulated_place frame.now }
+{
+    if !holds(frame, 0, 12) {
+        return Err(Reason::Cut);
+    }
     Ok(Place {
-        kind: kind_of_family(family),
-        at: 4,
+        kind: kind_of_family(either_order(frame)),
+        at: 12,
+    })
+}
+
+fn ppp_place(frame: &[u8]) -> Result<Place, Reason>
+    ensures { result ≡ ppp_place frame.now }
+{
+    if holds(frame, 0, 2) && frame[0] == 0xff && frame[1] == 0x03 {
+        return ppp_behind(frame, 2);
+    }
+    ppp_behind(frame, 0)
+}
+
+/// After the protocol of PPP at this place: two bytes, or one that is odd.
+fn ppp_behind(frame: &[u8], at: usize) -> Result<Place, Reason>
+    requires { at ≤ 2 }
+    ensures { result ≡ ppp_behind frame.now at }
+{
+    if !holds(frame, at, 2) {
+        return Err(Reason::Cut);
+    }
+    if frame[at] % 2 == 1 {
+        return Ok(Place {
+            kind: kind_of_ppp(u16::from(frame[at])),
+            at: at + 1,
+        });
+    }
+    Ok(Place {
+        kind: kind_of_ppp(read_u16(frame, at)),
+        at: at + 2,
     })
 }
 

@@ -2,7 +2,7 @@
 
 ghost use Rattle.std.specs.Prelude.{◌≡◌, ◌==◌, ◌<◌, ◌≤◌, IfSome, length, position, true};
 ghost use Rattle.pfs_addr_values.specs.Names.{is_name};
-ghost use Rattle.pfs_capture_packets.specs.Logs.{anchor_name, answer_in, logged_answer, logged_dir_at, logged_of, name_at, text_length};
+ghost use Rattle.pfs_capture_packets.specs.Logs.{anchor_name, answer_in, logged_answer, logged_dir_at, logged_of, name_at, rewritten_in, text_length};
 
 use crate::bytes::{holds, read_u32};
 use pfs_addr_values::{Dir, IfName, parse_ifname};
@@ -27,6 +27,10 @@ pub struct Answer {
     pub anchor: [u8; 16],
     /// The number of the rule in its anchor, from 0; 4294967295 for a rule of the main ruleset.
     pub subrule: u32,
+    /// The number of the reason: 0 a rule that matches, 12 the state limit, and so on.
+    pub reason: u8,
+    /// Whether the packet was translated; `None` where the header does not say.
+    pub rewritten: Option<bool>,
 }
 
 impl Answer {
@@ -76,7 +80,19 @@ fn logged_answer(frame: &[u8]) -> Option<Answer>
         rule: read_u32(frame, 36),
         anchor,
         subrule: read_u32(frame, 40),
+        reason: frame[3],
+        rewritten: rewritten_in(frame),
     })
+}
+
+/// Whether the packet was translated, in a header that is long enough to say it.
+fn rewritten_in(frame: &[u8]) -> Option<bool>
+    ensures { result ≡ rewritten_in frame.now }
+{
+    if !holds(frame, 0, 62) || frame[0] < 62 {
+        return None;
+    }
+    Some(frame[61] != 0)
 }
 
 fn dir_at(byte: u8) -> Option<Dir>

@@ -2,7 +2,7 @@
 
 ghost use Rattle.std.specs.Prelude.{◌≡◌, ◌+◌, ◌≤◌, IfOk, length, true};
 ghost use Rattle.pfs_addr_values.specs.Addresses.{same_family};
-ghost use Rattle.pfs_capture_packets.specs.Packets.{IsCarried, carried_at, flags_in, found_at, ipv4_in, ipv6_in, own_length, packet_in, packet_of, v4_at, v6_at};
+ghost use Rattle.pfs_capture_packets.specs.Packets.{IsCarried, carried_at, ends_past, flags_in, found_at, ipv4_in, ipv6_in, kept_length, own_end, packet_in, packet_of, tcp_at, udp_at, v4_at, v6_at};
 
 use crate::bytes::{holds, read_u16};
 use crate::links::{Link, first_place};
@@ -20,6 +20,8 @@ pub enum Reason {
     LaterFragment,
     /// It ends before the ports of its packet, or before its headers do.
     Cut,
+    /// Its packet is too short for its own headers, so that pf drops it.
+    TooShort,
     /// Its packet neither comes in nor goes out.
     NeitherWay,
 }
@@ -49,7 +51,7 @@ pub struct IpPacket {
 /// The outermost IP packet of a frame of this link type, or the reason for which the frame is no record.
 ///
 /// Nothing in a payload, a tunnel or an error of ICMP is looked at. It returns each reason but `Reason::NeitherWay`
-/// where the definition gives it; a header whose length is too small to be one is `Reason::NotIp`. (RFC 791, section
+/// where the definition gives it; an IP header whose length is too small to be one is `Reason::NotIp`. (RFC 791, section
 /// 3.1; RFC 8200, sections 3 and 4; RFC 9293, section 3.1; RFC 768)
 pub fn read_packet(link_type: u16, frame: &[u8]) -> Result<IpPacket, Reason>
     ensures is { result ≡ packet_of link_type frame.now }
@@ -92,6 +94,10 @@ fn ipv4_in(packet: &[u8]) -> Result<IpPacket, Reason>
     if packet[0] / 16 != 4 || header < 20 {
         return Err(Reason::NotIp);
     }
+    let own = own_end(0, read_u16(packet, 2));
+    if is_past(own, 0, header) {
+        return Err(Reason::TooShort);
+    }
     if read_u16(packet, 6) % 8192 != 0 {
         return Err(Reason::LaterFragment);
     }
@@ -99,8 +105,7 @@ fn ipv4_in(packet: &[u8]) -> Result<IpPacket, Reason>
         kind: u16::from(packet[9]),
         at: header,
     };
-    let end = own_length(packet, 0, read_u16(packet, 2));
-    let carried = found_at(Layer::Ip4, &packet[..end], first)?;
+    let carried = found_at(Layer::Ip4, &packet[..kept_length(packet, own)], own, first)?;
     Ok(IpPacket {
         source: v4_at(packet, 12),
         destination: v4_at(packet, 16),
@@ -124,8 +129,8 @@ fn ipv6_in(packet: &[u8]) -> Result<IpPacket, Reason>
         kind: u16::from(packet[6]),
         at: 40,
     };
-    let end = own_length(packet, 40, read_u16(packet, 4));
-    let carried = found_at(Layer::Ip6, &packet[..end], first)?;
+    let own = own_end(40, read_u16(packet, 4));
+    let carried = found_at(Layer::Ip6, &packet[..kept_length(packet, own)], own, first)?;
     Ok(IpPacket {
         source: v6_at(packet, 8),
         destination: v6_at(packet, 24),
@@ -133,45 +138,98 @@ fn ipv6_in(packet: &[u8]) -> Result<IpPacket, Reason>
     })
 }
 
-/// Where a packet ends that has so many bytes after its first ones, within what was captured of it.
-fn own_length(packet: &[u8], before: usize, told: u16) -> usize
+/// Where a packet ends that says that it has so many bytes after its first ones; `None` where it says no length.
+fn own_end(before: usize, told: u16) -> Option<usize>
     requires { before ≤ 40 }
-    ensures is { result ≡ own_length (length packet.now) before told }
-    ensures within { result ≤ length packet.now }
+    ensures { result ≡ own_end before told }
 {
     if told == 0 {
-        return packet.len();
+        return None;
     }
-    packet.len().min(before + usize::from(told))
+    Some(before + usize::from(told))
+}
+
+/// Whether a header of so many bytes from a place on ends past its packet's own end.
+fn is_past(own: Option<usize>, at: usize, size: usize) -> bool
+    ensures { result ≡ ends_past own (at + size) }
+{
+    match own {
+        Some(end) => end < size || end - size < at,
+        None => false,
+    }
+}
+
+/// How many bytes of a packet were captured, of those up to its own end.
+fn kept_length(packet: &[u8], own: Option<usize>) -> usize
+    ensures is { result ≡ kept_length (length packet.now) own }
+    ensures within { result ≤ length packet.now }
+{
+    match own {
+        Some(end) => packet.len().min(end),
+        None => packet.len(),
+    }
 }
 
 /// What is carried after the headers that follow the packet's own.
-fn found_at(layer: Layer, packet: &[u8], first: Place) -> Result<Carried, Reason>
-    ensures is { result ≡ found_at layer packet.now first }
+fn found_at(
+    layer: Layer,
+    packet: &[u8],
+    own: Option<usize>,
+    first: Place,
+) -> Result<Carried, Reason>
+    ensures is { result ≡ found_at layer packet.now own first }
     ensures carried { IfOk result IsCarried }
 {
     let place = walk(layer, packet, first)?;
-    carried_at(packet, place)
+    carried_at(packet, own, place)
 }
 
 /// What is carried by the protocol of this place from there on.
-fn carried_at(packet: &[u8], place: Place) -> Result<Carried, Reason>
-    ensures is { result ≡ carried_at packet.now place }
+fn carried_at(packet: &[u8], own: Option<usize>, place: Place) -> Result<Carried, Reason>
+    ensures is { result ≡ carried_at packet.now own place }
     ensures carried { IfOk result IsCarried }
 {
-    let at = place.at;
     match Proto::from_number((place.kind % 256) as u8) {
-        Proto::Tcp if holds(packet, at, 14) => Ok(Carried::Tcp(
-            read_u16(packet, at),
-            read_u16(packet, at + 2),
-            flags_in(packet[at + 13]),
-        )),
-        Proto::Udp if holds(packet, at, 4) => {
-            Ok(Carried::Udp(read_u16(packet, at), read_u16(packet, at + 2)))
-        }
-        Proto::Other(other) if holds(packet, at, 0) => Ok(Carried::Other(other)),
-        _ => Err(Reason::Cut),
+        Proto::Tcp => tcp_at(packet, own, place.at),
+        Proto::Udp => udp_at(packet, own, place.at),
+        Proto::Other(other) if holds(packet, place.at, 0) => Ok(Carried::Other(other)),
+        Proto::Other(_) => Err(Reason::Cut),
     }
+}
+
+/// The TCP header at this place.
+fn tcp_at(packet: &[u8], own: Option<usize>, at: usize) -> Result<Carried, Reason>
+    ensures is { result ≡ tcp_at packet.now own at }
+    ensures carried { IfOk result IsCarried }
+{
+    if is_past(own, at, 20) {
+        return Err(Reason::TooShort);
+    }
+    if !holds(packet, at, 14) {
+        return Err(Reason::Cut);
+    }
+    if packet[at + 12] / 16 < 5 {
+        return Err(Reason::TooShort);
+    }
+    Ok(Carried::Tcp(
+        read_u16(packet, at),
+        read_u16(packet, at + 2),
+        flags_in(packet[at + 13]),
+    ))
+}
+
+/// The UDP header at this place.
+fn udp_at(packet: &[u8], own: Option<usize>, at: usize) -> Result<Carried, Reason>
+    ensures is { result ≡ udp_at packet.now own at }
+    ensures carried { IfOk result IsCarried }
+{
+    if is_past(own, at, 8) {
+        return Err(Reason::TooShort);
+    }
+    if !holds(packet, at, 4) {
+        return Err(Reason::Cut);
+    }
+    Ok(Carried::Udp(read_u16(packet, at), read_u16(packet, at + 2)))
 }
 
 /// The flags of a TCP header, from the byte that holds them.

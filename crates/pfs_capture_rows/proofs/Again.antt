@@ -1,7 +1,6 @@
 -- The columns of a row are read as the packet of the row.
 use Rattle.std.proofs.Common.{◌≡◌, ◌≤◌, ◌<◌, ◌^◌, ℕ, true, false, Option, Some, None, Ok, refl, ap, ◌∙◌, arith}
-use Rattle.std.specs.Prelude.{codes, decimal, nat_le, unwrap_or}
-use Rattle.std.specs.Str.{bytes_eq}
+use Rattle.std.specs.Prelude.{decimal, nat_le, unwrap_or}
 use Rattle.std.proofs.lemmas.Bool.{cond-true, le-leb}
 use Rattle.std.proofs.lemmas.Map.Entries.{option_filter}
 use Rattle.pfs_addr_values.specs.Addresses.{addr_text, same_family}
@@ -14,7 +13,7 @@ use Rattle.pfs_addr.specs.Texts.{addr_of}
 use Rattle.pfs_addr.proofs.LetterTexts.{flags_again}
 use Rattle.pfs_addr.proofs.NumberLaws.{number_of-decimal}
 use Rattle.pfs_conf_values.specs.Configs.{Conf}
-use Rattle.pfs_cli_formats.specs.Events.{dir_of, event_at, falls, flags_for, number_to, port_for}
+use Rattle.pfs_cli_formats.specs.Events.{dir_of, event_at, falls, flags_for, number_to, port_for, verb_of}
 use Rattle.csv.specs.Records.{field_at}
 use Rattle.pfs_capture_packets.specs.Packets.{IsCarried}
 use Rattle.pfs_capture_packets.specs.declared.packets.Carried.{Carried}
@@ -31,9 +30,9 @@ dir_again : (d : Dir) → dir_of (dir_name d) ≡ Some d
 dir_again In = refl
 dir_again Out = refl
 
-no_expiry : (d : Dir) → bytes_eq (dir_name d) (codes "expire") ≡ false
-no_expiry In = refl
-no_expiry Out = refl
+no_verb : (d : Dir) → verb_of (dir_name d) ≡ None
+no_verb In = refl
+no_verb Out = refl
 
 protocol_again : (c : Carried) → IsCarried c → proto_in (proto_name c) ≡ Some (proto_carried c)
 protocol_again (Tcp from to flags) h = proto_known.0
@@ -62,4 +61,4 @@ pub row_again : (row : Row) → same_family row.packet.source row.packet.destina
 unfolding field_at
 row_again row same late name numbers from to conf number last later =
     let c = row.packet.carried in
-    rw (number_again 4294967295 row.second late (omega arith), no_expiry row.dir, dir_again row.dir, name, protocol_again c numbers, from, from_again c numbers, to, same, to_again c numbers, letters_again c, later) refl
+    rw (number_again 4294967295 row.second late (omega arith), no_verb row.dir, dir_again row.dir, name, protocol_again c numbers, from, from_again c numbers, to, same, to_again c numbers, letters_again c, later) refl

@@ -1,6 +1,6 @@
 -- The text of a row is read as its nine columns: no column holds a byte that means something to a reader of rows.
 use Rattle.std.proofs.Common.{◌≡◌, ◌≤◌, ◌<◌, ◌+◌, ◌*◌, ◌^◌, ℕ, zero, suc, Bool, true, false, All, List, [], ◌∷◌, ◌++◌, get_or, Some, inl, inr, refl, sym, ap, ◌∙◌, arith, append-nil, append_assoc}
-use Rattle.std.specs.Prelude.{decimal, not, ◌==◌, ◌||◌}
+use Rattle.std.specs.Prelude.{codes, decimal, not, ◌==◌, ◌||◌}
 use Rattle.std.specs.List.{list_all, list_any}
 use Rattle.std.specs.Net.Addr.{segments_of}
 use Rattle.std.proofs.NetLemmas.Alphabet.{IsHexOrColon, All-hex_groups_text}
@@ -144,6 +144,13 @@ read_again : (x y : List ℕ) (ys : List (List ℕ)) (rest : List ℕ) → ArePl
     → next_record default_config st.StartRecord [] [] (joined x (y ∷ ys) ++ rest) ≡ Some (x ∷ y ∷ ys, st.StartRecord, rest)
 read_again x y ys rest plain =
     ap (λ (t : List ℕ). next_record default_config st.StartRecord [] [] (t ++ rest)) (sym (written x (y ∷ ys) plain.0 plain.1) ∙ ended x y ys) ∙ read-write-many x y ys rest
+
+-- ---- the header
+
+pub header_read : (rest : List ℕ) → next_record default_config st.StartRecord [] [] (codes "time,dir,if,proto,src,sport,dst,dport,flags\n" ++ rest)
+    ≡ Some (codes "time" ∷ codes "dir" ∷ codes "if" ∷ codes "proto" ∷ codes "src" ∷ codes "sport" ∷ codes "dst" ∷ codes "dport" ∷ codes "flags" ∷ [], st.StartRecord, rest)
+header_read rest = read_again (codes "time") (codes "dir") (codes "if" ∷ codes "proto" ∷ codes "src" ∷ codes "sport" ∷ codes "dst" ∷ codes "dport" ∷ codes "flags" ∷ []) rest
+    (refl, (refl, (refl, (refl, (refl, (refl, (refl, (refl, (refl, tt)))))))))
 
 -- ---- the row
 

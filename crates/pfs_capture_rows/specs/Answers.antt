@@ -1,5 +1,5 @@
 -- The row of what pf answered for a packet, beside the row of the packet in a trace. (own)
-use Rattle.std.specs.Prelude.{ℕ, ◌+◌, ◌/◌, ◌%◌, ◌==◌, ◌||◌, ◌++◌, List, [], ◌∷◌, codes, flat_map, nat_lt, if◌then◌else◌}
+use Rattle.std.specs.Prelude.{ℕ, ◌+◌, ◌/◌, ◌%◌, ◌==◌, ◌||◌, ◌++◌, Bool, true, false, List, [], ◌∷◌, codes, flat_map, length, nat_lt, Option, Some, None, if◌then◌else◌}
 use Rattle.std.specs.Fmt.{decimal}
 use Rattle.pfs_addr_values.specs.Names.{is_name_byte}
 use Rattle.pfs_capture_packets.specs.Logs.{anchor_name}
@@ -33,6 +33,42 @@ anchor_column name = flat_map anchor_byte name
 abbrev pub answer_start : ℕ → ℕ → List ℕ
 answer_start number action = decimal number ++ (codes "," ++ (action_word action ++ codes ","))
 
+-- the name of a reason, by PFRES_NAMES of OpenBSD's net/pfvar.h; none for any other number
+abbrev pub reason_name : ℕ → List ℕ
+reason_name reason =
+    if reason == 0 then codes "match"
+    else (if reason == 1 then codes "bad-offset"
+    else (if reason == 2 then codes "fragment"
+    else (if reason == 3 then codes "short"
+    else (if reason == 4 then codes "normalize"
+    else (if reason == 5 then codes "memory"
+    else (if reason == 6 then codes "bad-timestamp"
+    else (if reason == 7 then codes "congestion"
+    else (if reason == 8 then codes "ip-option"
+    else (if reason == 9 then codes "proto-cksum"
+    else (if reason == 10 then codes "state-mismatch"
+    else (if reason == 11 then codes "state-insert"
+    else (if reason == 12 then codes "state-limit"
+    else (if reason == 13 then codes "src-limit"
+    else (if reason == 14 then codes "synproxy"
+    else (if reason == 15 then codes "translate"
+    else (if reason == 16 then codes "no-route"
+    else []))))))))))))))))
+
+-- why pf did so: the name of the reason, or its number in decimal where it has none
+abbrev pub reason_column : ℕ → List ℕ
+reason_column reason = if length (reason_name reason) == 0 then decimal reason else reason_name reason
+
+-- whether the packet was translated; nothing where the log does not say
+abbrev pub rewritten_word : Option Bool → List ℕ
+rewritten_word (Some true) = codes "yes"
+rewritten_word (Some false) = codes "no"
+rewritten_word None = []
+
+-- the columns behind the rule, up to the end of the line
+abbrev pub why_columns : Answer → List ℕ
+why_columns answer = reason_column answer.reason ++ (codes "," ++ (rewritten_word answer.rewritten ++ codes "\n"))
+
 -- the row of an answer, which belongs to the row of this number in the trace, up to the end of its line
 abbrev pub answer_row : ℕ → Answer → List ℕ
 answer_row number answer =
@@ -40,4 +76,5 @@ answer_row number answer =
     ++ ((rule_column answer.rule ++ codes ",")
     ++ (anchor_column (anchor_name answer)
     ++ (codes ","
-    ++ (rule_column answer.subrule ++ codes "\n"))))
+    ++ ((rule_column answer.subrule ++ codes ",")
+    ++ why_columns answer))))

@@ -1,14 +1,14 @@
 //! The row of what pf answered for a packet.
 
 ghost use Rattle.std.specs.Prelude.{◌≡◌, ◌++◌, ◌<◌, OnOk, decimal};
-ghost use Rattle.pfs_capture_rows.specs.Answers.{action_word, anchor_byte, anchor_column, answer_row, answer_start, hex_digit, rule_column};
+ghost use Rattle.pfs_capture_rows.specs.Answers.{action_word, anchor_byte, anchor_column, answer_row, answer_start, hex_digit, reason_column, reason_name, rewritten_word, rule_column, why_columns};
 
 use crate::rows::push_number;
 use pfs_addr_values::NoMemory;
 use pfs_capture_packets::Answer;
 
 /// The first row of a file of answers, which names its columns.
-pub const ANSWER_HEADER: &[u8] = b"row,action,rule,anchor,subrule\n";
+pub const ANSWER_HEADER: &[u8] = b"row,action,rule,anchor,subrule,reason,rewritten\n";
 
 /// Appends the row of what pf answered for the packet in the row of this number in a trace, from 1.
 ///
@@ -20,7 +20,8 @@ pub fn push_answer(out: &mut Vec<u8>, number: u64, answer: &Answer) -> Result<()
     push_rule(out, answer.rule, b",")?;
     push_anchor(out, answer.anchor_name())?;
     out.extend_from_slice(b",")?;
-    push_rule(out, answer.subrule, b"\n")
+    push_rule(out, answer.subrule, b",")?;
+    push_why(out, answer)
 }
 
 /// Appends the columns in front of the rule.
@@ -55,6 +56,65 @@ fn push_rule(out: &mut Vec<u8>, number: u32, end: &[u8]) -> Result<(), NoMemory>
     }
     out.extend_from_slice(end)?;
     Ok(())
+}
+
+/// Appends the columns behind the rule: why, and whether the packet was translated.
+fn push_why(out: &mut Vec<u8>, answer: &Answer) -> Result<(), NoMemory>
+    ensures { OnOk result (out.new.items ≡ out.old.items ++ why_columns answer.now) }
+{
+    push_reason(out, answer.reason)?;
+    out.extend_from_slice(b",")?;
+    out.extend_from_slice(rewritten_word(answer.rewritten).as_bytes())?;
+    out.extend_from_slice(b"\n")?;
+    Ok(())
+}
+
+/// Appends the name of a reason, or its number where it has none.
+fn push_reason(out: &mut Vec<u8>, reason: u8) -> Result<(), NoMemory>
+    ensures { OnOk result (out.new.items ≡ out.old.items ++ reason_column reason) }
+{
+    let name = reason_name(reason);
+    if name.is_empty() {
+        return push_number(out, u64::from(reason));
+    }
+    out.extend_from_slice(name.as_bytes())?;
+    Ok(())
+}
+
+/// The name of a reason; empty where it has none.
+fn reason_name(reason: u8) -> &'static str
+    ensures { result.now ≡ reason_name reason }
+{
+    match reason {
+        0 => "match",
+        1 => "bad-offset",
+        2 => "fragment",
+        3 => "short",
+        4 => "normalize",
+        5 => "memory",
+        6 => "bad-timestamp",
+        7 => "congestion",
+        8 => "ip-option",
+        9 => "proto-cksum",
+        10 => "state-mismatch",
+        11 => "state-insert",
+        12 => "state-limit",
+        13 => "src-limit",
+        14 => "synproxy",
+        15 => "translate",
+        16 => "no-route",
+        _ => "",
+    }
+}
+
+fn rewritten_word(rewritten: Option<bool>) -> &'static str
+    ensures { result.now ≡ rewritten_word rewritten }
+{
+    match rewritten {
+        Some(true) => "yes",
+        Some(false) => "no",
+        None => "",
+    }
 }
 
 fn push_anchor(out: &mut Vec<u8>, name: &[u8]) -> Result<(), NoMemory>

@@ -1,5 +1,5 @@
 -- What is reported of a rules text alone.
-use Rattle.std.proofs.Common.{◌∙◌, ◌≡◌, ◌≢◌, ◌++◌, ℕ, List, [], Option, Result, Ok, Err, refl, sym, subst, inl, inr}
+use Rattle.std.proofs.Common.{◌∙◌, ◌≡◌, ◌≢◌, ◌++◌, ℕ, List, [], Option, Result, Ok, Err, false, refl, sym, subst, inl, inr}
 use Rattle.std.specs.Prelude.{OnOk, OnErr, IfErr}
 use Rattle.std.specs.Io.KnownBytes.{Appends}
 use Rattle.pfs_conf_values.specs.Configs.{Conf}
@@ -11,6 +11,8 @@ use Rattle.pfs_cli.specs.declared.faults.ReplayFault.{ReplayFault}
 use Rattle.pfs_cli.specs.declared.faults.ReplayFault.TheVariants as fault
 use Rattle.pfs_cli.specs.Refusing.{IsFeedFault, RefusesText, fault_by, fault_of}
 use Rattle.pfs_cli.specs.Checks.{Answers}
+use Rattle.pfs_cli.specs.Replays.{ShowsLines}
+use Rattle.pfs_cli_streams.specs.Sinks.{SinkView, OwesNoFlush, is_unflushed}
 
 -- no fault of rules is one of writing
 pub refused-no_write : (f : LoadFault) → fault_of f ≢ fault.Write
@@ -59,3 +61,21 @@ written-kind r f other kind is = other (rw is at kind)
 -- and a failure is counted
 pub write-failed : {P : Type 0} (r : Result Unit ReplayFault) (f : ReplayFault) → OnErr r P → r ≡ Err f → P
 write-failed r f fails is = rw is at fails
+
+-- by lines nothing is left to be flushed where nothing was written
+pub unwritten-shows : {W : Type 0} (left : SinkView W) (f : ReplayFault) → OwesNoFlush left → ShowsLines left (Err f)
+unwritten-shows left (fault.Rules f) owes = owes
+unwritten-shows left (fault.Columns row) owes = owes
+unwritten-shows left (fault.Field row column) owes = owes
+unwritten-shows left (fault.TimeFell row) owes = owes
+unwritten-shows left (fault.Table row) owes = owes
+unwritten-shows left fault.TooManyRows owes = owes
+unwritten-shows left fault.Read owes = owes
+unwritten-shows left fault.Write owes = tt
+unwritten-shows left fault.Memory owes = owes
+unwritten-shows left fault.Endless owes = owes
+
+-- and where all was flushed
+pub written-shows : {W : Type 0} (left : SinkView W) (r : Result Unit ReplayFault) → IfErr r (λ f. f ≡ fault.Write) → OnOk r (is_unflushed left ≡ false) → ShowsLines left r
+written-shows left (Ok u) kind flushed = flushed
+written-shows left (Err f) kind flushed = subst (λ (x : ReplayFault). ShowsLines left (Err x)) (sym kind) tt

@@ -1,6 +1,6 @@
 -- What holds between two records of a run, and how a run ends.
 use borrow.Author.Tests.{clash}
-use Rattle.std.proofs.Common.{◌≡◌, ◌≤◌, ◌<◌, ◌+◌, ◌++◌, ◌∙◌, ℕ, List, [], ◌∷◌, length, take, drop, Option, Some, None, true, false, refl, sym, ap, arith, subst, append_assoc, length-append}
+use Rattle.std.proofs.Common.{◌≡◌, ◌≤◌, ◌<◌, ◌+◌, ◌++◌, ◌∙◌, ℕ, List, [], ◌∷◌, length, take, drop, Option, Some, None, true, false, refl, sym, ap, arith, subst, append_assoc, length-append, inl, inr}
 use Rattle.std.specs.Prelude.{Result, Ok, Err, nat_lt, option_map}
 use Rattle.std.proofs.lemmas.List.{append-nil, take-append-drop}
 use Rattle.std.proofs.Math.Seq.{take-append_seam}
@@ -20,6 +20,7 @@ use Rattle.pfs_conf_values.specs.Configs.{Conf}
 use Rattle.pfs_engine_machine.specs.declared.events.Event.{Event}
 use Rattle.pfs_engine_machine.specs.Machine.{Machine, start, step, outcomes_of, machine_after}
 use Rattle.pfs_engine.specs.Views.{View}
+use Rattle.pfs_cli_streams.specs.Sinks.{SinkView, OwesNoFlush}
 use Rattle.pfs_cli_formats.specs.declared.faults.TraceFault.{TraceFault}
 use Rattle.pfs_cli_formats.specs.declared.faults.TraceFault.TheVariants as fault
 use Rattle.pfs_cli.specs.declared.records.Stop.{Stop}
@@ -30,7 +31,7 @@ use Rattle.pfs_cli_formats.specs.Traces.{Fields, Trace, events_from, events_of, 
 use Rattle.pfs_cli_formats.specs.Reading.{records_left, records_of}
 use Rattle.pfs_cli_formats.specs.Reports.{lines_from, lines_of, end_line_of, report, report_of, AreFirstLines, BeginsReport}
 use Rattle.pfs_cli.specs.Headers.{ReadsHeader}
-use Rattle.pfs_cli.specs.Turns.{Tells, WritesLine, TakesEvent, TakesRecord}
+use Rattle.pfs_cli.specs.Turns.{Tells, TellsRows, WritesLine, TakesEvent, TakesRecord}
 use Rattle.pfs_cli_formats.proofs.Rest.{records_left-more, records_left-end}
 use Rattle.pfs_cli_formats.proofs.Runs.{machine_after-more, lines_of-more, lines_of-none, outcomes-front, lines_from-front}
 use Rattle.pfs_cli_formats.proofs.Stepping.{last-step}
@@ -159,14 +160,30 @@ so_far-more rem conf trace before now after rows m v a b f e t h config few r ju
 abbrev pub Ends : Conf → Trace → Option (List ℕ) → Option (List ℕ) → Result Unit Stop → Type 0
 Ends conf trace before after result = (t : List ℕ) × Appends before after t × Tells conf trace t result
 
+-- and its rows
+abbrev pub EndsRows : Conf → Trace → Option (List ℕ) → Option (List ℕ) → Result Unit Stop → Type 0
+EndsRows conf trace before after result = (t : List ℕ) × Appends before after t × TellsRows conf trace t result
+
+-- what is told of the rows is told of the trace
+pub rows-told : (conf : Conf) (trace : Trace) (t : List ℕ) (r : Result Unit Stop) → TellsRows conf trace t r → Tells conf trace t r
+rows-told conf trace t (Ok u) told = told
+rows-told conf trace t (Err (stop.Fault f)) told = told
+rows-told conf trace t (Err stop.Source) told = told
+rows-told conf trace t (Err stop.Memory) (k, lines, more) = (k, lines)
+rows-told conf trace t (Err stop.Write) told = told
+
+first-text : {S : Type 0} (rem : S → Option (List ℕ)) (conf : Conf) (trace : Trace) (before now : Option (List ℕ)) (rows : ℕ) (m : Machine) (a : Reader S) (h : ToldSoFar rem conf trace before now rows m a)
+    → lines_of conf h.seen ≡ lines_of conf (take (length h.seen) trace.0)
+first-text rem conf trace before now rows m a h =
+    let front : take (length h.seen) trace.0 ≡ h.seen = ap (λ (q : Trace). take (length h.seen) q.0) h.split ∙ take-append_seam h.seen (events_from conf rows m.last (records_left default_config a.state h.left)).0 in
+    sym (ap (lines_of conf) front)
+
 first-lines : {S : Type 0} (rem : S → Option (List ℕ)) (conf : Conf) (trace : Trace) (before now : Option (List ℕ)) (rows : ℕ) (m : Machine) (a : Reader S) (h : ToldSoFar rem conf trace before now rows m a)
     → AreFirstLines conf trace (lines_of conf h.seen)
-first-lines rem conf trace before now rows m a h =
-    let front : take (length h.seen) trace.0 ≡ h.seen = ap (λ (q : Trace). take (length h.seen) q.0) h.split ∙ take-append_seam h.seen (events_from conf rows m.last (records_left default_config a.state h.left)).0 in
-    (length h.seen, sym (ap (lines_of conf) front))
+first-lines rem conf trace before now rows m a h = (length h.seen, first-text rem conf trace before now rows m a h)
 
 pub ends-source : {S : Type 0} (rem : S → Option (List ℕ)) (conf : Conf) (trace : Trace) (before now : Option (List ℕ)) (rows : ℕ) (m : Machine) (a : Reader S) → ToldSoFar rem conf trace before now rows m a
-    → Ends conf trace before now (Err stop.Source)
+    → EndsRows conf trace before now (Err stop.Source)
 ends-source rem conf trace before now rows m a h = (lines_of conf h.seen, h.appended, first-lines rem conf trace before now rows m a h)
 
 -- the report, where no record is left
@@ -190,7 +207,7 @@ cut-end text t line k e =
 
 pub ends-end : {S : Type 0} (rem : S → Option (List ℕ)) (conf : Conf) (trace : Trace) (before now after : Option (List ℕ)) (rows : ℕ) (m : Machine) (a b : Reader S) (f : Fields) (result : Result Unit Stop) (t : List ℕ)
     → ToldSoFar rem conf trace before now rows m a → a.config ≡ default_config → ReadRecord rem a b false f
-    → Appends now after t → WritesLine (end_line_of rows m) t result → Ends conf trace before after result
+    → Appends now after t → WritesLine (end_line_of rows m) t result → EndsRows conf trace before after result
 ends-end rem conf trace before now after rows m a b f (Ok u) t h config r grown how =
     let all = told-all rem conf trace before now rows m a b f h config r in (
       lines_of conf h.seen ++ t,
@@ -200,7 +217,9 @@ ends-end rem conf trace before now after rows m a b f (Ok u) t h config r grown 
 ends-end rem conf trace before now after rows m a b f (Err (stop.Fault v)) t h config r grown how = absurd how
 ends-end rem conf trace before now after rows m a b f (Err stop.Source) t h config r grown how = absurd how
 ends-end rem conf trace before now after rows m a b f (Err stop.Memory) t h config r grown how =
-    (lines_of conf h.seen, rw (how, append-nil) at (Appends-more before now after (lines_of conf h.seen) t h.appended grown), first-lines rem conf trace before now rows m a h)
+    let (k, lines) = first-lines rem conf trace before now rows m a h in
+    let all = told-all rem conf trace before now rows m a b f h config r in
+    (lines_of conf h.seen, rw (how, append-nil) at (Appends-more before now after (lines_of conf h.seen) t h.appended grown), (k, lines, inr (ap (λ (q : Trace). q.1) all)))
 ends-end rem conf trace before now after rows m a b f (Err stop.Write) t h config r grown how =
     let (k, cut) = how in
     let all = told-all rem conf trace before now rows m a b f h config r in
@@ -212,7 +231,7 @@ ends-end rem conf trace before now after rows m a b f (Err stop.Write) t h confi
     )
 
 pub ends-limit : {S : Type 0} (rem : S → Option (List ℕ)) (conf : Conf) (trace : Trace) (before now : Option (List ℕ)) (rows : ℕ) (m : Machine) (a b : Reader S) (f : Fields) → ToldSoFar rem conf trace before now rows m a
-    → a.config ≡ default_config → ReadRecord rem a b true f → run_limit ≤ rows → Ends conf trace before now (Err (stop.Fault fault.TooManyRows))
+    → a.config ≡ default_config → ReadRecord rem a b true f → run_limit ≤ rows → EndsRows conf trace before now (Err (stop.Fault fault.TooManyRows))
 ends-limit rem conf trace before now rows m a b f h config r many =
     let (z, at_z, next) = read-more rem a b f h.left config h.source r in
     let all : trace ≡ (h.seen, Some fault.TooManyRows) =
@@ -256,10 +275,23 @@ cut-line text t line more k e =
     let m : take k line ++ drop k line ≡ line = take-append-drop k line in
     ap (λ (l : List ℕ). (text ++ l) ++ more) (sym m) ∙ rw (← e) (simp append_assoc)
 
+-- a trace that has an event after these
+one-more : {S : Type 0} (rem : S → Option (List ℕ)) (conf : Conf) (trace : Trace) (before now : Option (List ℕ)) (rows : ℕ) (m : Machine) (a b : Reader S) (f : Fields) (e : Event) (h : ToldSoFar rem conf trace before now rows m a)
+    → a.config ≡ default_config → ReadRecord rem a b true f → rows < run_limit → event_at conf (rows + 1) m.last f ≡ Ok e
+    → (more : Trace) × (trace ≡ (h.seen ++ (e ∷ more.0), more.1))
+one-more rem conf trace before now rows m a b f e h config r few judged =
+    let (z, at_z, next) = read-more rem a b f h.left config h.source r in (
+      events_from conf (rows + 1) (Some e.time) (records_left default_config b.state z),
+      h.split ∙ rw (next, events_from-more conf rows m.last f (records_left default_config b.state z) e few judged) refl,
+    )
+
+more-events : (seen : List Event) (e : Event) (trace more : Trace) → trace ≡ (seen ++ (e ∷ more.0), more.1) → length seen < length trace.0
+more-events seen e trace more all = let same : length trace.0 ≡ length (seen ++ (e ∷ more.0)) = ap (λ (q : Trace). length q.0) all in rw same (simp length-append (omega arith))
+
 -- the turn of a record that does not come to its end
 pub ends-record : {S : Type 0} (rem : S → Option (List ℕ)) (conf : Conf) (trace : Trace) (before now after : Option (List ℕ)) (rows : ℕ) (m v : Machine) (a b : Reader S) (f : Fields) (stopped : Stop) (t : List ℕ)
     → ToldSoFar rem conf trace before now rows m a → a.config ≡ default_config → ReadRecord rem a b true f → rows < run_limit
-    → Appends now after t → TakesRecord conf (rows + 1) m f t (Err stopped) v → Ends conf trace before after (Err stopped)
+    → Appends now after t → TakesRecord conf (rows + 1) m f t (Err stopped) v → EndsRows conf trace before after (Err stopped)
 ends-record rem conf trace before now after rows m v a b f (stop.Fault u) t h config r few grown how =
     let (z, at_z, next) = read-more rem a b f h.left config h.source r in
     let all : trace ≡ (h.seen, Some u) =
@@ -267,7 +299,11 @@ ends-record rem conf trace before now after rows m v a b f (stop.Fault u) t h co
     (lines_of conf h.seen, rw (how.1, append-nil) at (Appends-more before now after (lines_of conf h.seen) t h.appended grown), (ap (λ (q : Trace). q.1) all, rw all refl))
 ends-record rem conf trace before now after rows m v a b f stop.Source t h config r few grown (e, judged, (how, held)) = absurd how
 ends-record rem conf trace before now after rows m v a b f stop.Memory t h config r few grown (e, judged, (how, held)) =
-    (lines_of conf h.seen, rw (how, append-nil) at (Appends-more before now after (lines_of conf h.seen) t h.appended grown), first-lines rem conf trace before now rows m a h)
+    let (more, all) = one-more rem conf trace before now rows m a b f e h config r few judged in (
+      lines_of conf h.seen,
+      rw (how, append-nil) at (Appends-more before now after (lines_of conf h.seen) t h.appended grown),
+      (length h.seen, first-text rem conf trace before now rows m a h, inl (more-events h.seen e trace more all)),
+    )
 ends-record rem conf trace before now after rows m v a b f stop.Write t h config r few grown (e, judged, ((k, cut), held)) =
     let (z, at_z, next) = read-more rem a b f h.left config h.source r in
     let line = row_text (rows + 1) (step conf m e).0 in
@@ -281,11 +317,12 @@ ends-record rem conf trace before now after rows m v a b f stop.Write t h config
     )
 
 -- the loop's invariant
-pub record Running {S : Type 0} (rem : S → Option (List ℕ)) (begun : Reader S) (first : View) (before now : Option (List ℕ)) (rows : ℕ) (v : View) (rdr : Reader S) : Type 0 where
+pub record Running {S W : Type 0} (rem : S → Option (List ℕ)) (begun : Reader S) (first : View) (before now : Option (List ℕ)) (out : SinkView W) (rows : ℕ) (v : View) (rdr : Reader S) : Type 0 where
   pub plain : rdr.trim ≡ trim.None
   pub ready : Ready rdr
   pub config : rdr.config ≡ default_config
   pub flexible : rdr.flexible ≡ true
+  pub passed_on : OwesNoFlush out
   pub rules : v.config ≡ first.config
   pub within : rows ≤ run_limit
   pub taken : v.taken ≤ rows

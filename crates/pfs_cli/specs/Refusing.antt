@@ -1,10 +1,15 @@
 -- What the reading of a rules text ends with where it gives no configuration, as the calls pass it on. (own)
-use Rattle.std.specs.Prelude.{◌≡◌, ◌⊎◌, ℕ, List}
+use Rattle.std.specs.Prelude.{◌≡◌, ◌⊎◌, ℕ, List, Result, Ok, Err}
 use Rattle.pfs_conf.specs.declared.kinds.Kind.{Kind}
 use Rattle.pfs_conf.specs.declared.kinds.Kind.TheVariants as kind
 use Rattle.pfs_conf.specs.declared.faults.LoadFault.{LoadFault}
 use Rattle.pfs_cli.specs.declared.faults.ReplayFault.{ReplayFault}
 use Rattle.pfs_cli.specs.declared.faults.ReplayFault.TheVariants as fault
+use Rattle.pfs_conf_values.specs.Configs.{Conf}
+use Rattle.pfs_conf.specs.Reads.{Reads}
+use Rattle.pfs_cli.specs.declared.records.Stop.{Stop}
+use Rattle.pfs_cli.specs.declared.records.Stop.TheVariants as stop
+use Rattle.pfs_cli.specs.Faults.{replay_fault}
 use Rattle.pfs_cli.specs.Rules.{AreRefused}
 
 -- what may be reported of a rules text without a configuration, or that is not read to its end
@@ -32,3 +37,26 @@ RefusesRules rules _ = ⊥
 -- what a feed that gives no more may be reported as
 abbrev pub IsFeedFault : ReplayFault → Type 0
 IsFeedFault f = (f ≡ fault.Read) ⊎ (f ≡ fault.Endless) ⊎ (f ≡ fault.Memory)
+
+-- a text that reads as no configuration
+abbrev pub HasNoRules : List ℕ → Type 0
+HasNoRules rules = (conf : Conf) → Reads rules conf → ⊥
+
+-- what is told of such a text, whatever else there is to read: its fault, or why it is not read
+abbrev pub TellsRulesAlone : List ℕ → Result Unit ReplayFault → Type 0
+TellsRulesAlone rules (Ok u) = ⊥
+TellsRulesAlone rules (Err f) = RefusesText rules f
+
+-- how a run that stopped is reported: a faulty record by its fault; where memory was refused as that, or as a read that failed
+abbrev pub AnswersStop : Stop → ReplayFault → Type 0
+AnswersStop (stop.Fault f) answer = answer ≡ replay_fault f
+AnswersStop stop.Source answer = IsFeedFault answer
+AnswersStop stop.Memory answer = (answer ≡ fault.Memory) ⊎ (answer ≡ fault.Read)
+AnswersStop stop.Write answer = answer ≡ fault.Write
+
+-- the same of how a run ended
+abbrev pub AnswersRun : Result Unit Stop → Result Unit ReplayFault → Type 0
+AnswersRun (Err stopped) (Err answer) = AnswersStop stopped answer
+AnswersRun (Err stopped) (Ok u) = ⊥
+AnswersRun (Ok u) (Err answer) = answer ≡ fault.Write
+AnswersRun (Ok u) (Ok v) = Unit {0}

@@ -1,9 +1,11 @@
 -- What a replay has written when it ends. (own)
-use Rattle.std.specs.Prelude.{◌≡◌, ◌⊎◌, ℕ, List, [], Option, Some, None, Result, Ok, Err}
+use Rattle.std.specs.Prelude.{◌≡◌, ◌⊎◌, ◌<◌, ℕ, List, [], false, Option, Some, None, Result, Ok, Err}
 use Rattle.pfs_cli_formats.specs.declared.faults.TraceFault.{TraceFault}
 use Rattle.pfs_cli_formats.specs.declared.faults.TraceFault.TheVariants as trace
 use Rattle.pfs_cli.specs.declared.faults.ReplayFault.{ReplayFault}
 use Rattle.pfs_cli.specs.declared.faults.ReplayFault.TheVariants as fault
+use Rattle.pfs_cli_streams.specs.Feeds.{FeedView, IsFresh, read_failures, reads_of}
+use Rattle.pfs_cli_streams.specs.Sinks.{SinkView, OwesNoFlush, is_unflushed}
 use Rattle.pfs_conf_values.specs.Configs.{Conf}
 use Rattle.pfs_conf.specs.Reads.{Reads}
 use Rattle.pfs_cli_formats.specs.Traces.{trace_of}
@@ -33,3 +35,14 @@ Replays rules bytes text (Err fault.Read) = WritesLines rules bytes text
 Replays rules bytes text (Err fault.Memory) = WritesLines rules bytes text
 Replays rules bytes text (Err fault.Endless) = WritesLines rules bytes text
 Replays rules bytes text (Err fault.Write) = (conf : Conf) × Reads rules conf × BeginsReport conf (trace_of conf bytes) text
+
+-- what is flushed when the call ends: all of a report that is whole; by lines all that was written, unless a write failed
+abbrev pub ShowsLines : {W : Type 0} → SinkView W → Result Unit ReplayFault → Type 0
+ShowsLines left (Ok u) = is_unflushed left ≡ false
+ShowsLines left (Err fault.Write) = Unit {0}
+ShowsLines left (Err f) = OwesNoFlush left
+
+-- where the first read of a feed fails, the sink is as it was. Nobody knows beforehand that a read will fail: so nothing is written or flushed
+-- before the first read gave its bytes
+abbrev pub WaitsForRead : {R W : Type 0} → FeedView R → FeedView R → SinkView W → SinkView W → Type 0
+WaitsForRead before after held left = IsFresh before → 0 < read_failures after → reads_of after ≡ 1 → left ≡ held

@@ -1,5 +1,6 @@
 -- What one turn of a run writes, and what is written when it ends. (own)
-use Rattle.std.specs.Prelude.{◌≡◌, ℕ, List, [], take, Some, None, Result, Ok, Err}
+use Rattle.std.specs.Prelude.{◌≡◌, ◌<◌, ◌⊎◌, ℕ, List, [], length, take, Some, None, Result, Ok, Err}
+use Rattle.pfs_cli_streams.specs.Sinks.{SinkView, OwesNoFlush}
 use Rattle.pfs_conf_values.specs.Configs.{Conf}
 use Rattle.pfs_engine_machine.specs.declared.events.Event.{Event}
 use Rattle.pfs_engine_machine.specs.Machine.{Machine, step}
@@ -7,7 +8,7 @@ use Rattle.pfs_cli.specs.declared.records.Stop.{Stop}
 use Rattle.pfs_cli.specs.declared.records.Stop.TheVariants as stop
 use Rattle.pfs_cli_formats.specs.Events.{event_at}
 use Rattle.pfs_cli_formats.specs.Lines.{row_text}
-use Rattle.pfs_cli_formats.specs.Reports.{AreFirstLines, BeginsReport, report}
+use Rattle.pfs_cli_formats.specs.Reports.{AreFirstLines, BeginsReport, lines_of, report}
 use Rattle.pfs_cli_formats.specs.Traces.{Trace}
 
 -- the text of one line, by how its writing ends
@@ -35,3 +36,17 @@ Tells conf trace text (Err (stop.Fault f)) = (trace.1 ≡ Some f) × (text ≡ r
 Tells conf trace text (Err stop.Source) = AreFirstLines conf trace text
 Tells conf trace text (Err stop.Memory) = AreFirstLines conf trace text
 Tells conf trace text (Err stop.Write) = BeginsReport conf trace text
+
+-- out of memory is told of a record that has an event, or behind the last one, never of a faulty one
+abbrev pub WantsMemory : Conf → Trace → List ℕ → Type 0
+WantsMemory conf trace text = (k : ℕ) × (text ≡ lines_of conf (take k trace.0)) × ((k < length trace.0) ⊎ (trace.1 ≡ None))
+
+-- what is written of the records behind the header, by how the run ends
+abbrev pub TellsRows : Conf → Trace → List ℕ → Result Unit Stop → Type 0
+TellsRows conf trace text (Err stop.Memory) = WantsMemory conf trace text
+TellsRows conf trace text result = Tells conf trace text result
+
+-- by lines all that was written is flushed when a turn or a run ends, unless a write failed
+abbrev pub PassedOn : {W : Type 0} → SinkView W → Result Unit Stop → Type 0
+PassedOn left (Err stop.Write) = Unit {0}
+PassedOn left result = OwesNoFlush left

@@ -1,9 +1,9 @@
 //! What is reported of a rules text alone.
 
-ghost use Rattle.std.specs.Prelude.{◌≡◌, ◌++◌, ◌<◌, ℕ, List, IfOk, IfErr, OnOk, OnErr, string_bytes};
+ghost use Rattle.std.specs.Prelude.{◌≡◌, ◌++◌, ◌<◌, false, ℕ, List, IfOk, IfErr, OnOk, OnErr, string_bytes};
 ghost use Rattle.std.specs.Io.KnownBytes.{Appends, Keeps};
 ghost use Rattle.pfs_cli_streams.specs.Feeds.{IsFresh};
-ghost use Rattle.pfs_cli_streams.specs.Sinks.{bytes_held, write_failures};
+ghost use Rattle.pfs_cli_streams.specs.Sinks.{bytes_held, is_unflushed, write_failures};
 ghost use Rattle.pfs_conf_show.specs.Texts.{text_of};
 ghost use Rattle.pfs_cli.specs.Checks.{TellsRules, counts_text, wanted_text};
 
@@ -100,6 +100,7 @@ fn write_text<W: Write>(out: &mut Sink<W>, bytes: &[u8]) -> Result<(), ReplayFau
     ensures err { OnErr result ((t : List ℕ) × Appends (bytes_held W.contents out.old) (bytes_held W.contents out.new) t × ((rest : List ℕ) × (bytes.now ≡ t ++ rest))) }
     ensures kind { IfErr result (λ f. f ≡ ReplayFault.Write) }
     ensures fails { OnErr result (0 < write_failures out.new) }
+    ensures flushed { OnOk result (is_unflushed out.new ≡ false) }
 {
     match write_whole(out, bytes) {
         Ok(()) => flushed(out),
@@ -112,6 +113,7 @@ fn flushed<W: Write>(out: &mut Sink<W>) -> Result<(), ReplayFault>
     ensures kept { Keeps (bytes_held W.contents out.old) (bytes_held W.contents out.new) }
     ensures kind { IfErr result (λ f. f ≡ ReplayFault.Write) }
     ensures fails { OnErr result (0 < write_failures out.new) }
+    ensures flushed { OnOk result (is_unflushed out.new ≡ false) }
 {
     match out.flush() {
         Ok(()) => Ok(()),

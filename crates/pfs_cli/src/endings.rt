@@ -1,16 +1,16 @@
 //! How a call over a feed ends: the fault that is reported, and the flush of what was written whole.
 
-ghost use Rattle.std.specs.Prelude.{◌≡◌, ◌≢◌, Err, ◌<◌, ℕ, List};
+ghost use Rattle.std.specs.Prelude.{◌≡◌, ◌≢◌, ◌⊎◌, Err, ◌<◌, ℕ, List};
 ghost use Rattle.std.specs.Io.KnownBytes.{Keeps};
 ghost use Rattle.pfs_cli_streams.specs.Feeds.{IsSpent, read_failures};
 ghost use Rattle.pfs_cli_streams.specs.Sinks.{bytes_held, write_failures};
 ghost use Rattle.pfs_conf_values.specs.Configs.{Conf};
 ghost use Rattle.pfs_conf.specs.declared.faults.LoadFault.{LoadFault};
 ghost use Rattle.pfs_conf.specs.Reads.{Reads};
-ghost use Rattle.pfs_cli.specs.Turns.{Tells};
-ghost use Rattle.pfs_cli.specs.Refusing.{IsFeedFault};
+ghost use Rattle.pfs_cli.specs.Turns.{PassedOn, Tells};
+ghost use Rattle.pfs_cli.specs.Refusing.{AnswersRun, AnswersStop, IsFeedFault};
 ghost use Rattle.pfs_cli_formats.specs.Traces.{trace_of};
-ghost use Rattle.pfs_cli.specs.Replays.{Replays};
+ghost use Rattle.pfs_cli.specs.Replays.{Replays, ShowsLines};
 
 use crate::faults::{ReplayFault, of_trace};
 use crate::records::Stop;
@@ -39,13 +39,27 @@ pub(crate) fn fault_at<R>(stop: Stop, feed: &Feed<R>) -> ReplayFault
     ensures no_rules { (f : LoadFault) → result ≢ ReplayFault.Rules f }
     ensures read { result ≡ ReplayFault.Read → 0 < read_failures feed.now }
     ensures endless { result ≡ ReplayFault.Endless → IsSpent feed.now }
-    ensures write { result ≡ ReplayFault.Write → stop ≡ Stop.Write }
+    ensures memory { result ≡ ReplayFault.Memory → read_failures feed.now ≡ 0 }
+    ensures answers { AnswersStop stop result }
 {
     match stop {
         Stop::Fault(fault) => of_trace(fault),
         Stop::Source => feed_fault(feed),
-        Stop::Memory => ReplayFault::Memory,
+        Stop::Memory => memory_fault(feed),
         Stop::Write => ReplayFault::Write,
+    }
+}
+
+/// The fault of a call over this feed that was told that memory was refused. A failed read is never told as that.
+pub(crate) fn memory_fault<R>(feed: &Feed<R>) -> ReplayFault
+    ensures kinds { (result ≡ ReplayFault.Memory) ⊎ (result ≡ ReplayFault.Read) }
+    ensures read { result ≡ ReplayFault.Read → 0 < read_failures feed.now }
+    ensures memory { result ≡ ReplayFault.Memory → read_failures feed.now ≡ 0 }
+{
+    if feed.failures() > 0 {
+        ReplayFault::Read
+    } else {
+        ReplayFault::Memory
     }
 }
 
@@ -55,13 +69,17 @@ pub(crate) fn finish<R, W: Write>(
     feed: &Feed<R>,
     out: &mut Sink<W>,
 ) -> Result<(), ReplayFault>
-    requires { outcome ≡ Err (Stop.Write) → 0 < write_failures out.old }
+    requires failed { outcome ≡ Err (Stop.Write) → 0 < write_failures out.old }
+    requires passed_on { PassedOn out.old outcome }
     ensures kept { Keeps (bytes_held W.contents out.old) (bytes_held W.contents out.new) }
     ensures told { (conf : Conf) (rs : List ℕ) (ts : List ℕ) (t : List ℕ) → Reads rs conf → Tells conf (trace_of conf ts) t outcome → Replays rs ts t result }
     ensures no_rules { (f : LoadFault) → result ≢ Err (ReplayFault.Rules f) }
     ensures read { result ≡ Err ReplayFault.Read → 0 < read_failures feed.now }
     ensures endless { result ≡ Err ReplayFault.Endless → IsSpent feed.now }
     ensures write { result ≡ Err ReplayFault.Write → 0 < write_failures out.new }
+    ensures memory { result ≡ Err ReplayFault.Memory → read_failures feed.now ≡ 0 }
+    ensures answers { AnswersRun outcome result }
+    ensures shows { ShowsLines out.new result }
 {
     match outcome {
         Ok(()) => {

@@ -1,16 +1,18 @@
 //! A replay of rules and a trace that are in one text.
 
-ghost use Rattle.std.specs.Prelude.{◌≡◌, ◌⊎◌, Some, Ok, Err, ◌<◌, ℕ, List, IfOk, IfErr, OnErr};
+ghost use Rattle.std.specs.Prelude.{◌≡◌, ◌≢◌, ◌⊎◌, Some, Ok, Err, ◌<◌, ℕ, List, IfOk, IfErr, OnErr};
 ghost use Rattle.std.specs.Io.KnownBytes.{Appends};
-ghost use Rattle.pfs_cli_streams.specs.Feeds.{unread, IsSpent, reads_of, read_failures};
-ghost use Rattle.pfs_cli_streams.specs.Sinks.{bytes_held, write_failures};
+ghost use Rattle.pfs_cli_streams.specs.Feeds.{bound_of, unread, IsSpent, reads_of, read_failures};
+ghost use Rattle.pfs_cli_streams.specs.Sinks.{OwesNoFlush, bytes_held, write_failures};
 ghost use Rattle.pfs_conf.specs.declared.faults.LoadFault.{LoadFault};
 ghost use Rattle.pfs_cli.specs.Rules.{AreRefused};
-ghost use Rattle.pfs_cli.specs.Replays.{Replays};
+ghost use Rattle.pfs_cli.specs.Replays.{Replays, ShowsLines, WaitsForRead};
+ghost use Rattle.pfs_cli.specs.Refusing.{RefusesRules, RefusesText};
+ghost use Rattle.pfs_cli.specs.Turns.{PassedOn};
 ghost use Rattle.pfs_cli.specs.Halting.{IsHalt, RefusesWithin, TellsWithin};
 ghost use Rattle.pfs_cli_streams.specs.Joined.{split_joined};
 
-use crate::endings::{feed_fault, finish};
+use crate::endings::{feed_fault, finish, memory_fault};
 use crate::faults::ReplayFault;
 use crate::records::Stop;
 use crate::replays::FIRST_READ;
@@ -34,12 +36,14 @@ fn tell_joined<S: Read + Drop, W: Write>(
     source: S,
     out: &mut Sink<W>,
 ) -> Result<Result<(), Stop>, Halt>
+    requires { OwesNoFlush out.old }
     ensures tells { IfOk result (λ outcome. (xs : List ℕ) → S.remaining source ≡ Some xs →
         ((t : List ℕ) × Appends (bytes_held W.contents out.old) (bytes_held W.contents out.new) t × TellsWithin (split_joined xs) t outcome)) }
     ensures refuses { IfErr result (λ h. (xs : List ℕ) → S.remaining source ≡ Some xs → RefusesWithin (split_joined xs) h) }
     ensures kinds { IfErr result IsHalt }
     ensures unwritten { OnErr result (out.new ≡ out.old) }
     ensures fails { result ≡ Ok (Err Stop.Write) → 0 < write_failures out.new }
+    ensures passed_on { IfOk result (PassedOn out.new) }
 {
     let Ok(mut reader) = BufReader::new(alloc, source) else {
         return Err(Halt::Fault(ReplayFault::Memory));
@@ -52,6 +56,19 @@ fn tell_joined<S: Read + Drop, W: Write>(
     match load_config(alloc, text) {
         Ok(config) => Ok(write_report(alloc, config, reader, out)),
         Err(fault) => Err(Halt::Fault(fault)),
+    }
+}
+
+/// The fault of rules that are refused, or where memory was. A failed read is never told as that.
+fn halt_fault<R>(fault: ReplayFault, feed: &Feed<R>) -> ReplayFault
+    ensures told { (rs : List ℕ) → RefusesRules rs fault → RefusesText rs result }
+    ensures read { result ≡ ReplayFault.Read → 0 < read_failures feed.now }
+    ensures memory { result ≡ ReplayFault.Memory → read_failures feed.now ≡ 0 }
+    ensures others { (result ≢ ReplayFault.Endless) × (result ≢ ReplayFault.Write) }
+{
+    match fault {
+        ReplayFault::Rules(_) => fault,
+        _ => memory_fault(feed),
     }
 }
 
@@ -70,6 +87,7 @@ pub fn replay_joined<R: Read, W: Write>(
     input: &mut Feed<R>,
     out: &mut Sink<W>,
 ) -> Result<(), ReplayFault>
+    requires { OwesNoFlush out.old }
     ensures reports { (xs : List ℕ) → unread R.remaining input.old ≡ Some xs →
         ((t : List ℕ) × Appends (bytes_held W.contents out.old) (bytes_held W.contents out.new) t × Replays (split_joined xs).0 (split_joined xs).1 t result) }
     ensures refused { (xs : List ℕ) (f : LoadFault) → unread R.remaining input.old ≡ Some xs → result ≡ Err (ReplayFault.Rules f) → AreRefused (split_joined xs).0 f }
@@ -78,19 +96,24 @@ pub fn replay_joined<R: Read, W: Write>(
     ensures read { result ≡ Err ReplayFault.Read → 0 < read_failures input.new }
     ensures endless { result ≡ Err ReplayFault.Endless → IsSpent input.new }
     ensures write { result ≡ Err ReplayFault.Write → 0 < write_failures out.new }
+    ensures memory { result ≡ Err ReplayFault.Memory → read_failures input.new ≡ 0 }
+    ensures waits { WaitsForRead input.old input.new out.old out.new }
+    ensures bound { bound_of input.new ≡ bound_of input.old }
+    ensures shows { ShowsLines out.new result }
 {
     let mut first = [0; FIRST_READ];
     let n = match input.read(&mut first) {
         Ok(n) => n,
         Err(_) => return Err(feed_fault(input)),
     };
+    let begun = input.reads();
     let mut lent = first[..n].chain(input.lend());
     let told = tell_joined(alloc, &mut lent, out);
     let reads = lent.into_inner().1.reads();
-    input.resume(reads);
+    input.resume(begun, reads);
     match told {
         Ok(outcome) => finish(outcome, input, out),
         Err(Halt::Source) => Err(feed_fault(input)),
-        Err(Halt::Fault(fault)) => Err(fault),
+        Err(Halt::Fault(fault)) => Err(halt_fault(fault, input)),
     }
 }

@@ -16,7 +16,7 @@ pub use checks::{check, print};
 pub use faults::{ReplayFault, status};
 pub use joined::replay_joined;
 pub use performing::perform;
-pub use pfs_cli_jobs::{Job, job};
+pub use pfs_cli_jobs::{Job, Request, job, request};
 pub use pfs_cli_streams::{Feed, Sink};
 pub use pfs_conf::{Kind, LoadFault};
 pub use records::Stop;

@@ -2,11 +2,13 @@
 
 ghost use Rattle.std.specs.Prelude.{◌≡◌, ◌⊎◌, Some, Err, ◌<◌, ◌≤◌, ◌+◌, ℕ, List, drop, true};
 ghost use Rattle.std.specs.Io.KnownBytes.{Appends};
-ghost use Rattle.pfs_cli_streams.specs.Feeds.{unread, has_ended, IsFresh, IsSpent, reads_of, read_failures};
-ghost use Rattle.pfs_cli_streams.specs.Sinks.{bytes_held, write_failures};
+ghost use Rattle.pfs_cli_streams.specs.Feeds.{bound_of, unread, has_ended, IsFresh, IsSpent, reads_of, read_failures};
+ghost use Rattle.pfs_cli_streams.specs.Sinks.{OwesNoFlush, bytes_held, write_failures};
 ghost use Rattle.pfs_conf.specs.declared.faults.LoadFault.{LoadFault};
 ghost use Rattle.pfs_cli_streams.specs.Kept.{rules_limit};
 ghost use Rattle.pfs_cli.specs.Rules.{AreRefused};
+ghost use Rattle.pfs_cli.specs.Refusing.{HasNoRules, TellsRulesAlone};
+ghost use Rattle.pfs_cli.specs.Replays.{ShowsLines, WaitsForRead};
 ghost use Rattle.pfs_cli.specs.Performing.{OfJoined, OfReplay, OfRulesFile, Performs, ReadsRulesAlone, rules_within};
 
 use crate::checks::{check, print};
@@ -29,7 +31,8 @@ pub fn perform<R: Read, T: Read, W: Write>(
     trace: &mut Feed<T>,
     out: &mut Sink<W>,
 ) -> Result<(), ReplayFault>
-    requires { IsFresh rules.old }
+    requires fresh { IsFresh rules.old }
+    requires passed_on { OwesNoFlush out.old }
     ensures performs { (rs : List ℕ) (ts : List ℕ) → unread R.remaining rules.old ≡ Some rs → OfReplay job.now (unread T.remaining trace.old ≡ Some ts) →
         ((t : List ℕ) × Appends (bytes_held W.contents out.old) (bytes_held W.contents out.new) t × Performs job.now rs ts t result) }
     ensures refused { (rs : List ℕ) (f : LoadFault) → unread R.remaining rules.old ≡ Some rs → result ≡ Err (ReplayFault.Rules f) → AreRefused (rules_within job.now rs) f }
@@ -42,7 +45,13 @@ pub fn perform<R: Read, T: Read, W: Write>(
     ensures read { result ≡ Err ReplayFault.Read → (0 < read_failures rules.new) ⊎ (0 < read_failures trace.new) }
     ensures endless { result ≡ Err ReplayFault.Endless → IsSpent rules.new ⊎ IsSpent trace.new }
     ensures write { result ≡ Err ReplayFault.Write → 0 < write_failures out.new }
-    ensures memory { OfRulesFile job.now (result ≡ Err ReplayFault.Memory → read_failures rules.new ≡ 0) }
+    ensures memory { result ≡ Err ReplayFault.Memory → (read_failures rules.new ≡ 0) × ((trace.new ≡ trace.old) ⊎ (read_failures trace.new ≡ 0)) }
+    ensures rules_alone { OfReplay job.now ((rs : List ℕ) → unread R.remaining rules.old ≡ Some rs → HasNoRules rs → TellsRulesAlone rs result × (trace.new ≡ trace.old)) }
+    ensures unwritten { (f : LoadFault) → result ≡ Err (ReplayFault.Rules f) → out.new ≡ out.old }
+    ensures trace_waits { OfReplay job.now (WaitsForRead trace.old trace.new out.old out.new) }
+    ensures input_waits { OfJoined job.now (WaitsForRead rules.old rules.new out.old out.new) }
+    ensures bounds { (bound_of rules.new ≡ bound_of rules.old) × (bound_of trace.new ≡ bound_of trace.old) }
+    ensures shows { ShowsLines out.new result }
 {
     match job {
         Job::Joined => replay_joined(alloc, rules, out),

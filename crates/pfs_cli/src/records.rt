@@ -1,19 +1,19 @@
-//! The records of a trace, and a line for each, written before the next record is read.
+//! The records of a trace, and a line for each, written before the next record is read, and flushed before it where the sink is by lines.
 
-ghost use Rattle.std.specs.Prelude.{◌≡◌, ◌≢◌, Some, None, OnOk, Ok, Err, ◌<◌, ◌≤◌, ◌+◌, ◌^◌, ℕ, List, true, false};
+ghost use Rattle.std.specs.Prelude.{◌≡◌, ◌≢◌, Some, None, IfErr, IfOk, OnOk, Ok, Err, ◌<◌, ◌≤◌, ◌+◌, ◌^◌, ℕ, List, true, false};
 ghost use Rattle.std.specs.Io.KnownBytes.{Appends};
-ghost use Rattle.csv.specs.Reading.{Ready, source_of, reader_trim, reader_config, reader_state, default_config, is_flexible, has_failed};
+ghost use Rattle.csv.specs.Reading.{Ready, ReadRecord, source_of, reader_trim, reader_config, reader_state, default_config, is_flexible, has_failed};
 ghost use Rattle.csv.specs.declared.reader.Trim.TheVariants as trim;
 ghost use Rattle.csv.specs.Records.{fields_of};
 ghost use Rattle.pfs_addr_values.specs.Packets.{run_limit};
-ghost use Rattle.pfs_cli_streams.specs.Sinks.{bytes_held, write_failures as failures_of};
+ghost use Rattle.pfs_cli_streams.specs.Sinks.{OwesNoFlush, bytes_held, write_failures as failures_of};
 ghost use Rattle.pfs_cli_formats.specs.Lines.{row_text, end_text};
 ghost use Rattle.std.specs.Option.{ForSome};
 ghost use Rattle.pfs_engine_machine.specs.Machine.{start, step};
 ghost use Rattle.pfs_engine_machine.specs.Runs.{MayCome};
 ghost use Rattle.pfs_cli_formats.specs.Reports.{end_line_of};
 ghost use Rattle.pfs_cli.specs.Headers.{ReadsHeader};
-ghost use Rattle.pfs_cli.specs.Turns.{Tells, WritesLine, TakesEvent, TakesRecord};
+ghost use Rattle.pfs_cli.specs.Turns.{PassedOn, Tells, TellsRows, WritesLine, TakesEvent, TakesRecord};
 ghost use Rattle.pfs_cli_formats.specs.Reading.{records_of, records_left};
 ghost use Rattle.pfs_cli_formats.specs.Traces.{events_of, events_from};
 
@@ -43,6 +43,7 @@ pub enum Stop {
 fn send<W: Write>(line: &[u8], out: &mut Sink<W>) -> Result<(), Stop>
     ensures writes { (t : List ℕ) × Appends (bytes_held W.contents out.old) (bytes_held W.contents out.new) t × WritesLine line.now t result }
     ensures fails { result ≡ Err (Stop.Write) → 0 < failures_of out.new }
+    ensures passed_on { PassedOn out.new result }
 {
     match write_whole(out, line) {
         Ok(()) => Ok(()),
@@ -57,8 +58,10 @@ fn write_row<W: Write>(
     line: &mut Vec<u8>,
     out: &mut Sink<W>,
 ) -> Result<(), Stop>
+    requires passed_on { OwesNoFlush out.old }
     ensures writes { (t : List ℕ) × Appends (bytes_held W.contents out.old) (bytes_held W.contents out.new) t × WritesLine (row_text row outcome.now) t result }
     ensures fails { result ≡ Err (Stop.Write) → 0 < failures_of out.new }
+    ensures passed_on { PassedOn out.new result }
 {
     line.clear();
     match push_row(line, row, outcome) {
@@ -69,21 +72,21 @@ fn write_row<W: Write>(
 
 /// The last line, with what is held.
 fn end_line<H: Store>(rows: u64, engine: &Engine<H>) -> EndLine
-    ensures { end_text result.rows result.states result.nodes result.entries ≡ end_line_of rows engine.now.machine }
+    ensures { end_text result.rows result.held.states result.held.nodes result.held.entries ≡ end_line_of rows engine.now.machine }
 {
     EndLine {
         rows,
-        states: engine.states(),
-        nodes: engine.nodes(),
-        entries: engine.entries(),
+        held: engine.amounts(),
     }
 }
 
 /// Writes the last line.
 fn write_end<W: Write>(end: EndLine, room: &mut Vec<u8>, out: &mut Sink<W>) -> Result<(), Stop>
+    requires passed_on { OwesNoFlush out.old }
     ensures writes { (t : List ℕ) × Appends (bytes_held W.contents out.old) (bytes_held W.contents out.new) t
-        × WritesLine (end_text end.rows end.states end.nodes end.entries) t result }
+        × WritesLine (end_text end.rows end.held.states end.held.nodes end.held.entries) t result }
     ensures fails { result ≡ Err (Stop.Write) → 0 < failures_of out.new }
+    ensures passed_on { PassedOn out.new result }
 {
     room.clear();
     match push_end(room, &end) {
@@ -100,6 +103,7 @@ fn take_event<H: Store, W: Write>(
     line: &mut Vec<u8>,
     out: &mut Sink<W>,
 ) -> Result<(), Stop>
+    requires passed_on { OwesNoFlush out.old }
     requires order { ForSome engine.old.machine.last (λ m. m ≤ event.now.time) }
     requires moment { event.now.time < 2 ^ 32 }
     requires room { engine.old.taken < run_limit }
@@ -109,6 +113,7 @@ fn take_event<H: Store, W: Write>(
     ensures takes { (t : List ℕ) × Appends (bytes_held W.contents out.old) (bytes_held W.contents out.new) t
         × TakesEvent engine.old.config row engine.old.machine event.now t result engine.new.machine }
     ensures fails { result ≡ Err (Stop.Write) → 0 < failures_of out.new }
+    ensures passed_on { PassedOn out.new result }
 {
     match engine.step(event) {
         Ok(outcome) => write_row(row, &outcome, line, out),
@@ -124,12 +129,14 @@ fn take_record<H: Store, W: Write>(
     line: &mut Vec<u8>,
     out: &mut Sink<W>,
 ) -> Result<(), Stop>
+    requires passed_on { OwesNoFlush out.old }
     requires room { engine.old.taken < run_limit }
     ensures config { engine.new.config ≡ engine.old.config }
     ensures taken { engine.new.taken ≤ engine.old.taken + 1 }
     ensures takes { (t : List ℕ) × Appends (bytes_held W.contents out.old) (bytes_held W.contents out.new) t
         × TakesRecord engine.old.config row engine.old.machine (fields_of fields.now) t result engine.new.machine }
     ensures fails { result ≡ Err (Stop.Write) → 0 < failures_of out.new }
+    ensures passed_on { PassedOn out.new result }
 {
     match &read_event(row, engine.last(), engine.config(), fields) {
         Ok(event) => take_event(row, event, engine, line, out),
@@ -137,8 +144,36 @@ fn take_record<H: Store, W: Write>(
     }
 }
 
+/// Asks for the next record, and says whether there is one. This may read the trace. So by lines each line of the
+/// records before is flushed.
+fn next_record<S: Read, W>(
+    reader: &mut Reader<S>,
+    fields: &mut ByteRecord,
+    _out: &Sink<W>,
+) -> Result<bool, Stop>
+    requires passed_on { OwesNoFlush _out.now }
+    requires plain { reader_trim reader.old ≡ trim.None }
+    requires ready { Ready reader.old }
+    requires flexible { is_flexible reader.old ≡ true }
+    ensures reads { IfOk result (λ found. ReadRecord S.remaining reader.old reader.new found (fields_of fields.new)) }
+    ensures ready { OnOk result (Ready reader.new) }
+    ensures flexible { OnOk result (is_flexible reader.new ≡ true) }
+    ensures source { IfErr result (λ stop. (stop ≡ Stop.Source) × (has_failed reader.new ≡ true)) }
+{
+    let found = match reader.read_byte_record(fields) {
+        Ok(found) => found,
+        Err(_) => return Err(Stop::Source),
+    };
+    Ok(found)
+}
+
 /// Reads the header.
-fn read_header<S: Read>(reader: &mut Reader<S>, fields: &mut ByteRecord) -> Result<(), Stop>
+fn read_header<S: Read, W>(
+    reader: &mut Reader<S>,
+    fields: &mut ByteRecord,
+    out: &Sink<W>,
+) -> Result<(), Stop>
+    requires passed_on { OwesNoFlush out.now }
     requires plain { reader_trim reader.old ≡ trim.None }
     requires ready { Ready reader.old }
     requires config { reader_config reader.old ≡ default_config }
@@ -152,10 +187,10 @@ fn read_header<S: Read>(reader: &mut Reader<S>, fields: &mut ByteRecord) -> Resu
     ensures source { result ≡ Err (Stop.Source) → has_failed reader.new ≡ true }
     ensures writes_none { result ≢ Err (Stop.Write) }
 {
-    match reader.read_byte_record(fields) {
+    match next_record(reader, fields, out) {
         Ok(true) => {}
         Ok(false) => return Err(Stop::Fault(TraceFault::Columns(0))),
-        Err(_) => return Err(Stop::Source),
+        Err(stop) => return Err(stop),
     }
     if has_columns(fields) {
         Ok(())
@@ -176,19 +211,21 @@ fn tell_rows<H: Store, S: Read, W: Write>(
     requires ready { Ready reader.old }
     requires config { reader_config reader.old ≡ default_config }
     requires flexible { is_flexible reader.old ≡ true }
+    requires passed_on { OwesNoFlush out.old }
     requires first { engine.old.machine ≡ start engine.old.config }
     requires taken { engine.old.taken ≡ 0 }
     ensures tells { (xs : List ℕ) → source_of S.remaining reader.old ≡ Some xs →
         ((t : List ℕ) × Appends (bytes_held W.contents out.old) (bytes_held W.contents out.new) t
-        × Tells engine.old.config (events_from engine.old.config 0 None (records_left default_config (reader_state reader.old) xs)) t result) }
+        × TellsRows engine.old.config (events_from engine.old.config 0 None (records_left default_config (reader_state reader.old) xs)) t result) }
     ensures fails { result ≡ Err (Stop.Write) → 0 < failures_of out.new }
+    ensures passed_on { PassedOn out.new result }
     ensures source { result ≡ Err (Stop.Source) → has_failed reader.new ≡ true }
 {
     for rows in 0..=RUN_LIMIT {
-        match reader.read_byte_record(fields) {
+        match next_record(reader, fields, out) {
             Ok(true) => {}
             Ok(false) => return write_end(end_line(rows, engine), line, out),
-            Err(_) => return Err(Stop::Source),
+            Err(stop) => return Err(stop),
         }
         if rows == RUN_LIMIT {
             return Err(Stop::Fault(TraceFault::TooManyRows));
@@ -202,19 +239,21 @@ fn tell_rows<H: Store, S: Read, W: Write>(
 }
 
 /// Reads the trace of `source`, and writes the line of each record before it reads the next, and
-/// the last line. Nothing is flushed.
+/// the last line. A sink by lines is flushed after each, another not at all.
 pub(crate) fn tell_records<H: Store, S: Read + Drop, W: Write>(
     alloc: Global,
     source: S,
     engine: &mut Engine<H>,
     out: &mut Sink<W>,
 ) -> Result<(), Stop>
+    requires passed_on { OwesNoFlush out.old }
     requires first { engine.old.machine ≡ start engine.old.config }
     requires taken { engine.old.taken ≡ 0 }
     ensures tells { (xs : List ℕ) → S.remaining source ≡ Some xs →
         ((t : List ℕ) × Appends (bytes_held W.contents out.old) (bytes_held W.contents out.new) t
         × Tells engine.old.config (events_of engine.old.config (records_of xs)) t result) }
     ensures fails { result ≡ Err (Stop.Write) → 0 < failures_of out.new }
+    ensures passed_on { PassedOn out.new result }
 {
     let mut reader = ReaderBuilder::new()
         .flexible(true)
@@ -225,7 +264,7 @@ pub(crate) fn tell_records<H: Store, S: Read + Drop, W: Write>(
     }
     let mut fields = ByteRecord::new(alloc);
     let mut line = Vec::new(alloc);
-    match read_header(&mut reader, &mut fields) {
+    match read_header(&mut reader, &mut fields, out) {
         Ok(()) => tell_rows(&mut reader, &mut fields, engine, &mut line, out),
         Err(stop) => Err(stop),
     }

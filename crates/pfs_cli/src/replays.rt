@@ -2,12 +2,13 @@
 
 ghost use Rattle.std.specs.Prelude.{◌≡◌, ◌⊎◌, Some, Err, ◌<◌, ◌≤◌, ◌+◌, ℕ, List, true, drop};
 ghost use Rattle.std.specs.Io.KnownBytes.{Appends};
-ghost use Rattle.pfs_cli_streams.specs.Feeds.{unread, has_ended, IsFresh, IsSpent, reads_of, read_failures};
-ghost use Rattle.pfs_cli_streams.specs.Sinks.{bytes_held, write_failures};
+ghost use Rattle.pfs_cli_streams.specs.Feeds.{bound_of, unread, has_ended, IsFresh, IsSpent, reads_of, read_failures};
+ghost use Rattle.pfs_cli_streams.specs.Sinks.{OwesNoFlush, bytes_held, write_failures};
 ghost use Rattle.pfs_conf.specs.declared.faults.LoadFault.{LoadFault};
 ghost use Rattle.pfs_cli_streams.specs.Kept.{rules_limit};
 ghost use Rattle.pfs_cli.specs.Rules.{AreRefused};
-ghost use Rattle.pfs_cli.specs.Replays.{Replays};
+ghost use Rattle.pfs_cli.specs.Refusing.{HasNoRules, TellsRulesAlone};
+ghost use Rattle.pfs_cli.specs.Replays.{Replays, ShowsLines, WaitsForRead};
 
 use crate::endings::{feed_fault, finish};
 use crate::faults::ReplayFault;
@@ -23,12 +24,13 @@ pub(crate) const FIRST_READ: usize = 8192;
 /// Replays the trace under the rules, and writes its report: a line for each record, and a last line with what is held.
 /// Every accepted rules text runs, and a record of every protocol is taken; those of ICMP are skipped. A record `expire`
 /// takes the entries that are old enough out of its table, and its line says how many left. Each line is written before
-/// the next record is read, and the whole is flushed once, at its end. `rules` and `out` are as `new` gives them.
+/// the next record is read. The whole is flushed once, at its end; where `out` is by lines, each line is flushed before the
+/// next record is read. `rules` and `out` are as `new` gives them, or `out` as `line_buffered` gives it.
 ///
-/// A fault of the rules is reported before any of the trace. Nothing is written before the rules are read to their end
-/// and the trace has been read at least once. Of rules that are too long no more than 1,048,577 bytes are read.
+/// A fault of the rules is reported before any of the trace, which is not read then. Nothing is written before the rules
+/// are read to their end and the trace has been read at least once. Of rules that are too long no more than 1,048,577 bytes are read.
 ///
-/// At a fault there is no flush. What is written then:
+/// At a fault the lines that are written are flushed by lines alone. What is written then:
 ///
 /// - `Rules`: nothing.
 /// - `Columns`, `Field`, `TimeFell`, `Table`, `TooManyRows`: the lines of the records before, which is the report of such a
@@ -45,7 +47,8 @@ pub fn replay<R: Read, T: Read, W: Write>(
     trace: &mut Feed<T>,
     out: &mut Sink<W>,
 ) -> Result<(), ReplayFault>
-    requires { IsFresh rules.old }
+    requires fresh { IsFresh rules.old }
+    requires passed_on { OwesNoFlush out.old }
 
     // The report of the bytes that the two readers hold, as far as the result says.
     ensures reports { (rs : List ℕ) (ts : List ℕ) → unread R.remaining rules.old ≡ Some rs → unread T.remaining trace.old ≡ Some ts →
@@ -54,16 +57,23 @@ pub fn replay<R: Read, T: Read, W: Write>(
     // A fault of the rules is one that this text may have: its kind, its line, and the token at which reading stops.
     ensures refused { (rs : List ℕ) (f : LoadFault) → unread R.remaining rules.old ≡ Some rs → result ≡ Err (ReplayFault.Rules f) → AreRefused rs f }
 
-    // The rules come first, and no more of them than is needed.
+    // The rules come first, and no more of them than is needed. Where they are refused the trace is not read, whatever it is.
+    ensures rules_alone { (rs : List ℕ) → unread R.remaining rules.old ≡ Some rs → HasNoRules rs → TellsRulesAlone rs result × (trace.new ≡ trace.old) }
+    ensures unwritten { (f : LoadFault) → result ≡ Err (ReplayFault.Rules f) → out.new ≡ out.old }
     ensures rules_first { (out.new ≡ out.old) ⊎ ((has_ended rules.new ≡ true) × (read_failures rules.new ≡ 0)) }
     ensures trace_first { (out.new ≡ out.old) ⊎ (0 < reads_of trace.new) }
+    ensures waits { WaitsForRead trace.old trace.new out.old out.new }
     ensures few { (rs : List ℕ) → unread R.remaining rules.old ≡ Some rs → (k : ℕ) × (k ≤ rules_limit + 1) × (unread R.remaining rules.new ≡ Some (drop k rs)) }
 
     // No fault is reported of a reader or a writer that did not have it.
     ensures read { result ≡ Err ReplayFault.Read → (0 < read_failures rules.new) ⊎ (0 < read_failures trace.new) }
     ensures endless { result ≡ Err ReplayFault.Endless → IsSpent rules.new ⊎ IsSpent trace.new }
     ensures write { result ≡ Err ReplayFault.Write → 0 < write_failures out.new }
-    ensures memory { result ≡ Err ReplayFault.Memory → read_failures rules.new ≡ 0 }
+    ensures memory { result ≡ Err ReplayFault.Memory → (read_failures rules.new ≡ 0) × ((trace.new ≡ trace.old) ⊎ (read_failures trace.new ≡ 0)) }
+
+    // The feeds keep their bounds, and by lines all that was written is flushed.
+    ensures bounds { (bound_of rules.new ≡ bound_of rules.old) × (bound_of trace.new ≡ bound_of trace.old) }
+    ensures shows { ShowsLines out.new result }
 {
     let config = match read_config(alloc, rules) {
         Ok(config) => config,
@@ -74,9 +84,10 @@ pub fn replay<R: Read, T: Read, W: Write>(
         Ok(n) => n,
         Err(_) => return Err(feed_fault(trace)),
     };
+    let begun = trace.reads();
     let mut lent = first[..n].chain(trace.lend());
     let outcome = write_report(alloc, config, &mut lent, out);
     let reads = lent.into_inner().1.reads();
-    trace.resume(reads);
+    trace.resume(begun, reads);
     finish(outcome, trace, out)
 }

@@ -2,11 +2,11 @@
 
 ghost use Rattle.std.specs.Prelude.{◌≡◌, Some, Err, ◌<◌, ℕ, List};
 ghost use Rattle.std.specs.Io.KnownBytes.{Appends};
-ghost use Rattle.pfs_cli_streams.specs.Sinks.{bytes_held, write_failures};
+ghost use Rattle.pfs_cli_streams.specs.Sinks.{OwesNoFlush, bytes_held, write_failures};
 ghost use Rattle.pfs_cli_formats.specs.Reading.{records_of};
 ghost use Rattle.pfs_cli_formats.specs.Traces.{events_of};
 ghost use Rattle.pfs_store_contract.specs.Worlds.{empty_world};
-ghost use Rattle.pfs_cli.specs.Turns.{Tells};
+ghost use Rattle.pfs_cli.specs.Turns.{PassedOn, Tells};
 
 use crate::records::{Stop, tell_records};
 use pfs_cli_streams::Sink;
@@ -21,8 +21,8 @@ use std::io::{Read, Write};
 type TraceStore = IndexStore;
 
 /// Reads the trace of `source`, and writes its report under a configuration: the line of each record
-/// before the next is read, and the last line, with what is held. Nothing is flushed. What is held is kept in an empty store
-/// that was made for the configuration, and is given up at the end.
+/// before the next is read, and the last line, with what is held. A sink by lines is flushed after each line, another not at
+/// all. What is held is kept in an empty store that was made for the configuration, and is given up at the end.
 ///
 /// What is written at a stop:
 ///
@@ -42,10 +42,12 @@ pub fn write_report_over<H: Store + Drop, S: Read + Drop, W: Write>(
 ) -> Result<(), Stop>
     requires empty { H.world store ≡ empty_world }
     requires made_for { H.config store ≡ config }
+    requires passed_on { OwesNoFlush out.old }
     ensures tells { (xs : List ℕ) → S.remaining source ≡ Some xs →
         ((t : List ℕ) × Appends (bytes_held W.contents out.old) (bytes_held W.contents out.new) t
         × Tells config (events_of config (records_of xs)) t result) }
     ensures fails { result ≡ Err (Stop.Write) → 0 < write_failures out.new }
+    ensures passed_on { PassedOn out.new result }
 {
     match Engine::new(alloc, config, store) {
         Ok(mut engine) => tell_records(alloc, source, &mut engine, out),
@@ -60,10 +62,12 @@ pub(crate) fn write_report<S: Read + Drop, W: Write>(
     source: S,
     out: &mut Sink<W>,
 ) -> Result<(), Stop>
+    requires passed_on { OwesNoFlush out.old }
     ensures tells { (xs : List ℕ) → S.remaining source ≡ Some xs →
         ((t : List ℕ) × Appends (bytes_held W.contents out.old) (bytes_held W.contents out.new) t
         × Tells config (events_of config (records_of xs)) t result) }
     ensures fails { result ≡ Err (Stop.Write) → 0 < write_failures out.new }
+    ensures passed_on { PassedOn out.new result }
 {
     match TraceStore::new(alloc, &config) {
         Ok(store) => write_report_over(alloc, config, store, source, out),

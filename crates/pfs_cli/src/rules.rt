@@ -1,7 +1,7 @@
 //! From a rules text to its configuration.
 
 ghost use Rattle.std.specs.Prelude.{◌≡◌, ◌≢◌, Some, Err, ◌<◌, ◌≤◌, ◌+◌, ℕ, List, true, IfOk, IfErr, length, drop};
-ghost use Rattle.pfs_cli_streams.specs.Feeds.{unread, has_ended, IsSpent, read_failures};
+ghost use Rattle.pfs_cli_streams.specs.Feeds.{bound_of, unread, has_ended, IsSpent, read_failures};
 ghost use Rattle.pfs_cli_streams.specs.Kept.{KeepsEnough, rules_limit};
 ghost use Rattle.pfs_conf.specs.Reads.{Reads};
 ghost use Rattle.pfs_cli.specs.Refusing.{IsFeedFault, RefusesRules, RefusesText, fault_of};
@@ -26,6 +26,7 @@ pub(crate) fn read_config<R: Read>(
     ensures read { result ≡ Err ReplayFault.Read → 0 < read_failures rules.new }
     ensures endless { result ≡ Err ReplayFault.Endless → IsSpent rules.new }
     ensures memory { result ≡ Err ReplayFault.Memory → read_failures rules.new ≡ 0 }
+    ensures bound { bound_of rules.new ≡ bound_of rules.old }
     ensures sound { IfOk result (λ c. read_failures rules.new ≡ 0) }
     ensures no_write { IfErr result (λ f. f ≢ ReplayFault.Write) }
 {
@@ -50,6 +51,7 @@ fn read_text<R: Read>(alloc: Global, rules: &mut Feed<R>) -> Result<Vec<u8>, Rep
     ensures read { result ≡ Err ReplayFault.Read → 0 < read_failures rules.new }
     ensures endless { result ≡ Err ReplayFault.Endless → IsSpent rules.new }
     ensures memory { result ≡ Err ReplayFault.Memory → read_failures rules.new ≡ 0 }
+    ensures bound { bound_of rules.new ≡ bound_of rules.old }
 {
     match read_rules(alloc, rules) {
         Ok(text) => Ok(text),

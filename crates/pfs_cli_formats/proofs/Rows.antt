@@ -16,6 +16,9 @@ said (outcome.Drop r l) = simp append_assoc
 said (outcome.Kill r limits overload killed) = simp append_assoc
 said outcome.Skip = refl
 said (outcome.Expire removed) = refl
+said (outcome.Add became) = simp append_assoc
+said (outcome.Delete removed) = refl
+said (outcome.Held h) = simp append_assoc
 
 mark-parts : (rule : Option RuleNo) → mark_text rule ≡ rule_sign rule ++ number_text rule
 mark-parts (Some r) = refl

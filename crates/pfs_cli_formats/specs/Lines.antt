@@ -4,6 +4,8 @@ use Rattle.std.specs.Fmt.{decimal}
 use Rattle.pfs_conf_values.specs.declared.items.RuleNo.{RuleNo}
 use Rattle.pfs_store_contract.specs.declared.records.Limit.{Limit}
 use Rattle.pfs_store_contract.specs.declared.records.Limit.TheVariants as limit
+use Rattle.pfs_eval.specs.declared.tables.Entered.{Entered}
+use Rattle.pfs_eval.specs.declared.tables.Entered.TheVariants as entered
 use Rattle.pfs_engine_machine.specs.Sources.{Addition, value_of_addition}
 use Rattle.pfs_engine_machine.specs.declared.events.Exceeded.{Exceeded}
 use Rattle.pfs_engine_machine.specs.declared.events.Exceeded.TheVariants as exceeded
@@ -33,8 +35,19 @@ mark_text None = codes "-"
 abbrev pub overload_word : Addition → List ℕ
 overload_word a = value_of_addition (codes "added") (codes "held") (codes "full") (codes "none") a
 
+-- what became of an entry that was to be added
+abbrev pub entered_word : Entered → List ℕ
+entered_word entered.New = codes "added"
+entered_word entered.Held = codes "held"
+entered_word entered.Conflict = codes "conflict"
+entered_word entered.Full = codes "full"
+
+-- how much is held: states, source nodes and table entries
+abbrev pub amounts_text : ℕ → ℕ → ℕ → List ℕ
+amounts_text states nodes entries = codes "states=" ++ (decimal states ++ (codes " nodes=" ++ (decimal nodes ++ (codes " entries=" ++ decimal entries))))
+
 -- what a line says: its word, and the rule by which it came, or `-`; of killed states also the overload and how many
--- were killed, of entries that expired how many left
+-- were killed, of entries that were taken out how many left, of one that was to be added what became of it, and how much is held
 abbrev pub outcome_text : Outcome → List ℕ
 outcome_text (outcome.State r) = codes "state " ++ mark_text (Some r)
 outcome_text (outcome.New r) = codes "new " ++ mark_text (Some r)
@@ -45,6 +58,9 @@ outcome_text (outcome.Kill r limits overload killed) =
     kill_word limits ++ (codes " " ++ (mark_text (Some r) ++ (codes " overload=" ++ (overload_word overload ++ (codes " killed=" ++ decimal killed)))))
 outcome_text outcome.Skip = codes "skip -"
 outcome_text (outcome.Expire removed) = codes "expire - removed=" ++ decimal removed
+outcome_text (outcome.Add became) = codes "add - " ++ entered_word became
+outcome_text (outcome.Delete removed) = codes "delete - removed=" ++ decimal removed
+outcome_text (outcome.Held h) = codes "held - " ++ amounts_text h.states h.nodes h.entries
 
 -- the line of a record
 abbrev pub row_text : ℕ → Outcome → List ℕ
@@ -53,4 +69,4 @@ row_text row o = decimal row ++ (codes " " ++ (outcome_text o ++ codes "\n"))
 -- the last line: how many records there were, and the states, source nodes and table entries that are held after them
 abbrev pub end_text : ℕ → ℕ → ℕ → ℕ → List ℕ
 end_text rows states nodes entries =
-    codes "end rows=" ++ (decimal rows ++ (codes " states=" ++ (decimal states ++ (codes " nodes=" ++ (decimal nodes ++ (codes " entries=" ++ (decimal entries ++ codes "\n")))))))
+    codes "end rows=" ++ (decimal rows ++ (codes " " ++ (amounts_text states nodes entries ++ codes "\n")))

@@ -27,15 +27,6 @@ records_left cfg s xs = records_from cfg (length xs + 1) s xs
 abbrev pub beside : Addr → Option Addr → Option Addr
 beside other addr = option_filter (same_family other) addr
 
--- the event of a record of a packet
-abbrev pub arrival_at : ℕ → Option ℕ → ℕ → List (List ℕ) → Result Event TraceFault
-arrival_at row last time fields = and_then (packet_at row fields) (λ packet. at_moment row last time (Some (option_map_or arrival.Packet packet arrival.Skip)))
-
--- the event of a record by which entries leave a table
-abbrev pub leaving_at : Conf → ℕ → Option ℕ → ℕ → List (List ℕ) → Result Event TraceFault
-leaving_at conf row last time fields =
-    and_then (expiry_at row fields) (λ read. at_moment row last time (option_map (λ t. arrival.Expire t read.1) (changing conf (table_named conf read.0))))
-
 -- a record has nine fields, the names of the columns
 abbrev pub has_names : List (List ℕ) → Bool
 has_names fields =

@@ -4,7 +4,7 @@ use Rattle.std.specs.Fmt.{decimal}
 use Rattle.pfs_conf_values.specs.declared.items.RuleNo.{RuleNo}
 use Rattle.pfs_engine_machine.specs.declared.events.Outcome.{Outcome}
 use Rattle.pfs_engine_machine.specs.declared.events.Outcome.TheVariants as outcome
-use Rattle.pfs_cli_formats.specs.Lines.{kill_word, limit_word, overload_word}
+use Rattle.pfs_cli_formats.specs.Lines.{amounts_text, entered_word, kill_word, limit_word, overload_word}
 
 -- the word of a line
 abbrev pub word_of : Outcome → List ℕ
@@ -16,6 +16,9 @@ word_of (outcome.Drop r l) = limit_word l
 word_of (outcome.Kill r limits overload killed) = kill_word limits
 word_of outcome.Skip = codes "skip"
 word_of (outcome.Expire removed) = codes "expire"
+word_of (outcome.Add became) = codes "add"
+word_of (outcome.Delete removed) = codes "delete"
+word_of (outcome.Held h) = codes "held"
 
 -- the rule by which it came: none for a record that is no packet, and for a packet that no rule matched
 abbrev pub rule_by : Outcome → Option RuleNo
@@ -27,11 +30,18 @@ rule_by (outcome.Drop r l) = Some r
 rule_by (outcome.Kill r limits overload killed) = Some r
 rule_by outcome.Skip = None
 rule_by (outcome.Expire removed) = None
+rule_by (outcome.Add became) = None
+rule_by (outcome.Delete removed) = None
+rule_by (outcome.Held h) = None
 
--- a line of killed states continues with the overload and how many were killed, one of entries that expired with how many left
+-- a line of killed states continues with the overload and how many were killed, one of a command with what
+-- came of it, and one of a question with how much is held
 abbrev pub note_text : Outcome → List ℕ
 note_text (outcome.Kill r limits overload killed) = codes " overload=" ++ (overload_word overload ++ (codes " killed=" ++ decimal killed))
 note_text (outcome.Expire removed) = codes " removed=" ++ decimal removed
+note_text (outcome.Add became) = codes " " ++ entered_word became
+note_text (outcome.Delete removed) = codes " removed=" ++ decimal removed
+note_text (outcome.Held h) = codes " " ++ amounts_text h.states h.nodes h.entries
 note_text _ = []
 
 -- `@` comes before a rule's number; `-` is written where there is no rule

@@ -3,17 +3,17 @@
 ghost use Rattle.std.specs.Prelude.{◌≡◌, ◌≤◌};
 ghost use Rattle.csv.specs.Records.{fields_of};
 ghost use Rattle.pfs_addr_values.specs.Protocols.{is_icmp};
-ghost use Rattle.pfs_addr.specs.Texts.{addr_of};
+ghost use Rattle.pfs_addr.specs.Texts.{addr_of, prefix_of};
 ghost use Rattle.pfs_conf_values.specs.Configs.{table_named};
-ghost use Rattle.pfs_cli_formats.specs.Events.{changing, column_of, number_to, dir_of, expiry_at, port_for, flags_for, nothing_in, is_header, falls, event_at};
-ghost use Rattle.pfs_cli_formats.specs.Reading.{arrival_at, beside, leaving_at};
+ghost use Rattle.pfs_cli_formats.specs.Events.{addition_at, arrival_at, change_at, changing, column_of, deletion_at, dir_of, end_at, entry_in, event_at, expiry_at, falls, flags_for, is_header, named_at, nothing_in, number_to, port_for, question_at, signed, verb_of};
+ghost use Rattle.pfs_cli_formats.specs.Reading.{beside};
 
 use crate::faults::TraceFault;
 use csv::ByteRecord;
-use pfs_addr::{parse_addr, parse_flags, parse_number, parse_proto};
+use pfs_addr::{parse_addr, parse_flags, parse_number, parse_prefix, parse_proto};
 use pfs_addr_values::{Addr, Dir, Endpoint, Flags, Packet, Proto, parse_ifname};
 use pfs_conf_values::{Config, TableName, TableNo};
-use pfs_engine_machine::{Arrival, Event};
+use pfs_engine_machine::{Arrival, Command, Event, TableEntry};
 
 /// Whether a record is the header that a trace begins with. It takes no memory.
 pub fn has_columns(fields: &ByteRecord) -> bool
@@ -46,10 +46,38 @@ pub fn read_event(
         return Err(TraceFault::Columns(row));
     }
     let time = read_number(column(fields, 1), 4_294_967_295).ok_or(TraceFault::Field(row, 1))?;
-    if column(fields, 2) == b"expire".as_slice() {
-        return read_leaving(row, last, time, config, fields);
+    match read_verb(column(fields, 2)) {
+        None => read_packet(row, last, time, fields),
+        Some(Verb::Held) => read_question(row, last, time, fields),
+        Some(Verb::Expire) => change(row, last, time, config, read_expiry(row, fields)),
+        Some(Verb::Add) => change(row, last, time, config, read_addition(row, fields)),
+        Some(Verb::Delete) => change(row, last, time, config, read_deletion(row, fields)),
     }
-    read_packet(row, last, time, fields)
+}
+
+/// What an administrator does, by the word of a record.
+enum Verb {
+    Expire,
+    Add,
+    Delete,
+    Held,
+}
+
+/// What a word in the second column says; none where it is a packet's direction, or no word at all.
+fn read_verb(word: &[u8]) -> Option<Verb>
+    ensures { result ≡ verb_of word.now }
+{
+    if word == b"expire".as_slice() {
+        Some(Verb::Expire)
+    } else if word == b"add".as_slice() {
+        Some(Verb::Add)
+    } else if word == b"delete".as_slice() {
+        Some(Verb::Delete)
+    } else if word == b"held".as_slice() {
+        Some(Verb::Held)
+    } else {
+        None
+    }
 }
 
 fn has_fallen(last: Option<u64>, time: u64) -> bool
@@ -61,22 +89,43 @@ fn has_fallen(last: Option<u64>, time: u64) -> bool
     }
 }
 
-/// The event of a record by which entries leave a table.
-fn read_leaving(
+/// The event of a record by which a table changes, of what its fields say.
+fn change(
     row: u64,
     last: Option<u64>,
     time: u64,
     config: &Config,
-    fields: &ByteRecord,
+    read: Result<(TableName, Command), TraceFault>,
 ) -> Result<Event, TraceFault>
-    ensures { result ≡ leaving_at config.now row last time (fields_of fields.now) }
+    ensures { result ≡ change_at config.now row last time read }
 {
-    let (name, seconds) = read_expiry(row, fields)?;
+    let (name, command) = read?;
     if has_fallen(last, time) {
         return Err(TraceFault::TimeFell(row));
     }
     let table = find_table(config, &name).ok_or(TraceFault::Table(row))?;
-    let what = Arrival::Expire { table, seconds };
+    let what = Arrival::Table { table, command };
+    Ok(Event { time, what })
+}
+
+/// The event of a record that asks how much is held.
+fn read_question(
+    row: u64,
+    last: Option<u64>,
+    time: u64,
+    fields: &ByteRecord,
+) -> Result<Event, TraceFault>
+    ensures { result ≡ question_at row last time (fields_of fields.now) }
+{
+    read_nothing(column(fields, 3)).ok_or(TraceFault::Field(row, 3))?;
+    read_nothing(column(fields, 4)).ok_or(TraceFault::Field(row, 4))?;
+    read_nothing(column(fields, 5)).ok_or(TraceFault::Field(row, 5))?;
+    read_nothing(column(fields, 6)).ok_or(TraceFault::Field(row, 6))?;
+    read_end(row, fields)?;
+    if has_fallen(last, time) {
+        return Err(TraceFault::TimeFell(row));
+    }
+    let what = Arrival::Held;
     Ok(Event { time, what })
 }
 
@@ -91,18 +140,71 @@ fn find_table(config: &Config, name: &TableName) -> Option<TableNo>
     Some(table)
 }
 
-/// The name of a table, and how many seconds old its entries are that leave.
-fn read_expiry(row: u64, fields: &ByteRecord) -> Result<(TableName, u64), TraceFault>
+/// The name of a table, and that its entries leave that are so many seconds old.
+fn read_expiry(row: u64, fields: &ByteRecord) -> Result<(TableName, Command), TraceFault>
     ensures { result ≡ expiry_at row (fields_of fields.now) }
 {
     let name = TableName::parse(column(fields, 3)).ok_or(TraceFault::Field(row, 3))?;
     read_nothing(column(fields, 4)).ok_or(TraceFault::Field(row, 4))?;
     read_nothing(column(fields, 5)).ok_or(TraceFault::Field(row, 5))?;
     let seconds = read_number(column(fields, 6), 4_294_967_295).ok_or(TraceFault::Field(row, 6))?;
+    read_end(row, fields)?;
+    Ok((name, Command::Expire(seconds)))
+}
+
+/// The name of a table, and the entry that is added.
+fn read_addition(row: u64, fields: &ByteRecord) -> Result<(TableName, Command), TraceFault>
+    ensures { result ≡ addition_at row (fields_of fields.now) }
+{
+    let (name, entry) = read_named(row, fields)?;
+    Ok((name, Command::Add(entry)))
+}
+
+/// The name of a table, and the entry that is taken out.
+fn read_deletion(row: u64, fields: &ByteRecord) -> Result<(TableName, Command), TraceFault>
+    ensures { result ≡ deletion_at row (fields_of fields.now) }
+{
+    let (name, entry) = read_named(row, fields)?;
+    Ok((name, Command::Delete(entry)))
+}
+
+/// The name of a table, and an entry.
+fn read_named(row: u64, fields: &ByteRecord) -> Result<(TableName, TableEntry), TraceFault>
+    ensures { result ≡ named_at row (fields_of fields.now) }
+{
+    let name = TableName::parse(column(fields, 3)).ok_or(TraceFault::Field(row, 3))?;
+    read_nothing(column(fields, 4)).ok_or(TraceFault::Field(row, 4))?;
+    let entry = read_entry(column(fields, 5)).ok_or(TraceFault::Field(row, 5))?;
+    read_nothing(column(fields, 6)).ok_or(TraceFault::Field(row, 6))?;
+    read_end(row, fields)?;
+    Ok((name, entry))
+}
+
+/// An entry: a prefix, directly behind a `!` where it is negated.
+fn read_entry(text: &[u8]) -> Option<TableEntry>
+    ensures { result ≡ entry_in text.now }
+{
+    match text {
+        [b'!', prefix @ ..] => read_signed(prefix, true),
+        _ => read_signed(text, false),
+    }
+}
+
+fn read_signed(text: &[u8], negated: bool) -> Option<TableEntry>
+    ensures { result ≡ signed negated (prefix_of text.now) }
+{
+    let prefix = parse_prefix(text)?;
+    Some(TableEntry { prefix, negated })
+}
+
+/// That the last three columns are empty.
+fn read_end(row: u64, fields: &ByteRecord) -> Result<(), TraceFault>
+    ensures { result ≡ end_at row (fields_of fields.now) }
+{
     read_nothing(column(fields, 7)).ok_or(TraceFault::Field(row, 7))?;
     read_nothing(column(fields, 8)).ok_or(TraceFault::Field(row, 8))?;
     read_nothing(column(fields, 9)).ok_or(TraceFault::Field(row, 9))?;
-    Ok((name, seconds))
+    Ok(())
 }
 
 fn read_nothing(text: &[u8]) -> Option<()>

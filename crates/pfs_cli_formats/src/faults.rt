@@ -9,7 +9,7 @@ pub enum TraceFault {
     Field(u64, u8),
     /// The moment of this row's record is before that of the record before it.
     TimeFell(u64),
-    /// This row's record takes entries out of a table that the rules do not name, or that is `const`.
+    /// This row's record is about a table that the rules do not name, or that is `const`.
     Table(u64),
     /// There are more than 1,000,000,000 records.
     TooManyRows,

@@ -1,12 +1,12 @@
 //! The lines of a report.
 
-ghost use Rattle.std.specs.Prelude.{◌≡◌, ◌++◌, OnOk, decimal};
-ghost use Rattle.pfs_cli_formats.specs.Lines.{row_text, end_text, overload_word};
+ghost use Rattle.std.specs.Prelude.{◌≡◌, ◌++◌, OnOk, codes, decimal};
+ghost use Rattle.pfs_cli_formats.specs.Lines.{amounts_text, end_text, entered_word, overload_word, row_text};
 ghost use Rattle.pfs_cli_formats.specs.Words.{lead_of, note_text, number_text, rule_by};
 
 use itoa::Buffer;
 use pfs_conf_values::RuleNo;
-use pfs_engine_machine::{Added, Exceeded, Limit, Outcome};
+use pfs_engine_machine::{Added, Amounts, Entered, Exceeded, Limit, Outcome};
 use std::alloc::AllocError;
 
 /// The last line of a report: how many records there were, and what is held after them.
@@ -14,12 +14,8 @@ use std::alloc::AllocError;
 pub struct EndLine {
     /// The records after the header.
     pub rows: u64,
-    /// The states that are held.
-    pub states: u64,
-    /// The source nodes that are held, those without states too.
-    pub nodes: u64,
-    /// The entries that all tables have.
-    pub entries: u64,
+    /// How much is held.
+    pub held: Amounts,
 }
 
 /// Appends the line of a record: its row, what the machine did with it, and by which rule. It fails where memory was
@@ -37,13 +33,20 @@ pub fn push_row(out: &mut Vec<u8>, row: u64, outcome: &Outcome) -> Result<(), Al
 
 /// Appends the last line. It fails where memory was refused; a part of the line may have been appended then.
 pub fn push_end(out: &mut Vec<u8>, end: &EndLine) -> Result<(), AllocError>
-    ensures { OnOk result (out.new.items ≡ out.old.items ++ end_text end.now.rows end.now.states end.now.nodes end.now.entries) }
+    ensures { OnOk result (out.new.items ≡ out.old.items ++ end_text end.now.rows end.now.held.states end.now.held.nodes end.now.held.entries) }
 {
     push_named(out, b"end rows=", end.rows)?;
-    push_named(out, b" states=", end.states)?;
-    push_named(out, b" nodes=", end.nodes)?;
-    push_named(out, b" entries=", end.entries)?;
+    push_amounts(out, &end.held)?;
     out.extend_from_slice(b"\n")
+}
+
+/// How much is held, after a space.
+fn push_amounts(out: &mut Vec<u8>, held: &Amounts) -> Result<(), AllocError>
+    ensures { OnOk result (out.new.items ≡ out.old.items ++ (codes " " ++ amounts_text held.now.states held.now.nodes held.now.entries)) }
+{
+    push_named(out, b" states=", held.states)?;
+    push_named(out, b" nodes=", held.nodes)?;
+    push_named(out, b" entries=", held.entries)
 }
 
 fn push_named(out: &mut Vec<u8>, name: &[u8], number: u64) -> Result<(), AllocError>
@@ -70,7 +73,7 @@ fn push_rule(out: &mut Vec<u8>, rule: Option<RuleNo>) -> Result<(), AllocError>
     }
 }
 
-/// What follows on a line of killed states, and on one of entries that expired; nothing on any other.
+/// What follows on a line of killed states, of a command, and of a question; nothing on any other.
 fn push_note(out: &mut Vec<u8>, outcome: &Outcome) -> Result<(), AllocError>
     ensures { OnOk result (out.new.items ≡ out.old.items ++ note_text outcome.now) }
 {
@@ -85,7 +88,13 @@ fn push_note(out: &mut Vec<u8>, outcome: &Outcome) -> Result<(), AllocError>
             out.extend_from_slice(b" killed=")?;
             push_number(out, killed)
         }
-        Outcome::Expire(removed) => push_named(out, b" removed=", removed),
+        Outcome::Expire(removed) | Outcome::Delete(removed) => push_named(
+            out,
+            b" removed=",
+            removed,
+        ),
+        Outcome::Add(became) => out.extend_from_slice(entered_name(became).as_bytes()),
+        Outcome::Held(held) => push_amounts(out, &held),
         _ => Ok(()),
     }
 }
@@ -101,6 +110,17 @@ fn overload_name(overload: Option<Added>) -> &'static str
     }
 }
 
+fn entered_name(became: Entered) -> &'static str
+    ensures { result.now ≡ codes " " ++ entered_word became }
+{
+    match became {
+        Entered::New => " added",
+        Entered::Held => " held",
+        Entered::Conflict => " conflict",
+        Entered::Full => " full",
+    }
+}
+
 fn rule(outcome: &Outcome) -> Option<RuleNo>
     ensures { result ≡ rule_by outcome.now }
 {
@@ -111,7 +131,11 @@ fn rule(outcome: &Outcome) -> Option<RuleNo>
         | Outcome::Drop(rule, _)
         | Outcome::Kill { rule, .. } => Some(rule),
         Outcome::Pass(rule) => rule,
-        Outcome::Skip | Outcome::Expire(_) => None,
+        Outcome::Skip
+        | Outcome::Expire(_)
+        | Outcome::Add(_)
+        | Outcome::Delete(_)
+        | Outcome::Held(_) => None,
     }
 }
 
@@ -144,5 +168,8 @@ fn lead(outcome: &Outcome) -> &'static str
         } => " kill:max-src-conn+max-src-conn-rate @",
         Outcome::Skip => " skip -",
         Outcome::Expire(_) => " expire -",
+        Outcome::Add(_) => " add -",
+        Outcome::Delete(_) => " delete -",
+        Outcome::Held(_) => " held -",
     }
 }

@@ -1,13 +1,24 @@
 -- The jobs of a command line, by what clap finds in its words.
-use Rattle.std.specs.Prelude.{◌≡◌, List, codes, true, Option, Some, None}
-use Rattle.clap.specs.Words.{App, Row, Rule, Shape, Text, first_of, new_app, new_rule, with_rule, with_subcommand}
+use Rattle.std.specs.Prelude.{◌≡◌, ◌&&◌, List, codes, Bool, true, false, Option, Some, None, if◌then◌else◌}
+use Rattle.std.specs.Str.{bytes_eq}
+use Rattle.clap.specs.Words.{App, Row, Rule, Shape, Text, first_of, new_app, new_rule, one_of, with_rule, with_subcommand}
 use Rattle.clap.specs.Simple.{on_top}
+use Rattle.clap.specs.declared.builder.action.ArgAction.TheVariants.{SetTrue}
+use Rattle.pfs_cli_jobs.specs.declared.tasks.Request.{Request}
 use Rattle.pfs_cli_jobs.specs.declared.tasks.Job.{Job}
 use Rattle.pfs_cli_jobs.specs.declared.tasks.Job.TheVariants as job
 
 -- a file's name, which has to be there
 abbrev pub file_rule : Text → Rule
 file_rule id = record (new_rule id) { required = true }
+
+-- a flag by its long name, which is also its id
+abbrev pub flag_rule : Text → Rule
+flag_rule id = record (new_rule id) { long = Some id; action = Some SetTrue }
+
+-- the flag for each line as it happens (the word of grep)
+abbrev pub lines_flag : Text
+lines_flag = codes "line-buffered"
 
 -- the subcommands
 abbrev pub check_app : App
@@ -17,11 +28,11 @@ abbrev pub show_app : App
 show_app = with_rule (new_app (codes "show")) (file_rule (codes "RULES"))
 
 abbrev pub replay_app : App
-replay_app = with_rule (with_rule (new_app (codes "replay")) (file_rule (codes "RULES"))) (file_rule (codes "TRACE"))
+replay_app = with_rule (with_rule (with_rule (new_app (codes "replay")) (flag_rule lines_flag)) (file_rule (codes "RULES"))) (file_rule (codes "TRACE"))
 
--- the program, which has a version
+-- the program, which has a version, and the flag for a call without a subcommand
 abbrev pub program_app : App
-program_app = on_top (λ (s : Shape). record s { has_version = true }) (new_app (codes "pfsrc"))
+program_app = with_rule (on_top (λ (s : Shape). record s { has_version = true }) (new_app (codes "pfsrc"))) (flag_rule lines_flag)
 
 -- its command line
 abbrev pub pfsrc_app : App
@@ -31,22 +42,49 @@ pfsrc_app = with_subcommand (with_subcommand (with_subcommand program_app check_
 abbrev pub Found : Type 0
 Found = Option (Text × List Row)
 
--- the job that a subcommand names
+-- whether a name stands for standard input; a file of that name is `./-`
+abbrev pub is_standard : Text → Bool
+is_standard name = bytes_eq name (codes "-")
+
+-- the file of a name, where it does not stand for standard input
+abbrev pub file_of : Text → Option Text
+file_of name = if is_standard name then None else Some name
+
+-- the job that a subcommand names; standard input gives rules or a trace, not both
 abbrev pub JobIs : Found → Job → Type 0
 JobIs found job.Joined = found ≡ None
 JobIs found (job.Check rules) = (rows : List Row) × (found ≡ Some (codes "check", rows)) × (first_of (codes "RULES") rows ≡ Some rules.now)
 JobIs found (job.Show rules) = (rows : List Row) × (found ≡ Some (codes "show", rows)) × (first_of (codes "RULES") rows ≡ Some rules.now)
 JobIs found (job.Replay rules trace) = (rows : List Row) × (found ≡ Some (codes "replay", rows)) × (first_of (codes "RULES") rows ≡ Some rules.now) × (first_of (codes "TRACE") rows ≡ Some trace.now)
+    × (is_standard rules.now && is_standard trace.now ≡ false)
 
--- the names of the files that a job reads, where it names them
+-- whether the flag for each line as it happens stands among the words of these entries
+abbrev pub ByLinesIn : List Row → Bool → Type 0
+ByLinesIn rows given =
+    (one_of lines_flag rows ≡ None → given ≡ false)
+    × (one_of lines_flag rows ≡ Some (codes "true") → given ≡ true)
+    × (one_of lines_flag rows ≡ Some (codes "false") → given ≡ false)
+
+-- a job by lines, by the entries before a subcommand and by those after it: a replay alone can be one
+abbrev pub ByLines : List Row → Found → Job → Bool → Type 0
+ByLines rows found job.Joined given = ByLinesIn rows given
+ByLines rows found (job.Check name) given = given ≡ false
+ByLines rows found (job.Show name) given = given ≡ false
+ByLines rows found (job.Replay name other) given = (name : Text) (inner : List Row) → found ≡ Some (name, inner) → ByLinesIn inner given
+
+-- what a command line asks for
+abbrev pub RequestIs : List Row → Found → Request → Type 0
+RequestIs rows found r = JobIs found r.job × ByLines rows found r.job r.by_lines
+
+-- the names of the files that a job reads, where it names them and they do not stand for standard input
 abbrev pub rules_file : Job → Option Text
 rules_file job.Joined = None
-rules_file (job.Check rules) = Some rules.now
-rules_file (job.Show rules) = Some rules.now
-rules_file (job.Replay rules trace) = Some rules.now
+rules_file (job.Check rules) = file_of rules.now
+rules_file (job.Show rules) = file_of rules.now
+rules_file (job.Replay rules trace) = file_of rules.now
 
 abbrev pub trace_file : Job → Option Text
 trace_file job.Joined = None
 trace_file (job.Check rules) = None
 trace_file (job.Show rules) = None
-trace_file (job.Replay rules trace) = Some trace.now
+trace_file (job.Replay rules trace) = file_of trace.now

@@ -4,5 +4,5 @@
 mod tasks;
 mod words;
 
-pub use tasks::Job;
-pub use words::job;
+pub use tasks::{Job, Request};
+pub use words::{job, request};

@@ -1,7 +1,6 @@
 -- The split of a joined text by its lines, and byte by byte.
-use Rattle.std.proofs.Common.{◌≡◌, ◌++◌, ◌∙◌, ℕ, List, [], ◌∷◌, Bool, true, false, nat_eq, refl, sym, ap, append_assoc, length, take, drop, arith, suc, ◌+◌}
-use Rattle.std.specs.Prelude.{◌==◌, ◌&&◌, ◌||◌, not, cond, codes, if◌then◌else◌}
-use Rattle.std.specs.Str.{bytes_eq}
+use Rattle.std.proofs.Common.{◌≡◌, ◌++◌, ◌∙◌, ℕ, List, [], ◌∷◌, Bool, true, false, refl, sym, ap, take, drop, arith, suc, ◌+◌}
+use Rattle.std.specs.Prelude.{◌==◌, if◌then◌else◌}
 use Rattle.std.specs.List.{after_first, before_first, concat, onto_first, position_or_len}
 use Rattle.std.specs.Io.BufRead.{take_through, drop_through}
 use Rattle.pfs_cli_streams.specs.Joined.{is_split, lines_in, split_joined}

@@ -53,3 +53,15 @@ MayRead f = (f.made < f.bound) × (f.ended ≡ false) × (f.failures ≡ 0)
 -- the reader is not read again, though it did not end: it failed, or all reads are made
 abbrev pub IsClosed : {R : Type 0} → FeedView R → Type 0
 IsClosed f = (f.ended ≡ false) × ((0 < f.failures) ⊎ (f.made ≡ f.bound))
+
+-- of so many reads of which so many failed, the first did not
+abbrev pub BeganWell : ℕ → ℕ → Type 0
+BeganWell made failures = (0 < made) × (0 < failures → 1 < made)
+
+-- the same bound, reads made, failures and end; the readers may be of two types
+abbrev pub SameReads : {R S : Type 0} → FeedView R → FeedView S → Type 0
+SameReads f g = (g.bound ≡ f.bound) × (g.made ≡ f.made) × (g.failures ≡ f.failures) × (g.ended ≡ f.ended)
+
+-- a feed has this bound, these reads made, these failures and this end
+abbrev pub HasReads : {R : Type 0} → FeedView R → ℕ → ℕ → ℕ → Bool → Type 0
+HasReads f bound made failures ended = (bound ≡ f.bound) × (made ≡ f.made) × (failures ≡ f.failures) × (ended ≡ f.ended)

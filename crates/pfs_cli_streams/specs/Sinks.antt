@@ -1,10 +1,12 @@
 -- What a sink is. (own)
-use Rattle.std.specs.Prelude.{◌+◌, ◌-◌, ◌^◌, ℕ, List, Option, min}
+use Rattle.std.specs.Prelude.{◌≡◌, ◌+◌, ◌-◌, ◌^◌, ℕ, Bool, true, false, List, Option, min}
 
 -- what a contract sees of a sink
 pub record SinkView (W : Type 0) : Type 0 where
   pub writer : W
   pub failures : ℕ
+  pub by_lines : Bool
+  pub unflushed : Bool
 
 -- the writer, with what was written
 abbrev pub writer_of : {W : Type 0} → SinkView W → W
@@ -21,3 +23,15 @@ bytes_held contents s = contents s.writer
 -- one failure more; the count stays at the greatest number of 64 bits
 abbrev pub one_more : ℕ → ℕ
 one_more n = min (n + 1) (2 ^ 64 - 1)
+
+-- whether each text is flushed as soon as it is written whole
+abbrev pub is_by_lines : {W : Type 0} → SinkView W → Bool
+is_by_lines s = s.by_lines
+
+-- whether a byte was written after the last flush that worked
+abbrev pub is_unflushed : {W : Type 0} → SinkView W → Bool
+is_unflushed s = s.unflushed
+
+-- a sink by lines has passed on all that was written to it
+abbrev pub OwesNoFlush : {W : Type 0} → SinkView W → Type 0
+OwesNoFlush s = s.by_lines ≡ true → s.unflushed ≡ false

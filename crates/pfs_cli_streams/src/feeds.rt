@@ -4,7 +4,7 @@ ghost use Rattle.std.specs.Prelude.{◌≡◌, ◌≢◌, ◌⊎◌, ◌+◌, �
 ghost use Rattle.std.specs.Io.{ReadsAtMost};
 ghost use Rattle.std.specs.Io.KnownBytes.{ReadConsumes};
 ghost use Rattle.std.specs.IoError.{error_kind};
-ghost use Rattle.pfs_cli_streams.specs.Feeds.{FeedView, unread, unread_behind, reader_of, bound_of, reads_of, read_failures, has_ended, IsSpent, IsFresh, MayRead, IsClosed};
+ghost use Rattle.pfs_cli_streams.specs.Feeds.{FeedView, HasReads, BeganWell, SameReads, unread, unread_behind, reader_of, bound_of, reads_of, read_failures, has_ended, IsSpent, IsFresh, MayRead, IsClosed};
 
 use std::io;
 use std::io::{Error, ErrorKind, Read};
@@ -19,6 +19,7 @@ pub struct Reads {
     ended: bool,
     ghost within: { made ≤ bound },
     ghost end_was_read: { ended ≡ true → 0 < made },
+    ghost ended_or_failed: { ended ≡ true → failures ≡ 0 },
 }
 
 /// A reader of which at most a given number of reads are made.
@@ -78,11 +79,20 @@ impl<R> Feed<R> {
         made == bound && !ended && failures == 0
     }
 
-    /// Lends a feed of which a read was made. What is lent reads on under the same bound, and counts its reads. The
-    /// feed goes on after them by `resume`.
+    /// The reads that were made, of how many, and how they ended.
+    pub fn reads(&self) -> Reads
+        ensures { HasReads self.now result.bound result.made result.failures result.ended }
+    {
+        self.reads
+    }
+
+    /// Lends a feed of which a read was made, and none failed. What is lent reads on under the same bound, and counts its
+    /// reads. The feed goes on after them by `resume`.
     pub fn lend(&mut self) -> Begun<'_, R>
-        requires { 0 < reads_of self.old }
+        requires begun { 0 < reads_of self.old }
+        requires sound { read_failures self.old ≡ 0 }
         ensures bytes { (remaining : R → Option (List ℕ)) → unread_behind remaining result.feed ≡ unread remaining self.old }
+        ensures same { SameReads self.old result.feed }
     {
         Begun {
             feed: Feed {
@@ -92,29 +102,35 @@ impl<R> Feed<R> {
         }
     }
 
-    /// Goes on after these reads, which were made of its reader while it was lent.
-    pub fn resume(&mut self, reads: Reads)
-        ensures bound { bound_of self.new ≡ reads.bound }
-        ensures made { reads_of self.new ≡ reads.made }
-        ensures failures { read_failures self.new ≡ reads.failures }
-        ensures ended { has_ended self.new ≡ reads.ended }
+    /// Goes on after these reads, which were made of its reader while it was lent. `lent` is what `reads` gave as it was
+    /// lent; it goes on after that where the two have other bounds.
+    pub fn resume(&mut self, lent: Reads, reads: Reads)
+        requires lent { BeganWell lent.made lent.failures }
+        requires reads { BeganWell reads.made reads.failures }
+        ensures bound { bound_of self.new ≡ lent.bound }
+        ensures goes_on { reads.bound ≡ lent.bound → HasReads self.new reads.bound reads.made reads.failures reads.ended }
+        ensures begun { BeganWell (reads_of self.new) (read_failures self.new) }
     {
-        self.reads = reads;
+        self.reads = if reads.bound == lent.bound {
+            reads
+        } else {
+            lent
+        };
     }
 }
 
-/// A feed that is lent, of which a read was made. Whatever is done with it, a read of its reader is counted.
+/// A feed that is lent, of which a read was made that did not fail. Whatever is done with it, that read is counted.
 #[derive(Drop)]
 pub struct Begun<'a, R> {
     feed: Feed<&'a mut R>,
-    ghost was_read: { 0 < reads_of feed },
+    ghost was_read: { BeganWell (reads_of feed) (read_failures feed) },
 }
 
 impl<R> Begun<'_, R> {
-    /// The reads that were made of its reader: one at least.
+    /// The reads that were made of its reader, one at least that did not fail, of how many, and how they ended.
     pub fn reads(&self) -> Reads
-        ensures made { result.made ≡ reads_of self.now.feed }
-        ensures some { 0 < result.made }
+        ensures same { HasReads self.now.feed result.bound result.made result.failures result.ended }
+        ensures begun { BeganWell result.made result.failures }
     {
         self.feed.reads
     }
@@ -154,6 +170,7 @@ impl<R: Read> Read for Feed<R> {
         ensures at_end { result ≡ Ok 0 → 0 < length buf.old → has_ended self.new ≡ true }
         ensures goes_on { IfOk result (λ n. 0 < n → has_ended self.new ≡ false) }
         ensures gives { OnOk result (read_failures self.new ≡ read_failures self.old) }
+        ensures sound { OnOk result (0 < length buf.old → read_failures self.new ≡ 0) }
         ensures fails { OnErr result ((0 < read_failures self.new) ⊎ IsSpent self.new) }
         ensures refuses { IfErr result (λ e. error_kind e ≢ ErrorKind.Interrupted) }
         ensures counts { (read_failures self.new ≡ read_failures self.old)

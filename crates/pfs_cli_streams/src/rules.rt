@@ -1,7 +1,7 @@
 //! The bytes of a rules text that has a reader of its own.
 
 ghost use Rattle.std.specs.Prelude.{◌≡◌, ◌⊎◌, Some, Err, ◌<◌, ◌≤◌, ◌+◌, ℕ, List, true, IfOk, length, drop};
-ghost use Rattle.pfs_cli_streams.specs.Feeds.{unread, has_ended, read_failures, IsSpent};
+ghost use Rattle.pfs_cli_streams.specs.Feeds.{bound_of, unread, has_ended, read_failures, IsSpent};
 ghost use Rattle.pfs_cli_streams.specs.Kept.{KeepsEnough, rules_limit};
 
 use crate::feeds::Feed;
@@ -32,6 +32,7 @@ pub fn read_rules<R: Read>(alloc: Global, rules: &mut Feed<R>) -> Result<Vec<u8>
     // A failed read is reported only where one failed or the bound is spent, and out of memory only where none failed.
     ensures source { result ≡ Err RulesStop.Source → (0 < read_failures rules.new) ⊎ IsSpent rules.new }
     ensures memory { result ≡ Err RulesStop.Memory → read_failures rules.new ≡ 0 }
+    ensures bound { bound_of rules.new ≡ bound_of rules.old }
 {
     let mut text = Vec::new(alloc);
     let mut chunk = [0; 4096];

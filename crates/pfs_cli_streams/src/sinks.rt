@@ -1,36 +1,61 @@
 //! A writer whose failures are counted.
 
-ghost use Rattle.std.specs.Prelude.{◌≡◌, ◌⊎◌, ◌<◌, length, IfOk, OnOk, OnErr};
+ghost use Rattle.std.specs.Prelude.{◌≡◌, ◌⊎◌, ◌<◌, true, false, length, IfOk, OnOk, OnErr};
 ghost use Rattle.std.specs.Io.{WritesAtMost};
 ghost use Rattle.std.specs.Io.KnownBytes.{WriteAppends, Keeps};
-ghost use Rattle.pfs_cli_streams.specs.Sinks.{SinkView, writer_of, write_failures, bytes_held, one_more};
+ghost use Rattle.pfs_cli_streams.specs.Sinks.{SinkView, writer_of, write_failures, bytes_held, one_more, is_by_lines, is_unflushed, OwesNoFlush};
 
 use std::io;
 use std::io::Write;
 use std::marker::Model;
 
-/// A writer, and how often it failed. Nothing is kept back: each write goes to the writer.
+/// A writer, how often it failed, and whether it owes a flush. Nothing is kept back: each write goes to the writer.
+///
+/// A sink by lines is flushed after each text that `write_whole` writes, so that a reader sees each line as it comes.
+/// No contract of a writer can say that it was flushed. So "nothing is unflushed" is said here as far as it can be: a
+/// write that takes a byte ends it, and a flush that works brings it back.
 #[derive(Debug, Drop)]
 pub struct Sink<W> {
     writer: W,
     failures: u64,
+    by_lines: bool,
+    unflushed: bool,
 }
 
 impl<W> Model for Sink<W> {
     ghost Value = { SinkView W };
 
-    ghost view = { λ s. record { writer = s.writer; failures = s.failures } };
+    ghost view = { λ s. record { writer = s.writer; failures = s.failures; by_lines = s.by_lines; unflushed = s.unflushed } };
 }
 
 impl<W> Sink<W> {
-    /// A sink of `writer` that has written nothing and has not failed.
+    /// A sink of `writer` that has written nothing and has not failed. It is flushed only where `flush` is called.
     pub fn new(writer: W) -> Sink<W>
         ensures writer { writer_of result ≡ writer }
         ensures fresh { write_failures result ≡ 0 }
+        ensures by_lines { is_by_lines result ≡ false }
+        ensures flushed { is_unflushed result ≡ false }
     {
         Sink {
             writer,
             failures: 0,
+            by_lines: false,
+            unflushed: false,
+        }
+    }
+
+    /// The same, but each text that `write_whole` writes is flushed at once.
+    pub fn line_buffered(writer: W) -> Sink<W>
+        ensures writer { writer_of result ≡ writer }
+        ensures fresh { write_failures result ≡ 0 }
+        ensures by_lines { is_by_lines result ≡ true }
+        ensures flushed { is_unflushed result ≡ false }
+    {
+        Sink {
+            writer,
+            failures: 0,
+            by_lines: true,
+            unflushed: false,
         }
     }
 
@@ -46,11 +71,7 @@ impl<W> Sink<W> {
     pub fn into_inner(self) -> W
         ensures { result ≡ writer_of self }
     {
-        let Sink {
-            writer,
-            failures: _,
-        } = self;
-        writer
+        self.writer
     }
 }
 
@@ -63,16 +84,24 @@ impl<W: Write> Sink<W> {
         ensures takes { IfOk result (λ n. (0 < n) ⊎ (length bytes.now ≡ 0) → write_failures self.new ≡ write_failures self.old) }
         ensures takes_none { result ≡ Ok 0 → 0 < length bytes.now → write_failures self.new ≡ one_more (write_failures self.old) }
         ensures fails { OnErr result (write_failures self.new ≡ one_more (write_failures self.old)) }
+        ensures by_lines { is_by_lines self.new ≡ is_by_lines self.old }
+        ensures unflushed { IfOk result (λ n. (0 < n → is_unflushed self.new ≡ true) × (n ≡ 0 → is_unflushed self.new ≡ is_unflushed self.old)) }
+        ensures unwritten { OnErr result (is_unflushed self.new ≡ is_unflushed self.old) }
     {
-        let outcome = self.writer.write(bytes);
-        let failed = match &outcome {
-            Ok(n) => *n == 0 && !bytes.is_empty(),
-            Err(_) => true,
-        };
-        if failed {
-            self.failures = self.failures.saturating_add(1);
+        match self.writer.write(bytes) {
+            Ok(n) => {
+                if n > 0 {
+                    self.unflushed = true;
+                } else if !bytes.is_empty() {
+                    self.failures = self.failures.saturating_add(1);
+                }
+                Ok(n)
+            }
+            Err(error) => {
+                self.failures = self.failures.saturating_add(1);
+                Err(error)
+            }
         }
-        outcome
     }
 
     /// One flush of the writer, whose answer is passed on. What was written stays. Takes no
@@ -81,11 +110,35 @@ impl<W: Write> Sink<W> {
         ensures bytes { Keeps (bytes_held W.contents self.old) (bytes_held W.contents self.new) }
         ensures flushes { OnOk result (write_failures self.new ≡ write_failures self.old) }
         ensures fails { OnErr result (write_failures self.new ≡ one_more (write_failures self.old)) }
+        ensures by_lines { is_by_lines self.new ≡ is_by_lines self.old }
+        ensures flushed { OnOk result (is_unflushed self.new ≡ false) }
+        ensures unflushed { OnErr result (is_unflushed self.new ≡ is_unflushed self.old) }
     {
-        let outcome = self.writer.flush();
-        if outcome.is_err() {
-            self.failures = self.failures.saturating_add(1);
+        match self.writer.flush() {
+            Ok(()) => {
+                self.unflushed = false;
+                Ok(())
+            }
+            Err(error) => {
+                self.failures = self.failures.saturating_add(1);
+                Err(error)
+            }
         }
-        outcome
+    }
+
+    /// Flushes a sink by lines to which a byte was written after the last flush that worked; else it does nothing.
+    /// What was written stays. Takes no memory of its own.
+    pub fn pass_on(&mut self) -> io::Result<()>
+        ensures bytes { Keeps (bytes_held W.contents self.old) (bytes_held W.contents self.new) }
+        ensures passes { OnOk result (write_failures self.new ≡ write_failures self.old) }
+        ensures fails { OnErr result (write_failures self.new ≡ one_more (write_failures self.old)) }
+        ensures by_lines { is_by_lines self.new ≡ is_by_lines self.old }
+        ensures owes { OnOk result (OwesNoFlush self.new) }
+        ensures untouched { is_by_lines self.old ≡ false → self.new ≡ self.old }
+    {
+        if self.by_lines && self.unflushed {
+            return self.flush();
+        }
+        Ok(())
     }
 }

@@ -15,10 +15,11 @@ use Rattle.pfs_store_contract.specs.declared.records.State.{State}
 use Rattle.pfs_engine_machine.specs.Machine.{Held, Machine, machine_at_moment, answer_to_packet, answer_of_action, answer_of_exceeded, answer_of_limits, answer_of_rule, answer_of_state, deciding_rule, exceeded_of, held_of}
 use Rattle.pfs_engine_machine.specs.Kept.{moment_of}
 use Rattle.pfs_engine_machine.specs.Refusals.{IsFree, IsFreeOf}
-use Rattle.pfs_engine_machine.specs.Runs.{IsRefusedIn}
+use Rattle.pfs_engine_machine.specs.Runs.{IsRefusedIn, NeedsMemory}
 use Rattle.pfs_engine_machine.specs.declared.events.Event.{Event}
 use Rattle.pfs_engine_machine.specs.declared.events.Exceeded.{Exceeded}
 use Rattle.pfs_engine_machine.specs.declared.events.Outcome.{Outcome}
+use Rattle.pfs_engine_machine.specs.declared.events.Arrival.{Arrival}
 use Rattle.pfs_engine_machine.specs.declared.events.Arrival.TheVariants as arrival
 use Rattle.pfs_engine.specs.Packets.{NeedsNone, NeedsNoneAt, NeedsNoneBy}
 
@@ -55,15 +56,27 @@ needs_none conf m p now free = free_state conf m p now (state_with (key_of p) m.
 
 pub refused_in : {E : Type 0} (conf : Conf) (m at new : Machine) (e : Event) (p : Header) (r : Result Outcome E) → e.what ≡ arrival.Packet p
     → at ≡ machine_at_moment conf m e.time → OnErr r (new ≡ at) → (IsFree conf p (answer_to_packet conf at.held p (moment_of at.last)).0 → IsOk r)
-    → OnErr r ((q : Header) × IsRefusedIn conf m e q new)
+    → OnErr r (IsRefusedIn conf m e new)
 refused_in conf m at new e p (Ok o) comes is same free = tt
 refused_in conf m at new e p (Err x) comes is same free =
-    let now : moment_of at.last ≡ e.time = ap (λ (k : Machine). moment_of k.last) is in (
-      p,
-      record {
-        comes = comes;
-        needs = λ f. absurd (false≢true (free (subst (λ (n : ℕ). IsFree conf p (answer_to_packet conf at.held p n).0) (sym now)
-            (subst (λ (k : Machine). IsFree conf p (answer_to_packet conf k.held p e.time).0) same f))));
-        moment = same ∙ is;
-      },
-    )
+    let now : moment_of at.last ≡ e.time = ap (λ (k : Machine). moment_of k.last) is in
+    record {
+      needs = subst (λ (w : Arrival). NeedsMemory conf new.held e.time w) (sym comes)
+          (λ f. absurd (false≢true (free (subst (λ (n : ℕ). IsFree conf p (answer_to_packet conf at.held p n).0) (sym now)
+          (subst (λ (k : Machine). IsFree conf p (answer_to_packet conf k.held p e.time).0) same f)))));
+      moment = same ∙ is;
+    }
+
+-- so was memory that was refused to what else comes
+pub refused_at : {X E : Type 0} (conf : Conf) (m at new : Machine) (e : Event) (w : Arrival) (r : Result X E) → e.what ≡ w
+    → at ≡ machine_at_moment conf m e.time → OnErr r (new ≡ at) → OnErr r (NeedsMemory conf at.held (moment_of at.last) w)
+    → OnErr r (IsRefusedIn conf m e new)
+refused_at conf m at new e w (Ok o) comes is same needs = tt
+refused_at conf m at new e w (Err x) comes is same needs =
+    let now : moment_of at.last ≡ e.time = ap (λ (k : Machine). moment_of k.last) is in
+    record {
+      needs = subst (λ (v : Arrival). NeedsMemory conf new.held e.time v) (sym comes)
+          (subst (λ (k : Machine). NeedsMemory conf k.held e.time w) (sym same)
+          (subst (λ (n : ℕ). NeedsMemory conf at.held n w) now needs));
+      moment = same ∙ is;
+    }

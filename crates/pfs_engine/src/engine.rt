@@ -2,15 +2,16 @@
 
 ghost use Rattle.std.specs.Prelude.{◌≡◌, ◌+◌, ◌<◌, ◌≤◌, ◌^◌, ◌++◌, length, None, Some, Ok, IfOk, IsOk, IsSome, OnErr, OnOk};
 ghost use Rattle.std.specs.Option.{ForSome};
-ghost use Rattle.pfs_addr_values.specs.Packets.{Header, run_limit};
+ghost use Rattle.pfs_addr_values.specs.Packets.{run_limit};
 ghost use Rattle.pfs_store_contract.specs.Worlds.{empty_world};
-ghost use Rattle.pfs_conf_values.specs.Configs.{scope_of};
+ghost use Rattle.pfs_conf_values.specs.Configs.{limit_of, scope_of};
+ghost use Rattle.pfs_eval.specs.Tables.{entered_to};
 ghost use Rattle.pfs_conf_values.specs.declared.actions.Scope.TheVariants as Scope;
 ghost use Rattle.pfs_conf_values.specs.declared.items.RuleNo.{RuleNo};
 ghost use Rattle.pfs_engine_machine.specs.Kept.{IsWithinLimits, IsWithinShared, moment_of};
 ghost use Rattle.pfs_engine_machine.specs.Refusals.{IsFree};
-ghost use Rattle.pfs_engine_machine.specs.Machine.{machine_at_moment, answer_to_packet, due, entries_held, answer_to_expire, nodes_held, start, states_held, step, machine_after, outcomes_of};
-ghost use Rattle.pfs_engine_machine.specs.Runs.{MayCome, MayExpire, AreAllowed, IsInOrder, IsRefusedIn, IsStopped, packets_in, packets_of};
+ghost use Rattle.pfs_engine_machine.specs.Machine.{machine_at_moment, amounts_of, answer_to_command, answer_to_packet, due, entries_held, nodes_held, start, states_held, step, machine_after, outcomes_of};
+ghost use Rattle.pfs_engine_machine.specs.Runs.{MayChange, MayCome, AreAllowed, IsInOrder, IsRefusedIn, IsStopped, NeedsMemory, packets_in, packets_of};
 ghost use Rattle.pfs_engine.specs.Calls.{CountsPacket, IsRefusedAtLimits, IsWorkOfPacket, IsWorkOfSeconds, Keeps};
 
 use crate::packets::{Meters, answer};
@@ -18,7 +19,7 @@ use crate::purges::purge_due;
 use crate::works::Work;
 use pfs_addr_values::{Meter, NoMemory, Packet, RUN_LIMIT};
 use pfs_conf_values::{Config, LimitName, TableNo};
-use pfs_engine_machine::{Arrival, Event, Outcome};
+use pfs_engine_machine::{Amounts, Arrival, Command, Entered, Event, Outcome, TableEntry};
 use pfs_eval::{Book, Tables};
 use pfs_store_contract::Store;
 use std::alloc::Global;
@@ -208,9 +209,9 @@ impl<S: Store> Engine<S> {
     /// was taken, and the work of the latest call, stay. (pfctl(8), "-T expire"; which moments count is own to this profile)
     pub fn expire(&mut self, table: TableNo, seconds: u64) -> u64
         requires started { IsSome self.old.machine.last }
-        requires table { MayExpire self.old.config table.0 }
+        requires table { MayChange self.old.config table.0 }
         ensures answer { (Outcome.Expire result, self.new.machine.held)
-            ≡ answer_to_expire self.old.machine.held (moment_of self.old.machine.first) (moment_of self.old.machine.last) table.0 seconds }
+            ≡ answer_to_command self.old.config self.old.machine.held (moment_of self.old.machine.first) (moment_of self.old.machine.last) table.0 (Command.Expire seconds) }
         ensures keeps { Keeps self.old self.new }
         ensures taken { self.new.taken ≡ self.old.taken }
         ensures work { self.new.work ≡ self.old.work }
@@ -220,13 +221,79 @@ impl<S: Store> Engine<S> {
         self.tables.expire(table, first, now, seconds)
     }
 
+    /// Adds an entry to a table at the last moment, unless the table has its prefix, with the same sign or the other, or all
+    /// tables together have as many entries as the limit allows. The table is one of the configuration's, and not `const`.
+    /// `NoMemory` where memory was refused for an entry that is new; then nothing has changed. It is no packet: what was
+    /// taken, and the work of the latest call, stay. (pfctl(8), "-T add")
+    pub fn add(&mut self, table: TableNo, entry: &TableEntry) -> Result<Entered, NoMemory>
+        requires started { IsSome self.old.machine.last }
+        requires table { MayChange self.old.config table.0 }
+        ensures ok { IfOk result (λ became. (Outcome.Add became, self.new.machine.held)
+            ≡ answer_to_command self.old.config self.old.machine.held (moment_of self.old.machine.first) (moment_of self.old.machine.last) table.0 (Command.Add entry.now)) }
+        ensures err { OnErr result (self.new.machine ≡ self.old.machine) }
+        ensures needed { OnErr result (entered_to self.old.machine.held.tables (limit_of self.old.config LimitName.TableEntries) table.0 entry.now ≡ Entered.New) }
+        ensures keeps { Keeps self.old self.new }
+        ensures taken { self.new.taken ≡ self.old.taken }
+        ensures work { self.new.work ≡ self.old.work }
+    {
+        let now = self.last.unwrap_or(0);
+        self.tables.add_entry(table, entry, now)
+    }
+
+    /// Takes the very entry that is named out of a table, if it is there: its prefix, with its sign. It returns how many left:
+    /// one, or none. The table is one of the configuration's, and not `const`. It takes no memory, and is no packet: what was
+    /// taken, and the work of the latest call, stay. (pfctl(8), "-T delete")
+    pub fn delete(&mut self, table: TableNo, entry: &TableEntry) -> u64
+        requires started { IsSome self.old.machine.last }
+        requires table { MayChange self.old.config table.0 }
+        ensures answer { (Outcome.Delete result, self.new.machine.held)
+            ≡ answer_to_command self.old.config self.old.machine.held (moment_of self.old.machine.first) (moment_of self.old.machine.last) table.0 (Command.Delete entry.now) }
+        ensures keeps { Keeps self.old self.new }
+        ensures taken { self.new.taken ≡ self.old.taken }
+        ensures work { self.new.work ≡ self.old.work }
+    {
+        self.tables.delete_entry(table, entry)
+    }
+
+    /// Does to a table what an administrator asks, at the last moment: as `expire`, `add` and `delete` say. `NoMemory` comes
+    /// of `add` alone. (pfctl(8), "-T")
+    pub fn command(&mut self, table: TableNo, command: &Command) -> Result<Outcome, NoMemory>
+        requires started { IsSome self.old.machine.last }
+        requires table { MayChange self.old.config table.0 }
+        ensures ok { IfOk result (λ o. (o, self.new.machine.held) ≡ answer_to_command self.old.config self.old.machine.held
+            (moment_of self.old.machine.first) (moment_of self.old.machine.last) table.0 command.now) }
+        ensures err { OnErr result (self.new.machine ≡ self.old.machine) }
+        ensures needed { OnErr result (NeedsMemory self.old.config self.old.machine.held (moment_of self.old.machine.last) (Arrival.Table table command.now)) }
+        ensures keeps { Keeps self.old self.new }
+        ensures taken { self.new.taken ≡ self.old.taken }
+        ensures work { self.new.work ≡ self.old.work }
+    {
+        match command {
+            Command::Expire(seconds) => Ok(Outcome::Expire(self.expire(table, *seconds))),
+            Command::Add(entry) => Ok(Outcome::Add(self.add(table, entry)?)),
+            Command::Delete(entry) => Ok(Outcome::Delete(self.delete(table, entry))),
+        }
+    }
+
+    /// How much is held. (pfctl(8), "-si")
+    pub fn amounts(&self) -> Amounts
+        ensures { result ≡ amounts_of self.now.machine.held }
+    {
+        Amounts {
+            states: self.states(),
+            nodes: self.nodes(),
+            entries: self.entries(),
+        }
+    }
+
     /// Takes one event: lets time pass to its moment, in seconds, which is not before the last one, and then takes what comes.
-    /// Fewer than 1,000,000,000 packets were taken before, and entries are taken out of a table of the configuration's that is
-    /// not `const`. The outcome is what `packet` answers, `Skip`, or `Expire` with how many entries `expire` took out.
+    /// Fewer than 1,000,000,000 packets were taken before, and a command is about a table of the configuration's that is
+    /// not `const`. The outcome is what `packet` or `command` answers, `Skip`, or `Held` with what `amounts` answers.
     ///
-    /// `NoMemory` where memory was refused to a packet that needs it: for a new state, or for the entry of an overload table.
-    /// Then the purges due are done, the engine is at the event's moment, and nothing else has changed. A skip, and entries
-    /// that leave, take no memory. (pf.conf(5), STATEFUL FILTERING and STATEFUL TRACKING OPTIONS; pfctl(8), "-T expire")
+    /// `NoMemory` where memory was refused to what needs it: a packet that makes a new state or an entry of an overload
+    /// table, or an entry that is added and new. Then the purges due are done, the engine is at the event's moment, and
+    /// nothing else has changed. All else takes no memory. (pf.conf(5), STATEFUL FILTERING and STATEFUL TRACKING OPTIONS;
+    /// pfctl(8), "-T" and "-si")
     #[tactic(auto, unfolding(pfs_engine_machine::specs::Machine::step))]
     pub fn step(&mut self, event: &Event) -> Result<Outcome, NoMemory>
         requires order { ForSome self.old.machine.last (λ m. m ≤ event.now.time) }
@@ -234,7 +301,7 @@ impl<S: Store> Engine<S> {
         requires room { self.old.taken < run_limit }
         requires table { MayCome self.old.config event.now.what }
         ensures ok { IfOk result (λ o. (o, self.new.machine) ≡ step self.old.config self.old.machine event.now) }
-        ensures err { OnErr result ((packet : Header) × IsRefusedIn self.old.config self.old.machine event.now packet self.new.machine) }
+        ensures err { OnErr result (IsRefusedIn self.old.config self.old.machine event.now self.new.machine) }
         ensures limits { IsWithinLimits self.new.config self.new.machine.held }
         ensures config { self.new.config ≡ self.old.config }
         ensures taken { OnOk result (self.new.taken ≡ self.old.taken + packets_of event.now.what) }
@@ -246,16 +313,15 @@ impl<S: Store> Engine<S> {
         match &event.what {
             Arrival::Packet(packet) => self.packet(packet),
             Arrival::Skip => Ok(Outcome::Skip),
-            Arrival::Expire { table, seconds } => {
-                Ok(Outcome::Expire(self.expire(*table, *seconds)))
-            }
+            Arrival::Table { table, command } => self.command(*table, command),
+            Arrival::Held => Ok(Outcome::Held(self.amounts())),
         }
     }
 
     /// Takes events in turn, and appends the outcome of each. Moments do not fall, from the last one on; all events
-    /// together fit into the 1,000,000,000 packets; and entries are taken out of no table that is `const`. `NoMemory`
+    /// together fit into the 1,000,000,000 packets; and no command is about a table that is `const`. `NoMemory`
     /// where memory was refused at an event: the outcomes are those of the events before it. If it was refused for the
-    /// outcome, the engine is where these events leave it. If it was refused in the event's packet, which needs memory
+    /// outcome, the engine is where these events leave it. If it was refused in what comes, which needs memory
     /// then, the engine is at the event's moment.
     pub fn run(&mut self, events: &[Event], outcomes: &mut Vec<Outcome>) -> Result<(), NoMemory>
         requires order { IsInOrder self.old.machine.last events.now }

@@ -80,6 +80,9 @@ is_of_held (outcome.Drop r l) = false
 is_of_held (outcome.Kill r e o k) = true
 is_of_held outcome.Skip = false
 is_of_held (outcome.Expire n) = false
+is_of_held (outcome.Add became) = false
+is_of_held (outcome.Delete n) = false
+is_of_held (outcome.Held amounts) = false
 
 handshake_held : (conf : Conf) (m : Held) (s : State) (now : ℕ) (completes : Bool) → is_of_held (answer_of_handshake conf m s now completes).0 ≡ true
 handshake_held conf m s now completes = by (if completes then exceeded_of (hits_connections conf m.world s) (hits_rate conf m.world s) else None)

@@ -207,7 +207,8 @@ acted-in : (conf : Conf) (rule : ℕ) (source : Addr) (x : Rate) (first now : �
     → RemembersIn conf rule source x.seconds now history h.world
     → RemembersIn conf rule source x.seconds now (heard rule source x.seconds history now (handshaking_state h.world what)) (answer_to_arrival conf h first now what).1.world
 acted-in conf rule source x first now history h i arrival.Skip r = r
-acted-in conf rule source x first now history h i (arrival.Expire table seconds) r = r
+acted-in conf rule source x first now history h i (arrival.Table table done) r = r
+acted-in conf rule source x first now history h i arrival.Held r = r
 acted-in conf rule source x first now history h i (arrival.Packet p) r =
     answered_has conf h p now (RemembersIn conf rule source x.seconds now (heard rule source x.seconds history now (completed_state p (state_with (key_of p) h.world))))
     (packet-in conf rule source x now history h.world p i r)
@@ -320,14 +321,16 @@ hit-in conf x now h p s i e =
 score-at : (conf : Conf) (x : Rate) (now : ℕ) (history : Score) (w : World) (what : Arrival) (s : State) → IsRated conf s.rule.0 x → handshaking_state w what ≡ Some s
     → RemembersIn conf s.rule.0 s.source x.seconds now history w → score_compared conf w now what s ≡ score_after x.seconds history now
 score-at conf x now history w arrival.Skip s i e r = cc
-score-at conf x now history w (arrival.Expire table seconds) s i e r = cc
+score-at conf x now history w (arrival.Table table done) s i e r = cc
+score-at conf x now history w arrival.Held s i e r = cc
 score-at conf x now history w (arrival.Packet p) s i e r =
     let q = completed-is p (state_with (key_of p) w) s e in score-in conf x now history w p s i q.0 q.1 r
 
 hit-at : (conf : Conf) (x : Rate) (first now : ℕ) (h : Held) (what : Arrival) (s : State) → IsRated conf s.rule.0 x → handshaking_state h.world what ≡ Some s
     → rate_hit (answer_to_arrival conf h first now what).0 ≡ nat_lt (1000 * x.limit) (score_compared conf h.world now what s).value
 hit-at conf x first now h arrival.Skip s i e = cc
-hit-at conf x first now h (arrival.Expire table seconds) s i e = cc
+hit-at conf x first now h (arrival.Table table done) s i e = cc
+hit-at conf x first now h arrival.Held s i e = cc
 hit-at conf x first now h (arrival.Packet p) s i e = hit-in conf x now h p s i e
 
 pub score-is-remembered : (conf : Conf) (events : List Event) → IsConfig conf → IsInOrder None events → ScoreIsRemembered conf events

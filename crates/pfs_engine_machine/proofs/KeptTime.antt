@@ -1,5 +1,5 @@
 -- The empty machine keeps what every machine keeps, and so does time that passes.
-use Rattle.std.proofs.Common.{◌≡◌, ◌∙◌, ◌<◌, ◌≤◌, ◌==◌, ◌&&◌, not, nat_le, ◌+◌, ℕ, Bool, true, Option, Some, None, List, [], ◌∷◌, All, filter, map, take, refl, arith}
+use Rattle.std.proofs.Common.{◌≡◌, ◌∙◌, ◌<◌, ◌≤◌, ◌==◌, ◌&&◌, not, nat_le, ◌+◌, ℕ, Bool, true, Option, Some, None, List, [], ◌∷◌, All, filter, length, map, set, take, refl, arith}
 use Rattle.std.specs.Option.{ForSome}
 use Rattle.std.specs.Prelude.{slice_index_or}
 use Rattle.std.proofs.lemmas.Bool.Decides.{nat_tests}
@@ -8,9 +8,11 @@ use Rattle.std.proofs.lemmas.List.Elements.{All-filter, All-nil, All-weaker}
 use Rattle.pfs_addr_values.proofs.SameLaws.{same_addr_true}
 use Rattle.pfs_addr_values.specs.Sameness.{same_addr}
 use Rattle.pfs_addr_values.specs.declared.addresses.Addr.{Addr}
-use Rattle.pfs_eval.specs.Entries.{Entry, entry_of_text}
+use Rattle.pfs_eval.specs.Entries.{Entry, entry_of_text, is_entry}
+use Rattle.pfs_eval.specs.Tables.{entered_to, entries_at, entries_entered, entry_count, is_old}
 use Rattle.pfs_eval.proofs.TextTables.{count-config}
-use Rattle.pfs_conf_values.specs.Configs.{Conf, options_of}
+use Rattle.pfs_conf_values.specs.Configs.{Conf, limit_of, options_of}
+use Rattle.pfs_conf_values.specs.declared.limits.LimitName.TheVariants as limit_name
 use Rattle.pfs_conf_values.specs.Invariants.{IsConfig}
 use Rattle.pfs_conf_values.specs.declared.tables.TableDef.{TableDef}
 use Rattle.pfs_store_contract.proofs.MomentLaws.{empty_world-up_to_now, later-up_to_now, left-up_to_now, node_slice-up_to_now}
@@ -21,14 +23,16 @@ use Rattle.pfs_store_contract.specs.Worlds.{World}
 use Rattle.pfs_store_contract.specs.declared.records.Node.{Node}
 use Rattle.pfs_store_contract.specs.declared.records.NodeScope.{NodeScope}
 use Rattle.pfs_store_contract.specs.declared.records.State.{State}
-use Rattle.pfs_engine_machine.proofs.Additions.{entries_expired-fewer, entries_expired-size}
+use Rattle.pfs_engine_machine.proofs.Additions.{entries_entered-size, entries_entered-within, filtered-fewer, filtered-size}
 use Rattle.pfs_engine_machine.proofs.Numbers.{Rise-filter}
 use Rattle.pfs_engine_machine.proofs.Counts.{any-filter, any-map, count-at, count-filter_le, count-map, count_le}
 use Rattle.pfs_engine_machine.proofs.Scopes.{is_of_node-own}
 use Rattle.pfs_engine_machine.specs.Kept.{HasNode, IsKept, IsPhaseOf, IsWithin, moment_of, own_scope}
 use Rattle.std.proofs.lemmas.Bool.{and_parts}
 use Rattle.pfs_store_contract.proofs.ScopeLaws.{same_scope_true}
-use Rattle.pfs_engine_machine.specs.Machine.{Held, Machine, machine_at_moment, due, answer_to_expire, first_moment, held_of, world_after_purges, start}
+use Rattle.pfs_engine_machine.specs.declared.events.Command.{Command}
+use Rattle.pfs_engine_machine.specs.declared.events.Command.TheVariants as command
+use Rattle.pfs_engine_machine.specs.Machine.{Held, Machine, machine_at_moment, due, answer_to_command, first_moment, held_of, world_after_purges, start}
 
 -- ---- the start
 
@@ -173,14 +177,15 @@ kept_advanced conf m now later k =
     by None h = omega arith
     by (Some last) h = h last refl
 
--- ---- old entries leave a table
+-- ---- a table changes
 
-pub kept_expired : (conf : Conf) (h : Held) (first at table seconds now : ℕ) → IsKept conf h now → IsKept conf (answer_to_expire h first at table seconds).1 now
-kept_expired conf h first at table seconds now k = record {
+kept_tables : (conf : Conf) (h : Held) (tables : List (List Entry)) (now : ℕ) → entry_count tables ≤ limit_of conf limit_name.TableEntries
+    → length tables ≡ length h.tables → IsKept conf h now → IsKept conf (held_of h.world tables) now
+kept_tables conf h tables now within size k = record {
   limits = record {
     states = k.limits.states;
     nodes = k.limits.nodes;
-    entries = omega (arith, entries_expired-fewer h.tables table first at seconds, k.limits.entries);
+    entries = within;
     rule_states = k.limits.rule_states;
     source_nodes = k.limits.source_nodes;
     source_states = k.limits.source_states;
@@ -189,9 +194,25 @@ kept_expired conf h first at table seconds now k = record {
   numbers = k.numbers;
   noded = k.noded;
   phases = k.phases;
-  tables = entries_expired-size h.tables table first at seconds ∙ k.tables;
+  tables = size ∙ k.tables;
   moments = k.moments;
 }
+
+-- entries leave it
+kept_filtered : (conf : Conf) (h : Held) (stays : Entry → Bool) (table now : ℕ) → IsKept conf h now
+    → IsKept conf (held_of h.world (set h.tables table (filter stays (entries_at h.tables table)))) now
+kept_filtered conf h stays table now k =
+    kept_tables conf h (set h.tables table (filter stays (entries_at h.tables table))) now
+    (omega (arith, filtered-fewer h.tables table stays, k.limits.entries)) (filtered-size h.tables table stays) k
+
+pub kept_command : (conf : Conf) (h : Held) (first at table : ℕ) (done : Command) (now : ℕ) → IsKept conf h now → IsKept conf (answer_to_command conf h first at table done).1 now
+kept_command conf h first at table (command.Expire seconds) now k = kept_filtered conf h (λ (e : Entry). not (is_old first at seconds e.1)) table now k
+kept_command conf h first at table (command.Add e) now k =
+    let limit = limit_of conf limit_name.TableEntries in
+    let became = entered_to h.tables limit table e in
+    kept_tables conf h (entries_entered h.tables table e at became) now (entries_entered-within h.tables limit table e at k.limits.entries)
+    (entries_entered-size h.tables table e at became) k
+kept_command conf h first at table (command.Delete e) now k = kept_filtered conf h (λ (x : Entry). not (is_entry e x)) table now k
 
 -- the first moment is not after the last one
 pub first_advanced : (conf : Conf) (m : Machine) (now : ℕ) → ForSome m.last (λ last. last ≤ now) → moment_of m.first ≤ moment_of m.last

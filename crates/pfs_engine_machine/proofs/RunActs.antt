@@ -21,7 +21,8 @@ arrivals-done : (conf : Conf) (h : Held) (first now : ℕ) (what : Arrival) (res
     → acts_done conf h (arrivals first now what ++ rest) ≡ acts_done conf (answer_to_arrival conf h first now what).1 rest
 arrivals-done conf h first now arrival.Skip rest = refl
 arrivals-done conf h first now (arrival.Packet p) rest = refl
-arrivals-done conf h first now (arrival.Expire table seconds) rest = refl
+arrivals-done conf h first now (arrival.Table table done) rest = refl
+arrivals-done conf h first now arrival.Held rest = refl
 
 pub acts-done : (conf : Conf) (m : Machine) (es : List Event) → (machine_after conf m es).held ≡ acts_done conf m.held (acts_from m.first m.last es)
 unfolding machine_after step

@@ -26,7 +26,7 @@ use Rattle.pfs_engine_machine.specs.Machine.{Held}
 use Rattle.pfs_engine_machine.proofs.PacketChanges.{answered_keeps}
 use Rattle.pfs_engine_machine.proofs.HeldNumbers.{among-same, made-more, numbers-idled, numbers-renewed, numbers-touched, was}
 use Rattle.pfs_engine_machine.proofs.Rounds.{length-filter-le}
-use Rattle.pfs_engine_machine.specs.Acts.{RunAct, Arrive, Expire, Purge, act_done, acts_done}
+use Rattle.pfs_engine_machine.specs.Acts.{RunAct, Arrive, Change, Purge, act_done, acts_done}
 
 abbrev pub state_limit : Conf → ℕ
 state_limit conf = limit_of conf limit_name.States
@@ -165,7 +165,7 @@ pub small-done : (conf : Conf) (m : Held) (a : RunAct) → IsSmall conf m.world 
 small-done conf m (Purge s) k = small-nodes conf (state_slice conf m.world s) s (small-states conf m.world s k)
 small-done conf m (Arrive now p) k =
     answered_keeps conf (IsSmall conf) (record { touches = small-touched conf; kills = small-without conf; admits = small-admitted conf }) m p now k
-small-done conf m (Expire first now table seconds) k = k
+small-done conf m (Change first now table done) k = k
 
 pub small-done_all : (conf : Conf) (m : Held) (acts : List RunAct) → IsSmall conf m.world → IsSmall conf (acts_done conf m acts).world
 small-done_all conf m [] k = k

@@ -25,7 +25,7 @@ use Rattle.pfs_engine_machine.proofs.HeldNumbers.{any-number, gone, numbers-idle
 use Rattle.pfs_engine_machine.proofs.Rounds.{IsDue, due-end, due-filter, due-slice, due-start, share-enough}
 use Rattle.pfs_engine_machine.proofs.RunActs.{done_all-append}
 use Rattle.pfs_engine_machine.proofs.Small.{IsSmall, node_limit, small-done, small-done_all, small-empty, small-states, state_limit}
-use Rattle.pfs_engine_machine.specs.Acts.{RunAct, Arrive, Expire, Purge, after, act_done, acts_done, purges}
+use Rattle.pfs_engine_machine.specs.Acts.{RunAct, Arrive, Change, Purge, after, act_done, acts_done, purges}
 use Rattle.pfs_engine_machine.specs.Staleness.{IsOver, NodesGo}
 
 abbrev pub interval_of : Conf → ℕ
@@ -135,9 +135,9 @@ state-goes conf n m (Arrive now p ∷ acts) one small h all =
     state-goes conf n (act_done conf m (Arrive now p)) acts one (small-done conf m (Arrive now p) small)
     (answered_keeps conf (StateAwaits conf (purges acts) n) (state-packets conf (purges acts) n) m p now h)
     (λ before rest t e. all (Arrive now p ∷ before) rest t (ap (λ (xs : List RunAct). Arrive now p ∷ xs) e))
-state-goes conf n m (Expire first now table seconds ∷ acts) one small h all =
-    state-goes conf n (act_done conf m (Expire first now table seconds)) acts one small h
-    (λ before rest t e. all (Expire first now table seconds ∷ before) rest t (ap (λ (xs : List RunAct). Expire first now table seconds ∷ xs) e))
+state-goes conf n m (Change first now table done ∷ acts) one small h all =
+    state-goes conf n (act_done conf m (Change first now table done)) acts one small h
+    (λ before rest t e. all (Change first now table done ∷ before) rest t (ap (λ (xs : List RunAct). Change first now table done ∷ xs) e))
 
 -- in any 2 * interval purges in a row, the state of a number that is made by then, and expired at each of them, goes
 pub numbered-go : (conf : Conf) (earlier meanwhile : List RunAct) (n : ℕ) → IsConfig conf → purges meanwhile ≡ 2 * interval_of conf
@@ -224,9 +224,9 @@ node-goes conf n m (Arrive now p ∷ acts) one small h all =
     node-goes conf n (act_done conf m (Arrive now p)) acts one (small-done conf m (Arrive now p) small)
     (answered_keeps conf (NodeAwaits conf (purges acts) n) (node-packets conf (purges acts) n) m p now h)
     (λ before rest t e. all (Arrive now p ∷ before) rest t (ap (λ (xs : List RunAct). Arrive now p ∷ xs) e))
-node-goes conf n m (Expire first now table seconds ∷ acts) one small h all =
-    node-goes conf n (act_done conf m (Expire first now table seconds)) acts one small h
-    (λ before rest t e. all (Expire first now table seconds ∷ before) rest t (ap (λ (xs : List RunAct). Expire first now table seconds ∷ xs) e))
+node-goes conf n m (Change first now table done ∷ acts) one small h all =
+    node-goes conf n (act_done conf m (Change first now table done)) acts one small h
+    (λ before rest t e. all (Change first now table done ∷ before) rest t (ap (λ (xs : List RunAct). Change first now table done ∷ xs) e))
 
 pub nodes-go : (conf : Conf) (events : List Event) → IsConfig conf → NodesGo conf events
 nodes-go conf events sound earlier meanwhile later n rounds all held =

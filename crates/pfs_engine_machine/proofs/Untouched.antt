@@ -25,7 +25,7 @@ use Rattle.pfs_engine_machine.proofs.HeldNumbers.{any-number}
 use Rattle.pfs_engine_machine.proofs.RunActs.{done_all-append}
 use Rattle.pfs_engine_machine.proofs.Small.{IsSmall, small-done_all, small-empty}
 use Rattle.pfs_engine_machine.proofs.Staling.{IsExpiredThroughout, numbered-go}
-use Rattle.pfs_engine_machine.specs.Acts.{RunAct, Arrive, Expire, Purge, after, act_done, acts_done}
+use Rattle.pfs_engine_machine.specs.Acts.{RunAct, Arrive, Change, Purge, after, act_done, acts_done}
 use Rattle.pfs_engine_machine.specs.Staleness.{StatesGo, brings}
 
 -- ---- numbers rise
@@ -50,7 +50,7 @@ numbered-all conf m (Purge s ∷ acts) h =
     numbered-all conf (act_done conf m (Purge s)) acts (record { rise = Rise-filter (stays conf m.world.states s (take (state_share conf) (state_round m.world))) 0 m.world.made m.world.states h.rise })
 numbered-all conf m (Arrive now p ∷ acts) h =
     numbered-all conf (act_done conf m (Arrive now p)) acts (answered_keeps conf AreNumbered (numbered-packets conf) m p now h)
-numbered-all conf m (Expire first now table seconds ∷ acts) h = numbered-all conf (act_done conf m (Expire first now table seconds)) acts h
+numbered-all conf m (Change first now table done ∷ acts) h = numbered-all conf (act_done conf m (Change first now table done)) acts h
 
 above : (low high : ℕ) (ss : List State) → Rise low ss high → AllByRecursion (λ (t : State). low < t.number) ss
 above low high [] r = tt
@@ -124,7 +124,7 @@ before-done conf s m (Purge now) apart h = record {
   same = each-filter (λ (t : State). t.number ≡ s.number → t ≡ s) (stays conf m.world.states now (take (state_share conf) (state_round m.world))) m.world.states h.same;
 }
 before-done conf s m (Arrive now p) apart h = answered_has conf m p now (IsAsBefore s) (before-packet conf s m.world p now apart h)
-before-done conf s m (Expire first now table seconds) apart h = h
+before-done conf s m (Change first now table done) apart h = h
 
 before-all : (conf : Conf) (s : State) (m : Held) (acts rest : List RunAct) → AllByRecursion (λ (a : RunAct). brings s.key a ≡ false) (acts ++ rest) → IsAsBefore s m.world
     → IsAsBefore s (acts_done conf m acts).world

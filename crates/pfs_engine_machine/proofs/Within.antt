@@ -4,33 +4,33 @@ use Rattle.std.specs.Option.{ForSome}
 use Rattle.pfs_conf_values.specs.Configs.{Conf}
 use Rattle.pfs_conf_values.specs.Invariants.{IsConfig}
 use Rattle.pfs_engine_machine.proofs.KeptPackets.{kept_answered}
-use Rattle.pfs_engine_machine.proofs.KeptTime.{kept_expired, kept_later, kept_purge, kept_start}
+use Rattle.pfs_engine_machine.proofs.KeptTime.{kept_command, kept_later, kept_purge, kept_start}
 use Rattle.pfs_engine_machine.specs.Kept.{IsKept, IsWithinLimits, moment_of}
 use Rattle.pfs_engine_machine.specs.Machine.{Held, due, first_moment, start}
 use Rattle.pfs_engine_machine.specs.Runs.{IsInOrder}
 use Rattle.pfs_engine_machine.specs.declared.events.Event.{Event}
 use Rattle.pfs_engine_machine.specs.declared.events.Arrival.{Arrival}
 use Rattle.pfs_engine_machine.specs.declared.events.Arrival.TheVariants as arrival
-use Rattle.pfs_engine_machine.specs.Acts.{RunAct, Arrive, Expire, Purge, StaysWithinLimits, acts_from, arrivals, act_done, acts_done}
+use Rattle.pfs_engine_machine.specs.Acts.{RunAct, Arrive, Change, Purge, StaysWithinLimits, acts_from, arrivals, act_done, acts_done}
 
 -- the moments of the packets among these acts do not fall, from this one on
 abbrev AreOrdered : ℕ → List RunAct → Type 0
 AreOrdered now [] = Unit {0}
 AreOrdered now (Purge s ∷ acts) = AreOrdered now acts
 AreOrdered now (Arrive t p ∷ acts) = (now ≤ t) × AreOrdered t acts
-AreOrdered now (Expire f t table seconds ∷ acts) = AreOrdered now acts
+AreOrdered now (Change f t table done ∷ acts) = AreOrdered now acts
 
 ordered-lower : (now later : ℕ) (acts : List RunAct) → now ≤ later → AreOrdered later acts → AreOrdered now acts
 ordered-lower now later [] h o = tt
 ordered-lower now later (Purge s ∷ acts) h o = ordered-lower now later acts h o
 ordered-lower now later (Arrive t p ∷ acts) h o = (omega (arith, h, o.0), o.1)
-ordered-lower now later (Expire f t table seconds ∷ acts) h o = ordered-lower now later acts h o
+ordered-lower now later (Change f t table done ∷ acts) h o = ordered-lower now later acts h o
 
 ordered-front : (now : ℕ) (xs ys : List RunAct) → AreOrdered now (xs ++ ys) → AreOrdered now xs
 ordered-front now [] ys o = tt
 ordered-front now (Purge s ∷ xs) ys o = ordered-front now xs ys o
 ordered-front now (Arrive t p ∷ xs) ys o = (o.0, ordered-front t xs ys o.1)
-ordered-front now (Expire f t table seconds ∷ xs) ys o = ordered-front now xs ys o
+ordered-front now (Change f t table done ∷ xs) ys o = ordered-front now xs ys o
 
 ordered-purges : (now : ℕ) (ss : List ℕ) (rest : List RunAct) → AreOrdered now rest → AreOrdered now (map (λ s. Purge s) ss ++ rest)
 ordered-purges now [] rest o = o
@@ -39,7 +39,8 @@ ordered-purges now (s ∷ ss) rest o = ordered-purges now ss rest o
 ordered-arrivals : (first now : ℕ) (what : Arrival) (rest : List RunAct) → AreOrdered now rest → AreOrdered now (arrivals first now what ++ rest)
 ordered-arrivals first now arrival.Skip rest o = o
 ordered-arrivals first now (arrival.Packet p) rest o = (omega arith, o)
-ordered-arrivals first now (arrival.Expire table seconds) rest o = o
+ordered-arrivals first now (arrival.Table table done) rest o = o
+ordered-arrivals first now arrival.Held rest o = o
 
 acts-ordered : (first last : Option ℕ) (es : List Event) → IsInOrder last es → AreOrdered (moment_of last) (acts_from first last es)
 acts-ordered first last [] o = tt
@@ -59,8 +60,8 @@ within_all conf h now [] sound o k = k.limits
 within_all conf h now (Purge s ∷ acts) sound o k = within_all conf (act_done conf h (Purge s)) now acts sound o (kept_purge conf h s now k)
 within_all conf h now (Arrive t p ∷ acts) sound o k =
     within_all conf (act_done conf h (Arrive t p)) t acts sound o.1 (kept_answered conf h p t sound (kept_later conf h now t o.0 k))
-within_all conf h now (Expire f t table seconds ∷ acts) sound o k =
-    within_all conf (act_done conf h (Expire f t table seconds)) now acts sound o (kept_expired conf h f t table seconds now k)
+within_all conf h now (Change f t table done ∷ acts) sound o k =
+    within_all conf (act_done conf h (Change f t table done)) now acts sound o (kept_command conf h f t table done now k)
 
 pub stays-within : (conf : Conf) (events : List Event) → IsConfig conf → IsInOrder None events → StaysWithinLimits conf events
 stays-within conf events sound order earlier later split =

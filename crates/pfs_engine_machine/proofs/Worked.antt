@@ -14,6 +14,8 @@ use Rattle.pfs_eval.specs.Tables.{table_answer}
 use Rattle.pfs_eval.specs.Verdict.{verdict}
 use Rattle.pfs_eval.specs.declared.tables.Added.{Added}
 use Rattle.pfs_eval.specs.declared.tables.Added.TheVariants as added
+use Rattle.pfs_eval.specs.declared.entries.TableEntry.{TableEntry}
+use Rattle.pfs_eval.specs.declared.tables.Entered.TheVariants as entered
 use Rattle.pfs_conf_values.specs.Configs.{Conf, any_packet, any_side, no_options}
 use Rattle.pfs_conf_values.specs.declared.actions.Action.{Action}
 use Rattle.pfs_conf_values.specs.declared.actions.Action.TheVariants as action
@@ -33,7 +35,8 @@ use Rattle.pfs_engine_machine.specs.declared.events.Event.{Event}
 use Rattle.pfs_engine_machine.specs.declared.events.Exceeded.TheVariants as exceeded
 use Rattle.pfs_engine_machine.specs.declared.events.Outcome.{Outcome}
 use Rattle.pfs_engine_machine.specs.declared.events.Outcome.TheVariants as outcome
-use Rattle.pfs_engine_machine.specs.declared.events.Arrival.TheVariants.{Expire, Packet, Skip}
+use Rattle.pfs_engine_machine.specs.declared.events.Arrival.TheVariants.{Held, Packet, Skip, Table}
+use Rattle.pfs_engine_machine.specs.declared.events.Command.TheVariants as command
 
 -- ---- configurations: limits of states and nodes, the timeouts that differ, tables and items
 
@@ -92,7 +95,23 @@ abbrev nothing : ℕ → Event
 nothing now = record { time = now; what = Skip }
 
 abbrev expire : ℕ → ℕ → ℕ → Event
-expire now table seconds = record { time = now; what = Expire (record { 0 = table }) seconds }
+expire now table seconds = record { time = now; what = Table (record { 0 = table }) (command.Expire seconds) }
+
+-- an entry of the first table: a prefix with so many bits, negated or not
+abbrev entry : Addr → ℕ → Bool → TableEntry
+entry addr bits negated = record { prefix = record { addr = addr; bits = bits }; negated = negated }
+
+abbrev add : ℕ → TableEntry → Event
+add now e = record { time = now; what = Table (record { 0 = 0 }) (command.Add e) }
+
+abbrev delete : ℕ → TableEntry → Event
+delete now e = record { time = now; what = Table (record { 0 = 0 }) (command.Delete e) }
+
+abbrev ask : ℕ → Event
+ask now = record { time = now; what = Held }
+
+abbrev amounts : ℕ → ℕ → ℕ → Outcome
+amounts states nodes entries = outcome.Held (record { states = states; nodes = nodes; entries = entries })
 
 abbrev udp : ℕ → ℕ → ℕ → Event
 udp now n port = comes now (to_server Udp n port 53 (flagged false false false))
@@ -331,3 +350,48 @@ text_entries_stay = refl
 first_expires : run_of expiring (expire 100 0 0 ∷ []) ≡ (outcome.Expire 1 ∷ [], (0, 0, 0))
 unfolding outcomes_of machine_after step verdict matches_item table_answer
 first_expires = refl
+
+-- ---- entries are added and taken out: one with the other sign is a conflict, the same one is held and keeps its age
+
+abbrev tabled : ℕ → Conf
+tabled most =
+    let c = conf 100 100 usual (record { name = 98 ∷ []; is_const = false; entries = [] } ∷ []) [] in
+    record c { limits = record { states = 100; src_nodes = 100; tables = 1000; table_entries = most } }
+
+added_and_deleted : run_of (tabled 2)
+    (add 6 (entry (source 0) 24 false)
+    ∷ add 6 (entry (source 1) 32 true)
+    ∷ add 7 (entry (source 1) 32 false)
+    ∷ add 7 (entry (source 0) 24 false)
+    ∷ add 7 (entry (source 2) 32 false)
+    ∷ delete 8 (entry (source 1) 32 false)
+    ∷ delete 8 (entry (source 1) 32 true)
+    ∷ ask 9
+    ∷ [])
+    ≡ (
+      outcome.Add entered.New
+          ∷ outcome.Add entered.New
+          ∷ outcome.Add entered.Conflict
+          ∷ outcome.Add entered.Held
+          ∷ outcome.Add entered.Full
+          ∷ outcome.Delete 0
+          ∷ outcome.Delete 1
+          ∷ amounts 0 0 1
+          ∷ [],
+      (0, 0, 1),
+    )
+unfolding outcomes_of machine_after step covers cleared_addr
+added_and_deleted = refl
+
+added_ages : run_of (tabled 2) (add 6 (entry (source 1) 32 false) ∷ add 7 (entry (source 1) 32 false) ∷ expire 15 0 10 ∷ expire 16 0 10 ∷ [])
+    ≡ (outcome.Add entered.New ∷ outcome.Add entered.Held ∷ outcome.Expire 0 ∷ outcome.Expire 1 ∷ [], (0, 0, 0))
+unfolding outcomes_of machine_after step covers cleared_addr
+added_ages = refl
+
+-- ---- how much is held is told after the purges that are due
+
+held_after_purges : run_of (conf 100 100 (record usual { udp = 2; interval = 1 }) [] (rule false (of_proto Udp) (action.Keep no_options) ∷ []))
+    (udp 5 1 1 ∷ ask 5 ∷ ask 7 ∷ [])
+    ≡ (made 0 ∷ amounts 1 0 0 ∷ amounts 0 0 0 ∷ [], (0, 0, 0))
+unfolding outcomes_of machine_after step verdict matches_item table_answer
+held_after_purges = refl

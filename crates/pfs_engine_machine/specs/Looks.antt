@@ -31,3 +31,6 @@ AreLooks conf of_source (outcome.Block rule) looks = looks ≡ 0
 AreLooks conf of_source (outcome.Drop rule limit) looks = looks ≡ 0
 AreLooks conf of_source outcome.Skip looks = looks ≡ 0
 AreLooks conf of_source (outcome.Expire removed) looks = looks ≡ 0
+AreLooks conf of_source (outcome.Add became) looks = looks ≡ 0
+AreLooks conf of_source (outcome.Delete removed) looks = looks ≡ 0
+AreLooks conf of_source (outcome.Held amounts) looks = looks ≡ 0

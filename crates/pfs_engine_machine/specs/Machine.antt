@@ -6,8 +6,9 @@ use Rattle.pfs_addr_values.specs.Packets.{Header}
 use Rattle.pfs_addr_values.specs.declared.addresses.Addr.{Addr}
 use Rattle.pfs_eval.specs.Entries.{Entry}
 use Rattle.pfs_eval.specs.Matching.{matches_item}
-use Rattle.pfs_eval.specs.Tables.{added_to, config_entries, entries_after, entries_expired, entry_count, expired_count}
+use Rattle.pfs_eval.specs.Tables.{added_to, config_entries, deleted_count, entered_to, entries_after, entries_entered, entries_expired, entries_without, entry_count, expired_count}
 use Rattle.pfs_eval.specs.Verdict.{verdict}
+use Rattle.pfs_eval.specs.declared.entries.TableEntry.{TableEntry}
 use Rattle.pfs_eval.specs.declared.tables.Added.{Added}
 use Rattle.pfs_conf_values.specs.Configs.{Conf, limit_of, options_of, rule_of}
 use Rattle.pfs_conf_values.specs.declared.actions.Action.{Action}
@@ -23,6 +24,9 @@ use Rattle.pfs_store_contract.specs.Touching.{completes_at, world_after_touch}
 use Rattle.pfs_store_contract.specs.Worlds.{World, empty_world, state_with}
 use Rattle.pfs_store_contract.specs.declared.records.Limit.{Limit}
 use Rattle.pfs_store_contract.specs.declared.records.State.{State}
+use Rattle.pfs_engine_machine.specs.declared.events.Amounts.{Amounts}
+use Rattle.pfs_engine_machine.specs.declared.events.Command.{Command}
+use Rattle.pfs_engine_machine.specs.declared.events.Command.TheVariants as command
 use Rattle.pfs_engine_machine.specs.declared.events.Event.{Event}
 use Rattle.pfs_engine_machine.specs.declared.events.Exceeded.{Exceeded}
 use Rattle.pfs_engine_machine.specs.declared.events.Exceeded.TheVariants as exceeded
@@ -153,18 +157,36 @@ answer_of_state conf h p now None = answer_of_rule conf h p now (deciding_rule c
 abbrev pub answer_to_packet : Conf → Held → Header → ℕ → Outcome × Held
 answer_to_packet conf h p now = answer_of_state conf h p now (state_with (key_of p) h.world)
 
--- ---- one event
+-- ---- an administrator: old entries leave a table, an entry is added, that very entry is taken out (pfctl(8), "-T")
 
--- the old entries leave a table, where the run began at the first of these moments (pfctl(8), "-T expire")
-abbrev pub answer_to_expire : Held → ℕ → ℕ → ℕ → ℕ → Outcome × Held
-answer_to_expire h first now table seconds =
-    (outcome.Expire (expired_count h.tables table first now seconds), held_of h.world (entries_expired h.tables table first now seconds))
+-- what is told of a command, in a run that began at the first of these moments, at the second
+abbrev pub outcome_of_command : Conf → List (List Entry) → ℕ → ℕ → ℕ → Command → Outcome
+outcome_of_command conf tables first now table (command.Expire seconds) = outcome.Expire (expired_count tables table first now seconds)
+outcome_of_command conf tables first now table (command.Add e) = outcome.Add (entered_to tables (limit_of conf limit_name.TableEntries) table e)
+outcome_of_command conf tables first now table (command.Delete e) = outcome.Delete (deleted_count tables table e)
+
+-- the entries of the tables after it
+abbrev pub tables_after_command : Conf → List (List Entry) → ℕ → ℕ → ℕ → Command → List (List Entry)
+tables_after_command conf tables first now table (command.Expire seconds) = entries_expired tables table first now seconds
+tables_after_command conf tables first now table (command.Add e) = entries_entered tables table e now (entered_to tables (limit_of conf limit_name.TableEntries) table e)
+tables_after_command conf tables first now table (command.Delete e) = entries_without tables table e
+
+abbrev pub answer_to_command : Conf → Held → ℕ → ℕ → ℕ → Command → Outcome × Held
+answer_to_command conf h first now table done =
+    (outcome_of_command conf h.tables first now table done, held_of h.world (tables_after_command conf h.tables first now table done))
+
+-- how much is held
+abbrev pub amounts_of : Held → Amounts
+amounts_of h = record { states = length h.world.states; nodes = length h.world.nodes; entries = entry_count h.tables }
+
+-- ---- one event
 
 -- what comes
 abbrev pub answer_to_arrival : Conf → Held → ℕ → ℕ → Arrival → Outcome × Held
 answer_to_arrival conf h first now arrival.Skip = (outcome.Skip, h)
 answer_to_arrival conf h first now (arrival.Packet p) = answer_to_packet conf h p now
-answer_to_arrival conf h first now (arrival.Expire table seconds) = answer_to_expire h first now table.0 seconds
+answer_to_arrival conf h first now (arrival.Table table done) = answer_to_command conf h first now table.0 done
+answer_to_arrival conf h first now arrival.Held = (outcome.Held (amounts_of h), h)
 
 -- what it leaves is held
 abbrev pub leaving : Machine → Outcome × Held → Outcome × Machine

@@ -30,7 +30,8 @@ completed_state p (Some s) = if completes_at p s then Some s else None
 abbrev pub handshaking_state : World → Arrival → Option State
 handshaking_state w arrival.Skip = None
 handshaking_state w (arrival.Packet p) = completed_state p (state_with (key_of p) w)
-handshaking_state w (arrival.Expire table seconds) = None
+handshaking_state w (arrival.Table table done) = None
+handshaking_state w arrival.Held = None
 
 -- the state whose handshake an event completes
 abbrev pub handshake_at : Conf → Machine → Event → Option State

@@ -1,32 +1,36 @@
 -- What may come in a run of events, and where a run stops.
 use Rattle.std.specs.Prelude.{ℕ, ◌+◌, ◌≡◌, ◌≤◌, ◌<◌, ◌^◌, ◌⊎◌, false, Option, Some, List, [], ◌∷◌, ◌++◌, length, take, slice_get}
 use Rattle.std.specs.Option.{ForSome}
-use Rattle.pfs_addr_values.specs.Packets.{Header}
-use Rattle.pfs_conf_values.specs.Configs.{Conf, is_const_table}
+use Rattle.pfs_eval.specs.Tables.{entered_to}
+use Rattle.pfs_eval.specs.declared.tables.Entered.TheVariants as entered
+use Rattle.pfs_conf_values.specs.Configs.{Conf, is_const_table, limit_of}
+use Rattle.pfs_conf_values.specs.declared.limits.LimitName.TheVariants as limit_name
+use Rattle.pfs_engine_machine.specs.declared.events.Command.TheVariants as command
 use Rattle.pfs_engine_machine.specs.declared.events.Event.{Event}
 use Rattle.pfs_engine_machine.specs.declared.events.Outcome.{Outcome}
 use Rattle.pfs_engine_machine.specs.declared.events.Arrival.{Arrival}
 use Rattle.pfs_engine_machine.specs.declared.events.Arrival.TheVariants as arrival
-use Rattle.pfs_engine_machine.specs.Machine.{Machine, machine_at_moment, answer_to_packet, machine_after, outcomes_of}
+use Rattle.pfs_engine_machine.specs.Machine.{Held, Machine, machine_at_moment, answer_to_packet, machine_after, outcomes_of}
 use Rattle.pfs_engine_machine.specs.Refusals.{IsFree}
 
 -- ---- what may come
 
 -- a table that the text names, and that is not `const`
-pub record MayExpire (conf : Conf) (table : ℕ) : Type 0 where
+pub record MayChange (conf : Conf) (table : ℕ) : Type 0 where
   pub known : table < length conf.tables
   pub changes : is_const_table (slice_get conf.tables table) ≡ false
 
--- entries are taken out of such tables alone
+-- entries are added to such tables, and taken out of them, alone
 abbrev pub MayCome : Conf → Arrival → Type 0
-MayCome conf (arrival.Expire table seconds) = MayExpire conf table.0
+MayCome conf (arrival.Table table done) = MayChange conf table.0
 MayCome conf _ = Unit {0}
 
 -- an event counts as one packet, or none
 abbrev pub packets_of : Arrival → ℕ
 packets_of (arrival.Packet p) = 1
 packets_of arrival.Skip = 0
-packets_of (arrival.Expire table seconds) = 0
+packets_of (arrival.Table table done) = 0
+packets_of arrival.Held = 0
 
 -- how many of these events are packets
 unfoldable pub packets_in : List Event → ℕ
@@ -45,15 +49,20 @@ AreAllowed conf (e ∷ es) = MayCome conf e.what × AreAllowed conf es
 
 -- ---- where a run stops
 
--- memory was refused in the packet of this event, which needs memory there: the machine is at the event's moment
-pub record IsRefusedIn (conf : Conf) (m : Machine) (e : Event) (p : Header) (new : Machine) : Type 0 where
-  pub comes : e.what ≡ arrival.Packet p
-  pub needs : IsFree conf p (answer_to_packet conf new.held p e.time).0 → ⊥
+-- what comes at a moment needs memory: a packet that is not free of it, or an entry that is new
+abbrev pub NeedsMemory : Conf → Held → ℕ → Arrival → Type 0
+NeedsMemory conf h now (arrival.Packet p) = IsFree conf p (answer_to_packet conf h p now).0 → ⊥
+NeedsMemory conf h now (arrival.Table table (command.Add e)) = entered_to h.tables (limit_of conf limit_name.TableEntries) table.0 e ≡ entered.New
+NeedsMemory conf h now _ = ⊥
+
+-- memory was refused in what came at this event, which needs memory there: the machine is at the event's moment
+pub record IsRefusedIn (conf : Conf) (m : Machine) (e : Event) (new : Machine) : Type 0 where
+  pub needs : NeedsMemory conf new.held e.time e.what
   pub moment : new ≡ machine_at_moment conf m e.time
 
--- memory was refused for the outcome of this event, before anything changed, or in its packet
+-- memory was refused for the outcome of this event, before anything changed, or in what came
 abbrev pub IsRefusedAt : Conf → Machine → Event → Machine → Type 0
-IsRefusedAt conf m e new = (new ≡ m) ⊎ ((p : Header) × IsRefusedIn conf m e p new)
+IsRefusedAt conf m e new = (new ≡ m) ⊎ IsRefusedIn conf m e new
 
 -- a run stopped at this event: the outcomes and the packets taken are those of the events before it
 pub record IsStoppedAt (conf : Conf) (m : Machine) (es : List Event) (before after : List Outcome) (new : Machine) (taken_before taken k : ℕ) (e : Event) : Type 0 where

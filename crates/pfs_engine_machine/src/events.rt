@@ -2,7 +2,7 @@
 
 use pfs_addr_values::Packet;
 use pfs_conf_values::{RuleNo, TableNo};
-use pfs_eval::Added;
+use pfs_eval::{Added, Entered, TableEntry};
 use pfs_store_contract::Limit;
 
 /// What comes at a moment.
@@ -12,13 +12,26 @@ pub enum Arrival {
     Packet(Packet),
     /// A record that no state is made of: ICMP or ICMPv6, of which a trace does not say enough.
     Skip,
-    /// The administrator takes out of a table the entries that are so many seconds old. (pfctl(8), "-T expire")
-    Expire {
+    /// The administrator does something to a table. (pfctl(8), "-T")
+    Table {
         /// The table: one that the text names, and not `const`.
         table: TableNo,
-        /// The seconds: 0 to 4294967295.
-        seconds: u64,
+        /// What is done.
+        command: Command,
     },
+    /// The administrator asks how much is held. (pfctl(8), "-si")
+    Held,
+}
+
+/// What an administrator does to a table. (pfctl(8), "-T")
+#[derive(Clone, Copy, Debug, PartialEq, Eq)]
+pub enum Command {
+    /// The entries leave that are so many seconds old: 0 to 4294967295. ("-T expire")
+    Expire(u64),
+    /// An entry is added. ("-T add")
+    Add(TableEntry),
+    /// That very entry is taken out. ("-T delete")
+    Delete(TableEntry),
 }
 
 /// What comes, and when.
@@ -67,6 +80,23 @@ pub enum Outcome {
     },
     /// A record that no state is made of.
     Skip,
-    /// So many entries left their table.
+    /// So many entries left their table, since they were old.
     Expire(u64),
+    /// What became of an entry that was to be added.
+    Add(Entered),
+    /// So many entries were taken out: the one that was named, or none.
+    Delete(u64),
+    /// How much is held.
+    Held(Amounts),
+}
+
+/// How much a machine holds.
+#[derive(Clone, Copy, Debug, PartialEq, Eq)]
+pub struct Amounts {
+    /// The states.
+    pub states: u64,
+    /// The source nodes, those without states too.
+    pub nodes: u64,
+    /// The entries that all tables have.
+    pub entries: u64,
 }

@@ -6,8 +6,8 @@ mod events;
 mod rates;
 mod staying;
 
-pub use events::{Arrival, Event, Exceeded, Outcome};
-pub use pfs_eval::Added;
+pub use events::{Amounts, Arrival, Command, Event, Exceeded, Outcome};
+pub use pfs_eval::{Added, Entered, TableEntry};
 pub use pfs_store_contract::Limit;
 pub use rates::rate_memory;
 pub use staying::{staleness, within_limits};

@@ -21,7 +21,7 @@ pub fn staleness(config: &Config, events: &[Event])
     let _limit = config.limit(LimitName::States);
 }
 
-/// After each purge, each packet and each expiry of entries of a run whose moments do not fall, states, source nodes and
+/// After each purge, each packet and each command of a run whose moments do not fall, states, source nodes and
 /// table entries are within their limits, and each rule and source within its maxima. (pf.conf(5), OPTIONS, "set limit",
 /// and STATEFUL TRACKING OPTIONS)
 pub fn within_limits(config: &Config, events: &[Event])

@@ -1,5 +1,5 @@
 -- No two entries of one table have the same prefix: of a text, and after one table has changed.
-use Rattle.std.proofs.Common.{◌≡◌, ℕ, ◌<◌, not, List, length, map, get_or, set, ap, sym, subst, ◌∙◌}
+use Rattle.std.proofs.Common.{◌≡◌, ℕ, ◌<◌, Bool, List, filter, length, map, get_or, set, ap, sym, subst, ◌∙◌}
 use Rattle.std.specs.Prelude.{All}
 use Rattle.std.specs.List.{IsDistinct}
 use Rattle.std.proofs.lemmas.List.{get_or-map, length-map, map-set}
@@ -11,12 +11,11 @@ use Rattle.pfs_conf_values.specs.Invariants.{IsTable}
 use Rattle.pfs_conf_values.specs.declared.tables.TableDef.{TableDef}
 use Rattle.pfs_eval.specs.Entries.{AreDistinct, Entry, entry_of_text}
 use Rattle.pfs_eval.specs.Holdings.{HeldEntries}
-use Rattle.pfs_eval.specs.Tables.{is_old, young}
 use Rattle.pfs_eval.proofs.Rooms.{entries_of}
 
 -- fewer entries
-pub distinct-young : (first now seconds : ℕ) (es : List Entry) → AreDistinct es → AreDistinct (young first now seconds es)
-distinct-young first now seconds es d = IsDistinct-keys_filter same_network (λ (e : Entry). not (is_old first now seconds e.1)) es d
+pub distinct-filter : (stays : Entry → Bool) (es : List Entry) → AreDistinct es → AreDistinct (filter stays es)
+distinct-filter stays es d = IsDistinct-keys_filter same_network stays es d
 
 -- the entries of a text
 distinct-text : (es : List TextEntry) → IsDistinct same_network (map (λ (e : TextEntry). e.0) es) → AreDistinct (map entry_of_text es)

@@ -4,7 +4,7 @@ pub mod Counting
 pub mod Cuts
 pub mod Deciding
 pub mod Distinct
-pub mod Expiring
+pub mod Leaving
 pub mod LinesMade
 pub mod Narrowest
 pub mod Paths

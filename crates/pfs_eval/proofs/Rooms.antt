@@ -1,5 +1,5 @@
 -- One of all tables changes, by one entry more or by room for one: what their entries and counts are then.
-use Rattle.std.proofs.Common.{◌≡◌, ℕ, ◌+◌, ◌<◌, ◌≤◌, ◌⊎◌, inl, inr, true, false, nat_le, nat_lt, List, [], ◌∷◌, ◌++◌, length, map, get_or, set, refl, ap, sym, subst, ◌∙◌, arith, length-append}
+use Rattle.std.proofs.Common.{◌≡◌, ℕ, ◌+◌, ◌<◌, ◌≤◌, ◌⊎◌, inl, inr, Bool, true, false, ◌||◌, cond, nat_le, nat_lt, Option, Some, None, List, [], ◌∷◌, ◌++◌, length, map, get_or, set, refl, ap, sym, subst, ◌∙◌, arith, length-append}
 use Rattle.std.specs.Prelude.{OnErr, Result, Ok, Err, slice_index}
 use Rattle.std.proofs.Math.Seq.{map-set_same}
 use Rattle.std.proofs.lemmas.List.{map-set, get_or-map, get_or-set_other, get_or-set_same, length-map}
@@ -8,10 +8,14 @@ use Rattle.std.proofs.lemmas.Option.{unwrap_or-slice_get}
 use Rattle.std.proofs.lemmas.Bool.Decides.{nat_tests}
 use Rattle.std.proofs.lemmas.Bool.{cases_eq, cond-false}
 use Rattle.pfs_addr_values.specs.declared.addresses.Addr.{Addr}
-use Rattle.pfs_eval.specs.Entries.{Entry, holds_host}
+use Rattle.pfs_addr_values.specs.Prefixes.{Network}
+use Rattle.pfs_eval.specs.Entries.{Entry, holds_host, holds_prefix, is_prefix_of, mark_at, mark_of}
 use Rattle.pfs_eval.specs.Holdings.{HeldEntries, Holdings, holdings}
-use Rattle.pfs_eval.specs.Tables.{IsReady, OthersKept, entries_at, entry_count, added_to, has_room}
+use Rattle.pfs_eval.specs.Tables.{IsReady, OthersKept, entries_at, entry_count, added_to, entered_beside, entered_to, has_room}
+use Rattle.pfs_eval.specs.declared.entries.Mark.{Mark}
+use Rattle.pfs_eval.specs.declared.entries.TableEntry.{TableEntry}
 use Rattle.pfs_eval.specs.declared.tables.Added.TheVariants.{New}
+use Rattle.pfs_eval.specs.declared.tables.Entered.TheVariants as entered
 
 -- the entries of the tables
 abbrev pub entries_of : List HeldEntries → List (List Entry)
@@ -114,6 +118,36 @@ added-new xs limit i a t h e within at absent few =
     ∙ entries_at-held xs i t (within-held xs h.entries i view within) at in
     let held : holds_host (entries_at h.entries i) a ≡ false = ap (λ es. holds_host es a) here ∙ absent in
     cond-false _ _ _ held ∙ cond-false _ _ _ few
+
+-- ---- an entry whose prefix the table does not have
+
+unmarked_step : (b : Bool) (m : Mark) (o : Option Mark) (t : Bool) → (o ≡ None → t ≡ false) → cond b (Some m) o ≡ None → (b || t) ≡ false
+unmarked_step true m o t f e = cc
+unmarked_step false m o t f e = f e
+
+-- a prefix without a mark is not held
+unmarked : (a : Addr) (n : ℕ) (es : List Entry) → mark_at es a n ≡ None → holds_prefix es a n ≡ false
+unmarked a n [] h = refl
+unmarked a n (x ∷ es) h = unmarked_step (is_prefix_of a n x.0) x.1 (mark_at es a n) (holds_prefix es a n) (unmarked a n es) h
+
+-- nor is it in the table of a number that has these entries
+pub unmarked-at : (xs : List HeldEntries) (limit i : ℕ) (p : Network) (t : HeldEntries) (h : Holdings) → holdings xs limit ≡ h
+    → i < length h.entries → t ≡ get_or xs i t → mark_of t.entries p ≡ None → mark_of (entries_at h.entries i) p ≡ None
+unmarked-at xs limit i p t h e within at absent =
+    let view = ap (λ (v : Holdings). v.entries) e in
+    ap (λ es. mark_of es p) (ap (λ es. entries_at es i) (sym view) ∙ entries_at-held xs i t (within-held xs h.entries i view within) at) ∙ absent
+
+pub not-held-at : (xs : List HeldEntries) (limit i : ℕ) (p : Network) (t : HeldEntries) (h : Holdings) → holdings xs limit ≡ h
+    → i < length h.entries → t ≡ get_or xs i t → mark_of t.entries p ≡ None → holds_prefix (entries_at h.entries i) p.addr p.bits ≡ false
+not-held-at xs limit i p t h e within at absent = unmarked p.addr p.bits (entries_at h.entries i) (unmarked-at xs limit i p t h e within at absent)
+
+-- such an entry is new, where the entries are fewer than the limit
+pub entered-new : (xs : List HeldEntries) (limit i : ℕ) (entry : TableEntry) (t : HeldEntries) (h : Holdings) → holdings xs limit ≡ h
+    → i < length h.entries → t ≡ get_or xs i t → mark_of t.entries entry.prefix ≡ None
+    → nat_le h.limit (entry_count h.entries) ≡ false → entered_to h.entries h.limit i entry ≡ entered.New
+entered-new xs limit i entry t h e within at absent few =
+    ap (λ o. entered_beside o entry.negated (nat_le h.limit (entry_count h.entries))) (unmarked-at xs limit i entry.prefix t h e within at absent)
+    ∙ cond-false _ _ _ few
 
 -- a fact of an error
 pub on_err : {X E : Type 0} {P : Type 0} (r : Result X E) → P → OnErr r P

@@ -7,6 +7,7 @@ use Rattle.pfs_addr_values.specs.Addresses.{width_of}
 use Rattle.pfs_addr_values.specs.Prefixes.{Network, covers}
 use Rattle.pfs_conf_values.specs.Entries.{TextEntry, same_network}
 use Rattle.pfs_eval.specs.declared.entries.Mark.{Mark}
+use Rattle.pfs_eval.specs.declared.entries.TableEntry.{TableEntry}
 
 -- an entry of a table: a prefix, and what is kept beside it
 abbrev pub Entry : Type 0
@@ -54,3 +55,15 @@ holds_prefix entries a bits = list_any (λ (e : Entry). is_prefix_of a bits e.0)
 -- whether a table has an entry for exactly this host, negated or not
 abbrev pub holds_host : List Entry → Addr → Bool
 holds_host entries a = holds_prefix entries a (width_of a)
+
+-- the mark of the entry with exactly this prefix
+abbrev pub mark_of : List Entry → Network → Option Mark
+mark_of entries p = mark_at entries p.addr p.bits
+
+-- two signs are the same: both negated, or neither
+abbrev pub same_sign : Bool → Bool → Bool
+same_sign a b = if a then b else not b
+
+-- an entry of a table is this very one: its prefix, and its sign
+abbrev pub is_entry : TableEntry → Entry → Bool
+is_entry e x = is_prefix_of e.prefix.addr e.prefix.bits x.0 && same_sign x.1.negated e.negated

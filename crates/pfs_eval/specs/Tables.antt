@@ -1,16 +1,19 @@
--- The answer of a table for an address, a host that is added, old entries that leave, and room for more.
-use Rattle.std.specs.Prelude.{◌≡◌, ◌≤◌, ◌⊎◌, ℕ, ◌+◌, Bool, true, false, not, nat_le, nat_lt, if◌then◌else◌, Some, List, [], ◌∷◌, ◌++◌, filter, length, map, unwrap_or, slice_get, slice_set, slice_index}
+-- The answer of a table for an address, a host or an entry that is added, entries that leave, and room for more.
+use Rattle.std.specs.Prelude.{◌≡◌, ◌≤◌, ◌⊎◌, ℕ, ◌+◌, Bool, true, false, not, nat_le, nat_lt, if◌then◌else◌, Option, Some, None, List, [], ◌∷◌, ◌++◌, filter, length, map, unwrap_or, slice_get, slice_set, slice_index}
 use Rattle.std.specs.List.{sum_by}
 use Rattle.pfs_addr_values.specs.declared.addresses.Addr.{Addr}
 use Rattle.pfs_addr_values.specs.Addresses.{width_of}
 use Rattle.pfs_addr_values.specs.Prefixes.{network_of}
 use Rattle.pfs_conf_values.specs.Configs.{Conf}
 use Rattle.pfs_conf_values.specs.declared.tables.TableDef.{TableDef}
-use Rattle.pfs_eval.specs.Entries.{Entry, answer_of, entry_of_text, holds_host}
+use Rattle.pfs_eval.specs.Entries.{Entry, answer_of, entry_of_text, holds_host, is_entry, mark_of, same_sign}
 use Rattle.pfs_eval.specs.Holdings.{Holdings}
 use Rattle.pfs_eval.specs.declared.entries.Mark.{Mark}
 use Rattle.pfs_eval.specs.declared.tables.Added.{Added}
+use Rattle.pfs_eval.specs.declared.entries.TableEntry.{TableEntry}
 use Rattle.pfs_eval.specs.declared.tables.Added.TheVariants.{New, Held, Full}
+use Rattle.pfs_eval.specs.declared.tables.Entered.{Entered}
+use Rattle.pfs_eval.specs.declared.tables.Entered.TheVariants as entered
 
 -- the entries of the tables of a configuration
 abbrev pub config_entries : Conf → List (List Entry)
@@ -31,6 +34,10 @@ table_answer tables t a = answer_of (entries_at tables t) a
 abbrev pub entry_count : List (List Entry) → ℕ
 entry_count tables = sum_by (λ (es : List Entry). length es) tables
 
+-- the entries after one was put last into a table
+abbrev pub put_last : List (List Entry) → ℕ → Entry → List (List Entry)
+put_last tables t e = slice_set tables t (entries_at tables t ++ e ∷ [])
+
 -- ---- a host is added (own)
 
 -- the entry of a single host that is added at a moment
@@ -46,9 +53,41 @@ added_to tables limit t a =
 -- the entries after that: a new host is last in its table, and else nothing changes; a host that is held keeps
 -- the moment at which it was added
 abbrev pub entries_after : List (List Entry) → ℕ → Addr → ℕ → Added → List (List Entry)
-entries_after tables t a now New = slice_set tables t (entries_at tables t ++ host_entry a now ∷ [])
+entries_after tables t a now New = put_last tables t (host_entry a now)
 entries_after tables t a now Held = tables
 entries_after tables t a now Full = tables
+
+-- ---- an entry is added (pfctl(8), "-T add")
+
+-- the entry that is added at a moment
+abbrev pub entry_since : TableEntry → ℕ → Entry
+entry_since e now = (e.prefix, record { negated = e.negated; moment = Some now })
+
+-- what becomes of it, by the mark of its prefix in the table and whether the entries are at their limit: held where the sign is
+-- the same, a conflict where it is the other; where the prefix is not there full, or new
+abbrev pub entered_beside : Option Mark → Bool → Bool → Entered
+entered_beside (Some m) negated full = if same_sign m.negated negated then entered.Held else entered.Conflict
+entered_beside None negated full = if full then entered.Full else entered.New
+
+abbrev pub entered_to : List (List Entry) → ℕ → ℕ → TableEntry → Entered
+entered_to tables limit t e = entered_beside (mark_of (entries_at tables t) e.prefix) e.negated (nat_le limit (entry_count tables))
+
+-- the entries after that: a new one is last in its table, and else nothing changes
+abbrev pub entries_entered : List (List Entry) → ℕ → TableEntry → ℕ → Entered → List (List Entry)
+entries_entered tables t e now entered.New = put_last tables t (entry_since e now)
+entries_entered tables t e now entered.Held = tables
+entries_entered tables t e now entered.Conflict = tables
+entries_entered tables t e now entered.Full = tables
+
+-- ---- an entry is taken out (pfctl(8), "-T delete")
+
+-- the entries of the tables without that very one of a table, the others in their order
+abbrev pub entries_without : List (List Entry) → ℕ → TableEntry → List (List Entry)
+entries_without tables t e = slice_set tables t (filter (λ (x : Entry). not (is_entry e x)) (entries_at tables t))
+
+-- how many leave: one, or none
+abbrev pub deleted_count : List (List Entry) → ℕ → TableEntry → ℕ
+deleted_count tables t e = length (filter (is_entry e) (entries_at tables t))
 
 -- ---- entries expire (pfctl(8), "-T expire"; which moments count is own)
 

@@ -1,10 +1,10 @@
 //! The entries of one table: prefixes in the order in which they came, each with its mark.
 
-ghost use Rattle.std.specs.Prelude.{◌≡◌, All, ◌<◌, ◌≤◌, ◌++◌, [], ◌∷◌, IfOk, IsOk, OnErr, OnOk, map, nat_lt, not, false};
+ghost use Rattle.std.specs.Prelude.{◌≡◌, All, ◌<◌, ◌≤◌, ◌++◌, [], ◌∷◌, IfOk, IsOk, OnErr, OnOk, filter, length, map, nat_lt, not, false};
 ghost use Rattle.pfs_addr_values.specs.Addresses.{width_of};
 ghost use Rattle.pfs_addr_values.specs.Prefixes.{IsNetwork, network_of};
 ghost use Rattle.pfs_eval.specs.Holdings.{AreKept};
-ghost use Rattle.pfs_eval.specs.Entries.{AreDistinct, Entry, answer_of, entry_of_text, holds_host, holds_prefix, mark_at};
+ghost use Rattle.pfs_eval.specs.Entries.{AreDistinct, Entry, answer_of, entry_of_text, holds_host, holds_prefix, is_entry, mark_at, mark_of};
 ghost use Rattle.pfs_eval.specs.Tables.{is_old, old_count, young};
 
 use crate::lengths::Lengths;
@@ -21,6 +21,15 @@ pub struct Mark {
     pub negated: bool,
     /// The moment at which it was added, in seconds; none of one that the rules text says.
     pub moment: Option<u64>,
+}
+
+/// An entry as an administrator names it. (pfctl(8), "-T add" and "-T delete")
+#[derive(Debug, Clone, Copy, PartialEq, Eq)]
+pub struct TableEntry {
+    /// The addresses that it covers.
+    pub prefix: Prefix,
+    /// Whether a `!` is before the prefix.
+    pub negated: bool,
 }
 
 /// One table. Clauses see `Held`: its entries in order, and how many more fit without memory.
@@ -84,6 +93,13 @@ impl Table {
         self.map.contains_key(&host.prefix(host.width()))
     }
 
+    /// The mark of the entry with exactly this prefix, if there is one.
+    pub fn mark(&self, prefix: &Prefix) -> Option<Mark>
+        ensures { result ≡ mark_of self.now.entries prefix.now }
+    {
+        mark_at(&self.map, prefix.addr(), prefix.bits())
+    }
+
     /// Whether one more entry fits without memory.
     pub fn has_room(&self) -> bool
         ensures { result ≡ nat_lt 0 self.now.spare }
@@ -129,6 +145,32 @@ impl Table {
         );
         (before - self.map.len()) as u64
     }
+
+    /// The very entry that is named leaves, if it is there; the others keep their order. It returns how many left: one, or
+    /// none. It goes through all entries once, and takes no memory.
+    pub fn delete(&mut self, entry: &TableEntry) -> u64
+        ensures answer { result ≡ length (filter (is_entry entry.now) self.old.entries) }
+        ensures entries { self.new.entries ≡ filter (λ (x : Entry). not (is_entry entry.now x)) self.old.entries }
+        ensures room { self.old.spare ≤ self.new.spare }
+    {
+        let before = self.map.len();
+        let named = *entry;
+        self.map.retain(
+            |prefix: &Prefix, mark: &mut Mark| -> bool
+                ensures { (result ≡ not (is_entry named (prefix.now, mark.old))) × (mark.new ≡ mark.old) }
+            { !is_entry(prefix, *mark, &named) },
+        );
+        (before - self.map.len()) as u64
+    }
+}
+
+/// Whether this prefix with this mark is the very entry that is named.
+fn is_entry(prefix: &Prefix, mark: Mark, entry: &TableEntry) -> bool
+    ensures { result ≡ is_entry entry.now (prefix.now, mark) }
+{
+    prefix.bits() == entry.prefix.bits()
+        && prefix.contains(entry.prefix.addr())
+        && mark.negated == entry.negated
 }
 
 /// Whether an entry was added so many seconds ago, or earlier.

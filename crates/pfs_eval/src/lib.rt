@@ -11,5 +11,5 @@ mod tables;
 mod walks;
 
 pub use books::Book;
-pub use entries::Mark;
-pub use tables::{Added, Tables};
+pub use entries::{Mark, TableEntry};
+pub use tables::{Added, Entered, Tables};

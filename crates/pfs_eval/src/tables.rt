@@ -1,11 +1,13 @@
 //! All tables of a configuration, and the limit on their entries.
 
-ghost use Rattle.std.specs.Prelude.{◌≡◌, ◌<◌, ◌≤◌, ◌⊎◌, ℕ, All, IfOk, IsOk, OnErr, OnOk, Some, length, nat_le, option_map, slice_get, slice_index, true};
-ghost use Rattle.pfs_eval.specs.Entries.{AreDistinct};
+ghost use Rattle.std.specs.Prelude.{◌≡◌, ◌<◌, ◌≤◌, ◌⊎◌, ℕ, All, IfOk, IsOk, OnErr, OnOk, Some, false, if◌then◌else◌, length, nat_le, option_map, slice_get, slice_index, true};
+ghost use Rattle.pfs_addr_values.specs.Addresses.{width_of};
+ghost use Rattle.pfs_addr_values.specs.Prefixes.{network_of};
+ghost use Rattle.pfs_eval.specs.Entries.{AreDistinct, holds_prefix, same_sign};
 ghost use Rattle.pfs_conf_values.specs.Configs.{limit_of};
-ghost use Rattle.pfs_eval.specs.Tables.{OthersKept, added_to, config_entries, entries_after, entries_expired, entry_count, expired_count, has_room, table_answer};
+ghost use Rattle.pfs_eval.specs.Tables.{OthersKept, added_to, config_entries, deleted_count, entered_to, entries_after, entries_at, entries_entered, entries_expired, entries_without, entry_count, expired_count, has_room, put_last, table_answer};
 
-use crate::entries::{Mark, Table};
+use crate::entries::{Mark, Table, TableEntry};
 use pfs_addr_values::{Addr, NoMemory};
 use pfs_conf_values::{Config, Entries, LimitName, RulesHasher, TableNo};
 use std::alloc::Global;
@@ -18,6 +20,19 @@ pub enum Added {
     New,
     /// The table has an entry for exactly that host already, negated or not.
     Held,
+    /// All tables together have as many entries as `set limit table-entries` allows.
+    Full,
+}
+
+/// What became of an entry that the administrator adds to a table. (pfctl(8), "-T add")
+#[derive(Debug, Clone, Copy, PartialEq, Eq)]
+pub enum Entered {
+    /// It is now an entry.
+    New,
+    /// The table has that very entry already.
+    Held,
+    /// The table has its prefix with the other sign.
+    Conflict,
     /// All tables together have as many entries as `set limit table-entries` allows.
     Full,
 }
@@ -132,8 +147,7 @@ impl Tables {
         ensures at_limit { self.old.limit ≤ entry_count self.old.entries → IsOk result }
         ensures others { OthersKept table.0 self.old self.new }
     {
-        let place = table.0 as usize;
-        if self.tables[place].holds(host) {
+        if self.tables[table.0 as usize].holds(host) {
             return Ok(Added::Held);
         }
         if self.is_full() {
@@ -143,9 +157,78 @@ impl Tables {
             negated: false,
             moment: Some(now),
         };
-        self.tables[place].add(host, host.width(), mark)?;
-        self.count += 1;
+        self.put(table, host, host.width(), mark)?;
         Ok(Added::New)
+    }
+
+    /// Adds an entry to a table at a moment, in seconds, as the administrator asks: not if the table has its prefix, with
+    /// the same sign or the other, and not if all tables together have as many entries as the limit allows. `NoMemory`
+    /// where memory was refused; it comes only where the entry is new and does not fit without memory. On an error, and
+    /// where the entry is not new, nothing changes: one that is held keeps its sign and its moment. The room of other
+    /// tables stays. (pfctl(8), "-T add")
+    pub fn add_entry(
+        &mut self,
+        table: TableNo,
+        entry: &TableEntry,
+        now: u64,
+    ) -> Result<Entered, NoMemory>
+        requires { table.0 < length self.old.entries }
+        ensures answer { IfOk result (λ a. a ≡ entered_to self.old.entries self.old.limit table.0 entry.now) }
+        ensures ok { IfOk result (λ a. self.new.entries ≡ entries_entered self.old.entries table.0 entry.now now a) }
+        ensures err { OnErr result (self.new.entries ≡ self.old.entries) }
+        ensures tables { length self.new.entries ≡ length self.old.entries }
+        ensures only_new { OnErr result (entered_to self.old.entries self.old.limit table.0 entry.now ≡ Entered.New) }
+        ensures limit { self.new.limit ≡ self.old.limit }
+        ensures has_room { has_room self.old.room table.0 ≡ true → IsOk result }
+        ensures others { OthersKept table.0 self.old self.new }
+    {
+        if let Some(mark) = self.tables[table.0 as usize].mark(&entry.prefix) {
+            return Ok(entered_beside(mark.negated, entry.negated));
+        }
+        if self.is_full() {
+            return Ok(Entered::Full);
+        }
+        let mark = Mark {
+            negated: entry.negated,
+            moment: Some(now),
+        };
+        self.put(table, entry.prefix.addr(), entry.prefix.bits(), mark)?;
+        Ok(Entered::New)
+    }
+
+    /// Puts an entry last into a table that has none of this prefix, where fewer entries are held than the limit allows.
+    /// On an error nothing changes; it comes only where the entry does not fit without memory.
+    fn put(&mut self, table: TableNo, addr: Addr, bits: u8, mark: Mark) -> Result<(), NoMemory>
+        requires table { table.0 < length self.old.entries }
+        requires bits { bits ≤ width_of addr }
+        requires absent { holds_prefix (entries_at self.old.entries table.0) addr bits ≡ false }
+        requires free { nat_le self.old.limit (entry_count self.old.entries) ≡ false }
+        ensures ok { OnOk result (self.new.entries ≡ put_last self.old.entries table.0 (network_of addr bits, mark)) }
+        ensures err { OnErr result (self.new.entries ≡ self.old.entries) }
+        ensures tables { length self.new.entries ≡ length self.old.entries }
+        ensures limit { self.new.limit ≡ self.old.limit }
+        ensures has_room { has_room self.old.room table.0 ≡ true → IsOk result }
+        ensures others { OthersKept table.0 self.old self.new }
+    {
+        self.tables[table.0 as usize].add(addr, bits, mark)?;
+        self.count += 1;
+        Ok(())
+    }
+
+    /// Takes the very entry that is named out of a table, if it is there: its prefix, with its sign. It returns how many
+    /// left: one, or none. The others keep their order, and no other table changes. No room is lost. It goes through the
+    /// entries of that table alone, and takes no memory. (pfctl(8), "-T delete")
+    pub fn delete_entry(&mut self, table: TableNo, entry: &TableEntry) -> u64
+        requires { table.0 < length self.old.entries }
+        ensures answer { result ≡ deleted_count self.old.entries table.0 entry.now }
+        ensures entries { self.new.entries ≡ entries_without self.old.entries table.0 entry.now }
+        ensures tables { length self.new.entries ≡ length self.old.entries }
+        ensures limit { self.new.limit ≡ self.old.limit }
+        ensures room { (t : ℕ) → slice_index self.old.room t ≤ slice_index self.new.room t }
+    {
+        let deleted = self.tables[table.0 as usize].delete(entry);
+        self.count -= deleted;
+        deleted
     }
 
     /// Takes out of a table the entries that were added `seconds` before `now`, or earlier; those that the rules text
@@ -171,6 +254,17 @@ impl Tables {
         ensures { result ≡ nat_le self.now.limit (entry_count self.now.entries) }
     {
         self.count >= self.limit
+    }
+}
+
+/// What becomes of an entry whose prefix is held, by both signs.
+fn entered_beside(held: bool, negated: bool) -> Entered
+    ensures { result ≡ (if same_sign held negated then Entered.Held else Entered.Conflict) }
+{
+    if held == negated {
+        Entered::Held
+    } else {
+        Entered::Conflict
     }
 }
 

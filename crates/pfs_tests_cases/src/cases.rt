@@ -1,4 +1,5 @@
-//! The cases, by what they are about: limits on states, limits on connections, purges, and old entries.
+//! The cases, by what they are about: limits on states, limits on connections, purges, old entries, and what an administrator adds,
+//! takes out and asks.
 
 use crate::packets::{A1, A2};
 use crate::rows::{Came, Case};
@@ -649,5 +650,280 @@ pub const EXPIRIES: &[Case] = &[
             (61, Came::Syn, A1, 1005, "block @0"),
         ],
         end: (0, 0, 1),
+    },
+];
+
+// ---- records of an administrator: entries that are added and taken out, and how much is held
+
+const TABLED: &str = "table <bad>\nblock in quick from <bad>\npass in all no state";
+
+/// Entries are added and taken out one by one, and the narrowest that covers an address decides.
+pub const ENTRIES: &[Case] = &[
+    Case {
+        shows: "an entry blocks at once, a narrower one of the other sign passes, and that very entry is taken out",
+        rules: TABLED,
+        rows: &[
+            (5, UDP, A1, 1000, "pass @1"),
+            (6, Came::Add("bad", "198.51.100.0/24"), A1, 0, "add - added"),
+            (6, UDP, A1, 1000, "block @0"),
+            (6, Came::Add("bad", "!198.51.100.1"), A1, 0, "add - added"),
+            (6, UDP, A1, 1000, "pass @1"),
+            (7, Came::Add("bad", "198.51.100.1"), A1, 0, "add - conflict"),
+            (7, Came::Add("bad", "198.51.100.77/24"), A1, 0, "add - held"),
+            (
+                8,
+                Came::Delete("bad", "198.51.100.1"),
+                A1,
+                0,
+                "delete - removed=0",
+            ),
+            (
+                8,
+                Came::Delete("bad", "!198.51.100.1"),
+                A1,
+                0,
+                "delete - removed=1",
+            ),
+            (8, UDP, A1, 1000, "block @0"),
+            (9, Came::Ask, A1, 0, "held - states=0 nodes=0 entries=1"),
+        ],
+        end: (0, 0, 1),
+    },
+    Case {
+        shows: "the limit is on the entries of all tables, and one that is taken out leaves its place",
+        rules: "set limit table-entries 1\ntable <bad>\nblock in quick from <bad>\npass in all no state\n\
+            table <good> { 203.0.113.9 }",
+        rows: &[
+            (5, Came::Add("bad", "198.51.100.1"), A1, 0, "add - full"),
+            (
+                5,
+                Came::Delete("good", "203.0.113.9"),
+                A1,
+                0,
+                "delete - removed=1",
+            ),
+            (5, Came::Add("bad", "198.51.100.1"), A1, 0, "add - added"),
+            (5, Came::Add("good", "203.0.113.9"), A1, 0, "add - full"),
+        ],
+        end: (0, 0, 1),
+    },
+    Case {
+        shows: "in full tables an entry that is held is told as such, with either sign",
+        rules: "set limit table-entries 1\ntable <bad> { !198.51.100.1 }",
+        rows: &[
+            (5, Came::Add("bad", "!198.51.100.1"), A1, 0, "add - held"),
+            (5, Came::Add("bad", "198.51.100.1"), A1, 0, "add - conflict"),
+            (5, Came::Add("bad", "198.51.100.0/31"), A1, 0, "add - full"),
+        ],
+        end: (0, 0, 1),
+    },
+    Case {
+        shows: "an entry that is held is not renewed",
+        rules: TABLED,
+        rows: &[
+            (6, Came::Add("bad", "198.51.100.1"), A1, 0, "add - added"),
+            (7, Came::Add("bad", "198.51.100.1"), A1, 0, "add - held"),
+            (15, Came::Expire(10), A1, 0, "expire - removed=0"),
+            (16, Came::Expire(10), A1, 0, "expire - removed=1"),
+        ],
+        end: (0, 0, 0),
+    },
+    Case {
+        shows: "nor by one of the other sign; one that was taken out is new when it is added again",
+        rules: TABLED,
+        rows: &[
+            (6, Came::Add("bad", "!198.51.100.1"), A1, 0, "add - added"),
+            (7, Came::Add("bad", "198.51.100.1"), A1, 0, "add - conflict"),
+            (7, Came::Add("bad", "198.51.100.0/24"), A1, 0, "add - added"),
+            (
+                8,
+                Came::Delete("bad", "198.51.100.0/24"),
+                A1,
+                0,
+                "delete - removed=1",
+            ),
+            (9, Came::Add("bad", "198.51.100.0/24"), A1, 0, "add - added"),
+            (18, Came::Expire(10), A1, 0, "expire - removed=1"),
+            (18, Came::Ask, A1, 0, "held - states=0 nodes=0 entries=1"),
+            (19, Came::Expire(10), A1, 0, "expire - removed=1"),
+        ],
+        end: (0, 0, 0),
+    },
+    Case {
+        shows: "an entry of the rules is held, and leaves by its prefix and sign alone",
+        rules: "table <bad> { 198.51.100.0/24, !198.51.100.1 }\nblock in quick from <bad>\npass in all no state",
+        rows: &[
+            (5, Came::Add("bad", "198.51.100.0/24"), A1, 0, "add - held"),
+            (5, Came::Add("bad", "198.51.100.0"), A1, 0, "add - added"),
+            (
+                5,
+                Came::Delete("bad", "198.51.100.0/25"),
+                A1,
+                0,
+                "delete - removed=0",
+            ),
+            (
+                5,
+                Came::Delete("bad", "198.51.100.1/24"),
+                A1,
+                0,
+                "delete - removed=1",
+            ),
+            (5, UDP, A2, 1000, "pass @1"),
+            (
+                5,
+                Came::Delete("bad", "!198.51.100.1"),
+                A1,
+                0,
+                "delete - removed=1",
+            ),
+            (
+                5,
+                Came::Delete("bad", "!198.51.100.1"),
+                A1,
+                0,
+                "delete - removed=0",
+            ),
+        ],
+        end: (0, 0, 1),
+    },
+    Case {
+        shows: "of three prefixes of an address the narrowest that is left decides",
+        rules: TABLED,
+        rows: &[
+            (0, Came::Add("bad", "0.0.0.0/0"), A1, 0, "add - added"),
+            (0, UDP, A1, 1000, "block @0"),
+            (
+                0,
+                Came::Add("bad", "!198.51.100.0/24"),
+                A1,
+                0,
+                "add - added",
+            ),
+            (0, UDP, A1, 1000, "pass @1"),
+            (0, Came::Add("bad", "198.51.100.1/32"), A1, 0, "add - added"),
+            (0, UDP, A1, 1000, "block @0"),
+            (0, UDP, A2, 1000, "pass @1"),
+            (
+                0,
+                Came::Delete("bad", "198.51.100.1"),
+                A1,
+                0,
+                "delete - removed=1",
+            ),
+            (0, UDP, A1, 1000, "pass @1"),
+            (
+                0,
+                Came::Delete("bad", "!198.51.100.0/24"),
+                A1,
+                0,
+                "delete - removed=1",
+            ),
+            (0, UDP, A1, 1000, "block @0"),
+            (
+                0,
+                Came::Delete("bad", "0.0.0.0/0"),
+                A1,
+                0,
+                "delete - removed=1",
+            ),
+            (0, UDP, A1, 1000, "pass @1"),
+        ],
+        end: (0, 0, 0),
+    },
+    Case {
+        shows: "entries of IPv6, by any text of their prefix",
+        rules: TABLED,
+        rows: &[
+            (6, Came::Add("bad", "2001:DB8::/32"), A1, 0, "add - added"),
+            (6, Came::Add("bad", "!2001:db8::1"), A1, 0, "add - added"),
+            (6, Came::Add("bad", "2001:db8::1"), A1, 0, "add - conflict"),
+            (6, Came::Add("bad", "32.1.13.184/32"), A1, 0, "add - added"),
+            (
+                6,
+                Came::Delete("bad", "2001:db8:0:1::/32"),
+                A1,
+                0,
+                "delete - removed=1",
+            ),
+        ],
+        end: (0, 0, 2),
+    },
+    Case {
+        shows: "a source whose host is an entry, negated, is held when it is overloaded",
+        rules: "table <bad> { 203.0.113.9 }\n\
+            pass in proto tcp to any port 80 keep state (max-src-conn 1, overload <bad>)",
+        rows: &[
+            (100, Came::Add("bad", "!198.51.100.1"), A1, 0, "add - added"),
+            (104, SHAKE, A1, 1000, "state @0"),
+            (104, SHAKE, A1, 1001, HELD),
+        ],
+        end: (1, 1, 2),
+    },
+    Case {
+        shows: "a source that was overloaded is an entry that can be taken out",
+        rules: "block in quick from <bad>\n\
+            pass in proto tcp to any port 80 keep state (max-src-conn 1, overload <bad> flush)",
+        rows: &[
+            (0, Came::Shake(1), A1, 1000, "state @1"),
+            (0, Came::Shake(1), A1, 1001, FLUSHED),
+            (1, Came::Add("bad", "198.51.100.1"), A1, 0, "add - held"),
+            (
+                1,
+                Came::Delete("bad", "198.51.100.1"),
+                A1,
+                0,
+                "delete - removed=1",
+            ),
+            (1, Came::Syn, A1, 1002, "new @1"),
+        ],
+        end: (1, 1, 0),
+    },
+];
+
+/// How much is held when the administrator asks.
+pub const AMOUNTS: &[Case] = &[
+    Case {
+        shows: "purges due are done before what is held is counted",
+        rules: "set timeout { udp.first 2, interval 1 }\npass in proto udp all",
+        rows: &[
+            (5, UDP, A1, 1000, "new @0"),
+            (5, Came::Ask, A1, 0, "held - states=1 nodes=0 entries=0"),
+            (7, Came::Ask, A1, 0, "held - states=0 nodes=0 entries=0"),
+        ],
+        end: (0, 0, 0),
+    },
+    Case {
+        shows: "source nodes count without states too, and the entries of all tables",
+        rules: "set timeout { src.track 20, interval 1, udp.first 5 }\n\
+            table <bad> { 203.0.113.9, !203.0.113.0/24 }\ntable <good> { 203.0.113.7 }\n\
+            pass in proto udp all keep state (source-track rule)",
+        rows: &[
+            (0, Came::Ask, A1, 0, "held - states=0 nodes=0 entries=3"),
+            (0, UDP, A1, 1, "new @0"),
+            (0, UDP, A1, 2, "new @0"),
+            (0, UDP, A2, 1, "new @0"),
+            (0, Came::Ask, A1, 0, "held - states=3 nodes=2 entries=3"),
+            (10, Came::Ask, A1, 0, "held - states=0 nodes=2 entries=3"),
+            (
+                10,
+                Came::Delete("good", "203.0.113.7"),
+                A1,
+                0,
+                "delete - removed=1",
+            ),
+            (30, Came::Ask, A1, 0, "held - states=0 nodes=0 entries=2"),
+        ],
+        end: (0, 0, 2),
+    },
+    Case {
+        shows: "the entries of the rules count as added when it is asked, if that comes first",
+        rules: "table <bad> { 203.0.113.9 }",
+        rows: &[
+            (100, Came::Ask, A1, 0, "held - states=0 nodes=0 entries=1"),
+            (104, Came::Expire(5), A1, 0, "expire - removed=0"),
+            (105, Came::Expire(5), A1, 0, "expire - removed=1"),
+        ],
+        end: (0, 0, 0),
     },
 ];

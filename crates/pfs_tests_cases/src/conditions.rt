@@ -2,7 +2,7 @@
 
 ghost use Rattle.std.specs.Prelude.{◌≡◌, ◌<◌, ◌≤◌, ◌^◌, true};
 ghost use Rattle.std.specs.Option.{ForSome};
-ghost use Rattle.pfs_engine_machine.specs.Runs.{AreAllowed, IsInOrder, MayCome, MayExpire};
+ghost use Rattle.pfs_engine_machine.specs.Runs.{AreAllowed, IsInOrder, MayChange, MayCome};
 
 use pfs_conf_values::{Config, TableNo};
 use pfs_engine_machine::{Arrival, Event};
@@ -31,18 +31,18 @@ pub fn is_in_order(last: Option<u64>, events: &[Event]) -> bool
 }
 
 /// Whether a table is one of the configuration's, and not `const`.
-pub fn may_expire(config: &Config, table: TableNo) -> bool
-    ensures { result ≡ true → MayExpire config.now table.0 }
+pub fn may_change(config: &Config, table: TableNo) -> bool
+    ensures { result ≡ true → MayChange config.now table.0 }
 {
     table.0 < config.table_count() && !config.is_const(table)
 }
 
-/// Whether it takes entries out of no other table.
+/// Whether it changes no other table.
 pub fn may_come(config: &Config, what: &Arrival) -> bool
     ensures { result ≡ true → MayCome config.now what.now }
 {
     match what {
-        Arrival::Expire { table, .. } => may_expire(config, *table),
+        Arrival::Table { table, .. } => may_change(config, *table),
         _ => true,
     }
 }

@@ -13,17 +13,17 @@ mod scripts;
 mod texts;
 
 pub use crate::cases::{
-    ADMISSIONS, CONNECTIONS, EXPIRIES, FLOOD, FLUSH, FLUSH_GLOBAL, KEPT, LIVES, OVERLOADS, RATES,
-    REFUSALS, RETENTION, ROUNDS, SCALED, SECOND_CONNECTION, THIRD_STATE,
+    ADMISSIONS, AMOUNTS, CONNECTIONS, ENTRIES, EXPIRIES, FLOOD, FLUSH, FLUSH_GLOBAL, KEPT, LIVES,
+    OVERLOADS, RATES, REFUSALS, RETENTION, ROUNDS, SCALED, SECOND_CONNECTION, THIRD_STATE,
 };
-pub use crate::conditions::{are_allowed, is_in_order, is_in_time, may_come, may_expire};
+pub use crate::conditions::{are_allowed, is_in_order, is_in_time, may_change, may_come};
 pub use crate::errors::CaseError;
 pub use crate::outcomes::outcome_of;
 pub use crate::packets::{
     A1, A2, ACK, FIN_ACK, NONE, RST, S6, SERVER, SERVER6, SYN, SYN_ACK, Sent, between, packet,
 };
 pub use crate::rows::{Came, Case, Row};
-pub use crate::scripts::Script;
+pub use crate::scripts::{Script, entry};
 pub use crate::texts::{ANCHORED, EVERYTHING, HEADER, SHOWN, UNSCALED, configured};
 
 /// Two values are the same; a third is shown where they are not. The crate that calls it has a function `checks::same`.

@@ -2,7 +2,7 @@
 
 use crate::errors::CaseError;
 use pfs_conf_values::RuleNo;
-use pfs_engine_machine::{Added, Exceeded, Limit, Outcome};
+use pfs_engine_machine::{Added, Amounts, Entered, Exceeded, Limit, Outcome};
 
 /// The outcome that a line of a report tells, of its words behind the number of the line; an error where there is no such line.
 pub fn outcome_of(words: &str) -> Result<Outcome, CaseError> {
@@ -13,7 +13,10 @@ fn read(words: &str) -> Option<Outcome> {
     let (word, rest) = words.split_once(" ")?;
     match word {
         "skip" => Some(Outcome::Skip),
-        "expire" => Some(Outcome::Expire(number(rest.strip_prefix("- removed=")?)?)),
+        "expire" => Some(Outcome::Expire(removed(rest)?)),
+        "delete" => Some(Outcome::Delete(removed(rest)?)),
+        "add" => Some(Outcome::Add(entered(rest)?)),
+        "held" => Some(Outcome::Held(amounts(rest)?)),
         "pass" if rest == "-" => Some(Outcome::Pass(None)),
         "pass" => Some(Outcome::Pass(Some(rule(rest)?))),
         "state" => Some(Outcome::State(rule(rest)?)),
@@ -24,6 +27,30 @@ fn read(words: &str) -> Option<Outcome> {
             None => kill(word, rest),
         },
     }
+}
+
+fn removed(rest: &str) -> Option<u64> {
+    number(rest.strip_prefix("- removed=")?)
+}
+
+fn entered(rest: &str) -> Option<Entered> {
+    match rest {
+        "- added" => Some(Entered::New),
+        "- held" => Some(Entered::Held),
+        "- conflict" => Some(Entered::Conflict),
+        "- full" => Some(Entered::Full),
+        _ => None,
+    }
+}
+
+fn amounts(rest: &str) -> Option<Amounts> {
+    let (states, rest) = rest.strip_prefix("- states=")?.split_once(" nodes=")?;
+    let (nodes, entries) = rest.split_once(" entries=")?;
+    Some(Amounts {
+        states: number(states)?,
+        nodes: number(nodes)?,
+        entries: number(entries)?,
+    })
 }
 
 fn kill(word: &str, rest: &str) -> Option<Outcome> {

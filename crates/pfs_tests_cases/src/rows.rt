@@ -23,6 +23,12 @@ pub enum Came {
     Ping,
     /// The entries of the first table, which is `<bad>`, leave that are so many seconds old.
     Expire(u64),
+    /// An entry is added to the table of this name: `<bad>`, which is the first, or `<good>`, the second.
+    Add(&'static str, &'static str),
+    /// That very entry is taken out of such a table.
+    Delete(&'static str, &'static str),
+    /// The administrator asks how much is held.
+    Ask,
 }
 
 /// When, in seconds; what, of which source, from which of its ports; and what the report says of it, behind the number of its line.

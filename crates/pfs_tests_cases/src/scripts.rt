@@ -4,9 +4,10 @@ use crate::errors::{CaseError, grown};
 use crate::outcomes::outcome_of;
 use crate::packets::{ACK, FIN_ACK, RST, SYN, SYN_ACK, Sent, packet};
 use crate::rows::{Came, Row};
+use pfs_addr::parse_prefix;
 use pfs_addr_values::Addr;
 use pfs_conf_values::{RuleNo, TableNo};
-use pfs_engine_machine::{Arrival, Event, Outcome};
+use pfs_engine_machine::{Arrival, Command, Event, Outcome, TableEntry};
 use std::alloc::Global;
 
 /// Events, and what the machine makes of them.
@@ -43,9 +44,15 @@ impl Script {
             Came::Fin => Sent::Tcp(80, FIN_ACK),
             Came::Reset => Sent::Tcp(80, RST),
             Came::Ping => return self.put(time, Arrival::Skip, outcome),
+            Came::Ask => return self.put(time, Arrival::Held, outcome),
             Came::Expire(seconds) => {
-                let table = TableNo(0);
-                return self.put(time, Arrival::Expire { table, seconds }, outcome);
+                return self.command(time, "bad", Command::Expire(seconds), outcome);
+            }
+            Came::Add(table, text) => {
+                return self.command(time, table, Command::Add(entry(text)?), outcome);
+            }
+            Came::Delete(table, text) => {
+                return self.command(time, table, Command::Delete(entry(text)?), outcome);
             }
             Came::Shake(rule) => {
                 self.begin_handshake(time, source, port, RuleNo(rule))?;
@@ -53,6 +60,18 @@ impl Script {
             }
         };
         self.send(time, &sent, source, port, outcome)
+    }
+
+    /// The administrator does something to the first table, which is `<bad>`, or to the second one.
+    fn command(
+        &mut self,
+        time: u64,
+        name: &str,
+        command: Command,
+        outcome: Outcome,
+    ) -> Result<(), CaseError> {
+        let table = TableNo(if name == "bad" { 0 } else { 1 });
+        self.put(time, Arrival::Table { table, command }, outcome)
     }
 
     /// The first packet of a handshake and the server's answer.
@@ -87,7 +106,20 @@ impl Script {
     }
 
     fn put(&mut self, time: u64, what: Arrival, outcome: Outcome) -> Result<(), CaseError> {
-        grown(self.events.push(Event { time, what }))?;
+        grown(self.events.extend_from_slice(&[Event { time, what }]))?;
         grown(self.outcomes.push(outcome))
     }
+}
+
+/// An entry as a record writes it: a prefix, directly behind a `!` where it is negated.
+pub fn entry(text: &str) -> Result<TableEntry, CaseError> {
+    match text.strip_prefix("!") {
+        Some(text) => signed(text, true),
+        None => signed(text, false),
+    }
+}
+
+fn signed(text: &str, negated: bool) -> Result<TableEntry, CaseError> {
+    let prefix = parse_prefix(text.as_bytes()).ok_or(CaseError::Unreadable)?;
+    Ok(TableEntry { prefix, negated })
 }

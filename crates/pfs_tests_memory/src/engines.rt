@@ -1,14 +1,17 @@
 //! Engines over both kinds of store: events one by one, and as a run.
 
+ghost use Rattle.std.specs.Prelude.{◌≤◌};
+
 use crate::kinds::Kind;
 use crate::telling::{Stop, begin, begin_free, end, plain, refused};
 use pfs_addr_values::{Packet, RUN_LIMIT};
 use pfs_conf::{Config, TableNo};
 use pfs_engine::{Arrival, Engine, Event, Outcome};
+use pfs_engine_machine::{Command, Entered};
 use pfs_store::Store;
 use pfs_tests_cases::{
     A1, A2, Came, Case, FLUSH, RETENTION, Script, UNSCALED, are_allowed, configured, is_in_order,
-    is_in_time, may_come, may_expire,
+    is_in_time, may_change, may_come,
 };
 
 const CASES: &[Case] = &[
@@ -50,6 +53,39 @@ const CASES: &[Case] = &[
             ),
         ],
         end: (4, 1, 0),
+    },
+    Case {
+        shows: "an administrator adds entries, takes one out and asks",
+        rules: "set limit table-entries 3\nblock in quick from <bad>\npass in proto udp all",
+        rows: &[
+            (0, Came::Ask, A1, 0, "held - states=0 nodes=0 entries=0"),
+            (0, Came::Add("bad", "198.51.100.0/24"), A1, 0, "add - added"),
+            (1, Came::Udp(53), A1, 1, "block @0"),
+            (1, Came::Add("bad", "!198.51.100.1"), A1, 0, "add - added"),
+            (1, Came::Add("bad", "198.51.100.1"), A1, 0, "add - conflict"),
+            (1, Came::Udp(53), A1, 1, "new @1"),
+            (2, Came::Add("bad", "2001:db8::/32"), A1, 0, "add - added"),
+            (2, Came::Add("bad", "2001:db8::/32"), A1, 0, "add - held"),
+            (2, Came::Add("bad", "10.0.0.0/8"), A1, 0, "add - full"),
+            (
+                3,
+                Came::Delete("bad", "2001:db8::/32"),
+                A1,
+                0,
+                "delete - removed=1",
+            ),
+            (
+                3,
+                Came::Delete("bad", "2001:db8::/32"),
+                A1,
+                0,
+                "delete - removed=0",
+            ),
+            (3, Came::Add("bad", "10.0.0.0/8"), A1, 0, "add - added"),
+            (4, Came::Expire(3), A1, 0, "expire - removed=2"),
+            (4, Came::Ask, A1, 0, "held - states=1 nodes=0 entries=1"),
+        ],
+        end: (1, 0, 1),
     },
 ];
 
@@ -119,7 +155,7 @@ fn held<S: Store>(engine: &Engine<S>) -> (u64, u64, u64, u64) {
     )
 }
 
-/// The packets one by one.
+/// The events one by one.
 fn walk<S: Store>(rt: &HostRuntime, engine: &mut Engine<S>, case: &Case) -> Result<(), Stop> {
     let script = Script::of(rt.alloc(), case.rows)?;
     for (event, outcome) in script.events.iter().zip(&script.outcomes) {
@@ -137,7 +173,7 @@ fn walk<S: Store>(rt: &HostRuntime, engine: &mut Engine<S>, case: &Case) -> Resu
 
 /// All entries of the table leave, those of the text too.
 fn expire<S: Store>(rt: &HostRuntime, engine: &mut Engine<S>, case: &Case) -> Result<(), Stop> {
-    if engine.last().is_none() || !may_expire(engine.config(), TableNo(0)) {
+    if engine.last().is_none() || !may_change(engine.config(), TableNo(0)) {
         return Err(Stop::Input);
     }
     let (states, nodes, entries, taken) = held(engine);
@@ -155,7 +191,7 @@ fn is_end<S: Store>(engine: &Engine<S>, case: &Case) -> bool {
     (states, nodes, entries) == case.end
 }
 
-/// A packet at its moment, and once more where memory was refused.
+/// An event at its moment, and once more where memory was refused.
 fn take_event<S: Store>(
     rt: &HostRuntime,
     engine: &mut Engine<S>,
@@ -163,13 +199,75 @@ fn take_event<S: Store>(
     event: &Event,
     wanted: Outcome,
 ) -> Result<(), Stop> {
-    let Arrival::Packet(packet) = &event.what else {
-        return Err(Stop::Input);
-    };
     advance(rt, engine, event.time)?;
-    if !take(rt, engine, case, packet, wanted)? {
-        take(rt, engine, case, packet, wanted)?;
+    match &event.what {
+        Arrival::Packet(packet) => {
+            if !take(rt, engine, case, packet, wanted)? {
+                take(rt, engine, case, packet, wanted)?;
+            }
+            Ok(())
+        }
+        Arrival::Table { table, command } => {
+            if !change(rt, engine, *table, command, wanted)? {
+                change(rt, engine, *table, command, wanted)?;
+            }
+            Ok(())
+        }
+        Arrival::Held => ask(rt, engine, wanted),
+        Arrival::Skip => Err(Stop::Input),
     }
+}
+
+/// A command by a call of its own, which alone of all may take memory where an entry is new.
+fn change<S: Store>(
+    rt: &HostRuntime,
+    engine: &mut Engine<S>,
+    table: TableNo,
+    command: &Command,
+    wanted: Outcome,
+) -> Result<bool, Stop> {
+    if engine.last().is_none() || !may_change(engine.config(), table) {
+        return Err(Stop::Input);
+    }
+    let before = (held(engine), engine.last());
+    begin_change(rt, wanted, command_name(command))?;
+    let answer = match command {
+        Command::Expire(seconds) => Ok(Outcome::Expire(engine.expire(table, *seconds))),
+        Command::Add(entry) => match engine.add(table, entry) {
+            Ok(became) => Ok(Outcome::Add(became)),
+            Err(error) => Err(error),
+        },
+        Command::Delete(entry) => Ok(Outcome::Delete(engine.delete(table, entry))),
+    };
+    end(rt)?;
+    match answer {
+        Ok(outcome) => plain(rt, outcome == wanted),
+        Err(_) => refused(rt, (held(engine), engine.last()) == before),
+    }
+}
+
+fn command_name(command: &Command) -> &'static str {
+    match command {
+        Command::Expire(_) => "expire",
+        Command::Add(_) => "add",
+        Command::Delete(_) => "delete",
+    }
+}
+
+/// A call begins that takes memory only for an entry that is new.
+fn begin_change(rt: &HostRuntime, wanted: Outcome, call: &str) -> Result<(), Stop> {
+    match wanted {
+        Outcome::Add(Entered::New) => println!(rt; "call {call} of an entry that is new")?,
+        _ => begin_free(rt, call)?,
+    }
+    Ok(())
+}
+
+fn ask<S: Store>(rt: &HostRuntime, engine: &Engine<S>, wanted: Outcome) -> Result<(), Stop> {
+    begin_free(rt, "amounts")?;
+    let told = engine.amounts();
+    end(rt)?;
+    plain(rt, Outcome::Held(told) == wanted)?;
     Ok(())
 }
 
@@ -209,6 +307,7 @@ fn take<S: Store>(
 fn begin_for(rt: &HostRuntime, case: &Case, wanted: Outcome, call: &str) -> Result<(), Stop> {
     match wanted {
         Outcome::New(_) => println!(rt; "call {call} that makes a state")?,
+        Outcome::Add(Entered::New) => println!(rt; "call {call} of an entry that is new")?,
         Outcome::State(_) | Outcome::Kill { .. } if has_overload(case) => {
             println!(rt; "call {call} of a rule with overload")?;
         }
@@ -217,7 +316,7 @@ fn begin_for(rt: &HostRuntime, case: &Case, wanted: Outcome, call: &str) -> Resu
     Ok(())
 }
 
-/// The packets by one call each, with the time up to them; once more where memory was refused.
+/// The events by one call each, with the time up to them; once more where memory was refused.
 fn step_each<S: Store>(rt: &HostRuntime, engine: &mut Engine<S>, case: &Case) -> Result<(), Stop> {
     let script = Script::of(rt.alloc(), case.rows)?;
     for (event, outcome) in script.events.iter().zip(&script.outcomes) {
@@ -242,6 +341,7 @@ fn step<S: Store>(
 ) -> Result<bool, Stop> {
     let (event, wanted) = row;
     let taken = engine.taken();
+    let entries = engine.entries();
     if !is_in_time(engine.last(), event.time) || taken >= RUN_LIMIT {
         return Err(Stop::Input);
     }
@@ -255,21 +355,31 @@ fn step<S: Store>(
     match answer {
         Ok(outcome) => plain(
             rt,
-            is_there && outcome == wanted && engine.taken() == taken + 1,
+            is_there && outcome == wanted && engine.taken() == taken + packets_of(event),
         ),
-        Err(_) => refused(rt, is_there && engine.taken() == taken),
+        Err(_) => refused(
+            rt,
+            is_there && engine.taken() == taken && engine.entries() == entries,
+        ),
     }
 }
 
-/// All packets by one call; where it is refused, those that are left by another.
+/// An event is one packet, or none.
+fn packets_of(event: &Event) -> u64
+    ensures { result ≤ 1 }
+{
+    match event.what {
+        Arrival::Packet(_) => 1,
+        _ => 0,
+    }
+}
+
+/// All events by one call; where it is refused, those that are left by another.
 fn run_all<S: Store>(rt: &HostRuntime, engine: &mut Engine<S>, case: &Case) -> Result<(), Stop> {
     let script = Script::of(rt.alloc(), case.rows)?;
-    let events = &script.events;
-    let wanted = &script.outcomes;
     let mut outcomes = Vec::new(rt.alloc());
-    if !run_once(rt, engine, events, &mut outcomes, wanted, case)? {
-        let done = outcomes.len().min(events.len());
-        run_once(rt, engine, &events[done..], &mut outcomes, wanted, case)?;
+    if !run_once(rt, engine, &script, &mut outcomes, case)? {
+        run_once(rt, engine, &script, &mut outcomes, case)?;
     }
     Ok(())
 }
@@ -277,11 +387,12 @@ fn run_all<S: Store>(rt: &HostRuntime, engine: &mut Engine<S>, case: &Case) -> R
 fn run_once<S: Store>(
     rt: &HostRuntime,
     engine: &mut Engine<S>,
-    events: &[Event],
+    script: &Script,
     outcomes: &mut Vec<Outcome>,
-    wanted: &[Outcome],
     case: &Case,
 ) -> Result<bool, Stop> {
+    let done = outcomes.len().min(script.events.len());
+    let events = &script.events[done..];
     if !is_in_order(engine.last(), events) || engine.taken() > 1_000 || events.len() > 1_000 {
         return Err(Stop::Input);
     }
@@ -291,15 +402,25 @@ fn run_once<S: Store>(
     begin(rt, "run")?;
     let answer = engine.run(events, outcomes);
     end(rt)?;
-    let is_front = is_front(outcomes, wanted) && engine.taken() == outcomes.len() as u64;
-    let is_whole = outcomes.len() == wanted.len();
+    let is_front = is_front(outcomes, &script.outcomes)
+        && engine.taken() == packets_in(script, outcomes.len());
+    let is_whole = outcomes.len() == script.outcomes.len();
     match answer {
         Ok(()) => plain(rt, is_front && is_whole && is_end(engine, case)),
         Err(_) => refused(rt, is_front && !is_whole),
     }
 }
 
-/// The outcomes are those of the first packets.
+/// How many of the first so many events are packets.
+fn packets_in(script: &Script, count: usize) -> u64 {
+    let mut packets: u64 = 0;
+    for event in script.events.iter().take(count) {
+        packets = packets.saturating_add(packets_of(event));
+    }
+    packets
+}
+
+/// The outcomes are those of the first events.
 fn is_front(outcomes: &[Outcome], wanted: &[Outcome]) -> bool {
     outcomes.len() <= wanted.len()
         && outcomes

@@ -1,5 +1,8 @@
 //! The calls of the program: replays, what is reported of rules, and the words of the command line.
 
+ghost use Rattle.std.specs.Prelude.{IfOk};
+ghost use Rattle.pfs_cli_streams.specs.Sinks.{OwesNoFlush};
+
 use crate::rules_texts::{FULL, NODES, OVERLOAD};
 use crate::telling::{Stop, begin, begin_free, end, plain, refused, wrong};
 use clap::error::ErrorKind;
@@ -39,6 +42,16 @@ const TRACES: &[Row] = &[
         0,in,em0,tcp,198.51.100.1,1001,192.0.2.1,80,A\n",
         b"1 new @0\n2 state @0\n3 state @0\n4 new @0\n5 state @0\n\
         6 kill:max-src-conn @0 overload=full killed=1\nend rows=6 states=1 nodes=1 entries=1\n",
+    ),
+    (
+        OVERLOAD,
+        b"time,dir,if,proto,src,sport,dst,dport,flags\n\
+        0,held,,,,,,,\n0,add,bad,,198.51.100.0/24,,,,\n0,in,em0,udp,198.51.100.1,1,192.0.2.1,53,\n\
+        1,add,bad,,!198.51.100.1,,,,\n1,in,em0,udp,198.51.100.1,1,192.0.2.1,53,\n\
+        2,add,bad,,198.51.100.1,,,,\n2,delete,bad,,198.51.100.0/24,,,,\n2,held,,,,,,,\n",
+        b"1 held - states=0 nodes=0 entries=0\n2 add - added\n3 block @0\n4 add - added\n5 new @1\n\
+        6 add - conflict\n7 delete - removed=1\n8 held - states=1 nodes=0 entries=1\n\
+        end rows=8 states=1 nodes=0 entries=1\n",
     ),
 ];
 
@@ -84,7 +97,9 @@ fn tell_joined(rt: &HostRuntime, row: &Row) -> Result<(), Stop> {
 }
 
 /// Room for all that is written: so no write needs more.
-fn sink(rt: &HostRuntime) -> Result<Sink<Vec<u8>>, Stop> {
+fn sink(rt: &HostRuntime) -> Result<Sink<Vec<u8>>, Stop>
+    ensures { IfOk result OwesNoFlush }
+{
     Ok(Sink::new(Vec::with_capacity(rt.alloc(), 4096)?))
 }
 

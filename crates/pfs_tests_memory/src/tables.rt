@@ -6,8 +6,8 @@ use crate::rules_texts::{FULL, NODES, OVERLOAD};
 use crate::telling::{Stop, answered, begin, begin_free, end, plain, refused};
 use pfs_addr_values::{Addr, Meter, NoMemory, Packet};
 use pfs_conf::{Config, RuleNo, TableNo, load};
-use pfs_eval::{Added, Book, Tables};
-use pfs_tests_cases::{A1, EVERYTHING, Sent, packet};
+use pfs_eval::{Added, Book, Entered, Tables};
+use pfs_tests_cases::{A1, EVERYTHING, S6, Sent, entry, packet};
 
 /// Rules, how many entries they have, and the rule that decides on a packet of UDP.
 type Row = (&'static [u8], u64, Option<u32>);
@@ -36,7 +36,8 @@ pub fn tell_tables(rt: &HostRuntime) -> Result<(), Stop> {
         return Err(Stop::Input);
     }
     add_with_room(rt, &config)?;
-    add_without_room(rt, &config)
+    add_without_room(rt, &config)?;
+    enter_and_delete(rt, &config)
 }
 
 fn tell_book(rt: &HostRuntime, config: &Config, row: &Row, udp: &Packet) -> Result<(), Stop> {
@@ -214,5 +215,112 @@ fn expire(rt: &HostRuntime, tables: &mut Tables) -> Result<(), Stop>
     let left = tables.expire(TableNo(0), 5, 5, 0);
     end(rt)?;
     plain(rt, left == u64::from(FREE) + 1 && tables.entries() == 0)?;
+    Ok(())
+}
+
+/// Entries, each of which is new.
+const ENTRIES: &[&str] = &[
+    "198.51.100.0/24",
+    "!198.51.100.1",
+    "198.51.100.0/32",
+    "2001:db8::/32",
+    "!2001:db8::1",
+    "0.0.0.0/0",
+    "!::/0",
+    "10.0.0.0/8",
+    "!10.0.0.0/9",
+    "10.0.0.0/10",
+];
+
+/// An administrator adds entries, and hosts up to the limit, and takes the entries out.
+fn enter_and_delete(rt: &HostRuntime, config: &Config) -> Result<(), Stop>
+    requires { 0 < length config.now.tables }
+{
+    let mut tables = Tables::new(rt.alloc(), config)?;
+    for text in ENTRIES {
+        if !enter(rt, &mut tables, text)? {
+            enter(rt, &mut tables, text)?;
+        }
+        enter_free(rt, &mut tables, text, Entered::Held)?;
+    }
+    enter_free(rt, &mut tables, "10.0.0.0/9", Entered::Conflict)?;
+    for number in 0..FREE {
+        tables.add_host(TableNo(0), Addr::V4([10, 1, 1, number]), 5)?;
+    }
+    enter_free(rt, &mut tables, "10.1.0.0/16", Entered::Full)?;
+    delete_each(rt, &mut tables)
+}
+
+/// The entry is new; or, where memory was refused, the tables are as before.
+fn enter(rt: &HostRuntime, tables: &mut Tables, text: &str) -> Result<bool, Stop>
+    requires { 0 < length tables.old.entries }
+    ensures { length tables.new.entries ≡ length tables.old.entries }
+{
+    let entry = entry(text)?;
+    let count = tables.entries();
+    let before = answers(tables);
+    begin(rt, "add_entry")?;
+    let answer = tables.add_entry(TableNo(0), &entry, 5);
+    end(rt)?;
+    match answer {
+        Ok(became) => {
+            let is_one_more = tables.entries() == count.saturating_add(1);
+            plain(rt, became == Entered::New && is_one_more)
+        }
+        Err(_) => refused(rt, tables.entries() == count && answers(tables) == before),
+    }
+}
+
+/// What the table answers for four addresses.
+fn answers(tables: &Tables) -> (bool, bool, bool, bool) {
+    (
+        tables.matches(TableNo(0), host(0)),
+        tables.matches(TableNo(0), host(1)),
+        tables.matches(TableNo(0), Addr::V4([10, 64, 0, 1])),
+        tables.matches(TableNo(0), S6),
+    )
+}
+
+/// An entry that is held, with the same sign or the other, or that is one too many.
+fn enter_free(
+    rt: &HostRuntime,
+    tables: &mut Tables,
+    text: &str,
+    wanted: Entered,
+) -> Result<(), Stop>
+    requires { 0 < length tables.old.entries }
+    ensures { length tables.new.entries ≡ length tables.old.entries }
+{
+    let entry = entry(text)?;
+    let count = tables.entries();
+    begin_free(rt, "add_entry held, of the other sign or full")?;
+    let answer = tables.add_entry(TableNo(0), &entry, 6);
+    end(rt)?;
+    plain(rt, answer == Ok(wanted) && tables.entries() == count)?;
+    Ok(())
+}
+
+/// Each entry that was added is taken out, once.
+fn delete_each(rt: &HostRuntime, tables: &mut Tables) -> Result<(), Stop>
+    requires { 0 < length tables.old.entries }
+{
+    for text in ENTRIES {
+        delete(rt, tables, text, 1)?;
+        delete(rt, tables, text, 0)?;
+    }
+    Ok(())
+}
+
+fn delete(rt: &HostRuntime, tables: &mut Tables, text: &str, wanted: u64) -> Result<(), Stop>
+    requires { 0 < length tables.old.entries }
+    ensures { length tables.new.entries ≡ length tables.old.entries }
+{
+    let entry = entry(text)?;
+    let count = tables.entries();
+    begin_free(rt, "delete_entry")?;
+    let deleted = tables.delete_entry(TableNo(0), &entry);
+    end(rt)?;
+    let is_right = deleted == wanted && count.checked_sub(deleted) == Some(tables.entries());
+    plain(rt, is_right)?;
     Ok(())
 }

@@ -1,11 +1,12 @@
 //! The tests, with what they alone use.
 
+mod commands;
 mod cuts;
-mod expiring;
 mod failing;
 mod fakes;
 mod families;
 mod jobs;
+mod lines;
 mod reports;
 mod runs;
 mod scenarios;

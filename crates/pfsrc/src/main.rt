@@ -2,9 +2,11 @@
 //! fault's status.
 #![tactic(auto)]
 
+ghost use Rattle.pfs_cli_streams.specs.Sinks.{OwesNoFlush};
+
 use clap::Error;
 use clap::error::ErrorKind;
-use pfs_cli::{Feed, Job, ReplayFault, Sink, job, perform, status};
+use pfs_cli::{Feed, ReplayFault, Request, Sink, perform, request, status};
 use std::alloc::AllocError;
 use std::env;
 use std::fs::File;
@@ -26,8 +28,8 @@ fn run(rt: &HostRuntime) -> u8 {
     let Ok(words) = texts_of(rt, &words) else {
         return report_fault(rt, &ReplayFault::Memory);
     };
-    match job(rt.alloc(), words.as_slice()) {
-        Ok(job) => match perform_job(rt, &job) {
+    match request(rt.alloc(), words.as_slice()) {
+        Ok(request) => match perform_request(rt, &request) {
             Ok(()) => 0,
             Err(fault) => report_fault(rt, &fault),
         },
@@ -47,17 +49,17 @@ fn texts_of<'a>(rt: &HostRuntime, words: &'a [String]) -> Result<Vec<&'a str>, A
 
 /// Performs the job over the files that it names, and over standard input where it names none. All files are opened before one
 /// is read.
-fn perform_job(rt: &HostRuntime, job: &Job) -> Result<(), ReplayFault> {
+fn perform_request(rt: &HostRuntime, request: &Request) -> Result<(), ReplayFault> {
     let Ok(out) = BufWriter::new(rt.alloc(), io::writer(rt)) else {
         return Err(ReplayFault::Memory);
     };
-    let mut out = Sink::new(out);
-    let (rules, trace) = job.files();
+    let mut out = sink_of(out, request.by_lines);
+    let (rules, trace) = request.job.files();
     let rules = Input::open(rt, rules)?;
     let trace = Input::open(rt, trace)?;
     let answer = perform(
         rt.alloc(),
-        job,
+        &request.job,
         &mut Feed::new(rules, READS),
         &mut Feed::new(trace, READS),
         &mut out,
@@ -65,6 +67,17 @@ fn perform_job(rt: &HostRuntime, job: &Job) -> Result<(), ReplayFault> {
     // At a fault nothing was flushed, and the lines before it are to be seen all the same.
     let _ = out.into_inner().flush();
     answer
+}
+
+/// A sink of this writer: by lines, if that is asked for.
+fn sink_of<W>(writer: W, by_lines: bool) -> Sink<W>
+    ensures { OwesNoFlush result }
+{
+    if by_lines {
+        Sink::line_buffered(writer)
+    } else {
+        Sink::new(writer)
+    }
 }
 
 /// What is read: a file, or standard input.

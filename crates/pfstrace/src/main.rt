@@ -3,17 +3,20 @@
 
 #![tactic(auto)]
 
-ghost use Rattle.std.specs.Prelude.{◌≡◌, true};
+ghost use Rattle.std.specs.Prelude.{◌≡◌, IfOk, true};
 ghost use Rattle.pfs_addr_values.specs.Names.{is_name};
+ghost use Rattle.pfs_cli_streams.specs.Sinks.{OwesNoFlush};
 
 use clap::error::ErrorKind;
 use clap::{Arg, ArgAction, ArgMatches, Command, Error};
 use pfs_addr::parse_prefix;
-use pfs_addr_values::{IfName, Prefix, parse_ifname};
-use pfs_capture::{Account, Feed, Sink, TraceStop, status, write_trace};
+use pfs_addr_values::{Prefix, parse_ifname};
+use pfs_capture::{
+    Account, CapturePoint, Feed, Mac, Side, Sink, TraceStop, parse_mac, status, write_trace,
+};
 use std::alloc::{AllocError, Global};
 use std::env;
-use std::fs::File;
+use std::fs::{self, File};
 use std::io::{self, BufReader, BufWriter, Read, Write};
 use std::process::ExitCode;
 
@@ -22,6 +25,15 @@ const VERSION: &str = "0.1.0";
 
 /// The most reads of a capture, more than a run can make.
 const READS: u64 = u64::MAX;
+
+/// What is wrong with the words.
+#[derive(Clone, Copy)]
+enum Wrong {
+    /// They ask for nothing that can be done, for this reason.
+    Mistake(&'static str),
+    /// Memory was refused for what they ask.
+    Memory,
+}
 
 fn main(rt: HostRuntime) -> ExitCode {
     ExitCode::from(run(&rt))
@@ -63,12 +75,15 @@ fn program<'a>(alloc: Global) -> Result<Command<'a>, AllocError> {
             "Writes a trace for pfsrc of a capture, pcap or pcapng, and tells on standard error what became of its frames.",
         )
         .after_help(
-            "Example: pfstrace --inside 192.0.2.0/24,2001:db8::/32 web.pcap > trace\nWithout a file it reads standard input. A log of pflog(4) tells its packets' ways itself and needs no --inside.\nStatus: 0 done, 1 a fault in the capture, 2 words that are not understood, 4 reading, writing or memory failed.",
+            "Example: pfstrace --inside 192.0.2.0/24,2001:db8::/32 web.pcap > trace\nWithout a file, and of the file -, it reads standard input. A log of pflog(4) and a Linux cooked capture tell the directions themselves.\nStatus: 0 done, 1 a fault in the capture, 2 words that are not understood, 4 reading, writing or memory failed.",
         )
-        .arg(inside(alloc))?;
+        .arg(mac(alloc))?;
     command
+        .arg(inside(alloc))?
+        .arg(outside(alloc))?
         .arg(interface_name(alloc))?
         .arg(told(alloc))?
+        .arg(line_buffered(alloc))?
         .arg(capture(alloc))
 }
 
@@ -77,14 +92,37 @@ fn option<'a>(alloc: Global, name: &'a str, action: ArgAction, help: &'a str) ->
     Arg::new(alloc, name).long(name).action(action).help(help)
 }
 
+fn mac<'a>(alloc: Global) -> Arg<'a> {
+    option(
+        alloc,
+        "mac",
+        ArgAction::Append,
+        "The addresses of the interface on its Ethernet, as ifconfig prints them behind lladdr: a frame from one is out, one to it or to a group is in. Nothing else says it as surely.",
+    )
+    .value_delimiter(',')
+    .value_name("ADDRESS")
+}
+
 fn inside<'a>(alloc: Global) -> Arg<'a> {
     option(
         alloc,
         "inside",
         ArgAction::Append,
-        "The networks behind the firewall, and its own addresses: a packet to them from elsewhere is in, one from them to elsewhere is out.",
+        "The networks behind the interface, and the firewall's own addresses: a packet to them from elsewhere is in, one from them to elsewhere is out.",
     )
     .value_delimiter(',')
+    .value_name("PREFIX")
+}
+
+fn outside<'a>(alloc: Global) -> Arg<'a> {
+    option(
+        alloc,
+        "outside",
+        ArgAction::Append,
+        "In place of --inside, the networks in front of the interface, as the local ones are of an inner interface: a packet from them to elsewhere is in, one to them from elsewhere is out.",
+    )
+    .value_delimiter(',')
+    .value_name("PREFIX")
 }
 
 fn interface_name<'a>(alloc: Global) -> Arg<'a> {
@@ -101,54 +139,156 @@ fn told<'a>(alloc: Global) -> Arg<'a> {
         alloc,
         "told",
         ArgAction::Set,
-        "Of a log of pflog(4), writes there for each record its row, what pf did, and by which rule. A file of this name is replaced.",
+        "Of a log of pflog(4), writes there for each record its row, what pf did, and by which rule. A file of this name is made anew.",
     )
     .value_name("FILE")
 }
 
+fn line_buffered<'a>(alloc: Global) -> Arg<'a> {
+    option(
+        alloc,
+        "line-buffered",
+        ArgAction::SetTrue,
+        "Writes each row before it reads more of the capture.",
+    )
+}
+
 fn capture<'a>(alloc: Global) -> Arg<'a> {
     Arg::new(alloc, "CAPTURE").help(
-        "A capture of tcpdump or of pflogd, or any other pcap or pcapng file.",
+        "A capture of tcpdump or of pflogd, or any other pcap or pcapng file; - is standard input.",
     )
 }
 
 /// Writes the trace that the words ask for; the status.
 fn trace_found(rt: &HostRuntime, found: &ArgMatches<'_>) -> u8 {
-    let Some(ifname) = parse_ifname(found.get_str("interface").unwrap_or("em0").as_bytes()) else {
-        return tell_mistake(rt, "--interface: no name of an interface");
+    let point = match point(rt, found) {
+        Ok(point) => point,
+        Err(Wrong::Mistake(why)) => return tell_mistake(rt, why),
+        Err(Wrong::Memory) => return tell_stop(rt, &TraceStop::Memory, 0),
     };
-    let mut inside = Vec::new(rt.alloc());
-    for text in found.get_strs("inside").unwrap_or(&[]) {
-        let Some(prefix) = parse_prefix(text.as_bytes()) else {
-            return tell_mistake(rt, "--inside: no address and no prefix");
-        };
-        if inside.push(prefix).is_err() {
-            return tell_stop(rt, &TraceStop::Memory, 0);
-        }
-    }
     let told = found.get_str("told");
-    match found.get_str("CAPTURE") {
-        Some(name) if told == Some(name) => tell_mistake(rt, "--told: this is the capture"),
-        Some(name) => trace_file(rt, &inside, ifname, told, name),
-        None => trace_reader(rt, &inside, ifname, told, &mut rt.reader()),
+    let name = file_of(found.get_str("CAPTURE"));
+    if told == Some("-") {
+        return tell_mistake(rt, "--told: standard output has the trace");
+    }
+    if is_capture(rt, told, name.unwrap_or("/dev/stdin")) {
+        return tell_mistake(rt, "--told: this is the capture");
+    }
+    let output = Output {
+        told,
+        by_lines: found.get_flag("line-buffered"),
+    };
+    match name {
+        Some(name) => trace_file(rt, &point, output, name),
+        None => trace_reader(rt, &point, output, &mut rt.reader()),
     }
 }
 
-fn trace_file(
+/// The file of this name; none where it stands for standard input.
+fn file_of<'a>(name: Option<&'a str>) -> Option<&'a str> {
+    match name {
+        Some("-") | None => None,
+        Some(name) => Some(name),
+    }
+}
+
+/// What is written beside the trace, and how.
+#[derive(Clone, Copy)]
+struct Output<'a> {
+    /// The file for what pf answered, if one is wanted.
+    told: Option<&'a str>,
+    /// Whether each row is to be seen before more of the capture is read.
+    by_lines: bool,
+}
+
+/// A sink of this writer: by lines, if that is asked for.
+fn sink_of<W>(writer: W, by_lines: bool) -> Sink<W>
+    ensures { OwesNoFlush result }
+{
+    if by_lines {
+        Sink::line_buffered(writer)
+    } else {
+        Sink::new(writer)
+    }
+}
+
+/// Where the capture was taken, as the words say.
+fn point(rt: &HostRuntime, found: &ArgMatches<'_>) -> Result<CapturePoint, Wrong>
+    ensures { IfOk result (λ p. is_name 15 p.ifname ≡ true) }
+{
+    let Some(ifname) = parse_ifname(found.get_str("interface").unwrap_or("em0").as_bytes()) else {
+        return Err(Wrong::Mistake("--interface: no name of an interface"));
+    };
+    let macs = macs(rt, found)?;
+    let inside = prefixes(rt, found, "inside", "--inside: no address and no prefix")?;
+    let outside = prefixes(rt, found, "outside", "--outside: no address and no prefix")?;
+    if inside.is_empty() {
+        return Ok(CapturePoint::new(ifname, macs, outside, Side::InFront));
+    }
+    if !outside.is_empty() {
+        return Err(Wrong::Mistake("--inside and --outside: give one of them"));
+    }
+    Ok(CapturePoint::new(ifname, macs, inside, Side::Behind))
+}
+
+fn macs(rt: &HostRuntime, found: &ArgMatches<'_>) -> Result<Vec<Mac>, Wrong> {
+    let mut macs = Vec::new(rt.alloc());
+    for text in found.get_strs("mac").unwrap_or(&[]) {
+        let Some(mac) = parse_mac(text.as_bytes()) else {
+            return Err(Wrong::Mistake("--mac: no address such as 00:00:5e:00:53:01"));
+        };
+        if macs.extend_from_slice(&[mac]).is_err() {
+            return Err(Wrong::Memory);
+        }
+    }
+    Ok(macs)
+}
+
+/// The prefixes of the option of this name, or why they are none.
+fn prefixes(
     rt: &HostRuntime,
-    inside: &[Prefix],
-    ifname: IfName,
-    told: Option<&str>,
+    found: &ArgMatches<'_>,
     name: &str,
-) -> u8
-    requires { is_name 15 ifname ≡ true }
+    why: &'static str,
+) -> Result<Vec<Prefix>, Wrong> {
+    let mut prefixes = Vec::new(rt.alloc());
+    for text in found.get_strs(name).unwrap_or(&[]) {
+        let Some(prefix) = parse_prefix(text.as_bytes()) else {
+            return Err(Wrong::Mistake(why));
+        };
+        if prefixes.push(prefix).is_err() {
+            return Err(Wrong::Memory);
+        }
+    }
+    Ok(prefixes)
+}
+
+/// Whether the file of the answers is the capture, by whatever path.
+fn is_capture(rt: &HostRuntime, told: Option<&str>, name: &str) -> bool {
+    let Some(told) = told else {
+        return false;
+    };
+    if told == name {
+        return true;
+    }
+    let Ok(one) = fs::canonicalize(rt, told) else {
+        return false;
+    };
+    let Ok(other) = fs::canonicalize(rt, name) else {
+        return false;
+    };
+    one == other
+}
+
+fn trace_file(rt: &HostRuntime, point: &CapturePoint, output: Output<'_>, name: &str) -> u8
+    requires { is_name 15 point.now.ifname ≡ true }
 {
     let Ok(file) = File::open(rt, name) else {
         let _ = eprintln!(rt; "read failed");
         return 4;
     };
     match BufReader::new(rt.alloc(), file) {
-        Ok(mut file) => trace_reader(rt, inside, ifname, told, &mut file),
+        Ok(mut file) => trace_reader(rt, point, output, &mut file),
         Err(_) => tell_stop(rt, &TraceStop::Memory, 0),
     }
 }
@@ -156,46 +296,62 @@ fn trace_file(
 /// Writes the trace of what a reader gives, and what pf answered to the file of this name, if one is given; the status.
 fn trace_reader<R: Read>(
     rt: &HostRuntime,
-    inside: &[Prefix],
-    ifname: IfName,
-    told: Option<&str>,
+    point: &CapturePoint,
+    output: Output<'_>,
     reader: &mut R,
 ) -> u8
-    requires { is_name 15 ifname ≡ true }
+    requires { is_name 15 point.now.ifname ≡ true }
 {
-    let Some(name) = told else {
-        return trace_into(rt, inside, ifname, reader, io::sink());
+    let by_lines = output.by_lines;
+    let Some(name) = output.told else {
+        return trace_into(rt, point, by_lines, reader, io::sink());
     };
-    let Ok(file) = File::create(rt, name) else {
+    let Ok(file) = create_anew(rt, name) else {
         let _ = eprintln!(rt; "--told: the file can't be written");
         return 4;
     };
     match BufWriter::new(rt.alloc(), file) {
-        Ok(file) => trace_into(rt, inside, ifname, reader, file),
+        Ok(file) => trace_into(rt, point, by_lines, reader, file),
         Err(_) => tell_stop(rt, &TraceStop::Memory, 0),
+    }
+}
+
+/// A file of this name that is made anew: one that was there is taken away first, and not written over, since the capture may be the
+/// same file under another name. What is no file of its own, as a terminal or a link, is opened.
+fn create_anew(rt: &HostRuntime, name: &str) -> io::Result<File> {
+    if is_own_file(rt, name) {
+        fs::remove_file(rt, name)?;
+    }
+    File::create(rt, name)
+}
+
+/// Whether there is a file of this name, and no link to one.
+fn is_own_file(rt: &HostRuntime, name: &str) -> bool {
+    match fs::symlink_metadata(rt, name) {
+        Ok(found) => found.is_file(),
+        Err(_) => false,
     }
 }
 
 /// Writes the trace to standard output, and what pf answered to a writer, and reports the account; the status.
 fn trace_into<R: Read, T: Write + Drop>(
     rt: &HostRuntime,
-    inside: &[Prefix],
-    ifname: IfName,
+    point: &CapturePoint,
+    by_lines: bool,
     reader: &mut R,
     told: T,
 ) -> u8
-    requires { is_name 15 ifname ≡ true }
+    requires { is_name 15 point.now.ifname ≡ true }
 {
     let Ok(out) = BufWriter::new(rt.alloc(), io::writer(rt)) else {
         return tell_stop(rt, &TraceStop::Memory, 0);
     };
-    let mut out = Sink::new(out);
-    let mut told = Sink::new(told);
+    let mut out = sink_of(out, by_lines);
+    let mut told = sink_of(told, by_lines);
     let mut account = Account::new();
     let answer = write_trace(
         rt.alloc(),
-        inside,
-        ifname,
+        point,
         &mut Feed::new(reader, READS),
         &mut out,
         &mut told,
@@ -204,7 +360,12 @@ fn trace_into<R: Read, T: Write + Drop>(
     // At a fault the rows before it are to be seen all the same.
     let flushed = out.into_inner().flush();
     let told_flushed = told.into_inner().flush();
-    let _ = eprintln!(rt; "{account}");
+    // Where a reader of the trace has gone away, nobody asks for the account.
+    if let Err(TraceStop::Write) = answer {
+        return tell_stop(rt, &TraceStop::Write, 0);
+    }
+    let directions = account.directions;
+    let _ = eprintln!(rt; "{account}\n{directions}");
     match answer {
         Err(stop) => tell_stop(rt, &stop, account.frames),
         Ok(()) if flushed.is_err() => tell_stop(rt, &TraceStop::Write, 0),

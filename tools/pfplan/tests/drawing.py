@@ -129,6 +129,8 @@ class Ruleset:
     """What was drawn: tables, items in order, and the text."""
 
     tables: dict[str, list[tuple[str, bool]]] = field(default_factory=dict)
+    skipped: list[str] = field(default_factory=list)
+    skip_line: int = 0
     items: list[Rule | Anchor] = field(default_factory=list)
     text: str = ""
 
@@ -149,6 +151,7 @@ class Drawer:
         for name in ("t", "u"):
             entries = {self.prefix(): self.chance(0.3) for _ in range(self.random.randint(0, 4))}
             drawn.tables[name] = list(entries.items())
+        drawn.skipped = self.random.sample(["lo", "lan", *INTERFACES], 2) if self.chance(0.2) else []
         drawn.items = [self.item(0) for _ in range(self.random.randint(1, 6))]
         while sum(map(most_rules, drawn.items)) > MOST_RULES:
             drawn.items = [self.item(0) for _ in range(self.random.randint(1, 6))]
@@ -297,10 +300,20 @@ class Writer:
     def write(self, drawn: Ruleset) -> str:
         """The text; the lines of rules and anchors are set."""
         self._lines.append("# drawn")
+        if drawn.skipped and self._chance(0.5):
+            self._skip(drawn)
         for name, entries in drawn.tables.items():
             self._table(name, entries)
         self._items(drawn.items)
+        if drawn.skipped and not drawn.skip_line:
+            self._skip(drawn)
         return "\n".join(self._lines) + "\n"
+
+    def _skip(self, drawn: Ruleset) -> None:
+        self._lines.append(f"set skip on {self._list(drawn.skipped)}")
+        self._lines[-1:] = [*self._pending, self._lines[-1]]
+        self._pending = []
+        drawn.skip_line = len(self._lines)
 
     def _chance(self, share: float) -> bool:
         return self._drawer.chance(share)

@@ -11,7 +11,6 @@ from . import drawing
 from .drawing import FAMILIES, Anchor, Filter, Host, Packet, Ports, Rule, Ruleset
 
 
-
 @dataclass
 class Reading:
     """Answers packets one after another, and remembers the keys of the states that it made."""
@@ -24,6 +23,8 @@ class Reading:
         key = key_of(packet)
         if key in self.keys:
             return "state", 0
+        if any(packet.interface in ("lo0",) if it == "lo" else is_on(it, False, packet, False) for it in self.drawn.skipped):
+            return "pass", self.drawn.skip_line
         decided, _, _ = self._walk(self.drawn.items, packet, None)
         if decided is None:
             return "pass", 0

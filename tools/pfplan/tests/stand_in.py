@@ -2,7 +2,8 @@
 """A stand-in for pfsrc in tests of what is around it: a machine of one limit, that knows no timeouts.
 
 It reads rules texts of `set limit states N`, `set timeout` lines and rules with options, and makes a state for each first SYN of a connection
-while fewer than N are held (`max N` of a rule is a lower limit); a FIN ends one. Its `show` prints a text of the form of pfsrc's.
+while fewer than N are held (`max N` of a rule is a lower limit); a FIN ends one. Entries that come to tables are counted, and it says how much is
+held. A trace may come from standard input. Its `show` prints a text of the form of pfsrc's.
 """
 
 import re
@@ -29,6 +30,8 @@ def read_rules(path: str) -> tuple[dict[str, int], dict[str, int], list[str]]:
                 times.update({name: int(value) for name, value in re.findall(r"([a-z.]+) (\d+)", words)})
             elif words.startswith(("pass", "block")):
                 items.append(words)
+            elif words.startswith(("table", "#")):
+                pass
             elif words:
                 sys.stderr.write(f"rules: line {number}: Syntax\n")
                 sys.exit(3)
@@ -54,15 +57,22 @@ def replay(rules: str, trace: str) -> None:
     limits, times, items = read_rules(rules)
     most = min([limits["states"], *(int(it) for item in items for it in re.findall(r"\bmax (\d+)", item))])
     held: set[tuple[str, ...]] = set()
+    entries: set[str] = set()
     row = 0
-    with open(trace, encoding="latin-1") as file:
+    with open(0 if trace == "-" else trace, encoding="latin-1") as file:
         if file.readline().strip() != "time,dir,if,proto,src,sport,dst,dport,flags":
             sys.stderr.write("trace: row 0: columns\n")
             sys.exit(1)
         for row, line in enumerate(file, 1):
             column = line.strip().split(",")
             key = tuple(column[4:8]) if column[1] == "in" else (column[6], column[7], column[4], column[5])
-            if column[3] == "icmp":
+            if column[1] == "held":
+                print(f"{row} held - states={len(held)} nodes=0 entries={len(entries)}")
+            elif column[1] == "add":
+                is_full = len(entries) >= limits["table-entries"]
+                print(f"{row} add - {'full' if is_full else 'added'}")
+                entries.update([] if is_full else [line])
+            elif column[3] == "icmp":
                 print(f"{row} skip -")
             elif key in held:
                 print(f"{row} state @0")
@@ -78,7 +88,7 @@ def replay(rules: str, trace: str) -> None:
             if times["interval"] == 77:
                 sys.stdout.flush()
                 time.sleep(5)
-    print(f"end rows={row} states={len(held)} nodes=0 entries=0")
+    print(f"end rows={row} states={len(held)} nodes=0 entries={len(entries)}")
 
 
 if __name__ == "__main__":

@@ -29,6 +29,8 @@ class BadInput(FolderCase):
         self.text = self.write("text", "Dear reader,\n")
         self.capture = self.folder / "web.pcap"
         self.capture.write_bytes(b"\xd4\xc3\xb2\xa1" + bytes(200))
+        forged = '[group.forged]\nkind = "syn"\nfrom = "203.0.113.0/24"\nrate = 5000\n'
+        self.flood = self.write("scenario.toml", f'seconds = 20\nserver = "192.0.2.1:80"\n{forged}')
         self.out = self.folder / "out"
         self.env = {"PFSRC": str(STAND_IN)}
 
@@ -46,7 +48,7 @@ class BadInput(FolderCase):
 
     def calls(self, place: str, path: object) -> "list[tuple[object, ...]]":
         """Each command with a file in the place of its rules, its trace, its report or its capture."""
-        rules, trace, report, capture = self.rules, self.good, self.answers, self.capture
+        rules, trace, report = self.rules, self.good, self.answers
         if place == "rules":
             return [
                 ("compare", path, rules, trace), ("size", path, trace, "--vary", "states=1..5", "--users", "10.0.0.0/8"), ("margins", path, trace),
@@ -131,15 +133,15 @@ class BadInput(FolderCase):
         script.chmod(0o755)
         done = pfplan("run", self.rules, self.good, "--into", self.out, env={"PFSRC": str(script)})
         self.assertEqual((done.status, done.err), (Status.REFUSED, f"pfplan run: {self.good}: row 2: field 6\n"))
-        self.assertNotIn("report", [it.name for it in self.out.iterdir()])
+        self.assertNotIn("out", self.left())
 
     def test_a_folder_that_is_a_file(self) -> None:
         self.assertIn("a file, where a folder is wanted", self.told("run", self.rules, self.good, "--into", self.text)[1])
-        self.assertIn("a folder, where a file is to be written", self.told("flood", "--kind", "syn", "--out", self.folder)[1])
-        self.assertIn("can't be written: No such file or directory", self.told("flood", "--kind", "syn", "--out", self.folder / "no" / "where")[1])
+        self.assertIn("a folder, where a file is to be written", self.told("scenario", "--out", self.folder)[1])
+        self.assertIn("can't be written: No such file or directory", self.told("scenario", "--out", self.folder / "no" / "where")[1])
 
     def test_a_full_disk(self) -> None:
-        for words in (("flood", "--kind", "syn"), ("summary", self.answers), ("rules", self.rules)):
+        for words in (("scenario",), ("summary", self.answers), ("rules", self.rules)):
             status, line = self.told(*words, "--out", "/dev/full")
             self.assertEqual((status, line), (Status.FAILED, "/dev/full: can't be written: No space left on device"))
             with open("/dev/full", "wb") as full:
@@ -148,9 +150,9 @@ class BadInput(FolderCase):
             self.assertIn("standard output: can't be written: No space left on device\n", ended.stderr)
 
     def test_a_file_that_grows_too_large(self) -> None:
-        script = f"ulimit -f 100; trap '' XFSZ; exec '{sys.executable}' '{TOP / 'pfplan'}' flood --kind syn --seconds 60 --rate 500 --out '{self.out}'"
+        script = f"ulimit -f 100; trap '' XFSZ; exec '{sys.executable}' '{TOP / 'pfplan'}' trace '{self.flood}' --out '{self.out}'"
         ended = subprocess.run(["sh", "-c", script], capture_output=True, text=True, check=False)
-        self.assertEqual((ended.returncode, ended.stderr), (Status.FAILED, f"pfplan flood: {self.out}: can't be written: File too large\n"))
+        self.assertEqual((ended.returncode, ended.stderr), (Status.FAILED, f"pfplan trace: {self.out}: can't be written: File too large\n"))
         self.assertNotIn("out", self.left())
 
     def test_what_stood_there_stays(self) -> None:
@@ -159,14 +161,15 @@ class BadInput(FolderCase):
         self.assertEqual(self.out.read_text("utf-8"), "before\n")
 
     def test_nobody_reads(self) -> None:
-        script = f"'{sys.executable}' '{TOP / 'pfplan'}' flood --kind syn --rate 5000 2>'{self.folder / 'err'}' | head -n 1"
+        script = f"'{sys.executable}' '{TOP / 'pfplan'}' trace '{self.flood}' 2>'{self.folder / 'err'}' | head -n 1"
         ended = subprocess.run(["sh", "-c", script], capture_output=True, text=True, check=False)
         self.assertEqual(ended.stdout, f"{HEADER}\n")
-        self.assertEqual((self.folder / "err").read_text("utf-8"), "pfplan flood: standard output: can't be written: Broken pipe\n")
+        self.assertEqual((self.folder / "err").read_text("utf-8"), "pfplan trace: standard output: can't be written: Broken pipe\n")
 
     def test_an_interrupt(self) -> None:
         slow = self.folder / "pfsrc"
-        slow.write_text("#!/bin/sh\ntest \"$1\" = replay || exec '%s' \"$@\"\necho '1 new @0'\nexec sleep 60\n" % STAND_IN, encoding="utf-8")
+        begun = "test \"$1\" = replay || exec '%s' \"$@\"\n: > '%s'\necho '1 new @0'\nexec sleep 60\n" % (STAND_IN, self.folder / "begun")
+        slow.write_text(f"#!/bin/sh\n{begun}", encoding="utf-8")
         slow.chmod(0o755)
         calls = (
             ("run", self.rules, self.good, "--into", self.folder / "into"),
@@ -179,13 +182,17 @@ class BadInput(FolderCase):
                     self.interrupt(number, slow, *words)
 
     def interrupt(self, number: int, program: Path, *words: object) -> None:
-        """Runs a command, interrupts it, and sees that nothing is left that looks whole."""
+        """Runs a command, interrupts it when pfsrc replays, and sees that nothing is left that looks whole."""
         given = [sys.executable, str(TOP / "pfplan"), *map(str, words)]
         around = os.environ | {"PFSRC": str(program)}
+        begun = self.folder / "begun"
+        begun.unlink(missing_ok=True)
         process = subprocess.Popen(given, stderr=subprocess.PIPE, stdout=subprocess.PIPE, text=True, env=around, preexec_fn=heed_interrupts)
-        time.sleep(2)
+        until = time.monotonic() + 60
+        while not begun.exists() and time.monotonic() < until:
+            time.sleep(0.05)
         process.send_signal(number)
-        out, err = process.communicate(timeout=30)
+        out, err = process.communicate(timeout=60)
         self.assertEqual((process.returncode, out, err), (Status.INTERRUPTED, "", f"pfplan {words[0]}: interrupted\n"))
         self.assertNotIn("out", self.left())
         into = self.folder / "into"

@@ -1,6 +1,7 @@
 """The command `trace`, over a stand-in for ./pfstrace. What pfstrace makes of captures is in cases/captures."""
 
 import os
+import shutil
 import signal
 import subprocess
 import sys
@@ -49,6 +50,29 @@ class Captures(FolderCase):
         self.assertEqual((self.read("words"), self.read("trace")), (f"{NAME}\n", made))
         self.assertEqual(self.left(), [NAME, "pfstrace", "trace", "words"])
 
+    def test_the_interface_s_own_address(self) -> None:
+        lines: tuple[str, ...] = ("em0: flags=8843<UP> mtu 1500", "\tlladdr 00:00:5e:00:53:01", "\tinet 192.0.2.1 netmask 0xffffff00")
+        lines += ("carp0: flags=8843<UP> mtu 1500",)
+        lines += ("\tlladdr 00:00:5e:00:01:07", "\tcarp: MASTER carpdev em0 vhid 7 advbase 1 advskew 0", "tun0: flags=51<UP> mtu 1500")
+        self.write("ifconfig", "\n".join(lines) + "\n")
+        script = f"echo \"$*\" > words; {ONE}"
+        for name, macs in (("em0", "--mac 00:00:5e:00:53:01,00:00:5e:00:01:07 "), ("carp0", "--mac 00:00:5e:00:01:07 "), ("tun0", "")):
+            with self.subTest(name):
+                self.assertEqual(self.call(script, "--ifconfig", "ifconfig", "--if", name), Done(0, "time,dir\n5,in\n", ""))
+                self.assertEqual(self.read("words"), f"{macs}--inside 192.0.2.0/24 --interface {name} {NAME}\n")
+
+    def test_directions_by_networks_alone(self) -> None:
+        counts = "directions: by pflog 0, by a cooked header 0, by --mac {}, by networks {}; networks contradict {}"
+        for mac, networks, against, said in (
+            (3, 0, 0, ""),
+            (0, 3, 0, "directions of 3 packets are by networks alone: all turned if em1 is an inner interface. With --ifconfig FILE and --if NAME its own address (lladdr) tells them\n"),
+            (3, 0, 2, "the networks of --inside say the other direction of 2 packets: is em1 an inner interface? Theirs is by their frames\n"),
+        ):
+            with self.subTest(said):
+                account = counts.format(mac, networks, against)
+                done = self.call(f"echo '{account}' >&2; {ONE}", "--if", "em1", "--inside", "192.0.2.0/24")
+                self.assertEqual(done, Done(0, "time,dir\n5,in\n", f"{account}\n{said}"))
+
     def test_a_name_like_an_option(self) -> None:
         (self.folder / "-r").write_bytes(self.capture.read_bytes())
         done = self.call(f"echo \"$*\" > words; {ONE}", capture="./-r")
@@ -68,7 +92,7 @@ class Captures(FolderCase):
         for name in ("told", "trace"):
             self.write(name, "what stood there")
         for end, status, why in (
-            ("echo 'capture: behind frame 1: the file ends within it' >&2; exit 1", Status.REFUSED, "capture: behind frame 1: the file ends within it"),
+            ("echo 'capture: behind frame 1: the file ends within it' >&2; exit 1", Status.REFUSED, "capture: behind frame 1: the file ends within it (--partial takes the frames before it)"),
             ("echo 'frames 1: records 1' >&2; echo 'read failed' >&2; exit 4", Status.FAILED, "read failed"),
             ("exit 9", Status.REFUSED, "status 9"),
             ("kill -9 $$", Status.REFUSED, "status -9"),
@@ -85,7 +109,7 @@ class Captures(FolderCase):
         for counts, words, why in (
             ((0, 0, 0), (), "no frames in the capture"),
             ((9, 0, 8), (), "it does not tell which way its packets go: give --inside or --ifconfig"),
-            ((9, 0, 8), ("--inside", "192.0.2.0/24"), ""),
+            ((9, 0, 8), ("--inside", "192.0.2.0/24"), "none of its 9 frames is a record: 8 neither in nor out, 1 not IP"),
             ((9, 1, 7), (), ""),
         ):
             with self.subTest(counts=counts, words=words):
@@ -93,6 +117,23 @@ class Captures(FolderCase):
                 done = self.call(f"{ONE}; echo '{told}' >&2", *words)
                 wanted = Done(Status.REFUSED, "", f"pfplan trace: {NAME}: {why}\n") if why else Done(0, "time,dir\n5,in\n", f"{told}\n")
                 self.assertEqual(done, wanted)
+
+    def test_a_capture_that_is_cut(self) -> None:
+        told = "frames 1: records 1, not IP 0, neither in nor out 0"
+        script = f"{ONE}; echo '{told}' >&2; echo 'capture: behind frame 1: the file ends within it' >&2; exit 1"
+        self.assertEqual(self.call(script, "--partial"), Done(0, "time,dir\n5,in\n", f"{told}\ncapture: behind frame 1: the file ends within it\n"))
+        self.assertEqual(self.call(f"{ONE}; echo 'read failed' >&2; exit 4", "--partial").status, Status.FAILED)
+
+    def test_packed(self) -> None:
+        for command in ("gzip", "zstd"):
+            if shutil.which(command) is None:
+                continue
+            packed = subprocess.run([command, "-c"], input=b"\xd4\xc3\xb2\xa1 a capture", stdout=subprocess.PIPE, check=True).stdout
+            (self.folder / "packed").write_bytes(packed)
+            done = self.call(f"cat \"$1\" > given; {ONE}", capture="packed")
+            self.assertEqual((done.status, (self.folder / "given").read_bytes()), (0, b"\xd4\xc3\xb2\xa1 a capture"))
+            (self.folder / "packed").write_bytes(packed[:-4])
+            self.assertIn(f"pfplan trace: packed: {command} can't unpack it: ", self.call(ONE, capture="packed").err)
 
     def test_no_program(self) -> None:
         rows = (

@@ -32,9 +32,9 @@ class Commands(FolderCase):
 
     def test_rules_that_are_made_are_accepted(self) -> None:
         for name, told in (
-            ("rules_shipped", "ok items=3 tables=0 entries=0"),
+            ("rules_shipped", "ok items=4 tables=0 entries=0"),
             ("rules_manual_source_tracking", "ok items=3 tables=1 entries=0"),
-            ("rules_router_without_help", "ok items=6 tables=2 entries=9"),
+            ("rules_router_without_help", "ok items=7 tables=2 entries=9"),
             ("rules_parts", "ok items=23 tables=2 entries=4"),
             ("rules_both_families", "ok items=5 tables=2 entries=6"),
         ):
@@ -48,8 +48,10 @@ class Commands(FolderCase):
 
     def test_run(self) -> None:
         conf = self.write("pf.conf", 'web = "192.0.2.1"\nblock all\npass in proto { tcp udp } to $web port { 80 443 } label "w" keep state (max 40)\npass in all received-on em1\n')
+        homes = '[group.homes]\nkind = "visits"\nfrom = "198.51.100.0/24"\nhosts = 10\n'
+        flood = '[group.flood]\nkind = "syn"\nfrom = "203.0.113.0/24"\nrate = 20\n'
         trace = self.folder / "trace"
-        pfplan("flood", "--kind", "syn", "--rate", 20, "--seconds", 30, "--users", 10, "--out", trace)
+        pfplan("trace", self.write("scenario.toml", f'seconds = 30\nserver = "192.0.2.1:80"\n{homes}{flood}'), "--out", trace)
         into = self.folder / "a folder"
         done = pfplan("run", conf, trace, "--into", into, "--users", "198.51.100.0/24", "--held", 3)
         self.assertEqual((done.status, done.err), (0, ""))

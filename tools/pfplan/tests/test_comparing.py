@@ -58,11 +58,11 @@ class Following(FolderCase):
         self.assertIsNone(pairs.partings[0])
 
     def test_fates(self) -> None:
-        records = [user("S"), server("SA"), user("A"), user("FA"), user("S", 1, 1001), user("S", 2, 1000)]
-        one = report("new @1", "state @1", "state @1", "state @1", "new @1", "new @1")
-        other = report("block @1", "block @1", "block @1", "block @1", "drop:max @1", "block @1")
+        records = [user("S"), server("SA"), user("A"), user("FA"), user("S", 1, 1001), user("S", 2, 1000), user("S", 9, 1002)]
+        one = report("new @1", "state @1", "state @1", "state @1", "new @1", "new @1", "block @1")
+        other = report("block @1", "block @1", "block @1", "block @1", "drop:max @1", "block @1", "block @1")
         _, fates, _ = self.follow(records, one, other)
-        self.assertEqual(fates.counts[0], {("served", "refused"): 1, ("unanswered", "refused"): 1, ("unanswered", "-"): 1})
+        self.assertEqual(fates.counts[0], {("served", "refused"): 1, ("unanswered", "refused"): 1, ("unanswered", "-"): 1, ("refused", "refused"): 1})
         self.assertEqual([(it.row, it.fates) for it in fates.changed[0]], [(1, ("served", "refused")), (5, ("unanswered", "refused")), (6, ("unanswered", "-"))])
 
     def test_same_as_summary(self) -> None:

@@ -80,9 +80,9 @@ class Constructs(unittest.TestCase):
                 self.assertEqual((ended.returncode, ended.stderr), (0, ""))
 
     def test_again(self) -> None:
-        """Expanding what was expanded changes nothing, and leaves nothing out."""
+        """Expanding what was expanded changes nothing, and leaves nothing out. Of a text with entries by records test_entries says so."""
         for case in cases():
-            if not case.rules or case.name == "on_group_unknown":
+            if not case.rules.removeprefix("# no rule and no setting is left\n") or case.name in ("on_group_unknown", "set_skip_groups") or case.rules.startswith("# entries:"):
                 continue
             with self.subTest(case.name):
                 _, rules, told = answer("again", (), case.rules)

@@ -45,9 +45,17 @@ class Interfaces(unittest.TestCase):
 
     def test_given(self) -> None:
         """What the command line says of a name stands before ifconfig; `:0` is the first of each family."""
-        found = Machine(given={"em0": [ipaddress.ip_network(it) for it in ("192.0.2.1", "192.0.2.2", "2001:db8::1")]})
+        found = Machine(given={"em0": [ipaddress.ip_interface(it) for it in ("192.0.2.1", "192.0.2.2", "2001:db8::1")]})
         self.assertEqual(found.locations("em0:0"), networks("192.0.2.1", "2001:db8::1"))
         self.assertIsNone(found.locations("em0:network"))
+
+    def test_given_with_a_length(self) -> None:
+        """An address with a length stands for the address alone; its network is that of `:network`."""
+        found = Machine(given={"em0": [ipaddress.ip_interface("192.0.2.1/24")], "em1:network": [ipaddress.ip_interface("10.0.0.0/8")]})
+        self.assertEqual(found.locations("em0"), networks("192.0.2.1"))
+        self.assertEqual(found.locations("em0:network"), networks("192.0.2.0/24"))
+        self.assertEqual(found.locations("em1:network"), networks("10.0.0.0/8"))
+        self.assertIsNone(found.locations("em1"))
 
     def test_inside(self) -> None:
         """What is behind the firewall: networks of inner interfaces, and the outer ones' own addresses."""
@@ -84,6 +92,12 @@ class Services(unittest.TestCase):
         self.assertEqual([protocol_of(it) for it in ("tcp", "ipv6-icmp", "255", "256", "tpc")], [6, 58, 255, None, None])
         self.assertEqual([shown_protocol(it) for it in (6, 58, 89)], ["tcp", "icmp6", "89"])
         self.assertTrue(all(0 <= it <= 255 for it in PROTOCOLS.values()))
+
+    def test_protocols_that_are_easily_mistaken(self) -> None:
+        """As OpenBSD's protocols(5) and the registry of numbers have them; a word of pf.conf, as `any`, is none."""
+        rows = (("ipip", 94), ("ipencap", 4), ("etherip", 97), ("encap", 98), ("carp", 112), ("shim6", 140), ("pfsync", 240), ("any", None), ("private", None))
+        for name, number in rows:
+            self.assertEqual(protocol_of(name), number, name)
 
 
 if __name__ == "__main__":

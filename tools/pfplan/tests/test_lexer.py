@@ -65,7 +65,7 @@ class Tokens(unittest.TestCase):
 
     def test_text(self) -> None:
         """A statement as one line: spaces as in the source but one, none in parentheses, no odd bytes."""
-        self.assertEqual(text_of(tokens('pass   in\\\n from  10/8 set ( prio 5 ) label "a\x1bb" { 1,2 }')), 'pass in from 10/8 set (prio 5) label "a?b" { 1,2 }')
+        self.assertEqual(text_of(tokens('pass   in\\\n from  10/8 set ( prio 5 ) label "a\x1bb" { 1,2 }')), 'pass in from 10/8 set (prio 5) label "a\\x1bb" { 1,2 }')
 
 
 if __name__ == "__main__":

@@ -1,20 +1,26 @@
 """Pages and pictures: names are text, the answer stands first, and 99.5 % is not 100 %."""
 
+import os
 import tempfile
 import unittest
 import xml.etree.ElementTree as ElementTree
 from collections import Counter
 from dataclasses import dataclass
+from fractions import Fraction
 from html.parser import HTMLParser
 from pathlib import Path
 from unittest import mock
 
 from .. import figures, frames, markup, pages, pictures, timelines
+from ..accounts import Frames
+from ..connections import Refusal
 from ..counting import Limit, Step
 from ..errors import Trouble
+from ..insertions import Held
+from ..origins import Origins
 from ..records import End
 from ..sources import Source
-from ..summaries import Held, Interfaces, Summary, Tops, Users
+from ..summaries import Interfaces, Summary, Tops, Users
 
 # names as somebody could choose them: elements, attributes, SVG, gnuplot's commands, and characters that nobody sees
 NAMES = (
@@ -43,6 +49,8 @@ class LeftOut:
     text: str
     reason: str
     changes_answer: bool
+    way: str = "pf blocks more"
+    is_missing: bool = False
 
 
 class Elements(HTMLParser):
@@ -151,6 +159,55 @@ class Pages(unittest.TestCase):
         self.assertIn("from second 0 to 1", text)
         self.assertIn("1 thing left out of the pf.conf can change this answer", text)
         self.assertNotIn("100 %", text)
+        self.assertIn("pf blocks more", text)
+
+    def test_what_is_missing_stands_before_the_answer(self) -> None:
+        left = LeftOut("pf.conf", 3, "that egress is a group", "give --interface egress=IF or --ifconfig", True, is_missing=True)
+        text = "\n".join(read_page(pages.page_of(summary(), pages.Subject("pf.conf", "trace", [left]), [], "d")).text)
+        self.assertLess(text.index("give --interface egress=IF"), text.index("of the users' connections were served"))
+
+    def test_green_by_the_wanted_share(self) -> None:
+        for want, mood in ((Fraction(99, 100), "good"), (Fraction(999, 1000), "bad")):
+            text = pages.page_of(summary(), pages.Subject("pf.conf", "trace", want=want), [], "d")
+            self.assertIn(f'class="answer {mood}"', text)
+
+    def test_those_that_the_end_cut_count_for_nothing(self) -> None:
+        some = summary(served=99, connections=100)
+        assert some.users is not None
+        some.users.outcomes.update(late=7, refused=1)
+        some.users.connections = 107
+        text = "\n".join(read_page(pages.page_of(some, subject(), [], "d")).text)
+        self.assertIn("99.0 % of the users' connections were served: 99 of 100.", text)
+        self.assertIn("not counted: 7, cut by the end of the trace", text)
+        some.users.outcomes.update(late=107, refused=0, served=0)
+        self.assertIn("All 107 connections of the users", pages.page_of(some, subject(), [], "d"))
+
+    def test_clock_times(self) -> None:
+        late = summary()
+        late.first_moment, late.last_moment = 1_700_000_000, 1_700_000_001
+        late.limits = [Limit("drop:states", 6, 3, 9, 1_700_000_000, 1_700_000_001, 2, 0)]
+        text = "\n".join(read_page(pages.page_of(late, subject(), [], "d")).text)
+        self.assertIn("from 2023-11-14 22:13:20 UTC", text)
+        self.assertIn("from second 0 to 1 (2023-11-14 22:13:20 UTC to 2023-11-14 22:13:21 UTC)", text)
+
+    def test_lines_of_the_pf_conf(self) -> None:
+        told = summary("pass in proto tcp from any to any keep state (max 5)")
+        told.answers = {"new": {"@0": 5}, "drop:max": {"@0": 6}, "pass": {"@1": 3}}
+        told.limits = [Limit("drop:max", 6, 3, 9, 100, 101, 2, 0), Limit("drop:states", 1, 3, 9, 100, 101, 2, 0)]
+        told.answers["drop:states"] = {"@0": 1}
+        told.settings = {"states": 50}
+        told.rules[1] = "pass quick on em1 all flags any no state"
+        told.origins = Origins({0: "pf.conf:41", 1: "pf.conf:2"}, {"states": "pf.conf:1"}, frozenset({1}))
+        told.frames = Frames(20, 12, {"neither in nor out": 8})
+        told.seen_on = ["em0"]
+        assert told.users is not None
+        told.users.refusals = [Refusal("drop:max", "@0", 1)]
+        for text in ("\n".join(read_page(pages.page_of(told, subject(), [], "d")).text), told.to_text()):
+            self.assertIn("@0 pf.conf:41, max 5", text)
+            self.assertIn("pf.conf:1, set limit states 50", text)
+            self.assertIn("set skip on em1 (pf.conf:2): pf passes all packets there, and asks no rule: 3 records", text)
+            self.assertIn("8 of 20 frames of the capture are no records: 8 neither in nor out", text)
+            self.assertIn("a forwarded connection holds two states in pf", text)
 
     def test_all_served(self) -> None:
         text = pages.page_of(summary(served=200), subject(), [], "d")
@@ -164,16 +221,28 @@ class Pages(unittest.TestCase):
         self.assertIn("No users were named", text)
 
     def test_without_gnuplot(self) -> None:
-        with tempfile.TemporaryDirectory() as folder, mock.patch.object(pages, "is_at_hand", return_value=False):
+        missing = Trouble("gnuplot is not here (Debian package gnuplot-nox)")
+        with tempfile.TemporaryDirectory() as folder, mock.patch.object(pictures, "drawn_by_gnuplot", side_effect=missing):
             written = pages.write_page(Path(folder), summary(), subject())
             text = written[0].read_text(encoding="utf-8")
             self.assertEqual([it.name for it in written], ["report.html"])
             self.assertEqual(sorted(it.name for it in Path(folder).iterdir()), ["DIFFERENCES.md", "report.html"])
         self.assertIn("Debian package gnuplot-nox", text)
 
+    def test_gnuplot_that_fails_or_hangs(self) -> None:
+        for script, why in (("echo 'no terminal' >&2; exit 1", "gnuplot failed: no terminal"), ("exec sleep 60", "gnuplot drew nothing in 1 seconds")):
+            with tempfile.TemporaryDirectory() as folder, mock.patch.object(pictures, "SECONDS_FOR_A_PICTURE", 1):
+                program = Path(folder, "gnuplot")
+                program.write_text(f"#!/bin/sh\n{script}\n", encoding="utf-8")
+                program.chmod(0o755)
+                with mock.patch.dict(os.environ, PATH=f"{folder}:{os.environ['PATH']}"):
+                    written = pages.write_page(Path(folder), summary(), subject())
+                self.assertEqual([it.name for it in written], ["report.html"])
+                self.assertIn(f"No pictures: {why}.", "".join(read_page(written[0].read_text(encoding="utf-8")).text))
+
     def test_with_pictures(self) -> None:
         drawn = mock.patch.object(pictures, "drawn_by_gnuplot", return_value=DRAWN)
-        with tempfile.TemporaryDirectory() as folder, drawn, mock.patch.object(pages, "is_at_hand", return_value=True):
+        with tempfile.TemporaryDirectory() as folder, drawn:
             written = pages.write_page(Path(folder), summary(), subject())
             self.assertEqual([it.name for it in written], ["report.html", "held.svg", "states.svg", "users.svg"])
             for path in written[1:]:

@@ -32,7 +32,7 @@ class Rulesets(unittest.TestCase):
             self.assertEqual(Path(made, "rules").read_text("utf-8"), Path(folder, "rules").read_text("utf-8"))
             self.assertEqual(told.getvalue(), Path(folder, "told").read_text("utf-8"))
             ended = subprocess.run([program(), "check", f"{made}/rules"], capture_output=True, text=True, check=False)
-            self.assertEqual(ended.stdout, "ok items=48 tables=5 entries=16\n")
+            self.assertEqual(ended.stdout, "ok items=49 tables=5 entries=16\n")
 
     def test_labels(self) -> None:
         """Each item has its own label, by its number."""
@@ -47,7 +47,7 @@ class Rulesets(unittest.TestCase):
     def test_leftovers(self) -> None:
         """A leftover has its file, line, text, reason, and whether an answer can change."""
         made = convert_text("pass\n\nblock in user root\n", "x", RuleOptions())
-        self.assertEqual(made.leftovers, (Leftover("x", 3, "block in user root", "a trace does not carry what it asks (user)", True),))
+        self.assertEqual(made.leftovers, (Leftover("x", 3, "block in user root", "a trace does not carry what it asks (user)", True, "pf blocks more"),))
 
     def test_strict(self) -> None:
         """The first thing that can change an answer is refused with its line, and one that can't is not."""
@@ -105,7 +105,7 @@ class Rulesets(unittest.TestCase):
         with tempfile.TemporaryDirectory() as folder:
             odd = Path(folder, "a\x1b[31m.conf")
             odd.write_text("frob\n", "utf-8")
-            with self.assertRaisesRegex(Trouble, r"a\?\[31m.conf: line 1: 'frob': wanted a statement"):
+            with self.assertRaisesRegex(Trouble, r"a\\x1b\[31m.conf: line 1: 'frob': wanted a statement"):
                 convert(odd, RuleOptions())
             for path in (Path(folder), Path(folder, "none")):
                 with self.assertRaises(Trouble) as raised:

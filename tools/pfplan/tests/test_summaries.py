@@ -2,15 +2,16 @@
 
 import unittest
 from collections import Counter
+from collections.abc import Sequence
 from unittest import mock
 
-from .. import connections, sources
-from ..connections import Connections
+from .. import sources
+from ..connections import Connections, Refusal, Reply
 from ..errors import Trouble
 from ..records import WORDS, blocks_of_lines
 from ..replays import TOP
 from ..sources import Sources
-from ..summaries import Summary, Wanted, summarize, summarize_blocks
+from ..summaries import Summary, Users, Wanted, summarize, summarize_blocks
 from ..summary_texts import share
 from ..words import networks
 from .support import FolderCase, pfplan
@@ -25,6 +26,11 @@ def outcomes(summary: Summary) -> dict[str, int]:
     """What became of the users, without what nobody met."""
     assert summary.users is not None
     return {kind: number for kind, number in summary.users.outcomes.items() if number}
+
+
+def users_of(text: str) -> str:
+    """The part of a summary about users."""
+    return next(it for it in text.split("\n\n") if it.startswith("users ")) + "\n"
 
 
 class Summaries(FolderCase):
@@ -51,7 +57,7 @@ class Summaries(FolderCase):
 
     def test_two_networks(self) -> None:
         done = pfplan("summary", CASE / "report", "--trace", CASE / "records", "--users", "198.51.100.0/30,198.51.100.5", "--top", 2)
-        self.assertEqual("".join(f"{it}\n" for it in done.out.splitlines()[3:10]), (DATA / "two_networks").read_text("utf-8"))
+        self.assertEqual(users_of(done.out), (DATA / "two_networks").read_text("utf-8"))
 
     def test_tried_again_and_cut_by_timeouts(self) -> None:
         for name in ("tried_again", "cut_by_timeouts"):
@@ -59,8 +65,7 @@ class Summaries(FolderCase):
                 rules, records = (DATA / f"{name}.{it}" for it in ("rules", "records"))
                 done = pfplan("run", rules, records, "--into", self.folder / name, "--users", USERS[0], "--held", 0)
                 self.assertEqual(done.status, 0, done.err)
-                lines = (self.folder / name / "summary.txt").read_text("utf-8").splitlines()
-                self.assertEqual("".join(f"{it}\n" for it in lines[3:10]), (DATA / name).read_text("utf-8"))
+                self.assertEqual(users_of((self.folder / name / "summary.txt").read_text("utf-8")), (DATA / name).read_text("utf-8"))
 
     def test_expire(self) -> None:
         summary = summarize(DATA / "expire.report", Wanted(DATA / "expire.trace"))
@@ -74,14 +79,15 @@ class Summaries(FolderCase):
         self.assertIn("/dev/stdin: row 4: the report has more rows than the trace has records", done.err)
 
     def test_shares_are_never_rounded_to_all_or_none(self) -> None:
-        self.assertEqual([share(*it).strip() for it in ((999_999, 1_000_000), (1, 1_000_000), (5, 5), (0, 5), (0, 0))], ["99.9 %", "0.1 %", "100.0 %", "0.0 %", "-"])
+        self.assertEqual([share(*it).strip() for it in ((999_999, 1_000_000), (1, 1_000_000), (5, 5), (0, 5), (0, 0))], ["> 99.9 %", "< 0.1 %", "100 %", "0 %", "-"])
+        self.assertEqual(share(1, 608_797).strip(), "< 0.1 %")
 
     def test_both_families_of_users(self) -> None:
         trace = self.trace(
             ["1,in,em0,tcp,2001:db8::1,1000,2001:db8:f::1,80,S", "1,out,em0,tcp,2001:db8:f::1,80,2001:db8::1,1000,SA", "1,in,em0,tcp,2001:DB8:0::1,1000,2001:db8:f::1,80,A"]
         )
         report = self.report(["new @0", "state @0", "state @0"])
-        self.assertEqual(outcomes(summarize(report, Wanted(trace, networks("2001:db8::/64")))), {"unanswered": 1})
+        self.assertEqual(outcomes(summarize(report, Wanted(trace, networks("2001:db8::/64")))), {"served": 1})
         again = self.trace(["1,in,em0,udp,2001:db8::1,1000,2001:db8:f::1,53,"] * 3)
         summary = summarize(report, Wanted(again, networks("192.0.2.0/24,2001:db8::/64")))
         self.assertEqual(outcomes(summary), {"served": 1})
@@ -123,6 +129,101 @@ class Summaries(FolderCase):
         self.assertEqual(list(summarize(CASE / "report", Wanted()).to_json()["words"]), list(WORDS))
 
 
+RULES = (
+    "block in quick from <bad> to any flags any",
+    "pass in proto tcp from any to any flags S/SA keep state (source-track rule, max-src-conn-rate 3/10, overload <bad> flush)",
+    "pass in proto udp from any to any keep state",
+    "pass in proto tcp from any to any port 25 flags S/SA keep state (source-track rule, max-src-conn 2, overload <bad> flush global)",
+    "pass in proto tcp from any to any port 22 flags S/SA keep state (source-track rule, max-src-conn 2)",
+)
+
+
+def packet(ends: str, flags: str, moment: int = 0, place: str = "in,em0") -> str:
+    """A record of TCP; `ends` are `HOST:PORT>HOST:PORT`, each host a last number of 198.51.100.0/24, or of 192.0.2.0/24 behind `s`."""
+    shown = []
+    for end in ends.split(">"):
+        host, port = end.split(":")
+        shown.append(f"192.0.2.{host[1:]},{port}" if host.startswith("s") else f"198.51.100.{host},{port}")
+    return f"{moment},{place},tcp,{','.join(shown)},{flags}"
+
+
+def handshake(port: int, moment: int = 0, user: str = "1", service: int = 80) -> list[str]:
+    """A user's SYN, the answer and the third packet."""
+    there, back = f"{user}:{port}>s1:{service}", f"s1:{service}>{user}:{port}"
+    return [packet(there, "S", moment), packet(back, "SA", moment, "out,em0"), packet(there, "A", moment)]
+
+
+class Fates(FolderCase):
+    """What becomes of connections: each of these was told wrongly once."""
+
+    def users(self, records: Sequence[str], texts: Sequence[str], users: str = "198.51.100.0/24", rules: Sequence[str] | None = RULES) -> Users:
+        """The users of a summary; nobody does anything for 100 seconds at its end."""
+        quiet = [*records, "100,in,em0,icmp,203.0.113.9,,192.0.2.1,,"]
+        report = self.report([*texts, "skip -"])
+        with mock.patch("pfplan.summaries.show_rules", return_value=list(rules or ())):
+            summary = summarize(report, Wanted(self.trace(quiet), networks(users), rules=report if rules else None))
+        assert summary.users is not None
+        return summary.users
+
+    def fates(self, records: Sequence[str], texts: Sequence[str], users: str = "198.51.100.0/24", rules: Sequence[str] | None = RULES) -> dict[str, int]:
+        """The outcomes that somebody met."""
+        return {kind: number for kind, number in self.users(records, texts, users, rules).outcomes.items() if number}
+
+    def test_flush(self) -> None:
+        records = [it for port in (1, 2, 3, 4) for it in handshake(port)]
+        texts = ["new @1", "state @1", "state @1"] * 3 + ["new @1", "state @1", "kill:max-src-conn-rate @1 overload=added killed=4"]
+        self.assertEqual(self.fates(records, texts), {"killed": 4})
+        self.assertEqual(self.fates(records, texts, rules=None), {"killed": 4})
+
+    def test_flush_of_its_rule_alone(self) -> None:
+        records = [*handshake(1, service=22), *handshake(2), *handshake(3, user="2"), *handshake(4)]
+        texts = ["new @4", "state @4", "state @4", *["new @1", "state @1", "state @1"] * 2, "new @1", "state @1"]
+        kill = "kill:max-src-conn-rate @1 overload={} killed={}"
+        self.assertEqual(self.fates(records, [*texts, kill.format("added", 2)]), {"served": 2, "killed": 2})
+        texts[-2:] = ["new @3", "state @3"]
+        self.assertEqual(self.fates(records, [*texts, "kill:max-src-conn @3 overload=added killed=3"]), {"served": 1, "killed": 3})
+
+    def test_a_kill_without_flush(self) -> None:
+        records = [it for port in (1, 2, 3) for it in handshake(port, service=22)]
+        texts = ["new @4", "state @4", "state @4"] * 2 + ["new @4", "state @4", "kill:max-src-conn @4 overload=none killed=1"]
+        self.assertEqual(self.fates(records, texts), {"served": 2, "killed": 1})
+
+    def test_a_flush_takes_no_more_than_the_report_says(self) -> None:
+        records = [*handshake(1), *handshake(2, 50), *handshake(3, 50)]
+        texts = ["new @1", "state @1", "state @1"] * 2 + ["new @1", "state @1", "kill:max-src-conn-rate @1 overload=added killed=2"]
+        self.assertEqual(self.fates(records, texts), {"served": 1, "killed": 2})
+
+    def test_both_ends_are_users(self) -> None:
+        users = "198.51.100.0/24,192.0.2.0/24"
+        self.assertEqual(self.fates(handshake(1), ["new @1", "state @1", "state @1"], users), {"served": 1})
+        asked = ["0,in,em0,udp,198.51.100.1,9,192.0.2.1,53,", "0,out,em0,udp,192.0.2.1,53,198.51.100.1,9,"]
+        self.assertEqual(self.fates(asked, ["new @2", "state @2"], users), {"served": 1})
+
+    def test_begun_by_others(self) -> None:
+        records = [packet("s1:25>1:7", "S", place="out,em0"), packet("1:7>s1:25", "SA"), packet("s1:25>1:7", "A", place="out,em0"), packet("1:8>s1:80", "A")]
+        found = self.users(records, ["new @1", "state @1", "state @1", "block @0"])
+        self.assertEqual((found.connections, found.begun_by_others, found.without_beginning), (0, 1, 1))
+
+    def test_blocked_on_the_next_interface(self) -> None:
+        records = [packet("1:7>s1:80", "S"), packet("1:7>s1:80", "S", place="out,em1")]
+        found = self.users([*records, *records], ["new @1", "block @0", "state @1", "block @0"])
+        self.assertEqual((found.outcomes["refused"], found.connections, found.refused_by), (1, 1, {"block": 1}))
+        texts = ["new @1", "block @0", "state @1", "new @1", "state @1", "state @1", "state @1", "state @1"]
+        answers = [packet("s1:80>1:7", "SA", 1, "in,em1"), packet("s1:80>1:7", "SA", 1, "out,em0"), packet("1:7>s1:80", "A", 1), packet("1:7>s1:80", "A", 1, "out,em1")]
+        self.assertEqual(self.fates([*records, *records, *answers], texts), {"served": 1})
+
+    def test_cut_by_the_end_of_the_trace(self) -> None:
+        records = [packet("1:1>s1:80", "S", 97), packet("1:2>s1:80", "S", 98), packet("1:3>s1:80", "S", 100), packet("s1:80>1:3", "RA", 100, "out,em0")]
+        found = self.users(records, ["new @1"] * 3 + ["state @1"])
+        self.assertEqual({kind: count for kind, count in found.outcomes.items() if count}, {"unanswered": 2, "late": 1})
+        self.assertEqual((found.connections, found.counted), (3, 2))
+
+    def test_why_a_source_was_blocked(self) -> None:
+        records = [*handshake(1, 7), packet("1:2>s1:80", "S", 9), packet("2:1>s1:80", "S", 9)]
+        found = self.users(records, ["new @1", "state @1", "kill:max-src-conn-rate @1 overload=added killed=1", "block @0", "block @0"])
+        self.assertEqual(found.refusals, [Refusal("block", "@0", 2, 1, ("kill:max-src-conn-rate", "@1"), 7, 7)])
+
+
 class Bounds(unittest.TestCase):
     def test_sources_are_bounded(self) -> None:
         with mock.patch.object(sources, "MOST", 10):
@@ -135,14 +236,14 @@ class Bounds(unittest.TestCase):
 
     def test_connections_that_are_over_are_forgotten(self) -> None:
         told: list[tuple[int, str]] = []
-        with mock.patch.object(connections, "REMEMBERED", 10):
-            followed = Connections(networks("198.51.100.0/24"), lambda begin, outcome: told.append((begin, outcome)))
-            for row in range(1, 1000):
-                column = [str(row), "in", "em0", "tcp", "198.51.100.1", str(row), "192.0.2.1", "80", "S"]
-                followed.follow(row, row, "block" if row % 100 else "new", column)
-            self.assertGreater(len(told), 900)
-            followed.finish()
-        self.assertEqual(dict(followed.outcomes), {"refused": 990, "unanswered": 9})
+        followed = Connections(networks("198.51.100.0/24"), lambda begin, outcome: told.append((begin, outcome)), remembered=10)
+        for row in range(1, 1000):
+            column = [str(row), "in", "em0", "tcp", "198.51.100.1", str(row), "192.0.2.1", "80", "S"]
+            followed.follow(row, Reply("block" if row % 100 else "new", "@0"), column)
+        self.assertGreater(len(told), 900)
+        followed.last = 999
+        followed.finish()
+        self.assertEqual(dict(followed.outcomes), {"refused": 990, "unanswered": 9})  # the last that was let in began 99 seconds before the end
         self.assertEqual(len(told), 999)
 
 

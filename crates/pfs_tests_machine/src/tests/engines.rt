@@ -4,11 +4,12 @@ use super::tallied::Tallied;
 use pfs_addr_values::{Packet, RUN_LIMIT};
 use pfs_conf::TableNo;
 use pfs_engine::{Arrival, Engine, Event, Outcome};
+use pfs_engine_machine::Command;
 use pfs_store::IndexStore;
 use pfs_store_contract::Store;
 use pfs_store_plain::PlainStore;
 use pfs_tests_cases::{
-    Case, Script, are_allowed, configured, is_in_order, is_in_time, may_come, may_expire, same,
+    Case, Script, are_allowed, configured, is_in_order, is_in_time, may_change, may_come, same,
 };
 use std::alloc::{AllocGlobal, Global};
 use std::process::Abort;
@@ -46,6 +47,7 @@ fn tell(rt: &(impl Abort + AllocGlobal), first: &str, case: &Case) -> Result<(),
     ends(rt, plain(alloc, first, case.rules)?, &script, case)?;
     ends(rt, tallied(alloc, first, case.rules)?, &script, case)?;
     ends(rt, indexed(alloc, first, case.rules)?, &script, case)?;
+    commands(rt, indexed(alloc, first, case.rules)?, &script, case)?;
     steps(rt, plain(alloc, first, case.rules)?, &script, case)?;
     steps(rt, indexed(alloc, first, case.rules)?, &script, case)?;
     runs(rt, plain(alloc, first, case.rules)?, &script, case)?;
@@ -76,18 +78,49 @@ pub fn take<S: Store>(
     Ok(engine.packet(packet)?)
 }
 
-/// Old entries leave a table at the last moment, which changes neither what was taken nor the work.
-pub fn expire<S: Store>(
+/// A command at the last moment, by a call of its own, which changes neither what was taken nor the work.
+fn change<S: Store>(
     rt: &impl Abort,
     engine: &mut Engine<S>,
     table: TableNo,
-    seconds: u64,
-) -> Outcome {
-    assert!(rt; engine.last().is_some() && may_expire(engine.config(), table));
+    command: &Command,
+) -> Result<Outcome, Fail> {
+    assert!(rt; engine.last().is_some() && may_change(engine.config(), table));
     let before = (engine.first(), engine.taken(), engine.work());
-    let left = engine.expire(table, seconds);
+    let told = match command {
+        Command::Expire(seconds) => Outcome::Expire(engine.expire(table, *seconds)),
+        Command::Add(entry) => Outcome::Add(engine.add(table, entry)?),
+        Command::Delete(entry) => Outcome::Delete(engine.delete(table, entry)),
+    };
     same!(rt; (engine.first(), engine.taken(), engine.work()), before);
-    Outcome::Expire(left)
+    Ok(told)
+}
+
+/// What comes at the last moment, by the call for it.
+fn come<S: Store>(
+    rt: &impl Abort,
+    engine: &mut Engine<S>,
+    what: &Arrival,
+) -> Result<Outcome, Fail> {
+    match what {
+        Arrival::Packet(packet) => take(rt, engine, packet),
+        Arrival::Skip => Ok(Outcome::Skip),
+        Arrival::Table { table, command } => change(rt, engine, *table, command),
+        Arrival::Held => Ok(Outcome::Held(engine.amounts())),
+    }
+}
+
+/// What comes at the last moment, where each command comes by one call for all.
+fn command<S: Store>(
+    rt: &impl Abort,
+    engine: &mut Engine<S>,
+    what: &Arrival,
+) -> Result<Outcome, Fail> {
+    let Arrival::Table { table, command } = what else {
+        return come(rt, engine, what);
+    };
+    assert!(rt; engine.last().is_some() && may_change(engine.config(), *table));
+    Ok(engine.command(*table, command)?)
 }
 
 /// How many states, source nodes and entries are held.
@@ -107,13 +140,25 @@ fn ends<S: Store + Drop>(
     for (event, outcome) in script.events.iter().zip(&script.outcomes) {
         pass_time(rt, &mut engine, event.time);
         let before = held(&engine);
-        let told = match &event.what {
-            Arrival::Packet(packet) => take(rt, &mut engine, packet)?,
-            Arrival::Skip => Outcome::Skip,
-            Arrival::Expire { table, seconds } => expire(rt, &mut engine, *table, *seconds),
-        };
+        let told = come(rt, &mut engine, &event.what)?;
         same!(rt; told, *outcome, (case.shows, event));
         assert!(rt; !matches!(told, Outcome::Drop(..)) || held(&engine) == before);
+    }
+    check_end(rt, &engine, script, case);
+    Ok(())
+}
+
+/// The same, where each command comes by one call for all
+fn commands<S: Store + Drop>(
+    rt: &impl Abort,
+    engine: Engine<S>,
+    script: &Script,
+    case: &Case,
+) -> Result<(), Fail> {
+    let mut engine = engine;
+    for (event, outcome) in script.events.iter().zip(&script.outcomes) {
+        pass_time(rt, &mut engine, event.time);
+        same!(rt; command(rt, &mut engine, &event.what)?, *outcome, (case.shows, event));
     }
     check_end(rt, &engine, script, case);
     Ok(())

@@ -2,8 +2,8 @@
 
 use super::engines::tell_each;
 use pfs_tests_cases::{
-    ADMISSIONS, CONNECTIONS, EXPIRIES, KEPT, LIVES, OVERLOADS, RATES, REFUSALS, ROUNDS, SCALED,
-    UNSCALED,
+    ADMISSIONS, AMOUNTS, CONNECTIONS, ENTRIES, EXPIRIES, KEPT, LIVES, OVERLOADS, RATES, REFUSALS,
+    ROUNDS, SCALED, UNSCALED,
 };
 use std::test::Fail;
 
@@ -50,6 +50,16 @@ fn purges_go_in_rounds(rt: HostRuntime) -> Result<(), Fail> {
 #[test]
 fn old_entries_leave(rt: HostRuntime) -> Result<(), Fail> {
     tell_each(&rt, UNSCALED, EXPIRIES)
+}
+
+#[test]
+fn entries_are_added_and_taken_out(rt: HostRuntime) -> Result<(), Fail> {
+    tell_each(&rt, UNSCALED, ENTRIES)
+}
+
+#[test]
+fn how_much_is_held_is_told(rt: HostRuntime) -> Result<(), Fail> {
+    tell_each(&rt, UNSCALED, AMOUNTS)
 }
 
 #[test]

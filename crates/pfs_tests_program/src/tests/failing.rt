@@ -3,23 +3,24 @@
 use super::fakes::{Endless, Halting, narrow_writer};
 use super::reports::trace_of;
 use super::runs::{replayed, replayed_joined};
-use pfs_cli::{Job, ReplayFault, perform};
+use pfs_cli::{Job, Kind, LoadFault, ReplayFault, perform, replay};
 use pfs_cli_streams::{Feed, Sink};
 use pfs_tests_cases::{HEADER, same};
 use std::alloc::AllocGlobal;
+use std::io::Read;
 use std::process::Abort;
 use std::test::Fail;
 
-const RULES: &[u8] = b"set limit states 2\npass in proto udp all\n";
+pub const RULES: &[u8] = b"set limit states 2\npass in proto udp all\n";
 
-const RECORDS: &[u8] =
+pub const RECORDS: &[u8] =
     b"5,in,em0,udp,198.51.100.1,1,192.0.2.1,53,\n5,in,em0,udp,198.51.100.2,1,192.0.2.1,53,\n5,in,em0,udp,198.51.100.3,1,192.0.2.1,53,\n";
 
-const REPORT: &[u8] =
+pub const REPORT: &[u8] =
     b"1 new @0\n2 new @0\n3 drop:states @0\nend rows=3 states=2 nodes=0 entries=0\n";
 
 /// How many bytes the first `count` lines of a text have.
-fn lines_len(text: &[u8], count: usize) -> usize {
+pub fn lines_len(text: &[u8], count: usize) -> usize {
     let mut left = count;
     for (i, byte) in text.iter().enumerate() {
         if left == 0 {
@@ -143,6 +144,28 @@ fn a_write_of_a_job_fails_at_each_turn(rt: HostRuntime) {
     }
 }
 
+/// A fault of the rules is told before any of the trace, whatever that is, and the trace is not read.
+#[test]
+fn rules_are_told_before_the_trace(rt: HostRuntime) -> Result<(), Fail> {
+    let fault = ReplayFault::Rules(LoadFault {
+        line: 1,
+        kind: Kind::Syntax,
+    });
+    for text in &[b"".as_slice(), b"x", b"time\n"] {
+        for good in 0..2 {
+            let mut rules = Feed::new(b"pass foo\n".as_slice(), 9);
+            let mut trace = Feed::new(Halting { text: *text, good }, 1);
+            let mut out = Sink::new(Vec::new(rt.alloc()));
+            let told = replay(rt.alloc(), &mut rules, &mut trace, &mut out);
+            same!(rt; told, Err(fault));
+            same!(rt; trace.failures(), 0);
+            let mut one = [0];
+            same!(rt; trace.read(&mut one).is_ok(), good == 1);
+        }
+    }
+    Ok(())
+}
+
 /// A joined text is read on to its split line, in bounded memory.
 #[test]
 fn traces_without_an_end(rt: HostRuntime) {
@@ -155,6 +178,16 @@ fn traces_without_an_end(rt: HostRuntime) {
     );
     same!(rt; told, Err(ReplayFault::Endless));
     same!(rt; written.len(), 0);
+    let mut out = Sink::new(Vec::new(rt.alloc()));
+    let told = perform(
+        rt.alloc(),
+        &Job::Replay("r", "t"),
+        &mut Feed::new(RULES, 100),
+        &mut Feed::new(Endless(b'\n'), 100),
+        &mut out,
+    );
+    same!(rt; told, Err(ReplayFault::Endless));
+    same!(rt; out.into_inner().len(), 0);
     let (told, _, _, written) = replayed_joined(
         rt.alloc(),
         Endless(b'x'),

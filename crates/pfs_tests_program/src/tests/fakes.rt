@@ -29,6 +29,28 @@ impl Read for Halting<'_> {
     }
 }
 
+/// A reader that gives at most `width` bytes at each read, and fails at each read after the first `good`.
+#[derive(Drop)]
+pub struct Pieces<'a> {
+    pub text: &'a [u8],
+    pub width: usize,
+    pub good: usize,
+}
+
+impl Read for Pieces<'_> {
+    fn read(&mut self, buf: &mut [u8]) -> io::Result<usize> {
+        if self.good == 0 {
+            return Err(Error::new(ErrorKind::Other, "halted"));
+        }
+        self.good -= 1;
+        let n = self.width.min(buf.len()).min(self.text.len());
+        let (front, rest) = self.text.split_at(n);
+        buf[..n].copy_from_slice(front);
+        self.text = rest;
+        Ok(n)
+    }
+}
+
 /// A reader that gives this byte at each read, for ever.
 #[derive(Drop)]
 pub struct Endless(pub u8);
@@ -40,6 +62,36 @@ impl Read for Endless {
         }
         buf[0] = self.0;
         Ok(1)
+    }
+}
+
+/// A writer that counts its flushes, and how many of its bytes are flushed.
+#[derive(Drop)]
+pub struct Shown {
+    pub taken: Vec<u8>,
+    pub shown: usize,
+    pub flushes: u64,
+}
+
+impl Write for Shown {
+    fn write(&mut self, buf: &[u8]) -> io::Result<usize> {
+        self.taken.extend_from_slice(buf)?;
+        Ok(buf.len())
+    }
+
+    fn flush(&mut self) -> io::Result<()> {
+        self.shown = self.taken.len();
+        self.flushes = self.flushes.saturating_add(1);
+        Ok(())
+    }
+}
+
+/// Such a writer, to which nothing was written yet.
+pub fn shown_writer(alloc: Global) -> Shown {
+    Shown {
+        taken: Vec::new(alloc),
+        shown: 0,
+        flushes: 0,
     }
 }
 

@@ -76,6 +76,18 @@ fn write_records(trace: &mut String, row: &Row) -> Result<(), Fail> {
             write!(trace, "{time},expire,bad,,,{seconds},,,\n")?;
             Ok(())
         }
+        Came::Add(table, entry) => {
+            write!(trace, "{time},add,{table},,{entry},,,,\n")?;
+            Ok(())
+        }
+        Came::Delete(table, entry) => {
+            write!(trace, "{time},delete,{table},,{entry},,,,\n")?;
+            Ok(())
+        }
+        Came::Ask => {
+            write!(trace, "{time},held,,,,,,,\n")?;
+            Ok(())
+        }
     }
 }
 

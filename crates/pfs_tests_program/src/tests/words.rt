@@ -1,6 +1,6 @@
 //! Which words ask for which job.
 
-use pfs_cli::{Job, job};
+use pfs_cli::{Job, job, request};
 use pfs_tests_cases::{holds, same};
 use std::test::Fail;
 
@@ -33,6 +33,33 @@ fn words_ask_for_jobs(rt: HostRuntime) -> Result<(), Fail> {
 }
 
 #[test]
+fn words_ask_for_lines_as_they_happen(rt: HostRuntime) -> Result<(), Fail> {
+    let rows: &[(&[&str], bool)] = &[
+        (&["pfsrc"], false),
+        (&["pfsrc", "--line-buffered"], true),
+        (&["pfsrc", "check", "r"], false),
+        (&["pfsrc", "replay", "r", "t"], false),
+        (&["pfsrc", "replay", "--line-buffered", "r", "t"], true),
+        (&["pfsrc", "replay", "r", "--line-buffered", "-"], true),
+        (&["pfsrc", "replay", "-", "t", "--line-buffered"], true),
+    ];
+    for (words, by_lines) in rows {
+        same!(rt; request(rt.alloc(), words)?.by_lines, *by_lines);
+    }
+    Ok(())
+}
+
+#[test]
+fn a_dash_is_standard_input(rt: HostRuntime) -> Result<(), Fail> {
+    same!(rt; Job::Check("-").files(), (None, None));
+    same!(rt; Job::Show("./-").files(), (Some("./-"), None));
+    same!(rt; Job::Replay("-", "t").files(), (None, Some("t")));
+    same!(rt; Job::Replay("r", "-").files(), (Some("r"), None));
+    same!(rt; Job::Joined.files(), (None, None));
+    Ok(())
+}
+
+#[test]
 fn other_words_are_refused(rt: HostRuntime) -> Result<(), Fail> {
     let wrong = ["pfsrc", "check"];
     holds!(rt; job(rt.alloc(), wrong.as_slice()).is_err());
@@ -41,6 +68,12 @@ fn other_words_are_refused(rt: HostRuntime) -> Result<(), Fail> {
     let wrong = ["pfsrc", "replay", "a"];
     holds!(rt; job(rt.alloc(), wrong.as_slice()).is_err());
     let wrong = ["pfsrc", "reply", "a", "b"];
+    holds!(rt; job(rt.alloc(), wrong.as_slice()).is_err());
+    let wrong = ["pfsrc", "replay", "-", "-"];
+    holds!(rt; job(rt.alloc(), wrong.as_slice()).is_err());
+    let wrong = ["pfsrc", "check", "--line-buffered", "a"];
+    holds!(rt; job(rt.alloc(), wrong.as_slice()).is_err());
+    let wrong = ["pfsrc", "--line-buffered", "replay", "a", "b"];
     holds!(rt; job(rt.alloc(), wrong.as_slice()).is_err());
     Ok(())
 }

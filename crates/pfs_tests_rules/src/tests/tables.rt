@@ -5,8 +5,8 @@ ghost use Rattle.std.specs.Prelude.{◌≡◌, IfOk, length};
 use pfs_addr::parse_addr;
 use pfs_addr_values::Addr;
 use pfs_conf::TableNo;
-use pfs_eval::{Added, Tables};
-use pfs_tests_cases::{A1, S6, configured, same};
+use pfs_eval::{Added, Entered, Tables};
+use pfs_tests_cases::{A1, S6, configured, entry, same};
 use std::alloc::AllocGlobal;
 use std::process::Abort;
 use std::test::Fail;
@@ -103,4 +103,153 @@ fn wide_hosts_come(rt: &impl Abort, tables: &mut Tables) -> Result<(), Fail>
 fn a_host_of_ipv6_is_an_entry_of_128_bits(rt: HostRuntime) -> Result<(), Fail> {
     let mut tables = one_table(&rt, "")?;
     wide_hosts_come(&rt, &mut tables)
+}
+
+/// What is done to a table, or asked of it, with what must come of it.
+#[derive(Clone, Copy)]
+enum Step {
+    Add(&'static str, Entered),
+    Delete(&'static str, u64),
+    Matches(&'static [u8], bool),
+}
+
+/// The narrowest entry that is there decides, whatever was added and taken out before. 10.1.2.3 is a01:203:: by its first bits.
+const CHANGES: &[Step] = &[
+    Step::Matches(b"10.1.2.3", false),
+    Step::Add("10.0.0.0/8", Entered::New),
+    Step::Matches(b"10.1.2.3", true),
+    Step::Add("!10.1.0.0/16", Entered::New),
+    Step::Add("10.1.2.3", Entered::New),
+    Step::Matches(b"10.1.2.3", true),
+    Step::Matches(b"10.1.2.4", false),
+    Step::Matches(b"10.2.0.1", true),
+    Step::Matches(b"a01:203::", false),
+    Step::Add("a01:203::/32", Entered::New),
+    Step::Add("!a01:203::", Entered::New),
+    Step::Matches(b"a01:203::", false),
+    Step::Matches(b"a01:203::1", true),
+    Step::Delete("a01:203::", 0),
+    Step::Delete("a01:203::/33", 0),
+    Step::Delete("!a01:203::", 1),
+    Step::Matches(b"a01:203::", true),
+    Step::Matches(b"10.1.2.3", true),
+    Step::Delete("10.1.2.3", 1),
+    Step::Matches(b"10.1.2.3", false),
+    Step::Delete("!10.1.2.3/16", 1),
+    Step::Matches(b"10.1.2.3", true),
+    Step::Delete("10.0.0.0/8", 1),
+    Step::Matches(b"10.1.2.3", false),
+    Step::Matches(b"a01:203::", true),
+    Step::Delete("a01:203::/32", 1),
+    Step::Matches(b"a01:203::", false),
+    Step::Matches(b"203.0.113.9", true),
+    Step::Delete("203.0.113.9", 1),
+    Step::Matches(b"203.0.113.9", false),
+];
+
+/// A prefix is held with one sign; another length is another entry.
+const SIGNS: &[Step] = &[
+    Step::Add("10.1.2.3", Entered::New),
+    Step::Add("10.1.2.3/32", Entered::Held),
+    Step::Add("!10.1.2.3", Entered::Conflict),
+    Step::Matches(b"10.1.2.3", true),
+    Step::Delete("!10.1.2.3", 0),
+    Step::Add("!10.1.2.0/24", Entered::New),
+    Step::Add("!10.1.2.3/24", Entered::Held),
+    Step::Add("10.1.2.0/24", Entered::Conflict),
+    Step::Add("10.1.2.0", Entered::New),
+    Step::Add("10.1.2.0/25", Entered::New),
+    Step::Delete("10.1.2.0/26", 0),
+    Step::Delete("10.1.2.0/24", 0),
+    Step::Matches(b"10.1.2.0", true),
+    Step::Matches(b"10.1.2.200", false),
+    Step::Add("!2001:db8::", Entered::New),
+    Step::Add("2001:db8::", Entered::Conflict),
+    Step::Add("2001:DB8:0::/128", Entered::Conflict),
+    Step::Add("!2001:db8::/32", Entered::New),
+];
+
+/// Under a limit of two entries, one of which the text says.
+const FULL: &[Step] = &[
+    Step::Add("10.0.0.0/8", Entered::New),
+    Step::Add("10.1.2.3", Entered::Full),
+    Step::Add("10.0.0.0", Entered::Full),
+    Step::Add("10.9.9.9/8", Entered::Held),
+    Step::Add("!10.0.0.0/8", Entered::Conflict),
+    Step::Add("!203.0.113.9", Entered::Conflict),
+    Step::Delete("10.1.2.3", 0),
+    Step::Add("::/0", Entered::Full),
+    Step::Delete("203.0.113.9", 1),
+    Step::Add("::/0", Entered::New),
+    Step::Add("203.0.113.9", Entered::Full),
+];
+
+fn take(rt: &impl Abort, tables: &mut Tables, step: &Step) -> Result<(), Fail>
+    requires { length tables.old.entries ≡ 1 }
+    ensures { length tables.new.entries ≡ length tables.old.entries }
+{
+    match *step {
+        Step::Add(text, became) => {
+            let told = tables.add_entry(TableNo(0), &entry(text)?, 5)?;
+            same!(rt; told, became, text);
+        }
+        Step::Delete(text, count) => {
+            let told = tables.delete_entry(TableNo(0), &entry(text)?);
+            same!(rt; told, count, text);
+        }
+        Step::Matches(text, answer) => {
+            let addr = parse_addr(text).ok_or("no address")?;
+            same!(rt; tables.matches(TableNo(0), addr), answer, addr);
+        }
+    }
+    Ok(())
+}
+
+/// The steps in turn, after a first line of rules, and how many entries there are in the end
+fn follow(
+    rt: &(impl Abort + AllocGlobal),
+    first: &str,
+    steps: &[Step],
+    entries: u64,
+) -> Result<(), Fail> {
+    let mut tables = one_table(rt, first)?;
+    for step in steps {
+        take(rt, &mut tables, step)?;
+    }
+    same!(rt; tables.entries(), entries);
+    Ok(())
+}
+
+#[test]
+fn the_narrowest_entry_that_is_left_answers(rt: HostRuntime) -> Result<(), Fail> {
+    follow(&rt, "", CHANGES, 0)?;
+    follow(&rt, "", SIGNS, 7)?;
+    follow(&rt, "set limit table-entries 2\n", FULL, 2)
+}
+
+fn entries_grow_old(rt: &impl Abort, tables: &mut Tables) -> Result<(), Fail>
+    requires { length tables.old.entries ≡ 1 }
+{
+    let net = entry("10.0.0.0/8")?;
+    let other = entry("!10.0.0.0/8")?;
+    let wide = entry("2001:db8::/32")?;
+    same!(rt; tables.add_entry(TableNo(0), &net, 5)?, Entered::New);
+    same!(rt; tables.add_entry(TableNo(0), &wide, 6)?, Entered::New);
+    same!(rt; tables.add_entry(TableNo(0), &net, 7)?, Entered::Held);
+    same!(rt; tables.add_entry(TableNo(0), &other, 8)?, Entered::Conflict);
+    same!(rt; tables.expire(TableNo(0), 3, 14, 10), 1);
+    same!(rt; tables.expire(TableNo(0), 3, 15, 10), 1);
+    assert!(rt; tables.matches(TableNo(0), S6));
+    same!(rt; tables.delete_entry(TableNo(0), &wide), 1);
+    same!(rt; tables.add_entry(TableNo(0), &wide, 12)?, Entered::New);
+    same!(rt; tables.expire(TableNo(0), 3, 21, 10), 0);
+    same!(rt; tables.expire(TableNo(0), 3, 22, 10), 1);
+    same!(rt; tables.entries(), 0);
+    Ok(())
+}
+
+#[test]
+fn an_entry_is_as_old_as_its_addition(rt: HostRuntime) -> Result<(), Fail> {
+    let mut tables = one_table(&rt, "")?;
+    entries_grow_old(&rt, &mut tables)
 }

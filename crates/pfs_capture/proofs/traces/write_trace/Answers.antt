@@ -6,20 +6,20 @@ use Rattle.pfs_capture_files.specs.Forms.{start_of}
 use Rattle.pfs_capture.specs.Traces.{capture_run}
 use Rattle.pfs_capture.specs.declared.faults.TraceStop.TheVariants as stop
 use Rattle.pfs_cli_streams.specs.Feeds.{unread}
-use Rattle.pfs_capture.proofs.Running.{captured-none, captured-run, counted, ends-end, ends-frame, ends-headers, ends-many, ends-read, ends-send, headers, sends-these, so_far-frame, so_far-other, so_far-start}
+use Rattle.pfs_capture.proofs.Running.{captured-none, captured-run, kept-ok, counted, ends-end, ends-frame, ends-headers, ends-many, ends-read, ends-send, headers, sends-these, so_far-frame, so_far-other, so_far-start}
 use Rattle.pfs_capture.proofs.traces.write_trace.Goals as goal
 
 pub returns-in-Err-clause-tells : goal.returns-in-Err-clause-tells
 returns-in-Err-clause-tells g c xs e =
-    rw c.new.ensures.is (captured-none c.args.inside.now c.args.ifname (start_of xs) _ _ (unread g.R.Read.remaining c.read_start.new.reader) c.in-Err.fault (c.in-Err.ensures.is xs e))
+    rw c.new.ensures.is (captured-none c.args.point.now (start_of xs) _ _ (unread g.R.Read.remaining c.read_start.new.reader) c.in-Err.fault (c.in-Err.ensures.is xs e) (c.in-Err.ensures.within xs e))
 
 pub returns-in_err-send-clause-tells : goal.returns-in_err-send-clause-tells
 returns-in_err-send-clause-tells g c xs e =
     let (ys, source, begins) = c.in-Ok.ensures.is xs e in
     let (t, u, trace, answers, sends) = c.in_err-send.ensures.sends in
     let p = err_from_is_err_and c.from_residual.result c.from_residual.ensures.1 in
-    rw (p.1, p.2, c.new.ensures.is) (captured-run c.args.inside.now c.args.ifname (start_of xs) c.in-Ok.form ys _ _ _ _ no_frames (Err c.in_err-send.field-0.0) begins
-    (ends-headers (capture_run c.args.inside.now c.args.ifname c.in-Ok.form ys) _ _ _ _ t u c.in_err-send.field-0.0 trace answers (headers t u (Err c.in_err-send.field-0.0) sends)))
+    rw (p.1, p.2, c.new.ensures.is) (captured-run c.args.point.now (start_of xs) c.in-Ok.form ys _ _ _ _ _ no_frames (Err c.in_err-send.field-0.0) begins
+    (ends-headers (capture_run c.args.point.now c.in-Ok.form ys) _ _ _ _ t u c.in_err-send.field-0.0 trace answers (headers t u (Err c.in_err-send.field-0.0) sends)))
 
 pub loop-turn-init : goal.loop-turn-init
 loop-turn-init g c =
@@ -33,7 +33,10 @@ loop-turn-init g c =
       same = c.new.ensures.is ∙ sym (ap (λ z. z.account) is);
       sum = c.new.ensures.sum;
       last = omega (arith, last);
-      so_far = λ xs e. rw (is) (so_far-start (unread g.R.Read.remaining) c.args.inside.now c.args.ifname c.in-Ok.form _ _ _ _ c.read_start.new.reader xs e (rw all.0 at trace) (rw all.1 at answers));
+      reads = kept-ok _ _ c.in-Ok.ensures.sound;
+      writes = kept-ok _ _ c.in_ok-send.ensures.first_write;
+      tells = kept-ok _ _ c.in_ok-send.ensures.first_told;
+      so_far = λ xs e. rw (is) (so_far-start (unread g.R.Read.remaining) c.args.point.now c.in-Ok.form _ _ _ _ c.read_start.new.reader xs e (rw all.0 at trace) (rw all.1 at answers));
     }
 
 pub returns-in-Ok-End-clause-tells : goal.returns-in-Ok-End-clause-tells
@@ -42,8 +45,8 @@ returns-in-Ok-End-clause-tells g c xs e =
     let inv = c.loop-turn.invariant in
     let h = inv.so_far ys source in
     let reads = rw c.in-Ok-End.field-0-is at (c.in-Ok-End.ensures.is h.left h.source) in
-    rw inv.same (captured-run c.args.inside.now c.args.ifname (start_of xs) c.in-Ok.form ys _ _ _ _ c.loop-turn.tally.account (Ok tt) begins
-    (ends-end (unread g.R.Read.remaining) c.args.inside.now c.args.ifname (capture_run c.args.inside.now c.args.ifname c.in-Ok.form ys) _ _ _ _ c.loop-turn._turn c.loop-turn.tally c.loop-turn.form _ _ c.loop-turn.reader c.read_item.new.reader
+    rw inv.same (captured-run c.args.point.now (start_of xs) c.in-Ok.form ys _ _ _ _ _ c.loop-turn.tally.account (Ok tt) begins
+    (ends-end (unread g.R.Read.remaining) c.args.point.now (capture_run c.args.point.now c.in-Ok.form ys) _ _ _ _ c.loop-turn._turn c.loop-turn.tally c.loop-turn.form _ _ c.loop-turn.reader c.read_item.new.reader
     h c.loop-turn-test.true reads))
 
 pub returns-in_err-tally-clause-tells : goal.returns-in_err-tally-clause-tells
@@ -51,12 +54,12 @@ returns-in_err-tally-clause-tells g c xs e =
     let (ys, source, begins) = c.in-Ok.ensures.is xs e in
     let inv = c.loop-turn.invariant in
     let h = inv.so_far ys source in
-    let run = capture_run c.args.inside.now c.args.ifname c.in-Ok.form ys in
+    let run = capture_run c.args.point.now c.in-Ok.form ys in
     let f = c.in_err-tally.field-0.0 in
     let p = err_from_is_err_and c.from_residual-in_err-tally.result c.from_residual-in_err-tally.ensures.1 in
     let reads = rw (c.in-Ok-Frame.field-0-is, c.in-Ok-Frame.frame-is) at (c.in-Ok-Frame.ensures.is h.left h.source) in
-    rw (p.1, p.2, inv.same) (captured-run c.args.inside.now c.args.ifname (start_of xs) c.in-Ok.form ys _ _ _ _ c.loop-turn.tally.account (Err f) begins
-    (ends-frame (unread g.R.Read.remaining) c.args.inside.now c.args.ifname run _ _ _ _ c.loop-turn._turn c.loop-turn.tally c.loop-turn.form c.read_item.new.form c.read_item.new.buffer.items c.loop-turn.reader c.read_item.new.reader
+    rw (p.1, p.2, inv.same) (captured-run c.args.point.now (start_of xs) c.in-Ok.form ys _ _ _ _ _ c.loop-turn.tally.account (Err f) begins
+    (ends-frame (unread g.R.Read.remaining) c.args.point.now run _ _ _ _ c.loop-turn._turn c.loop-turn.tally c.loop-turn.form c.read_item.new.form c.read_item.new.buffer.items c.loop-turn.reader c.read_item.new.reader
     c.in-Ok-Frame.frame f c.take_frame.new.lines.row.items c.take_frame.new.lines.answer.items h c.loop-turn-test.true reads (rw c.deref.ensures.value at c.in_err-tally.ensures.takes)))
 
 pub returns-in_err-send-2-clause-tells : goal.returns-in_err-send-2-clause-tells
@@ -64,7 +67,7 @@ returns-in_err-send-2-clause-tells g c xs e =
     let (ys, source, begins) = c.in-Ok.ensures.is xs e in
     let inv = c.loop-turn.invariant in
     let h = inv.so_far ys source in
-    let run = capture_run c.args.inside.now c.args.ifname c.in-Ok.form ys in
+    let run = capture_run c.args.point.now c.in-Ok.form ys in
     let f = c.in_err-send-2.field-0.0 in
     let p = err_from_is_err_and c.from_residual-in_err-send-2.result c.from_residual-in_err-send-2.ensures.1 in
     let tally = c.in_ok-tally.tally in
@@ -72,9 +75,9 @@ returns-in_err-send-2-clause-tells g c xs e =
     let reads = rw (c.in-Ok-Frame.field-0-is, c.in-Ok-Frame.frame-is) at (c.in-Ok-Frame.ensures.is h.left h.source) in
     let row = c.take_frame.new.lines.row.items in
     let answer = c.take_frame.new.lines.answer.items in
-    rw (p.1, p.2) (captured-run c.args.inside.now c.args.ifname (start_of xs) c.in-Ok.form ys _ _ _ _ tally.account (Err f) begins
-    (ends-send (unread g.R.Read.remaining) c.args.inside.now c.args.ifname run _ _ _ _ _ _ (c.loop-turn._turn + 1) tally c.read_item.new.form c.read_item.new.reader row answer t u f
-    (counted (unread g.R.Read.remaining) c.args.inside.now c.args.ifname run _ _ _ _ c.loop-turn._turn c.loop-turn.tally tally c.loop-turn.form c.read_item.new.form c.read_item.new.buffer.items c.loop-turn.reader c.read_item.new.reader
+    rw (p.1, p.2) (captured-run c.args.point.now (start_of xs) c.in-Ok.form ys _ _ _ _ _ tally.account (Err f) begins
+    (ends-send (unread g.R.Read.remaining) c.args.point.now run _ _ _ _ _ _ (c.loop-turn._turn + 1) tally c.read_item.new.form c.read_item.new.reader row answer t u f
+    (counted (unread g.R.Read.remaining) c.args.point.now run _ _ _ _ c.loop-turn._turn c.loop-turn.tally tally c.loop-turn.form c.read_item.new.form c.read_item.new.buffer.items c.loop-turn.reader c.read_item.new.reader
     c.in-Ok-Frame.frame row answer h c.loop-turn-test.true reads (rw c.deref.ensures.value at c.in_ok-tally.ensures.takes)) trace answers
     (sends-these _ _ row answer t u (Err f) c.deref-in-loop-turn.ensures.value c.deref-in-loop-turn-2.ensures.value sends)))
 
@@ -85,8 +88,8 @@ returns-in-Err-read_item-clause-tells g c xs e =
     let h = inv.so_far ys source in
     let f = c.in-Err-read_item.fault in
     let reads = c.in-Err-read_item.ensures.is h.left h.source in
-    rw inv.same (captured-run c.args.inside.now c.args.ifname (start_of xs) c.in-Ok.form ys _ _ _ _ c.loop-turn.tally.account (Err (stop.File f)) begins
-    (ends-read (unread g.R.Read.remaining) c.args.inside.now c.args.ifname (capture_run c.args.inside.now c.args.ifname c.in-Ok.form ys) _ _ _ _ c.loop-turn._turn c.loop-turn.tally c.loop-turn.form c.read_item.new.form c.read_item.new.buffer.items c.loop-turn.reader c.read_item.new.reader
+    rw inv.same (captured-run c.args.point.now (start_of xs) c.in-Ok.form ys _ _ _ _ _ c.loop-turn.tally.account (Err (stop.File f)) begins
+    (ends-read (unread g.R.Read.remaining) c.args.point.now (capture_run c.args.point.now c.in-Ok.form ys) _ _ _ _ c.loop-turn._turn c.loop-turn.tally c.loop-turn.form c.read_item.new.form c.read_item.new.buffer.items c.loop-turn.reader c.read_item.new.reader
     f h c.loop-turn-test.true reads))
 
 pub loop-turn-preserved-in-Ok-Other : goal.loop-turn-preserved-in-Ok-Other
@@ -97,10 +100,13 @@ loop-turn-preserved-in-Ok-Other g c =
       same = inv.same;
       sum = inv.sum;
       last = inv.last;
+      reads = kept-ok _ _ c.in-Ok-Other.ensures.sound ∙ inv.reads;
+      writes = inv.writes;
+      tells = inv.tells;
       so_far = λ xs e.
           let h = inv.so_far xs e in
           let reads = rw c.in-Ok-Other.field-0-is at (c.in-Ok-Other.ensures.is h.left h.source) in
-          so_far-other (unread g.R.Read.remaining) c.args.inside.now c.args.ifname (capture_run c.args.inside.now c.args.ifname c.in-Ok.form xs) _ _ _ _ c.loop-turn._turn c.loop-turn.tally
+          so_far-other (unread g.R.Read.remaining) c.args.point.now (capture_run c.args.point.now c.in-Ok.form xs) _ _ _ _ c.loop-turn._turn c.loop-turn.tally
           c.loop-turn.form c.read_item.new.form c.read_item.new.buffer.items c.loop-turn.reader c.read_item.new.reader h c.loop-turn-test.true reads;
     }
 
@@ -117,12 +123,15 @@ loop-turn-preserved g c =
       same = refl;
       sum = c.in_ok-tally.ensures.sum;
       last = one.1;
+      reads = kept-ok _ _ c.in-Ok-Frame.ensures.sound ∙ inv.reads;
+      writes = kept-ok _ _ c.in_ok-send-2.ensures.first_write ∙ inv.writes;
+      tells = kept-ok _ _ c.in_ok-send-2.ensures.first_told ∙ inv.tells;
       so_far = λ xs e.
           let h = inv.so_far xs e in
-          let run = capture_run c.args.inside.now c.args.ifname c.in-Ok.form xs in
+          let run = capture_run c.args.point.now c.in-Ok.form xs in
           let reads = rw (c.in-Ok-Frame.field-0-is, c.in-Ok-Frame.frame-is) at (c.in-Ok-Frame.ensures.is h.left h.source) in
-          so_far-frame (unread g.R.Read.remaining) c.args.inside.now c.args.ifname run _ _ _ _ _ _ (c.loop-turn._turn + 1) tally c.read_item.new.form c.read_item.new.reader row answer t u
-          (counted (unread g.R.Read.remaining) c.args.inside.now c.args.ifname run _ _ _ _ c.loop-turn._turn c.loop-turn.tally tally c.loop-turn.form c.read_item.new.form c.read_item.new.buffer.items c.loop-turn.reader
+          so_far-frame (unread g.R.Read.remaining) c.args.point.now run _ _ _ _ _ _ (c.loop-turn._turn + 1) tally c.read_item.new.form c.read_item.new.reader row answer t u
+          (counted (unread g.R.Read.remaining) c.args.point.now run _ _ _ _ c.loop-turn._turn c.loop-turn.tally tally c.loop-turn.form c.read_item.new.form c.read_item.new.buffer.items c.loop-turn.reader
           c.read_item.new.reader c.in-Ok-Frame.frame row answer h c.loop-turn-test.true reads (rw c.deref.ensures.value at c.in_ok-tally.ensures.takes)) trace answers
           (sends-these _ _ row answer t u (Ok tt) c.deref-in-loop-turn.ensures.value c.deref-in-loop-turn-2.ensures.value sends);
     }
@@ -131,5 +140,5 @@ pub returns-clause-tells : goal.returns-clause-tells
 returns-clause-tells g c xs e =
     let (ys, source, begins) = c.in-Ok.ensures.is xs e in
     let inv = c.loop-turn.invariant in
-    rw inv.same (captured-run c.args.inside.now c.args.ifname (start_of xs) c.in-Ok.form ys _ _ _ _ c.loop-turn.tally.account (Err stop.TooMany) begins
-    (ends-many (unread g.R.Read.remaining) c.args.inside.now c.args.ifname (capture_run c.args.inside.now c.args.ifname c.in-Ok.form ys) _ _ _ _ c.loop-turn._turn c.loop-turn.tally c.loop-turn.form c.loop-turn.reader (inv.so_far ys source) (omega arith)))
+    rw inv.same (captured-run c.args.point.now (start_of xs) c.in-Ok.form ys _ _ _ _ _ c.loop-turn.tally.account (Err stop.TooMany) begins
+    (ends-many (unread g.R.Read.remaining) c.args.point.now (capture_run c.args.point.now c.in-Ok.form ys) _ _ _ _ c.loop-turn._turn c.loop-turn.tally c.loop-turn.form c.loop-turn.reader (inv.so_far ys source) (omega arith)))

@@ -1,8 +1,8 @@
 -- Answers of tell_rules: of refused rules nothing is written, else what is wanted or a front of it (`tells`).
-use Rattle.std.proofs.Common.{◌≡◌, [], ◌∙◌, ap, Err}
+use Rattle.std.proofs.Common.{◌≡◌, [], ◌∙◌, ap, refl, Err}
 use Rattle.pfs_cli.specs.Checks.{wanted_text}
 use Rattle.pfs_cli.specs.declared.faults.ReplayFault.TheVariants as fault
-use Rattle.pfs_cli.proofs.Checking.{nothing-written, text-written, write-failed, written-kind}
+use Rattle.pfs_cli.proofs.Checking.{nothing-written, text-written, unwritten-shows, write-failed, written-kind, written-shows}
 use Rattle.pfs_cli.proofs.Replaying.{told-refused}
 use Rattle.pfs_cli.proofs.Telling.{Appends-nothing}
 use Rattle.pfs_cli.proofs.checks.tell_rules.Goals as goal
@@ -17,6 +17,9 @@ returns-in-Err g c = record {
     endless = λ is. let same : c.in-Err.fault ≡ fault.Endless = cc in c.in-Err.ensures.endless (ap Err same);
     write = λ is. let same : c.in-Err.fault ≡ fault.Write = cc in absurd (c.in-Err.ensures.no_write same);
     memory = λ is. let same : c.in-Err.fault ≡ fault.Memory = cc in c.in-Err.ensures.memory (ap Err same);
+    unwritten = λ f is. refl;
+    bound = c.in-Err.ensures.bound;
+    shows = λ owes. unwritten-shows c.args.out.now c.in-Err.fault owes;
   };
 }
 
@@ -31,5 +34,8 @@ returns g c = record {
     endless = λ is. absurd (written-kind c.write_text.result fault.Endless (λ e. absurd cc) c.write_text.ensures.kind is);
     write = λ is. write-failed c.write_text.result fault.Write c.write_text.ensures.fails is;
     memory = λ is. c.in-Ok.ensures.sound;
+    unwritten = λ f is. absurd (written-kind c.write_text.result (fault.Rules f) (λ e. absurd cc) c.write_text.ensures.kind is);
+    bound = c.in-Ok.ensures.bound;
+    shows = λ owes. written-shows c.write_text.new.out c.write_text.result c.write_text.ensures.kind c.write_text.ensures.flushed;
   };
 }

@@ -1,6 +1,5 @@
 -- Answers of fault_at: each way in which a run stopped is reported with the fault that a replay has for it.
-use Rattle.std.proofs.Common.{refl, inr}
-use Rattle.pfs_cli.specs.declared.faults.ReplayFault.TheVariants as fault
+use Rattle.std.proofs.Common.{inl, inr}
 use Rattle.pfs_cli.proofs.Replaying.{run-fault, run-cut, run-write}
 use Rattle.pfs_cli.proofs.endings.fault_at.Goals as goal
 
@@ -11,7 +10,7 @@ pub returns-in-Source-clause-told : goal.returns-in-Source-clause-told
 returns-in-Source-clause-told g c d rs ts t rules told = run-cut d rs ts t c.feed_fault.result c.feed_fault.ensures.kinds rules (rw c.in-Source.is at told)
 
 pub returns-in-Memory-clause-told : goal.returns-in-Memory-clause-told
-returns-in-Memory-clause-told g c d rs ts t rules told = run-cut d rs ts t fault.Memory (inr (inr refl)) rules (rw c.in-Memory.is at told)
+returns-in-Memory-clause-told g c d rs ts t rules told = run-cut d rs ts t c.memory_fault.result (elim c.memory_fault.ensures.kinds [ inl e ↦ inr (inr e) | inr e ↦ inl e ]) rules (rw c.in-Memory.is at told)
 
 pub returns-in-Write-clause-told : goal.returns-in-Write-clause-told
 returns-in-Write-clause-told g c d rs ts t rules told = run-write d rs ts t rules (rw c.in-Write.is at told)

@@ -1,6 +1,6 @@
 -- Answers of perform: a job `Replay` writes what replay reports (`performs`); each job reports its own rules refused
 -- (`refused`), and what `check` and `print` leave is one record.
-use Rattle.std.proofs.Common.{inl}
+use Rattle.std.proofs.Common.{inl, refl}
 use Rattle.pfs_cli.proofs.performing.perform.Goals as goal
 
 pub returns-in-Replay-clause-performs : goal.returns-in-Replay-clause-performs
@@ -32,7 +32,16 @@ pub returns-in-Check-clause-write : goal.returns-in-Check-clause-write
 returns-in-Check-clause-write g c is = c.check.ensures.tells.write is
 
 pub returns-in-Check-clause-memory : goal.returns-in-Check-clause-memory
-returns-in-Check-clause-memory g c = rw c.in-Check.is c.check.ensures.tells.memory
+returns-in-Check-clause-memory g c is = (c.check.ensures.tells.memory is, inl refl)
+
+pub returns-in-Check-clause-unwritten : goal.returns-in-Check-clause-unwritten
+returns-in-Check-clause-unwritten g c f is = c.check.ensures.tells.unwritten f is
+
+pub returns-in-Check-clause-bounds : goal.returns-in-Check-clause-bounds
+returns-in-Check-clause-bounds g c = (c.check.ensures.tells.bound, refl)
+
+pub returns-in-Check-clause-shows : goal.returns-in-Check-clause-shows
+returns-in-Check-clause-shows g c = c.check.ensures.tells.shows c.requires.passed_on
 
 pub returns-in-Show-clause-performs : goal.returns-in-Show-clause-performs
 returns-in-Show-clause-performs g c rs ts er et = rw c.in-Show.is (c.print.ensures.tells.answers rs er)
@@ -53,4 +62,25 @@ pub returns-in-Show-clause-write : goal.returns-in-Show-clause-write
 returns-in-Show-clause-write g c is = c.print.ensures.tells.write is
 
 pub returns-in-Show-clause-memory : goal.returns-in-Show-clause-memory
-returns-in-Show-clause-memory g c = rw c.in-Show.is c.print.ensures.tells.memory
+returns-in-Show-clause-memory g c is = (c.print.ensures.tells.memory is, inl refl)
+
+pub returns-in-Show-clause-unwritten : goal.returns-in-Show-clause-unwritten
+returns-in-Show-clause-unwritten g c f is = c.print.ensures.tells.unwritten f is
+
+pub returns-in-Show-clause-bounds : goal.returns-in-Show-clause-bounds
+returns-in-Show-clause-bounds g c = (c.print.ensures.tells.bound, refl)
+
+pub returns-in-Show-clause-shows : goal.returns-in-Show-clause-shows
+returns-in-Show-clause-shows g c = c.print.ensures.tells.shows c.requires.passed_on
+
+pub returns-in-Joined-clause-memory : goal.returns-in-Joined-clause-memory
+returns-in-Joined-clause-memory g c is = (c.replay_joined.ensures.memory is, inl refl)
+
+pub returns-in-Replay-clause-rules_alone : goal.returns-in-Replay-clause-rules_alone
+returns-in-Replay-clause-rules_alone g c = rw c.in-Replay.is c.replay.ensures.rules_alone
+
+pub returns-in-Replay-clause-trace_waits : goal.returns-in-Replay-clause-trace_waits
+returns-in-Replay-clause-trace_waits g c = rw c.in-Replay.is c.replay.ensures.waits
+
+pub returns-in-Joined-clause-input_waits : goal.returns-in-Joined-clause-input_waits
+returns-in-Joined-clause-input_waits g c = rw c.in-Joined.is c.replay_joined.ensures.waits

@@ -4,7 +4,7 @@ use Rattle.csv.specs.Reading.{ChangesHeaders, strip_bom}
 use Rattle.pfs_cli_formats.specs.Traces.{Fields, Trace, events_of}
 use Rattle.pfs_cli_formats.specs.Reading.{records_of}
 use Rattle.pfs_cli.specs.Turns.{Tells}
-use Rattle.pfs_cli.proofs.Telling.{Appends-nothing, at-start, no-lines}
+use Rattle.pfs_cli.proofs.Telling.{Appends-nothing, at-start, no-lines, rows-told}
 use Rattle.pfs_cli.proofs.records.tell_records.Goals as goal
 
 pub returns-then-is_err-clause-tells : goal.returns-then-is_err-clause-tells
@@ -20,7 +20,7 @@ returns-in-Ok-clause-tells g c xs e =
     let (z, at_z, all) = c.in-Ok.ensures.header (strip_bom xs) begun.0 in
     let (t, grown, told) = c.tell_rows.ensures.tells z at_z in
     let P : Trace → Type 0 = λ trace. Tells conf trace t c.tell_rows.result in
-    (t, grown, subst P (sym (ap (events_of conf) (sym begun.1) ∙ all conf)) told)
+    (t, grown, subst P (sym (ap (events_of conf) (sym begun.1) ∙ all conf)) (rows-told conf _ t c.tell_rows.result told))
 
 pub returns-clause-tells : goal.returns-clause-tells
 returns-clause-tells g c xs e =

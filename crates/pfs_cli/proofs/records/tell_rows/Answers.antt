@@ -1,9 +1,14 @@
 -- Answers of tell_rows: one record more, and at each end the lines of the records so far (`tells`).
-use Rattle.std.proofs.Common.{refl, arith, subst, ◌<◌, ◌+◌, ◌∙◌, ℕ, List, inl, Err}
+use Rattle.std.proofs.Common.{refl, arith, subst, sym, ◌<◌, ◌+◌, ◌∙◌, ℕ, List, None, Err}
+use Rattle.csv.specs.Reading.{default_config, reader_state}
 use Rattle.csv.specs.Records.{fields_of}
 use Rattle.pfs_addr_values.specs.Packets.{run_limit}
+use Rattle.pfs_cli_formats.specs.Reading.{records_left}
+use Rattle.pfs_cli_formats.specs.Traces.{events_from}
+use Rattle.pfs_cli_streams.specs.Sinks.{bytes_held}
 use Rattle.pfs_cli.specs.Turns.{WritesLine}
-use Rattle.pfs_cli.proofs.Telling.{so_far-start, so_far-more, ends-source, ends-end, ends-limit, ends-record, failed-read, TakesRecord-rules}
+use Rattle.pfs_cli.specs.declared.records.Stop.{Stop}
+use Rattle.pfs_cli.proofs.Telling.{EndsRows, so_far-start, so_far-more, ends-source, ends-end, ends-limit, ends-record, TakesRecord-rules}
 use Rattle.pfs_cli.proofs.records.tell_rows.Goals as goal
 
 pub loop-rows-init : goal.loop-rows-init
@@ -12,6 +17,7 @@ loop-rows-init g c = record {
   ready = c.requires.ready;
   config = c.requires.config;
   flexible = c.requires.flexible;
+  passed_on = c.requires.passed_on;
   rules = refl;
   within = omega arith;
   taken = omega (arith, c.requires.taken);
@@ -21,54 +27,54 @@ loop-rows-init g c = record {
 pub loop-rows-preserved : goal.loop-rows-preserved
 loop-rows-preserved g c =
     let inv = c.loop-rows.invariant in
-    let r = rw c.in-Ok-true.field-0-test at (c.in-Ok-true.ensures.reads inv.plain inv.ready) in
+    let r = rw c.in-Ok-true.field-0-test at c.in-Ok-true.ensures.reads in
     let (t, grown, took) = c.in-Ok.ensures.takes in
     let (e, judged, takes) = rw inv.rules at took in
     let few : c.loop-rows.rows < run_limit = omega arith in
     record {
       plain = r.3 ∙ inv.plain;
-      ready = inl (c.in-Ok-true.ensures.ready inv.plain);
+      ready = c.in-Ok-true.ensures.ready;
       config = r.2 ∙ inv.config;
-      flexible = c.in-Ok-true.ensures.flexible ∙ inv.flexible;
+      flexible = c.in-Ok-true.ensures.flexible;
+      passed_on = c.in-Ok.ensures.passed_on;
       rules = c.in-Ok.ensures.config ∙ inv.rules;
       within = omega arith;
       taken = omega (arith, inv.taken, c.in-Ok.ensures.taken);
-      so_far = λ xs s. so_far-more g.S.Read.remaining c.args.engine.now.config _ _ _ _ c.loop-rows.rows c.loop-rows.engine.machine _ c.loop-rows.reader c.read_byte_record.new.self
-          (fields_of c.read_byte_record.new.row) e t (inv.so_far xs s) inv.config few r judged grown takes;
+      so_far = λ xs s. so_far-more g.S.Read.remaining c.args.engine.now.config _ _ _ _ c.loop-rows.rows c.loop-rows.engine.machine _ c.loop-rows.reader c.next_record.new.reader
+          (fields_of c.next_record.new.fields) e t (inv.so_far xs s) inv.config few r judged grown takes;
     }
 
 pub returns-in-Err-clause-tells : goal.returns-in-Err-clause-tells
 returns-in-Err-clause-tells g c xs s =
-    ends-source g.S.Read.remaining c.args.engine.now.config _ _ _ c.loop-rows.rows c.loop-rows.engine.machine c.loop-rows.reader (c.loop-rows.invariant.so_far xs s)
-
-pub returns-in-Err-clause-source : goal.returns-in-Err-clause-source
-returns-in-Err-clause-source g c is =
-    let inv = c.loop-rows.invariant in
-    c.in-Err.ensures.fails ∙ failed-read g.S.Read.remaining c.loop-rows.reader c.read_byte_record.new.self _ inv.flexible (c.in-Err.ensures.why inv.ready)
+    let trace = events_from c.args.engine.now.config 0 None (records_left default_config (reader_state c.args.reader.now) xs) in
+    let before = bytes_held g.W.Write.contents c.args.out.now in
+    let now = bytes_held g.W.Write.contents c.loop-rows.out in
+    subst (λ (x : Stop). EndsRows c.args.engine.now.config trace before now (Err x)) (sym c.in-Err.ensures.source.0)
+    (ends-source g.S.Read.remaining c.args.engine.now.config trace before now c.loop-rows.rows c.loop-rows.engine.machine c.loop-rows.reader (c.loop-rows.invariant.so_far xs s))
 
 pub returns-in-Ok-false-clause-tells : goal.returns-in-Ok-false-clause-tells
 returns-in-Ok-false-clause-tells g c xs s =
     let inv = c.loop-rows.invariant in
-    let r = rw c.in-Ok-false.field-0-test at (c.in-Ok-false.ensures.reads inv.plain inv.ready) in
+    let r = rw c.in-Ok-false.field-0-test at c.in-Ok-false.ensures.reads in
     let (t, grown, wrote) = c.write_end.ensures.writes in
     let how = subst (λ (line : List ℕ). WritesLine line t c.write_end.result) c.end_line.ensures wrote in
-    ends-end g.S.Read.remaining c.args.engine.now.config _ _ _ _ c.loop-rows.rows c.loop-rows.engine.machine c.loop-rows.reader c.read_byte_record.new.self
-    (fields_of c.read_byte_record.new.row) c.write_end.result t (inv.so_far xs s) inv.config r grown how
+    ends-end g.S.Read.remaining c.args.engine.now.config _ _ _ _ c.loop-rows.rows c.loop-rows.engine.machine c.loop-rows.reader c.next_record.new.reader
+    (fields_of c.next_record.new.fields) c.write_end.result t (inv.so_far xs s) inv.config r grown how
 
 pub returns-then-rows-eq-RUN_LIMIT-clause-tells : goal.returns-then-rows-eq-RUN_LIMIT-clause-tells
 returns-then-rows-eq-RUN_LIMIT-clause-tells g c xs s =
     let inv = c.loop-rows.invariant in
-    let r = rw c.in-Ok-true.field-0-test at (c.in-Ok-true.ensures.reads inv.plain inv.ready) in
-    ends-limit g.S.Read.remaining c.args.engine.now.config _ _ _ c.loop-rows.rows c.loop-rows.engine.machine c.loop-rows.reader c.read_byte_record.new.self
-    (fields_of c.read_byte_record.new.row) (inv.so_far xs s) inv.config r (omega arith)
+    let r = rw c.in-Ok-true.field-0-test at c.in-Ok-true.ensures.reads in
+    ends-limit g.S.Read.remaining c.args.engine.now.config _ _ _ c.loop-rows.rows c.loop-rows.engine.machine c.loop-rows.reader c.next_record.new.reader
+    (fields_of c.next_record.new.fields) (inv.so_far xs s) inv.config r (omega arith)
 
 pub returns-in-Err-take_record-clause-tells : goal.returns-in-Err-take_record-clause-tells
 returns-in-Err-take_record-clause-tells g c xs s =
     let inv = c.loop-rows.invariant in
-    let r = rw c.in-Ok-true.field-0-test at (c.in-Ok-true.ensures.reads inv.plain inv.ready) in
+    let r = rw c.in-Ok-true.field-0-test at c.in-Ok-true.ensures.reads in
     let (t, grown, took) = c.in-Err-take_record.ensures.takes in
-    let takes = TakesRecord-rules c.args.engine.now.config _ (c.loop-rows.rows + 1) c.loop-rows.engine.machine (fields_of c.read_byte_record.new.row) t
+    let takes = TakesRecord-rules c.args.engine.now.config _ (c.loop-rows.rows + 1) c.loop-rows.engine.machine (fields_of c.next_record.new.fields) t
     (Err c.in-Err-take_record.stop) c.take_record.new.engine.machine inv.rules took in
     let few : c.loop-rows.rows < run_limit = omega arith in
-    ends-record g.S.Read.remaining c.args.engine.now.config _ _ _ _ c.loop-rows.rows c.loop-rows.engine.machine c.take_record.new.engine.machine c.loop-rows.reader c.read_byte_record.new.self
-    (fields_of c.read_byte_record.new.row) c.in-Err-take_record.stop t (inv.so_far xs s) inv.config r few grown takes
+    ends-record g.S.Read.remaining c.args.engine.now.config _ _ _ _ c.loop-rows.rows c.loop-rows.engine.machine c.take_record.new.engine.machine c.loop-rows.reader c.next_record.new.reader
+    (fields_of c.next_record.new.fields) c.in-Err-take_record.stop t (inv.so_far xs s) inv.config r few grown takes

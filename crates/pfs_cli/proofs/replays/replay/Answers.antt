@@ -1,8 +1,10 @@
--- Answers of replay: the report, also of refused rules (`reports`), their fault (`refused`), and a feed that gives no more (`read`, `endless`).
-use Rattle.std.proofs.Common.{◌≡◌, [], inr}
+-- Answers of replay: the report, also of refused rules (`reports`), their fault (`refused`, `rules_alone`), a feed that gives no more (`read`,
+-- `endless`, `memory`, `waits`), and what is flushed (`shows`).
+use Rattle.std.proofs.Common.{◌≡◌, ◌∙◌, ◌<◌, [], Err, arith, refl, inr}
 use Rattle.pfs_cli.specs.declared.faults.ReplayFault.TheVariants as fault
 use Rattle.pfs_cli.proofs.Replaying.{lent-gives, rules-cut, text-refused, told-refused}
 use Rattle.pfs_cli.proofs.Telling.{Appends-nothing, Appends-kept}
+use Rattle.pfs_cli.proofs.Checking.{unwritten-shows}
 use Rattle.pfs_cli.proofs.replays.replay.Goals as goal
 
 pub returns-in-Err-clause-reports : goal.returns-in-Err-clause-reports
@@ -31,3 +33,27 @@ returns-clause-read g c is = inr (c.finish.ensures.read is)
 
 pub returns-clause-endless : goal.returns-clause-endless
 returns-clause-endless g c is = inr (c.finish.ensures.endless is)
+
+pub returns-in-Err-clause-rules_alone : goal.returns-in-Err-clause-rules_alone
+returns-in-Err-clause-rules_alone g c rs er none = (c.in-Err.ensures.err rs er, refl)
+
+pub returns-in-Err-read-clause-rules_alone : goal.returns-in-Err-read-clause-rules_alone
+returns-in-Err-read-clause-rules_alone g c rs er none = absurd (none c.in-Ok.config (c.in-Ok.ensures.ok rs er))
+
+pub returns-clause-rules_alone : goal.returns-clause-rules_alone
+returns-clause-rules_alone g c rs er none = absurd (none c.in-Ok.config (c.in-Ok.ensures.ok rs er))
+
+pub returns-clause-unwritten : goal.returns-clause-unwritten
+returns-clause-unwritten g c f is = absurd (c.finish.ensures.no_rules f is)
+
+pub returns-clause-waits : goal.returns-clause-waits
+returns-clause-waits g c fresh failed once = let more : 1 < 1 = rw once at (c.resume.ensures.begun.1 failed) in absurd (omega arith)
+
+pub returns-clause-memory : goal.returns-clause-memory
+returns-clause-memory g c is = (c.in-Ok.ensures.sound, inr (c.finish.ensures.memory is))
+
+pub returns-in-Err-clause-shows : goal.returns-in-Err-clause-shows
+returns-in-Err-clause-shows g c = unwritten-shows c.args.out.now c.in-Err.fault c.requires.passed_on
+
+pub returns-in-Err-read-clause-shows : goal.returns-in-Err-read-clause-shows
+returns-in-Err-read-clause-shows g c = unwritten-shows c.args.out.now c.feed_fault.result c.requires.passed_on

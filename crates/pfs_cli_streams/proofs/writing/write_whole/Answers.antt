@@ -9,4 +9,6 @@ loop-at-preserved g c =
       omega arith,
       Appends-taken _ _ _ c.loop-at.at c.in-Ok.n (length c.args.bytes.now - c.loop-at.at) c.args.bytes.now room c.loop-at.invariant.1 c.in-Ok.ensures.bytes,
       search rules,
+      search rules,
+      search rules,
     )

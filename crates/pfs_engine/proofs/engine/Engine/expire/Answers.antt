@@ -1,9 +1,10 @@
 -- Answers of Engine::expire: what an engine keeps, also after old entries left, with its clause `keeps`.
 use Rattle.std.proofs.Common.{◌∙◌, List, refl, subst, sym}
 use Rattle.pfs_eval.specs.Entries.{Entry}
+use Rattle.pfs_engine_machine.specs.declared.events.Command.TheVariants as command
 use Rattle.pfs_engine_machine.specs.Kept.{IsKept, moment_of}
 use Rattle.pfs_engine_machine.specs.Machine.{held_of}
-use Rattle.pfs_engine_machine.proofs.KeptTime.{kept_expired}
+use Rattle.pfs_engine_machine.proofs.KeptTime.{kept_command}
 use Rattle.pfs_engine.proofs.Keeping.{keeps}
 use Rattle.pfs_engine.proofs.engine.Engine.expire.Goals as goal
 
@@ -14,7 +15,7 @@ kept g c =
     let w = g.S.Store.world inside.store in
     let now = moment_of inside.last in
     subst (λ (es : List (List Entry)). IsKept inside.config (held_of w es) now) (sym c.expire.ensures.entries)
-    (kept_expired inside.config (held_of w inside.tables.entries) c.unwrap_or-first.result c.unwrap_or-now.result c.args.table.0 c.args.seconds now c.self.invariant.kept)
+    (kept_command inside.config (held_of w inside.tables.entries) c.unwrap_or-first.result c.unwrap_or-now.result c.args.table.0 (command.Expire c.args.seconds) now c.self.invariant.kept)
 
 pub invariant_of-self : goal.invariant_of-self
 invariant_of-self g c =

@@ -4,7 +4,7 @@ use Rattle.indexmap.proofs.CallerLemmas.{filter-RetainsPairs}
 use Rattle.pfs_eval.specs.Entries.{Entry}
 use Rattle.pfs_eval.specs.Holdings.{AreKept, HeldEntries}
 use Rattle.pfs_eval.specs.Tables.{is_old, old_count, young}
-use Rattle.pfs_eval.proofs.Expiring.{kept-filtered, left-of}
+use Rattle.pfs_eval.proofs.Leaving.{kept-filtered, left-of}
 use Rattle.pfs_eval.proofs.entries.Table.expire.Goals as goal
 
 pub invariant_of-self : goal.invariant_of-self
@@ -17,7 +17,7 @@ pub returns-clause-answer : goal.returns-clause-answer
 returns-clause-answer c =
     let test = λ (e : Entry). not (is_old c.args.first c.args.now c.args.seconds e.1) in
     let kept = filter-RetainsPairs _ test _ (λ k v b w g call. search rules) _ _ c.retain.ensures.filtered in
-    let fewer = left-of c.args.first c.args.now c.args.seconds c.self.inside.map.entries c.retain.new.self.entries kept in
+    let fewer = left-of (λ (e : Entry). is_old c.args.first c.args.now c.args.seconds e.1) c.self.inside.map.entries c.retain.new.self.entries kept in
     let view = ap (λ (h : HeldEntries). old_count c.args.first c.args.now c.args.seconds h.entries) c.self.view_is in
     omega (arith, fewer, view, c.len-before.ensures.len, c.len.ensures.len)
 

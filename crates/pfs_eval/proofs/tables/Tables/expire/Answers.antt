@@ -1,11 +1,11 @@
 -- Answers of Tables::expire: old entries leave one table (`entries`), the count falls by them (`answer`), and no room is lost (`room`).
-use Rattle.std.proofs.Common.{◌∙◌, ap, arith, sym, subst, List, set, ◌≤◌}
+use Rattle.std.proofs.Common.{◌∙◌, ap, arith, not, sym, subst, List, set, ◌≤◌}
 use Rattle.std.specs.Prelude.{slice_index}
 use Rattle.pfs_eval.specs.Entries.{AreDistinct, Entry}
 use Rattle.pfs_eval.specs.Holdings.{Holdings}
-use Rattle.pfs_eval.specs.Tables.{entries_expired, expired_count, old_count}
-use Rattle.pfs_eval.proofs.Distinct.{distinct-at, distinct-set, distinct-young}
-use Rattle.pfs_eval.proofs.Expiring.{count-expired, entries-expired}
+use Rattle.pfs_eval.specs.Tables.{entries_expired, expired_count, is_old, old_count}
+use Rattle.pfs_eval.proofs.Distinct.{distinct-at, distinct-filter, distinct-set}
+use Rattle.pfs_eval.proofs.Leaving.{count-left, entries-left}
 use Rattle.pfs_eval.proofs.Rooms.{entries_at-held, room-more, room_of, within-held}
 use Rattle.pfs_eval.proofs.tables.Tables.expire.Goals as goal
 
@@ -13,18 +13,18 @@ pub overflow_sub-self : goal.overflow_sub-self
 overflow_sub-self c =
     let view = ap (λ (h : Holdings). h.entries) c.self.view_is in
     let within = within-held c.self.inside.tables.items c.args.self.now.entries c.args.table.0 view c.requires.table in
-    let fewer = count-expired c.self.inside.tables.items c.args.table.0 c.args.first c.args.now c.args.seconds c.index_mut.result.now c.expire-left.new.self within c.index_mut.ensures.value c.expire-left.ensures.entries in
+    let fewer = count-left (λ (e : Entry). is_old c.args.first c.args.now c.args.seconds e.1) c.self.inside.tables.items c.args.table.0 c.index_mut.result.now c.expire-left.new.self within c.index_mut.ensures.value c.expire-left.ensures.entries in
     omega (arith, fewer, c.expire-left.ensures.answer, c.self.invariant.0)
 
 pub invariant_of-self : goal.invariant_of-self
 invariant_of-self c =
     let view = ap (λ (h : Holdings). h.entries) c.self.view_is in
     let within = within-held c.self.inside.tables.items c.args.self.now.entries c.args.table.0 view c.requires.table in
-    let fewer = count-expired c.self.inside.tables.items c.args.table.0 c.args.first c.args.now c.args.seconds c.index_mut.result.now c.expire-left.new.self within c.index_mut.ensures.value c.expire-left.ensures.entries in (
+    let fewer = count-left (λ (e : Entry). is_old c.args.first c.args.now c.args.seconds e.1) c.self.inside.tables.items c.args.table.0 c.index_mut.result.now c.expire-left.new.self within c.index_mut.ensures.value c.expire-left.ensures.entries in (
       omega (arith, fewer, c.expire-left.ensures.answer, c.self.invariant.0),
       c.self.invariant.1,
       distinct-set c.self.inside.tables.items c.args.table.0 c.expire-left.new.self
-          (subst AreDistinct (sym c.expire-left.ensures.entries) (distinct-young c.args.first c.args.now c.args.seconds c.index_mut.result.now.entries (distinct-at c.self.inside.tables.items c.args.table.0 c.index_mut.result.now within c.index_mut.ensures.value c.self.invariant.2))) c.self.invariant.2,
+          (subst AreDistinct (sym c.expire-left.ensures.entries) (distinct-filter (λ (e : Entry). not (is_old c.args.first c.args.now c.args.seconds e.1)) c.index_mut.result.now.entries (distinct-at c.self.inside.tables.items c.args.table.0 c.index_mut.result.now within c.index_mut.ensures.value c.self.invariant.2))) c.self.invariant.2,
     )
 
 pub returns-clause-answer : goal.returns-clause-answer
@@ -39,7 +39,7 @@ pub returns-clause-entries : goal.returns-clause-entries
 returns-clause-entries c =
     let view = ap (λ (h : Holdings). h.entries) c.self.view_is in
     let within = within-held c.self.inside.tables.items c.args.self.now.entries c.args.table.0 view c.requires.table in
-    entries-expired c.self.inside.tables.items c.args.table.0 c.args.first c.args.now c.args.seconds c.index_mut.result.now c.expire-left.new.self within c.index_mut.ensures.value c.expire-left.ensures.entries
+    entries-left (λ (e : Entry). is_old c.args.first c.args.now c.args.seconds e.1) c.self.inside.tables.items c.args.table.0 c.index_mut.result.now c.expire-left.new.self within c.index_mut.ensures.value c.expire-left.ensures.entries
     ∙ ap (λ (es : List (List Entry)). entries_expired es c.args.table.0 c.args.first c.args.now c.args.seconds) view
 
 pub returns-clause-room : goal.returns-clause-room

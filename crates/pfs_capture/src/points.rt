@@ -1,0 +1,81 @@
+//! Where a capture was taken, and what is given of it.
+
+ghost use Rattle.std.specs.Prelude.{◌≡◌};
+ghost use Rattle.pfs_capture.specs.Points.{is_behind, is_in_networks};
+
+use pfs_addr_values::{Addr, IfName, Prefix};
+use pfs_capture_packets::Mac;
+use std::marker::Model;
+
+/// On which side of an interface networks are.
+#[derive(Clone, Copy)]
+pub enum Side {
+    /// Behind it: the firewall's own addresses, and what is behind the firewall.
+    Behind,
+    /// In front of it, as a local network is of an inner interface.
+    InFront,
+}
+
+/// The interface at which a capture was taken, and what is given to tell the directions of its packets. Clauses see its name, its
+/// addresses and the networks as lists.
+#[derive(Drop)]
+pub struct CapturePoint {
+    ifname: IfName,
+    macs: Vec<Mac>,
+    networks: Vec<Prefix>,
+    side: Side,
+}
+
+impl Model for CapturePoint {
+    ghost use Rattle.pfs_capture.specs.Points.{Point};
+
+    ghost Value = { Point };
+
+    ghost view = { λ p. record { ifname = p.ifname; macs = p.macs.items; networks = p.networks.items; side = p.side } };
+}
+
+impl CapturePoint {
+    /// The interface of this name, with its addresses on its link, and the networks on one side of it. Without addresses and
+    /// networks only logs of pflog(4) and Linux cooked captures tell their directions.
+    pub fn new(ifname: IfName, macs: Vec<Mac>, networks: Vec<Prefix>, side: Side) -> CapturePoint
+        ensures { result ≡ record { ifname = ifname; macs = macs.items; networks = networks.items; side = side } }
+    {
+        CapturePoint {
+            ifname,
+            macs,
+            networks,
+            side,
+        }
+    }
+
+    /// Its name.
+    pub fn ifname(&self) -> IfName
+        ensures { result ≡ self.now.ifname }
+    {
+        self.ifname
+    }
+
+    /// Its addresses on its link.
+    pub fn macs(&self) -> &[Mac]
+        ensures { result.now ≡ self.now.macs }
+    {
+        &self.macs
+    }
+
+    /// Whether an address is behind it.
+    pub fn is_behind(&self, addr: Addr) -> bool
+        ensures { result ≡ is_behind self.now addr }
+    {
+        let is_in = is_in_networks(&self.networks, addr);
+        match self.side {
+            Side::Behind => is_in,
+            Side::InFront => !is_in,
+        }
+    }
+}
+
+fn is_in_networks(networks: &[Prefix], addr: Addr) -> bool
+    ensures { result ≡ is_in_networks networks.now addr }
+{
+    networks.iter().any(|prefix| prefix.contains(addr))
+}

@@ -1,0 +1,4 @@
+pub mod Framed
+pub mod Founds
+pub mod Octets
+pub mod Reading

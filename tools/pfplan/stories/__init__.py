@@ -1,0 +1,1 @@
+"""What happened to one source or one record, in plain words."""

@@ -1,0 +1,192 @@
+"""What becomes of connections, read slowly and apart from pfplan: over plain lists of packets, states, kills and flushes.
+
+Nothing of pfplan is used here. A report is a list of texts behind the rows' numbers, and a trace a list of records. No state may run out
+between its last packet and a flush: then the list of states is what the firewall holds.
+"""
+
+import ipaddress
+from dataclasses import dataclass, field
+
+BLOCKED = ("block", "drop:max", "drop:max-src-nodes", "drop:src-nodes", "drop:max-src-states", "drop:states")
+End = tuple[str, str]
+
+
+@dataclass(frozen=True)
+class Packet:
+    """A record of the trace with its answer. Addresses are in their one text."""
+
+    row: int
+    moment: int
+    place: tuple[str, str]
+    protocol: str
+    source: End
+    target: End
+    flags: str
+    word: str
+    rule: str
+    killed: int
+
+    def opens(self) -> bool:
+        """Whether it may begin a connection: a SYN without ACK, and of another protocol any packet."""
+        return self.protocol != "tcp" or "S" in self.flags and "A" not in self.flags
+
+
+@dataclass
+class State:
+    """A state that is held: the two ends by the direction of the packet that made it, its rule, and the source it counts for."""
+
+    protocol: str
+    inner: End
+    outer: End
+    rule: str
+    source: str
+
+
+@dataclass
+class Connection:
+    """All packets of one connection so far. `fate` is empty while it goes on."""
+
+    packets: list[Packet]
+    is_counted: bool
+    fate: str = ""
+
+    def ends(self) -> set[End]:
+        """Its two ends."""
+        return {self.packets[0].source, self.packets[0].target}
+
+
+@dataclass
+class Reading:
+    """Reads a trace with its report. `flushes` has the rules that flush, by `@N`, with `rule` or `global`."""
+
+    users: list[str]
+    flushes: dict[str, str]
+    connections: list[Connection] = field(default_factory=list)
+    states: list[State] = field(default_factory=list)
+    last: int = 0
+
+    def read(self, records: list[str], texts: list[str]) -> list[tuple[tuple[str, ...], int, str]]:
+        """Each connection of a user: protocol and ends with who began it first, the row of its first packet, and its fate."""
+        for row, (record, text) in enumerate(zip(records, texts, strict=True), 1):
+            packet = packet_of(row, record, text)
+            self.last = packet.moment
+            if packet.word != "skip":
+                self.take(packet)
+        found = []
+        for it in self.connections:
+            first = it.packets[0]
+            if it.is_counted:
+                found.append(((first.protocol, *first.source, *first.target), first.row, it.fate or self.fate_at_end(it)))
+        return sorted(found)
+
+    def is_user(self, end: End) -> bool:
+        """Whether an end is one of a user."""
+        return any(ipaddress.ip_address(end[0]) in ipaddress.ip_network(it) for it in self.users)
+
+    def latest(self, packet: Packet) -> Connection | None:
+        """The latest connection between the ends of a packet."""
+        same = [it for it in self.connections if it.packets[0].protocol == packet.protocol and it.ends() == {packet.source, packet.target}]
+        return same[-1] if same else None
+
+    def take(self, packet: Packet) -> None:
+        """A packet, after all those before it."""
+        if self.is_user(packet.source) or self.is_user(packet.target):
+            self.follow(packet)
+        self.change_states(packet)
+
+    def follow(self, packet: Packet) -> None:
+        """Puts a packet to its connection, or begins one, and notes a fate that is certain by now."""
+        connection = self.latest(packet)
+        if connection is None or packet.protocol == "tcp" and packet.opens() and connection.fate:
+            is_begun = packet.opens()
+            counted = is_begun and self.is_user(packet.source)
+            self.connections.append(Connection([packet], counted, "" if counted else "nobody's"))
+            return
+        if not connection.fate:
+            connection.packets.append(packet)
+            connection.fate = fate_after(connection.packets)
+
+    def fate_at_end(self, connection: Connection) -> str:
+        """What became of a connection that goes on at the end of the trace."""
+        if is_refused(connection.packets):
+            return "refused"
+        if connection.packets[0].protocol != "tcp" or is_answered(connection.packets):
+            return "served"
+        return "late" if self.last - connection.packets[0].moment < 3 else "unanswered"
+
+    def change_states(self, packet: Packet) -> None:
+        """What a packet does to the states that are held; connections whose states are flushed are killed."""
+        inner, outer = (packet.source, packet.target) if packet.place[0] == "in" else (packet.target, packet.source)
+        mine = [it for it in self.states if (it.protocol, it.inner, it.outer) == (packet.protocol, inner, outer)]
+        if packet.word == "new":
+            self.states = [it for it in self.states if it not in mine] + [State(packet.protocol, inner, outer, packet.rule, packet.source[0])]
+        if not packet.word.startswith("kill:"):
+            return
+        flush = self.flushes.get(packet.rule, "")
+        gone = list(mine)
+        if flush:
+            gone += [it for it in self.states if it not in mine and it.source == packet.source[0] and (flush == "global" or it.rule == packet.rule)]
+        assert len(gone) == packet.killed, (packet, gone)
+        self.states = [it for it in self.states if it not in gone]
+        for connection in self.connections:
+            protocol, ends = connection.packets[0].protocol, connection.ends()
+            is_hit = any(it.protocol == protocol and {it.inner, it.outer} == ends for it in gone)
+            if is_hit and not connection.fate and not is_refused(connection.packets):
+                connection.fate = "killed"
+
+
+def packet_of(row: int, record: str, text: str) -> Packet:
+    """A record and its answer, taken apart."""
+    column = record.split(",")
+    word, rule, *more = text.split(" ")
+    ends = [("" if not address else str(ipaddress.ip_address(address)), port) for address, port in (column[4:6], column[6:8])]
+    killed = int(more[1].removeprefix("killed=")) if word.startswith("kill:") else 0
+    return Packet(row, int(column[0]), (column[1], column[2]), column[3], ends[0], ends[1], column[8], word, rule, killed)
+
+
+def is_refused(packets: list[Packet]) -> bool:
+    """Whether the connection is refused so far: the last of its opening packets at some place was, and no other went through there before.
+
+    What comes of the opening packets alone is asked, and no more of them once an answer has come through.
+    """
+    refused = packets[0].word in BLOCKED
+    through = [] if refused else [packets[0].place]
+    is_greeted = False
+    for packet in packets[1:]:
+        is_mine = packet.source == packets[0].source
+        if is_mine and packet.opens() and not is_greeted:
+            if packet.word in BLOCKED:
+                refused = refused or packet.place not in through
+            else:
+                refused = False
+        if not refused and packet.word not in BLOCKED:
+            through += [packet.place] if is_mine else []
+            is_greeted = is_greeted or greets(packet, packets[0])
+    return refused
+
+
+def greets(packet: Packet, first: Packet) -> bool:
+    """Whether a packet that came through is the answer to the first one."""
+    return packet.source != first.source and (packet.protocol != "tcp" or "S" in packet.flags and "A" in packet.flags)
+
+
+def is_answered(packets: list[Packet]) -> bool:
+    """Whether the handshake went through: an answer, and then a packet of who began that opens nothing. What comes while it is refused is none of it."""
+    first = packets[0]
+    packets = [it for at, it in enumerate(packets) if not is_refused(packets[: at + 1])]
+    after = [it for at, it in enumerate(packets) if any(greets(other, first) and other.word not in BLOCKED for other in packets[:at])]
+    return any(it.source == first.source and it.word not in BLOCKED and not (it.protocol == "tcp" and it.opens()) for it in after)
+
+
+def fate_after(packets: list[Packet]) -> str:
+    """The fate that the last packet seals, or nothing. `packets` are those up to it, and none before it has sealed one."""
+    last = packets[-1]
+    if is_refused(packets[:-1]) or is_refused(packets):
+        return ""
+    if last.word.startswith("kill:"):
+        return "killed"
+    if last.word in BLOCKED:
+        return "cut"
+    if last.protocol == "tcp" and ("F" in last.flags or "R" in last.flags):
+        return "served" if is_answered(packets) else "unanswered"
+    return ""

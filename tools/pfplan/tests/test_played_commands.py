@@ -1,0 +1,179 @@
+"""Commands that take a scenario where they take a trace: run, compare, size, margins; and maps of two numbers."""
+
+import json
+import unittest
+
+from ..scenarios.returning import words_of
+from .support import FolderCase, pfplan
+
+SCENARIO = """seconds = 12
+server = "192.0.2.1:80"
+
+[group.homes]
+kind = "visits"
+from = "198.51.100.0/24"
+hosts = 25
+stay = 2
+
+[group.holder]
+kind = "hold"
+from = "203.0.113.7/32"
+hosts = 1
+rate = 8
+"""
+RULES = "set limit states 60\nblock\npass in proto tcp to 192.0.2.1 port 80 keep state (max-src-states 50)\n"
+
+
+class PlayedCommands(FolderCase):
+    def setUp(self) -> None:
+        super().setUp()
+        self.scenario = self.write("scenario.toml", SCENARIO)
+        self.rules = self.write("rules", RULES)
+        self.open = self.write("open", RULES.replace("states 60", "states 9000"))
+
+    def told(self, *words: object) -> str:
+        done = pfplan(*words)
+        self.assertEqual((done.status, done.err), (0, ""))
+        return done.out
+
+    def served(self, rate: int, most: int) -> tuple[int, int]:
+        """Connections of users, and those served without waiting, in a single play."""
+        scenario = self.write("single.toml", SCENARIO.replace("rate = 8", f"rate = {rate}"))
+        rules = self.write("single", RULES.replace("max-src-states 50", f"max-src-states {most}"))
+        self.told("play", scenario, rules, "--into", self.folder / "single-play")
+        group = json.loads((self.folder / "single-play/single/summary.json").read_text("utf-8"))["groups"][0]
+        return group["connections"], group["served_without_waiting"]
+
+    def test_run(self) -> None:
+        out = self.told("run", self.rules, self.scenario, "--into", self.folder / "answer")
+        self.assertTrue(out.endswith(f"{self.folder}/answer/report.html\n"))
+        made = {it.name for it in (self.folder / "answer").iterdir()}
+        self.assertLessEqual(
+            {"rules", "left-out.txt", "trace.csv", "report", "summary.txt", "summary.json", "report.html"}, made
+        )
+
+    def test_compare(self) -> None:
+        out = self.told("compare", self.rules, self.open, self.scenario)
+        self.assertIn("\nhomes (visits)\n  connections ", out)
+        sides = json.loads(self.told("compare", self.rules, self.open, self.scenario, "--json"))["sides"]
+        self.assertEqual([it["rules"] for it in sides], ["rules", "open"])
+        self.assertLess(sides[0]["groups"][0]["served"], sides[1]["groups"][0]["served"] + 1)
+
+    def test_size_by_a_number_of_the_scenario(self) -> None:
+        words = (
+            "size",
+            self.rules,
+            self.scenario,
+            "--vary",
+            "holder.rate=1..60",
+            "--want",
+            "100%",
+            "--grid",
+            3,
+            "--runs",
+            8,
+            "--json",
+        )
+        found = json.loads(self.told(*words))
+        self.assertEqual((found["varied"]["name"], found["varied"]["now"], found["users"]), ("holder.rate", 8, "homes"))
+        runs = {it["value"]: it for it in found["runs"]}
+        for value in list(runs)[:2]:
+            connections, served = self.served(value, 50)
+            self.assertEqual(
+                (sum(runs[value]["outcomes"].values()), runs[value]["outcomes"]["served"]), (connections, served)
+            )
+            self.assertEqual(runs[value]["meets"], connections == served)
+        few = ("--grid", 2, "--runs", 2)
+        self.assertEqual(self.told(*words, *few, "--jobs", 1), self.told(*words, *few))
+        self.assertIn("holder.rate, now 8: ", self.told(*words[:-1], *few))
+
+    def test_a_map(self) -> None:
+        words = (
+            "size",
+            self.rules,
+            self.scenario,
+            "--vary",
+            "max-src-states=20..99",
+            "--vary",
+            "holder.rate=1..30",
+            "--grid",
+            3,
+            "--runs",
+            6,
+        )
+        found = json.loads(self.told(*words, "--json", "--want", "100%"))
+        self.assertEqual([it["name"] for it in found["varied"]], ["max-src-states", "holder.rate"])
+        self.assertGreaterEqual(len(found["runs"]), 9)
+        meets = {tuple(it["values"]): it["meets"] for it in found["runs"]}
+        self.assertIn(False, meets.values())
+        self.assertIn(True, meets.values())
+        for (most, rate), is_served in list(meets.items())[-2:]:
+            connections, served = self.served(rate, most)
+            self.assertEqual(connections == served, is_served, (most, rate))
+        for border in found["border"]:
+            for low, high in border["serves"]:
+                self.assertTrue(meets[low, border["second"]] and meets[high, border["second"]])
+        page = self.folder / "map.html"
+        text = self.told(*words, "--grid", 2, "--runs", 2, "--page", page)
+        self.assertIn("(down), now 50, by holder.rate (across), now 8: share served in per cent\n", text)
+        self.assertIn("max-src-states", page.read_text("utf-8"))
+
+    def test_margins(self) -> None:
+        found = json.loads(self.told("margins", self.rules, self.scenario, "--json"))
+        self.assertEqual(found["users"], "homes")
+        self.assertEqual(sum(found["as_is"]["outcomes"].values()), 25)
+        self.assertTrue(any(it["what"].startswith("set limit states") for it in found["moved"]))
+        self.assertFalse(any("udp" in it["what"] for it in found["moved"]))
+
+    def test_mistakes(self) -> None:
+        for words, status, said in (
+            (
+                ("size", self.rules, self.scenario, "--vary", "holder.rat=1..9"),
+                2,
+                "no number is named 'holder.rat'; the group has ",
+            ),
+            (
+                ("size", self.rules, self.scenario, "--vary", "holders.rate=1..9"),
+                2,
+                "no number is named 'holders.rate'",
+            ),
+            (
+                ("size", self.rules, self.scenario, "--vary", "seconds=1..9", "--users", "192.0.2.0/24"),
+                2,
+                "is a scenario, which says itself who the users are",
+            ),
+            (
+                ("size", self.rules, self.scenario, "--vary", "seconds=1..9", "--vary", "seconds=1..9"),
+                2,
+                "--vary: one number, or two different ones for a map",
+            ),
+            (
+                ("size", self.rules, self.scenario, "--vary", "seconds=0..9"),
+                2,
+                "--vary: seconds may be from 1 to 1000000, and 0 is not",
+            ),
+            (
+                ("run", self.rules, self.scenario, "--into", self.folder / "x", "--inside", "192.0.2.0/24"),
+                2,
+                "--inside: ",
+            ),
+            (("compare", self.rules, self.open, self.scenario, "--users", "192.0.2.0/24"), 2, "--users: "),
+            (("margins", self.rules, self.scenario, "--users", "192.0.2.0/24"), 2, "--users: "),
+            (("trace", self.scenario, "--zero"), 2, "--zero: "),
+        ):
+            done = pfplan(*words)
+            self.assertEqual((done.status, done.out), (status, ""), words)
+            self.assertIn(said, done.err)
+
+
+class Returning(unittest.TestCase):
+    def test_words_by_number(self) -> None:
+        text = (
+            "# block return, in a comment\nset limit states 5\ntable <block> { 10.0.0.0/8 } # block return\n  block \\\n return in\npass out log # \\\n"
+            'block drop out\nanchor "return" {\n\tblock return-rst in proto tcp\n\tpass\n}\nblock\nblock return-icmp6 in quick\n'
+        )
+        self.assertEqual(words_of(text), {0: "return", 4: "return-rst", 7: "return-icmp6"})
+
+
+if __name__ == "__main__":
+    unittest.main()

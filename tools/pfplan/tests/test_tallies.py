@@ -1,0 +1,117 @@
+"""A replay that is counted by blocks of text has the counts of one that is counted line by line."""
+
+import unittest
+from collections.abc import Iterator
+from contextlib import ExitStack, contextmanager
+from pathlib import Path
+from typing import Any
+from unittest import mock
+
+from .. import records, replays, tallies
+from ..errors import Trouble
+from ..insertions import asking
+from ..measuring import replayed
+from ..replays import items_of, show_rules, stream_texts
+from ..rule_texts import flushes_of
+from ..sides import Side, follow, side_of
+from ..tallies import tally, trace_texts
+from ..words import Network, networks
+from .support import FolderCase
+from .test_insertions import RULES, drawn_records
+
+ENTRIES = [f"0,add,bad,,203.0.113.{it},,,," for it in range(20, 60)]
+USERS = ("198.51.100.0/24", "198.51.100.3", "0.0.0.0/0", "198.51.100.1,198.51.100.8,2001:db8::/32", "203.0.113.0/24")
+
+
+@contextmanager
+def blocks_of(size: int) -> Iterator[None]:
+    """Blocks of so many bytes are read."""
+    with ExitStack() as stack:
+        for module in (records, replays, tallies):
+            stack.enter_context(mock.patch.object(module, "BLOCK", size))
+        yield
+
+
+def counts_of(side: Side) -> dict[str, Any]:
+    """All that is counted of a side."""
+    answers, connections = side.answers, side.connections
+    by_rule = {word: dict(rules) for word, rules in answers.by_rule.items()}
+    of_report = {"rows": answers.rows, "rules": by_rule, "limits": answers.limits, "end": answers.end, "met": side.met}
+    of_users = {"outcomes": connections.outcomes, "by": connections.refused_by, "refusals": connections.refusals}
+    others = (answers.overloads, connections.without_beginning, connections.begun_by_others)
+    return of_report | of_users | {"others": others}
+
+
+class Counts(FolderCase):
+    """Both ways over the same traces."""
+
+    def both(self, rules: Path, trace: Path, users: tuple[Network, ...], moments: int, entries: list[str]) -> list[Any]:
+        """What each way counts, or what it says is wrong."""
+        found: list[Any] = []
+        flushes = flushes_of(items_of(show_rules(rules)))
+        for is_by_text in (True, False):
+            try:
+                with asking(trace, moments, entries) as asked:
+                    heard = asked.heard(rules)
+                    if is_by_text:
+                        lines, report = trace_texts(trace, asked.plain), stream_texts(rules, trace, asked, heard)
+                        side = tally(trace, lines, report, users, flushes, asked.numbers, rules.name)
+                    else:
+                        with replayed(rules, trace, asked, heard) as several:
+                            side = side_of(rules.name, several, users, flushes=flushes, numbers=asked.numbers)
+                            follow(trace, [side], users)
+                found.append((counts_of(side), heard.held))
+            except Trouble as trouble:
+                found.append(trouble.message)
+        return found
+
+    def test_drawn(self) -> None:
+        """Of drawn traces, with and without records put in, in blocks of some lines and of all; also where many
+        answers differ.
+        """
+        rules = self.write("rules", RULES)
+        more = "".join(f"pass in proto udp from 198.51.100.{it} no state\n" for it in range(1, 10))
+        many = self.write("many", more + RULES)
+        for seed in range(24):
+            trace = self.trace(drawn_records(seed, 5 if seed % 8 == 7 else 300))
+            with self.subTest(seed), blocks_of((60, 700, 1 << 19)[seed % 3]):
+                with mock.patch.object(tallies, "FEW_TEXTS", 2 if seed % 4 == 3 else 24):
+                    users = networks(USERS[seed % len(USERS)])
+                    moments, entries = 4 if seed % 5 else 0, ENTRIES if seed % 3 == 2 else []
+                    one, other = self.both(many if seed % 2 else rules, trace, users, moments, entries)
+                self.assertEqual(one, other)
+                self.assertIsInstance(one, tuple)
+
+    def test_odd_traces(self) -> None:
+        """Other line ends, blank lines and no last line end are read alike; a quote, a fault and no records are told
+        alike.
+        """
+        rules, lines = self.write("rules", RULES), drawn_records(1, 80)
+        plain = self.trace(lines).read_text()
+        header = plain.splitlines()[0]
+        ends = [plain.replace("\n", "\r\n"), plain.replace("\n", "\n\n", 30), plain[:-1], header, f"{header}\n"]
+        faults = [plain.replace("em0", '"em0"', 40), plain.replace(",53,", ",x,"), plain.replace(",in,", ",", 7)]
+        for text in (*ends, "\xef\xbb\xbf" + plain, *faults):
+            for size in (90, 1 << 19):
+                with blocks_of(size):
+                    one, other = self.both(rules, self.write("odd", text), networks(USERS[0]), 3, [])
+                self.assertEqual(one, other)
+
+    def test_reports_of_others(self) -> None:
+        """A report that is cut, or has more rows than the trace, is refused."""
+        rules, trace = self.write("rules", RULES), self.trace(drawn_records(2, 5))
+        whole = list(stream_texts(rules, trace))
+        lines = "".join(whole).splitlines(keepends=True)
+        for texts, why in (
+            ([*lines[:3], *lines[5:]], "row 4: the trace has more records than the report"),
+            (lines[:-1], "no end line"),
+            ([*lines[:4], "9 new @0\n", lines[5]], "row 1 is wanted, and those that follow it"),
+            ([*lines[:5], "6 new @0\n", lines[5]], "row 6: the report of rules has more rows than the trace has"),
+        ):
+            with self.assertRaises(Trouble) as raised:
+                tally(trace, trace_texts(trace), (it for it in texts), networks(USERS[0]), None, None, "rules")
+            self.assertIn(why, raised.exception.message)
+
+
+if __name__ == "__main__":
+    unittest.main()
