@@ -1,4 +1,4 @@
-//! The store that finds what it holds by indexes: a packet's cost does not grow with what is held.
+//! The store that finds what it holds by indexes: a packet's cost grows with the logarithm of what is held.
 #![tactic(auto)]
 
 mod expiring;

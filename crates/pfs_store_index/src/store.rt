@@ -22,8 +22,8 @@ use std::hash::BuildHasher;
 use std::marker::Model;
 
 /// A store that finds states by their keys, by their numbers and by their sources, and source nodes by scope and
-/// source. The cost of a call does not grow with what is held, except for the states of a source that are flushed and
-/// for the slices of the purge. It counts looks.
+/// source. The cost of a call grows with the logarithm of what is held, except for the states of a source that are
+/// flushed and for the slices of the purge. It counts looks.
 ///
 /// Clauses see a `Plain`: the configuration that it was made for, and its world.
 #[derive(Drop)]
@@ -53,8 +53,8 @@ impl<S: BuildHasher> Model for IndexStore<S> {
 
 impl IndexStore {
     /// An empty store, made for this configuration, of which it keeps a copy. Both its hashes, of keys and of source
-    /// nodes, begin with all that the configuration says. So a sender who does not know it cannot choose keys with the
-    /// same hash. `NoMemory` where memory for the copy is refused.
+    /// nodes, begin with all that the configuration says (`RulesHasher`). `NoMemory` where memory for the copy is
+    /// refused.
     pub fn new(alloc: Global, config: &Config) -> Result<IndexStore, NoMemory>
         ensures { IfOk result (λ s. s ≡ record { config = config.now; world = empty_world }) }
     {
