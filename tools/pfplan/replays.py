@@ -3,6 +3,7 @@
 import contextlib
 import os
 import re
+import shutil
 import subprocess
 import tempfile
 import threading
@@ -33,8 +34,9 @@ class Replay:
 
 
 def program(name: str = "pfsrc") -> str:
-    """A program of the repository: what the environment names as PFSRC or PFSTRACE, else ./pfsrc or ./pfstrace, which builds it on first use."""
-    return os.environ.get(name.upper()) or str(TOP / name)
+    """What the environment names as PFSRC or PFSTRACE, else the program beside pfplan (that of the repository builds itself on first use), else that on the PATH."""
+    beside = str(TOP / name)
+    return os.environ.get(name.upper()) or (beside if os.path.lexists(beside) else shutil.which(name) or beside)
 
 
 def check_program(name: str = "pfsrc") -> None:

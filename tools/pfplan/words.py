@@ -27,10 +27,10 @@ COMMANDS = (
     ("margins", "margins", "how sure an answer is"),
     ("measure", "measuring", "one replay in a few numbers, as a line of JSON: what size and margins run"),
 )
-ENDS = """The program that replays is ./pfsrc of the repository, or what the environment names as PFSRC.
+ENDS = """What replays is pfsrc, what reads captures pfstrace: beside pfplan, else on the PATH, or what PFSRC and PFSTRACE name.
 Status: 0 done; 1 a trace, a report or a capture is refused; 2 a word of the command line; 3 a pf.conf or a rules text is
 refused; 4 reading or writing failed, or no memory; 70 pfsrc is not there or could not be built; 130 interrupted.
-pfplan is tested, not proved. tools/README.md says more."""
+pfplan is tested, not proved. pfplan(1) says more."""
 
 Address = ipaddress.IPv4Address | ipaddress.IPv6Address
 Network = ipaddress.IPv4Network | ipaddress.IPv6Network
