@@ -11,7 +11,7 @@ from .words import COMMANDS, parse
 
 
 def main(words: Sequence[str] | None = None) -> int:
-    """Runs the command that the words name, and answers the status (tools/README.md)."""
+    """Runs the command that the words name, and answers the status (man/pfplan.1)."""
     given = list(sys.argv[1:] if words is None else words)
     name = f"pfplan {given[0]}" if given and given[0] in [it for it, _, _ in COMMANDS] else "pfplan"
     signal.signal(signal.SIGTERM, _interrupt)

@@ -81,7 +81,7 @@ class Comparison:
     timelines: list[Timeline] = field(default_factory=list)
 
     def to_json(self) -> dict[str, Any]:
-        """The numbers for machines (tools/README.md)."""
+        """The numbers for machines (man/pfplan.1)."""
         sides = [{"rules": name, **it.to_json()} for name, it in zip(self.names, self.measures)]
         return {"trace": self.trace, "users": self.users, "sides": sides, "against_first": [_against_json(it) for it in self.against]}
 

@@ -4,7 +4,7 @@ import enum
 
 
 class Status(enum.IntEnum):
-    """How pfplan ends. The numbers are those of pfsrc where it has them (docs/FORMATS.md)."""
+    """How pfplan ends. The numbers are those of pfsrc where it has them (man/pfsrc.1)."""
 
     DONE = 0
     REFUSED = 1  # a trace, a report or a capture

@@ -62,7 +62,7 @@ class Map:
             yield Border(second, tuple(runs), tuple(below), tuple(above))
 
     def to_json(self) -> dict[str, Any]:
-        """The numbers for machines (tools/README.md)."""
+        """The numbers for machines (man/pfplan.1)."""
         return {
             "trace": self.trace,
             "users": self.users,

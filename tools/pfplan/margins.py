@@ -72,7 +72,7 @@ class Margins:
         return [it for it in self.margins if it.turns]
 
     def to_json(self) -> dict[str, Any]:
-        """The numbers for machines (tools/README.md)."""
+        """The numbers for machines (man/pfplan.1)."""
         return {
             "trace": self.trace,
             "users": self.users,

@@ -68,7 +68,7 @@ class Sizing:
         return {value: it.served / max(1, it.counted) for value, it in self.measures.items() if not it.refused}
 
     def to_json(self) -> dict[str, Any]:
-        """The numbers for machines (tools/README.md)."""
+        """The numbers for machines (man/pfplan.1)."""
         return {
             "trace": self.trace,
             "users": self.users,

@@ -115,7 +115,7 @@ class Summary:
         return {word: sum(self.answers.get(word, {}).values()) for word in WORDS}
 
     def to_json(self) -> dict[str, Any]:
-        """The counts for machines (tools/README.md)."""
+        """The counts for machines (man/pfplan.1)."""
         return {
             "records": self.records,
             "moments": None if self.first_moment is None else [self.first_moment, self.last_moment],

@@ -138,7 +138,7 @@ def text_of(found: Told) -> str:
 
 
 def json_of(scenario: Scenario, play: Played) -> dict[str, Any]:
-    """The numbers of one play for machines (tools/README.md)."""
+    """The numbers of one play for machines (man/pfplan.1)."""
     groups = [
         {
             "name": it.group.name,
