@@ -95,7 +95,7 @@ def cells_of(beginning: str) -> tuple[str, ...]:
 
 def explanation(beginning: str) -> str:
     """The document's line in one: what is here, what is in pf, and which way pf differs."""
-    here, pf, *more = cells_of(beginning)
-    if not more:
+    here, pf, answers, *see = cells_of(beginning)
+    if not see:  # (a line of what is left out has three cells; the last cell says how to see it on a firewall)
         return f"left out: {here}; then a report is wrong about {pf}"
-    return f"here {here}; in pf {pf}; pf answers: {more[0].replace('**', '')}"
+    return f"here {here}; in pf {pf}; pf answers: {answers.replace('**', '')}"
