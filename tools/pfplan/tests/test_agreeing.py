@@ -306,6 +306,14 @@ class Parts(unittest.TestCase):
             with self.subTest(it):
                 self.assertGreater(len(explaining.explanation(it)), 40)
 
+    def test_every_line_of_the_document_says_how_to_see_it(self) -> None:
+        tables = [it.strip("|").split("|") for it in explaining.DIFFERENCES.read_text("utf-8").splitlines() if it.startswith("| ")]
+        self.assertGreater(len(tables), 60)
+        for cells in tables:
+            with self.subTest(cells[0]):
+                self.assertIn(len(cells), (3, 4))
+                self.assertGreater(len(cells[-1].strip()), 2)
+
     def test_hiding(self) -> None:
         hider = Hider(shows=False)
         self.assertEqual(
