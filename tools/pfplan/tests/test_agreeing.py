@@ -9,6 +9,7 @@ from typing import Any
 from .. import explaining, judging
 from ..errors import Status
 from ..hiding import Hider
+from ..pages import DIFFERENCES
 from ..pf_answers import Packet, PfAnswer
 from ..records import Record
 from ..replays import TOP
@@ -307,7 +308,7 @@ class Parts(unittest.TestCase):
                 self.assertGreater(len(explaining.explanation(it)), 40)
 
     def test_every_line_of_the_document_says_how_to_see_it(self) -> None:
-        tables = [it.strip("|").split("|") for it in explaining.DIFFERENCES.read_text("utf-8").splitlines() if it.startswith("| ")]
+        tables = [it.strip("|").split("|") for it in DIFFERENCES.read_text("utf-8").splitlines() if it.startswith("| ")]
         self.assertGreater(len(tables), 60)
         for cells in tables:
             with self.subTest(cells[0]):
