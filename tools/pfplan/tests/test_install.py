@@ -62,6 +62,9 @@ class Install(FolderCase):
         self.assertEqual((installed.status, installed.err), (0, here.err))
         for name in ("rules", "trace.csv", "report", "summary.json", "DIFFERENCES.md"):
             self.assertEqual((self.folder / "installed" / name).read_bytes(), (self.folder / "here" / name).read_bytes(), name)
+        # (size calls pfplan itself for each value)
+        sized = self.call(self.prefix / "bin" / "pfplan", "size", "here/rules", "here/trace.csv", "--vary", "states=100..5000", "--grid", "2", "--runs", "2", "--users", "198.51.100.0/24")
+        self.assertEqual((sized.status, sized.err), (0, ""))
 
     def test_it_is_whole_and_readable(self) -> None:
         self.assertEqual(self.install().status, 0)
