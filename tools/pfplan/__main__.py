@@ -5,15 +5,15 @@ import sys
 from collections.abc import Sequence
 from types import FrameType
 
-from .errors import Status, Trouble, reason_of
-from .markup import visible
-from .words import COMMANDS, parse
+from pfplan.commands.parser import COMMANDS, parse
+from pfplan.common.errors import Status, Trouble, reason_of
+from pfplan.common.visible import visible
 
 
 def main(words: Sequence[str] | None = None) -> int:
     """Runs the command that the words name, and answers the status (tools/README.md)."""
     given = list(sys.argv[1:] if words is None else words)
-    name = f"pfplan {given[0]}" if given and given[0] in [it for it, _, _ in COMMANDS] else "pfplan"
+    name = f"pfplan {given[0]}" if given and given[0] in [it for it, _ in COMMANDS] else "pfplan"
     signal.signal(signal.SIGTERM, _interrupt)
     try:
         arguments = parse(given)

@@ -7,8 +7,8 @@ and rules with a part that it can't answer are not there.
 import ipaddress
 from dataclasses import dataclass, field
 
-from . import drawing
-from .drawing import FAMILIES, Anchor, Filter, Host, Packet, Ports, Rule, Ruleset
+from pfplan.tests import drawing
+from pfplan.tests.drawing import FAMILIES, Anchor, Filter, Host, Packet, Ports, Rule, Ruleset
 
 
 @dataclass

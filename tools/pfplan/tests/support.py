@@ -10,8 +10,8 @@ from collections.abc import Iterable, Mapping
 from dataclasses import dataclass
 from pathlib import Path
 
-from ..inputs import HEADER
-from ..replays import TOP
+from pfplan.common.inputs import HEADER
+from pfplan.common.repository import TOP
 
 STAND_IN = Path(__file__).resolve().parent / "stand_in.py"
 

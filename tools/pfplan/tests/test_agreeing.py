@@ -6,15 +6,16 @@ from dataclasses import replace
 from pathlib import Path
 from typing import Any
 
-from .. import explaining, judging
-from ..errors import Status
-from ..hiding import Hider
-from ..pf_answers import Packet, PfAnswer
-from ..records import Record
-from ..replays import TOP
-from .logs import BLOCK, MATCH, PASS, REASONS, Packets, log_of, repeated, reported, with_log
-from .packets import NONE, Logged, ethernet_capture, log_capture
-from .support import Done, FolderCase, pfplan
+from pfplan.answers import explaining, judging
+from pfplan.answers.hiding import Hider
+from pfplan.common.errors import Status
+from pfplan.common.repository import TOP
+from pfplan.pages.differences import explanation
+from pfplan.tests.logs import BLOCK, MATCH, PASS, REASONS, Packets, log_of, repeated, reported, with_log
+from pfplan.tests.packets import NONE, Logged, ethernet_capture, log_capture
+from pfplan.tests.support import Done, FolderCase, pfplan
+from pfplan.traces.pf_answers import Packet, PfAnswer
+from pfplan.traces.records import Record
 
 EXAMPLES = ("expired-state", "ipv6-flood", "rate-memory", "source-limits", "syn-flood", "udp-flood")
 CONF = """
@@ -304,7 +305,7 @@ class Parts(unittest.TestCase):
     def test_every_line_that_explains_is_in_the_document(self) -> None:
         for it in explaining.ALL:
             with self.subTest(it):
-                self.assertGreater(len(explaining.explanation(it)), 40)
+                self.assertGreater(len(explanation(it)), 40)
 
     def test_hiding(self) -> None:
         hider = Hider(shows=False)

@@ -8,10 +8,10 @@ import time
 import unittest
 from pathlib import Path
 
-from ..errors import Status
-from ..inputs import HEADER
-from ..replays import TOP
-from .support import STAND_IN, FolderCase, heed_interrupts, pfplan
+from pfplan.common.errors import Status
+from pfplan.common.inputs import HEADER
+from pfplan.common.repository import TOP
+from pfplan.tests.support import STAND_IN, FolderCase, heed_interrupts, pfplan
 
 RECORD = "0,in,em0,udp,203.0.113.1,1000,192.0.2.1,53,"
 STATUSES = {int(it) for it in Status}

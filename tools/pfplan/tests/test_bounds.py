@@ -3,10 +3,10 @@
 import time
 import unittest
 
-from ..errors import Status, Trouble
-from ..lexer import Budget
-from ..rulesets import RuleOptions, convert, convert_text
-from .support import STAND_IN, FolderCase, pfplan
+from pfplan.common.errors import Status, Trouble
+from pfplan.pf.conversion import RuleOptions, convert, convert_text
+from pfplan.pf.lexer import Budget
+from pfplan.tests.support import STAND_IN, FolderCase, pfplan
 
 
 class Bounds(FolderCase):

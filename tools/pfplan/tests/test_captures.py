@@ -8,10 +8,10 @@ import sys
 import time
 import unittest
 
-from ..captures import ANSWERS
-from ..errors import Status
-from ..replays import TOP
-from .support import Done, FolderCase, heed_interrupts, pfplan
+from pfplan.common.errors import Status
+from pfplan.common.repository import TOP
+from pfplan.tests.support import Done, FolderCase, heed_interrupts, pfplan
+from pfplan.traces.captures import ANSWERS
 
 NAME = "$(touch here) a=b.pcap"
 ONE = "printf 'time,dir\\n5,in\\n'"

@@ -6,11 +6,12 @@ import unittest
 from pathlib import Path
 from unittest import mock
 
-from ..changes import Number, RulesText
-from ..errors import Trouble
-from ..margins import moves_of, protocols_of, tenths, turns_of
-from ..measuring import Measure
-from ..sizing import serves, share_word
+from pfplan.answers.changed_rules import Number, RulesText
+from pfplan.answers.margins import moves_of, protocols_of, tenths, turns_of
+from pfplan.answers.measures import Measure
+from pfplan.answers.sizes import serves
+from pfplan.commands.words import share_word
+from pfplan.common.errors import Trouble
 
 STAND_IN = Path(__file__).resolve().parent / "stand_in.py"
 RULES = """set limit states 50

@@ -5,9 +5,9 @@ import subprocess
 import unittest
 from pathlib import Path
 
-from ..replays import TOP, program
-from ..words import COMMANDS
-from .support import FolderCase, pfplan
+from pfplan.commands.parser import COMMANDS
+from pfplan.common.repository import TOP, program
+from pfplan.tests.support import FolderCase, pfplan
 
 CASES = TOP / "cases" / "pfplan"
 
@@ -16,7 +16,7 @@ class Commands(FolderCase):
     def test_every_command_helps(self) -> None:
         whole = pfplan("--help")
         self.assertEqual((whole.status, whole.err), (0, ""))
-        for name, _, _ in COMMANDS:
+        for name, _ in COMMANDS:
             done = pfplan(name, "--help")
             self.assertEqual((done.status, done.err), (0, ""))
             self.assertTrue(done.out.startswith(f"usage: pfplan {name} "), done.out[:80])

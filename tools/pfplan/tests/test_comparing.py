@@ -5,14 +5,14 @@ import unittest
 from collections.abc import Sequence
 from pathlib import Path
 
-from ..comparing import Fates, Pairs
-from ..errors import Trouble
-from ..progress import Progress
-from ..sides import Met, Picks, Side, common_text, follow, side_of
-from ..stepping import steps_of
-from ..summaries import Wanted, summarize
-from ..words import network, networks
-from .support import STAND_IN, FolderCase, pfplan
+from pfplan.answers.comparisons import Fates, Pairs
+from pfplan.answers.sides import Met, Picks, Side, common_text, follow, side_of
+from pfplan.answers.stepping import steps_of
+from pfplan.answers.summaries import Wanted, summarize
+from pfplan.commands.words import network, networks
+from pfplan.common.errors import Trouble
+from pfplan.common.progress import Progress
+from pfplan.tests.support import STAND_IN, FolderCase, pfplan
 
 USERS = networks("198.51.100.0/24")
 ENV = {"PFSRC": str(STAND_IN)}

@@ -15,7 +15,7 @@ from dataclasses import dataclass
 from pathlib import Path
 
 from pfplan.__main__ import main
-from pfplan.replays import TOP, program
+from pfplan.common.repository import TOP, program
 
 HERE = Path(__file__).resolve().parent
 TEXTS = HERE / "constructs"

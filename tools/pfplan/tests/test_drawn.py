@@ -14,12 +14,11 @@ import tempfile
 import unittest
 from pathlib import Path
 
-from pfplan.replays import program
-from pfplan.rulesets import RuleOptions, Ruleset, convert_text
+from pfplan.common.repository import program
+from pfplan.pf.conversion import RuleOptions, Ruleset, convert_text
+from pfplan.tests.drawing import IFCONFIG, Anchor, Drawer, Packet, Rule, Ruleset as Drawn, Writer
+from pfplan.tests.reading import Reading
 
-from .drawing import IFCONFIG, Anchor, Drawer, Packet, Rule, Writer
-from .drawing import Ruleset as Drawn
-from .reading import Reading
 
 PACKETS = 40
 HEADER = "time,dir,if,proto,src,sport,dst,dport,flags"

@@ -9,10 +9,10 @@ import unittest
 from collections.abc import Sequence
 from pathlib import Path
 
-from ..entries import add_records, entries_of_rules, names_to_move
-from ..errors import Trouble
-from ..inputs import HEADER
-from .support import Done, FolderCase, pfplan
+from pfplan.common.errors import Trouble
+from pfplan.common.inputs import HEADER
+from pfplan.tests.support import Done, FolderCase, pfplan
+from pfplan.traces.entries import add_records, entries_of_rules, names_to_move
 
 USERS = "198.51.100.0/24"
 CONF = """set limit states 500

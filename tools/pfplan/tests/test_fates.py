@@ -9,13 +9,13 @@ import unittest
 from collections import Counter
 from collections.abc import Iterator
 
-from ..replays import Replay, items_of, run_replay, show_rules
-from ..rule_texts import flushes_of
-from ..sides import follow, side_of
-from ..summaries import Wanted, summarize
-from ..words import networks
-from .fates_reading import Reading
-from .support import FolderCase
+from pfplan.answers.sides import follow, side_of
+from pfplan.answers.summaries import Wanted, summarize
+from pfplan.commands.words import networks
+from pfplan.pf.reading_canonical_text import flushes_of, items_of
+from pfplan.replays.runs import Replay, run_replay, show_rules
+from pfplan.tests.fates_reading import Reading
+from pfplan.tests.support import FolderCase
 
 USERS = (["198.51.100.0/24"], ["198.51.100.1/32"], ["198.51.100.0/24", "192.0.2.0/24"], ["192.0.2.0/24"], ["2001:db8::/64", "198.51.100.2/32"])
 PORTS = ("80", "22", "25")

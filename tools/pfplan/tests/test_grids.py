@@ -3,10 +3,12 @@
 import unittest
 from fractions import Fraction
 
-from .. import grids, sizing_texts
-from ..changes import Number
-from ..measuring import Measure
-from ..sizing import Sizing, Vary, search, share_word, vary_word
+from pfplan.answers import grids
+from pfplan.answers.changed_rules import Number
+from pfplan.answers.measures import Measure
+from pfplan.answers.sizes import Sizing, Vary, search
+from pfplan.commands.words import share_word, vary_word
+from pfplan.pages import size_texts
 
 
 def measure(served: int, connections: int = 1000, refused: str = "") -> Measure:
@@ -88,23 +90,23 @@ class Texts(unittest.TestCase):
         return Sizing("trace<b>", "198.51.100.0/24", Number("max", 40, (3,)), Fraction(99, 100), measures, 4, False)
 
     def test_one_edge(self) -> None:
-        text = sizing_texts.text_of(self.sizing({10: 500, 40: 989, 41: 995, 90: 1000}))
+        text = size_texts.text_of(self.sizing({10: 500, 40: 989, 41: 995, 90: 1000}))
         self.assertIn("At least 99 % are served from 41 to 90; at 40 it is 98.9 %.", text)
         self.assertIn("rises and falls no more than once", text)
         self.assertIn("| now", text)
         self.assertEqual([it[0] for it in text.splitlines()[4:8]], [" ", " ", "*", "*"])
 
     def test_not_once(self) -> None:
-        text = sizing_texts.text_of(self.sizing({10: 995, 40: 900, 90: 1000}))
+        text = size_texts.text_of(self.sizing({10: 995, 40: 900, 90: 1000}))
         self.assertIn("The share does not rise and fall once: from 99.5 % at 10 it falls to 90.0 % at 40, and is 100 % at 90.", text)
 
     def test_none(self) -> None:
-        text = sizing_texts.text_of(self.sizing({10: 500, 90: 400}))
+        text = size_texts.text_of(self.sizing({10: 500, 90: 400}))
         self.assertIn("No value that was tried serves 99 %; the best is 50.0 % at 10.", text)
 
     def test_refused_rules(self) -> None:
         found = Sizing("t", "u", Number("states", 9), Fraction(1), {1: measure(0, 0, "line 0: TooManyEntries"), 9: measure(5, 5)}, 0, False)
-        text = sizing_texts.text_of(found)
+        text = size_texts.text_of(found)
         self.assertIn("the rules are refused: line 0: TooManyEntries", text)
         self.assertIn("At least 100 % are served at 9; at 1 the rules are refused.", text)
 

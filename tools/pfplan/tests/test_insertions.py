@@ -9,14 +9,15 @@ import unittest
 from collections.abc import Sequence
 from pathlib import Path
 
-from ..connections import KINDS
-from ..errors import Trouble
-from ..inputs import HEADER
-from ..insertions import Held, asking
-from ..replays import program, stream_blocks
-from ..rows import Rows
-from ..summaries import held_at
-from .support import FolderCase, pfplan
+from pfplan.answers.connections import KINDS
+from pfplan.answers.summaries import held_at
+from pfplan.common.errors import Trouble
+from pfplan.common.inputs import HEADER
+from pfplan.common.repository import program
+from pfplan.replays.runs import stream_blocks
+from pfplan.tests.support import FolderCase, pfplan
+from pfplan.traces.insertions import Held, asking
+from pfplan.traces.rows import Rows
 
 RULES = """set timeout { tcp.first 3, udp.first 2, interval 1, src.track 4 }
 table <bad> persist { 203.0.113.9 }

@@ -3,10 +3,9 @@
 import ipaddress
 import unittest
 
-from pfplan.interfaces import Location, Machine, prefix_of, read_ifconfig, shown
-from pfplan.services import PROTOCOLS, SERVICES, port_of, protocol_of, shown_protocol
-
-from .test_constructs import TEXTS
+from pfplan.pf.interfaces import Location, Machine, prefix_of, read_ifconfig, shown
+from pfplan.pf.services import PROTOCOLS, SERVICES, port_of, protocol_of, shown_protocol
+from pfplan.tests.test_constructs import TEXTS
 
 
 def machine() -> Machine:

@@ -2,8 +2,8 @@
 
 import unittest
 
-from pfplan.errors import Trouble
-from pfplan.lexer import Kind, Lexer, Token, text_of
+from pfplan.common.errors import Trouble
+from pfplan.pf.lexer import Kind, Lexer, Token, text_of
 
 
 def tokens(text: str, **macros: str) -> list[Token]:

@@ -12,11 +12,11 @@ import unittest
 from pathlib import Path
 from unittest import mock
 
-from .. import machines
-from ..errors import Trouble
-from ..machines import Machines, Runs
-from ..replays import TOP
-from .support import STAND_IN, FolderCase, heed_interrupts, pfplan
+from pfplan.common.errors import Trouble
+from pfplan.common.repository import TOP
+from pfplan.replays import machines
+from pfplan.replays.machines import Machines, Runs
+from pfplan.tests.support import STAND_IN, FolderCase, heed_interrupts, pfplan
 
 ENV = {"PFSRC": str(STAND_IN)}
 RECORDS = [f"{at},in,em0,tcp,198.51.100.{at + 1},1000,192.0.2.1,80,S" for at in range(20)]

@@ -2,11 +2,11 @@
 
 import unittest
 
-from ..interfaces import Machine, read_ifconfig
-from ..numbering import keys_of
-from ..replays import TOP
-from ..rulesets import RuleOptions, Ruleset, convert, convert_text
-from ..syntax import Filter, Host, HostKind, Port, Side
+from pfplan.common.repository import TOP
+from pfplan.pf.conversion import RuleOptions, Ruleset, convert, convert_text
+from pfplan.pf.interfaces import Machine, read_ifconfig
+from pfplan.pf.numbers_of_pf import keys_of
+from pfplan.pf.statements import Filter, Host, HostKind, Port, Side
 
 ROUTER = TOP / "examples" / "pf.conf"
 

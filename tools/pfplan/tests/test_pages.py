@@ -11,16 +11,19 @@ from html.parser import HTMLParser
 from pathlib import Path
 from unittest import mock
 
-from .. import figures, frames, markup, pages, pictures, timelines
-from ..accounts import Frames
-from ..connections import Refusal
-from ..counting import Limit, Step
-from ..errors import Trouble
-from ..insertions import Held
-from ..origins import Origins
-from ..records import End
-from ..sources import Source
-from ..summaries import Interfaces, Summary, Tops, Users
+from pfplan.answers.connections import Refusal
+from pfplan.answers.counting import Limit, Step
+from pfplan.answers.sources import Source
+from pfplan.answers.summaries import Interfaces, Summary, Tops, Users
+from pfplan.common import figures
+from pfplan.common.errors import Trouble
+from pfplan.common.visible import visible
+from pfplan.pages import frames, markup, pictures, report_page, timeline_pictures
+from pfplan.pages.summary_texts import text_of
+from pfplan.pf.origins import Origins
+from pfplan.traces.accounts import Frames
+from pfplan.traces.insertions import Held
+from pfplan.traces.records import End
 
 # names as somebody could choose them: elements, attributes, SVG, gnuplot's commands, and characters that nobody sees
 NAMES = (
@@ -96,9 +99,9 @@ def summary(name: str = "pass all", served: int = 199, connections: int = 200) -
     )  # fmt: skip
 
 
-def subject(name: str = "pf.conf") -> pages.Subject:
+def subject(name: str = "pf.conf") -> report_page.Subject:
     """What was replayed, by hostile names where wanted."""
-    return pages.Subject(name, name, [LeftOut(name, 3, name, name, True), LeftOut(name, 4, name, name, False)], [name])
+    return report_page.Subject(name, name, [LeftOut(name, 3, name, name, True), LeftOut(name, 4, name, name, False)], [name])
 
 
 class Figures(unittest.TestCase):
@@ -121,29 +124,29 @@ class Names(unittest.TestCase):
     """Names are text wherever they come into markup."""
 
     def test_visible(self) -> None:
-        self.assertEqual(markup.visible("a\nb\u202e\udcffc"), "a\\nb\\u202e\\xffc")
-        self.assertEqual(markup.visible("plain name"), "plain name")
+        self.assertEqual(visible("a\nb\u202e\udcffc"), "a\\nb\\u202e\\xffc")
+        self.assertEqual(visible("plain name"), "plain name")
 
     def test_escaped(self) -> None:
         self.assertEqual(markup.tag("p", "<b>&\"'").text, "<p>&lt;b&gt;&amp;&quot;&#x27;</p>")
         self.assertEqual(markup.tag("a", "x", href='"onclick="y').text, '<a href="&quot;onclick=&quot;y">x</a>')
 
     def test_page_has_the_same_elements_for_every_name(self) -> None:
-        plain = read_page(pages.page_of(summary("plain"), subject("plain"), [], "d"))
+        plain = read_page(report_page.page_of(summary("plain"), subject("plain"), [], "d"))
         for name in NAMES:
-            text = pages.page_of(summary(name), subject(name), [], "d")
+            text = report_page.page_of(summary(name), subject(name), [], "d")
             text.encode("utf-8")
             found = read_page(text)
             self.assertEqual(found.names, plain.names, name)
             self.assertEqual([it for it, _ in found.attributes], [it for it, _ in plain.attributes], name)
-            self.assertIn(markup.visible(name), "".join(found.text))
+            self.assertIn(visible(name), "".join(found.text))
 
 
 class Pages(unittest.TestCase):
     """What stands on the page, and where."""
 
     def test_nothing_runs_and_nothing_comes_from_outside(self) -> None:
-        found = read_page(pages.page_of(summary(), subject(), [], "../docs/DIFFERENCES.md"))
+        found = read_page(report_page.page_of(summary(), subject(), [], "../docs/DIFFERENCES.md"))
         self.assertFalse({"script", "link", "img", "iframe", "object", "form"} & set(found.names))
         links = [value for name, value in found.attributes if name in ("href", "src")]
         self.assertEqual(links, ["../docs/DIFFERENCES.md"])
@@ -151,7 +154,7 @@ class Pages(unittest.TestCase):
         self.assertIn(("content", frames.POLICY), found.attributes)
 
     def test_answer_stands_first(self) -> None:
-        page = pages.page_of(summary(), subject(), [], "d")
+        page = report_page.page_of(summary(), subject(), [], "d")
         text = "\n".join(read_page(page).text)
         answer = text.index("99.5 % of the users' connections were served: 199 of 200.")
         self.assertLess(answer, text.index("Limits met"))
@@ -163,12 +166,12 @@ class Pages(unittest.TestCase):
 
     def test_what_is_missing_stands_before_the_answer(self) -> None:
         left = LeftOut("pf.conf", 3, "that egress is a group", "give --interface egress=IF or --ifconfig", True, is_missing=True)
-        text = "\n".join(read_page(pages.page_of(summary(), pages.Subject("pf.conf", "trace", [left]), [], "d")).text)
+        text = "\n".join(read_page(report_page.page_of(summary(), report_page.Subject("pf.conf", "trace", [left]), [], "d")).text)
         self.assertLess(text.index("give --interface egress=IF"), text.index("of the users' connections were served"))
 
     def test_green_by_the_wanted_share(self) -> None:
         for want, mood in ((Fraction(99, 100), "good"), (Fraction(999, 1000), "bad")):
-            text = pages.page_of(summary(), pages.Subject("pf.conf", "trace", want=want), [], "d")
+            text = report_page.page_of(summary(), report_page.Subject("pf.conf", "trace", want=want), [], "d")
             self.assertIn(f'class="answer {mood}"', text)
 
     def test_those_that_the_end_cut_count_for_nothing(self) -> None:
@@ -176,17 +179,17 @@ class Pages(unittest.TestCase):
         assert some.users is not None
         some.users.outcomes.update(late=7, refused=1)
         some.users.connections = 107
-        text = "\n".join(read_page(pages.page_of(some, subject(), [], "d")).text)
+        text = "\n".join(read_page(report_page.page_of(some, subject(), [], "d")).text)
         self.assertIn("99.0 % of the users' connections were served: 99 of 100.", text)
         self.assertIn("not counted: 7, cut by the end of the trace", text)
         some.users.outcomes.update(late=107, refused=0, served=0)
-        self.assertIn("All 107 connections of the users", pages.page_of(some, subject(), [], "d"))
+        self.assertIn("All 107 connections of the users", report_page.page_of(some, subject(), [], "d"))
 
     def test_clock_times(self) -> None:
         late = summary()
         late.first_moment, late.last_moment = 1_700_000_000, 1_700_000_001
         late.limits = [Limit("drop:states", 6, 3, 9, 1_700_000_000, 1_700_000_001, 2, 0)]
-        text = "\n".join(read_page(pages.page_of(late, subject(), [], "d")).text)
+        text = "\n".join(read_page(report_page.page_of(late, subject(), [], "d")).text)
         self.assertIn("from 2023-11-14 22:13:20 UTC", text)
         self.assertIn("from second 0 to 1 (2023-11-14 22:13:20 UTC to 2023-11-14 22:13:21 UTC)", text)
 
@@ -202,7 +205,7 @@ class Pages(unittest.TestCase):
         told.seen_on = ["em0"]
         assert told.users is not None
         told.users.refusals = [Refusal("drop:max", "@0", 1)]
-        for text in ("\n".join(read_page(pages.page_of(told, subject(), [], "d")).text), told.to_text()):
+        for text in ("\n".join(read_page(report_page.page_of(told, subject(), [], "d")).text), text_of(told)):
             self.assertIn("@0 pf.conf:41, max 5", text)
             self.assertIn("pf.conf:1, set limit states 50", text)
             self.assertIn("set skip on em1 (pf.conf:2): pf passes all packets there, and asks no rule: 3 records", text)
@@ -210,20 +213,20 @@ class Pages(unittest.TestCase):
             self.assertIn("a forwarded connection holds two states in pf", text)
 
     def test_all_served(self) -> None:
-        text = pages.page_of(summary(served=200), subject(), [], "d")
+        text = report_page.page_of(summary(served=200), subject(), [], "d")
         self.assertIn('class="answer good"', text)
         self.assertIn("100 % of the users' connections were served: 200 of 200.", "".join(read_page(text).text))
 
     def test_no_users(self) -> None:
         bare = Summary(3, {"pass": {"-": 3}}, [], {}, End(3, 0, 0, 0))
-        text = pages.page_of(bare, pages.Subject("rules", "trace"), [], "d")
+        text = report_page.page_of(bare, report_page.Subject("rules", "trace"), [], "d")
         self.assertIn("No limit was met.", text)
         self.assertIn("No users were named", text)
 
     def test_without_gnuplot(self) -> None:
         missing = Trouble("gnuplot is not here (Debian package gnuplot-nox)")
         with tempfile.TemporaryDirectory() as folder, mock.patch.object(pictures, "drawn_by_gnuplot", side_effect=missing):
-            written = pages.write_page(Path(folder), summary(), subject())
+            written = report_page.write_page(Path(folder), summary(), subject())
             text = written[0].read_text(encoding="utf-8")
             self.assertEqual([it.name for it in written], ["report.html"])
             self.assertEqual(sorted(it.name for it in Path(folder).iterdir()), ["DIFFERENCES.md", "report.html"])
@@ -236,14 +239,14 @@ class Pages(unittest.TestCase):
                 program.write_text(f"#!/bin/sh\n{script}\n", encoding="utf-8")
                 program.chmod(0o755)
                 with mock.patch.dict(os.environ, PATH=f"{folder}:{os.environ['PATH']}"):
-                    written = pages.write_page(Path(folder), summary(), subject())
+                    written = report_page.write_page(Path(folder), summary(), subject())
                 self.assertEqual([it.name for it in written], ["report.html"])
                 self.assertIn(f"No pictures: {why}.", "".join(read_page(written[0].read_text(encoding="utf-8")).text))
 
     def test_with_pictures(self) -> None:
         drawn = mock.patch.object(pictures, "drawn_by_gnuplot", return_value=DRAWN)
         with tempfile.TemporaryDirectory() as folder, drawn:
-            written = pages.write_page(Path(folder), summary(), subject())
+            written = report_page.write_page(Path(folder), summary(), subject())
             self.assertEqual([it.name for it in written], ["report.html", "held.svg", "states.svg", "users.svg"])
             for path in written[1:]:
                 ElementTree.parse(path)
@@ -252,7 +255,7 @@ class Pages(unittest.TestCase):
     def test_long_rules_are_cut(self) -> None:
         many = summary()
         many.rules = ["pass all"] * 1000
-        text = pages.page_of(many, subject(), [], "d")
+        text = report_page.page_of(many, subject(), [], "d")
         self.assertIn("Not shown: 800 rules that never decided.", text)
 
 
@@ -260,8 +263,8 @@ class Pictures(unittest.TestCase):
     """What gnuplot is told, and what is kept of what it draws."""
 
     def test_script_has_numbers_and_words_of_ours_alone(self) -> None:
-        line = pages.timeline_of(summary("system('x')"))
-        script = pictures.script_of(timelines.made_picture(line, 5.0))
+        line = report_page.timeline_of(summary("system('x')"))
+        script = pictures.script_of(timeline_pictures.made_picture(line, 5.0))
         self.assertNotIn("system", script)
         self.assertIn("noenhanced", script)
         data = [it for it in script.splitlines() if it[:1].isdigit()]
@@ -277,8 +280,8 @@ class Pictures(unittest.TestCase):
         self.assertNotIn("id=", element)
 
     def test_steps_reach_the_end(self) -> None:
-        line = pages.timeline_of(summary())
-        self.assertEqual(timelines.stairs(line, [2.0, 1.0]), ((0.0, 2.0), (1.0, 2.0), (1.0, 1.0), (2.0, 1.0)))
+        line = report_page.timeline_of(summary())
+        self.assertEqual(timeline_pictures.stairs(line, [2.0, 1.0]), ((0.0, 2.0), (1.0, 2.0), (1.0, 1.0), (2.0, 1.0)))
 
     def test_no_svg(self) -> None:
         with self.assertRaisesRegex(Trouble, "no SVG"):

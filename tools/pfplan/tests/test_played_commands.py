@@ -3,8 +3,8 @@
 import json
 import unittest
 
-from ..scenarios.returning import words_of
-from .support import FolderCase, pfplan
+from pfplan.tests.support import FolderCase, pfplan
+from pfplan.traces.scenarios.returning import words_of
 
 SCENARIO = """seconds = 12
 server = "192.0.2.1:80"

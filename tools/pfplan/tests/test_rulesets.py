@@ -8,11 +8,11 @@ import unittest
 from pathlib import Path
 
 from pfplan.__main__ import main
-from pfplan.errors import Trouble
-from pfplan.leftovers import Leftover
-from pfplan.replays import TOP, program
-from pfplan.rulesets import RuleOptions, convert, convert_text
-from pfplan.syntax import Place
+from pfplan.common.errors import Trouble
+from pfplan.common.repository import TOP, program
+from pfplan.pf.conversion import RuleOptions, convert, convert_text
+from pfplan.pf.left_out import Leftover
+from pfplan.pf.statements import Place
 
 
 def text_of(text: str, **more: object) -> str:

@@ -8,11 +8,11 @@ import threading
 import unittest
 from pathlib import Path
 
-from ..errors import Status
-from ..inputs import HEADER
-from ..outputs import whole_folder
-from ..replays import TOP
-from .support import STAND_IN, Done, FolderCase, pfplan
+from pfplan.common.errors import Status
+from pfplan.common.inputs import HEADER
+from pfplan.common.outputs import whole_folder
+from pfplan.common.repository import TOP
+from pfplan.tests.support import STAND_IN, Done, FolderCase, pfplan
 
 USERS = ("--users", "198.51.100.0/24", "--held", "0")
 RECORDS = (

@@ -4,8 +4,8 @@ import subprocess
 import unittest
 from pathlib import Path
 
-from ..replays import program
-from .support import FolderCase, pfplan
+from pfplan.common.repository import program
+from pfplan.tests.support import FolderCase, pfplan
 
 RULES = """set limit states 3
 set timeout { tcp.first 10, interval 1, adaptive.start 0, adaptive.end 0 }

@@ -5,16 +5,16 @@ from collections import Counter
 from collections.abc import Sequence
 from unittest import mock
 
-from .. import sources
-from ..connections import Connections, Refusal, Reply
-from ..errors import Trouble
-from ..records import WORDS, blocks_of_lines
-from ..replays import TOP
-from ..sources import Sources
-from ..summaries import Summary, Users, Wanted, summarize, summarize_blocks
-from ..summary_texts import share
-from ..words import networks
-from .support import FolderCase, pfplan
+from pfplan.answers import sources
+from pfplan.answers.connections import Connections, Refusal, Reply
+from pfplan.answers.sources import Sources
+from pfplan.answers.summaries import Summary, Users, Wanted, summarize, summarize_blocks
+from pfplan.commands.words import networks
+from pfplan.common.errors import Trouble
+from pfplan.common.repository import TOP
+from pfplan.pages.summary_texts import share, text_of
+from pfplan.tests.support import FolderCase, pfplan
+from pfplan.traces.records import WORDS, blocks_of_lines
 
 CASE = TOP / "cases" / "pfplan" / "summary_users"
 USERS = networks("198.51.100.0/24")
@@ -50,7 +50,7 @@ class Summaries(FolderCase):
     def test_small_blocks_say_the_same(self) -> None:
         lines = (CASE / "report").read_text("utf-8").splitlines()
         whole = summarize(CASE / "report", WANTED)
-        with mock.patch("pfplan.records.BLOCK", 64):
+        with mock.patch("pfplan.traces.records.BLOCK", 64):
             self.assertEqual(summarize(CASE / "report", WANTED), whole)
         self.assertEqual(summarize_blocks(([it] for it in lines), "report", WANTED), whole)
         self.assertEqual(summarize_blocks(blocks_of_lines(lines), "report", WANTED), whole)
@@ -69,7 +69,7 @@ class Summaries(FolderCase):
 
     def test_expire(self) -> None:
         summary = summarize(DATA / "expire.report", Wanted(DATA / "expire.trace"))
-        self.assertEqual(summary.to_text(), (DATA / "expire").read_text("utf-8"))
+        self.assertEqual(text_of(summary), (DATA / "expire").read_text("utf-8"))
         self.assertEqual(summary.words()["expire"], sum(summary.answers["expire"].values()))
 
     def test_trace_of_a_pipe(self) -> None:
@@ -96,7 +96,7 @@ class Summaries(FolderCase):
         trace = self.trace(["1,in,em0,udp,203.0.113.1,1000,192.0.2.1,53,", "2,in,em7,udp,203.0.113.1,1000,192.0.2.1,53,"])
         report = self.report(["new @1", "state @1"])
         shown = ["set limit { states 10 }", "table <bad>", "block on em9 all", "pass in on em0 all", 'anchor "a" on ! em3 all {', "pass all", "}"]
-        with mock.patch("pfplan.summaries.show_rules", return_value=shown):
+        with mock.patch("pfplan.answers.summaries.show_rules", return_value=shown):
             summary = summarize(report, Wanted(trace, rules=report))
         self.assertEqual(summary.undecided, [0, 3])
         assert summary.interfaces is not None
@@ -160,7 +160,7 @@ class Fates(FolderCase):
         """The users of a summary; nobody does anything for 100 seconds at its end."""
         quiet = [*records, "100,in,em0,icmp,203.0.113.9,,192.0.2.1,,"]
         report = self.report([*texts, "skip -"])
-        with mock.patch("pfplan.summaries.show_rules", return_value=list(rules or ())):
+        with mock.patch("pfplan.answers.summaries.show_rules", return_value=list(rules or ())):
             summary = summarize(report, Wanted(self.trace(quiet), networks(users), rules=report if rules else None))
         assert summary.users is not None
         return summary.users

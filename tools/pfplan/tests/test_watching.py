@@ -18,15 +18,16 @@ from dataclasses import fields
 from pathlib import Path
 from typing import Any
 
-from ..counting import MOST_STEPS, Answers, Moments, step_of
-from ..errors import Status
-from ..live import Fed, LiveMoments
-from ..records import Record, read_record, records
-from ..replays import TOP
-from ..screens import Shown, View, plain_lines, screen_lines
-from ..records import End
-from .packets import ETHERNET, ethernet, head, seen
-from .support import Done, FolderCase, heed_interrupts, pfplan
+from pfplan.answers.counting import Answers, Moments
+from pfplan.answers.live_counts import Fed, LiveMoments
+from pfplan.answers.watching import Shown, View
+from pfplan.common.errors import Status
+from pfplan.common.repository import TOP
+from pfplan.pages.screens import plain_lines, screen_lines
+from pfplan.tests.packets import ETHERNET, ethernet, head, seen
+from pfplan.tests.support import Done, FolderCase, heed_interrupts, pfplan
+from pfplan.traces.moments import MOST_STEPS, step_of
+from pfplan.traces.records import End, Record, read_record, records
 
 CONF = """
 set limit states 60

@@ -1,0 +1,56 @@
+"""The command `compare`: rulesets under one trace or one scenario, side by side."""
+
+import argparse
+import contextlib
+import json
+
+from pfplan.answers.comparisons import compare, names_of
+from pfplan.commands.play import compare_plays
+from pfplan.commands.run_words import add_asked
+from pfplan.commands.words import file, number
+from pfplan.common.errors import Status, Trouble
+from pfplan.common.inputs import check_rules, regular
+from pfplan.common.outputs import whole_file
+from pfplan.common.repository import check_program
+from pfplan.pages import comparison_texts
+from pfplan.traces.entries import entries_of_rules
+from pfplan.traces.scenarios.reading import is_scenario
+
+DESCRIPTION = """Replays one trace under several rulesets and tells how they differ: what became of the users, which limits were met, what is
+held; the first record at which they part and why; how many records had which word in the one and in the other; and which connections
+of users change their fate. The first ruleset is the one that the others are held against. Rules texts are wanted: pfplan rules makes
+one of a pf.conf."""
+
+
+def add_words(parser: argparse.ArgumentParser) -> None:
+    """The words of `compare`."""
+    parser.description = DESCRIPTION
+    parser.add_argument("rules", nargs="+", type=file, metavar="RULES", help="two rules texts or more")
+    parser.add_argument("trace", type=file, metavar="TRACE", help="the trace under which they are replayed, or the scenario that is played against each")
+    add_asked(parser, 0)
+    parser.add_argument("--top", type=number(0, 1000), default=5, metavar="N", help="how many of the connections that change are named (5)")
+    parser.add_argument("--json", action="store_true", help="for machines")
+    parser.add_argument("--out", type=file, metavar="FILE", help="where the text goes (standard output)")
+    parser.add_argument("--page", type=file, metavar="FILE", help="also a page to look at in a browser")
+
+
+def run(arguments: argparse.Namespace) -> int:
+    """Compares rulesets and tells how they differ."""
+    if len(arguments.rules) < 2:
+        raise Trouble("two rules texts or more are wanted, and then a trace (pfplan compare --help)")
+    if is_scenario(arguments.trace):
+        return compare_plays(arguments)
+    check_program()
+    for path in arguments.rules:
+        check_rules(path)
+    with regular(arguments.trace) as trace, contextlib.ExitStack() as stack:
+        paths = [stack.enter_context(regular(it)) for it in arguments.rules]
+        entries = [entries_of_rules(it, name) for it, name in zip(paths, arguments.rules)]
+        found = compare(paths, trace, entries, arguments)
+    found.trace, found.names = arguments.trace.name, names_of(arguments.rules)
+    with whole_file(arguments.out) as out:
+        out.write(json.dumps(found.to_json(), indent=1) + "\n" if arguments.json else comparison_texts.text_of(found))
+    if arguments.page:
+        with whole_file(arguments.page) as out:
+            out.write(comparison_texts.page_of(found))
+    return Status.DONE

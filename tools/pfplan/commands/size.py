@@ -1,0 +1,123 @@
+"""The command `size`: which values of a limit, a maximum or a timeout serve the users, and what is held then."""
+
+from __future__ import annotations
+
+import argparse
+import json
+from collections.abc import Sequence
+from fractions import Fraction
+from pathlib import Path
+
+from pfplan.answers.changed_rules import RulesText
+from pfplan.answers.maps import Map, Pair, grid_of, search
+from pfplan.answers.measures import Measure, from_json
+from pfplan.answers.plays_measured import Subject, users_text
+from pfplan.answers.sizes import checked, size
+from pfplan.commands.run_words import add_asked, add_machine_words, machines_of
+from pfplan.commands.words import file, number, share_word, vary_word
+from pfplan.common.errors import Status, Trouble
+from pfplan.common.inputs import check_rules, check_trace, regular
+from pfplan.common.outputs import whole_file
+from pfplan.common.progress import Progress
+from pfplan.common.repository import check_program
+from pfplan.pages import map_texts, size_texts
+from pfplan.replays.machines import Machines, Runs, measure_words
+from pfplan.traces.entries import entries_of_rules
+from pfplan.traces.scenarios.reading import is_scenario
+
+DESCRIPTION = """Replays a trace, or plays a scenario, with several values of one number, and tells which of them serve the users. Served in a
+scenario is who is served without waiting.
+
+NAME is a number of the scenario (botnet.rate, homes.hosts, seconds), a limit (states, src-nodes, tables, table-entries), a timeout (tcp.first, interval, adaptive.start ..), or a maximum or timeout of
+rules: max-src-conn is that of all rules that state one, @5.max-src-conn that of rule @5. Of max-src-conn-rate the handshakes are varied.
+Values are tried evenly from FROM to TO, and then around each edge where the wanted share begins or ends to be served."""
+
+
+def check_users(arguments: argparse.Namespace, is_played: bool) -> None:
+    """Trouble where it is not told who the users are, or told twice."""
+    if is_played and arguments.users:
+        raise Trouble(f"--users: {arguments.trace} is a scenario, which says itself who the users are")
+    if not is_played and not arguments.users:
+        raise Trouble("--users: whose connections are to be served? (networks, split by commas)")
+
+
+def add_words(parser: argparse.ArgumentParser) -> None:
+    """The words of `size`."""
+    parser.description = DESCRIPTION
+    parser.add_argument("rules", type=file, metavar="RULES", help="a rules text")
+    parser.add_argument("trace", type=file, metavar="TRACE", help="the trace under which it is replayed, or the scenario that is played")
+    parser.add_argument(
+        "--vary", type=vary_word, required=True, action="append", metavar="NAME=FROM..TO", help="the number, and its bounds; given twice it makes a map",
+    )  # fmt: skip
+    parser.add_argument("--want", type=share_word, default=Fraction(99, 100), metavar="SHARE", help="of the users' connections, as 99%% (99%%)")
+    add_asked(parser, 8)
+    parser.add_argument("--grid", type=number(2, 1000), default=9, metavar="N", help="values at first (9)")
+    parser.add_argument("--runs", type=number(2, 10000), default=60, metavar="N", help="values at most (60)")
+    parser.add_argument("--json", action="store_true", help="for machines")
+    parser.add_argument("--out", type=file, metavar="FILE", help="where the text goes (standard output)")
+    parser.add_argument("--page", type=file, metavar="FILE", help="also a page to look at in a browser")
+    add_machine_words(parser)
+
+
+def run(arguments: argparse.Namespace) -> int:
+    """Tries values and tells which serve the users."""
+    is_played = is_scenario(arguments.trace)
+    check_users(arguments, is_played)
+    if len(arguments.vary) > 2 or len({it.name for it in arguments.vary}) != len(arguments.vary):
+        raise Trouble("--vary: one number, or two different ones for a map")
+    where = machines_of(arguments)
+    check_program()
+    check_rules(arguments.rules)
+    if not is_played:
+        check_trace(arguments.trace)
+    with regular(arguments.rules) as rules, regular(arguments.trace) as trace:
+        subject = Subject(RulesText(rules), arguments.trace if is_played else None)
+        if not where.is_here:
+            subject.check_elsewhere()
+        entries = entries_of_rules(rules, arguments.rules)
+        if len(arguments.vary) == 2:
+            return run_map(subject, trace, where, entries, arguments)
+        found = size(subject, trace, where, entries, arguments)
+    if not any(it.connections for it in found.measures.values()):
+        raise Trouble(f"{arguments.trace}: no connection of the users {found.users} is in it; --users names their networks", Status.REFUSED)
+    with whole_file(arguments.out) as out:
+        out.write(json.dumps(found.to_json(), indent=1) + "\n" if arguments.json else size_texts.text_of(found))
+    if arguments.page:
+        with whole_file(arguments.page) as out:
+            out.write(size_texts.page_of(found))
+    return Status.DONE
+
+
+def run_map(
+    subject: Subject, trace: Path, where: Machines, entries: Sequence[str], arguments: argparse.Namespace
+) -> Status:
+    """Makes a map, and tells it."""
+    varied = (checked(arguments.vary[0], subject), checked(arguments.vary[1], subject))
+    first, second = (grid_of(vary, it.value, arguments.grid) for vary, it in zip(arguments.vary, varied))
+    done = 0
+    with Runs(where, trace, measure_words(arguments.users, arguments.held), entries) as runs:
+
+        def measure(pairs: Sequence[Pair]) -> list[Measure]:
+            nonlocal done
+            progress = Progress("size", done + len(pairs), "runs so far")
+            progress.at(done)
+            try:
+                lines = runs.measure(
+                    [subject.text_of({varied[0]: one, varied[1]: other}) for one, other in pairs], progress
+                )
+            finally:
+                progress.finish()
+            done += len(pairs)
+            return [from_json(it) for it in lines]
+
+        measures, is_cut = search((first, second), arguments.want, arguments.runs, measure)
+    users = users_text(subject.scenario) if subject.scenario else ",".join(map(str, arguments.users))
+    if not any(it.connections for it in measures.values()):
+        raise Trouble(f"{arguments.trace}: no connection of the users {users} is in it", Status.REFUSED)
+    found = Map(arguments.trace.name, users, varied, arguments.want, measures, (first, second), is_cut)
+    with whole_file(arguments.out) as out:
+        out.write(json.dumps(found.to_json(), indent=1) + "\n" if arguments.json else map_texts.text_of(found))
+    if arguments.page:
+        with whole_file(arguments.page) as out:
+            out.write(map_texts.page_of(found))
+    return Status.DONE

@@ -1,0 +1,87 @@
+"""Readers of the words that several commands take, for argparse."""
+
+import argparse
+import ipaddress
+import re
+from collections.abc import Callable
+from fractions import Fraction
+from pathlib import Path
+
+from pfplan.answers.sizes import Vary
+from pfplan.common.networks import Network, interface_name
+
+
+def number(least: int, most: int) -> Callable[[str], int]:
+    """A reader of numbers from `least` to `most`, for argparse."""
+
+    def read(text: str) -> int:
+        if not re.fullmatch(r"[0-9]{1,10}", text):
+            raise argparse.ArgumentTypeError(f"'{text}' is no number")
+        if not least <= int(text) <= most:
+            raise argparse.ArgumentTypeError(f"'{text}' is not from {least} to {most}")
+        return int(text)
+
+    return read
+
+
+def one_of(*names: str) -> Callable[[str], str]:
+    """A reader of one of some names, for argparse."""
+
+    def read(text: str) -> str:
+        if text not in names:
+            raise argparse.ArgumentTypeError(f"'{text}' is none of {', '.join(names)}")
+        return text
+
+    return read
+
+
+def network(text: str) -> Network:
+    """A reader of a prefix of either family, for argparse; bits past its length are cleared."""
+    try:
+        return ipaddress.ip_network(text, strict=False)
+    except ValueError:
+        raise argparse.ArgumentTypeError(f"'{text}' is no prefix") from None
+
+
+def networks(text: str) -> tuple[Network, ...]:
+    """A reader of prefixes that are split by commas, for argparse."""
+    found = tuple(network(it) for it in re.split(r"[ ,]+", text) if it)
+    if not found:
+        raise argparse.ArgumentTypeError(f"'{text}' is no prefix")
+    return found
+
+
+def interface(text: str) -> str:
+    """A reader of a name that an interface may have in a trace, for argparse."""
+    try:
+        return interface_name(text)
+    except ValueError as error:
+        raise argparse.ArgumentTypeError(str(error)) from None
+
+
+def file(text: str) -> Path:
+    """A reader of a file's name, for argparse."""
+    if not text:
+        raise argparse.ArgumentTypeError("an empty name of a file")
+    # a path forgets the folder of ./-, which is a file and not standard input
+    return Path.cwd() / "-" if text != "-" and Path(text) == Path("-") else Path(text)
+
+
+def share_word(text: str) -> Fraction:
+    """A reader of a share for argparse: `99%`, `99.5%` or `99`."""
+    if not re.fullmatch(r"[0-9]{1,3}(\.[0-9]{1,6})? ?%?", text):
+        raise argparse.ArgumentTypeError(f"'{text}' is no share, as 99%")
+    share = Fraction(text.rstrip("% ")) / 100
+    if share > 1:
+        raise argparse.ArgumentTypeError(f"'{text}' is more than 100%")
+    return share
+
+
+def vary_word(text: str) -> Vary:
+    """A reader of `NAME=FROM..TO` for argparse."""
+    found = re.fullmatch(r"([@A-Za-z0-9_.-]{1,128})=([0-9]{1,10})\.\.([0-9]{1,10})", text)
+    if not found:
+        raise argparse.ArgumentTypeError(f"'{text}' is not NAME=FROM..TO, as states=500..5000")
+    if int(found[2]) >= int(found[3]):
+        raise argparse.ArgumentTypeError(f"'{text}': {found[3]} is not above {found[2]}")
+    return Vary(found[1], int(found[2]), int(found[3]))
