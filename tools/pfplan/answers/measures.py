@@ -109,7 +109,7 @@ def most_of(held: Sequence[Held], end: End) -> int | None:
 def measure(rules: Path, trace: Path, users: Sequence[Network], moments: int, entries: Sequence[str] = ()) -> Measure:
     """Replays a trace and counts it. Rules that the program refuses are a measure that says why.
 
-    It is asked at so many moments how many states are held. `entries` are those that come by records (entries.py).
+    It is asked at so many moments how many states are held. `entries` are those that come by records (traces/entries.py).
     """
     with asking(trace, moments, entries) as asked:
         return measure_asked(rules, trace, users, asked)

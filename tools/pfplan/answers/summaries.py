@@ -155,7 +155,7 @@ def summarize(report: Path, wanted: Wanted) -> Summary:
 
 
 def summarize_blocks(blocks: Iterable[list[str]], name: Path | str, wanted: Wanted) -> Summary:
-    """Sums up the lines of a report as they come (records.blocks_of_lines, replays.stream_report); `name` stands in messages."""
+    """Sums up the lines of a report as they come (records.blocks_of_lines, runs.stream_report); `name` stands in messages."""
     shown = show_rules(wanted.rules) if wanted.rules else []
     texts = items_of(shown)
     answers = Answers(name, len(texts) if wanted.rules else None)
@@ -251,7 +251,7 @@ def held_at(rules: Path, trace: Path, count: int, entries: Sequence[str] = ()) -
     """What is held at so many moments of a trace, evenly from its first to its last.
 
     A report does not tell when states run out, so the program is asked in a replay of its own, with records that are put into the trace.
-    `entries` are those that come by records (entries.py).
+    `entries` are those that come by records (traces/entries.py).
     """
     with asking(trace, count, entries) as asked:
         heard = asked.heard(rules)

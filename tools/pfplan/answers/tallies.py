@@ -142,7 +142,7 @@ def tally(
     numbers: Rows | None,
     name: str,
 ) -> Side:
-    """Counts the records of a trace (trace_texts) and its report (replays.stream_texts) to their ends, as
+    """Counts the records of a trace (trace_texts) and its report (runs.stream_texts) to their ends, as
     `sides.follow` does of one side.
 
     Trouble as there.

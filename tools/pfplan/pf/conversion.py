@@ -39,7 +39,7 @@ class RuleOptions:
     ifconfig: Path | None = None
     root: Path | None = None
     strict: bool = False
-    by_records: bool = False  # whether tables may get entries by records (entries.py)
+    by_records: bool = False  # whether tables may get entries by records (traces/entries.py)
 
 
 @dataclass(frozen=True)
@@ -47,7 +47,7 @@ class Ruleset:
     """A rules text, the label and the place of each of its items by number, and what was left out of the pf.conf.
 
     The items in `skipped` stand for `set skip`, and come before all others. `limits` has the place of each limit for all rules.
-    `records` are those by which tables get their entries before the first packet (entries.py); the text names them.
+    `records` are those by which tables get their entries before the first packet (traces/entries.py); the text names them.
     `pf_rules` are all rules and anchors as pf numbers them, also those that the rules text has not; behind `guessed`, where that is a place,
     the numbers may be others.
     """

@@ -1,4 +1,4 @@
-"""What a pf.conf says, statement by statement: the values that grammar.py makes and expansion.py takes."""
+"""What a pf.conf says, statement by statement: the values that reading_statements.py makes and expansion.py takes."""
 
 import enum
 from dataclasses import dataclass, field

@@ -24,7 +24,7 @@ from pfplan.traces.scenarios.returning import Answer
 
 @dataclass(frozen=True)
 class Task:
-    """A scenario under a rules text. `entries` are records by which its tables get theirs (entries.py).
+    """A scenario under a rules text. `entries` are records by which its tables get theirs (traces/entries.py).
 
     The trace that comes of it and its report are kept where they have a name.
     """
