@@ -1,8 +1,8 @@
 """A rules text with some of its numbers changed: its limits, its timeouts, and the maxima and timeouts of its rules.
 
-A limit or a timeout for all rules is changed by a `set` at the end of the text, which replaces an earlier one (pf.conf(5), OPTIONS); so what
-pf derives from it, as the adaptive values from the `states` limit, follows. A number of a rule is changed in the canonical text, which reads
-as the same configuration.
+A limit or a timeout for all rules is changed by a `set` at the end of the text, which replaces an earlier one
+(pf.conf(5), OPTIONS); so what pf derives from it, as the adaptive values from the `states` limit, follows. A number of
+a rule is changed in the canonical text, which reads as the same configuration.
 """
 
 import difflib
@@ -34,7 +34,8 @@ class Kind(enum.Enum):
 
 @dataclass(frozen=True)
 class Number:
-    """A number of a rules text: `states`, `tcp.first`, `max-src-conn`. `rules` are the rules that state it; none where it is for all rules.
+    """A number of a rules text: `states`, `tcp.first`, `max-src-conn`. `rules` are the rules that state it; none where
+    it is for all rules.
 
     `period` is `/60` for a rate of so many handshakes in 60 seconds, of which the number is that of handshakes.
     """
@@ -108,7 +109,8 @@ class RulesText:
         return found
 
     def find(self, name: str) -> Number:
-        """The number of a name: `states`, `tcp.first`, `max-src-conn` (of all rules that state it), `@5.max-src-conn` (of that rule).
+        """The number of a name: `states`, `tcp.first`, `max-src-conn` (of all rules that state it), `@5.max-src-conn`
+        (of that rule).
 
         Of several rules the first one's value is told. Trouble with status 2 where the text has no such number.
         """
@@ -117,21 +119,31 @@ class RulesText:
             return settings[name]
         place = re.fullmatch(r"@(\d{1,5})\.(.+)", name)
         options = self.options()
-        found = [it for it in options if (it.name == place[2] and it.rules == (int(place[1]),) if place else it.name == name)]
+        found = [
+            it for it in options if (it.name == place[2] and it.rules == (int(place[1]),) if place else it.name == name)
+        ]
         if found:
             return Number(found[0].name, found[0].value, tuple(it.rules[0] for it in found), found[0].period)
         known = [*settings, *dict.fromkeys(it.name for it in options), *(f"@{it.rules[0]}.{it.name}" for it in options)]
         near = difflib.get_close_matches(name, known, 1)
         if place is None and name in MAXIMA:
             stated = ", ".join(dict.fromkeys(it.name for it in options if it.name in MAXIMA))
-            raise Trouble(f"{self.path}: no rule states {name}; --vary takes {stated + ', ' if stated else ''}a limit as states, or a timeout as tcp.first")
-        raise Trouble(f"{self.path}: no number is named '{name}'" + (f"; is {near[0]} meant?" if near else f"; there are {', '.join(known)}"))
+            raise Trouble(
+                f"{self.path}: no rule states {name}; --vary takes {stated + ', ' if stated else ''}a limit as states, "
+                "or a timeout as tcp.first"
+            )
+        raise Trouble(
+            f"{self.path}: no number is named '{name}'"
+            + (f"; is {near[0]} meant?" if near else f"; there are {', '.join(known)}")
+        )
 
     def changed(self, values: Mapping[Number, int]) -> bytes:
         """The rules text in which the numbers have these values."""
         wanted = {(rule, number.name): value for number, value in values.items() for rule in number.rules}
         text = "\n".join(self._changed_lines(wanted)) if wanted else self._text
-        lines = _settings_text({number.name: value for number, value in values.items() if not number.rules}, self.settings())
+        lines = _settings_text(
+            {number.name: value for number, value in values.items() if not number.rules}, self.settings()
+        )
         return (text + "\n\n" + lines).encode("latin-1")
 
     def _changed_lines(self, wanted: Mapping[tuple[int, str], int]) -> list[str]:
@@ -169,7 +181,9 @@ def _with_options(line: str, values: Mapping[str, int]) -> str:
     parts = []
     for option in found[2].split(", "):
         number = _number_of(option, 0)
-        parts.append(f"{number.name} {values[number.name]}{number.period}" if number and number.name in values else option)
+        parts.append(
+            f"{number.name} {values[number.name]}{number.period}" if number and number.name in values else option
+        )
     return f"{found[1]}{', '.join(parts)})"
 
 

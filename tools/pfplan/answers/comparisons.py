@@ -33,7 +33,8 @@ class Parting:
 
 @dataclass(frozen=True)
 class Changed:
-    """A connection of a user whose fate is another under the second ruleset. `-`: there it is no connection of its own."""
+    """A connection of a user whose fate is another under the second ruleset. `-`: there it is no connection of its
+    own."""
 
     key: Key
     row: int
@@ -71,7 +72,12 @@ class Comparison:
     def to_json(self) -> dict[str, Any]:
         """The numbers for machines (tools/README.md)."""
         sides = [{"rules": name, **it.to_json()} for name, it in zip(self.names, self.measures)]
-        return {"trace": self.trace, "users": self.users, "sides": sides, "against_first": [_against_json(it) for it in self.against]}
+        return {
+            "trace": self.trace,
+            "users": self.users,
+            "sides": sides,
+            "against_first": [_against_json(it) for it in self.against],
+        }
 
 
 def _against_json(against: Against) -> dict[str, Any]:
@@ -85,7 +91,8 @@ def _against_json(against: Against) -> dict[str, Any]:
 
 
 class Fates:
-    """Puts together what became of each connection under the rulesets. A connection is told by its ends and the row of its first packet."""
+    """Puts together what became of each connection under the rulesets. A connection is told by its ends and the row of
+    its first packet."""
 
     def __init__(self, sides: int, most: int) -> None:
         self._sides = sides
@@ -129,7 +136,9 @@ class Fates:
 class Pairs:
     """Counts, block by block, how the words of each side go with those of the first, and notes where they part."""
 
-    def __init__(self, sides: Sequence[Side], rules: Sequence[Sequence[str]], progress: Progress, steps: Sequence[Steps] = ()) -> None:
+    def __init__(
+        self, sides: Sequence[Side], rules: Sequence[Sequence[str]], progress: Progress, steps: Sequence[Steps] = ()
+    ) -> None:
         self._sides = sides
         self._rules = rules
         self._progress = progress
@@ -174,8 +183,11 @@ def names_of(paths: Sequence[Path]) -> list[str]:
     return names if len(set(names)) == len(names) else [str(it) for it in paths]
 
 
-def compare(paths: Sequence[Path], trace: Path, entries: Sequence[Sequence[str]], arguments: argparse.Namespace) -> Comparison:
-    """Replays the trace under each ruleset, all at once. `entries` are those of each that come by records. Trouble as the program's own for each."""
+def compare(
+    paths: Sequence[Path], trace: Path, entries: Sequence[Sequence[str]], arguments: argparse.Namespace
+) -> Comparison:
+    """Replays the trace under each ruleset, all at once. `entries` are those of each that come by records. Trouble as
+    the program's own for each."""
     names = names_of(paths)
     shown = [show_rules(it) for it in paths]
     rules = [items_of(it) for it in shown]
@@ -190,7 +202,8 @@ def compare(paths: Sequence[Path], trace: Path, entries: Sequence[Sequence[str]]
         told = [steps[at].told if steps else None for at in range(len(paths))]
         flushes = [flushes_of(it) for it in rules]
         sides = [
-            side_of(name, reports[at], arguments.users, fates.ended(at), told[at], flushes[at], asked[at].numbers) for at, name in enumerate(names)
+            side_of(name, reports[at], arguments.users, fates.ended(at), told[at], flushes[at], asked[at].numbers)
+            for at, name in enumerate(names)
         ]
         pairs = Pairs(sides, rules, progress, steps)
         follow(trace, sides, arguments.users, pairs.take)
@@ -198,11 +211,23 @@ def compare(paths: Sequence[Path], trace: Path, entries: Sequence[Sequence[str]]
     measures = [measure_of(side, most_of(it.held, measure_of(side).end)) for side, it in zip(sides, heard)]
     lines_of = [[*lines, *([mark_of(it)] if it else [])] for lines, it in zip(shown, entries)]
     against = [
-        Against(pairs.texts[at], pairs.partings[at], fates.counts[at], fates.changed[at], _only(lines_of[0], lines_of[at + 1]))
+        Against(
+            pairs.texts[at],
+            pairs.partings[at],
+            fates.counts[at],
+            fates.changed[at],
+            _only(lines_of[0], lines_of[at + 1]),
+        )
         for at in range(len(paths) - 1)
     ]
     lines = [
-        timeline_of(it.steps, it.seconds, [(at.moment, at.states) for at in said.held], it.first, any(one.connections for one in measures))
+        timeline_of(
+            it.steps,
+            it.seconds,
+            [(at.moment, at.states) for at in said.held],
+            it.first,
+            any(one.connections for one in measures),
+        )
         for it, said in zip(steps, heard)
     ]
     return Comparison(trace.name, ",".join(map(str, arguments.users)), names, measures, against, arguments.held, lines)

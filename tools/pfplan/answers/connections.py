@@ -1,4 +1,5 @@
-"""What became of the connections of users: each is followed from its first packet through the answers that its packets got.
+"""What became of the connections of users: each is followed from its first packet through the answers that its packets
+got.
 
 A connection is of who began it: with a SYN, and for other protocols with its first packet. That of a user is
   served      its handshake went through, and every packet of it up to the first FIN or RST
@@ -26,10 +27,12 @@ MEANINGS = {
     "cut": "let in, and lost their state before their end",
     "late": "cut by the end of the trace: begun in its last 3 seconds",
 }
-# Seconds before the end of a trace in which a missing answer says nothing. A client repeats its SYN after 1 second and after 2 more
+# Seconds before the end of a trace in which a missing answer says nothing. A client repeats its SYN after 1 second and
+# after 2 more
 # (RFC 6298, 2), so an answer to the first or the second may come within 3.
 LAST_SECONDS = 3
-# Connections that are over are remembered up to this number, so that their last packets are not taken for those of others.
+# Connections that are over are remembered up to this number, so that their last packets are not taken for those of
+# others.
 REMEMBERED = 100_000
 
 
@@ -86,7 +89,8 @@ BAD = frozenset(("block", "drop:max", "drop:max-src-nodes", "drop:src-nodes", "d
 
 @dataclass(frozen=True, slots=True)
 class Reply:
-    """What a line of a report says of a record: its word, `@N` or `-`, and of a kill the word of the overload and the states killed."""
+    """What a line of a report says of a record: its word, `@N` or `-`, and of a kill the word of the overload and the
+    states killed."""
 
     word: str
     rule: str = "-"
@@ -105,7 +109,8 @@ class Entering:
 
 @dataclass(slots=True)
 class Refusal:
-    """Connections that were refused by one word of one rule. `entered` of them are of sources that a kill had put into a table before.
+    """Connections that were refused by one word of one rule. `entered` of them are of sources that a kill had put into
+    a table before.
 
     `by` is the word and the rule of those kills; `first` and `last` are their moments.
     """
@@ -143,7 +148,8 @@ class _Connection:
     refusal: tuple[str, str] = ("", "")  # the word and the rule that refused it
     entering: Entering | None = None
     places: tuple[tuple[str, str], ...] = ()  # directions and interfaces on which a packet of who began it came through
-    # its states, by whether their first packet went in from who began it: the rule of each, and the source that it counts for
+    # its states, by whether their first packet went in from who began it: the rule of each, and the source that it
+    # counts for
     states: dict[bool, tuple[str, str]] = field(default_factory=dict)
 
     def outcome(self, last: int) -> str:
@@ -157,10 +163,11 @@ class _Connection:
 class Connections:
     """Follows the connections of users, and counts those whose end is known.
 
-    `told(begin, outcome)` is called for each that is over, and `ended(key, first row, outcome)`, which tells it from all others. Memory
-    grows with the connections that are open at a time. `flushes` says of the rules with `flush`, by `@N`, whether it is `flush global`;
-    None where the rules are not known: a kill of several states is then taken for `flush`, unless that source has fewer by the rule.
-    `remembered` of those that are over are kept at least, and twice as many at most.
+    `told(begin, outcome)` is called for each that is over, and `ended(key, first row, outcome)`, which tells it from
+    all others. Memory grows with the connections that are open at a time. `flushes` says of the rules with `flush`, by
+    `@N`, whether it is `flush global`; None where the rules are not known: a kill of several states is then taken for
+    `flush`, unless that source has fewer by the rule. `remembered` of those that are over are kept at least, and twice
+    as many at most.
     """
 
     def __init__(
@@ -200,7 +207,9 @@ class Connections:
         word = reply.word
         is_first = "S" in flags and "A" not in flags if is_tcp else flow is None
         if flow is None or is_first and flow.state not in ("open", "refused"):
-            flow = self._begin(key, _Connection(int(column[0]), row, self._begun_by(source, is_first), is_tcp, is_low), reply)
+            flow = self._begin(
+                key, _Connection(int(column[0]), row, self._begun_by(source, is_first), is_tcp, is_low), reply
+            )
             is_mine = True
         else:
             is_mine = is_low == flow.is_low
@@ -234,7 +243,9 @@ class Connections:
             return
         left = reply.killed - 1  # that of the record itself has been seen
         for flow in sorted((it for it in self._flows_of(source) if it.state == "open"), key=lambda it: -it.row):
-            mine = {side for side, (rule, of) in flow.states.items() if of == source and (is_global or rule == reply.rule)}
+            mine = {
+                side for side, (rule, of) in flow.states.items() if of == source and (is_global or rule == reply.rule)
+            }
             if mine and left > 0:
                 left -= len(mine)
                 flow.state = "killed"
@@ -253,7 +264,8 @@ class Connections:
         self._of_source.clear()
 
     def _begun_by(self, source: str, is_first: bool) -> str:
-        """The state of a connection whose first packet in the trace is of this source: it is of a user, or not to be counted."""
+        """The state of a connection whose first packet in the trace is of this source: it is of a user, or not to be
+        counted."""
         if not is_first:
             self.without_beginning += 1
             return "stray"
@@ -280,7 +292,9 @@ class Connections:
         flow.refusal = (reply.word, reply.rule)
         flow.entering = self._entered.get(flow.key[1]) if reply.word == "block" else None
 
-    def _go_on(self, flow: _Connection, reply: Reply, column: Sequence[str], is_first: bool, from_beginner: bool) -> None:
+    def _go_on(
+        self, flow: _Connection, reply: Reply, column: Sequence[str], is_first: bool, from_beginner: bool
+    ) -> None:
         """A packet of a connection that is open. `is_first` is that of a SYN that may begin one."""
         flags = column[8]
         if reply.word in BAD:
@@ -304,18 +318,22 @@ class Connections:
             flow.places += ((direction, interface),)
 
     def _note_state(self, flow: _Connection, key: Key, reply: Reply, side: bool, source: str) -> None:
-        """Which rule made the state that a packet belongs to, and for which source it counts: that of the packet that made it."""
+        """Which rule made the state that a packet belongs to, and for which source it counts: that of the packet that
+        made it."""
         of = source if reply.word == "new" else flow.key[1]
         flow.states = {**flow.states, side: (reply.rule, of)}
         self._of_source.setdefault(of, {})[key] = None
 
     def _flush_of(self, reply: Reply, source: str) -> bool | None:
-        """Whether a kill takes the states of the source by all rules (True) or by its own rule (False); None where it takes no other."""
+        """Whether a kill takes the states of the source by all rules (True) or by its own rule (False); None where it
+        takes no other."""
         if reply.killed < 2:
             return None
         if self._flushes is not None:
             return self._flushes.get(reply.rule)
-        mine = sum(of == source and rule == reply.rule for flow in self._flows_of(source) for rule, of in flow.states.values())
+        mine = sum(
+            of == source and rule == reply.rule for flow in self._flows_of(source) for rule, of in flow.states.values()
+        )
         return mine < reply.killed - 1
 
     def _flows_of(self, source: str) -> Iterator[_Connection]:

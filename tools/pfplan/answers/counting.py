@@ -59,7 +59,8 @@ def _row_begins(first: int, count: int) -> tuple[str, ...]:
 class Answers:
     """Counts the lines of a report: each word by rule, limits with their rows, kills and what overload did.
 
-    `numbers` are those of the rows in the report where records were put into the trace; the counts are by the trace's own rows.
+    `numbers` are those of the rows in the report where records were put into the trace; the counts are by the trace's
+    own rows.
     """
 
     def __init__(self, name: Path | str, items: int | None, numbers: Rows | None = None) -> None:
@@ -75,7 +76,8 @@ class Answers:
         self._known: dict[str, Reply] = {}
 
     def take(self, lines: Sequence[str]) -> list[str]:
-        """Counts the lines of a block, and answers the texts behind the rows' numbers, without that of the last line."""
+        """Counts the lines of a block, and answers the texts behind the rows' numbers, without that of the last
+        line."""
         if self.end is not None and lines:
             self._refuse(self.rows + 2, "a line after the last")
         if len(self._known) > KNOWN:
@@ -111,7 +113,11 @@ class Answers:
     def finish(self, is_partial: bool) -> None:
         """The report is over. Trouble where it has no last line, unless `is_partial`."""
         if self.end is None and not is_partial:
-            why = "no end line: the report is cut, or a fault stopped it (--partial takes it)" if self.rows else "the report is empty"
+            why = (
+                "no end line: the report is cut, or a fault stopped it (--partial takes it)"
+                if self.rows
+                else "the report is empty"
+            )
             self._refuse(self.rows, why)
 
     def _texts(self, lines: Sequence[str]) -> list[str]:
@@ -128,7 +134,9 @@ class Answers:
     def _begins(self, count: int) -> tuple[str, ...]:
         """How the lines of the next rows begin in the report."""
         parts = self._numbers.parts(self.rows + 1, count)
-        return _row_begins(*parts[0]) if len(parts) == 1 else tuple(chain.from_iterable(_row_begins(*it) for it in parts))
+        return (
+            _row_begins(*parts[0]) if len(parts) == 1 else tuple(chain.from_iterable(_row_begins(*it) for it in parts))
+        )
 
     def _slow_texts(self, lines: Sequence[str]) -> list[str]:
         """As `_texts`, of lines that are not plainly those of the rows that follow: says what is wrong with them."""
@@ -207,9 +215,17 @@ class Answers:
 
 
 class Moments:
-    """Counts the records of a trace beside the answers that they got: by the step of their moment, by source and by interface."""
+    """Counts the records of a trace beside the answers that they got: by the step of their moment, by source and by
+    interface."""
 
-    def __init__(self, trace: Traces, answers: Answers, users: Sequence[Network], step: int, flushes: Mapping[str, bool] | None = None) -> None:
+    def __init__(
+        self,
+        trace: Traces,
+        answers: Answers,
+        users: Sequence[Network],
+        step: int,
+        flushes: Mapping[str, bool] | None = None,
+    ) -> None:
         self.first: int | None = None
         self.last = 0
         self.step = step
@@ -240,7 +256,10 @@ class Moments:
     def finish(self, is_whole: bool) -> None:
         """The report is over. Trouble where it is whole and the trace has more records."""
         if is_whole and next(self._lines, None) is not None:
-            raise Trouble(f"{self._trace.name}: row {self._row + 1}: the trace has more records than the report has rows", Status.REFUSED)
+            raise Trouble(
+                f"{self._trace.name}: row {self._row + 1}: the trace has more records than the report has rows",
+                Status.REFUSED,
+            )
         self.connections.finish()
 
     def _ahead(self) -> Iterator[list[str]]:
@@ -263,7 +282,8 @@ class Moments:
         self._row += len(lines)
 
     def _columns(self, lines: Sequence[str]) -> list[list[str]]:
-        """The nine columns of the lines. One split serves all of them: between two lines stands a part that no line holds."""
+        """The nine columns of the lines. One split serves all of them: between two lines stands a part that no line
+        holds."""
         parts = ",\n,".join(lines).split(",")
         if len(parts) != 10 * len(lines) - 1 or parts[9::10].count("\n") != len(lines) - 1:
             self._row += next(i for i, it in enumerate(lines, 1) if it.count(",") != 8)
@@ -356,7 +376,8 @@ class Moments:
 
 
 def _blank_orders(columns: Sequence[list[str]]) -> None:
-    """Takes tables and entries of an administrator's records out of the columns of packets, where they are no interface and no source."""
+    """Takes tables and entries of an administrator's records out of the columns of packets, where they are no interface
+    and no source."""
     for at, direction in enumerate(columns[1]):
         if direction in ORDERS:
             columns[2][at] = columns[4][at] = ""

@@ -1,4 +1,5 @@
-"""Which values are tried between two bounds: a grid first, then values around its edges, where what is wanted begins or ends to hold."""
+"""Which values are tried between two bounds: a grid first, then values around its edges, where what is wanted begins or
+ends to hold."""
 
 from collections.abc import Mapping, Sequence
 from dataclasses import dataclass
@@ -27,7 +28,8 @@ def is_logarithmic(values: Sequence[int]) -> bool:
 
 
 def refined(meets: Mapping[int, bool], between: int) -> list[int]:
-    """Values to try next: up to `between` inside each pair of neighbours of which one meets what is wanted and the other does not.
+    """Values to try next: up to `between` inside each pair of neighbours of which one meets what is wanted and the
+    other does not.
 
     None where all such neighbours are next to one another, or nearer than half a per cent.
     """

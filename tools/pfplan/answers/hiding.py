@@ -9,8 +9,8 @@ _ADDRESS = re.compile(f"{_IPV6}|{_IPV4}")
 
 
 class Hider:
-    """Puts `a1`, `a2` .. in place of addresses, the same for the same address; or leaves them where they may be shown.
-    """
+    """Puts `a1`, `a2` .. in place of addresses, the same for the same address; or leaves them where they may be
+    shown."""
 
     def __init__(self, *, shows: bool) -> None:
         self._shows = shows

@@ -43,7 +43,13 @@ class Margin:
 
     def to_json(self) -> dict[str, Any]:
         """The numbers for machines."""
-        return {"what": self.title, "step": self.step, "values": self.values, "turns": list(self.turns), **self.measure.to_json()}
+        return {
+            "what": self.title,
+            "step": self.step,
+            "values": self.values,
+            "turns": list(self.turns),
+            **self.measure.to_json(),
+        }
 
 
 @dataclass(frozen=True)
@@ -84,8 +90,8 @@ def protocols_of(trace: Path) -> set[str]:
 
 
 def moves_of(text: RulesText, protocols: set[str]) -> Iterator[Move]:
-    """The changes that are tried. Numbers of states of protocols that the trace lacks are left out; so are those that are 0, of which a
-    tenth is nothing, and `tables`, which is asked only when the rules are read."""
+    """The changes that are tried. Numbers of states of protocols that the trace lacks are left out; so are those that
+    are 0, of which a tenth is nothing, and `tables`, which is asked only when the rules are read."""
     settings = {it.name: it for it in text.settings()}
     limits = [it for it in settings.values() if it.kind is Kind.LIMIT and it.name != "tables"]
     times = [it for it in settings.values() if it.kind is Kind.TIMEOUT and _is_asked(it, protocols)]
@@ -93,7 +99,11 @@ def moves_of(text: RulesText, protocols: set[str]) -> Iterator[Move]:
     for number in [*limits, *options, *times]:
         yield from tenths(number)
     interval = settings["interval"].value
-    longer = [it for it in [*settings.values(), *together(text.options())] if it.kind is Kind.TIMEOUT and it.name != "interval"]
+    longer = [
+        it
+        for it in [*settings.values(), *together(text.options())]
+        if it.kind is Kind.TIMEOUT and it.name != "interval"
+    ]
     yield Move(LONGER, f"+{interval} seconds", {it: min(it.bounds[1], it.value + interval) for it in longer})
 
 
@@ -149,7 +159,8 @@ def measure_margins(
     names: tuple[str, str],
     entries: Sequence[str] = (),
 ) -> Margins:
-    """Replays the rules as they are and under each change. `names` are those of trace and rules in what is told, and `entries` come by records.
+    """Replays the rules as they are and under each change. `names` are those of trace and rules in what is told, and
+    `entries` come by records.
 
     Trouble as the program's.
     """
@@ -161,7 +172,9 @@ def measure_margins(
     progress = Progress("margins", len(moves) + 1, "runs")
     with Runs(where, trace, words, entries) as runs:
         try:
-            lines = runs.measure([subject.text_of({}), *(subject.text_of(dict(it.values.items())) for it in moves)], progress)
+            lines = runs.measure(
+                [subject.text_of({}), *(subject.text_of(dict(it.values.items())) for it in moves)], progress
+            )
         finally:
             progress.finish()
     base, *moved = [from_json(it) for it in lines]
@@ -169,6 +182,7 @@ def measure_margins(
         raise Trouble(f"{names[1]}: {base.refused}", Status.RULES)
     told = users_text(subject.scenario) if subject.scenario else ",".join(map(str, users))
     margins = tuple(
-        Margin(it.title, it.step, values_text(it), measure, turns_of(base, measure, want, bool(told))) for it, measure in zip(moves, moved)
+        Margin(it.title, it.step, values_text(it), measure, turns_of(base, measure, want, bool(told)))
+        for it, measure in zip(moves, moved)
     )
     return Margins(names[0], told, want, base, margins)

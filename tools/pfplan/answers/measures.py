@@ -29,7 +29,8 @@ class LimitMet:
 
 @dataclass(frozen=True)
 class Measure:
-    """One replay. `most_held` is the greatest number of states at the moments that were asked for and at the end; None where none were.
+    """One replay. `most_held` is the greatest number of states at the moments that were asked for and at the end; None
+    where none were.
 
     `refused` says why the rules text is refused; then all counts are 0.
     """
@@ -86,7 +87,9 @@ def measure_of(side: Side, most_held: int | None = None) -> Measure:
     answers, connections = side.answers, side.connections
     counts = word_counts(answers)
     limits = tuple(
-        LimitMet(word, answers.limits[word].records, side.met[word].first, side.met[word].last) for word in WORDS if word in answers.limits
+        LimitMet(word, answers.limits[word].records, side.met[word].first, side.met[word].last)
+        for word in WORDS
+        if word in answers.limits
     )
     return Measure(
         records=answers.rows,
@@ -109,7 +112,8 @@ def most_of(held: Sequence[Held], end: End) -> int | None:
 def measure(rules: Path, trace: Path, users: Sequence[Network], moments: int, entries: Sequence[str] = ()) -> Measure:
     """Replays a trace and counts it. Rules that the program refuses are a measure that says why.
 
-    It is asked at so many moments how many states are held. `entries` are those that come by records (traces/entries.py).
+    It is asked at so many moments how many states are held. `entries` are those that come by records
+    (traces/entries.py).
     """
     with asking(trace, moments, entries) as asked:
         return measure_asked(rules, trace, users, asked)
@@ -121,7 +125,9 @@ def measure_asked(rules: Path, trace: Path, users: Sequence[Network], asked: Ask
         flushes = flushes_of(items_of(show_rules(rules))) if users else None
         heard = asked.heard(rules)
         records = trace_texts(trace, asked.plain)
-        side = tally(trace, records, stream_texts(rules, trace, asked, heard), users, flushes, asked.numbers, rules.name)
+        side = tally(
+            trace, records, stream_texts(rules, trace, asked, heard), users, flushes, asked.numbers, rules.name
+        )
     except Trouble as trouble:
         if trouble.status != Status.RULES:
             raise

@@ -1,7 +1,8 @@
-"""Rulesets that are replayed side by side over one trace: the answers of each, and what became of the users' connections under each.
+"""Rulesets that are replayed side by side over one trace: the answers of each, and what became of the users'
+connections under each.
 
-The trace is read once, and each ruleset's report comes from a pipe; memory is that of a block of lines, however long they are. A record is
-taken apart only where it may be one of a user or is the first or last at which a limit was met.
+The trace is read once, and each ruleset's report comes from a pipe; memory is that of a block of lines, however long
+they are. A record is taken apart only where it may be one of a user or is the first or last at which a limit was met.
 """
 
 import ipaddress
@@ -29,7 +30,8 @@ class Met:
 
 @dataclass(slots=True)
 class Side:
-    """One ruleset: the lines of its report as they come, and what is counted of them. `texts` are those of the block that was just read."""
+    """One ruleset: the lines of its report as they come, and what is counted of them. `texts` are those of the block
+    that was just read."""
 
     name: str
     report: Iterator[str]
@@ -48,17 +50,25 @@ def side_of(
     flushes: Mapping[str, bool] | None = None,
     numbers: Rows | None = None,
 ) -> Side:
-    """A ruleset at the beginning of its report. `ended` and `told` hear of each connection of a user that is over, as Connections says.
+    """A ruleset at the beginning of its report. `ended` and `told` hear of each connection of a user that is over, as
+    Connections says.
 
     `flushes` are as Connections takes them, and `numbers` are those of the report's rows, as Answers says.
     """
     return Side(name, report, Answers(name, None, numbers), Connections(users, told or _pass_over, ended, flushes))
 
 
-def follow(trace: Path, sides: Sequence[Side], users: Sequence[Network], each: Callable[[int, Sequence[str]], None] | None = None) -> None:
-    """Reads the trace and the reports to their ends. `each` is told of each block: the row before it, and the lines of its records.
+def follow(
+    trace: Path,
+    sides: Sequence[Side],
+    users: Sequence[Network],
+    each: Callable[[int, Sequence[str]], None] | None = None,
+) -> None:
+    """Reads the trace and the reports to their ends. `each` is told of each block: the row before it, and the lines of
+    its records.
 
-    Trouble where a report is cut or is not of this trace, and as the reports' own where the program refuses rules or trace.
+    Trouble where a report is cut or is not of this trace, and as the reports' own where the program refuses rules or
+    trace.
     """
     row = 0
     picks = Picks(users)
@@ -66,7 +76,11 @@ def follow(trace: Path, sides: Sequence[Side], users: Sequence[Network], each: C
         for side in sides:
             side.texts = side.answers.take(list(islice(side.report, len(lines))))
             if len(side.texts) != len(lines):
-                raise Trouble(f"{trace}: row {row + len(side.texts) + 1}: the trace has more records than the report of {side.name}", Status.REFUSED)
+                raise Trouble(
+                    f"{trace}: row {row + len(side.texts) + 1}: the trace has more records than the report of "
+                    f"{side.name}",
+                    Status.REFUSED,
+                )
             _note_limits(side, row, lines)
         if users:
             last = _moment_of(lines[-1])
@@ -78,13 +92,17 @@ def follow(trace: Path, sides: Sequence[Side], users: Sequence[Network], each: C
         row += len(lines)
     for side in sides:
         if side.answers.take(list(side.report)):
-            raise Trouble(f"{trace}: row {row + 1}: the report of {side.name} has more rows than the trace has records", Status.REFUSED)
+            raise Trouble(
+                f"{trace}: row {row + 1}: the report of {side.name} has more rows than the trace has records",
+                Status.REFUSED,
+            )
         side.answers.finish(False)
         side.connections.finish()
 
 
 class Picks:
-    """Which lines of a trace may be of a user: by the bytes that all addresses of a network of theirs have in common."""
+    """Which lines of a trace may be of a user: by the bytes that all addresses of a network of theirs have in
+    common."""
 
     def __init__(self, users: Sequence[Network]) -> None:
         found = {common_text(it) for it in users}
@@ -101,7 +119,8 @@ class Picks:
         return [at for at, line in enumerate(lines) if any(it in line for it in texts)]
 
     def rows_in(self, text: str, behind: int) -> Iterator[tuple[int, str]]:
-        """The same of a text of whole lines, the first of which is that of the row behind `behind`: rows, and their lines."""
+        """The same of a text of whole lines, the first of which is that of the row behind `behind`: rows, and their
+        lines."""
         if "," in self._texts or len(self._texts) > 1:
             lines = text.split("\n")[:-1]
             yield from ((behind + at + 1, lines[at]) for at in self.of(lines))
@@ -116,7 +135,8 @@ class Picks:
 
 
 def common_text(network: Network) -> str:
-    """What stands in each line of a trace that has an address of the network: `,198.51.100.`, or a colon for IPv6, which is written in many ways."""
+    """What stands in each line of a trace that has an address of the network: `,198.51.100.`, or a colon for IPv6,
+    which is written in many ways."""
     if isinstance(network, ipaddress.IPv6Network):
         return ":"
     first = str(network.network_address).split(".")

@@ -59,7 +59,10 @@ class Sizing:
             "users": self.users,
             "varied": {"name": self.varied.name, "rules": self.varied.rules, "now": self.varied.value},
             "want": float(self.want),
-            "runs": [{"value": value, "meets": self.meets[value], **self.measures[value].to_json()} for value in sorted(self.measures)],
+            "runs": [
+                {"value": value, "meets": self.meets[value], **self.measures[value].to_json()}
+                for value in sorted(self.measures)
+            ],
             "serves": grids.intervals(self.meets),
             "falls_and_rises": [[it.top, it.bottom, it.again] for it in grids.valleys(self.shares)],
             "is_cut": self.is_cut,
@@ -72,7 +75,8 @@ def serves(measure: Measure, want: Fraction) -> bool:
 
 
 def checked(vary: Vary, subject: Subject) -> Number | Amount:
-    """The number that is varied. Trouble where neither the rules nor the scenario have one of that name, or a bound is none that it may have."""
+    """The number that is varied. Trouble where neither the rules nor the scenario have one of that name, or a bound is
+    none that it may have."""
     varied = subject.find(vary.name)
     least, most = varied.bounds
     for bound in (vary.low, vary.high):
@@ -81,8 +85,11 @@ def checked(vary: Vary, subject: Subject) -> Number | Amount:
     return varied
 
 
-def search(vary: Vary, now: int, want: Fraction, first: int, most: int, measure: MeasureMany) -> tuple[dict[int, Measure], bool]:
-    """Tries values, `first` of them evenly and then around edges, at most `most`; and whether more would have told more."""
+def search(
+    vary: Vary, now: int, want: Fraction, first: int, most: int, measure: MeasureMany
+) -> tuple[dict[int, Measure], bool]:
+    """Tries values, `first` of them evenly and then around edges, at most `most`; and whether more would have told
+    more."""
     measured: dict[int, Measure] = {}
     values = grids.first_grid(vary.low, vary.high, min(first, most))
     if vary.low <= now <= vary.high and now not in values and len(values) < most:
@@ -101,8 +108,11 @@ def search(vary: Vary, now: int, want: Fraction, first: int, most: int, measure:
     return measured, False
 
 
-def size(subject: Subject, trace: Path, where: Machines, entries: Sequence[str], arguments: argparse.Namespace) -> Sizing:
-    """Replays the trace, or plays the scenario, for value after value. `entries` are those that come by records. Trouble as the program's own."""
+def size(
+    subject: Subject, trace: Path, where: Machines, entries: Sequence[str], arguments: argparse.Namespace
+) -> Sizing:
+    """Replays the trace, or plays the scenario, for value after value. `entries` are those that come by records.
+    Trouble as the program's own."""
     vary: Vary = arguments.vary[0]
     varied = checked(vary, subject)
     done = 0

@@ -25,7 +25,8 @@ MOST_SERIES = 100_000
 
 @dataclass(slots=True)
 class Users:
-    """What became of the connections of users: how many had which outcome (connections.KINDS), and by what they were refused.
+    """What became of the connections of users: how many had which outcome (connections.KINDS), and by what they were
+    refused.
 
     `connections` are all; those that the end of the trace cut are among them, and count for no share.
     """
@@ -109,7 +110,9 @@ class Summary:
             "limits": [asdict(it) for it in self.limits],
             "overloads": self.overloads,
             "sources": asdict(self.sources),
-            "users": asdict(self.users) | {"counted": self.users.counted, "served": self.users.served} if self.users else None,
+            "users": asdict(self.users) | {"counted": self.users.counted, "served": self.users.served}
+            if self.users
+            else None,
             "series": {"seconds": self.step_seconds, "steps": [_step_json(it) for it in self.steps]},
             "held": [asdict(it) for it in self.held],
             "frames": asdict(self.frames) if self.frames else None,
@@ -132,8 +135,9 @@ class Summary:
 class Wanted:
     """What a summary is made of besides the report, and what it shows.
 
-    `trace` and `rules` are those of the replay; `labels` and `origins` are of items of the rules; `every` is the seconds in a step of the series, 0 for
-    what gives at most 120 steps; `top` is how many sources are named; `is_partial` takes a report without its last line.
+    `trace` and `rules` are those of the replay; `labels` and `origins` are of items of the rules; `every` is the
+    seconds in a step of the series, 0 for what gives at most 120 steps; `top` is how many sources are named;
+    `is_partial` takes a report without its last line.
     """
 
     trace: Path | None = None
@@ -155,7 +159,8 @@ def summarize(report: Path, wanted: Wanted) -> Summary:
 
 
 def summarize_blocks(blocks: Iterable[list[str]], name: Path | str, wanted: Wanted) -> Summary:
-    """Sums up the lines of a report as they come (records.blocks_of_lines, runs.stream_report); `name` stands in messages."""
+    """Sums up the lines of a report as they come (records.blocks_of_lines, runs.stream_report); `name` stands in
+    messages."""
     shown = show_rules(wanted.rules) if wanted.rules else []
     texts = items_of(shown)
     answers = Answers(name, len(texts) if wanted.rules else None)
@@ -183,9 +188,9 @@ def summary_of(answers: Answers, moments: Moments | None, shown: list[str], want
     rules = items_of(shown)
     by_rule = {word: _by_number(answers.by_rule[word]) for word in WORDS if word in answers.by_rule}
     summary = Summary(
-        answers.rows, by_rule, [answers.limits[it] for it in WORDS if it in answers.limits], dict(answers.overloads), answers.end,
-        rules=rules, labels=dict(wanted.labels), undecided=_undecided(rules, by_rule), settings=settings_of(shown),
-        origins=wanted.origins, frames=wanted.frames,
+        answers.rows, by_rule, [answers.limits[it] for it in WORDS if it in answers.limits], dict(answers.overloads),
+        answers.end, rules=rules, labels=dict(wanted.labels), undecided=_undecided(rules, by_rule),
+        settings=settings_of(shown), origins=wanted.origins, frames=wanted.frames,
     )  # fmt: skip
     if moments is None or moments.first is None:
         return summary
@@ -199,7 +204,9 @@ def summary_of(answers: Answers, moments: Moments | None, shown: list[str], want
         summary.users = _users(moments, wanted.users)
     if rules:
         named = {name for it in rules for name in _interfaces(it)}
-        summary.interfaces = Interfaces(sorted(named - moments.interfaces), sorted(moments.interfaces - named) if named else [])
+        summary.interfaces = Interfaces(
+            sorted(named - moments.interfaces), sorted(moments.interfaces - named) if named else []
+        )
     return summary
 
 
@@ -209,8 +216,8 @@ def _users(moments: Moments, users: Sequence[Network]) -> Users:
     refused_by = {it: connections.refused_by[it] for it in WORDS if it in connections.refused_by}
     refusals = sorted(connections.refusals.values(), key=lambda it: (WORDS.index(it.word), -it.connections, it.rule))
     return Users(
-        ",".join(_short(it) for it in users), sum(outcomes.values()), outcomes, refused_by, connections.without_beginning,
-        connections.begun_by_others, refusals,
+        ",".join(_short(it) for it in users), sum(outcomes.values()), outcomes, refused_by,
+        connections.without_beginning, connections.begun_by_others, refusals,
     )  # fmt: skip
 
 
@@ -240,18 +247,27 @@ def _interfaces(rule: str) -> list[str]:
 def _filled(moments: Moments) -> list[Step]:
     """The steps from the first to the last, those too in which nothing came."""
     first = moments.first or 0
-    return [moments.steps.get(it) or Step(first + it * moments.step) for it in range((moments.last - first) // moments.step + 1)]
+    return [
+        moments.steps.get(it) or Step(first + it * moments.step)
+        for it in range((moments.last - first) // moments.step + 1)
+    ]
 
 
 def _step_json(step: Step) -> dict[str, Any]:
-    return {"moment": step.moment, "words": dict(step.words), "killed": step.killed, "tried": step.tried, "outcomes": dict(step.outcomes)}
+    return {
+        "moment": step.moment,
+        "words": dict(step.words),
+        "killed": step.killed,
+        "tried": step.tried,
+        "outcomes": dict(step.outcomes),
+    }
 
 
 def held_at(rules: Path, trace: Path, count: int, entries: Sequence[str] = ()) -> list[Held]:
     """What is held at so many moments of a trace, evenly from its first to its last.
 
-    A report does not tell when states run out, so the program is asked in a replay of its own, with records that are put into the trace.
-    `entries` are those that come by records (traces/entries.py).
+    A report does not tell when states run out, so the program is asked in a replay of its own, with records that are
+    put into the trace. `entries` are those that come by records (traces/entries.py).
     """
     with asking(trace, count, entries) as asked:
         heard = asked.heard(rules)

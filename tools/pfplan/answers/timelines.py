@@ -8,7 +8,8 @@ from pfplan.answers.counting import Step
 
 @dataclass(frozen=True)
 class Moment:
-    """What happened in some seconds from `begin` on, each number a second. `begin` counts from the first moment of the trace."""
+    """What happened in some seconds from `begin` on, each number a second. `begin` counts from the first moment of the
+    trace."""
 
     begin: float
     new: float
@@ -29,8 +30,11 @@ class Timeline:
     has_users: bool
 
 
-def timeline_of(steps: Sequence[Step], seconds: int, held: Sequence[tuple[int, int]], first: int, has_users: bool) -> Timeline:
-    """The run of some steps of so many seconds, and of moments with the states that were held at them; `first` is the trace's first moment."""
+def timeline_of(
+    steps: Sequence[Step], seconds: int, held: Sequence[tuple[int, int]], first: int, has_users: bool
+) -> Timeline:
+    """The run of some steps of so many seconds, and of moments with the states that were held at them; `first` is the
+    trace's first moment."""
     moments = tuple(moment_of(it, first, seconds) for it in steps)
     points = tuple((float(moment - first), float(states)) for moment, states in held)
     return Timeline(moments, points, float(len(steps) * seconds), has_users)
@@ -43,5 +47,6 @@ def moment_of(step: Step, first: int, seconds: int) -> Moment:
     lost = outcomes["killed"] + outcomes["cut"]
     return Moment(
         float(step.moment - first), step.words["new"] / seconds, dropped / seconds, step.killed / seconds,
-        (outcomes["served"] + outcomes["unanswered"] + outcomes["late"]) / seconds, outcomes["refused"] / seconds, lost / seconds,
+        (outcomes["served"] + outcomes["unanswered"] + outcomes["late"]) / seconds, outcomes["refused"] / seconds,
+        lost / seconds,
     )  # fmt: skip

@@ -1,4 +1,5 @@
-"""Rulesets beside the traffic of this minute: records come, each ruleset answers them, and once a second it is shown."""
+"""Rulesets beside the traffic of this minute: records come, each ruleset answers them, and once a second it is
+shown."""
 
 import selectors
 import signal
@@ -27,8 +28,8 @@ from pfplan.traces.records import End
 
 @dataclass(frozen=True)
 class View:
-    """What stands on the screen for one ruleset. `words` are records by word, `new_words` those since the last screen.
-    """
+    """What stands on the screen for one ruleset. `words` are records by word, `new_words` those since the last
+    screen."""
 
     name: str
     held: End
@@ -48,8 +49,8 @@ class View:
 
 @dataclass(frozen=True)
 class Shown:
-    """What is shown of all: seconds since the beginning, the capture's moment, records in all and in the last second.
-    """
+    """What is shown of all: seconds since the beginning, the capture's moment, records in all and in the last
+    second."""
 
     seconds: int
     moment: int | None
@@ -149,7 +150,12 @@ class Watch:
     """The loop: records come, each ruleset answers them, and once a second it is shown."""
 
     def __init__(
-        self, capture: Capture, watched: Sequence[Watched], show: Callable[[Shown], None], trace: TextIO | None, seconds: int
+        self,
+        capture: Capture,
+        watched: Sequence[Watched],
+        show: Callable[[Shown], None],
+        trace: TextIO | None,
+        seconds: int,
     ) -> None:
         self._capture = capture
         self._watched = watched

@@ -16,19 +16,30 @@ from pfplan.pages import comparison_texts
 from pfplan.traces.entries import entries_of_rules
 from pfplan.traces.scenarios.reading import is_scenario
 
-DESCRIPTION = """Replays one trace under several rulesets and tells how they differ: what became of the users, which limits were met, what is
-held; the first record at which they part and why; how many records had which word in the one and in the other; and which connections
-of users change their fate. The first ruleset is the one that the others are held against. Rules texts are wanted: pfplan rules makes
-one of a pf.conf."""
+DESCRIPTION = """Replays one trace under several rulesets and tells how they differ: what became of the users,
+which limits were met, what is held; the first record at which they part and why; how many records had which word in
+the one and in the other; and which connections of users change their fate. The first ruleset is the one that the
+others are held against. Rules texts are wanted: pfplan rules makes one of a pf.conf."""
 
 
 def add_words(parser: argparse.ArgumentParser) -> None:
     """The words of `compare`."""
     parser.description = DESCRIPTION
     parser.add_argument("rules", nargs="+", type=file, metavar="RULES", help="two rules texts or more")
-    parser.add_argument("trace", type=file, metavar="TRACE", help="the trace under which they are replayed, or the scenario that is played against each")
+    parser.add_argument(
+        "trace",
+        type=file,
+        metavar="TRACE",
+        help="the trace under which they are replayed, or the scenario that is played against each",
+    )
     add_asked(parser, 0)
-    parser.add_argument("--top", type=number(0, 1000), default=5, metavar="N", help="how many of the connections that change are named (5)")
+    parser.add_argument(
+        "--top",
+        type=number(0, 1000),
+        default=5,
+        metavar="N",
+        help="how many of the connections that change are named (5)",
+    )
     parser.add_argument("--json", action="store_true", help="for machines")
     parser.add_argument("--out", type=file, metavar="FILE", help="where the text goes (standard output)")
     parser.add_argument("--page", type=file, metavar="FILE", help="also a page to look at in a browser")

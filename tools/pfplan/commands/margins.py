@@ -16,18 +16,27 @@ from pfplan.replays.machines import measure_words
 from pfplan.traces.entries import entries_of_rules
 from pfplan.traces.scenarios.reading import is_scenario
 
-DESCRIPTION = """Replays a trace under the rules, or plays a scenario, and again with each limit, maximum and timeout a tenth lower and a tenth higher, and with
-all timeouts longer by `interval` seconds, as if pf's purge always came last. Tells which answers turn over: whether the wanted share of the
-users is served, and whether each limit is met. Rules that state the same number of one option are moved together."""
+DESCRIPTION = """Replays a trace under the rules, or plays a scenario, and again with each limit, maximum and
+timeout a tenth lower and a tenth higher, and with all timeouts longer by `interval` seconds, as if pf's purge
+always came last. Tells which answers turn over: whether the wanted share of the users is served, and whether each
+limit is met. Rules that state the same number of one option are moved together."""
 
 
 def add_words(parser: argparse.ArgumentParser) -> None:
     """The words of `margins`."""
     parser.description = DESCRIPTION
     parser.add_argument("rules", type=file, metavar="RULES", help="a rules text")
-    parser.add_argument("trace", type=file, metavar="TRACE", help="the trace under which it is replayed, or the scenario that is played")
+    parser.add_argument(
+        "trace", type=file, metavar="TRACE", help="the trace under which it is replayed, or the scenario that is played"
+    )
     add_asked(parser, 0)
-    parser.add_argument("--want", type=share_word, default=Fraction(99, 100), metavar="SHARE", help="of the users' connections, as 99%% (99%%)")
+    parser.add_argument(
+        "--want",
+        type=share_word,
+        default=Fraction(99, 100),
+        metavar="SHARE",
+        help="of the users' connections, as 99%% (99%%)",
+    )
     parser.add_argument("--json", action="store_true", help="for machines")
     parser.add_argument("--out", type=file, metavar="FILE", help="where the text goes (standard output)")
     parser.add_argument("--page", type=file, metavar="FILE", help="also a page to look at in a browser")
@@ -46,7 +55,16 @@ def run(arguments: argparse.Namespace) -> int:
     names = (arguments.trace.name, str(arguments.rules))
     with regular(arguments.rules) as rules, regular(arguments.trace) as trace:
         entries = entries_of_rules(rules, arguments.rules)
-        found = measure_margins(rules, trace, arguments.users, arguments.want, where, measure_words(arguments.users, arguments.held), names, entries)
+        found = measure_margins(
+            rules,
+            trace,
+            arguments.users,
+            arguments.want,
+            where,
+            measure_words(arguments.users, arguments.held),
+            names,
+            entries,
+        )
     with whole_file(arguments.out) as out:
         out.write(json.dumps(found.to_json(), indent=1) + "\n" if arguments.json else margin_texts.text_of(found))
     if arguments.page:

@@ -1,4 +1,5 @@
-"""The command `measure`: one replay in a few numbers, as a line of JSON. It is what `size` and `margins` run, here and on other machines."""
+"""The command `measure`: one replay in a few numbers, as a line of JSON. It is what `size` and `margins` run, here and
+on other machines."""
 
 import argparse
 import contextlib
@@ -15,17 +16,28 @@ from pfplan.common.inputs import Kind, kind_of, regular
 from pfplan.traces.entries import entries_of_rules, read_entries
 from pfplan.traces.insertions import asking
 
-DESCRIPTION = """Replays a trace, or plays a scenario, and prints a line of JSON: records by word, limits that were met and when, what became of the users'
-connections, and what is held. Rules that are refused are told in it, as "refused"."""
+DESCRIPTION = """Replays a trace, or plays a scenario, and prints a line of JSON: records by word, limits that were
+met and when, what became of the users' connections, and what is held. Rules that are refused are told in it, as
+"refused"."""
 
 
 def add_words(parser: argparse.ArgumentParser) -> None:
     """The words of `measure`."""
     parser.description = DESCRIPTION
-    parser.add_argument("rules", type=file, metavar="RULES", help="a rules text; - for those whose names come on standard input, a line each")
+    parser.add_argument(
+        "rules",
+        type=file,
+        metavar="RULES",
+        help="a rules text; - for those whose names come on standard input, a line each",
+    )
     parser.add_argument("trace", type=file, metavar="TRACE", help="the trace to replay, or the scenario to play")
     add_asked(parser, 0)
-    parser.add_argument("--entries", type=file, metavar="FILE", help="entries of tables that come by records (the file that the rules name)")
+    parser.add_argument(
+        "--entries",
+        type=file,
+        metavar="FILE",
+        help="entries of tables that come by records (the file that the rules name)",
+    )
     parser.add_argument("--named", action="store_true", help="the name of the rules before the line")
 
 

@@ -26,8 +26,8 @@ COMMANDS = (
     ("measure", "one replay in a few numbers, as a line of JSON: what size and margins run"),
 )
 ENDS = """The program that replays is ./pfsrc of the repository, or what the environment names as PFSRC.
-Status: 0 done; 1 a trace, a report or a capture is refused; 2 a word of the command line; 3 a pf.conf or a rules text is
-refused; 4 reading or writing failed, or no memory; 70 pfsrc is not there or could not be built; 130 interrupted.
+Status: 0 done; 1 a trace, a report or a capture is refused; 2 a word of the command line; 3 a pf.conf or a rules text
+is refused; 4 reading or writing failed, or no memory; 70 pfsrc is not there or could not be built; 130 interrupted.
 pfplan is tested, not proved. tools/README.md says more."""
 
 
@@ -42,7 +42,9 @@ class Parser(argparse.ArgumentParser):
     def error(self, message: str) -> NoReturn:
         """Trouble with argparse's message, as `--rate: no value`."""
         message = message.removeprefix("argument ")
-        message = message.replace("expected one argument", "no value").replace("expected at least one argument", "no value")
+        message = message.replace("expected one argument", "no value").replace(
+            "expected at least one argument", "no value"
+        )
         message = re.sub(r"^unrecognized arguments: (.*)$", lambda it: self.unknown(it[1]), message)
         raise Trouble(message)
 
@@ -54,7 +56,8 @@ class Parser(argparse.ArgumentParser):
         return f"'{word}': no such word" + (f"; is {near[0]} meant?" if near else "") + f" ({self.prog} --help)"
 
     def parse_known_args(self, args: Any = None, namespace: Any = None) -> Any:
-        """As argparse's, but a word that this command does not know is refused by the command itself, which knows the near ones."""
+        """As argparse's, but a word that this command does not know is refused by the command itself, which knows the
+        near ones."""
         parsed, rest = super().parse_known_args(args, namespace)
         if rest:
             self.error("unrecognized arguments: " + " ".join(rest))
@@ -62,8 +65,13 @@ class Parser(argparse.ArgumentParser):
 
 
 def make_parser(asked: str) -> Parser:
-    """The parser with every command, and with the words of the one that is asked for: the code of no other is loaded."""
-    parser = Parser(prog="pfplan", description="From a pf.conf and a capture, or a scenario, to an answer that one can look at.", epilog=ENDS)
+    """The parser with every command, and with the words of the one that is asked for: the code of no other is
+    loaded."""
+    parser = Parser(
+        prog="pfplan",
+        description="From a pf.conf and a capture, or a scenario, to an answer that one can look at.",
+        epilog=ENDS,
+    )
     commands = parser.add_subparsers(dest="command", metavar="COMMAND", parser_class=Parser)
     for name, does in COMMANDS:
         words = commands.add_parser(name, help=does)
@@ -81,7 +89,9 @@ def parse(words: Sequence[str]) -> argparse.Namespace:
     names = [name for name, _ in COMMANDS]
     if words and not words[0].startswith("-") and words[0] not in names:
         near = difflib.get_close_matches(words[0], names, 1)
-        raise Trouble(f"'{words[0]}': no such command" + (f"; is {near[0]} meant?" if near else f"; there are {', '.join(names)}"))
+        raise Trouble(
+            f"'{words[0]}': no such command" + (f"; is {near[0]} meant?" if near else f"; there are {', '.join(names)}")
+        )
     arguments = parser.parse_args(words)
     if arguments.command is None:
         raise Trouble(f"a command is wanted: {', '.join(names)} (pfplan --help)")

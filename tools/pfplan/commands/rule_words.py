@@ -36,7 +36,9 @@ def _address(text: str) -> tuple[str, Given]:
     is_network = given.ip == given.network.network_address and given.network.prefixlen < given.max_prefixlen - 1
     if is_network and "network" not in name.split(":"):
         plain = name.split(":")[0]
-        raise argparse.ArgumentTypeError(f"'{value}' is a network, and {name} is an address; {plain}:network={value} gives the network of {plain}")
+        raise argparse.ArgumentTypeError(
+            f"'{value}' is a network, and {name} is an address; {plain}:network={value} gives the network of {plain}"
+        )
     return name, given
 
 
@@ -55,16 +57,57 @@ def _file(text: str) -> tuple[str, Path]:
 def add_rule_words(parser: argparse.ArgumentParser) -> None:
     """The words that say what a pf.conf leaves to its machine. `options_of` makes RuleOptions of them."""
     add = parser.add_argument
-    add("--strict", action="store_true", help="stop at the first thing left out that can change an answer, with status 3")
-    add("-D", dest="macros", type=_macro, action="append", default=[], metavar="NAME=VALUE", help="define a macro, which the text does not change")
-    add("--ifconfig", type=file, metavar="FILE", help="what ifconfig prints on the firewall: interfaces, groups, addresses")
+    add(
+        "--strict",
+        action="store_true",
+        help="stop at the first thing left out that can change an answer, with status 3",
+    )
+    add(
+        "-D",
+        dest="macros",
+        type=_macro,
+        action="append",
+        default=[],
+        metavar="NAME=VALUE",
+        help="define a macro, which the text does not change",
+    )
+    add(
+        "--ifconfig",
+        type=file,
+        metavar="FILE",
+        help="what ifconfig prints on the firewall: interfaces, groups, addresses",
+    )
     add(
         "--address", dest="addresses", type=_address, action="append", default=[], metavar="NAME=ADDRESS",
-        help="an address of NAME, as em0, self or a host's name, with its length where NAME:network is asked for; or NAME:network=PREFIX. May stand more than once",
+        help="an address of NAME, as em0, self or a host's name, with its length where NAME:network is asked for; or "
+        "NAME:network=PREFIX. May stand more than once",
     )  # fmt: skip
-    add("--interface", dest="interfaces", type=_interface, action="append", default=[], metavar="GROUP=IF", help="an interface of a group")
-    add("--entries", type=_file, action="append", default=[], metavar="TABLE=FILE", help="the entries of a table, in place of its files; also what pfctl -t TABLE -T show prints")
-    add("--anchor", dest="anchors", type=_file, action="append", default=[], metavar="NAME=FILE", help="the rules of an anchor by name")
+    add(
+        "--interface",
+        dest="interfaces",
+        type=_interface,
+        action="append",
+        default=[],
+        metavar="GROUP=IF",
+        help="an interface of a group",
+    )
+    add(
+        "--entries",
+        type=_file,
+        action="append",
+        default=[],
+        metavar="TABLE=FILE",
+        help="the entries of a table, in place of its files; also what pfctl -t TABLE -T show prints",
+    )
+    add(
+        "--anchor",
+        dest="anchors",
+        type=_file,
+        action="append",
+        default=[],
+        metavar="NAME=FILE",
+        help="the rules of an anchor by name",
+    )
     add("--root", type=file, metavar="FOLDER", help="where files with absolute names are looked for: FOLDER/etc/..")
 
 

@@ -45,7 +45,8 @@ DESCRIPTION = """Makes a rules text and a trace where they are not yet, replays,
   summary.txt, summary.json      counts, and what became of the users
   report.html, *.svg             the answer to look at (pictures where gnuplot is installed)"""
 OURS = (
-    "rules", "rules.entries", "left-out.txt", "trace.csv", "report", "summary.txt", "summary.json", PAGE, DIFFERENCES.name, *FILES.values(),
+    "rules", "rules.entries", "left-out.txt", "trace.csv", "report", "summary.txt", "summary.json", PAGE,
+    DIFFERENCES.name, *FILES.values(),
 )  # fmt: skip
 MOST_MISSING = 5
 # Moments at which the program is asked what is held.
@@ -70,17 +71,62 @@ class Files:
 def add_words(parser: Parser) -> None:
     """The words of the command."""
     parser.description = DESCRIPTION
-    parser.add_argument("rules_from", type=file, metavar="PF.CONF", help="a pf.conf as it stands in /etc, what pfctl -nvf prints, or a rules text; - is standard input")
-    parser.add_argument("capture", type=file, metavar="CAPTURE", help="a capture, also packed by gzip or zstd, a trace, or a scenario, which is played; - is standard input")
-    parser.add_argument("--into", type=file, required=True, metavar="FOLDER", help="the folder; it is made where it is not there")
-    parser.add_argument("--users", type=networks, metavar="PREFIX,..", default=(), help="the networks of the users: says who of them was served")
-    parser.add_argument("--inside", type=networks, metavar="PREFIX,..", action="extend", default=[], help="the networks behind the firewall, as pfplan trace takes them (by --ifconfig)")
-    parser.add_argument("--if", dest="name", type=interface, metavar="NAME", help="the interface of every record of the capture")
-    parser.add_argument("--zero", action="store_true", help="moments of the capture count from that of its first record")
-    parser.add_argument("--held", type=number(0, 10_000), metavar="N", default=MOMENTS, help=f"asks the program how much is held at N moments ({MOMENTS})")
+    parser.add_argument(
+        "rules_from",
+        type=file,
+        metavar="PF.CONF",
+        help="a pf.conf as it stands in /etc, what pfctl -nvf prints, or a rules text; - is standard input",
+    )
+    parser.add_argument(
+        "capture",
+        type=file,
+        metavar="CAPTURE",
+        help="a capture, also packed by gzip or zstd, a trace, or a scenario, which is played; - is standard input",
+    )
+    parser.add_argument(
+        "--into", type=file, required=True, metavar="FOLDER", help="the folder; it is made where it is not there"
+    )
+    parser.add_argument(
+        "--users",
+        type=networks,
+        metavar="PREFIX,..",
+        default=(),
+        help="the networks of the users: says who of them was served",
+    )
+    parser.add_argument(
+        "--inside",
+        type=networks,
+        metavar="PREFIX,..",
+        action="extend",
+        default=[],
+        help="the networks behind the firewall, as pfplan trace takes them (by --ifconfig)",
+    )
+    parser.add_argument(
+        "--if", dest="name", type=interface, metavar="NAME", help="the interface of every record of the capture"
+    )
+    parser.add_argument(
+        "--zero", action="store_true", help="moments of the capture count from that of its first record"
+    )
+    parser.add_argument(
+        "--held",
+        type=number(0, 10_000),
+        metavar="N",
+        default=MOMENTS,
+        help=f"asks the program how much is held at N moments ({MOMENTS})",
+    )
     parser.add_argument("--top", type=number(1, 1000), metavar="N", default=5, help="how many sources are named (5)")
-    parser.add_argument("--margins", action="store_true", help="also tells how sure the answer is, as pfplan margins does, which takes many replays")
-    parser.add_argument("--want", type=share_word, default=Fraction(99, 100), metavar="SHARE", help="of the users' connections: with as many served the answer is a good one (99%%)")
+    parser.add_argument(
+        "--margins",
+        action="store_true",
+        help="also tells how sure the answer is, as pfplan margins does, which takes many replays",
+    )
+    parser.add_argument(
+        "--want",
+        type=share_word,
+        default=Fraction(99, 100),
+        metavar="SHARE",
+        help="of the users' connections: with as many served the answer is a good one (99%%)",
+    )
     parser.add_argument("--partial", action="store_true", help="takes a capture that is cut at its end, up to there")
     add_machine_words(parser)
     add_rule_words(parser)
@@ -97,7 +143,9 @@ def run(arguments: argparse.Namespace) -> int:
     if str(arguments.capture) != "-" and is_scenario(arguments.capture):
         return run_play(arguments)
     with contextlib.ExitStack() as stack:
-        ruleset = convert_named(stack.enter_context(regular(arguments.rules_from)), arguments.rules_from, _options(arguments))
+        ruleset = convert_named(
+            stack.enter_context(regular(arguments.rules_from)), arguments.rules_from, _options(arguments)
+        )
         check_program()
         given = stack.enter_context(regular(arguments.capture))
         capture = stack.enter_context(unpacked(given, name_of(arguments.capture)))
@@ -117,7 +165,9 @@ def _fill(arguments: argparse.Namespace, where: Machines, files: Files, capture:
     files.write("left-out.txt", (f"{it}\n" for it in ruleset.told()))
     trace, frames = _trace(arguments, capture, files)
     held = _replay(files, trace, ruleset.records, arguments.held)
-    wanted = Wanted(trace, arguments.users, files / "rules", ruleset.labels, origins_of(ruleset), frames, top=arguments.top)
+    wanted = Wanted(
+        trace, arguments.users, files / "rules", ruleset.labels, origins_of(ruleset), frames, top=arguments.top
+    )
     summary = summarize(files / "report", wanted)
     summary.held = held
     files.write("summary.txt", [summary_texts.text_of(summary)])
@@ -134,7 +184,14 @@ def _trace(arguments: argparse.Namespace, given: Path, files: Files) -> tuple[Pa
     inside, macs = arguments.inside or machine.inside(), machine.macs(arguments.name or "")
     shown = name_of(arguments.capture)
     account = make_trace(
-        given, inside, files / "trace.csv", name=arguments.name, macs=macs, is_zero=arguments.zero, is_partial=arguments.partial, shown=shown
+        given,
+        inside,
+        files / "trace.csv",
+        name=arguments.name,
+        macs=macs,
+        is_zero=arguments.zero,
+        is_partial=arguments.partial,
+        shown=shown,
     )
     for line in account:
         print(line, file=sys.stderr)
@@ -142,7 +199,8 @@ def _trace(arguments: argparse.Namespace, given: Path, files: Files) -> tuple[Pa
 
 
 def _replay(files: Files, trace: Path, entries: Sequence[str], moments: int) -> list[Held]:
-    """Replays the trace into the folder's report, and answers how much is held at so many moments. `entries` come by records."""
+    """Replays the trace into the folder's report, and answers how much is held at so many moments. `entries` come by
+    records."""
     rules = files / "rules"
     progress = Progress("replay", records_of(trace), "records")
     try:
@@ -154,12 +212,16 @@ def _replay(files: Files, trace: Path, entries: Sequence[str], moments: int) -> 
     return heard.held
 
 
-def _page(arguments: argparse.Namespace, where: Machines, files: Files, trace: Path, ruleset: Ruleset, summary: Summary) -> None:
+def _page(
+    arguments: argparse.Namespace, where: Machines, files: Files, trace: Path, ruleset: Ruleset, summary: Summary
+) -> None:
     names = (Path(name_of(arguments.capture)).name, name_of(arguments.rules_from))
     found = None
     if arguments.margins:
         words = measure_words(arguments.users, 0)
-        found = measure_margins(files / "rules", trace, arguments.users, arguments.want, where, words, names, ruleset.records)
+        found = measure_margins(
+            files / "rules", trace, arguments.users, arguments.want, where, words, names, ruleset.records
+        )
     subject = Subject(names[1], names[0], ruleset.leftovers, ruleset.notes, found, arguments.want)
     write_page(files.folder, summary, subject, arguments.into)
 
@@ -174,10 +236,18 @@ def _tell(arguments: argparse.Namespace, ruleset: Ruleset, summary: Summary) -> 
     users = summary.users
     if users and users.counted:
         served = users.outcomes["served"]
-        print(f"{share_text(served, users.counted)} of the users' connections were served: {served:,} of {users.counted:,}")
+        print(
+            f"{share_text(served, users.counted)} of the users' connections were served: {served:,} of "
+            f"{users.counted:,}"
+        )
     for line in frame_lines(summary.frames) if summary.frames else ():
         print(line)
     doubts = sum(it.changes_answer for it in ruleset.leftovers)
     if doubts:
-        print(printable(f"left out of {name_of(arguments.rules_from)}: {doubts} that can change this answer ({arguments.into / 'left-out.txt'})"))
+        print(
+            printable(
+                f"left out of {name_of(arguments.rules_from)}: {doubts} that can change this answer "
+                f"({arguments.into / 'left-out.txt'})"
+            )
+        )
     print(printable(str(arguments.into / PAGE)))

@@ -25,12 +25,14 @@ from pfplan.replays.machines import Machines, Runs, measure_words
 from pfplan.traces.entries import entries_of_rules
 from pfplan.traces.scenarios.reading import is_scenario
 
-DESCRIPTION = """Replays a trace, or plays a scenario, with several values of one number, and tells which of them serve the users. Served in a
-scenario is who is served without waiting.
+DESCRIPTION = """Replays a trace, or plays a scenario, with several values of one number, and tells which of them
+serve the users. Served in a scenario is who is served without waiting.
 
-NAME is a number of the scenario (botnet.rate, homes.hosts, seconds), a limit (states, src-nodes, tables, table-entries), a timeout (tcp.first, interval, adaptive.start ..), or a maximum or timeout of
-rules: max-src-conn is that of all rules that state one, @5.max-src-conn that of rule @5. Of max-src-conn-rate the handshakes are varied.
-Values are tried evenly from FROM to TO, and then around each edge where the wanted share begins or ends to be served."""
+NAME is a number of the scenario (botnet.rate, homes.hosts, seconds), a limit (states, src-nodes, tables,
+table-entries), a timeout (tcp.first, interval, adaptive.start ..), or a maximum or timeout of rules: max-src-conn
+is that of all rules that state one, @5.max-src-conn that of rule @5. Of max-src-conn-rate the handshakes are
+varied. Values are tried evenly from FROM to TO, and then around each edge where the wanted share begins or ends to
+be served."""
 
 
 def check_users(arguments: argparse.Namespace, is_played: bool) -> None:
@@ -45,11 +47,20 @@ def add_words(parser: argparse.ArgumentParser) -> None:
     """The words of `size`."""
     parser.description = DESCRIPTION
     parser.add_argument("rules", type=file, metavar="RULES", help="a rules text")
-    parser.add_argument("trace", type=file, metavar="TRACE", help="the trace under which it is replayed, or the scenario that is played")
     parser.add_argument(
-        "--vary", type=vary_word, required=True, action="append", metavar="NAME=FROM..TO", help="the number, and its bounds; given twice it makes a map",
+        "trace", type=file, metavar="TRACE", help="the trace under which it is replayed, or the scenario that is played"
+    )
+    parser.add_argument(
+        "--vary", type=vary_word, required=True, action="append", metavar="NAME=FROM..TO",
+        help="the number, and its bounds; given twice it makes a map",
     )  # fmt: skip
-    parser.add_argument("--want", type=share_word, default=Fraction(99, 100), metavar="SHARE", help="of the users' connections, as 99%% (99%%)")
+    parser.add_argument(
+        "--want",
+        type=share_word,
+        default=Fraction(99, 100),
+        metavar="SHARE",
+        help="of the users' connections, as 99%% (99%%)",
+    )
     add_asked(parser, 8)
     parser.add_argument("--grid", type=number(2, 1000), default=9, metavar="N", help="values at first (9)")
     parser.add_argument("--runs", type=number(2, 10000), default=60, metavar="N", help="values at most (60)")
@@ -79,7 +90,10 @@ def run(arguments: argparse.Namespace) -> int:
             return run_map(subject, trace, where, entries, arguments)
         found = size(subject, trace, where, entries, arguments)
     if not any(it.connections for it in found.measures.values()):
-        raise Trouble(f"{arguments.trace}: no connection of the users {found.users} is in it; --users names their networks", Status.REFUSED)
+        raise Trouble(
+            f"{arguments.trace}: no connection of the users {found.users} is in it; --users names their networks",
+            Status.REFUSED,
+        )
     with whole_file(arguments.out) as out:
         out.write(json.dumps(found.to_json(), indent=1) + "\n" if arguments.json else size_texts.text_of(found))
     if arguments.page:

@@ -25,7 +25,8 @@ A connection is of who began it: with a SYN, and for other protocols with its fi
   served      its handshake went through, and every packet of it up to the first FIN or RST
   unanswered  it was let in, and the trace shows no handshake: the server refused it or did not answer
   refused     its first packet was blocked or dropped, on one interface or the next, and so was each repetition of it
-  killed      its state was killed by a limit on its source, or by the flush that followed (with --rules: of which states)
+  killed      its state was killed by a limit on its source, or by the flush that followed (with --rules: of which
+              states)
   cut         it was let in, and a later packet was not: its state had run out, which adaptive timeouts hasten
   late        it was let in, in the last 3 seconds of the trace, and had no handshake by then: it counts neither way
 Where a connection has no first packet in the trace it is counted apart, as are those that others began."""
@@ -35,15 +36,42 @@ def add_words(parser: Parser) -> None:
     """The words of the command."""
     parser.description = DESCRIPTION
     parser.add_argument("report", type=file, metavar="REPORT", help="- is standard input")
-    parser.add_argument("--trace", type=file, metavar="TRACE", help="the trace that was replayed: adds moments, sources, and what is said of users")
-    parser.add_argument("--rules", type=file, metavar="RULES", help="the rules that were replayed: adds the text of each rule, as ./pfsrc show prints it")
-    parser.add_argument("--users", type=networks, metavar="PREFIX,..", default=(), help="the networks of the users (with --trace)")
-    parser.add_argument("--held", type=number(1, 10_000), metavar="N", help="asks the program how much was held at N moments, in one replay (with --trace and --rules)")
-    parser.add_argument("--jobs", type=number(1, 1000), metavar="N", default=1, help="has no effect: --held takes one replay")
-    parser.add_argument("--every", type=number(1, 4294967295), metavar="N", default=0, help="seconds in a step of the series (so that there are at most 120)")
+    parser.add_argument(
+        "--trace",
+        type=file,
+        metavar="TRACE",
+        help="the trace that was replayed: adds moments, sources, and what is said of users",
+    )
+    parser.add_argument(
+        "--rules",
+        type=file,
+        metavar="RULES",
+        help="the rules that were replayed: adds the text of each rule, as ./pfsrc show prints it",
+    )
+    parser.add_argument(
+        "--users", type=networks, metavar="PREFIX,..", default=(), help="the networks of the users (with --trace)"
+    )
+    parser.add_argument(
+        "--held",
+        type=number(1, 10_000),
+        metavar="N",
+        help="asks the program how much was held at N moments, in one replay (with --trace and --rules)",
+    )
+    parser.add_argument(
+        "--jobs", type=number(1, 1000), metavar="N", default=1, help="has no effect: --held takes one replay"
+    )
+    parser.add_argument(
+        "--every",
+        type=number(1, 4294967295),
+        metavar="N",
+        default=0,
+        help="seconds in a step of the series (so that there are at most 120)",
+    )
     parser.add_argument("--top", type=number(1, 1000), metavar="N", default=5, help="how many sources are named (5)")
     parser.add_argument("--json", action="store_true", help="for machines")
-    parser.add_argument("--partial", action="store_true", help="takes a report without its last line, as a fault in the trace leaves it")
+    parser.add_argument(
+        "--partial", action="store_true", help="takes a report without its last line, as a fault in the trace leaves it"
+    )
     parser.add_argument("--out", type=file, metavar="FILE", help="where the summary goes (standard output)")
 
 
@@ -55,7 +83,14 @@ def run(arguments: argparse.Namespace) -> int:
         raise Trouble("--held wants --trace and --rules")
     if arguments.rules:
         check_program()
-    wanted = Wanted(arguments.trace, arguments.users, arguments.rules, every=arguments.every, top=arguments.top, is_partial=arguments.partial)
+    wanted = Wanted(
+        arguments.trace,
+        arguments.users,
+        arguments.rules,
+        every=arguments.every,
+        top=arguments.top,
+        is_partial=arguments.partial,
+    )
     with contextlib.ExitStack() as stack:
         held: concurrent.futures.Future[list[Held]] | None = None
         if arguments.held:

@@ -124,8 +124,8 @@ def _trace(folder: Path) -> Iterator[TextIO]:
 
 
 def _folders(top: Path, paths: Sequence[Path]) -> list[Path]:
-    """The folder of each ruleset: of one the folder itself, of several one below it for each, by the name of its file.
-    """
+    """The folder of each ruleset: of one the folder itself, of several one below it for each, by the name of its
+    file."""
     if len(paths) == 1:
         return [top]
     names: list[str] = []

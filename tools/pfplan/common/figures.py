@@ -14,7 +14,8 @@ def counted(count: int, unit: str, units: str | None = None) -> str:
 
 
 def share_text(part: int, whole: int) -> str:
-    """The share of a count in per cent with one decimal. `100 %` is all of it and `0 %` none: what rounds there is `> 99.9 %` or `< 0.1 %`.
+    """The share of a count in per cent with one decimal. `100 %` is all of it and `0 %` none: what rounds there is `>
+    99.9 %` or `< 0.1 %`.
 
     `-` where there is nothing to have a share of.
     """

@@ -32,7 +32,8 @@ class Kind(enum.Enum):
 
 
 def check_readable(path: Path) -> None:
-    """Trouble with status 4 where the file is not there, is a folder, or may not be read. A pipe is not opened: it is read once."""
+    """Trouble with status 4 where the file is not there, is a folder, or may not be read. A pipe is not opened: it is
+    read once."""
     try:
         mode = os.stat(path).st_mode
         if stat.S_ISREG(mode) or stat.S_ISDIR(mode):
@@ -102,7 +103,8 @@ def check_rules(path: Path) -> None:
 
 @contextlib.contextmanager
 def regular(path: Path) -> Iterator[Path]:
-    """The file itself, or a copy of what a pipe gives, which goes at the end; `-` is standard input, and each is opened once.
+    """The file itself, or a copy of what a pipe gives, which goes at the end; `-` is standard input, and each is opened
+    once.
 
     Trouble as `check_readable`, or where the copy fails.
     """
@@ -117,7 +119,9 @@ def regular(path: Path) -> Iterator[Path]:
                 shutil.copyfileobj(file, copy)
             copy.flush()
         except OSError as error:
-            raise Trouble(f"{path}: can't be copied into {tempfile.gettempdir()}: {reason_of(error)}", Status.FAILED) from None
+            raise Trouble(
+                f"{path}: can't be copied into {tempfile.gettempdir()}: {reason_of(error)}", Status.FAILED
+            ) from None
         yield Path(copy.name)
 
 
@@ -133,7 +137,8 @@ def _opened(path: Path) -> Iterator[BinaryIO]:
 
 @contextlib.contextmanager
 def unpacked(path: Path, name: Path | str) -> Iterator[Path]:
-    """The file itself, or where gzip or zstd packed it, what they unpack, in a copy that goes at the end. `name` stands in messages.
+    """The file itself, or where gzip or zstd packed it, what they unpack, in a copy that goes at the end. `name` stands
+    in messages.
 
     Trouble: status 1 where it can't be unpacked, 4 where the command is not installed. A pipe is left as it is.
     """

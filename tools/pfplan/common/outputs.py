@@ -19,9 +19,10 @@ from pfplan.common.inputs import is_regular
 def whole_file(path: Path | None) -> Iterator[TextIO]:
     """A text file to write to, which stands under its name only once all is written.
 
-    It is written beside its place and renamed at the end; any exception removes it, and leaves what stood there before. None is
-    standard output, which like a device or a pipe gets what was written at the end, all at once. Trouble with status 4 where
-    writing fails: an OSError of the body counts as one, so a body turns those of its reading into Trouble itself.
+    It is written beside its place and renamed at the end; any exception removes it, and leaves what stood there before.
+    None is standard output, which like a device or a pipe gets what was written at the end, all at once. Trouble with
+    status 4 where writing fails: an OSError of the body counts as one, so a body turns those of its reading into
+    Trouble itself.
     """
     name = "standard output" if path is None else str(path)
     try:
@@ -73,8 +74,9 @@ def _spooled(path: Path | None) -> Iterator[TextIO]:
 def whole_folder(path: Path, ours: Collection[str]) -> Iterator[Path]:
     """A folder to write into, whose files stand in the one of that name only once all are written.
 
-    It is made beside its place. A folder that is there keeps what is not ours; of the names in `ours` those that are not written anew go. Any
-    exception leaves all as it was. Trouble with status 4 where that fails; messages name the folder that was asked for.
+    It is made beside its place. A folder that is there keeps what is not ours; of the names in `ours` those that are
+    not written anew go. Any exception leaves all as it was. Trouble with status 4 where that fails; messages name the
+    folder that was asked for.
     """
     place = Path(os.path.realpath(path))
     if place.exists() and not place.is_dir():

@@ -7,7 +7,8 @@ from typing import TextIO
 
 
 class Progress:
-    """Counts what is done of all, and shows it twice a second, as `trace: 40 % of 1,000,000 records, 350,000 a second, 2 s left`.
+    """Counts what is done of all, and shows it twice a second, as `trace: 40 % of 1,000,000 records, 350,000 a second,
+    2 s left`.
 
     Threads may call it side by side. Where the stream is no terminal it prints nothing.
     """

@@ -4,7 +4,8 @@ from __future__ import annotations
 
 
 def visible(text: str) -> str:
-    """The text with each character that is not printable as an escape: `a\\nb`, `\\u202e`, a byte that is no UTF-8 as `\\xff`."""
+    """The text with each character that is not printable as an escape: `a\\nb`, `\\u202e`, a byte that is no UTF-8 as
+    `\\xff`."""
     if text.isprintable():
         return text
     return "".join(letter if letter.isprintable() else escape_of(letter) for letter in text)

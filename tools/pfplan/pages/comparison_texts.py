@@ -32,7 +32,9 @@ def rows_of(found: Comparison) -> Iterator[Row]:
         limits = [next((limit for limit in it.limits if limit.word == word), None) for it in measures]
         if any(limits):
             yield word, [f"{it.records:,}" if it else "0" for it in limits]
-            yield f"  {word}: first, last moment", [f"{moment_text(it.first)}, {moment_text(it.last)}" if it else "-" for it in limits]
+            yield f"  {word}: first, last moment", [
+                f"{moment_text(it.first)}, {moment_text(it.last)}" if it else "-" for it in limits
+            ]
     if any(it.states_killed for it in measures):
         yield "states killed", [f"{it.states_killed:,}" for it in measures]
     for word in ("added", "full"):
@@ -62,7 +64,10 @@ def text_of(found: Comparison) -> str:
     first = max(len(name) for name, _ in rows)
     widths = [max(len(cells[at]) for _, cells in rows) for at in range(len(names))]
     lines += ["", " " * first + "".join(f"  {letter.rjust(width)}" for letter, width in zip(names, widths))]
-    lines += [name.ljust(first) + "".join(f"  {cell.rjust(width)}" for cell, width in zip(cells, widths)) for name, cells in rows]
+    lines += [
+        name.ljust(first) + "".join(f"  {cell.rjust(width)}" for cell, width in zip(cells, widths))
+        for name, cells in rows
+    ]
     for letter, against in zip(names[1:], found.against):
         lines += ["", *against_lines(against, letter, bool(found.users))]
     return "\n".join(lines) + "\n"
@@ -71,11 +76,17 @@ def text_of(found: Comparison) -> str:
 def against_lines(against: Against, letter: str, has_users: bool) -> Iterator[str]:
     """How one ruleset differs from A."""
     total = sum(against.words.values())
-    yield f"A and {letter}: {counted(against.differing, 'record')} of {total:,} ({share_text(against.differing, total)}) have another word"
+    yield (
+        f"A and {letter}: {counted(against.differing, 'record')} of {total:,} ({share_text(against.differing, total)}) "
+        "have another word"
+    )
     for (one, other), count in changed_words(against.words):
         yield f"  {one} -> {other}".ljust(48) + f"{count:>12,}"
     if against.parting:
-        yield f"they part at row {against.parting.row:,}, moment {moment_text(against.parting.record.time)}: {visible(record_text(against.parting.record))}"
+        yield (
+            f"they part at row {against.parting.row:,}, moment {moment_text(against.parting.record.time)}: "
+            f"{visible(record_text(against.parting.record))}"
+        )
         for name, text, rule in zip(("A", letter), against.parting.texts, against.parting.rules):
             yield f"  {name.ljust(2)} {text}: {why(text)}"
             yield from (f"       {it}" for it in [rule] if it)
@@ -116,11 +127,21 @@ def changed_words(words: Counter[tuple[str, str]]) -> list[tuple[tuple[str, str]
 def page_of(found: Comparison) -> str:
     """The comparison as a page."""
     title = f"{len(found.names)} rulesets under {found.trace}"
-    parts: list[Child] = [tag("h1", title), soft(subject_of(found)), answer_of(found), section("Side by side", table_of(found))]
+    parts: list[Child] = [
+        tag("h1", title),
+        soft(subject_of(found)),
+        answer_of(found),
+        section("Side by side", table_of(found)),
+    ]
     parts.extend(pictures_parts(found))
     for name, against in zip(found.names[1:], found.against):
         parts.append(section(f"{found.names[0]} and {name}", *against_parts(found, name, against)))
-    parts.append(tag("footer", "Made by pfplan, which is tested and not proved; the replays are those of the proved program pfsrc."))
+    parts.append(
+        tag(
+            "footer",
+            "Made by pfplan, which is tested and not proved; the replays are those of the proved program pfsrc.",
+        )
+    )
     return document(title, parts)
 
 
@@ -141,9 +162,16 @@ def answer_of(found: Comparison) -> Markup:
     share = share_text(most, connections)
     if len(best) == len(found.names) and connections:
         return answer(f"All serve alike: {most:,} of {connections:,} connections of users, {share}.", None)
-    others = [f"{name}: {it.served:,} of {it.counted:,} ({share_text(it.served, it.counted)})" for name, it in zip(found.names, measures)]
+    others = [
+        f"{name}: {it.served:,} of {it.counted:,} ({share_text(it.served, it.counted)})"
+        for name, it in zip(found.names, measures)
+    ]
     verb = "serves" if len(best) == 1 else "serve"
-    return answer(f"{' and '.join(best)} {verb} the most users: {most:,} of {connections:,} connections, {share}.", None, bullets(others))
+    return answer(
+        f"{' and '.join(best)} {verb} the most users: {most:,} of {connections:,} connections, {share}.",
+        None,
+        bullets(others),
+    )
 
 
 def table_of(found: Comparison) -> Markup:
@@ -175,7 +203,10 @@ def against_parts(found: Comparison, name: str, against: Against) -> Iterator[Ch
     """How one ruleset differs from the first, on the page."""
     first = found.names[0]
     total = sum(against.words.values())
-    yield paragraph(f"{counted(against.differing, 'record')} of {total:,} ({share_text(against.differing, total)}) have another word.")
+    yield paragraph(
+        f"{counted(against.differing, 'record')} of {total:,} ({share_text(against.differing, total)}) have another "
+        "word."
+    )
     if against.parting:
         yield parting_part(against.parting, first, name)
     words = changed_words(against.words)
@@ -196,7 +227,14 @@ def parting_part(parting: Parting, first: str, name: str) -> Markup:
     """The record at which they part."""
     record = record_text(parting.record)
     said = [
-        join([f"{title}: ", code(text), f", {why(text)}" if why(text) else "", *([tag("br"), code(rule)] if rule else [])])
+        join(
+            [
+                f"{title}: ",
+                code(text),
+                f", {why(text)}" if why(text) else "",
+                *([tag("br"), code(rule)] if rule else []),
+            ]
+        )
         for title, text, rule in zip((first, name), parting.texts, parting.rules)
     ]
     head = paragraph(f"They part at row {parting.row:,}, moment {moment_text(parting.record.time)}: ", code(record))
@@ -210,9 +248,13 @@ def fate_parts(against: Against, first: str, name: str) -> Iterator[Child]:
     yield tag("h3", "Connections of users whose fate changes")
     yield paragraph(f"{sum(count for _, count in changed):,} of {total:,}.")
     if changed:
-        yield table([first, name, "connections"], [[one, other, f"{count:,}"] for (one, other), count in changed], "ssn")
+        yield table(
+            [first, name, "connections"], [[one, other, f"{count:,}"] for (one, other), count in changed], "ssn"
+        )
     if against.changed:
-        rows: Sequence[Sequence[Child]] = [[f"{it.row:,}", connection_text(it.key), *it.fates] for it in against.changed]
+        rows: Sequence[Sequence[Child]] = [
+            [f"{it.row:,}", connection_text(it.key), *it.fates] for it in against.changed
+        ]
         yield table(["row", "the first of them", first, name], rows, "ncss")
     if any("-" in it for it, _ in changed):
         yield soft("-: its first packet belongs there to a connection that began before.")

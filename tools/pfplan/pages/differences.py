@@ -10,7 +10,8 @@ from pfplan.common.repository import DIFFERENCES, TOP
 
 
 def differences_beside(folder: Path, place: Path | None = None) -> str:
-    """A link from the folder to docs/DIFFERENCES.md: in the repository to the file itself, elsewhere to a copy that is put beside the page.
+    """A link from the folder to docs/DIFFERENCES.md: in the repository to the file itself, elsewhere to a copy that is
+    put beside the page.
 
     `place` is where the folder will be, if it is elsewhere.
     """

@@ -26,7 +26,10 @@ def subject_of(found: Map) -> str:
     """What was varied, under what."""
     connections = [it.connections for it in found.measures.values()]
     most = counted(max(connections), "connection")
-    return f"{visible(found.trace)}; users {found.users}: up to {most}; wanted (*): at least {want_text(found.want)} served"
+    return (
+        f"{visible(found.trace)}; users {found.users}: up to {most}; wanted (*): at least {want_text(found.want)} "
+        "served"
+    )
 
 
 def text_of(found: Map) -> str:

@@ -23,7 +23,10 @@ def verdict(found: Margins) -> str:
     moved = counted(len(found.margins), "change")
     if not found.turning:
         return f"No answer turns over under {moved} of the rules' numbers."
-    return f"Some answer turns over under {len(found.turning)} of {moved} of the rules' numbers: it is too close to call there."
+    return (
+        f"Some answer turns over under {len(found.turning)} of {moved} of the rules' numbers: it is too close to call "
+        "there."
+    )
 
 
 def as_is(found: Margins) -> str:
@@ -32,7 +35,10 @@ def as_is(found: Margins) -> str:
     limits = f"limits met: {', '.join(met)}" if met else "no limit met"
     if not found.users:
         return f"as it is: {limits}"
-    return f"as it is: {served_text(found.base)} of {found.base.counted:,} connections served (wanted: at least {want_text(found.want)}); {limits}"
+    return (
+        f"as it is: {served_text(found.base)} of {found.base.counted:,} connections served (wanted: at least "
+        f"{want_text(found.want)}); {limits}"
+    )
 
 
 def text_of(found: Margins) -> str:
@@ -42,7 +48,8 @@ def text_of(found: Margins) -> str:
     whats = [f"{it.title}, {it.step}" for it in found.margins]
     width = max((len(it) for it in whats), default=0)
     for what, it in zip(whats, found.margins):
-        lines.append(f"{'! ' if it.turns else '  '}{what.ljust(width)}  {it.values.ljust(22)}  {told_of(it, bool(found.users))}".rstrip())
+        told = told_of(it, bool(found.users))
+        lines.append(f"{'! ' if it.turns else '  '}{what.ljust(width)}  {it.values.ljust(22)}  {told}".rstrip())
     return "\n".join(lines) + "\n"
 
 
@@ -57,8 +64,14 @@ def told_of(margin: Margin, has_users: bool) -> str:
 def page_of(found: Margins) -> str:
     """The margins as a page."""
     title = f"How sure is it, under {found.trace}?"
-    head: list[Child] = [tag("h1", title), soft(as_is(found)), answer(verdict(found), not found.turning, bullets(turning_lines(found)))]
-    foot = tag("footer", "Made by pfplan, which is tested and not proved; the replays are those of the proved program pfsrc.")
+    head: list[Child] = [
+        tag("h1", title),
+        soft(as_is(found)),
+        answer(verdict(found), not found.turning, bullets(turning_lines(found))),
+    ]
+    foot = tag(
+        "footer", "Made by pfplan, which is tested and not proved; the replays are those of the proved program pfsrc."
+    )
     return document(title, [*head, section("All changes", table_of(found)), foot])
 
 

@@ -1,8 +1,8 @@
 """Markup in which text can only stand escaped: HTML and SVG are put together here and nowhere else.
 
-A `Markup` is trusted to be well formed. A plain string is text: it is escaped wherever it comes into a `Markup`, and characters that a
-reader can't see, or that turn the direction of a line, are written out. So a name from a rules text, a trace or a file system can't become
-an element, an attribute or a script.
+A `Markup` is trusted to be well formed. A plain string is text: it is escaped wherever it comes into a `Markup`, and
+characters that a reader can't see, or that turn the direction of a line, are written out. So a name from a rules text,
+a trace or a file system can't become an element, an attribute or a script.
 """
 
 from __future__ import annotations

@@ -1,8 +1,8 @@
 """Pictures over time and over values, drawn by gnuplot as SVG.
 
-gnuplot gets numbers and words of this file alone: no name of a file, a rule or a host is ever in its script. What it draws is taken apart and
-put together anew from a few kinds of elements, so that its colours follow the page (light, dark, printed) and no two pictures of a page
-share an id. Names stand in the page beside a picture.
+gnuplot gets numbers and words of this file alone: no name of a file, a rule or a host is ever in its script. What it
+draws is taken apart and put together anew from a few kinds of elements, so that its colours follow the page (light,
+dark, printed) and no two pictures of a page share an id. Names stand in the page beside a picture.
 """
 
 from __future__ import annotations
@@ -25,7 +25,8 @@ LINK = "{http://www.w3.org/1999/xlink}href"
 
 
 class Role(Enum):
-    """What a colour stands for. The value is the colour's number in what gnuplot draws; the name is its class in the page."""
+    """What a colour stands for. The value is the colour's number in what gnuplot draws; the name is its class in the
+    page."""
 
     AXIS = 1
     TICKS = 2
@@ -77,7 +78,8 @@ class Series:
 
 @dataclass(frozen=True)
 class Picture:
-    """One picture. Series are drawn in their order, a later one over an earlier one; `most` is the value at its upper edge."""
+    """One picture. Series are drawn in their order, a later one over an earlier one; `most` is the value at its upper
+    edge."""
 
     series: tuple[Series, ...]
     across: Across
@@ -106,7 +108,10 @@ def draw(pictures: Sequence[Picture]) -> list[Markup]:
 def script_of(picture: Picture) -> str:
     """What gnuplot is told: numbers, and words of this file."""
     blocks = "".join(f"$d{number} << EOD\n{points_of(series)}EOD\n" for number, series in enumerate(picture.series))
-    plots = ", ".join(f'$d{number} using 1:2 {series.style.value} rgb "{series.role.colour}"' for number, series in enumerate(picture.series))
+    plots = ", ".join(
+        f'$d{number} using 1:2 {series.style.value} rgb "{series.role.colour}"'
+        for number, series in enumerate(picture.series)
+    )
     last = picture.last if picture.last > picture.first else picture.first + 1
     most = picture.most if picture.most > 0 else 1.0
     lines = [
@@ -136,7 +141,9 @@ def drawn_by_gnuplot(script: str) -> str:
     """What gnuplot writes for a script, which it reads from standard input. It reads no file of settings."""
     command = ["gnuplot", "--default-settings", "-"]
     try:
-        made = subprocess.run(command, input=script, capture_output=True, encoding="utf-8", timeout=SECONDS_FOR_A_PICTURE, check=False)
+        made = subprocess.run(
+            command, input=script, capture_output=True, encoding="utf-8", timeout=SECONDS_FOR_A_PICTURE, check=False
+        )
     except FileNotFoundError:
         raise Trouble(f"gnuplot is not here (Debian package {PACKAGE})", Status.FAILED) from None
     except subprocess.TimeoutExpired:
@@ -148,7 +155,8 @@ def drawn_by_gnuplot(script: str) -> str:
 
 
 def element_of(drawn: str, picture: Picture) -> Markup:
-    """The SVG element of what gnuplot wrote, of the kinds of elements that are known here; nothing else of it is kept."""
+    """The SVG element of what gnuplot wrote, of the kinds of elements that are known here; nothing else of it is
+    kept."""
     try:
         root = ElementTree.fromstring(drawn.encode("utf-8"))
     except ElementTree.ParseError as error:
@@ -166,7 +174,9 @@ def parts_of(parent: ElementTree.Element) -> Iterator[Markup]:
         elif name == "path":
             yield tag("path", d=element.get("d", "").strip(), class_="line " + class_of(element.get("stroke", "")))
         elif name == "polygon":
-            yield tag("polygon", points=element.get("points", "").strip(), class_="area " + class_of(element.get("fill", "")))
+            yield tag(
+                "polygon", points=element.get("points", "").strip(), class_="area " + class_of(element.get("fill", ""))
+            )
         elif name == "use" and element.get(LINK) == "#gpPt6":
             yield point_of(element)
 
@@ -177,7 +187,14 @@ def group_of(element: ElementTree.Element) -> Iterator[Markup]:
     place = re.fullmatch(r"translate\(([-\d.]+),([-\d.]+)\)(?: rotate\(([-\d.]+)\))?", element.get("transform", ""))
     if text is not None and place is not None:
         anchor = element.get("text-anchor", "start")
-        yield tag("text", (text.text or "").strip(), x=place[1], y=place[2], text_anchor=anchor, class_=class_of(element.get("fill", "")))
+        yield tag(
+            "text",
+            (text.text or "").strip(),
+            x=place[1],
+            y=place[2],
+            text_anchor=anchor,
+            class_=class_of(element.get("fill", "")),
+        )
         return
     inner = list(parts_of(element))
     if not inner:
@@ -203,6 +220,7 @@ def class_of(colour: str) -> str:
 
 
 def standalone(picture: Markup, style: str) -> str:
-    """The text of an SVG file: the element with its style inside, so that it looks alike by itself, in light and dark."""
+    """The text of an SVG file: the element with its style inside, so that it looks alike by itself, in light and
+    dark."""
     opening, rest = picture.text.split(">", 1)
     return f'<?xml version="1.0" encoding="UTF-8"?>\n{opening}><style>{style}</style>{rest}\n'

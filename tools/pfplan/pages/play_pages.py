@@ -20,16 +20,20 @@ from pfplan.traces.scenarios.model import Scenario
 from pfplan.traces.scenarios.playing import Played
 
 NOT_MODELLED = (
-    "Nothing is lost on the way, no line is ever full, and a packet takes as long in the flood as before: whoever is not"
+    "Nothing is lost on the way, no line is ever full, and a packet takes as long in the flood as before: whoever is "
+    "not"
     " served was refused by pf.",
     "The server answers all that it is asked. It has no limits of its own; what it holds half open is not counted.",
-    "Whoever gives up sends nothing more, not even a RST. Addresses of forged packets belong to nobody who would answer.",
-    "pf lets states that have expired or were killed go later, by up to some interval seconds, so near a limit it refuses"
+    "Whoever gives up sends nothing more, not even a RST. Addresses of forged packets belong to nobody who would "
+    "answer.",
+    "pf lets states that have expired or were killed go later, by up to some interval seconds, so near a limit it "
+    "refuses"
     " more than is told here.",
     "What is not in the scenario is not counted: ICMP, sequence numbers, and states from before its first second.",
 )
 FOOTER = (
-    "Made by pfplan, which is tested and not proved. The firewall is the proved program pfsrc: it gives the same report of"
+    "Made by pfplan, which is tested and not proved. The firewall is the proved program pfsrc: it gives the same "
+    "report of"
     " the trace that came of a play. How far its answers agree with a running pf is not proved."
 )
 TITLES = {"users": "Users' connections a second, by when they began", "held": "States held"}

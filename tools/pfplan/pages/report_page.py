@@ -1,4 +1,5 @@
-"""report.html: what a replay came to, in one file to read in a browser, to print, and to send to a colleague. The answer stands first."""
+"""report.html: what a replay came to, in one file to read in a browser, to print, and to send to a colleague. The
+answer stands first."""
 
 from collections.abc import Iterator, Mapping, Sequence
 from dataclasses import dataclass
@@ -27,10 +28,17 @@ from pfplan.pages.timeline_pictures import FILES, Drawn, drawn_kinds
 PAGE = "report.html"
 LIMITS_OF_A_REPLAY = (
     "Nobody in a trace reacts: a client that is refused does not try again, and its other packets come all the same.",
-    "pf lets states that have expired or were killed go later, by up to some interval seconds, so near a limit it refuses more than is told here.",
-    "What the trace lacks is not counted: ICMP, other interfaces, sequence numbers, and states from before its first packet.",
+    "pf lets states that have expired or were killed go later, by up to some interval seconds, so near a limit it "
+    "refuses more than is told here.",
+    "What the trace lacks is not counted: ICMP, other interfaces, sequence numbers, and states from before its first "
+    "packet.",
 )
-# Rules that are shown of a long text, besides those that decided; missing things that are named first; rules named for a limit.
+# Rules that are shown of a long text, besides those that decided; missing things that are named first; rules named for
+# a limit.
+FOOTER = (
+    "Made by pfplan, which is tested and not proved. The replay is that of the proved program pfsrc; how far its "
+    "answers agree with a running pf is not proved."
+)
 MOST_RULES, MOST_MISSING, MOST_LIMITING = 200, 20, 5
 
 
@@ -81,8 +89,8 @@ class Subject:
 def write_page(folder: Path, summary: Summary, subject: Subject, place: Path | None = None) -> list[Path]:
     """Writes report.html and its pictures into a folder, and answers what was written, the page first.
 
-    `place` is where the folder will be, if it is elsewhere. Without gnuplot, or where it fails, the page has no pictures, and says why.
-    Trouble with status 4 where writing fails.
+    `place` is where the folder will be, if it is elsewhere. Without gnuplot, or where it fails, the page has no
+    pictures, and says why. Trouble with status 4 where writing fails.
     """
     pictures: dict[str, Drawn] = {}
     why = ""
@@ -98,14 +106,21 @@ def write_page(folder: Path, summary: Summary, subject: Subject, place: Path | N
             file.write(standalone(figure.picture, PICTURE_STYLE))
         written.append(path)
     with whole_file(folder / PAGE) as file:
-        file.write(page_of(summary, subject, [it.figure() for it in pictures.values()], differences_beside(folder, place), why))
+        file.write(
+            page_of(summary, subject, [it.figure() for it in pictures.values()], differences_beside(folder, place), why)
+        )
     return [folder / PAGE, *written]
 
 
 def page_of(summary: Summary, subject: Subject, figures: Sequence[Markup], differences: str, why_none: str = "") -> str:
     """The text of the page. `why_none` says why there are no pictures."""
     title = f"{subject.rules} under {subject.trace}"
-    parts: list[Child] = [tag("h1", title), soft(span_of(summary)), *missing_parts(subject), answer_of(summary, subject)]
+    parts: list[Child] = [
+        tag("h1", title),
+        soft(span_of(summary)),
+        *missing_parts(subject),
+        answer_of(summary, subject),
+    ]
     parts.extend(pictures_parts(summary, figures, why_none))
     parts.extend(limits_parts(summary))
     parts.extend(users_parts(summary))
@@ -115,14 +130,17 @@ def page_of(summary: Summary, subject: Subject, figures: Sequence[Markup], diffe
     parts.extend(sources_parts(summary))
     parts.extend(interfaces_parts(summary))
     parts.append(section("What a replay can't know", bullets(LIMITS_OF_A_REPLAY), more_of(differences)))
-    parts.append(tag("footer", "Made by pfplan, which is tested and not proved. The replay is that of the proved program pfsrc; how far its answers"
-                     " agree with a running pf is not proved."))  # fmt: skip
+    parts.append(tag("footer", FOOTER))
     return document(title, parts)
 
 
 def more_of(differences: str) -> Markup:
     """Where more is said of what a replay can't know."""
-    return paragraph("How an answer can differ from a running pf's, and which way: ", tag("a", "docs/DIFFERENCES.md", href=differences), " of pfsrc.")
+    return paragraph(
+        "How an answer can differ from a running pf's, and which way: ",
+        tag("a", "docs/DIFFERENCES.md", href=differences),
+        " of pfsrc.",
+    )
 
 
 def span_of(summary: Summary) -> str:
@@ -143,9 +161,15 @@ def missing_parts(subject: Subject) -> Iterator[Child]:
     """What the pf.conf leaves to its machine and nobody gave, before any answer: it may be wrong by that alone."""
     missing = [it for it in subject.leftovers if it.changes_answer and it.is_missing]
     if missing:
-        rows: list[Sequence[Child]] = [[f"{it.file}:{it.line}", it.text, it.way, it.reason] for it in missing[:MOST_MISSING]]
+        rows: list[Sequence[Child]] = [
+            [f"{it.file}:{it.line}", it.text, it.way, it.reason] for it in missing[:MOST_MISSING]
+        ]
         more = [soft(f"And {len(missing) - MOST_MISSING:,} more.")] if len(missing) > MOST_MISSING else []
-        yield section("Missing, so the answer may be wrong", table(["where", "what", "which way", "how to give it"], rows, "cctt"), *more)
+        yield section(
+            "Missing, so the answer may be wrong",
+            table(["where", "what", "which way", "how to give it"], rows, "cctt"),
+            *more,
+        )
 
 
 def answer_of(summary: Summary, subject: Subject) -> Markup:
@@ -159,15 +183,33 @@ def answer_of(summary: Summary, subject: Subject) -> Markup:
     points.extend(frame_lines(summary.frames) if summary.frames else ())
     doubts = [it for it in subject.leftovers if it.changes_answer]
     if doubts:
-        points.append(join([tag("strong", f"{counted(len(doubts), 'thing')} left out of the pf.conf can change this answer"), "; see below."]))
+        points.append(
+            join(
+                [
+                    tag("strong", f"{counted(len(doubts), 'thing')} left out of the pf.conf can change this answer"),
+                    "; see below.",
+                ]
+            )
+        )
     users = summary.users
     if users is None:
-        return answer(limits_headline(summary), None, bullets(points), soft("No users were named (--users), so it is not told who was served."))
+        return answer(
+            limits_headline(summary),
+            None,
+            bullets(points),
+            soft("No users were named (--users), so it is not told who was served."),
+        )
     if users.counted == 0:
         why = f"All {users.connections:,} connections of the users {users.of} were cut by the end of the trace."
-        return answer(why if users.connections else f"No connection of the users {users.of} is in the trace.", None, bullets(points))
+        return answer(
+            why if users.connections else f"No connection of the users {users.of} is in the trace.",
+            None,
+            bullets(points),
+        )
     served = users.outcomes["served"]
-    headline = f"{share_text(served, users.counted)} of the users' connections were served: {served:,} of {users.counted:,}."
+    headline = (
+        f"{share_text(served, users.counted)} of the users' connections were served: {served:,} of {users.counted:,}."
+    )
     wanted = soft(f"Users: {users.of}; wanted: at least {float(100 * subject.want):g} % served")
     return answer(headline, served >= subject.want * users.counted, bullets(points), wanted)
 
@@ -182,7 +224,11 @@ def fate_points(summary: Summary) -> Iterator[Child]:
         if count and kind == LATE:
             yield f"not counted: {count:,}, {MEANINGS[kind]}"
         elif count:
-            by = ", ".join(f"{number:,} by {word}" for word, number in users.refused_by.items()) if kind == "refused" else MEANINGS[kind]
+            by = (
+                ", ".join(f"{number:,} by {word}" for word, number in users.refused_by.items())
+                if kind == "refused"
+                else MEANINGS[kind]
+            )
             yield f"{kind}: {count:,} ({share_text(count, users.counted)}): {by}"
 
 
@@ -191,13 +237,16 @@ def limit_points(summary: Summary) -> Iterator[Child]:
     for it in summary.limits:
         killed = f"; {counted(it.killed, 'state')} killed" if it.killed else ""
         by = "; ".join(limiting(summary, it.word)[:2])
-        yield join([code(it.word), f" {counted(it.records, 'time')}, {when(it, summary)}{killed}", f" ({by})" if by else ""])
+        yield join(
+            [code(it.word), f" {counted(it.records, 'time')}, {when(it, summary)}{killed}", f" ({by})" if by else ""]
+        )
     if not summary.limits:
         yield "no limit was met"
 
 
 def when(limit: Limit, summary: Summary) -> str:
-    """When a limit was met: seconds from the first moment of the trace, and times of day where moments are since 1970."""
+    """When a limit was met: seconds from the first moment of the trace, and times of day where moments are since
+    1970."""
     if limit.first_moment is None or limit.last_moment is None or summary.first_moment is None:
         return f"in rows {limit.first_row:,} to {limit.last_row:,}"
     first, last = limit.first_moment - summary.first_moment, limit.last_moment - summary.first_moment
@@ -209,7 +258,8 @@ def when(limit: Limit, summary: Summary) -> str:
 
 
 def limiting(summary: Summary, word: str) -> list[str]:
-    """The limits that a word is about, as `@2 pf.conf:7, max-src-conn 5`, by the rules that named it most; that of all rules once."""
+    """The limits that a word is about, as `@2 pf.conf:7, max-src-conn 5`, by the rules that named it most; that of all
+    rules once."""
     rules = summary.answers.get(word, {})
     notes = {rule: note for rule in sorted(rules, key=lambda it: -rules[it]) if (note := note_of(summary, word, rule))}
     if word in ("drop:states", "drop:src-nodes"):
@@ -220,15 +270,24 @@ def limiting(summary: Summary, word: str) -> list[str]:
 def held_point(summary: Summary) -> str:
     """What is held."""
     most = max((it.states for it in summary.held), default=None)
-    end = f"{counted(summary.end.states, 'state')} held at the end" if summary.end else "the report is cut before its end"
-    return f"{counted(most, 'state')} held at most, at {counted(len(summary.held), 'moment')} that were asked for; {end}" if most is not None else end
+    end = (
+        f"{counted(summary.end.states, 'state')} held at the end" if summary.end else "the report is cut before its end"
+    )
+    return (
+        f"{counted(most, 'state')} held at most, at {counted(len(summary.held), 'moment')} that were asked for; {end}"
+        if most is not None
+        else end
+    )
 
 
 def limits_headline(summary: Summary) -> str:
     """The headline where no users are named."""
     if not summary.limits:
         return "No limit was met."
-    return f"{counted(len(summary.limits), 'limit was', 'limits were')} met: {', '.join(it.word for it in summary.limits)}."
+    return (
+        f"{counted(len(summary.limits), 'limit was', 'limits were')} met: "
+        f"{', '.join(it.word for it in summary.limits)}."
+    )
 
 
 def pictures_parts(summary: Summary, figures: Sequence[Markup], why_none: str) -> Iterator[Child]:
@@ -244,7 +303,14 @@ def limits_parts(summary: Summary) -> Iterator[Child]:
     if not summary.limits:
         return
     rows: list[Sequence[Child]] = [
-        [it.word, "; ".join(limiting(summary, it.word)), f"{it.records:,}", when(it, summary), f"{it.seconds:,}", f"{it.killed:,}"]
+        [
+            it.word,
+            "; ".join(limiting(summary, it.word)),
+            f"{it.records:,}",
+            when(it, summary),
+            f"{it.seconds:,}",
+            f"{it.killed:,}",
+        ]
         for it in summary.limits
     ]
     extra = []
@@ -263,10 +329,14 @@ def users_parts(summary: Summary) -> Iterator[Child]:
         return
     counts = {it: users.outcomes.get(it, 0) for it in KINDS}
     rows: list[Sequence[Child]] = [
-        [it, f"{count:,}", "not counted" if it == LATE else share_text(count, users.counted), MEANINGS[it]] for it, count in counts.items()
+        [it, f"{count:,}", "not counted" if it == LATE else share_text(count, users.counted), MEANINGS[it]]
+        for it, count in counts.items()
     ]
     rows.append(["all", f"{users.connections:,}", f"of {users.counted:,}", ""])
-    parts: list[Child] = [table(["connections", "number", "share", "what it means"], rows, "snnt"), *refusals_parts(summary, users)]
+    parts: list[Child] = [
+        table(["connections", "number", "share", "what it means"], rows, "snnt"),
+        *refusals_parts(summary, users),
+    ]
     if users.without_beginning:
         parts.append(soft(f"Not counted: {users.without_beginning:,} whose beginning is not in the trace."))
     if users.begun_by_others:
@@ -278,10 +348,13 @@ def refusals_parts(summary: Summary, users: Users) -> Iterator[Child]:
     """By which words of which rules connections were refused, and how their sources got into a table."""
     if users.refusals:
         rows: list[Sequence[Child]] = [
-            [it.word, it.rule, note_of(summary, it.word, it.rule), f"{it.connections:,}", entering_of(summary, it)] for it in users.refusals
+            [it.word, it.rule, note_of(summary, it.word, it.rule), f"{it.connections:,}", entering_of(summary, it)]
+            for it in users.refusals
         ]
         yield tag("h3", "Refused by")
-        yield table(["word", "rule", "where, table, limit", "connections", "how the source got into the table"], rows, "cccnt")
+        yield table(
+            ["word", "rule", "where, table, limit", "connections", "how the source got into the table"], rows, "cccnt"
+        )
 
 
 def leftovers_parts(subject: Subject) -> Iterator[Child]:
@@ -295,9 +368,13 @@ def leftovers_parts(subject: Subject) -> Iterator[Child]:
     if subject.notes:
         parts.append(bullets(subject.notes))
     if others:
-        parts.append(soft(f"{counted(others, 'thing was', 'things were')} left out besides, which can change no answer."))
+        parts.append(
+            soft(f"{counted(others, 'thing was', 'things were')} left out besides, which can change no answer.")
+        )
     if parts:
-        yield section("Left out of the pf.conf, and can change the answer" if doubts else "Left out of the pf.conf", *parts)
+        yield section(
+            "Left out of the pf.conf, and can change the answer" if doubts else "Left out of the pf.conf", *parts
+        )
 
 
 def margins_parts(subject: Subject) -> Iterator[Child]:
@@ -317,11 +394,20 @@ def rules_parts(summary: Summary) -> Iterator[Child]:
     rows: list[Sequence[Child]] = []
     for item in shown:
         words = decided.get(item, {})
-        told = ", ".join(f"{word} {count:,}" for word, count in words.items()) or ("never" if item in summary.undecided else "")
+        told = ", ".join(f"{word} {count:,}" for word, count in words.items()) or (
+            "never" if item in summary.undecided else ""
+        )
         label = [summary.labels.get(item, "")] if has_labels else []
         place = [places.get(item, "")] if places else []
         rows.append([f"@{item}", *place, f"{sum(words.values()):,}", told, *label, summary.rules[item]])
-    heads = ["rule", *(["stands at"] if places else []), "records", "answers", *(["label"] if has_labels else []), "text"]
+    heads = [
+        "rule",
+        *(["stands at"] if places else []),
+        "records",
+        "answers",
+        *(["label"] if has_labels else []),
+        "text",
+    ]
     parts: list[Child] = [table(heads, rows, "s" + ("c" if places else "") + "nt" + ("c" if has_labels else "") + "c")]
     if len(shown) < len(summary.rules):
         parts.append(soft(f"Not shown: {len(summary.rules) - len(shown):,} rules that never decided."))
@@ -381,4 +467,6 @@ def timeline_of(summary: Summary) -> Timeline:
     """The run over time, of a summary with a trace."""
     has_users = summary.users is not None and summary.users.connections > 0
     held = [(it.moment, it.states) for it in summary.held]
-    return timelines.timeline_of(summary.steps, max(1, summary.step_seconds), held, summary.first_moment or 0, has_users)
+    return timelines.timeline_of(
+        summary.steps, max(1, summary.step_seconds), held, summary.first_moment or 0, has_users
+    )

@@ -1,4 +1,5 @@
-"""What is said beside a word and a rule of a report: where the rule stands, its table, its limit, and how a source got into the table."""
+"""What is said beside a word and a rule of a report: where the rule stands, its table, its limit, and how a source got
+into the table."""
 
 from __future__ import annotations
 
@@ -11,7 +12,10 @@ from pfplan.pf.reading_canonical_text import limit_of, limit_of_all, overload_of
 from pfplan.traces.accounts import Frames, reasons_of
 
 FILL = ("drop:states", "drop:max")
-TWO_STATES = "a forwarded connection holds two states in pf, and one here, as the trace is of one interface: pf's table is full sooner"
+TWO_STATES = (
+    "a forwarded connection holds two states in pf, and one here, as the trace is of one interface: pf's table is "
+    "full sooner"
+)
 
 
 def note_of(summary: Summary, word: str, rule: str) -> str:
@@ -22,7 +26,12 @@ def note_of(summary: Summary, word: str, rule: str) -> str:
         return ", ".join(it for it in (summary.origins.limits.get(limit.split(" ")[2], ""), limit) if it)
     overload = overload_of(text) if word.startswith("kill:") else None
     tables = [f"<{it}>" for it in tables_of(text)] if word == "block" else []
-    parts = [summary.origins.of(rule), *tables, limit_of(text, word), f"overload <{overload.table}>" if overload else ""]
+    parts = [
+        summary.origins.of(rule),
+        *tables,
+        limit_of(text, word),
+        f"overload <{overload.table}>" if overload else "",
+    ]
     return ", ".join(it for it in parts if it)
 
 
@@ -33,7 +42,8 @@ def text_of_rule(summary: Summary, rule: str) -> str:
 
 
 def entering_of(summary: Summary, refusal: Refusal) -> str:
-    """When and why the sources got into the table of the rule that refused them; nothing where no kill put them there."""
+    """When and why the sources got into the table of the rule that refused them; nothing where no kill put them
+    there."""
     if not refusal.entered or refusal.by is None or refusal.first is None or refusal.last is None:
         return ""
     word, rule = refusal.by
@@ -61,7 +71,9 @@ def skipped_lines(summary: Summary) -> Iterator[str]:
         records = sum(rules.get(f"@{item}", 0) for rules in summary.answers.values())
         place = summary.origins.items.get(item, "")
         name = (text_of_rule(summary, f"@{item}").split(" on ") + [""])[1].split(" ")[0]
-        yield f"set skip on {name}" + (f" ({place})" if place else "") + f": pf passes all packets there, and asks no rule: {counted(records, 'record')}"
+        yield f"set skip on {name}" + (
+            f" ({place})" if place else ""
+        ) + f": pf passes all packets there, and asks no rule: {counted(records, 'record')}"
 
 
 def frame_lines(frames: Frames) -> Iterator[str]:

@@ -57,7 +57,10 @@ def verdicts(found: Sizing) -> Iterator[str]:
         best_text = f"; the best is {share_of(found, best)} at {best:,}" if best is not None else ""
         yield f"No value that was tried serves {want}{best_text}."
     for low, high in runs:
-        yield f"At least {want} are served {f'at {low:,}' if low == high else f'from {low:,} to {high:,}'}{beyond(found, low, high)}."
+        yield (
+            f"At least {want} are served "
+            f"{f'at {low:,}' if low == high else f'from {low:,} to {high:,}'}{beyond(found, low, high)}."
+        )
     if found.is_cut:
         yield f"More runs (--runs) would tell the edges finer: {len(found.measures)} values were tried."
     falls = grids.valleys(found.shares)
@@ -65,8 +68,10 @@ def verdicts(found: Sizing) -> Iterator[str]:
         yield "Over the values that were tried the share rises and falls no more than once."
     for fall in falls[:5]:
         yield (
-            f"The share does not rise and fall once: from {share_of(found, fall.top)} at {fall.top:,} it falls to {share_of(found, fall.bottom)} "
-            f"at {fall.bottom:,}, and is {share_of(found, fall.again)} at {fall.again:,}. Between values that were not tried it may do so too."
+            f"The share does not rise and fall once: from {share_of(found, fall.top)} at {fall.top:,} it falls to "
+            f"{share_of(found, fall.bottom)} "
+            f"at {fall.bottom:,}, and is {share_of(found, fall.again)} at {fall.again:,}. Between values that were not "
+            "tried it may do so too."
         )
     if found.is_cut or falls or runs:
         yield "Between two values that were tried nothing is known."
@@ -77,7 +82,10 @@ def beyond(found: Sizing, low: int, high: int) -> str:
     values = sorted(found.measures)
     before = [it for it in values if it < low][-1:]
     after = [it for it in values if it > high][:1]
-    told = [f"at {it:,} {'the rules are refused' if found.measures[it].refused else 'it is ' + share_of(found, it)}" for it in before + after]
+    told = [
+        f"at {it:,} {'the rules are refused' if found.measures[it].refused else 'it is ' + share_of(found, it)}"
+        for it in before + after
+    ]
     return f"; {', '.join(told)}" if told else ""
 
 
@@ -90,13 +98,21 @@ def share_of(found: Sizing, value: int) -> str:
 def subject_of(found: Sizing) -> str:
     """What was varied, under what."""
     connections = max(it.connections for it in found.measures.values())
-    return f"{visible(found.trace)}; users {found.users}: {counted(connections, 'connection')}; wanted: at least {want_text(found.want)} served"
+    return (
+        f"{visible(found.trace)}; users {found.users}: {counted(connections, 'connection')}; wanted: at least "
+        f"{want_text(found.want)} served"
+    )
 
 
 def text_of(found: Sizing) -> str:
     """The table with a curve, and what it comes to, for people."""
     values = sorted(found.measures)
-    lines = [f"{found.varied.title}, now {found.varied.value:,}: {counted(len(values), 'value')} from {values[0]:,} to {values[-1]:,}", subject_of(found), ""]
+    lines = [
+        f"{found.varied.title}, now {found.varied.value:,}: {counted(len(values), 'value')} from {values[0]:,} to "
+        f"{values[-1]:,}",
+        subject_of(found),
+        "",
+    ]
     fates = fates_of(found)
     rows = [(value, cells_of(value, found.measures[value], found.moments, fates)) for value in values]
     heads = ["value", "served", "share", *fates, "dropped", "most held" if found.moments else "held last"]
@@ -124,7 +140,10 @@ def page_of(found: Sizing) -> str:
         answer(told[0], bool(grids.intervals(found.meets)), bullets(told[1:])),
         section("Curve", *curve_parts(found)),
         section("Values", table_of(found)),
-        tag("footer", "Made by pfplan, which is tested and not proved; the replays are those of the proved program pfsrc."),
+        tag(
+            "footer",
+            "Made by pfplan, which is tested and not proved; the replays are those of the proved program pfsrc.",
+        ),
     ]
     return document(title, parts)
 
@@ -148,14 +167,25 @@ def curve_parts(found: Sizing) -> Iterator[Child]:
     """The curves of the share and of what is held, or why there are none."""
     values = [it for it in sorted(found.measures) if not found.measures[it].refused]
     shares = tuple((float(it), 100 * found.shares[it]) for it in values)
-    held = tuple((float(it), float((found.measures[it].most_held if found.moments else found.measures[it].end.states) or 0)) for it in values)
+    held = tuple(
+        (float(it), float((found.measures[it].most_held if found.moments else found.measures[it].end.states) or 0))
+        for it in values
+    )
     if not values:
         return
     first, last = float(values[0]), float(values[-1])
     wanted = Series(Role.WANTED, Style.LINE, ((first, float(100 * found.want)), (last, float(100 * found.want))))
     log = grids.is_logarithmic(values)
     most = max(it[1] for it in held) * 1.08
-    served = Picture((wanted, Series(Role.SERVED, Style.POINTS, shares)), Across.VALUE, first, last, 104.0, per_cent=True, logarithmic=log)
+    served = Picture(
+        (wanted, Series(Role.SERVED, Style.POINTS, shares)),
+        Across.VALUE,
+        first,
+        last,
+        104.0,
+        per_cent=True,
+        logarithmic=log,
+    )
     states = Picture((Series(Role.HELD, Style.POINTS, held),), Across.VALUE, first, last, most, logarithmic=log)
     try:
         drawn = draw([served, states])

@@ -129,7 +129,10 @@ class Story:
             yield f"  At the end of the same second the packet of row {event.row} would have been let in."
         else:
             later = counted(found.let_in - second, "second")
-            yield f"  The packet of row {event.row} would have been let in at the end of second {found.let_in}, {later} later."
+            yield (
+                f"  The packet of row {event.row} would have been let in at the end of second {found.let_in}, {later} "
+                "later."
+            )
 
     def _rule(self, name: str) -> str:
         """A rule as it is told."""

@@ -38,7 +38,10 @@ def _lines(summary: Summary) -> Iterator[str]:
     yield from _part("sources that made the most states", _sources(summary.sources.made, "states"))
     yield from _part("sources of the most records", _sources(summary.sources.seen, "records"))
     if not summary.sources.is_exact:
-        yield "  there are so many sources that those with few records were not counted on: each count is at least what is told"
+        yield (
+            "  there are so many sources that those with few records were not counted on: each count is at least what "
+            "is told"
+        )
     if summary.interfaces:
         yield from _part("interfaces", _interfaces(summary.interfaces))
     yield from _part("held", _held(summary.held))
@@ -145,7 +148,10 @@ def _limiting_rules(summary: Summary, word: str) -> Iterator[str]:
 def _when(limit: Limit) -> str:
     if limit.first_moment is None or limit.last_moment is None:
         return f"first in row {limit.first_row}, last in row {limit.last_row}"
-    return f"first at {moment_text(limit.first_moment)}, last at {moment_text(limit.last_moment)}, in {limit.seconds:,} {'second' if limit.seconds == 1 else 'seconds'}"
+    return (
+        f"first at {moment_text(limit.first_moment)}, last at {moment_text(limit.last_moment)}, in {limit.seconds:,} "
+        f"{'second' if limit.seconds == 1 else 'seconds'}"
+    )
 
 
 def _sources(sources: Sequence[Source], unit: str) -> Iterator[str]:

@@ -10,7 +10,11 @@ from pfplan.pages.pictures import Across, Picture, Role, Series, Style, draw
 
 # the files of the pictures, by their kind
 FILES = {"held": "held.svg", "made": "states.svg", "users": "users.svg"}
-TITLES = {"held": "states held", "made": "states a second", "users": "users' connections a second, by their first packet"}
+TITLES = {
+    "held": "states held",
+    "made": "states a second",
+    "users": "users' connections a second, by their first packet",
+}
 KEYS = {
     "held": (),
     "made": (("new", Role.NEW), ("dropped by a limit", Role.DROPPED), ("killed", Role.KILLED)),
@@ -35,8 +39,11 @@ class Drawn:
 
 
 def kinds_of(line: Timeline) -> list[str]:
-    """The pictures that a run has: what is held where that was asked for, states a second, and users where there are some."""
-    return [kind for kind, is_there in (("held", bool(line.held)), ("made", True), ("users", line.has_users)) if is_there]
+    """The pictures that a run has: what is held where that was asked for, states a second, and users where there are
+    some."""
+    return [
+        kind for kind, is_there in (("held", bool(line.held)), ("made", True), ("users", line.has_users)) if is_there
+    ]
 
 
 def drawn_kinds(line: Timeline) -> dict[str, Drawn]:
@@ -94,7 +101,13 @@ def users_picture(line: Timeline, most: float) -> Picture:
 def stairs(line: Timeline, heights: Sequence[float]) -> tuple[tuple[float, float], ...]:
     """The outline of steps: each height from its moment to the next, the last one to the end of the axis."""
     begins = [it.begin for it in line.moments]
-    return tuple((at, height) for begin, end, height in zip(begins, [*begins[1:], line.end], heights) for at in (begin, end))
+    return tuple(
+        (at, height) for begin, end, height in zip(begins, [*begins[1:], line.end], heights) for at in (begin, end)
+    )
 
 
-MAKERS: dict[str, Callable[[Timeline, float], Picture]] = {"held": held_picture, "made": made_picture, "users": users_picture}
+MAKERS: dict[str, Callable[[Timeline, float], Picture]] = {
+    "held": held_picture,
+    "made": made_picture,
+    "users": users_picture,
+}

@@ -29,7 +29,8 @@ MOST_ALIKE = 20  # leftovers that change no answer, for one reason, each in a li
 
 @dataclass(frozen=True)
 class RuleOptions:
-    """What the command line says of a text: macros, addresses and interfaces by name, and files for tables, anchors and ifconfig."""
+    """What the command line says of a text: macros, addresses and interfaces by name, and files for tables, anchors and
+    ifconfig."""
 
     macros: tuple[tuple[str, str], ...] = ()
     addresses: tuple[tuple[str, Given], ...] = ()
@@ -46,10 +47,10 @@ class RuleOptions:
 class Ruleset:
     """A rules text, the label and the place of each of its items by number, and what was left out of the pf.conf.
 
-    The items in `skipped` stand for `set skip`, and come before all others. `limits` has the place of each limit for all rules.
-    `records` are those by which tables get their entries before the first packet (traces/entries.py); the text names them.
-    `pf_rules` are all rules and anchors as pf numbers them, also those that the rules text has not; behind `guessed`, where that is a place,
-    the numbers may be others.
+    The items in `skipped` stand for `set skip`, and come before all others. `limits` has the place of each limit for
+    all rules. `records` are those by which tables get their entries before the first packet (traces/entries.py); the
+    text names them. `pf_rules` are all rules and anchors as pf numbers them, also those that the rules text has not;
+    behind `guessed`, where that is a place, the numbers may be others.
     """
 
     text: str
@@ -67,12 +68,16 @@ class Ruleset:
         """The lines for standard error: what was left out, what else is to know, and how much there is of each."""
         changing = sum(it.changes_answer for it in self.leftovers)
         lines = [*_shown(self.leftovers), *(f"note: {it}" for it in self.notes)]
-        count = f"{len(self.origins)} item{'' if len(self.origins) == 1 else 's'}; left out: {changing} that can change an answer, {len(self.leftovers) - changing} that change none"
+        count = (
+            f"{len(self.origins)} item{'' if len(self.origins) == 1 else 's'}; left out: {changing} that can change an "
+            f"answer, {len(self.leftovers) - changing} that change none"
+        )
         return [*lines, count]
 
 
 def _shown(leftovers: Sequence[Leftover]) -> list[str]:
-    """The lines of leftovers. Of those that change no answer, many for one reason are one line, where the first of them stands."""
+    """The lines of leftovers. Of those that change no answer, many for one reason are one line, where the first of them
+    stands."""
 
     def kind(it: Leftover) -> tuple[str, str, str]:
         return it.file, it.text.split(" ")[0], it.reason
@@ -87,19 +92,24 @@ def _shown(leftovers: Sequence[Leftover]) -> list[str]:
             seen.add(kind(it))
             same = [other.line for other in leftovers if not other.changes_answer and kind(other) == kind(it)]
             word = printable(it.text.split(" ")[0])
-            lines.append(f"{printable(it.file)}: lines {min(same)} to {max(same)}: left out: {word}, {len(same):,} times: changes no answer: {it.reason}")
+            lines.append(
+                f"{printable(it.file)}: lines {min(same)} to {max(same)}: left out: {word}, {len(same):,} times: "
+                f"changes no answer: {it.reason}"
+            )
     return lines
 
 
 def convert(path: Path, options: RuleOptions) -> Ruleset:
-    """The rules text of a file. Trouble with status 3 at a syntax error, and with status 4 where the file can't be read."""
+    """The rules text of a file. Trouble with status 3 at a syntax error, and with status 4 where the file can't be
+    read."""
     check_rules(path)
     text = read_text(path)
     return convert_text(text, str(path), options, entries_of_text(text, path))
 
 
 def convert_named(path: Path, given: Path, options: RuleOptions) -> Ruleset:
-    """The rules text of a file that may be a copy of the pipe or the standard input that was `given`, by whose name it is told. Trouble as `convert`."""
+    """The rules text of a file that may be a copy of the pipe or the standard input that was `given`, by whose name it
+    is told. Trouble as `convert`."""
     if path == given:
         return convert(path, options)
     text = read_text(path)
@@ -109,10 +119,15 @@ def convert_named(path: Path, given: Path, options: RuleOptions) -> Ruleset:
 def convert_text(text: str, name: str, options: RuleOptions, records: Sequence[str] = ()) -> Ruleset:
     """The rules text of a text; `name` stands for its file in what is told, and says where the files are that it names.
 
-    `records` give tables their entries where the text is a rules text that was made before. Trouble where it says of such, and there are none.
+    `records` give tables their entries where the text is a rules text that was made before. Trouble where it says of
+    such, and there are none.
     """
     if marked(text) and not records:
-        raise Trouble(f"{name}: a rules text whose tables get entries by records, from a file beside it: it is to be given by its name", Status.RULES)
+        raise Trouble(
+            f"{name}: a rules text whose tables get entries by records, from a file beside it: it is to be given by "
+            "its name",
+            Status.RULES,
+        )
     teller = Teller(options.strict)
     sources = NamedFiles(options.root)
     parsed = parse(text, name, dict(options.macros), sources)
@@ -130,7 +145,9 @@ def convert_text(text: str, name: str, options: RuleOptions, records: Sequence[s
     files = list(dict.fromkeys([name, *(it.file for it in teller.told)]))
     told = sorted(teller.told, key=lambda it: (files.index(it.file), it.line))
     whole = "".join(f"{it}\n" for it in left)
-    limits = {limit: it.place for it in statements if isinstance(it, Setting) and it.name == "limit" for limit, _ in it.pairs}
+    limits = {
+        limit: it.place for it in statements if isinstance(it, Setting) and it.name == "limit" for limit, _ in it.pairs
+    }
     ruleset = Ruleset(
         whole, expander.labels, tuple(told), _notes(teller, made, sources), tuple(expander.origins), tuple(moving),
         tuple(expander.numbers.found), expander.numbers.guessed, frozenset(expander.skipped), limits,
@@ -140,17 +157,22 @@ def convert_text(text: str, name: str, options: RuleOptions, records: Sequence[s
 
 
 def _by_records(lines: Sequence[str], expander: Expander, teller: Teller) -> tuple[list[str], list[str]]:
-    """The lines without the entries of tables that get theirs by records, and these records. A note says which tables they are."""
+    """The lines without the entries of tables that get theirs by records, and these records. A note says which tables
+    they are."""
     moving = names_to_move(lines, expander.tables.persisting, MOST_BYTES)
     for name, (count, is_const) in moving.items():
         constant = "; the table is not const here, so that they can" if is_const else ""
-        teller.note(f"table <{name}> has no entries in the rules text: {count:,} come by records, before the first packet{constant}")
+        teller.note(
+            f"table <{name}> has no entries in the rules text: {count:,} come by records, before the first "
+            f"packet{constant}"
+        )
     left, records = moved(lines, moving)
     return ([mark_of(records), *left], records) if records else (left, records)
 
 
 def write_rules(path: Path | None, ruleset: Ruleset) -> None:
-    """Writes a rules text, and beside it the entries that come by records. None is standard output. Trouble with status 4 where that fails."""
+    """Writes a rules text, and beside it the entries that come by records. None is standard output. Trouble with status
+    4 where that fails."""
     if path and ruleset.records:
         write_entries(path, ruleset.records)
     with whole_file(path) as file:
@@ -158,7 +180,11 @@ def write_rules(path: Path | None, ruleset: Ruleset) -> None:
 
 
 def _expander(
-    statements: list[Statement], teller: Teller, sources: NamedFiles, options: RuleOptions, recorded: dict[str, list[str]]
+    statements: list[Statement],
+    teller: Teller,
+    sources: NamedFiles,
+    options: RuleOptions,
+    recorded: dict[str, list[str]],
 ) -> Expander:
     machine = _machine(options)
     tables = MadeTables()
@@ -171,7 +197,8 @@ def _expander(
 
 
 def machine_of(ifconfig: Path | None) -> Machine:
-    """The firewall that ifconfig told of. Trouble with status 3 where the file is not what ifconfig prints, 4 where it can't be read."""
+    """The firewall that ifconfig told of. Trouble with status 3 where the file is not what ifconfig prints, 4 where it
+    can't be read."""
     if ifconfig is None:
         return Machine()
     machine = Machine(read_ifconfig(read_text(ifconfig)))
@@ -214,7 +241,11 @@ def _check_size(name: str, lines: list[str], ruleset: Ruleset, limits: dict[str,
     tables = len(set(re.findall(r"<([A-Za-z0-9_.-]+)>", ruleset.text)))
     entries = sum(it.count(",") + 1 for it in lines if it.startswith("table ") and "{" in it)
     for count, most, what in (
-        (len(ruleset.text), MOST_BYTES, f"bytes of rules text; pfsrc takes {MOST_BYTES} (with --out FILE, entries of tables go into FILE.entries)"),
+        (
+            len(ruleset.text),
+            MOST_BYTES,
+            f"bytes of rules text; pfsrc takes {MOST_BYTES} (with --out FILE, entries of tables go into FILE.entries)",
+        ),
         (tables, limits["tables"], f"tables; set limit tables is {limits['tables']}"),
         (entries, limits["table-entries"], f"entries of tables; set limit table-entries is {limits['table-entries']}"),
     ):

@@ -1,4 +1,5 @@
-"""The reader of tokens that reading_statements.py and reading_filters.py share: one token ahead, lists in braces, and what a syntax error says."""
+"""The reader of tokens that reading_statements.py and reading_filters.py share: one token ahead, lists in braces, and
+what a syntax error says."""
 
 import difflib
 from collections.abc import Callable, Iterable

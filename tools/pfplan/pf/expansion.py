@@ -1,6 +1,7 @@
 """Statements to the lines of a rules text: lists expanded as pfctl does, and what can't be carried told.
 
-Combinations come in this order: interfaces, protocols, source hosts, source ports, destination hosts, destination ports.
+Combinations come in this order: interfaces, protocols, source hosts, source ports, destination hosts, destination
+ports.
 """
 
 import itertools
@@ -8,12 +9,38 @@ import re
 from collections.abc import Iterator
 from dataclasses import dataclass, field, replace
 
-from pfplan.pf.left_out import PASSES_MORE, TRANSLATIONS, TRANSLATION_NOTE, Reason, Teller, harmless, reason_of_match, reason_of_other, reason_of_part, telling
+from pfplan.pf.left_out import (
+    PASSES_MORE,
+    TRANSLATIONS,
+    TRANSLATION_NOTE,
+    Reason,
+    Teller,
+    harmless,
+    reason_of_match,
+    reason_of_other,
+    reason_of_part,
+    telling,
+)
 from pfplan.pf.lexer import printable
 from pfplan.pf.linking_anchors import DEEPEST
 from pfplan.pf.numbers_of_pf import Key, Numbered, Numbers
 from pfplan.pf.services import shown_protocol
-from pfplan.pf.statements import Anchor, Antispoof, Filter, Host, HostKind, Interface, Other, Place, Rule, Setting, Side, State, Statement, Table
+from pfplan.pf.statements import (
+    Anchor,
+    Antispoof,
+    Filter,
+    Host,
+    HostKind,
+    Interface,
+    Other,
+    Place,
+    Rule,
+    Setting,
+    Side,
+    State,
+    Statement,
+    Table,
+)
 from pfplan.pf.writing_lists import NO_CHOICE, Choice, Chooser, Gap, Options, counts_states, places_in_pf
 from pfplan.pf.writing_settings import Settings
 from pfplan.pf.writing_states import beyond_pfsrc, carried_state, check_state, refuse
@@ -40,12 +67,15 @@ class Combination:
         """`all`, or both sides."""
         if (self.source, self.source_port, self.destination, self.destination_port) == ("any", "", "any", ""):
             return "all"
-        return " ".join(it for it in ("from", self.source, self.source_port, "to", self.destination, self.destination_port) if it)
+        return " ".join(
+            it for it in ("from", self.source, self.source_port, "to", self.destination, self.destination_port) if it
+        )
 
 
 @dataclass
 class Scope:
-    """Where statements stand: the anchors around them, the names that anchors have there, and tables of that anchor alone.
+    """Where statements stand: the anchors around them, the names that anchors have there, and tables of that anchor
+    alone.
 
     A copy has the rules of a body that stand before it already; its tables are theirs. `ruleset` is pf's.
     """
@@ -83,7 +113,8 @@ class Expander:
         self._body(statements, Scope())
 
     def _skip(self, settings: list[Setting]) -> None:
-        """Rules in front of all others for `set skip`: pf passes what is on these interfaces, and makes no state. `none` alone undoes it."""
+        """Rules in front of all others for `set skip`: pf passes what is on these interfaces, and makes no state.
+        `none` alone undoes it."""
         skipped: dict[str, Setting] = {}
         for it in settings:
             if it.interfaces == ("none",):
@@ -126,14 +157,18 @@ class Expander:
             self.lines.extend(self.settings.lines(statement))
 
     def _tables(self, defined: list[Table], scope: Scope) -> None:
-        """Makes the lines of tables before the rules are expanded, which may stand in front of them. The last of a name stands.
+        """Makes the lines of tables before the rules are expanded, which may stand in front of them. The last of a name
+        stands.
 
-        A table that rules put sources into is no `const` one: pf's kernel adds them all the same, as far as known, and pfsrc would refuse it.
+        A table that rules put sources into is no `const` one: pf's kernel adds them all the same, as far as known, and
+        pfsrc would refuse it.
         """
         last = {it.name: it for it in defined}
         for it in defined:
             if last[it.name] is not it:
-                self.teller.tell_whole(it, telling(f"<{it.name}> is defined again at line {last[it.name].place.line}, and that stands"))
+                self.teller.tell_whole(
+                    it, telling(f"<{it.name}> is defined again at line {last[it.name].place.line}, and that stands")
+                )
                 continue
             name = scope.tables.get(it.name, self.chooser.tables.plain(it.name))
             if "const" in it.parts and it.name in self.overloaded:
@@ -149,7 +184,8 @@ class Expander:
                 self._lines_of_tables[id(it)] = line
 
     def _antispoof(self, statement: Antispoof, scope: Scope) -> None:
-        """The rules that pfctl makes of it: no packet of the interface's networks from elsewhere, and none from its own addresses."""
+        """The rules that pfctl makes of it: no packet of the interface's networks from elsewhere, and none from its own
+        addresses."""
         for host in statement.interfaces:
             network = replace(host, text=f"{host.text}:network")
             asked = Filter("in", statement.log, statement.quick, family=statement.family, parts=statement.parts)
@@ -194,7 +230,9 @@ class Expander:
 
     def _item(self, place: Place, line: str, number: int | None) -> None:
         if len(self.origins) == MOST_ITEMS:
-            raise refuse(place, f"the text stands for more than {MOST_ITEMS} rules and anchors, which pfsrc does not take")
+            raise refuse(
+                place, f"the text stands for more than {MOST_ITEMS} rules and anchors, which pfsrc does not take"
+            )
         self.numbers.item(number, len(self.origins))
         self.origins.append(place)
         self.lines.append(line)
@@ -231,7 +269,8 @@ class Expander:
         self.labels[number] = re.sub(r"\$(srcaddr|dstaddr|srcport|dstport|proto|if|nr)", lambda it: words[it[1]], label)
 
     def _combinations(self, statement: Rule | Anchor, asked: Filter, scope: Scope, counts: bool) -> list[Combination]:
-        """All combinations that are of one family. What can't be carried of a list is told, as is the statement if nothing is left."""
+        """All combinations that are of one family. What can't be carried of a list is told, as is the statement if
+        nothing is left."""
         asked = self._with_tables(asked, scope)
         self._note_negations(statement, asked)
         choices = self.chooser
@@ -274,17 +313,28 @@ class Expander:
         names = self._renamed(scope)
 
         def renamed(side: Side) -> Side:
-            return replace(side, hosts=tuple(replace(it, text=names.get(it.text, it.text)) if it.kind is HostKind.TABLE else it for it in side.hosts))
+            return replace(
+                side,
+                hosts=tuple(
+                    replace(it, text=names.get(it.text, it.text)) if it.kind is HostKind.TABLE else it
+                    for it in side.hosts
+                ),
+            )
 
         return replace(asked, source=renamed(asked.source), destination=renamed(asked.destination))
 
     def _note_negations(self, statement: Statement, asked: Filter) -> None:
         """A list with two negated items asks for nothing, as each item is a rule of its own: that is said."""
-        lists: list[tuple[Host, ...] | tuple[Interface, ...]] = [asked.source.hosts, asked.destination.hosts, asked.interfaces]
+        lists: list[tuple[Host, ...] | tuple[Interface, ...]] = [
+            asked.source.hosts,
+            asked.destination.hosts,
+            asked.interfaces,
+        ]
         if any(len(it) > 1 and any(item.negated for item in it) for it in lists):
             where = f"{printable(statement.place.file)}: line {statement.place.line}"
             self.teller.note(
-                f"{where}: a list with a negated item: each item is a rule of its own, as in pf, so one rule matches what another leaves out"
+                f"{where}: a list with a negated item: each item is a rule of its own, as in pf, so one rule matches "
+                "what another leaves out"
             )
 
     def _anchor(self, anchor: Anchor, scope: Scope) -> None:
@@ -292,7 +342,10 @@ class Expander:
         if self._goes_whole(anchor):
             return
         if anchor.body is None:
-            self.teller.tell_whole(anchor, telling("its rules are loaded by others while pf runs; --anchor NAME=FILE gives them", is_missing=True))
+            self.teller.tell_whole(
+                anchor,
+                telling("its rules are loaded by others while pf runs; --anchor NAME=FILE gives them", is_missing=True),
+            )
             return
         if scope.depth == DEEPEST:
             self.teller.tell_whole(anchor, telling(f"it stands inside {DEEPEST} others, and pfsrc takes no more"))
@@ -303,7 +356,9 @@ class Expander:
         counts = any_counts(anchor.body)
         heads = self._combinations(anchor, anchor.filter, scope, counts)
         if counts and (len(heads) > 1 or id(anchor.body) in self._opened):
-            self.teller.tell_whole(anchor, telling("it has the same rules as another anchor, and they would count states apart"))
+            self.teller.tell_whole(
+                anchor, telling("it has the same rules as another anchor, and they would count states apart")
+            )
             return
         if heads:
             self._tell_parts(anchor)
@@ -315,7 +370,11 @@ class Expander:
         name = re.sub(r"[^A-Za-z0-9_.-]", "_", anchor.name)[:63]
         other = scope.anchors.get(name)
         if anchor.name and other is not None and other.name == anchor.name and other.body is not anchor.body:
-            raise refuse(anchor.place, f'anchor "{printable(anchor.name)}": line {other.place.line} has an anchor of that name with other rules')
+            raise refuse(
+                anchor.place,
+                f'anchor "{printable(anchor.name)}": line {other.place.line} has an anchor of that name with other '
+                "rules",
+            )
 
     def _note_name(self, anchor: Anchor, name: str, *, is_lost: bool) -> None:
         if is_lost:
@@ -332,7 +391,18 @@ class Expander:
         asked = anchor.filter
         flags = f"flags {asked.flags}" if asked.flags else ""
         quick = "quick" if asked.quick else ""
-        line = _joined("anchor", shown, asked.direction, quick, head.interface, head.family, head.protocol, head.hosts(), flags, "{")
+        line = _joined(
+            "anchor",
+            shown,
+            asked.direction,
+            quick,
+            head.interface,
+            head.family,
+            head.protocol,
+            head.hosts(),
+            flags,
+            "{",
+        )
         self._item(anchor.place, line, number)
         path = f"{scope.path}.{name or 'anchor'}".strip(".")
         body = anchor.body or ()
@@ -340,7 +410,9 @@ class Expander:
         if id(body) not in self._opened:
             self._opened[id(body)] = self._own_tables(body, path)
         ruleset = self.numbers.anchor(scope.ruleset, anchor, number)
-        self._body(list(body), Scope(scope.depth + 1, path, tables=self._opened[id(body)], is_copy=is_copy, ruleset=ruleset))
+        self._body(
+            list(body), Scope(scope.depth + 1, path, tables=self._opened[id(body)], is_copy=is_copy, ruleset=ruleset)
+        )
         self.lines.append("}")
 
 

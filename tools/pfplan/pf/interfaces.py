@@ -1,4 +1,5 @@
-"""The interfaces of the firewall: their groups and addresses, from what ifconfig prints there or from the command line."""
+"""The interfaces of the firewall: their groups and addresses, from what ifconfig prints there or from the command
+line."""
 
 import ipaddress
 import re
@@ -15,7 +16,8 @@ _HEAD = re.compile(r"([A-Za-z0-9_.-]+): flags=[0-9a-f]+(?:<([A-Z0-9_,]*)>)?")
 
 @dataclass(frozen=True)
 class Location:
-    """An address or network that a name stands for. A link-local address has the interface that it is on as its zone."""
+    """An address or network that a name stands for. A link-local address has the interface that it is on as its
+    zone."""
 
     network: Network
     zone: str = ""
@@ -33,7 +35,8 @@ class Configured:
 
 @dataclass
 class Interface:
-    """One interface of the firewall; `mac` is its address on its link, and `parent` the interface that a carp(4) is on, where it has one."""
+    """One interface of the firewall; `mac` is its address on its link, and `parent` the interface that a carp(4) is on,
+    where it has one."""
 
     name: str
     is_loopback: bool = False
@@ -45,9 +48,11 @@ class Interface:
 
 @dataclass
 class Machine:
-    """What is known of the firewall: `interfaces` by name (none without ifconfig), and what the command line says of names.
+    """What is known of the firewall: `interfaces` by name (none without ifconfig), and what the command line says of
+    names.
 
-    Of `given`, a name with `:network` has networks, and any other has addresses, whose networks are known where they have a length.
+    Of `given`, a name with `:network` has networks, and any other has addresses, whose networks are known where they
+    have a length.
     """
 
     interfaces: dict[str, Interface] = field(default_factory=dict)
@@ -93,11 +98,13 @@ class Machine:
         return [found for it in names for found in _locations_on(self.interfaces[it], modifiers)]
 
     def macs(self, name: str) -> list[str]:
-        """The addresses to which the frames of an interface go: its own, and those of each carp(4) on it. None where it has none."""
+        """The addresses to which the frames of an interface go: its own, and those of each carp(4) on it. None where it
+        has none."""
         return [it.mac for it in self.interfaces.values() if it.mac and name in (it.name, it.parent)]
 
     def inside(self) -> list[Network]:
-        """What is behind the firewall, with its own addresses: the networks of interfaces that are neither loopback nor `egress`."""
+        """What is behind the firewall, with its own addresses: the networks of interfaces that are neither loopback nor
+        `egress`."""
         found: list[Network] = []
         for it in self.interfaces.values():
             for configured in it.addresses:
@@ -140,7 +147,8 @@ def _first_of_each_family(found: list[Location]) -> list[Location]:
 
 
 def read_ifconfig(text: str) -> dict[str, Interface]:
-    """The interfaces in what ifconfig prints (ifconfig(8)); lines that say nothing of names, groups and addresses are passed over."""
+    """The interfaces in what ifconfig prints (ifconfig(8)); lines that say nothing of names, groups and addresses are
+    passed over."""
     found: dict[str, Interface] = {}
     current: Interface | None = None
     for line in text.splitlines():
@@ -191,7 +199,8 @@ def _length(address: str, behind: dict[str, str], most: int) -> int:
 
 
 def prefix_of(text: str, length: int | None) -> Network | None:
-    """The network that a text of an address and a length name; `10/8` and `172.16/12` are read as pfctl does. None where it is none."""
+    """The network that a text of an address and a length name; `10/8` and `172.16/12` are read as pfctl does. None
+    where it is none."""
     if length is not None and re.fullmatch(r"[0-9]{1,3}(\.[0-9]{1,3}){0,2}", text):
         text += ".0" * (3 - text.count("."))
     if "%" in text:
@@ -204,7 +213,8 @@ def prefix_of(text: str, length: int | None) -> Network | None:
 
 
 def shown(network: Network) -> str:
-    """A network as a rules text writes it: without the length that is the whole address's, and without dots in an IPv6 address."""
+    """A network as a rules text writes it: without the length that is the whole address's, and without dots in an IPv6
+    address."""
     text = str(network.network_address)
     if network.version == 6 and "." in text:
         number = int(network.network_address) & 0xFFFFFFFF

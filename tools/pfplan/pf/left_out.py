@@ -15,7 +15,8 @@ EITHER_WAY = "pf may block or pass more"
 
 @dataclass(frozen=True)
 class Leftover:
-    """One thing that was left out: where it stands, its text, the reason, whether it can change an answer, and which way.
+    """One thing that was left out: where it stands, its text, the reason, whether it can change an answer, and which
+    way.
 
     It `is_missing` where the reason names a word of the command line that gives what is not there.
     """
@@ -38,8 +39,8 @@ class Leftover:
 class Reason:
     """Why something is left out. A rule `goes` whole where it would match other packets without it.
 
-    `way` is which way pf answers otherwise; where it is empty, that follows from what the statement does. With `is_missing` the text
-    says which word of the command line gives what is not there.
+    `way` is which way pf answers otherwise; where it is empty, that follows from what the statement does. With
+    `is_missing` the text says which word of the command line gives what is not there.
     """
 
     text: str
@@ -99,7 +100,9 @@ _REASONS = {
     "divert-packet": ELSEWHERE,
     "nat-to": telling(TRANSLATED, OTHER_STATES),
     "rdr-to": telling(TRANSLATED, OTHER_STATES),
-    "binat-to": telling(f"{TRANSLATED}; the rule is carried for packets out, and that for packets in is not", OTHER_STATES),
+    "binat-to": telling(
+        f"{TRANSLATED}; the rule is carried for packets out, and that for packets in is not", OTHER_STATES
+    ),
     "af-to": telling(TRANSLATED, OTHER_STATES),
     "once": beyond("the rule leaves at its first match"),
     "max-pkt-rate": beyond("it counts packets, not states"),
@@ -110,12 +113,16 @@ _REASONS = {
 }
 TRANSLATIONS = ("nat-to", "rdr-to", "binat-to", "af-to")
 TRANSLATION_NOTE = (
-    "addresses are translated by this text (nat-to, rdr-to, binat-to or af-to), and in the rules that come of it they are not: the rules"
-    " behind see the addresses that the trace has. A trace taken on one side of the translation is answered by the rules that name"
+    "addresses are translated by this text (nat-to, rdr-to, binat-to or af-to), and in the rules that come of it they "
+    "are not: the rules"
+    " behind see the addresses that the trace has. A trace taken on one side of the translation is answered by the "
+    "rules that name"
     " addresses of that side; for a trace of the other side the answer can be wrong"
 )
 _OTHERS = {
-    "include": telling("its file is not there, so its rules are not; --root says below which folder to look", is_missing=True),
+    "include": telling(
+        "its file is not there, so its rules are not; --root says below which folder to look", is_missing=True
+    ),
     "scrub": harmless(f"old syntax; {SCRUBS}"),
     "scrub-anchor": harmless(f"old syntax; {SCRUBS}"),
     "queue": harmless("it orders packets that pass"),

@@ -75,7 +75,8 @@ def trouble(token: Token, message: str) -> Trouble:
 
 @dataclass
 class Budget:
-    """What the texts of one call may stand for together: far more than any ruleset has, so that none takes minutes or all memory."""
+    """What the texts of one call may stand for together: far more than any ruleset has, so that none takes minutes or
+    all memory."""
 
     tokens: int = 1_000_000
     expanded: int = 2_000_000  # characters that macros stand for
@@ -87,16 +88,23 @@ class Budget:
         left = getattr(self, what) - count
         setattr(self, what, left)
         if left < 0:
-            named = {"tokens": "words", "expanded": "characters by its macros", "files": "files that it includes", "rules": "rules by its lists"}
+            named = {
+                "tokens": "words",
+                "expanded": "characters by its macros",
+                "files": "files that it includes",
+                "rules": "rules by its lists",
+            }
             whole: int = getattr(Budget, what)
-            raise Trouble(f"{printable(file)}: line {line}: the text stands for more than {whole:,} {named[what]}", Status.RULES)
+            raise Trouble(
+                f"{printable(file)}: line {line}: the text stands for more than {whole:,} {named[what]}", Status.RULES
+            )
 
 
 class Lexer:
     """Reads a text token by token. The macros are asked as they are when a `$name` is reached.
 
-    The text of a macro is read in place of its name and together with what stands directly behind it, so `$if:network` is one
-    word. Inside of it `$` means nothing, as in pfctl.
+    The text of a macro is read in place of its name and together with what stands directly behind it, so `$if:network`
+    is one word. Inside of it `$` means nothing, as in pfctl.
     """
 
     def __init__(self, text: str, file: str, macros: Mapping[str, str], budget: Budget | None = None) -> None:
@@ -110,7 +118,8 @@ class Lexer:
         self._budget = budget or Budget()
 
     def next(self) -> Token:
-        """The next token; at the end of the text END, again and again. Trouble with status 3 at what is no token, or past the budget."""
+        """The next token; at the end of the text END, again and again. Trouble with status 3 at what is no token, or
+        past the budget."""
         self._budget.take("tokens", 1, self._file, self._line)
         spaced = False
         while True:
@@ -151,7 +160,8 @@ class Lexer:
         return Token(Kind.MARK, char, self._file, line, spaced)
 
     def _number(self, char: str) -> str:
-        """A number, where one ends so that it can be one; else nothing, and what was read is put back behind its first character."""
+        """A number, where one ends so that it can be one; else nothing, and what was read is put back behind its first
+        character."""
         text = char
         char = self._read()
         while char and char in "0123456789":

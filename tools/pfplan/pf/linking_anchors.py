@@ -29,7 +29,12 @@ class Linker:
         for it in loads:
             path = self.sources.find(it.path, it.place)
             if path is None:
-                self.teller.tell_whole(it, telling("its file is not there, so its rules are not; --anchor NAME=FILE gives it", is_missing=True))
+                self.teller.tell_whole(
+                    it,
+                    telling(
+                        "its file is not there, so its rules are not; --anchor NAME=FILE gives it", is_missing=True
+                    ),
+                )
             else:
                 self.files.setdefault(it.name.strip("/"), path)
                 self._places.setdefault(path, it.place)
@@ -59,12 +64,15 @@ class Linker:
         return tuple(self._linked(it, name, depth + 1) for it in body)
 
     def _loaded(self, path: Path) -> list[Statement]:
-        """The rules of an anchor's file, read with macros of its own. Settings in it are told: pf takes none of them."""
+        """The rules of an anchor's file, read with macros of its own. Settings in it are told: pf takes none of
+        them."""
         with unquoted(path, self.sources, self._places.get(path, Place(str(path), 1))):
             found = parse_file(path, dict(self.macros), self.sources).statements
         for it in found:
             if isinstance(it, Setting):
                 self.teller.tell_whole(it, harmless("pf takes no settings from the file of an anchor"))
             if isinstance(it, Load):
-                self.teller.tell_whole(it, telling("an anchor's file loads no others here; --anchor NAME=FILE gives them", is_missing=True))
+                self.teller.tell_whole(
+                    it, telling("an anchor's file loads no others here; --anchor NAME=FILE gives them", is_missing=True)
+                )
         return [it for it in found if not isinstance(it, Setting | Load)]

@@ -15,9 +15,9 @@ MOST_BYTES = 64 << 20  # of one file
 class NamedFiles:
     """Finds the files that a text names: an absolute name below `root`, a relative one beside the file that names it.
 
-    With `root` nothing outside of it is read, but for what is beside the text and below. Without it an absolute name is that of this machine,
-    which `found` tells; nothing of such a file is quoted, as somebody else may have written the text. Where no file has the absolute name,
-    one of the same last name beside the text is taken, and `found` tells so.
+    With `root` nothing outside of it is read, but for what is beside the text and below. Without it an absolute name is
+    that of this machine, which `found` tells; nothing of such a file is quoted, as somebody else may have written the
+    text. Where no file has the absolute name, one of the same last name beside the text is taken, and `found` tells so.
     """
 
     root: Path | None = None
@@ -27,7 +27,8 @@ class NamedFiles:
     _beside: Path | None = None
 
     def find(self, name: str, place: Place) -> Path | None:
-        """The file of that name, or None where there is none. Trouble with status 3 where it leads out of `root`, or there are too many."""
+        """The file of that name, or None where there is none. Trouble with status 3 where it leads out of `root`, or
+        there are too many."""
         self.budget.take("files", 1, place.file, place.line)
         path = Path(name)
         beside = Path(place.file).parent
@@ -38,7 +39,9 @@ class NamedFiles:
             return self._confined(self._file(self.root / path.relative_to("/")), name, place)
         if found := self._file(path):
             self.strange.add(found)
-            self.found.append("absolute names in the text are read from this machine; --root FOLDER confines them to a folder")
+            self.found.append(
+                "absolute names in the text are read from this machine; --root FOLDER confines them to a folder"
+            )
             return found
         if near := self._file(beside / path.name):
             self.found.append(f"{name} is read from {near}")
@@ -46,13 +49,21 @@ class NamedFiles:
         return None
 
     def _confined(self, found: Path | None, name: str, place: Place) -> Path | None:
-        """The file, where it is in `root` or below the text's own folder. A link that leads out of both is refused, as `..` is."""
+        """The file, where it is in `root` or below the text's own folder. A link that leads out of both is refused, as
+        `..` is."""
         if found is None or self.root is None:
             return found
         whole = found.resolve()
-        if whole.is_relative_to(self.root.resolve()) or self._beside is not None and whole.is_relative_to(self._beside.resolve()):
+        if (
+            whole.is_relative_to(self.root.resolve())
+            or self._beside is not None
+            and whole.is_relative_to(self._beside.resolve())
+        ):
             return found
-        raise Trouble(f"{printable(place.file)}: line {place.line}: '{printable(name)}' leads out of --root {self.root}", Status.RULES)
+        raise Trouble(
+            f"{printable(place.file)}: line {place.line}: '{printable(name)}' leads out of --root {self.root}",
+            Status.RULES,
+        )
 
     def _file(self, path: Path) -> Path | None:
         try:

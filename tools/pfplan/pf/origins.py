@@ -11,7 +11,8 @@ from pfplan.pf.statements import Place
 
 @dataclass(frozen=True, slots=True)
 class Origins:
-    """Where rules and limits stand, as `pf.conf:41`: rules by number, limits by name. The rules in `skipped` stand for `set skip`."""
+    """Where rules and limits stand, as `pf.conf:41`: rules by number, limits by name. The rules in `skipped` stand for
+    `set skip`."""
 
     items: Mapping[int, str] = field(default_factory=dict)
     limits: Mapping[str, str] = field(default_factory=dict)

@@ -19,7 +19,8 @@ _OF_ALL = {"drop:states": "states", "drop:src-nodes": "src-nodes"}
 
 @dataclass(frozen=True, slots=True)
 class Overload:
-    """The `overload` of a rule: its table, whether a kill takes the source's other states of the rule, and whether those of all rules."""
+    """The `overload` of a rule: its table, whether a kill takes the source's other states of the rule, and whether
+    those of all rules."""
 
     table: str
     flushes: bool
@@ -44,7 +45,8 @@ def flushes_of(texts: Sequence[str]) -> dict[str, bool]:
 
 
 def limit_of(text: str, word: str) -> str:
-    """The options of a rule that a word of a report names, as `max-src-conn-rate 3/10`; nothing where it names none of the rule's."""
+    """The options of a rule that a word of a report names, as `max-src-conn-rate 3/10`; nothing where it names none of
+    the rule's."""
     names = word.partition(":")[2].split("+")
     options = {name: value for name, value in re.findall(r"[(,] ?([a-z-]+) (\d+(?:/\d+)?)", text)}
     return ", ".join(f"{name} {options[name]}" for name in names if name in LIMITS and name in options)

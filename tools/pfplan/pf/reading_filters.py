@@ -1,4 +1,5 @@
-"""The parts that rules and anchors share: interfaces, protocols, hosts, ports, state options and the rest (pf.conf(5), PARAMETERS)."""
+"""The parts that rules and anchors share: interfaces, protocols, hosts, ports, state options and the rest (pf.conf(5),
+PARAMETERS)."""
 
 import re
 
@@ -25,24 +26,26 @@ _POOL_WORDS = ("bitmask", "random", "round-robin", "static-port", "sticky-addres
 _ONE_WORD = ("label", "tag", "tagged", "received-on", "tos", "rtable", "prio")
 _ALONE = ("fragment", "allow-opts", "once", "divert-reply", "fastroute")
 PARTS = (
-    *_TRANSLATIONS, *_ROUTES, *_ONE_WORD, *_ALONE, "user", "group", "icmp-type", "icmp6-type", "queue", "set", "scrub", "probability",
-    "divert-to", "divert-packet", "max-pkt-rate",
+    *_TRANSLATIONS, *_ROUTES, *_ONE_WORD, *_ALONE, "user", "group", "icmp-type", "icmp6-type", "queue", "set", "scrub",
+    "probability", "divert-to", "divert-packet", "max-pkt-rate",
 )  # fmt: skip
 AFTER_HOSTS = (*PARTS, "flags", "keep", "modulate", "synproxy", "no")
 HEAD = ("in", "out", "log", "quick", "on", "inet", "inet6", "proto", "all", "from", "to")
 # the words that are no strings to pfctl, so none of them is the key of source-hash
 KEYWORDS = frozenset((
-    *HEAD, *AFTER_HOSTS, *_POOL_WORDS, *_STATE_NUMBERS, *_STATE_WORDS, *PARTS, "anchor", "antispoof", "any", "bandwidth", "block", "block-policy",
-    "burst", "code", "debug", "default", "delay", "file", "fingerprints", "flows", "flush", "for", "global", "hostid", "include", "limit", "load",
-    "loginterface", "match", "matches", "max-mss", "max-src-conn-rate", "min-ttl", "no-df", "no-route", "optimization", "overload", "parent",
-    "pass", "port", "qlimit", "quantum", "random-id", "rdomain", "reassemble", "return", "return-icmp", "return-icmp6", "return-rst", "route",
-    "rule", "ruleset-optimization", "skip", "source-hash", "source-track", "state", "state-defaults", "state-policy", "syncookies", "table",
-    "target", "timeout", "ttl", "urpf-failed", "weight",
+    *HEAD, *AFTER_HOSTS, *_POOL_WORDS, *_STATE_NUMBERS, *_STATE_WORDS, *PARTS, "anchor", "antispoof", "any",
+    "bandwidth", "block", "block-policy", "burst", "code", "debug", "default", "delay", "file", "fingerprints", "flows",
+    "flush", "for", "global", "hostid", "include", "limit", "load", "loginterface", "match", "matches", "max-mss",
+    "max-src-conn-rate", "min-ttl", "no-df", "no-route", "optimization", "overload", "parent", "pass", "port", "qlimit",
+    "quantum", "random-id", "rdomain", "reassemble", "return", "return-icmp", "return-icmp6", "return-rst", "route",
+    "rule", "ruleset-optimization", "skip", "source-hash", "source-track", "state", "state-defaults", "state-policy",
+    "syncookies", "table", "target", "timeout", "ttl", "urpf-failed", "weight",
 ))  # fmt: skip
 
 
 class FilterReader:
-    """Reads the parts of a rule in pf's order. Each method takes its part, or raises Trouble at the token that is no part of it."""
+    """Reads the parts of a rule in pf's order. Each method takes its part, or raises Trouble at the token that is no
+    part of it."""
 
     def __init__(self, cursor: Cursor) -> None:
         self.at = cursor
@@ -68,7 +71,9 @@ class FilterReader:
                 state = self.state()
             else:
                 parts.append(self.part())
-        return Filter(direction, log, quick, interfaces, family, protocols, source, destination, flags, state, tuple(parts))
+        return Filter(
+            direction, log, quick, interfaces, family, protocols, source, destination, flags, state, tuple(parts)
+        )
 
     def _once(self, before: object, what: str) -> None:
         if before:
@@ -140,11 +145,14 @@ class FilterReader:
         if not self.at.take_word("port"):
             return Side(hosts)
         if not protocols or any(it not in (TCP, UDP) for it in protocols):
-            raise trouble(token, "'port': a port wants 'proto tcp' or 'proto udp', and no other protocol, in the same rule")
+            raise trouble(
+                token, "'port': a port wants 'proto tcp' or 'proto udp', and no other protocol, in the same rule"
+            )
         return Side(hosts, self.at.listed(self.port))
 
     def host(self) -> Host:
-        """A host of a rule: `any`, an address, a range, a table, an interface in parentheses, or what asks for routes."""
+        """A host of a rule: `any`, an address, a range, a table, an interface in parentheses, or what asks for
+        routes."""
         if self.at.take_word("any"):
             return ANY_HOST
         negated = self.at.take_mark("!")
@@ -175,7 +183,8 @@ class FilterReader:
         return self.at.want_number(0, 128, "the length of a prefix") if self.at.take_mark("/") else None
 
     def table_name(self) -> str:
-        """The name of a table and the `>` behind it. What pfctl -vv prints behind a colon, the number of entries, is left out."""
+        """The name of a table and the `>` behind it. What pfctl -vv prints behind a colon, the number of entries, is
+        left out."""
         token = self.at.token
         name = self.at.want_name("the name of a table")
         self.at.want_mark(">")

@@ -10,8 +10,31 @@ from pfplan.common.errors import Status, Trouble
 from pfplan.pf.cursor import DEEPEST_LIST, Cursor
 from pfplan.pf.lexer import Kind, Lexer, Token, printable, trouble
 from pfplan.pf.named_files import NamedFiles, read_text
-from pfplan.pf.reading_filters import AFTER_HOSTS, HEAD, MOST_SECONDS, MOST_STATES, TIMEOUTS, TIMEOUTS_FOR_NOTHING, FilterReader
-from pfplan.pf.statements import Anchor, Antispoof, Host, HostKind, Load, Other, Parsed, Part, Place, Rule, Setting, StateOption, Statement, Table
+from pfplan.pf.reading_filters import (
+    AFTER_HOSTS,
+    HEAD,
+    MOST_SECONDS,
+    MOST_STATES,
+    TIMEOUTS,
+    TIMEOUTS_FOR_NOTHING,
+    FilterReader,
+)
+from pfplan.pf.statements import (
+    Anchor,
+    Antispoof,
+    Host,
+    HostKind,
+    Load,
+    Other,
+    Parsed,
+    Part,
+    Place,
+    Rule,
+    Setting,
+    StateOption,
+    Statement,
+    Table,
+)
 
 DEEPEST_FILE = 16  # files that include one another
 DEEPEST_ANCHOR = 64
@@ -20,12 +43,13 @@ LIMITS = ("states", "src-nodes", "tables", "table-entries", "frags")
 LIMITS_FOR_NOTHING = ("anchors", "pktdelay-pkts", "eth-anchors", "ktable-entries")
 OPTIMIZATIONS = ("default", "normal", "high-latency", "satellite", "aggressive", "conservative")
 SETTINGS = (
-    "limit", "timeout", "optimization", "skip", "block-policy", "state-policy", "state-defaults", "syncookies", "reassemble", "debug",
-    "loginterface", "fingerprints", "hostid", "ruleset-optimization", "require-order", "keepcounters", "fail-policy",
+    "limit", "timeout", "optimization", "skip", "block-policy", "state-policy", "state-defaults", "syncookies",
+    "reassemble", "debug", "loginterface", "fingerprints", "hostid", "ruleset-optimization", "require-order",
+    "keepcounters", "fail-policy",
 )  # fmt: skip
 OLD = (
-    "nat", "rdr", "binat", "no", "scrub", "altq", "nat-anchor", "rdr-anchor", "binat-anchor", "scrub-anchor", "dummynet-anchor",
-    "dummynet", "ether",
+    "nat", "rdr", "binat", "no", "scrub", "altq", "nat-anchor", "rdr-anchor", "binat-anchor", "scrub-anchor",
+    "dummynet-anchor", "dummynet", "ether",
 )  # fmt: skip
 FIRST = ("pass", "block", "match", "anchor", "set", "table", "antispoof", "load", "include", "queue", *OLD)
 _ANSWERS = ("drop", "return", "return-rst", "return-icmp", "return-icmp6")
@@ -33,9 +57,18 @@ _LINE_OF_PFCTL = re.compile(r"(.*:[0-9]+:|pfctl:)$")
 
 
 class Parser:
-    """Reads the statements of one text. Macros are shared with the texts that include it; those in `fixed` keep their value."""
+    """Reads the statements of one text. Macros are shared with the texts that include it; those in `fixed` keep their
+    value."""
 
-    def __init__(self, text: str, file: str, parsed: Parsed, sources: NamedFiles, fixed: frozenset[str] = frozenset(), depth: int = 0) -> None:
+    def __init__(
+        self,
+        text: str,
+        file: str,
+        parsed: Parsed,
+        sources: NamedFiles,
+        fixed: frozenset[str] = frozenset(),
+        depth: int = 0,
+    ) -> None:
         self._file = file
         self._parsed = parsed
         self._sources = sources
@@ -84,7 +117,8 @@ class Parser:
         return []
 
     def _macro(self, token: Token) -> None:
-        """`name = value`, where the value is one or more words and strings. It also meets lines that are no statement."""
+        """`name = value`, where the value is one or more words and strings. It also meets lines that are no
+        statement."""
         if not self.at.is_name() and not self.at.is_mark("/"):
             raise self.at.wanted("a statement", FIRST)
         self.at.take()
@@ -154,7 +188,11 @@ class Parser:
     def _anchor(self, place: Place) -> Anchor:
         token = self.at.take()
         name = ""
-        if self.at.token.kind is Kind.QUOTED or self.at.token.kind is Kind.WORD and not self.at.is_word(*HEAD, *AFTER_HOSTS):
+        if (
+            self.at.token.kind is Kind.QUOTED
+            or self.at.token.kind is Kind.WORD
+            and not self.at.is_word(*HEAD, *AFTER_HOSTS)
+        ):
             name = self.at.take().text
         read = self.filters.filter(has_log=False)
         text = self.at.text_since()
@@ -201,7 +239,9 @@ class Parser:
             parts.append(self.filters.part())
         text = self.at.text_since()
         if not self.at.is_end():
-            raise self.at.wanted("'inet', 'inet6', 'label' or the end of the line", ("inet", "inet6", "label", "rtable"))
+            raise self.at.wanted(
+                "'inet', 'inet6', 'label' or the end of the line", ("inet", "inet6", "label", "rtable")
+            )
         self.at.take()
         return Antispoof(place, text, log, quick, interfaces, family, tuple(parts))
 
@@ -309,7 +349,8 @@ class Parser:
 
 @contextlib.contextmanager
 def unquoted(path: Path, sources: NamedFiles, place: Place) -> Iterator[None]:
-    """Tells a syntax error in a file by its line alone, where a text named it by an absolute name: it may be any file of this machine."""
+    """Tells a syntax error in a file by its line alone, where a text named it by an absolute name: it may be any file
+    of this machine."""
     try:
         yield
     except Trouble as trouble:
@@ -317,7 +358,10 @@ def unquoted(path: Path, sources: NamedFiles, place: Place) -> Iterator[None]:
             raise
         line = re.search(r": line (\d+): ", trouble.message.removeprefix(printable(str(path))))
         where = f" at its line {line[1]}" if line else ""
-        why = f"{path} is no text of rules{where}; nothing of it is quoted, as its name is absolute (--root confines such names)"
+        why = (
+            f"{path} is no text of rules{where}; nothing of it is quoted, as its name is absolute (--root confines "
+            "such names)"
+        )
         raise Trouble(f"{printable(place.file)}: line {place.line}: {why}", Status.RULES) from None
 
 
@@ -332,5 +376,6 @@ def parse(text: str, file: str, macros: dict[str, str], sources: NamedFiles) -> 
 
 
 def parse_file(path: Path, macros: dict[str, str], sources: NamedFiles) -> Parsed:
-    """The statements of a file, and of those that it includes. Trouble as `parse`, and with status 4 where it can't be read."""
+    """The statements of a file, and of those that it includes. Trouble as `parse`, and with status 4 where it can't be
+    read."""
     return parse(read_text(path), str(path), macros, sources)

@@ -60,7 +60,8 @@ ANY_HOST = Host(HostKind.ANY, "any")
 
 @dataclass(frozen=True)
 class Port:
-    """Ports by an operator: `=`, `!=`, `<`, `<=`, `>`, `>=`, and of two numbers `:` (both in), `><` (between), `<>` (outside)."""
+    """Ports by an operator: `=`, `!=`, `<`, `<=`, `>`, `>=`, and of two numbers `:` (both in), `><` (between), `<>`
+    (outside)."""
 
     operator: str
     low: int
@@ -77,7 +78,8 @@ class Part:
 
 @dataclass(frozen=True)
 class StateOption:
-    """One option between the parentheses of `keep state`: its name, the table of `overload`, and what else stands behind it."""
+    """One option between the parentheses of `keep state`: its name, the table of `overload`, and what else stands
+    behind it."""
 
     name: str
     value: str = ""
@@ -132,7 +134,8 @@ class Statement:
 
 @dataclass(frozen=True)
 class Setting(Statement):
-    """`set`: its name, the pairs of `limit` and `timeout`, the options of `state-defaults`, the interfaces of `skip`, or what else stands there."""
+    """`set`: its name, the pairs of `limit` and `timeout`, the options of `state-defaults`, the interfaces of `skip`,
+    or what else stands there."""
 
     name: str
     pairs: tuple[tuple[str, int], ...] = ()

@@ -1,4 +1,5 @@
-"""What each item of a rule's lists becomes in a rules text: a choice that a combination takes, or a gap that is told."""
+"""What each item of a rule's lists becomes in a rules text: a choice that a combination takes, or a gap that is
+told."""
 
 import ipaddress
 import re
@@ -13,7 +14,15 @@ from pfplan.pf.writing_tables import TableMaker
 
 FAMILIES = {4: "inet", 6: "inet6"}
 NAME = re.compile(r"[A-Za-z0-9_.-]+")
-_COUNTS = ("max", "max-src-nodes", "max-src-states", "max-src-conn", "max-src-conn-rate", "adaptive.start", "adaptive.end")
+_COUNTS = (
+    "max",
+    "max-src-nodes",
+    "max-src-states",
+    "max-src-conn",
+    "max-src-conn-rate",
+    "adaptive.start",
+    "adaptive.end",
+)
 SPLIT = beyond("it makes several rules of one, and each would count states by itself")
 
 
@@ -21,7 +30,8 @@ SPLIT = beyond("it makes several rules of one, and each would count states by it
 class Choice:
     """An item as a rules text writes it. `family` is that of an address, which the rule has to say where `is_said`.
 
-    `zone` is the interface that a link-local address is on. `is_piece` says that pf has it in one rule with the choice in front.
+    `zone` is the interface that a link-local address is on. `is_piece` says that pf has it in one rule with the choice
+    in front.
     """
 
     text: str
@@ -53,8 +63,8 @@ def counts_states(state: State | None) -> bool:
 class MadeTables:
     """The names of tables in the rules text, and the tables that it has more than the pf.conf.
 
-    `made` stand for several addresses at once, where pf has one rule for all of them; `moved` are the lines of those that are
-    defined in anchors; `renamed` those with a name that pfsrc does not take.
+    `made` stand for several addresses at once, where pf has one rule for all of them; `moved` are the lines of those
+    that are defined in anchors; `renamed` those with a name that pfsrc does not take.
     """
 
     taken: set[str] = field(default_factory=set)
@@ -130,14 +140,17 @@ class Chooser:
         return self._not_on(members, part, counts)
 
     def skipped(self, name: str, statement: Statement) -> list[str]:
-        """The interfaces that `set skip on NAME` passes over: NAME, or those of a group; of `lo` the loopback interfaces."""
+        """The interfaces that `set skip on NAME` passes over: NAME, or those of a group; of `lo` the loopback
+        interfaces."""
         if name in self.machine.interfaces:
             return [name]
         members = self.machine.members(name) or (self.machine.loopbacks() if name == "lo" else None)
         if members is None:
             found = self._plain_interface(Interface(name), f"set skip on {name}", statement)
             if any(isinstance(it, Gap) for it in found):
-                self.teller.tell(statement.place, f"set skip on {name}", harmless("a trace can't have an interface of that name"))
+                self.teller.tell(
+                    statement.place, f"set skip on {name}", harmless("a trace can't have an interface of that name")
+                )
                 return []
         return members or [name]
 
@@ -152,7 +165,12 @@ class Chooser:
             return [Choice(f"on ! {names[0]}")]
         others = self.machine.others(names)
         if others is None:
-            return [Gap(part, beyond("it asks for all interfaces but several; --ifconfig says which there are", is_missing=True))]
+            return [
+                Gap(
+                    part,
+                    beyond("it asks for all interfaces but several; --ifconfig says which there are", is_missing=True),
+                )
+            ]
         if not others:
             return [Gap(part, harmless("there is no such interface"))]
         return _split([Choice(f"on {it}") for it in others], part, counts)
@@ -222,7 +240,8 @@ class Chooser:
         return [Choice(sign + shown(it.network), FAMILIES[it.network.version], it.zone) for it in fitting]
 
     def _dynamic(self, host: Host, sign: str, family: str) -> Options:
-        """An interface in parentheses: one rule for all its addresses, as in pf; a table where there are several, or none may match."""
+        """An interface in parentheses: one rule for all its addresses, as in pf; a table where there are several, or
+        none may match."""
         found = self._locations(host)
         if isinstance(found, Gap):
             return [found]
@@ -240,7 +259,9 @@ class Chooser:
             return self._no_address(host, "")
         if host.length is None:
             return found
-        return [Location(_cut(it.network, host.length), it.zone) for it in found if host.length <= it.network.max_prefixlen]
+        return [
+            Location(_cut(it.network, host.length), it.zone) for it in found if host.length <= it.network.max_prefixlen
+        ]
 
     def _no_address(self, host: Host, family: str) -> Gap:
         which = f"{host.text} for {family}" if family else host.text
@@ -264,7 +285,11 @@ def _cut(network: Network, length: int) -> Network:
 
 def _split(choices: list[Choice], part: str, counts: bool) -> Options:
     """Choices that pf has in one rule: a gap where that rule counts its states."""
-    return [Gap(part, SPLIT)] if counts and len(choices) > 1 else [*choices[:1], *(replace(it, is_piece=True) for it in choices[1:])]
+    return (
+        [Gap(part, SPLIT)]
+        if counts and len(choices) > 1
+        else [*choices[:1], *(replace(it, is_piece=True) for it in choices[1:])]
+    )
 
 
 def places_in_pf(options: Options) -> list[int]:
@@ -294,8 +319,14 @@ def port_ranges(port: Port) -> list[tuple[int, int]]:
 
 
 def _port(port: Port, counts: bool) -> Options:
-    part = f"port {port.low} {port.operator} {port.high}" if port.operator in ("><", "<>", ":") else f"port {port.operator} {port.low}"
+    part = (
+        f"port {port.low} {port.operator} {port.high}"
+        if port.operator in ("><", "<>", ":")
+        else f"port {port.operator} {port.low}"
+    )
     ranges = port_ranges(port)
     if not ranges:
         return [Gap(part, harmless("there is no such port"))]
-    return _split([Choice(f"port = {low}" if low == high else f"port {low}:{high}") for low, high in ranges], part, counts)
+    return _split(
+        [Choice(f"port = {low}" if low == high else f"port {low}:{high}") for low, high in ranges], part, counts
+    )

@@ -11,7 +11,8 @@ from pfplan.pf.statements import Setting, State, StateOption
 # the timeouts that pfctl sets for a name, in seconds
 _OPTIMIZATIONS = {
     "aggressive": "tcp.first 30, tcp.opening 5, tcp.established 18000, tcp.closing 60, tcp.finwait 30, tcp.closed 30",
-    "conservative": "tcp.first 3600, tcp.opening 900, tcp.established 432000, tcp.closing 3600, tcp.finwait 600, tcp.closed 180",
+    "conservative": "tcp.first 3600, tcp.opening 900, tcp.established 432000, tcp.closing 3600, tcp.finwait 600, "
+    "tcp.closed 180",
     "satellite": "tcp.first 180, tcp.opening 35, tcp.established 86400, tcp.closing 905, tcp.finwait 50, tcp.closed 95",
     "normal": "tcp.first 120, tcp.opening 30, tcp.established 86400, tcp.closing 900, tcp.finwait 45, tcp.closed 90",
 }
@@ -49,7 +50,8 @@ class Settings:
             self._is_adaptive_fit = start < end or start == end == 0
 
     def last_lines(self) -> list[str]:
-        """The adaptive timeouts that the text leaves at their default, or that turn scaling off, as pf takes a start that is not below the end."""
+        """The adaptive timeouts that the text leaves at their default, or that turn scaling off, as pf takes a start
+        that is not below the end."""
         if not self._is_adaptive_fit:
             return ["set timeout { adaptive.start 0, adaptive.end 0 }"]
         if len(self._adaptive) != 1:
@@ -88,10 +90,13 @@ class Settings:
         return _set_line("limit", kept)
 
     def _timeouts(self, setting: Setting) -> list[str]:
-        return _set_line("timeout", {name: value for name, value in setting.pairs if self._is_adaptive_fit or name not in _ADAPTIVE})
+        return _set_line(
+            "timeout", {name: value for name, value in setting.pairs if self._is_adaptive_fit or name not in _ADAPTIVE}
+        )
 
     def defaults(self, setting: Setting) -> State | None:
-        """The state clause that `set state-defaults` gives to the rules behind it that have none. What is not carried is told."""
+        """The state clause that `set state-defaults` gives to the rules behind it that have none. What is not carried
+        is told."""
         if setting.name != "state-defaults":
             return None
         kept: list[StateOption] = []

@@ -23,7 +23,8 @@ def refuse(place: Place, message: str) -> Trouble:
 
 
 def check_state(rule: Rule) -> None:
-    """Trouble where pfctl and pfsrc refuse the state clause: on a block rule, `overload` alone, connections counted by all rules."""
+    """Trouble where pfctl and pfsrc refuse the state clause: on a block rule, `overload` alone, connections counted by
+    all rules."""
     state = rule.filter.state
     if state is None or state.word == "no":
         return
@@ -47,7 +48,8 @@ def beyond_pfsrc(state: State | None) -> Reason | None:
 
 
 def carried_state(state: State | None, place: Place, teller: Teller, overload: dict[str, str]) -> str:
-    """The clause, or nothing where there is none. Options that pfsrc does not have are told. `overload` renames tables."""
+    """The clause, or nothing where there is none. Options that pfsrc does not have are told. `overload` renames
+    tables."""
     if state is None:
         return ""
     if state.word == "no":
@@ -82,7 +84,8 @@ def _reason_of_option(option: StateOption, names: dict[str, str]) -> Reason | No
 
 
 def _turned_off(options: tuple[StateOption, ...], names: dict[str, str]) -> tuple[StateOption, ...]:
-    """A start that is not below the end turns the scaling of a rule off, as pf takes it: so does a pair that no count of states reaches."""
+    """A start that is not below the end turns the scaling of a rule off, as pf takes it: so does a pair that no count
+    of states reaches."""
     start, end = int(names.get("adaptive.start", 0)), int(names.get("adaptive.end", 0))
     if not 1 <= end <= start:
         return options

@@ -21,10 +21,10 @@ _COMMENT = re.compile(r"[#;].*")
 class TableMaker:
     """Makes the lines of tables.
 
-    An entry that is not there leaves a table narrower, so `! <t>` would match more: such tables are in `narrower`. Without a
-    negated entry `<t>` would match more: those are in `wider`. Those that persist without a file, may change, and whose entries the command
-    line gives, as a running firewall has them, are in `persisting`, and so are those of `recorded`: entries that came by records already. All
-    three hold names of the rules text.
+    An entry that is not there leaves a table narrower, so `! <t>` would match more: such tables are in `narrower`.
+    Without a negated entry `<t>` would match more: those are in `wider`. Those that persist without a file, may change,
+    and whose entries the command line gives, as a running firewall has them, are in `persisting`, and so are those of
+    `recorded`: entries that came by records already. All three hold names of the rules text.
     """
 
     machine: Machine
@@ -48,7 +48,9 @@ class TableMaker:
             self.narrower.add(name)
             if entries:
                 self.wider.add(name)
-        is_given = table.name in self.files and not table.files and "persist" in table.parts and "const" not in table.parts
+        is_given = (
+            table.name in self.files and not table.files and "persist" in table.parts and "const" not in table.parts
+        )
         if is_given or table.name in self.recorded:
             self.persisting.add(name)
         words = ["table", f"<{name}>", *table.parts]
@@ -65,18 +67,23 @@ class TableMaker:
         for it in networks:
             if entries.setdefault(it, host.negated) != host.negated:
                 sign = "" if host.negated else "!"
-                self.teller.tell(table.place, f"entry {shown(it)} of <{table.name}>", telling(f"{sign}{shown(it)} stands before it"))
+                self.teller.tell(
+                    table.place, f"entry {shown(it)} of <{table.name}>", telling(f"{sign}{shown(it)} stands before it")
+                )
 
     def _tell_entry(self, table: Table, host: Host) -> None:
         text = ("!" if host.negated else "") + host.shown().removeprefix("! ")
         self.teller.tell(table.place, printable(f"entry {text} of <{table.name}>"), telling("it is no address"))
 
     def _add_file(self, table: Table, name: str, path: Path, entries: dict[Network, bool]) -> None:
-        """The entries of a file. Those that are no addresses are told one by one only as far as that helps a reader, and may be shown to one."""
+        """The entries of a file. Those that are no addresses are told one by one only as far as that helps a reader,
+        and may be shown to one."""
         hosts = entries_of(path)
         wrong = [it for it in hosts if self._networks(it) is None]
         if len(wrong) == len(hosts) > 0 and self.files.get(table.name) == path:
-            raise Trouble(f"--entries {table.name}: {path}: none of its {len(hosts):,} words is an address", Status.RULES)
+            raise Trouble(
+                f"--entries {table.name}: {path}: none of its {len(hosts):,} words is an address", Status.RULES
+            )
         for host in hosts:
             if self._networks(host) is not None:
                 self._add(table, name, host, entries)
@@ -89,7 +96,11 @@ class TableMaker:
             self._tell_entry(table, host)
         more = len(wrong) - (0 if is_strange else MOST_TOLD)
         if more > 0:
-            why = "they are no addresses" + (", and are not quoted, as the file's name is absolute (--root confines such names)" if is_strange else "")
+            why = "they are no addresses" + (
+                ", and are not quoted, as the file's name is absolute (--root confines such names)"
+                if is_strange
+                else ""
+            )
             self.teller.tell(table.place, printable(f"{more:,} entries of <{table.name}> in {path}"), telling(why))
 
     def _networks(self, host: Host) -> list[Network] | None:
@@ -123,7 +134,8 @@ class TableMaker:
 
 
 def entries_of(path: Path) -> list[Host]:
-    """The entries in the file of a table: words, `!` in front of one, and comments behind `#` or `;`. Trouble where it can't be read."""
+    """The entries in the file of a table: words, `!` in front of one, and comments behind `#` or `;`. Trouble where it
+    can't be read."""
     found: list[Host] = []
     for line in read_text(path).splitlines():
         found += map(host_of, re.sub(r"!\s+", "!", _COMMENT.sub("", line)).split())

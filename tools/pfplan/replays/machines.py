@@ -1,10 +1,11 @@
 """Where the runs of `size` and `margins` go on: side by side on this machine, or over several by GNU parallel.
 
-A run is the command `pfplan measure` with a rules text, the trace and words that hold no name of the user's: numbers and networks. On this
-machine one process measures many texts, whose names are written to it. Names
-never come into a command that a shell reads: the files of the runs have names of our own in a temporary folder, and what words are the
-user's (the path of pfplan and of pfsrc) are quoted for the shell. On other machines pfplan has to stand under the same path, or under the one
-that `--there` names; rules and trace are brought by rsync over ssh into a folder that goes when they are done.
+A run is the command `pfplan measure` with a rules text, the trace and words that hold no name of the user's: numbers
+and networks. On this machine one process measures many texts, whose names are written to it. Names never come into a
+command that a shell reads: the files of the runs have names of our own in a temporary folder, and what words are the
+user's (the path of pfplan and of pfsrc) are quoted for the shell. On other machines pfplan has to stand under the same
+path, or under the one that `--there` names; rules and trace are brought by rsync over ssh into a folder that goes when
+they are done.
 """
 
 import concurrent.futures
@@ -53,7 +54,8 @@ class Machines:
 
 
 def measure_words(users: Sequence[Network], moments: int) -> list[str]:
-    """The words of `measure` that ask for so many moments and for these users: networks and numbers, no name of a file."""
+    """The words of `measure` that ask for so many moments and for these users: networks and numbers, no name of a
+    file."""
     return [*([f"--users={','.join(map(str, users))}"] if users else []), f"--held={moments}"]
 
 
@@ -62,7 +64,9 @@ def check_parallel() -> None:
     for name, package in PACKAGES.items():
         if shutil.which(name) is None:
             raise Trouble(f"--sshlogin: {name} is not here (Debian package {package})", Status.FAILED)
-    told = subprocess.run(["parallel", "--version"], capture_output=True, text=True, check=False, stdin=subprocess.DEVNULL)
+    told = subprocess.run(
+        ["parallel", "--version"], capture_output=True, text=True, check=False, stdin=subprocess.DEVNULL
+    )
     if not told.stdout.startswith("GNU parallel"):
         raise Trouble("--sshlogin: the command parallel is not that of GNU (Debian package parallel)", Status.FAILED)
 
@@ -71,7 +75,8 @@ class Runs:
     """Runs of one trace. Leaving it ends those that still go on, and takes the temporary folder away."""
 
     def __init__(self, machines: Machines, trace: Path, words: Sequence[str], entries: Sequence[str] = ()) -> None:
-        """`words` follow the names of rules and trace in each run's command line. `entries` are those of tables that come by records."""
+        """`words` follow the names of rules and trace in each run's command line. `entries` are those of tables that
+        come by records."""
         self._machines = machines
         self._trace = trace
         self._words = list(words)
@@ -95,7 +100,9 @@ class Runs:
                 raise Trouble(f"{self._folder}: the trace can't be copied: {reason_of(error)}", Status.FAILED) from None
         return self
 
-    def __exit__(self, kind: type[BaseException] | None, error: BaseException | None, trace: TracebackType | None) -> None:
+    def __exit__(
+        self, kind: type[BaseException] | None, error: BaseException | None, trace: TracebackType | None
+    ) -> None:
         self._dismiss()
         self.stop()
         if error is not None and not self._machines.is_here and self._count:
@@ -158,11 +165,21 @@ class Runs:
         return said
 
     def _worker(self) -> "subprocess.Popen[str]":
-        """A process that measures one rules text after another, as their names are written to it: one that has nothing to do, or a new one."""
+        """A process that measures one rules text after another, as their names are written to it: one that has nothing
+        to do, or a new one."""
         with contextlib.suppress(queue.Empty):
             return self._idle.get_nowait()
         entries = [f"--entries={beside(self._folder / 'all')}"] if self._entries else []
-        command = [sys.executable, *PLAIN, str(TOP / "pfplan"), "measure", "-", str(self._trace.resolve()), *self._words, *entries]
+        command = [
+            sys.executable,
+            *PLAIN,
+            str(TOP / "pfplan"),
+            "measure",
+            "-",
+            str(self._trace.resolve()),
+            *self._words,
+            *entries,
+        ]
         return self._start(command, self._folder)
 
     def _spread(self, names: Sequence[str], progress: Progress | None) -> list[str]:
@@ -192,11 +209,19 @@ class Runs:
         """Takes away what runs that were ended left on other machines, as far as these can be reached."""
         command = ["parallel", "--plain", "--will-cite", "--nonall", *self._logins(), f"rm -rf -- {self._workdir}"]
         with contextlib.suppress(OSError, subprocess.TimeoutExpired, KeyboardInterrupt):
-            subprocess.run(command, stdin=subprocess.DEVNULL, capture_output=True, timeout=SECONDS_TO_CLEAR, check=False, start_new_session=True)
+            subprocess.run(
+                command,
+                stdin=subprocess.DEVNULL,
+                capture_output=True,
+                timeout=SECONDS_TO_CLEAR,
+                check=False,
+                start_new_session=True,
+            )
 
     @property
     def _workdir(self) -> str:
-        """The folder of the runs on other machines, below the home there. Its last part is a name that tempfile made: letters, digits and `_`."""
+        """The folder of the runs on other machines, below the home there. Its last part is a name that tempfile made:
+        letters, digits and `_`."""
         return f".parallel/tmp/{self._folder.name}"
 
     def _logins(self) -> list[str]:
@@ -204,9 +229,20 @@ class Runs:
         return logins + [f"--sshloginfile={it.resolve()}" for it in self._machines.login_files]
 
     def _parallel(self) -> list[str]:
-        """The command line of GNU parallel. The last word is a shell's command: what is in it is quoted, or holds letters of our own."""
+        """The command line of GNU parallel. The last word is a shell's command: what is in it is quoted, or holds
+        letters of our own."""
         machines = self._machines
-        command = ["parallel", "--plain", "--will-cite", "--null", "--halt", "now,fail=1", "--cleanup", "--termseq", "TERM,2000,KILL,50"]
+        command = [
+            "parallel",
+            "--plain",
+            "--will-cite",
+            "--null",
+            "--halt",
+            "now,fail=1",
+            "--cleanup",
+            "--termseq",
+            "TERM,2000,KILL,50",
+        ]
         command += [f"--jobs={machines.jobs}"] if machines.jobs else []
         entries = beside(Path("all")).name if self._entries else ""
         command += [*self._logins(), "--workdir", self._workdir, "--basefile", "./trace", "--transferfile", "./{}"]
@@ -226,7 +262,13 @@ class Runs:
                 raise Trouble("ended", Status.INTERRUPTED)
             try:
                 process = subprocess.Popen(
-                    command, stdin=subprocess.PIPE, stdout=subprocess.PIPE, stderr=subprocess.PIPE, text=True, cwd=folder, start_new_session=True
+                    command,
+                    stdin=subprocess.PIPE,
+                    stdout=subprocess.PIPE,
+                    stderr=subprocess.PIPE,
+                    text=True,
+                    cwd=folder,
+                    start_new_session=True,
                 )
             except OSError as error:
                 raise Trouble(f"{command[0]}: can't be run: {reason_of(error)}", Status.FAILED) from None
@@ -258,7 +300,8 @@ def _end(process: "subprocess.Popen[str]") -> None:
 
 
 def _trouble(told: str, status: int) -> Trouble:
-    """What a run that failed said: its last line, without the name of the command; else what ssh, rsync or GNU parallel said first."""
+    """What a run that failed said: its last line, without the name of the command; else what ssh, rsync or GNU parallel
+    said first."""
     lines = [it.strip() for it in told.splitlines() if it.strip() and not it.startswith("parallel: Warning: ")]
     own = [it for it in lines if it.startswith("pfplan measure: ")]
     said = own[-1] if own else lines[0] if lines else f"a run ended with status {status} and said nothing"

@@ -42,13 +42,15 @@ def records_of(trace: Path) -> int:
     return max(count, 0)
 
 
-def run_replay(replay: Replay, progress: Progress | None = None, asked: Asking = NOTHING, heard: Heard | None = None) -> None:
+def run_replay(
+    replay: Replay, progress: Progress | None = None, asked: Asking = NOTHING, heard: Heard | None = None
+) -> None:
     """Replays a trace; the report stands in its file once it is whole.
 
     `asked` is what is put into the trace, and `heard` gets its answers: neither is in the report.
 
-    Trouble: status 1 or 3 with the program's own message and the file's name, 4 where reading or writing fails, 70 where the
-    program is not there. Then nothing is written. `progress` is told of the records that are done.
+    Trouble: status 1 or 3 with the program's own message and the file's name, 4 where reading or writing fails, 70
+    where the program is not there. Then nothing is written. `progress` is told of the records that are done.
     """
     check_rules(replay.rules)
     check_trace(replay.trace)
@@ -73,11 +75,13 @@ def stream_report(rules: Path, trace: Path) -> Iterator[str]:
         yield from lines
 
 
-def stream_blocks(rules: Path, trace: Path, asked: Asking = NOTHING, heard: Heard | None = None) -> Generator[list[str], None, None]:
+def stream_blocks(
+    rules: Path, trace: Path, asked: Asking = NOTHING, heard: Heard | None = None
+) -> Generator[list[str], None, None]:
     """The lines of a report in blocks as the program writes them, without their line feeds; nothing is kept on disk.
 
-    Of what `asked` puts into the trace the answers go to `heard`; the lines of the trace's own records keep the numbers that they have in the
-    report, `asked.numbers`, and the last line tells the trace's own.
+    Of what `asked` puts into the trace the answers go to `heard`; the lines of the trace's own records keep the numbers
+    that they have in the report, `asked.numbers`, and the last line tells the trace's own.
 
     Trouble as `run_replay`, after the lines that were written before it.
     """
@@ -86,14 +90,18 @@ def stream_blocks(rules: Path, trace: Path, asked: Asking = NOTHING, heard: Hear
         yield from blocks if asked.numbers is None else _own_blocks(blocks, asked.numbers, heard)
 
 
-def stream_texts(rules: Path, trace: Path, asked: Asking = NOTHING, heard: Heard | None = None) -> Generator[str, None, None]:
+def stream_texts(
+    rules: Path, trace: Path, asked: Asking = NOTHING, heard: Heard | None = None
+) -> Generator[str, None, None]:
     """A report as `stream_blocks`, in texts of whole lines with their line feeds."""
     with _report(rules, trace, asked, heard) as lines:
         row = 1
         while text := lines.read(BLOCK):
             text += "" if text.endswith("\n") else lines.readline()
             count = text.count("\n")
-            if asked.numbers and (asked.numbers.is_parted(row, count) or text.startswith("end ", text.rfind("\n", 0, -1) + 1)):
+            if asked.numbers and (
+                asked.numbers.is_parted(row, count) or text.startswith("end ", text.rfind("\n", 0, -1) + 1)
+            ):
                 own = _own_lines(text.splitlines(), row, asked.numbers, heard)
                 text = "".join(f"{it}\n" for it in own)
             row += count
@@ -107,7 +115,9 @@ def _report(rules: Path, trace: Path, asked: Asking, heard: Heard | None) -> Ite
     check_rules(rules)
     check_trace(trace)
     words = _words(rules, trace if asked.insertions is None else "-")
-    with tempfile.TemporaryFile("w+", prefix="pfplan-") as told, _started(words, subprocess.PIPE, told, asked.insertions) as process:
+    with tempfile.TemporaryFile("w+", prefix="pfplan-") as told, _started(
+        words, subprocess.PIPE, told, asked.insertions
+    ) as process:
         assert process.stdout is not None
         with process.stdout as lines:
             yield lines
@@ -127,7 +137,8 @@ def _own_blocks(blocks: Iterable[list[str]], numbers: Rows, heard: Heard | None)
 
 
 def _own_lines(lines: list[str], row: int, numbers: Rows, heard: Heard | None) -> list[str]:
-    """Of lines of a report, the first of which is that of this row, those of the trace's own records, and the last line with their count."""
+    """Of lines of a report, the first of which is that of this row, those of the trace's own records, and the last line
+    with their count."""
     own, others = numbers.parted(row, lines)
     if heard:
         heard.take(others)
@@ -145,7 +156,9 @@ def _renumbered(lines: Sequence[str], first: int) -> Iterator[str]:
 def show_rules(rules: Path) -> list[str]:
     """The lines of the canonical text of a rules text, as `./pfsrc show` prints them. Trouble where it is refused."""
     check_rules(rules)
-    with tempfile.TemporaryFile("w+", prefix="pfplan-") as told, _started([program(), "show", str(rules)], subprocess.PIPE, told) as process:
+    with tempfile.TemporaryFile("w+", prefix="pfplan-") as told, _started(
+        [program(), "show", str(rules)], subprocess.PIPE, told
+    ) as process:
         text, _ = process.communicate()
         _check_end(process.returncode, told, rules, rules)
     return text.splitlines()
@@ -189,13 +202,18 @@ class _Feeder(threading.Thread):
 
 
 @contextlib.contextmanager
-def _started(words: list[str], output: IO[str] | int, told: IO[str], insertions: Insertions | None = None) -> Iterator["subprocess.Popen[str]"]:
-    """The program, started, with the trace of `insertions` as its standard input; it is ended where the body leaves before it has."""
+def _started(
+    words: list[str], output: IO[str] | int, told: IO[str], insertions: Insertions | None = None
+) -> Iterator["subprocess.Popen[str]"]:
+    """The program, started, with the trace of `insertions` as its standard input; it is ended where the body leaves
+    before it has."""
     source = subprocess.PIPE if insertions else subprocess.DEVNULL
     try:
         process = subprocess.Popen(words, stdin=source, stdout=output, stderr=told, text=True, encoding="latin-1")
     except OSError as error:
-        raise Trouble(f"{words[0]}: can't be run: {reason_of(error)} (PFSRC names the program)", Status.NOT_BUILT) from None
+        raise Trouble(
+            f"{words[0]}: can't be run: {reason_of(error)} (PFSRC names the program)", Status.NOT_BUILT
+        ) from None
     feeder = _Feeder(insertions, process.stdin) if insertions and process.stdin else None
     if feeder:
         feeder.start()
@@ -208,7 +226,9 @@ def _started(words: list[str], output: IO[str] | int, told: IO[str], insertions:
         if feeder:
             feeder.join()
     if feeder and feeder.error:
-        raise Trouble(f"{insertions.trace if insertions else ''}: can't be replayed: {reason_of(feeder.error)}", Status.FAILED)
+        raise Trouble(
+            f"{insertions.trace if insertions else ''}: can't be replayed: {reason_of(feeder.error)}", Status.FAILED
+        )
 
 
 def _check_end(status: int, told: IO[str], rules: Path, trace: Path, numbers: Rows | None = None) -> None:
@@ -224,7 +244,9 @@ def _check_end(status: int, told: IO[str], rules: Path, trace: Path, numbers: Ro
     if numbers and found and int(found[1]):
         row = numbers.own(int(found[1]))
         if row is None:
-            raise Trouble(f"{program()}: refuses a record that was put into {trace}: {found[2]} (rules {rules})", Status.FAILED)
+            raise Trouble(
+                f"{program()}: refuses a record that was put into {trace}: {found[2]} (rules {rules})", Status.FAILED
+            )
         said = f"trace: row {row}: {found[2]}"
     for word, path in (("rules", rules), ("trace", trace)):
         if said.startswith(f"{word}: "):
@@ -248,6 +270,7 @@ def _last_line(report: Path) -> str:
 
 @contextlib.contextmanager
 def replayed(rules: Path, trace: Path, asked: Asking = NOTHING, heard: Heard | None = None) -> Iterator[Iterator[str]]:
-    """The lines of a report as they come, as `stream_blocks`. The program is ended where the body leaves before it has."""
+    """The lines of a report as they come, as `stream_blocks`. The program is ended where the body leaves before it
+    has."""
     with contextlib.closing(stream_blocks(rules, trace, asked, heard)) as blocks:
         yield itertools.chain.from_iterable(blocks)

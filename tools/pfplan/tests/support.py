@@ -34,7 +34,17 @@ def pfplan(*words: object, stdin: str = "", cwd: Path | None = None, env: Mappin
     """Calls ./pfplan with some words."""
     given = [sys.executable, str(TOP / "pfplan"), *map(str, words)]
     around = os.environ | dict(env or {})
-    ended = subprocess.run(given, input=stdin, capture_output=True, text=True, cwd=cwd, env=around, check=False, timeout=120, errors="surrogateescape")
+    ended = subprocess.run(
+        given,
+        input=stdin,
+        capture_output=True,
+        text=True,
+        cwd=cwd,
+        env=around,
+        check=False,
+        timeout=120,
+        errors="surrogateescape",
+    )
     return Done(ended.returncode, ended.stdout, ended.stderr)
 
 

@@ -16,8 +16,10 @@ from pfplan.common.errors import Trouble
 STAND_IN = Path(__file__).resolve().parent / "stand_in.py"
 RULES = """set limit states 50
 block in on max from any to any
-pass in on em0 proto tcp from any to any port 80 flags S/SA keep state (max 9, source-track rule, max-src-conn 40, max-src-conn-rate 60/10, tcp.first 5)
-pass in on em0 proto tcp from any to any port 443 flags S/SA keep state (source-track rule, max-src-conn 40, max-src-conn-rate 60/10, overload <max> flush)"""
+pass in on em0 proto tcp from any to any port 80 flags S/SA keep state (max 9, source-track rule, max-src-conn 40, \
+max-src-conn-rate 60/10, tcp.first 5)
+pass in on em0 proto tcp from any to any port 443 flags S/SA keep state (source-track rule, max-src-conn 40, \
+max-src-conn-rate 60/10, overload <max> flush)"""
 TRACE = """time,dir,if,proto,src,sport,dst,dport,flags
 0,in,em0,tcp,198.51.100.1,1000,192.0.2.1,80,S
 1,in,em0,icmp,198.51.100.1,,192.0.2.1,,
@@ -48,16 +50,27 @@ class Changes(unittest.TestCase):
         self.assertEqual(self.text.find("@1.tcp.first"), Number("tcp.first", 5, (1,)))
 
     def test_find_nothing(self) -> None:
-        for name, said in (("state", "is states meant"), ("max-src-states", "no rule states max-src-states"), ("@2.max", "is @1.max meant"), ("", "no number")):
+        for name, said in (
+            ("state", "is states meant"),
+            ("max-src-states", "no rule states max-src-states"),
+            ("@2.max", "is @1.max meant"),
+            ("", "no number"),
+        ):
             with self.assertRaisesRegex(Trouble, said):
                 self.text.find(name)
 
     def test_setting_is_added_at_the_end(self) -> None:
-        self.assertEqual(self.text.changed({Number("states", 50): 70}), (RULES + "\n\nset limit { states 70 }\n").encode())
+        self.assertEqual(
+            self.text.changed({Number("states", 50): 70}), (RULES + "\n\nset limit { states 70 }\n").encode()
+        )
         self.assertTrue(self.text.changed({Number("tcp.first", 120): 7}).endswith(b"\n\nset timeout { tcp.first 7 }\n"))
 
     def test_one_adaptive_value_brings_the_other(self) -> None:
-        self.assertTrue(self.text.changed({Number("adaptive.end", 60): 66}).endswith(b"set timeout { adaptive.start 30, adaptive.end 66 }\n"))
+        self.assertTrue(
+            self.text.changed({Number("adaptive.end", 60): 66}).endswith(
+                b"set timeout { adaptive.start 30, adaptive.end 66 }\n"
+            )
+        )
 
     def test_option_is_changed_in_its_rules_alone(self) -> None:
         text = self.text.changed({Number("max", 9, (1,)): 12}).decode()
@@ -103,7 +116,10 @@ class Answers(unittest.TestCase):
 
     def measure(self, served: int, **words: int) -> Measure:
         """A measure of 200 connections."""
-        return Measure(outcomes={"served": served, "refused": 200 - served}, words={it.replace("_", ":"): count for it, count in words.items()})
+        return Measure(
+            outcomes={"served": served, "refused": 200 - served},
+            words={it.replace("_", ":"): count for it, count in words.items()},
+        )
 
     def test_wanted_share(self) -> None:
         want = share_word("99.5%")
@@ -115,9 +131,13 @@ class Answers(unittest.TestCase):
     def test_turns(self) -> None:
         want = share_word("99%")
         base = self.measure(199, drop_states=3)
-        self.assertEqual(turns_of(base, self.measure(190, drop_states=30), want, True), ("the wanted share is no longer served",))
+        self.assertEqual(
+            turns_of(base, self.measure(190, drop_states=30), want, True), ("the wanted share is no longer served",)
+        )
         self.assertEqual(turns_of(base, self.measure(200), want, True), ("drop:states is no longer met",))
-        self.assertEqual(turns_of(self.measure(190), base, want, True), ("the wanted share is now served", "drop:states is now met"))
+        self.assertEqual(
+            turns_of(self.measure(190), base, want, True), ("the wanted share is now served", "drop:states is now met")
+        )
         self.assertEqual(turns_of(base, Measure(refused="line 0: TooManyEntries"), want, True), ())
 
 

@@ -30,7 +30,10 @@ def server(flags: str, moment: int = 0, port: int = 1000, host: int = 7) -> str:
 
 def report(*texts: str) -> list[str]:
     """The lines of a report."""
-    return [*(f"{row} {text}" for row, text in enumerate(texts, 1)), f"end rows={len(texts)} states=1 nodes=2 entries=3"]
+    return [
+        *(f"{row} {text}" for row, text in enumerate(texts, 1)),
+        f"end rows={len(texts)} states=1 nodes=2 entries=3",
+    ]
 
 
 class Following(FolderCase):
@@ -47,29 +50,54 @@ class Following(FolderCase):
 
     def test_parting_and_words(self) -> None:
         records = [user("S"), server("SA"), user("A", 4), user("S", 5, 1001)]
-        _, _, pairs = self.follow(records, report("new @1", "state @1", "state @1", "new @1"), report("new @2", "state @2", "block @0", "drop:states @2"))
-        self.assertEqual(pairs.texts[0], {("new", "new"): 1, ("state", "state"): 1, ("state", "block"): 1, ("new", "drop:states"): 1})
+        _, _, pairs = self.follow(
+            records,
+            report("new @1", "state @1", "state @1", "new @1"),
+            report("new @2", "state @2", "block @0", "drop:states @2"),
+        )
+        self.assertEqual(
+            pairs.texts[0], {("new", "new"): 1, ("state", "state"): 1, ("state", "block"): 1, ("new", "drop:states"): 1}
+        )
         parting = pairs.partings[0]
         assert parting is not None
-        self.assertEqual((parting.row, parting.record.time, parting.texts, parting.rules), (3, 4, ("state @1", "block @0"), ("rule 1", "rule 0")))
+        self.assertEqual(
+            (parting.row, parting.record.time, parting.texts, parting.rules),
+            (3, 4, ("state @1", "block @0"), ("rule 1", "rule 0")),
+        )
 
     def test_other_numbers_of_rules_do_not_part(self) -> None:
         _, _, pairs = self.follow([user("S")], report("new @1"), report("new @2"))
         self.assertIsNone(pairs.partings[0])
 
     def test_fates(self) -> None:
-        records = [user("S"), server("SA"), user("A"), user("FA"), user("S", 1, 1001), user("S", 2, 1000), user("S", 9, 1002)]
+        records = [
+            user("S"),
+            server("SA"),
+            user("A"),
+            user("FA"),
+            user("S", 1, 1001),
+            user("S", 2, 1000),
+            user("S", 9, 1002),
+        ]
         one = report("new @1", "state @1", "state @1", "state @1", "new @1", "new @1", "block @1")
         other = report("block @1", "block @1", "block @1", "block @1", "drop:max @1", "block @1", "block @1")
         _, fates, _ = self.follow(records, one, other)
-        self.assertEqual(fates.counts[0], {("served", "refused"): 1, ("unanswered", "refused"): 1, ("unanswered", "-"): 1, ("refused", "refused"): 1})
-        self.assertEqual([(it.row, it.fates) for it in fates.changed[0]], [(1, ("served", "refused")), (5, ("unanswered", "refused")), (6, ("unanswered", "-"))])
+        self.assertEqual(
+            fates.counts[0],
+            {("served", "refused"): 1, ("unanswered", "refused"): 1, ("unanswered", "-"): 1, ("refused", "refused"): 1},
+        )
+        self.assertEqual(
+            [(it.row, it.fates) for it in fates.changed[0]],
+            [(1, ("served", "refused")), (5, ("unanswered", "refused")), (6, ("unanswered", "-"))],
+        )
 
     def test_same_as_summary(self) -> None:
         records = [user("S"), server("SA"), user("A"), user("S", 1, 1001), user("A", 1, 1001), server("SA", 2, 5, 9)]
         texts = ("new @1", "state @1", "kill:max-src-conn @1 overload=added killed=1", "new @1", "block @1", "state @1")
         sides, _, _ = self.follow(records, report(*texts))
-        ended = pfplan("summary", self.report(texts), "--trace", self.folder / "trace", "--users", "198.51.100.0/24", "--json")
+        ended = pfplan(
+            "summary", self.report(texts), "--trace", self.folder / "trace", "--users", "198.51.100.0/24", "--json"
+        )
         users = json.loads(ended.out)["users"]
         self.assertEqual({it: sides[0].connections.outcomes[it] for it in users["outcomes"]}, users["outcomes"])
         self.assertEqual(sides[0].connections.without_beginning, users["without_beginning"])
@@ -87,7 +115,17 @@ class Following(FolderCase):
 
     def test_moments_of_limits(self) -> None:
         records = [user("S", moment, 1000 + moment) for moment in range(9)]
-        texts = ["new @1", "drop:max @1", "drop:max @1", "new @1", "drop:states @1", "new @1", "drop:max @1", "new @1", "new @1"]
+        texts = [
+            "new @1",
+            "drop:max @1",
+            "drop:max @1",
+            "new @1",
+            "drop:states @1",
+            "new @1",
+            "drop:max @1",
+            "new @1",
+            "new @1",
+        ]
         sides, _, _ = self.follow(records, report(*texts))
         self.assertEqual(sides[0].met, {"drop:max": Met(1, 6), "drop:states": Met(4, 4)})
 
@@ -118,15 +156,26 @@ class Picking(unittest.TestCase):
 
     def test_common_text(self) -> None:
         rows = (
-            ("198.51.100.0/24", ",198.51.100."), ("198.51.100.7", ",198.51.100.7,"), ("198.51.96.0/20", ",198.51."), ("10.0.0.0/8", ",10."),
-            ("0.0.0.0/0", ","), ("2001:db8::/32", ":"),
+            ("198.51.100.0/24", ",198.51.100."), ("198.51.100.7", ",198.51.100.7,"), ("198.51.96.0/20", ",198.51."),
+            ("10.0.0.0/8", ",10."), ("0.0.0.0/0", ","), ("2001:db8::/32", ":"),
         )  # fmt: skip
         for text, wanted in rows:
             self.assertEqual(common_text(network(text)), wanted)
 
     def test_picks(self) -> None:
-        lines = [user("S"), user("S", 0, 1, 10), "0,in,em0,tcp,10.0.0.1,1,10.0.0.2,2,S", "0,in,em0,udp,2001:db8::1,1,2001:db8::2,2,"]
-        rows = (("198.51.100.7", [0]), ("198.51.100.0/24", [0, 1]), ("10.0.0.0/8 198.51.100.10", [1, 2]), ("::/0", [3]), ("0.0.0.0/0", [0, 1, 2, 3]))
+        lines = [
+            user("S"),
+            user("S", 0, 1, 10),
+            "0,in,em0,tcp,10.0.0.1,1,10.0.0.2,2,S",
+            "0,in,em0,udp,2001:db8::1,1,2001:db8::2,2,",
+        ]
+        rows = (
+            ("198.51.100.7", [0]),
+            ("198.51.100.0/24", [0, 1]),
+            ("10.0.0.0/8 198.51.100.10", [1, 2]),
+            ("::/0", [3]),
+            ("0.0.0.0/0", [0, 1, 2, 3]),
+        )
         for text, wanted in rows:
             self.assertEqual(list(Picks(networks(text)).of(lines)), wanted, text)
 
@@ -136,8 +185,18 @@ class Commands(FolderCase):
 
     def setUp(self) -> None:
         super().setUp()
-        self.rules = [self.write(name, f"set limit states {most}\npass in proto tcp\n") for name, most in (("wide", 9), ("narrow", 1))]
-        self.records = [user("S"), server("SA"), user("A"), user("S", 1, 1001, 8), server("SA", 1, 1001, 8), user("A", 1, 1001, 8)]
+        self.rules = [
+            self.write(name, f"set limit states {most}\npass in proto tcp\n")
+            for name, most in (("wide", 9), ("narrow", 1))
+        ]
+        self.records = [
+            user("S"),
+            server("SA"),
+            user("A"),
+            user("S", 1, 1001, 8),
+            server("SA", 1, 1001, 8),
+            user("A", 1, 1001, 8),
+        ]
 
     def test_text(self) -> None:
         ended = pfplan("compare", *self.rules, self.trace(self.records), "--users", "198.51.100.0/24", env=ENV)
@@ -150,7 +209,17 @@ class Commands(FolderCase):
 
     def test_json_and_page(self) -> None:
         page = self.folder / "page.html"
-        ended = pfplan("compare", *self.rules, self.trace(self.records), "--users", "198.51.100.0/24", "--json", "--page", page, env=ENV)
+        ended = pfplan(
+            "compare",
+            *self.rules,
+            self.trace(self.records),
+            "--users",
+            "198.51.100.0/24",
+            "--json",
+            "--page",
+            page,
+            env=ENV,
+        )
         read = json.loads(ended.out)
         self.assertEqual([it["outcomes"]["served"] for it in read["sides"]], [2, 1])
         self.assertEqual(read["against_first"][0]["fates"], [["served", "served", 1], ["served", "refused", 1]])
@@ -159,7 +228,9 @@ class Commands(FolderCase):
     def test_names_are_text(self) -> None:
         hostile = self.write("<img src=x onerror=alert(1)>;$(touch x)", "set limit states 1\npass in\n")
         page = self.folder / "page.html"
-        ended = pfplan("compare", self.rules[0], hostile, self.trace(self.records, "tr'ace;\n<b>"), "--page", page, env=ENV)
+        ended = pfplan(
+            "compare", self.rules[0], hostile, self.trace(self.records, "tr'ace;\n<b>"), "--page", page, env=ENV
+        )
         self.assertEqual((ended.status, ended.err), (0, ""))
         self.assertNotIn("<img", page.read_text(encoding="utf-8"))
         self.assertNotIn("<b>", page.read_text(encoding="utf-8"))

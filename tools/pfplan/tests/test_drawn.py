@@ -85,7 +85,9 @@ class DrawnRulesets(unittest.TestCase):
         alone = "".join(f"{it}\n" for it in [*tables, *mine])
         for packet, (word, number) in zip(packets, self.replay(alone, packets), strict=True):
             if word != "state":
-                self.assertEqual(number is not None, reading.matches_rule(rule, packet), f"{packet}\n{drawn.text}\n{alone}")
+                self.assertEqual(
+                    number is not None, reading.matches_rule(rule, packet), f"{packet}\n{drawn.text}\n{alone}"
+                )
 
     def replay(self, rules: str, packets: list[Packet]) -> list[tuple[str, int | None]]:
         """The words and rules of the report. A text that pfsrc refuses fails the test."""

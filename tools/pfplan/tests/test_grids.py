@@ -36,8 +36,9 @@ class Grids(unittest.TestCase):
 
     def test_valleys(self) -> None:
         rows: tuple[tuple[list[float], list[tuple[int, int, int]]], ...] = (
-            ([1, 2, 3, 2, 1], []), ([1, 1, 1], []), ([3, 2, 2, 3], [(0, 2, 3)]), ([1, 3, 2, 4, 3, 5], [(1, 2, 3), (3, 4, 5)]), ([], []), ([5], []),
-            ([5, 4, 3], []), ([1, 2, 1, 2], [(1, 2, 3)]),
+            ([1, 2, 3, 2, 1], []), ([1, 1, 1], []), ([3, 2, 2, 3], [(0, 2, 3)]),
+            ([1, 3, 2, 4, 3, 5], [(1, 2, 3), (3, 4, 5)]), ([], []), ([5], []), ([5, 4, 3], []),
+            ([1, 2, 1, 2], [(1, 2, 3)]),
         )  # fmt: skip
         for shares, wanted in rows:
             found = grids.valleys(dict(enumerate(shares)))
@@ -48,19 +49,40 @@ class Searching(unittest.TestCase):
     """The values that `size` comes to."""
 
     def test_edge_is_found_exactly(self) -> None:
-        found, is_cut = search(Vary("states", 10, 2000), 50, Fraction(99, 100), 9, 60, lambda values: [measure(1000 if it >= 137 else 10) for it in values])
+        found, is_cut = search(
+            Vary("states", 10, 2000),
+            50,
+            Fraction(99, 100),
+            9,
+            60,
+            lambda values: [measure(1000 if it >= 137 else 10) for it in values],
+        )
         self.assertIn(136, found)
         self.assertIn(137, found)
         self.assertIn(50, found)
         self.assertFalse(is_cut)
 
     def test_runs_are_bounded(self) -> None:
-        found, is_cut = search(Vary("states", 1, 4000000), 7, Fraction(99, 100), 9, 12, lambda values: [measure(1000 if it >= 1234567 else 10) for it in values])
+        found, is_cut = search(
+            Vary("states", 1, 4000000),
+            7,
+            Fraction(99, 100),
+            9,
+            12,
+            lambda values: [measure(1000 if it >= 1234567 else 10) for it in values],
+        )
         self.assertEqual(len(found), 12)
         self.assertTrue(is_cut)
 
     def test_peak_between_values(self) -> None:
-        found, _ = search(Vary("max", 10, 90), 10, Fraction(99, 100), 5, 60, lambda values: [measure(1000 if 42 <= it <= 46 else 500 - abs(it - 44)) for it in values])
+        found, _ = search(
+            Vary("max", 10, 90),
+            10,
+            Fraction(99, 100),
+            5,
+            60,
+            lambda values: [measure(1000 if 42 <= it <= 46 else 500 - abs(it - 44)) for it in values],
+        )
         self.assertTrue(any(42 <= it <= 46 for it in found))
 
 
@@ -98,14 +120,25 @@ class Texts(unittest.TestCase):
 
     def test_not_once(self) -> None:
         text = size_texts.text_of(self.sizing({10: 995, 40: 900, 90: 1000}))
-        self.assertIn("The share does not rise and fall once: from 99.5 % at 10 it falls to 90.0 % at 40, and is 100 % at 90.", text)
+        self.assertIn(
+            "The share does not rise and fall once: from 99.5 % at 10 it falls to 90.0 % at 40, and is 100 % at 90.",
+            text,
+        )
 
     def test_none(self) -> None:
         text = size_texts.text_of(self.sizing({10: 500, 90: 400}))
         self.assertIn("No value that was tried serves 99 %; the best is 50.0 % at 10.", text)
 
     def test_refused_rules(self) -> None:
-        found = Sizing("t", "u", Number("states", 9), Fraction(1), {1: measure(0, 0, "line 0: TooManyEntries"), 9: measure(5, 5)}, 0, False)
+        found = Sizing(
+            "t",
+            "u",
+            Number("states", 9),
+            Fraction(1),
+            {1: measure(0, 0, "line 0: TooManyEntries"), 9: measure(5, 5)},
+            0,
+            False,
+        )
         text = size_texts.text_of(found)
         self.assertIn("the rules are refused: line 0: TooManyEntries", text)
         self.assertIn("At least 100 % are served at 9; at 1 the rules are refused.", text)

@@ -28,18 +28,20 @@ from pfplan.traces.records import End
 # names as somebody could choose them: elements, attributes, SVG, gnuplot's commands, and characters that nobody sees
 NAMES = (
     "<script>alert(1)</script>",
-    "\"><img src=x onerror=alert(1)>",
+    '"><img src=x onerror=alert(1)>',
     "</title></style><svg onload=alert(1)>",
     "'; system(\"touch /tmp/x\"); '",
-    "`touch x`$(touch x)\n\nset output \"x\"",
+    '`touch x`$(touch x)\n\nset output "x"',
     "\u202egnp.exe\x07\udcff",
     "&amp;&lt;b&gt;",
 )
-DRAWN = """<?xml version="1.0"?><svg width="440" height="190" viewBox="0 0 440 190" xmlns="http://www.w3.org/2000/svg" xmlns:xlink="http://www.w3.org/1999/xlink">
+DRAWN = """<?xml version="1.0"?><svg width="440" height="190" viewBox="0 0 440 190" \
+xmlns="http://www.w3.org/2000/svg" xmlns:xlink="http://www.w3.org/1999/xlink">
 <title>Gnuplot</title><script>alert(1)</script><defs><circle id='gpDot' r='0.5'/></defs>
 <g fill="none" stroke-width="2.00"><path stroke='rgb(  1,   1,   6)' d='M1,2 L3,4  '/></g>
 <g fill="none"><g transform="translate(34.6,136.7)" fill="rgb(1,1,2)" text-anchor="end"><text> 0 </text></g></g>
-<polygon fill = 'rgb(  1,   1,   5)' points = '1,2 3,4 '/><use xlink:href='#gpPt6' transform='translate(1.5,2.5) scale(2.48)' color='rgb(1,1,9)'/>
+<polygon fill = 'rgb(  1,   1,   5)' points = '1,2 3,4 '/><use xlink:href='#gpPt6' transform='translate(1.5,2.5) \
+scale(2.48)' color='rgb(1,1,9)'/>
 <use xlink:href='http://example.org/x'/><image href="http://example.org/x"/><g/></svg>"""
 
 
@@ -90,18 +92,24 @@ def read_page(text: str) -> Elements:
 def summary(name: str = "pass all", served: int = 199, connections: int = 200) -> Summary:
     """A summary in which each name is `name`."""
     outcomes = {"served": served, "unanswered": 0, "refused": connections - served, "killed": 0, "cut": 0}
-    steps = [Step(100, Counter({"new": 4, "drop:states": 2}), 1, 3, Counter(served=2, refused=1)), Step(101, Counter(new=1), 0, 1, Counter(served=1))]
+    steps = [
+        Step(100, Counter({"new": 4, "drop:states": 2}), 1, 3, Counter(served=2, refused=1)),
+        Step(101, Counter(new=1), 0, 1, Counter(served=1)),
+    ]
     return Summary(
-        12, {"new": {"@0": 5, "-": 1}, "drop:states": {"@0": 6}}, [Limit("drop:states", 6, 3, 9, 100, 101, 2, 0)], {"added": 2}, End(12, 4, 3, 2),
-        100, 101, 1, steps, Users("198.51.100.0/24", connections, outcomes, {"drop:states": connections - served}, 1),
-        Tops([Source(name, 6)], [], [Source(name, 5)], [Source(name, 11)]), [name, name], {0: name}, [1], Interfaces([name], [name]),
-        [Held(100, 2, 1, 0), Held(101, 4, 3, 2)],
+        12, {"new": {"@0": 5, "-": 1}, "drop:states": {"@0": 6}}, [Limit("drop:states", 6, 3, 9, 100, 101, 2, 0)],
+        {"added": 2}, End(12, 4, 3, 2), 100, 101, 1, steps,
+        Users("198.51.100.0/24", connections, outcomes, {"drop:states": connections - served}, 1),
+        Tops([Source(name, 6)], [], [Source(name, 5)], [Source(name, 11)]), [name, name], {0: name}, [1],
+        Interfaces([name], [name]), [Held(100, 2, 1, 0), Held(101, 4, 3, 2)],
     )  # fmt: skip
 
 
 def subject(name: str = "pf.conf") -> report_page.Subject:
     """What was replayed, by hostile names where wanted."""
-    return report_page.Subject(name, name, [LeftOut(name, 3, name, name, True), LeftOut(name, 4, name, name, False)], [name])
+    return report_page.Subject(
+        name, name, [LeftOut(name, 3, name, name, True), LeftOut(name, 4, name, name, False)], [name]
+    )
 
 
 class Figures(unittest.TestCase):
@@ -109,8 +117,8 @@ class Figures(unittest.TestCase):
 
     def test_share_is_all_only_where_it_is_all(self) -> None:
         rows = (
-            (199, 200, "99.5 %"), (9995, 10000, "> 99.9 %"), (9994, 10000, "99.9 %"), (10000, 10000, "100 %"), (0, 9, "0 %"), (1, 10000, "< 0.1 %"),
-            (1, 3, "33.3 %"), (2, 3, "66.7 %"), (0, 0, "-"), (5, 5, "100 %"),
+            (199, 200, "99.5 %"), (9995, 10000, "> 99.9 %"), (9994, 10000, "99.9 %"), (10000, 10000, "100 %"),
+            (0, 9, "0 %"), (1, 10000, "< 0.1 %"), (1, 3, "33.3 %"), (2, 3, "66.7 %"), (0, 0, "-"), (5, 5, "100 %"),
         )  # fmt: skip
         for part, whole, text in rows:
             self.assertEqual(figures.share_text(part, whole), text, (part, whole))
@@ -165,8 +173,12 @@ class Pages(unittest.TestCase):
         self.assertIn("pf blocks more", text)
 
     def test_what_is_missing_stands_before_the_answer(self) -> None:
-        left = LeftOut("pf.conf", 3, "that egress is a group", "give --interface egress=IF or --ifconfig", True, is_missing=True)
-        text = "\n".join(read_page(report_page.page_of(summary(), report_page.Subject("pf.conf", "trace", [left]), [], "d")).text)
+        left = LeftOut(
+            "pf.conf", 3, "that egress is a group", "give --interface egress=IF or --ifconfig", True, is_missing=True
+        )
+        text = "\n".join(
+            read_page(report_page.page_of(summary(), report_page.Subject("pf.conf", "trace", [left]), [], "d")).text
+        )
         self.assertLess(text.index("give --interface egress=IF"), text.index("of the users' connections were served"))
 
     def test_green_by_the_wanted_share(self) -> None:
@@ -225,7 +237,9 @@ class Pages(unittest.TestCase):
 
     def test_without_gnuplot(self) -> None:
         missing = Trouble("gnuplot is not here (Debian package gnuplot-nox)")
-        with tempfile.TemporaryDirectory() as folder, mock.patch.object(pictures, "drawn_by_gnuplot", side_effect=missing):
+        with tempfile.TemporaryDirectory() as folder, mock.patch.object(
+            pictures, "drawn_by_gnuplot", side_effect=missing
+        ):
             written = report_page.write_page(Path(folder), summary(), subject())
             text = written[0].read_text(encoding="utf-8")
             self.assertEqual([it.name for it in written], ["report.html"])
@@ -233,7 +247,10 @@ class Pages(unittest.TestCase):
         self.assertIn("Debian package gnuplot-nox", text)
 
     def test_gnuplot_that_fails_or_hangs(self) -> None:
-        for script, why in (("echo 'no terminal' >&2; exit 1", "gnuplot failed: no terminal"), ("exec sleep 60", "gnuplot drew nothing in 1 seconds")):
+        for script, why in (
+            ("echo 'no terminal' >&2; exit 1", "gnuplot failed: no terminal"),
+            ("exec sleep 60", "gnuplot drew nothing in 1 seconds"),
+        ):
             with tempfile.TemporaryDirectory() as folder, mock.patch.object(pictures, "SECONDS_FOR_A_PICTURE", 1):
                 program = Path(folder, "gnuplot")
                 program.write_text(f"#!/bin/sh\n{script}\n", encoding="utf-8")

@@ -169,8 +169,10 @@ class PlayedCommands(FolderCase):
 class Returning(unittest.TestCase):
     def test_words_by_number(self) -> None:
         text = (
-            "# block return, in a comment\nset limit states 5\ntable <block> { 10.0.0.0/8 } # block return\n  block \\\n return in\npass out log # \\\n"
-            'block drop out\nanchor "return" {\n\tblock return-rst in proto tcp\n\tpass\n}\nblock\nblock return-icmp6 in quick\n'
+            "# block return, in a comment\nset limit states 5\ntable <block> { 10.0.0.0/8 } # block return\n  block "
+            "\\\n return in\npass out log # \\\n"
+            'block drop out\nanchor "return" {\n\tblock return-rst in proto tcp\n\tpass\n}\nblock\nblock return-icmp6 '
+            "in quick\n"
         )
         self.assertEqual(words_of(text), {0: "return", 4: "return-rst", 7: "return-icmp6"})
 

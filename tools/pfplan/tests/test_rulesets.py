@@ -26,8 +26,18 @@ class Rulesets(unittest.TestCase):
     def test_example(self) -> None:
         """The example has the rules and the lines that stand beside it, and pfsrc accepts the rules."""
         folder = "examples/pf.conf"
-        with contextlib.chdir(TOP), contextlib.redirect_stderr(io.StringIO()) as told, tempfile.TemporaryDirectory() as made:
-            words = [f"{folder}/etc/pf.conf", "--root", folder, "--ifconfig", f"{folder}/ifconfig", "--out", f"{made}/rules"]
+        with contextlib.chdir(TOP), contextlib.redirect_stderr(
+            io.StringIO()
+        ) as told, tempfile.TemporaryDirectory() as made:
+            words = [
+                f"{folder}/etc/pf.conf",
+                "--root",
+                folder,
+                "--ifconfig",
+                f"{folder}/ifconfig",
+                "--out",
+                f"{made}/rules",
+            ]
             self.assertEqual(main(["rules", *words]), 0)
             self.assertEqual(Path(made, "rules").read_text("utf-8"), Path(folder, "rules").read_text("utf-8"))
             self.assertEqual(told.getvalue(), Path(folder, "told").read_text("utf-8"))
@@ -36,7 +46,11 @@ class Rulesets(unittest.TestCase):
 
     def test_labels(self) -> None:
         """Each item has its own label, by its number."""
-        made = convert_text('block\npass in on em0 proto tcp from 10/8 to port { 80 443 } label "$if $proto $srcaddr $dstport $nr"\n', "x", RuleOptions())
+        made = convert_text(
+            'block\npass in on em0 proto tcp from 10/8 to port { 80 443 } label "$if $proto $srcaddr $dstport $nr"\n',
+            "x",
+            RuleOptions(),
+        )
         self.assertEqual(made.labels, {1: "em0 tcp 10.0.0.0/8 80 1", 2: "em0 tcp 10.0.0.0/8 443 2"})
 
     def test_origins(self) -> None:
@@ -47,7 +61,14 @@ class Rulesets(unittest.TestCase):
     def test_leftovers(self) -> None:
         """A leftover has its file, line, text, reason, and whether an answer can change."""
         made = convert_text("pass\n\nblock in user root\n", "x", RuleOptions())
-        self.assertEqual(made.leftovers, (Leftover("x", 3, "block in user root", "a trace does not carry what it asks (user)", True, "pf blocks more"),))
+        self.assertEqual(
+            made.leftovers,
+            (
+                Leftover(
+                    "x", 3, "block in user root", "a trace does not carry what it asks (user)", True, "pf blocks more"
+                ),
+            ),
+        )
 
     def test_strict(self) -> None:
         """The first thing that can change an answer is refused with its line, and one that can't is not."""
@@ -71,7 +92,9 @@ class Rulesets(unittest.TestCase):
         """More rules than pfsrc takes are refused, and so are lists that would never end."""
         ports = "{ " + " ".join(map(str, range(1, 102))) + " }"
         text = f"pass proto tcp from port {ports} to port {ports}\n"
-        with self.assertRaisesRegex(Trouble, "pf.conf: line 1: the text stands for more than 10000 rules and anchors, which pfsrc does not take"):
+        with self.assertRaisesRegex(
+            Trouble, "pf.conf: line 1: the text stands for more than 10000 rules and anchors, which pfsrc does not take"
+        ):
             text_of(text)
         hosts = "{ " + " ".join(f"10.0.0.{it}" for it in range(100)) + " }"
         with self.assertRaisesRegex(Trouble, "line 1: its lists stand for 102010000 rules"):

@@ -1,4 +1,5 @@
-"""The command `run`: the folder is whole, new or old; pipes are read once; what is missing is said first. The programs are stand-ins."""
+"""The command `run`: the folder is whole, new or old; pipes are read once; what is missing is said first. The programs
+are stand-ins."""
 
 import json
 import os
@@ -16,9 +17,13 @@ from pfplan.tests.support import STAND_IN, Done, FolderCase, pfplan
 
 USERS = ("--users", "198.51.100.0/24", "--held", "0")
 RECORDS = (
-    "1,in,em0,tcp,198.51.100.7,1000,192.0.2.1,80,S", "1,out,em0,tcp,192.0.2.1,80,198.51.100.7,1000,SA", "1,in,em0,tcp,198.51.100.7,1000,192.0.2.1,80,A",
+    "1,in,em0,tcp,198.51.100.7,1000,192.0.2.1,80,S", "1,out,em0,tcp,192.0.2.1,80,198.51.100.7,1000,SA",
+    "1,in,em0,tcp,198.51.100.7,1000,192.0.2.1,80,A",
 )  # fmt: skip
-ACCOUNT = "frames 8: records 3, not IP 1, later fragments 0, cut before their ports 0, neither in nor out 4, of a link type that is not read 0"
+ACCOUNT = (
+    "frames 8: records 3, not IP 1, later fragments 0, cut before their ports 0, neither in nor out 4, of a link type "
+    "that is not read 0"
+)
 
 
 class Running(FolderCase):
@@ -56,7 +61,11 @@ class Running(FolderCase):
         before = self.files()
         self.rules.write_text("set limit states 60\npass in proto tcp all keep state\n", "utf-8")
         failing = self.folder / "pfsrc"
-        failing.write_text(f"#!/bin/sh\ntest \"$1\" = replay || exec '{STAND_IN}' \"$@\"\necho '1 new @0'\necho 'trace: row 2: field 6' >&2\nexit 1\n", "utf-8")
+        failing.write_text(
+            f"#!/bin/sh\ntest \"$1\" = replay || exec '{STAND_IN}' \"$@\"\necho '1 new @0'\necho 'trace: row 2: field "
+            "6' >&2\nexit 1\n",
+            "utf-8",
+        )
         failing.chmod(0o755)
         done = self.run_it(self.rules, self.records, env={"PFSRC": str(failing)})
         self.assertEqual((done.status, done.err), (Status.REFUSED, f"pfplan run: {self.records}: row 2: field 6\n"))
@@ -84,7 +93,9 @@ class Running(FolderCase):
         self.assertEqual(json.loads(files["summary.json"])["frames"]["others"]["neither in nor out"], 4)
 
     def test_a_capture_that_is_cut(self) -> None:
-        env = self.pfstrace(f"echo '{ACCOUNT}' >&2; echo 'capture: behind frame 3: the file ends within it' >&2; exit 1")
+        env = self.pfstrace(
+            f"echo '{ACCOUNT}' >&2; echo 'capture: behind frame 3: the file ends within it' >&2; exit 1"
+        )
         done = self.run_it(self.rules, self.capture(), env=env)
         self.assertEqual(done.status, Status.REFUSED)
         self.assertIn("the file ends within it (--partial takes the frames before it)", done.err)
@@ -112,7 +123,15 @@ class Running(FolderCase):
         self.assertEqual(done.status, 0, done.err)
         words = [sys.executable, TOP / "pfplan", "run", "<(cat pf.conf)", "<(cat trace)", "--into", self.into, *USERS]
         shell = " ".join(str(it) if str(it).startswith("<(") else f"'{it}'" for it in words)
-        ended = subprocess.run(["bash", "-c", shell], cwd=self.folder, env=os.environ | self.env, capture_output=True, text=True, check=False, timeout=60)
+        ended = subprocess.run(
+            ["bash", "-c", shell],
+            cwd=self.folder,
+            env=os.environ | self.env,
+            capture_output=True,
+            text=True,
+            check=False,
+            timeout=60,
+        )
         self.assertEqual(ended.returncode, 0, ended.stderr)
 
     def test_what_is_missing_is_said_first(self) -> None:
@@ -124,7 +143,11 @@ class Running(FolderCase):
         self.assertLess(page.index("give --interface egress=IF"), page.index("of the users"))
 
     def test_green_or_red_by_want(self) -> None:
-        unanswered = [*RECORDS, "1,in,em0,tcp,198.51.100.8,1000,192.0.2.1,80,S", "90,in,em0,icmp,198.51.100.8,,192.0.2.1,,"]
+        unanswered = [
+            *RECORDS,
+            "1,in,em0,tcp,198.51.100.8,1000,192.0.2.1,80,S",
+            "90,in,em0,icmp,198.51.100.8,,192.0.2.1,,",
+        ]
         trace = self.trace(unanswered, "other")
         for want, mood in (("50%", "good"), ("51%", "bad")):
             self.assertEqual(self.run_it(self.rules, trace, "--want", want).status, 0)

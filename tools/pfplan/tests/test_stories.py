@@ -76,11 +76,21 @@ class Stories(FolderCase):
     def test_entries_by_records(self) -> None:
         """Tables that get their entries by records have them when the program is asked anew."""
         conf, shown = self.write("pf.conf", RULES), self.write("shown", "198.51.100.7\n203.0.113.0/24\n")
-        trace = self.trace([syn(3, "198.51.100.7", 1), syn(4, "198.51.100.8", 1), syn(5, "198.51.100.7", 2), "7,delete,bad,,198.51.100.7,,,,"])
+        trace = self.trace(
+            [
+                syn(3, "198.51.100.7", 1),
+                syn(4, "198.51.100.8", 1),
+                syn(5, "198.51.100.7", 2),
+                "7,delete,bad,,198.51.100.7,,,,",
+            ]
+        )
         into = self.folder / "answer"
         self.assertEqual(pfplan("run", conf, trace, "--entries", f"bad={shown}", "--into", into).status, 0)
         told = pfplan("explain", into / "report", "--trace", trace, "--rules", into / "rules", "--row", 3).out
-        self.assertIn("  Held before row 3: 1 state, 0 source nodes, 2 table entries", told.replace("1 source node", "0 source nodes"))
+        self.assertIn(
+            "  Held before row 3: 1 state, 0 source nodes, 2 table entries",
+            told.replace("1 source node", "0 source nodes"),
+        )
         self.assertIn("would have been let in at the end of second 7", told)
 
     def test_let_in(self) -> None:

@@ -12,7 +12,8 @@ NEITHER_WAY = "neither in nor out"
 
 @dataclass(frozen=True, slots=True)
 class Frames:
-    """What became of the frames of a capture: how many there are, the records made, and the others by why they are none.
+    """What became of the frames of a capture: how many there are, the records made, and the others by why they are
+    none.
 
     `notes` are the sentences beside the counts: that the capture is cut, or that its directions are not sure.
     """
@@ -29,7 +30,9 @@ def frames_of(account: Sequence[str]) -> Frames | None:
     if found is None:
         return None
     notes = tuple(it for it in account if not it.startswith(_COUNTS))
-    return Frames(int(found[1]), int(found[2]), {reason: int(count) for reason, count in _REASON.findall(found[3])}, notes)
+    return Frames(
+        int(found[1]), int(found[2]), {reason: int(count) for reason, count in _REASON.findall(found[3])}, notes
+    )
 
 
 def reasons_of(frames: Frames) -> str:

@@ -23,7 +23,8 @@ _BY_NETWORKS = re.compile(r"directions: .*, by networks (\d+); networks contradi
 
 
 def check_capture(path: Path, name: Path | str | None = None) -> None:
-    """Trouble where the file can't be read (status 4) or is plainly no capture (status 1). `name` stands in messages for a copy."""
+    """Trouble where the file can't be read (status 4) or is plainly no capture (status 1). `name` stands in messages
+    for a copy."""
     kind = kind_of(path)
     name = name or path
     if kind in (Kind.EMPTY, Kind.TRACE, Kind.REPORT):
@@ -36,14 +37,17 @@ def check_capture(path: Path, name: Path | str | None = None) -> None:
 
 
 def make_trace(
-    capture: Path, inside: Sequence[Network], trace: Path | None, *, name: str | None = None, macs: Sequence[str] = (), told: Path | None = None,
-    is_zero: bool = False, is_partial: bool = False, shown: Path | str | None = None, is_log: bool = False,
+    capture: Path, inside: Sequence[Network], trace: Path | None, *, name: str | None = None, macs: Sequence[str] = (),
+    told: Path | None = None, is_zero: bool = False, is_partial: bool = False, shown: Path | str | None = None,
+    is_log: bool = False,
 ) -> list[str]:  # fmt: skip
-    """Writes the trace of a capture, and answers the lines of the account. Trouble where the capture is refused; then nothing is written.
+    """Writes the trace of a capture, and answers the lines of the account. Trouble where the capture is refused; then
+    nothing is written.
 
-    `name` is the interface of every record, and `macs` are its addresses on its Ethernet, by which directions are sure. `told` gets pf's own
-    answers. With `is_zero` moments count from the first record's. With `is_partial` a capture that is cut is taken up to there. `shown`
-    stands in messages for a copy of what was given. `is_log` says that a log of pflog(4) is wanted, which needs no networks.
+    `name` is the interface of every record, and `macs` are its addresses on its Ethernet, by which directions are sure.
+    `told` gets pf's own answers. With `is_zero` moments count from the first record's. With `is_partial` a capture that
+    is cut is taken up to there. `shown` stands in messages for a copy of what was given. `is_log` says that a log of
+    pflog(4) is wanted, which needs no networks.
     """
     shown = shown or capture
     if str(capture) != "-":
@@ -72,7 +76,8 @@ def way_words(inside: Sequence[Network], macs: Sequence[str], name: str | None) 
 
 
 def by_networks(account: Sequence[str], name: str) -> list[str]:
-    """What is to be said where only the networks of --inside tell directions, or say the other one, by the account of pfstrace."""
+    """What is to be said where only the networks of --inside tell directions, or say the other one, by the account of
+    pfstrace."""
     counts = next((found for line in account if (found := _BY_NETWORKS.match(line))), None)
     if counts is None:
         return []
@@ -84,25 +89,32 @@ def by_networks(account: Sequence[str], name: str) -> list[str]:
             "With --ifconfig FILE and --if NAME its own address (lladdr) tells them"
         )
     if against:
-        said.append(f"the networks of --inside say the other direction of {against} packets: is {name} an inner interface? Theirs is by their frames")
+        said.append(
+            f"the networks of --inside say the other direction of {against} packets: is {name} an inner interface? "
+            "Theirs is by their frames"
+        )
     return said
 
 
 def check_account(account: Sequence[str], capture: Path | str, *, has_inside: bool) -> None:
-    """Trouble with status 1 for a capture without frames, and for one of which no frame is a record, with the reasons."""
+    """Trouble with status 1 for a capture without frames, and for one of which no frame is a record, with the
+    reasons."""
     found = frames_of(account)
     if found is None or found.records:
         return
     if not found.frames:
         raise Trouble(f"{capture}: no frames in the capture", Status.REFUSED)
     if found.others.get(NEITHER_WAY) and not has_inside:
-        raise Trouble(f"{capture}: it does not tell which way its packets go: give --inside or --ifconfig", Status.REFUSED)
+        raise Trouble(
+            f"{capture}: it does not tell which way its packets go: give --inside or --ifconfig", Status.REFUSED
+        )
     raise Trouble(f"{capture}: none of its {found.frames:,} frames is a record: {reasons_of(found)}", Status.REFUSED)
 
 
 @contextlib.contextmanager
 def _answers(told: Path) -> Iterator[str]:
-    """The name of a file for pfstrace to write pf's answers to, which are in `told` once all has ended well. It makes that file anew."""
+    """The name of a file for pfstrace to write pf's answers to, which are in `told` once all has ended well. It makes
+    that file anew."""
     with whole_file(told) as whole, tempfile.TemporaryDirectory(prefix="pfplan-") as folder:
         name = Path(folder, "told")
         yield str(name)
@@ -111,8 +123,11 @@ def _answers(told: Path) -> Iterator[str]:
 
 
 @contextlib.contextmanager
-def _running(words: Sequence[str], capture: Path, shown: Path | str, is_partial: bool) -> Iterator[tuple[IO[str], list[str]]]:
-    """What pfstrace prints, and once it has ended well the lines of its account. Trouble where it can't be run, or fails.
+def _running(
+    words: Sequence[str], capture: Path, shown: Path | str, is_partial: bool
+) -> Iterator[tuple[IO[str], list[str]]]:
+    """What pfstrace prints, and once it has ended well the lines of its account. Trouble where it can't be run, or
+    fails.
 
     It prints whole rows up to where a capture is cut; with `is_partial` these are taken.
     """
@@ -120,7 +135,9 @@ def _running(words: Sequence[str], capture: Path, shown: Path | str, is_partial:
     given = None if str(capture) == "-" else subprocess.DEVNULL
     with tempfile.TemporaryFile("w+", errors="replace", prefix="pfplan-") as told:
         try:
-            process = subprocess.Popen(words, stdin=given, stdout=subprocess.PIPE, stderr=told, text=True, encoding="latin-1")
+            process = subprocess.Popen(
+                words, stdin=given, stdout=subprocess.PIPE, stderr=told, text=True, encoding="latin-1"
+            )
         except OSError as error:
             raise Trouble(f"{words[0]}: can't be run: {reason_of(error)}", Status.FAILED) from None
         assert process.stdout is not None

@@ -1,7 +1,7 @@
 """What stands in a trace and in a report: their lines in blocks, and a record or an answer read from a line.
 
-A block is a list of some ten thousand lines without their line feeds, so that what is counted over a million of them is counted
-by the block. Memory is that of a block, however long the file is.
+A block is a list of some ten thousand lines without their line feeds, so that what is counted over a million of them is
+counted by the block. Memory is that of a block, however long the file is.
 """
 
 from collections.abc import Iterable, Iterator
@@ -16,8 +16,8 @@ from pfplan.common.inputs import HEADER, check_trace
 BLOCK = 1 << 19
 LONGEST = 1 << 16
 WORDS = (
-    "state", "new", "pass", "block", "skip", "drop:max", "drop:max-src-nodes", "drop:src-nodes", "drop:max-src-states", "drop:states",
-    "kill:max-src-conn", "kill:max-src-conn-rate", "kill:max-src-conn+max-src-conn-rate", "expire",
+    "state", "new", "pass", "block", "skip", "drop:max", "drop:max-src-nodes", "drop:src-nodes", "drop:max-src-states",
+    "drop:states", "kill:max-src-conn", "kill:max-src-conn-rate", "kill:max-src-conn+max-src-conn-rate", "expire",
     "held", "add", "delete",
 )  # fmt: skip
 OVERLOADS = ("added", "held", "full", "none")
@@ -43,7 +43,8 @@ class Record:
 
 @dataclass(frozen=True, slots=True)
 class Answer:
-    """A line of a report. `rule` is `@N` or `-`; the others say what a kill did, what left a table, and what became of an added entry."""
+    """A line of a report. `rule` is `@N` or `-`; the others say what a kill did, what left a table, and what became of
+    an added entry."""
 
     row: int
     word: str
@@ -97,7 +98,8 @@ def blocks_of_lines(lines: Iterable[str]) -> Iterator[list[str]]:
 
 
 class Traces:
-    """The records of a trace in blocks, past its header and blank lines. `name` stands in messages for a copy of a pipe."""
+    """The records of a trace in blocks, past its header and blank lines. `name` stands in messages for a copy of a
+    pipe."""
 
     def __init__(self, path: Path, name: Path | None = None) -> None:
         self.path = path
@@ -105,7 +107,8 @@ class Traces:
         self._line = 0
 
     def blocks(self) -> Iterator[list[str]]:
-        """The lines of the records. Trouble with status 1 for another header and for a quote, which pfplan does not read."""
+        """The lines of the records. Trouble with status 1 for another header and for a quote, which pfplan does not
+        read."""
         check_trace(self.path)
         is_begun = False
         for lines in line_blocks(self.path):
@@ -128,7 +131,8 @@ class Traces:
 
 
 def records(path: Path) -> Iterator[Record]:
-    """Each record of a trace. Trouble as `Traces.blocks`, and where a record has not nine columns or its moment is no number."""
+    """Each record of a trace. Trouble as `Traces.blocks`, and where a record has not nine columns or its moment is no
+    number."""
     row = 0
     for lines in Traces(path).blocks():
         for line in lines:
@@ -155,7 +159,12 @@ def read_answer(line: str) -> Answer | End:
     part = line.split(" ")
     if part[0] == "end":
         return _read_end(part)
-    if len(part) < 3 or not part[0].isdigit() or part[1] not in WORDS or not (part[2] == "-" or part[2][0] == "@" and part[2][1:].isdigit()):
+    if (
+        len(part) < 3
+        or not part[0].isdigit()
+        or part[1] not in WORDS
+        or not (part[2] == "-" or part[2][0] == "@" and part[2][1:].isdigit())
+    ):
         raise ValueError("no line of a report")
     row, word, rule = int(part[0]), part[1], part[2]
     if word.startswith("kill:"):

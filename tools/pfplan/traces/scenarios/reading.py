@@ -10,8 +10,31 @@ from pfplan.common.inputs import Kind, kind_of
 from pfplan.common.networks import Network
 from pfplan.common.visible import visible
 from pfplan.traces.scenarios import fields
-from pfplan.traces.scenarios.fields import Field, Wanted, flag, interface, network, networks, one_of, rate, read_table, text, whole
-from pfplan.traces.scenarios.model import KINDS, Askers, Endpoint, Forgers, Forward, Group, Holders, Laid, Scenario, Visits
+from pfplan.traces.scenarios.fields import (
+    Field,
+    Wanted,
+    flag,
+    interface,
+    network,
+    networks,
+    one_of,
+    rate,
+    read_table,
+    text,
+    whole,
+)
+from pfplan.traces.scenarios.model import (
+    KINDS,
+    Askers,
+    Endpoint,
+    Forgers,
+    Forward,
+    Group,
+    Holders,
+    Laid,
+    Scenario,
+    Visits,
+)
 
 MOST_BYTES = 1 << 20
 MOST_PACKETS = 2_000_000_000  # of a flood over its whole time
