@@ -13,10 +13,9 @@ from dataclasses import dataclass
 from pathlib import Path
 
 from pfplan.common.errors import Status, Trouble, reason_of
+from pfplan.common.limits import OF_ALL, OF_RULES
 from pfplan.replays.runs import show_rules
 
-LIMITS = ("states", "src-nodes", "tables", "table-entries")
-MAXIMA = ("max", "max-src-nodes", "max-src-states", "max-src-conn", "max-src-conn-rate")
 ADAPTIVE = ("adaptive.start", "adaptive.end")
 _OPTIONS = re.compile(r"^(.* keep state \()(.*)\)$")
 _COUNT = 4294967295
@@ -48,15 +47,15 @@ class Number:
     @property
     def kind(self) -> Kind:
         """Whether it is a limit, a maximum or a timeout; adaptive values are numbers of states, so limits."""
-        if self.name in LIMITS or self.name in ADAPTIVE:
+        if self.name in OF_ALL or self.name in ADAPTIVE:
             return Kind.LIMIT
-        return Kind.MAXIMUM if self.name in MAXIMA else Kind.TIMEOUT
+        return Kind.MAXIMUM if self.name in OF_RULES else Kind.TIMEOUT
 
     @property
     def title(self) -> str:
         """How it is told: `set limit states`, `max-src-conn-rate N/60 of @5`."""
         if not self.rules:
-            return f"set {'limit' if self.name in LIMITS else 'timeout'} {self.name}"
+            return f"set {'limit' if self.name in OF_ALL else 'timeout'} {self.name}"
         name = f"{self.name} N{self.period}" if self.period else self.name
         return f"{name} of {', '.join(f'@{it}' for it in self.rules)}"
 
@@ -126,8 +125,8 @@ class RulesText:
             return Number(found[0].name, found[0].value, tuple(it.rules[0] for it in found), found[0].period)
         known = [*settings, *dict.fromkeys(it.name for it in options), *(f"@{it.rules[0]}.{it.name}" for it in options)]
         near = difflib.get_close_matches(name, known, 1)
-        if place is None and name in MAXIMA:
-            stated = ", ".join(dict.fromkeys(it.name for it in options if it.name in MAXIMA))
+        if place is None and name in OF_RULES:
+            stated = ", ".join(dict.fromkeys(it.name for it in options if it.name in OF_RULES))
             raise Trouble(
                 f"{self.path}: no rule states {name}; --vary takes {stated + ', ' if stated else ''}a limit as states, "
                 "or a timeout as tcp.first"
@@ -193,7 +192,7 @@ def _settings_text(values: Mapping[str, int], settings: Sequence[Number]) -> str
     given = dict(values)
     if any(name in given for name in ADAPTIVE):
         given = {**{name: known[name] for name in ADAPTIVE}, **given}
-    limits = [f"{name} {value}" for name, value in given.items() if name in LIMITS]
-    times = [f"{name} {value}" for name, value in given.items() if name not in LIMITS]
+    limits = [f"{name} {value}" for name, value in given.items() if name in OF_ALL]
+    times = [f"{name} {value}" for name, value in given.items() if name not in OF_ALL]
     text = f"set limit {{ {', '.join(limits)} }}\n" if limits else ""
     return text + (f"set timeout {{ {', '.join(times)} }}\n" if times else "")

@@ -1,10 +1,10 @@
 """Rulesets under one trace, side by side."""
 
-import argparse
 import contextlib
 from collections import Counter
 from collections.abc import Callable, Iterator, Sequence
 from dataclasses import asdict, dataclass, field
+from itertools import groupby
 from pathlib import Path
 from typing import Any
 
@@ -13,11 +13,12 @@ from pfplan.answers.measures import Measure, measure_of, most_of
 from pfplan.answers.sides import Side, follow, side_of
 from pfplan.answers.stepping import Steps, steps_of
 from pfplan.answers.timelines import Timeline, timeline_of
+from pfplan.common.networks import Network
 from pfplan.common.progress import Progress
 from pfplan.pf.reading_canonical_text import flushes_of, items_of
 from pfplan.replays.runs import records_of, replayed, show_rules
 from pfplan.traces.entries import mark_of
-from pfplan.traces.insertions import asking
+from pfplan.traces.insertions import Held, asking
 from pfplan.traces.records import Record, read_record
 
 
@@ -133,6 +134,18 @@ class Fates:
                 del changed[self._most :]
 
 
+def count_steps(steps: Steps, side: Side, lines: Sequence[str]) -> None:
+    """Counts the block whose texts the side holds, by its steps."""
+    at = 0
+    for moment, group in groupby(lines, key=lambda it: it.partition(",")[0]):
+        count = sum(1 for _ in group)
+        step = steps.at(int(moment))
+        for text, times in Counter(side.texts[at : at + count]).items():
+            step.words[side.answers.word_of(text)] += times
+            step.killed += side.answers.killed_of(text) * times
+        at += count
+
+
 class Pairs:
     """Counts, block by block, how the words of each side go with those of the first, and notes where they part."""
 
@@ -150,7 +163,7 @@ class Pairs:
         """Counts the block whose texts the sides hold."""
         self._progress.at(row + len(lines))
         for steps, side in zip(self._steps, self._sides):
-            steps.take(side, lines)
+            count_steps(steps, side, lines)
         first = self._sides[0].texts
         for at, side in enumerate(self._sides[1:]):
             counts = Counter(zip(first, side.texts))
@@ -183,54 +196,61 @@ def names_of(paths: Sequence[Path]) -> list[str]:
     return names if len(set(names)) == len(names) else [str(it) for it in paths]
 
 
+@dataclass(frozen=True)
+class Asked:
+    """What is asked of a comparison: about whose connections, of how many moments what is held, how many of the
+    connections that change are named, and whether it is told over time."""
+
+    users: Sequence[Network] = ()
+    moments: int = 0
+    most: int = 5
+    over_time: bool = False
+
+
 def compare(
-    paths: Sequence[Path], trace: Path, entries: Sequence[Sequence[str]], arguments: argparse.Namespace
+    names: Sequence[str], paths: Sequence[Path], trace: Path, entries: Sequence[Sequence[str]], wanted: Asked
 ) -> Comparison:
     """Replays the trace under each ruleset, all at once. `entries` are those of each that come by records. Trouble as
     the program's own for each."""
-    names = names_of(paths)
     shown = [show_rules(it) for it in paths]
     rules = [items_of(it) for it in shown]
-    fates = Fates(len(paths), arguments.top)
+    fates = Fates(len(paths), wanted.most)
     progress = Progress("compare", records_of(trace), "records")
     with contextlib.ExitStack() as stack:
         stack.callback(progress.finish)
-        asked = [stack.enter_context(asking(trace, arguments.held, it)) for it in entries]
+        asked = [stack.enter_context(asking(trace, wanted.moments, it)) for it in entries]
         heard = [one.heard(it) for one, it in zip(asked, paths)]
         reports = [stack.enter_context(replayed(it, trace, asked[at], heard[at])) for at, it in enumerate(paths)]
-        steps = [steps_of(trace) for _ in paths] if arguments.page else []
+        steps = [steps_of(trace) for _ in paths] if wanted.over_time else []
         told = [steps[at].told if steps else None for at in range(len(paths))]
         flushes = [flushes_of(it) for it in rules]
         sides = [
-            side_of(name, reports[at], arguments.users, fates.ended(at), told[at], flushes[at], asked[at].numbers)
-            for at, name in enumerate(names)
+            side_of(it, reports[at], wanted.users, fates.ended(at), told[at], flushes[at], asked[at].numbers)
+            for at, it in enumerate(names_of(paths))
         ]
         pairs = Pairs(sides, rules, progress, steps)
-        follow(trace, sides, arguments.users, pairs.take)
+        follow(trace, sides, wanted.users, pairs.take)
     fates.finish()
     measures = [measure_of(side, most_of(it.held, measure_of(side).end)) for side, it in zip(sides, heard)]
     lines_of = [[*lines, *([mark_of(it)] if it else [])] for lines, it in zip(shown, entries)]
-    against = [
-        Against(
-            pairs.texts[at],
-            pairs.partings[at],
-            fates.counts[at],
-            fates.changed[at],
-            _only(lines_of[0], lines_of[at + 1]),
-        )
-        for at in range(len(paths) - 1)
+    lines = [_timeline(it, said.held, any(one.connections for one in measures)) for it, said in zip(steps, heard)]
+    users = ",".join(map(str, wanted.users))
+    return Comparison(trace.name, users, list(names), measures, _against(pairs, fates, lines_of), wanted.moments, lines)
+
+
+def _against(pairs: Pairs, fates: Fates, lines_of: Sequence[Sequence[str]]) -> list[Against]:
+    """Each ruleset but the first against it."""
+    found = zip(pairs.texts, pairs.partings, fates.counts, fates.changed, lines_of[1:])
+    return [
+        Against(words, parting, counts, changed, _only(lines_of[0], lines))
+        for words, parting, counts, changed, lines in found
     ]
-    lines = [
-        timeline_of(
-            it.steps,
-            it.seconds,
-            [(at.moment, at.states) for at in said.held],
-            it.first,
-            any(one.connections for one in measures),
-        )
-        for it, said in zip(steps, heard)
-    ]
-    return Comparison(trace.name, ",".join(map(str, arguments.users)), names, measures, against, arguments.held, lines)
+
+
+def _timeline(steps: Steps, held: Sequence[Held], has_users: bool) -> Timeline:
+    """A ruleset over time."""
+    points = [(it.moment, it.states) for it in held]
+    return timeline_of(steps.whole(), steps.seconds, points, steps.first or 0, has_users)
 
 
 def _only(one: Sequence[str], other: Sequence[str]) -> tuple[list[str], list[str]]:

@@ -1,13 +1,7 @@
 """What became of the connections of users: each is followed from its first packet through the answers that its packets
 got.
 
-A connection is of who began it: with a SYN, and for other protocols with its first packet. That of a user is
-  served      its handshake went through, and every packet of it up to the first FIN or RST
-  unanswered  it was let in, and the trace shows no handshake: the server refused it or did not answer
-  refused     its first packet was blocked or dropped, on one interface or the next, and so was each repetition of it
-  killed      its state was killed by a limit on its source, or by the flush that followed
-  cut         it was let in, and a later packet was not: its state had run out, which adaptive timeouts hasten
-  late        it was let in, in the last 3 seconds of the trace, and had no handshake by then: it counts neither way
+A connection is of who began it: with a SYN, and for other protocols with its first packet. RULES has its outcomes.
 """
 
 import ipaddress
@@ -15,10 +9,22 @@ from collections import Counter
 from collections.abc import Callable, Iterator, Mapping, Sequence
 from dataclasses import dataclass, field
 
+from pfplan.common.limits import DROPS
 from pfplan.common.networks import Network
 
-KINDS = ("served", "unanswered", "refused", "killed", "cut", "late")
+# what became of a connection, and when that is said of it
+RULES = {
+    "served": "its handshake went through, and every packet of it up to the first FIN or RST",
+    "unanswered": "it was let in, and the trace shows no handshake: the server refused it or did not answer",
+    "refused": "its first packet was blocked or dropped, on one interface or the next, and so was each repetition "
+    "of it",
+    "killed": "its state was killed by a limit on its source, or by the flush that followed",
+    "cut": "it was let in, and a later packet was not: its state had run out, which adaptive timeouts hasten",
+    "late": "it was let in, in the last 3 seconds of the trace, and had no handshake by then: it counts neither way",
+}
+KINDS = tuple(RULES)
 LATE = "late"
+# the same in few words, of many connections
 MEANINGS = {
     "served": "went through to their end, or to the trace's",
     "unanswered": "let in; no handshake in the trace",
@@ -28,8 +34,7 @@ MEANINGS = {
     "late": "cut by the end of the trace: begun in its last 3 seconds",
 }
 # Seconds before the end of a trace in which a missing answer says nothing. A client repeats its SYN after 1 second and
-# after 2 more
-# (RFC 6298, 2), so an answer to the first or the second may come within 3.
+# after 2 more (RFC 6298, 2), so an answer to the first or the second may come within 3.
 LAST_SECONDS = 3
 # Connections that are over are remembered up to this number, so that their last packets are not taken for those of
 # others.
@@ -84,7 +89,7 @@ class Members:
 Key = tuple[str, ...]
 
 # the words of packets that did not go through
-BAD = frozenset(("block", "drop:max", "drop:max-src-nodes", "drop:src-nodes", "drop:max-src-states", "drop:states"))
+BAD = frozenset(("block", *DROPS))
 
 
 @dataclass(frozen=True, slots=True)
@@ -164,10 +169,11 @@ class Connections:
     """Follows the connections of users, and counts those whose end is known.
 
     `told(begin, outcome)` is called for each that is over, and `ended(key, first row, outcome)`, which tells it from
-    all others. Memory grows with the connections that are open at a time. `flushes` says of the rules with `flush`, by
-    `@N`, whether it is `flush global`; None where the rules are not known: a kill of several states is then taken for
-    `flush`, unless that source has fewer by the rule. `remembered` of those that are over are kept at least, and twice
-    as many at most.
+    all others. Memory grows with the connections that are open at a time, where `most_open` does not bound them: of
+    more, those that have been quiet the longest are counted as they are then, and let go (`forgotten`). `flushes` says
+    of the rules with `flush`, by `@N`, whether it is `flush global`; None where the rules are not known: a kill of
+    several states is then taken for `flush`, unless that source has fewer by the rule. `remembered` of those that are
+    over are kept at least, and twice as many at most.
     """
 
     def __init__(
@@ -177,6 +183,7 @@ class Connections:
         ended: Callable[[Key, int, str], None] | None = None,
         flushes: Mapping[str, bool] | None = None,
         remembered: int = REMEMBERED,
+        most_open: int | None = None,
     ) -> None:
         self.members = Members(users)
         self.outcomes: Counter[str] = Counter()
@@ -191,7 +198,9 @@ class Connections:
         self._of_source: dict[str, dict[Key, None]] = {}
         self._entered: dict[str, Entering] = {}
         self._remembered = remembered
+        self._most_open = most_open
         self._most = 2 * remembered
+        self.forgotten = 0  # those that were open
         self.last = 0  # the moment of the last record so far, of users or not
 
     def follow(self, row: int, reply: Reply, column: Sequence[str]) -> None:
@@ -356,14 +365,23 @@ class Connections:
             self._ended(flow.key, flow.first, outcome)
 
     def _forget(self) -> None:
-        """Counts the older of the connections that are over, and lets them go."""
+        """Counts the older of the connections that are over, and lets them go; of many that are open, the quietest."""
         over = sorted((flow.row, key) for key, flow in self._flows.items() if flow.state != "open")
-        for _, key in over[: max(0, len(over) - self._remembered)]:
+        self._let_go(over, self._remembered)
+        if self._most_open is not None and len(self._flows) > self._most_open:
+            going_on = sorted((flow.row, key) for key, flow in self._flows.items() if flow.state == "open")
+            self.forgotten += self._let_go(going_on, self._most_open)
+        self._most = 2 * self._remembered + len(self._flows)
+
+    def _let_go(self, found: Sequence[tuple[int, Key]], most: int) -> int:
+        """Counts connections and lets them go, but for so many of the last of them; and says how many went."""
+        going = found[: max(0, len(found) - most)]
+        for _, key in going:
             flow = self._flows.pop(key)
             self._end(flow)
             for _, of in flow.states.values():
                 self._leave(of, key)
-        self._most = 2 * self._remembered + len(self._flows)
+        return len(going)
 
     def _leave(self, source: str, key: Key) -> None:
         there = self._of_source.get(source)

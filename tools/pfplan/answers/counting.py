@@ -2,7 +2,7 @@
 
 from collections import Counter
 from collections.abc import Iterable, Iterator, Mapping, Sequence
-from dataclasses import dataclass, field
+from dataclasses import dataclass
 from functools import lru_cache
 from itertools import chain, compress, groupby
 from pathlib import Path
@@ -10,6 +10,7 @@ from typing import NoReturn
 
 from pfplan.answers.connections import Connections, Reply
 from pfplan.answers.sources import Sources
+from pfplan.answers.stepping import Steps
 from pfplan.common.errors import Status, Trouble
 from pfplan.common.networks import Network
 from pfplan.traces.records import ORDERS, End, Traces, read_answer
@@ -37,17 +38,6 @@ class Limit:
     last_moment: int | None = None
     seconds: int = 0
     killed: int = 0
-
-
-@dataclass(slots=True)
-class Step:
-    """What came of the records of some seconds: by word, states killed, and of users' connections that began then."""
-
-    moment: int
-    words: Counter[str] = field(default_factory=Counter)
-    killed: int = 0
-    tried: int = 0
-    outcomes: Counter[str] = field(default_factory=Counter)
 
 
 @lru_cache(maxsize=4)
@@ -223,16 +213,15 @@ class Moments:
         trace: Traces,
         answers: Answers,
         users: Sequence[Network],
-        step: int,
+        steps: Steps,
         flushes: Mapping[str, bool] | None = None,
     ) -> None:
         self.first: int | None = None
         self.last = 0
-        self.step = step
-        self.steps: dict[int, Step] = {}
+        self.steps = steps
         self.refused, self.killed, self.made, self.seen = Sources(), Sources(), Sources(), Sources()
         self.interfaces: set[str] = set()
-        self.connections = Connections(users, self._count_connection, flushes=flushes)
+        self.connections = Connections(users, steps.told, flushes=flushes)
         self._trace = trace
         self._back: list[str] = []
         self._lines = self._ahead()
@@ -313,7 +302,7 @@ class Moments:
             at += count
 
     def _count_second(self, moment: int, counts: "Counter[str]") -> None:
-        step = self._step(moment)
+        step = self.steps.at(moment)
         for text, count in counts.items():
             word = self._answers.word_of(text)
             step.words[word] += count
@@ -326,18 +315,6 @@ class Moments:
             if limit.last_moment != moment:
                 limit.seconds += 1
                 limit.last_moment = moment
-
-    def _step(self, moment: int) -> Step:
-        number = (moment - (self.first or 0)) // self.step
-        step = self.steps.get(number)
-        if step is None:
-            step = self.steps[number] = Step((self.first or 0) + number * self.step)
-        return step
-
-    def _count_connection(self, begin: int, outcome: str) -> None:
-        step = self._step(begin)
-        step.tried += 1
-        step.outcomes[outcome] += 1
 
     def _count_sources(self, sources: Sequence[str], texts: Sequence[str]) -> None:
         words = {it: self._answers.word_of(it) for it in set(texts)}

@@ -6,8 +6,9 @@ from dataclasses import dataclass, field
 from pathlib import Path
 
 from pfplan.answers.connections import BAD, Connections
-from pfplan.answers.counting import Answers, Moments, Step
+from pfplan.answers.counting import Answers, Moments
 from pfplan.answers.sources import Sources
+from pfplan.answers.stepping import Step, Steps
 from pfplan.common.networks import Network
 from pfplan.pf.reading_canonical_text import flushes_of
 from pfplan.replays.live import Replaying
@@ -19,6 +20,9 @@ BLOCK = 2000
 # Connections that are over and are remembered: some seconds of them, so that their last packets are not taken for those
 # of others.
 REMEMBERED = 10_000
+# Connections that are open and are followed, as many as pf holds states by default: past it those that have been quiet
+# the longest are forgotten.
+MOST_OPEN = 100_000
 # Sources of overload tables that are named.
 NAMED = 5
 
@@ -47,38 +51,33 @@ def fine_step(span: int) -> int:
     return max(it for it in STEPS[: at + 1] if all(other % it == 0 for other in STEPS[at:-1]))
 
 
+class LiveSteps(Steps):
+    """Steps though the last moment is not known: they become longer as time passes, so there are some hundreds at
+    most."""
+
+    def __init__(self) -> None:
+        super().__init__(1)
+
+    def at(self, moment: int) -> Step:
+        """The step of a moment."""
+        span = moment - (moment if self.first is None else self.first)
+        if span // self.seconds >= MOST_STEPS:
+            self.widen(fine_step(span))
+        return super().at(moment)
+
+
 class LiveMoments(Moments):
-    """Counts records by moments though their last one is not known: steps become longer as time passes, so there are
-    some hundreds at most."""
+    """Counts records by moments, in memory that does not grow with time."""
 
     def __init__(self, trace: Traces, answers: Answers, users: Sequence[Network], flushes: Mapping[str, bool]) -> None:
-        super().__init__(trace, answers, users, 1, flushes)
-        self.connections = Connections(users, self._count_connection, flushes=flushes, remembered=REMEMBERED)
-
-    def _step(self, moment: int) -> Step:
-        span = moment - (self.first or 0)
-        if span // self.step >= MOST_STEPS:
-            self.widen(fine_step(span))
-        return super()._step(moment)
-
-    def widen(self, seconds: int) -> None:
-        """Puts steps together into longer ones."""
-        if seconds <= self.step:
-            return
-        self.step = seconds
-        before, self.steps = self.steps, {}
-        for it in before.values():
-            step = super()._step(it.moment)
-            step.words.update(it.words)
-            step.outcomes.update(it.outcomes)
-            step.killed += it.killed
-            step.tried += it.tried
+        super().__init__(trace, answers, users, LiveSteps(), flushes)
+        self.connections = Connections(users, self.steps.told, None, flushes, REMEMBERED, MOST_OPEN)
 
     def finish(self, is_whole: bool) -> None:
         """As that of `Moments`; then the steps are those that a summary of the whole trace has."""
         super().finish(is_whole)
         if self.first is not None:
-            self.widen(step_of(self.first, self.last))
+            self.steps.widen(step_of(self.first, self.last))
 
 
 @dataclass(slots=True)

@@ -5,13 +5,15 @@ from __future__ import annotations
 from collections.abc import Callable, Iterator, Mapping, Sequence
 from dataclasses import dataclass
 from fractions import Fraction
+from pathlib import Path
 from typing import Any
 
 from pfplan.answers import grids
 from pfplan.answers.changed_rules import Number
 from pfplan.answers.measures import Measure
-from pfplan.answers.plays_measured import Amount
-from pfplan.answers.sizes import BETWEEN, ROUNDS_AROUND_BEST, Vary, serves
+from pfplan.answers.plays_measured import Amount, Subject
+from pfplan.answers.sizes import BETWEEN, ROUNDS_AROUND_BEST, Trials, Vary, Wanted, checked, serves
+from pfplan.replays.machines import Machines, Runs, measure_words
 
 Pair = tuple[int, int]
 MeasurePairs = Callable[[Sequence[Pair]], list[Measure]]
@@ -105,3 +107,19 @@ def grid_of(vary: Vary, now: int, count: int) -> list[int]:
     """The values of a number that are tried at first, with the present one among them."""
     found = grids.first_grid(vary.low, vary.high, count)
     return sorted({*found, now}) if vary.low <= now <= vary.high else found
+
+
+def map_of(
+    varies: Sequence[Vary], subject: Subject, trace: Path, where: Machines, entries: Sequence[str], wanted: Wanted
+) -> Map:
+    """Replays the trace, or plays the scenario, for pair after pair. Trouble as `size`."""
+    varied = (checked(varies[0], subject), checked(varies[1], subject))
+    first, second = (grid_of(vary, it.value, wanted.grid) for vary, it in zip(varies, varied))
+    with Runs(where, trace, measure_words(wanted.users, wanted.moments), entries) as runs:
+        trials = Trials(runs)
+
+        def measure(pairs: Sequence[Pair]) -> list[Measure]:
+            return trials.measure([subject.text_of({varied[0]: one, varied[1]: other}) for one, other in pairs])
+
+        measures, is_cut = search((first, second), wanted.share, wanted.runs, measure)
+    return Map(wanted.trace, wanted.users_of(subject), varied, wanted.share, measures, (first, second), is_cut)

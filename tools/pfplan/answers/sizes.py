@@ -1,6 +1,5 @@
 """Which values of a limit, a maximum or a timeout serve the users, and what is held then."""
 
-import argparse
 from collections.abc import Callable, Mapping, Sequence
 from dataclasses import dataclass
 from fractions import Fraction
@@ -12,6 +11,7 @@ from pfplan.answers.changed_rules import Number
 from pfplan.answers.measures import Measure, from_json
 from pfplan.answers.plays_measured import Amount, Subject, users_text
 from pfplan.common.errors import Trouble
+from pfplan.common.networks import Network
 from pfplan.common.progress import Progress
 from pfplan.replays.machines import Machines, Runs, measure_words
 
@@ -108,27 +108,51 @@ def search(
     return measured, False
 
 
-def size(
-    subject: Subject, trace: Path, where: Machines, entries: Sequence[str], arguments: argparse.Namespace
-) -> Sizing:
+@dataclass(frozen=True)
+class Wanted:
+    """What is looked for: a trace or a scenario by its name, whose connections are to be served and what share of them,
+    how many values are tried at first, how many at most, and at how many moments it is asked what is held."""
+
+    trace: str
+    users: Sequence[Network]
+    share: Fraction
+    grid: int
+    runs: int
+    moments: int
+
+    def users_of(self, subject: Subject) -> str:
+        """Who the users are, as it is told."""
+        return users_text(subject.scenario) if subject.scenario else ",".join(map(str, self.users))
+
+
+class Trials:
+    """Measures rules texts in one go after another, and shows how many are done."""
+
+    def __init__(self, runs: Runs) -> None:
+        self._runs = runs
+        self._done = 0
+
+    def measure(self, texts: Sequence[bytes]) -> list[Measure]:
+        """The measures of some rules texts."""
+        progress = Progress("size", self._done + len(texts), "runs so far")
+        progress.at(self._done)
+        try:
+            lines = self._runs.measure(texts, progress)
+        finally:
+            progress.finish()
+        self._done += len(texts)
+        return [from_json(it) for it in lines]
+
+
+def size(vary: Vary, subject: Subject, trace: Path, where: Machines, entries: Sequence[str], wanted: Wanted) -> Sizing:
     """Replays the trace, or plays the scenario, for value after value. `entries` are those that come by records.
     Trouble as the program's own."""
-    vary: Vary = arguments.vary[0]
     varied = checked(vary, subject)
-    done = 0
-    with Runs(where, trace, measure_words(arguments.users, arguments.held), entries) as runs:
+    with Runs(where, trace, measure_words(wanted.users, wanted.moments), entries) as runs:
+        trials = Trials(runs)
 
         def measure(values: Sequence[int]) -> list[Measure]:
-            nonlocal done
-            progress = Progress("size", done + len(values), "runs so far")
-            progress.at(done)
-            try:
-                lines = runs.measure([subject.text_of({varied: it}) for it in values], progress)
-            finally:
-                progress.finish()
-            done += len(values)
-            return [from_json(it) for it in lines]
+            return trials.measure([subject.text_of({varied: it}) for it in values])
 
-        measures, is_cut = search(vary, varied.value, arguments.want, arguments.grid, arguments.runs, measure)
-    users = users_text(subject.scenario) if subject.scenario else ",".join(map(str, arguments.users))
-    return Sizing(arguments.trace.name, users, varied, arguments.want, measures, arguments.held, is_cut)
+        measures, is_cut = search(vary, varied.value, wanted.share, wanted.grid, wanted.runs, measure)
+    return Sizing(wanted.trace, wanted.users_of(subject), varied, wanted.share, measures, wanted.moments, is_cut)

@@ -7,8 +7,9 @@ from pathlib import Path
 from typing import Any
 
 from pfplan.answers.connections import KINDS, LATE, Refusal
-from pfplan.answers.counting import Answers, Limit, Moments, Step, count
+from pfplan.answers.counting import Answers, Limit, Moments, count
 from pfplan.answers.sources import Source
+from pfplan.answers.stepping import Step, Steps
 from pfplan.common.errors import Status, Trouble
 from pfplan.common.inputs import Kind, check_trace, kind_of, regular
 from pfplan.common.networks import Network
@@ -170,7 +171,8 @@ def summarize_blocks(blocks: Iterable[list[str]], name: Path | str, wanted: Want
     check_trace(wanted.trace)
     with regular(wanted.trace) as kept:
         flushes = flushes_of(texts) if wanted.rules else None
-        moments = Moments(Traces(kept, wanted.trace), answers, wanted.users, _step(kept, wanted.every), flushes)
+        steps = Steps(_step(kept, wanted.every))
+        moments = Moments(Traces(kept, wanted.trace), answers, wanted.users, steps, flushes)
         count(blocks, answers, moments, wanted.is_partial)
     return summary_of(answers, moments, shown, wanted)
 
@@ -194,8 +196,8 @@ def summary_of(answers: Answers, moments: Moments | None, shown: list[str], want
     )  # fmt: skip
     if moments is None or moments.first is None:
         return summary
-    summary.first_moment, summary.last_moment, summary.step_seconds = moments.first, moments.last, moments.step
-    summary.steps = _filled(moments)
+    summary.first_moment, summary.last_moment, summary.step_seconds = moments.first, moments.last, moments.steps.seconds
+    summary.steps = moments.steps.whole()
     tops = (moments.refused, moments.killed, moments.made, moments.seen)
     refused, killed, made, seen = (it.top(wanted.top) for it in tops)
     summary.sources = Tops(refused, killed, made, seen, not any(it.dropped for it in tops))
@@ -242,15 +244,6 @@ def _interfaces(rule: str) -> list[str]:
         return []
     at = part.index("on") + 1
     return [part[at + 1] if part[at] == "!" else part[at]]
-
-
-def _filled(moments: Moments) -> list[Step]:
-    """The steps from the first to the last, those too in which nothing came."""
-    first = moments.first or 0
-    return [
-        moments.steps.get(it) or Step(first + it * moments.step)
-        for it in range((moments.last - first) // moments.step + 1)
-    ]
 
 
 def _step_json(step: Step) -> dict[str, Any]:

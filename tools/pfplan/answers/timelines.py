@@ -3,7 +3,7 @@
 from collections.abc import Sequence
 from dataclasses import dataclass
 
-from pfplan.answers.counting import Step
+from pfplan.answers.stepping import Step
 
 
 @dataclass(frozen=True)

@@ -2,15 +2,13 @@
 
 import argparse
 import contextlib
-import json
 
-from pfplan.answers.comparisons import compare, names_of
+from pfplan.answers.comparisons import Asked, compare, names_of
 from pfplan.commands.play import compare_plays
-from pfplan.commands.run_words import add_asked
+from pfplan.commands.run_words import add_answer_words, add_asked, write_answer
 from pfplan.commands.words import file, number
-from pfplan.common.errors import Status, Trouble
+from pfplan.common.errors import Trouble
 from pfplan.common.inputs import check_rules, regular
-from pfplan.common.outputs import whole_file
 from pfplan.common.repository import check_program
 from pfplan.pages import comparison_texts
 from pfplan.traces.entries import entries_of_rules
@@ -40,9 +38,7 @@ def add_words(parser: argparse.ArgumentParser) -> None:
         metavar="N",
         help="how many of the connections that change are named (5)",
     )
-    parser.add_argument("--json", action="store_true", help="for machines")
-    parser.add_argument("--out", type=file, metavar="FILE", help="where the text goes (standard output)")
-    parser.add_argument("--page", type=file, metavar="FILE", help="also a page to look at in a browser")
+    add_answer_words(parser)
 
 
 def run(arguments: argparse.Namespace) -> int:
@@ -57,11 +53,7 @@ def run(arguments: argparse.Namespace) -> int:
     with regular(arguments.trace) as trace, contextlib.ExitStack() as stack:
         paths = [stack.enter_context(regular(it)) for it in arguments.rules]
         entries = [entries_of_rules(it, name) for it, name in zip(paths, arguments.rules)]
-        found = compare(paths, trace, entries, arguments)
-    found.trace, found.names = arguments.trace.name, names_of(arguments.rules)
-    with whole_file(arguments.out) as out:
-        out.write(json.dumps(found.to_json(), indent=1) + "\n" if arguments.json else comparison_texts.text_of(found))
-    if arguments.page:
-        with whole_file(arguments.page) as out:
-            out.write(comparison_texts.page_of(found))
-    return Status.DONE
+        wanted = Asked(arguments.users, arguments.held, arguments.top, bool(arguments.page))
+        found = compare(names_of(arguments.rules), paths, trace, entries, wanted)
+    found.trace = arguments.trace.name
+    return write_answer(arguments, found, comparison_texts.text_of, comparison_texts.page_of)

@@ -1,15 +1,13 @@
 """The command `margins`: how sure an answer is."""
 
 import argparse
-import json
 from fractions import Fraction
 
 from pfplan.answers.margins import measure_margins
-from pfplan.commands.run_words import add_asked, add_machine_words, machines_of
+from pfplan.commands.run_words import add_answer_words, add_asked, add_machine_words, machines_of, write_answer
 from pfplan.commands.words import file, share_word
-from pfplan.common.errors import Status, Trouble
+from pfplan.common.errors import Trouble
 from pfplan.common.inputs import check_rules, check_trace, regular
-from pfplan.common.outputs import whole_file
 from pfplan.common.repository import check_program
 from pfplan.pages import margin_texts
 from pfplan.replays.machines import measure_words
@@ -37,9 +35,7 @@ def add_words(parser: argparse.ArgumentParser) -> None:
         metavar="SHARE",
         help="of the users' connections, as 99%% (99%%)",
     )
-    parser.add_argument("--json", action="store_true", help="for machines")
-    parser.add_argument("--out", type=file, metavar="FILE", help="where the text goes (standard output)")
-    parser.add_argument("--page", type=file, metavar="FILE", help="also a page to look at in a browser")
+    add_answer_words(parser)
     add_machine_words(parser)
 
 
@@ -65,9 +61,4 @@ def run(arguments: argparse.Namespace) -> int:
             names,
             entries,
         )
-    with whole_file(arguments.out) as out:
-        out.write(json.dumps(found.to_json(), indent=1) + "\n" if arguments.json else margin_texts.text_of(found))
-    if arguments.page:
-        with whole_file(arguments.page) as out:
-            out.write(margin_texts.page_of(found))
-    return Status.DONE
+    return write_answer(arguments, found, margin_texts.text_of, margin_texts.page_of)

@@ -1,10 +1,14 @@
-"""The words that say what is asked of many runs, and where these go on."""
+"""The words that say what is asked of many runs, where these go on, and how their answer is told."""
 
 import argparse
+import json
+from collections.abc import Callable
+from typing import Any, Protocol, TypeVar
 
 from pfplan.commands.words import file, networks, number
-from pfplan.common.errors import Trouble
+from pfplan.common.errors import Status, Trouble
 from pfplan.common.inputs import check_readable
+from pfplan.common.outputs import whole_file
 from pfplan.replays.machines import Machines, check_parallel
 
 
@@ -55,3 +59,32 @@ def add_asked(parser: argparse.ArgumentParser, moments: int) -> None:
         "--held", type=number(0, 1000), default=moments, metavar="N",
         help=f"asks at N moments how many states are held ({moments})",
     )  # fmt: skip
+
+
+class Answer(Protocol):
+    """What many runs came to."""
+
+    def to_json(self) -> dict[str, Any]:
+        """The numbers for machines."""
+
+
+Found = TypeVar("Found", bound=Answer)
+
+
+def add_answer_words(parser: argparse.ArgumentParser) -> None:
+    """The words that say how the answer is told, and where."""
+    parser.add_argument("--json", action="store_true", help="for machines")
+    parser.add_argument("--out", type=file, metavar="FILE", help="where the text goes (standard output)")
+    parser.add_argument("--page", type=file, metavar="FILE", help="also a page to look at in a browser")
+
+
+def write_answer(
+    arguments: argparse.Namespace, found: Found, text_of: Callable[[Found], str], page_of: Callable[[Found], str]
+) -> Status:
+    """Tells an answer: as a text or for machines, and as a page where one is asked for."""
+    with whole_file(arguments.out) as out:
+        out.write(json.dumps(found.to_json(), indent=1) + "\n" if arguments.json else text_of(found))
+    if arguments.page:
+        with whole_file(arguments.page) as out:
+            out.write(page_of(found))
+    return Status.DONE

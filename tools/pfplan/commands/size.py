@@ -3,25 +3,21 @@
 from __future__ import annotations
 
 import argparse
-import json
-from collections.abc import Sequence
+from collections.abc import Iterable
 from fractions import Fraction
 from pathlib import Path
 
 from pfplan.answers.changed_rules import RulesText
-from pfplan.answers.maps import Map, Pair, grid_of, search
-from pfplan.answers.measures import Measure, from_json
-from pfplan.answers.plays_measured import Subject, users_text
-from pfplan.answers.sizes import checked, size
-from pfplan.commands.run_words import add_asked, add_machine_words, machines_of
+from pfplan.answers.maps import map_of
+from pfplan.answers.measures import Measure
+from pfplan.answers.plays_measured import Subject
+from pfplan.answers.sizes import Wanted, size
+from pfplan.commands.run_words import add_answer_words, add_asked, add_machine_words, machines_of, write_answer
 from pfplan.commands.words import file, number, share_word, vary_word
 from pfplan.common.errors import Status, Trouble
 from pfplan.common.inputs import check_rules, check_trace, regular
-from pfplan.common.outputs import whole_file
-from pfplan.common.progress import Progress
 from pfplan.common.repository import check_program
 from pfplan.pages import map_texts, size_texts
-from pfplan.replays.machines import Machines, Runs, measure_words
 from pfplan.traces.entries import entries_of_rules
 from pfplan.traces.scenarios.reading import is_scenario
 
@@ -64,9 +60,7 @@ def add_words(parser: argparse.ArgumentParser) -> None:
     add_asked(parser, 8)
     parser.add_argument("--grid", type=number(2, 1000), default=9, metavar="N", help="values at first (9)")
     parser.add_argument("--runs", type=number(2, 10000), default=60, metavar="N", help="values at most (60)")
-    parser.add_argument("--json", action="store_true", help="for machines")
-    parser.add_argument("--out", type=file, metavar="FILE", help="where the text goes (standard output)")
-    parser.add_argument("--page", type=file, metavar="FILE", help="also a page to look at in a browser")
+    add_answer_words(parser)
     add_machine_words(parser)
 
 
@@ -86,52 +80,18 @@ def run(arguments: argparse.Namespace) -> int:
         if not where.is_here:
             subject.check_elsewhere()
         entries = entries_of_rules(rules, arguments.rules)
+        name, users = arguments.trace.name, arguments.users
+        wanted = Wanted(name, users, arguments.want, arguments.grid, arguments.runs, arguments.held)
         if len(arguments.vary) == 2:
-            return run_map(subject, trace, where, entries, arguments)
-        found = size(subject, trace, where, entries, arguments)
-    if not any(it.connections for it in found.measures.values()):
-        raise Trouble(
-            f"{arguments.trace}: no connection of the users {found.users} is in it; --users names their networks",
-            Status.REFUSED,
-        )
-    with whole_file(arguments.out) as out:
-        out.write(json.dumps(found.to_json(), indent=1) + "\n" if arguments.json else size_texts.text_of(found))
-    if arguments.page:
-        with whole_file(arguments.page) as out:
-            out.write(size_texts.page_of(found))
-    return Status.DONE
+            border = map_of(arguments.vary, subject, trace, where, entries, wanted)
+            _check_connections(arguments.trace, border.users, border.measures.values(), "")
+            return write_answer(arguments, border, map_texts.text_of, map_texts.page_of)
+        found = size(arguments.vary[0], subject, trace, where, entries, wanted)
+    _check_connections(arguments.trace, found.users, found.measures.values(), "; --users names their networks")
+    return write_answer(arguments, found, size_texts.text_of, size_texts.page_of)
 
 
-def run_map(
-    subject: Subject, trace: Path, where: Machines, entries: Sequence[str], arguments: argparse.Namespace
-) -> Status:
-    """Makes a map, and tells it."""
-    varied = (checked(arguments.vary[0], subject), checked(arguments.vary[1], subject))
-    first, second = (grid_of(vary, it.value, arguments.grid) for vary, it in zip(arguments.vary, varied))
-    done = 0
-    with Runs(where, trace, measure_words(arguments.users, arguments.held), entries) as runs:
-
-        def measure(pairs: Sequence[Pair]) -> list[Measure]:
-            nonlocal done
-            progress = Progress("size", done + len(pairs), "runs so far")
-            progress.at(done)
-            try:
-                lines = runs.measure(
-                    [subject.text_of({varied[0]: one, varied[1]: other}) for one, other in pairs], progress
-                )
-            finally:
-                progress.finish()
-            done += len(pairs)
-            return [from_json(it) for it in lines]
-
-        measures, is_cut = search((first, second), arguments.want, arguments.runs, measure)
-    users = users_text(subject.scenario) if subject.scenario else ",".join(map(str, arguments.users))
-    if not any(it.connections for it in measures.values()):
-        raise Trouble(f"{arguments.trace}: no connection of the users {users} is in it", Status.REFUSED)
-    found = Map(arguments.trace.name, users, varied, arguments.want, measures, (first, second), is_cut)
-    with whole_file(arguments.out) as out:
-        out.write(json.dumps(found.to_json(), indent=1) + "\n" if arguments.json else map_texts.text_of(found))
-    if arguments.page:
-        with whole_file(arguments.page) as out:
-            out.write(map_texts.page_of(found))
-    return Status.DONE
+def _check_connections(trace: Path, users: str, measures: Iterable[Measure], more: str) -> None:
+    """Trouble where no run had a connection of the users."""
+    if not any(it.connections for it in measures):
+        raise Trouble(f"{trace}: no connection of the users {users} is in it{more}", Status.REFUSED)

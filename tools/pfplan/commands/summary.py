@@ -7,6 +7,7 @@ import json
 import sys
 from dataclasses import replace
 
+from pfplan.answers.connections import RULES
 from pfplan.answers.summaries import Wanted, held_at, summarize, summarize_blocks
 from pfplan.commands.parser import Parser
 from pfplan.commands.words import file, networks, number
@@ -19,16 +20,14 @@ from pfplan.traces.entries import entries_of_rules
 from pfplan.traces.insertions import Held
 from pfplan.traces.records import blocks_of
 
-DESCRIPTION = """Sums up a report of ./pfsrc replay.
+LEGEND = "\n".join(
+    f"  {kind:<12}{rule}" + (" (with --rules: of which states)" if kind == "killed" else "")
+    for kind, rule in RULES.items()
+)
+DESCRIPTION = f"""Sums up a report of ./pfsrc replay.
 
 A connection is of who began it: with a SYN, and for other protocols with its first packet. That of a user is
-  served      its handshake went through, and every packet of it up to the first FIN or RST
-  unanswered  it was let in, and the trace shows no handshake: the server refused it or did not answer
-  refused     its first packet was blocked or dropped, on one interface or the next, and so was each repetition of it
-  killed      its state was killed by a limit on its source, or by the flush that followed (with --rules: of which
-              states)
-  cut         it was let in, and a later packet was not: its state had run out, which adaptive timeouts hasten
-  late        it was let in, in the last 3 seconds of the trace, and had no handshake by then: it counts neither way
+{LEGEND}
 Where a connection has no first packet in the trace it is counted apart, as are those that others began."""
 
 

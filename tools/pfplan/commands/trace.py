@@ -8,7 +8,8 @@ from pfplan.commands.words import file, interface, networks
 from pfplan.common.errors import Status, Trouble
 from pfplan.common.inputs import unpacked
 from pfplan.pf.conversion import machine_of
-from pfplan.traces.captures import ANSWERS, make_trace
+from pfplan.traces.captures import make_trace
+from pfplan.traces.pf_answers import HEAD
 from pfplan.traces.scenarios.plain import write_plain
 from pfplan.traces.scenarios.reading import is_scenario
 
@@ -52,7 +53,7 @@ def add_words(parser: Parser) -> None:
         "--told",
         type=file,
         metavar="FILE",
-        help=f"for a pflog: writes there what pf answered for each record, as {ANSWERS}",
+        help=f"for a pflog: writes there what pf answered for each record, as {HEAD}",
     )
     parser.add_argument("--partial", action="store_true", help="takes a capture that is cut at its end, up to there")
     parser.add_argument(

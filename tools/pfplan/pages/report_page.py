@@ -16,6 +16,7 @@ from pfplan.answers.summaries import Summary, Users
 from pfplan.answers.timelines import Timeline
 from pfplan.common.errors import Trouble
 from pfplan.common.figures import SINCE_1970, counted, moment_text, share_text
+from pfplan.common.limits import BY_WORD
 from pfplan.common.outputs import whole_file
 from pfplan.pages.differences import differences_beside
 from pfplan.pages.frames import PICTURE_STYLE, answer, bullets, code, document, gallery, paragraph, section, soft, table
@@ -262,7 +263,7 @@ def limiting(summary: Summary, word: str) -> list[str]:
     rules once."""
     rules = summary.answers.get(word, {})
     notes = {rule: note for rule in sorted(rules, key=lambda it: -rules[it]) if (note := note_of(summary, word, rule))}
-    if word in ("drop:states", "drop:src-nodes"):
+    if word in BY_WORD:
         return list(notes.values())[:1]
     return [f"{rule} {note}" for rule, note in notes.items()][:MOST_LIMITING]
 

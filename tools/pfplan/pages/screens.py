@@ -3,29 +3,26 @@ ruleset."""
 
 import os
 import shutil
-import time
 from collections import Counter
 from collections.abc import Iterator, Sequence
 from typing import TextIO
 
 from pfplan.answers.connections import KINDS
 from pfplan.answers.watching import Shown, View
-from pfplan.common.figures import counted, share_text
+from pfplan.common.figures import SINCE_1970, counted, moment_text, share_text
 from pfplan.common.visible import visible
 from pfplan.traces.records import WORDS
 
 # ANSI: to the upper left corner; the rest of the line, and of the screen, is cleared (ECMA-48, CUP, EL, ED)
 HOME, END_OF_LINE, END_OF_SCREEN = "\x1b[H", "\x1b[K", "\x1b[J"
 CLEAR = "\x1b[2J"
-# Moments above this are seconds since 1970, and are shown as a time of day.
-SINCE_1970 = 100_000_000
 
 
-def moment_text(moment: int | None) -> str:
-    """A moment of the capture: the time of day (UTC) where it counts from 1970."""
+def when(moment: int | None) -> str:
+    """A moment of the capture."""
     if moment is None:
         return "no record yet"
-    return time.strftime("%Y-%m-%d %H:%M:%S UTC", time.gmtime(moment)) if moment >= SINCE_1970 else f"moment {moment}"
+    return moment_text(moment) if moment >= SINCE_1970 else f"moment {moment}"
 
 
 def head_of(shown: Shown) -> str:
@@ -37,9 +34,7 @@ def head_of(shown: Shown) -> str:
         if shown.quiet > 1
         else f"{shown.rate:,.0f} a second"
     )
-    return (
-        f"{counted(shown.seconds, 'second')}; {moment_text(shown.moment)}; {counted(shown.records, 'record')}, {state}"
-    )
+    return f"{counted(shown.seconds, 'second')}; {when(shown.moment)}; {counted(shown.records, 'record')}, {state}"
 
 
 def states_text(view: View) -> str:

@@ -9,6 +9,7 @@ from pfplan.answers.counting import Limit
 from pfplan.answers.sources import Source
 from pfplan.answers.summaries import Interfaces, Summary, Users
 from pfplan.common.figures import moment_text, share_text
+from pfplan.common.limits import BY_WORD
 from pfplan.pages.rule_notes import TWO_STATES, does_fill_decide, entering_of, frame_lines, note_of, skipped_lines
 from pfplan.traces.insertions import Held
 
@@ -136,7 +137,7 @@ def _limiting_rules(summary: Summary, word: str) -> Iterator[str]:
     """The limit that a word is about, by its rules; that of all rules once."""
     rules = summary.answers.get(word, {})
     notes = {rule: note for rule in rules if (note := note_of(summary, word, rule))}
-    if word in ("drop:states", "drop:src-nodes"):
+    if word in BY_WORD:
         yield from (f"    {it}" for it in list(notes.values())[:1])
         return
     for rule, note in sorted(notes.items(), key=lambda it: -rules[it[0]])[:FEW_RULES]:

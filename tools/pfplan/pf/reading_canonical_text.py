@@ -4,6 +4,8 @@ import re
 from collections.abc import Mapping, Sequence
 from dataclasses import dataclass
 
+from pfplan.common.limits import BY_WORD, OF_RULES
+
 
 def items_of(shown: Sequence[str]) -> list[str]:
     """The rules and heads of anchors of a canonical text: the n-th is that of `@n`."""
@@ -12,9 +14,6 @@ def items_of(shown: Sequence[str]) -> list[str]:
 
 _TABLE = re.compile(r"<([A-Za-z0-9_.-]+)>")
 _OVERLOAD = re.compile(r"overload <([A-Za-z0-9_.-]+)>( flush)?( global)?")
-# which option of a rule a word of a report is about
-LIMITS = ("max", "max-src-nodes", "max-src-states", "max-src-conn", "max-src-conn-rate")
-_OF_ALL = {"drop:states": "states", "drop:src-nodes": "src-nodes"}
 
 
 @dataclass(frozen=True, slots=True)
@@ -49,12 +48,12 @@ def limit_of(text: str, word: str) -> str:
     the rule's."""
     names = word.partition(":")[2].split("+")
     options = {name: value for name, value in re.findall(r"[(,] ?([a-z-]+) (\d+(?:/\d+)?)", text)}
-    return ", ".join(f"{name} {options[name]}" for name in names if name in LIMITS and name in options)
+    return ", ".join(f"{name} {options[name]}" for name in names if name in OF_RULES and name in options)
 
 
 def limit_of_all(settings: Mapping[str, int], word: str) -> str:
     """The limit for all rules that a word names, as `set limit states 100000`; nothing where it names none."""
-    name = _OF_ALL.get(word, "")
+    name = BY_WORD.get(word, "")
     return f"set limit {name} {settings[name]}" if name in settings else ""
 
 

@@ -3,6 +3,7 @@ PARAMETERS)."""
 
 import re
 
+from pfplan.common.limits import OF_RULES
 from pfplan.pf.cursor import Cursor
 from pfplan.pf.lexer import Kind, trouble
 from pfplan.pf.services import TCP, UDP, port_of, protocol_of
@@ -15,7 +16,7 @@ TIMEOUTS = (
 ).split()
 TIMEOUTS_FOR_NOTHING = ["frag", "tcp.tsdiff", "icmp.first", "icmp.error"]
 MOST_SECONDS, MOST_STATES = 2147483647, 4294967295
-_STATE_NUMBERS = ("max", "max-src-nodes", "max-src-states", "max-src-conn")
+_STATE_NUMBERS = OF_RULES[:-1]  # of max-src-conn-rate two are given
 _STATE_WORDS = ("sloppy", "floating", "no-sync", "pflow", "if-bound")
 _OPTIONS = (
     *_STATE_NUMBERS, *_STATE_WORDS, "max-src-conn-rate", "overload", "source-track", *TIMEOUTS, *TIMEOUTS_FOR_NOTHING,

@@ -7,6 +7,7 @@ from dataclasses import replace
 from pathlib import Path
 
 from pfplan.common.errors import Status, Trouble
+from pfplan.common.limits import OF_ALL
 from pfplan.pf.cursor import DEEPEST_LIST, Cursor
 from pfplan.pf.lexer import Kind, Lexer, Token, printable, trouble
 from pfplan.pf.named_files import NamedFiles, read_text
@@ -39,7 +40,7 @@ from pfplan.pf.statements import (
 DEEPEST_FILE = 16  # files that include one another
 DEEPEST_ANCHOR = 64
 LONGEST_MACRO = 1 << 17  # characters
-LIMITS = ("states", "src-nodes", "tables", "table-entries", "frags")
+LIMITS = (*OF_ALL, "frags")
 LIMITS_FOR_NOTHING = ("anchors", "pktdelay-pkts", "eth-anchors", "ktable-entries")
 OPTIMIZATIONS = ("default", "normal", "high-latency", "satellite", "aggressive", "conservative")
 SETTINGS = (

@@ -6,6 +6,7 @@ import re
 from collections.abc import Iterable, Sequence
 from dataclasses import dataclass, field, replace
 
+from pfplan.common.limits import OF_RULES
 from pfplan.common.networks import Network
 from pfplan.pf.interfaces import Location, Machine, prefix_of, shown
 from pfplan.pf.left_out import Reason, Teller, beyond, harmless, telling
@@ -14,15 +15,7 @@ from pfplan.pf.writing_tables import TableMaker
 
 FAMILIES = {4: "inet", 6: "inet6"}
 NAME = re.compile(r"[A-Za-z0-9_.-]+")
-_COUNTS = (
-    "max",
-    "max-src-nodes",
-    "max-src-states",
-    "max-src-conn",
-    "max-src-conn-rate",
-    "adaptive.start",
-    "adaptive.end",
-)
+_COUNTS = (*OF_RULES, "adaptive.start", "adaptive.end")
 SPLIT = beyond("it makes several rules of one, and each would count states by itself")
 
 

@@ -11,7 +11,7 @@ import unittest
 from pfplan.common.errors import Status
 from pfplan.common.repository import TOP
 from pfplan.tests.support import Done, FolderCase, heed_interrupts, pfplan
-from pfplan.traces.captures import ANSWERS
+from pfplan.traces.pf_answers import HEAD as ANSWERS
 
 NAME = "$(touch here) a=b.pcap"
 ONE = "printf 'time,dir\\n5,in\\n'"

@@ -5,7 +5,7 @@ import unittest
 from collections.abc import Sequence
 from pathlib import Path
 
-from pfplan.answers.comparisons import Fates, Pairs
+from pfplan.answers.comparisons import Fates, Pairs, count_steps
 from pfplan.answers.sides import Met, Picks, Side, common_text, follow, side_of
 from pfplan.answers.stepping import steps_of
 from pfplan.answers.summaries import Wanted, summarize
@@ -109,9 +109,9 @@ class Following(FolderCase):
         trace = self.trace(records)
         steps = steps_of(trace)
         side = side_of("r", iter(report(*texts)), USERS, None, steps.told)
-        follow(trace, [side], USERS, lambda row, lines: steps.take(side, lines))
+        follow(trace, [side], USERS, lambda row, lines: count_steps(steps, side, lines))
         summary = summarize(self.report(texts), Wanted(trace, USERS))
-        self.assertEqual((steps.seconds, list(steps.steps)), (summary.step_seconds, summary.steps))
+        self.assertEqual((steps.seconds, steps.whole()), (summary.step_seconds, summary.steps))
 
     def test_moments_of_limits(self) -> None:
         records = [user("S", moment, 1000 + moment) for moment in range(9)]

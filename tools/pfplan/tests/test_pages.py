@@ -12,8 +12,9 @@ from pathlib import Path
 from unittest import mock
 
 from pfplan.answers.connections import Refusal
-from pfplan.answers.counting import Limit, Step
+from pfplan.answers.counting import Limit
 from pfplan.answers.sources import Source
+from pfplan.answers.stepping import Step
 from pfplan.answers.summaries import Interfaces, Summary, Tops, Users
 from pfplan.common import figures
 from pfplan.common.errors import Trouble

@@ -21,6 +21,7 @@ from typing import Any
 from pfplan.answers.counting import Answers, Moments
 from pfplan.answers.live_counts import Fed, LiveMoments
 from pfplan.answers.watching import Shown, View
+from pfplan.answers.stepping import Steps
 from pfplan.common.errors import Status
 from pfplan.common.repository import TOP
 from pfplan.pages.screens import plain_lines, screen_lines
@@ -354,15 +355,15 @@ class Counts(unittest.TestCase):
             moments.take(answers.take([f"{row} {text}" for row, text in enumerate(texts[at : at + 7], at + 1)]))
             most = max(most, len(moments.steps))
         moments.finish(True)
-        return {it.moment: it.words for it in moments.steps.values()}, most
+        return {it.moment: it.words for it in moments.steps.whole() if it.words}, most
 
     def whole_steps(self, lines: list[str], texts: list[str], seconds: int) -> Any:
         """The steps of a trace whose end is known."""
         trace, answers = Fed(), Answers("report", 1)
         trace.put(lines)
-        moments = Moments(trace, answers, (), seconds)
+        moments = Moments(trace, answers, (), Steps(seconds))
         moments.take(answers.take([f"{row} {text}" for row, text in enumerate(texts, 1)]))
-        return {it.moment: it.words for it in moments.steps.values()}
+        return {it.moment: it.words for it in moments.steps.whole() if it.words}
 
     def test_names_are_text(self) -> None:
         view = View(

@@ -17,7 +17,6 @@ from pfplan.common.outputs import whole_file
 from pfplan.common.repository import check_program, program
 from pfplan.traces.accounts import NEITHER_WAY, frames_of, reasons_of
 
-ANSWERS = "row,action,rule,anchor,subrule,reason,rewritten"
 _CUT = re.compile(r"the file ends within")
 _BY_NETWORKS = re.compile(r"directions: .*, by networks (\d+); networks contradict (\d+)")
 

@@ -12,20 +12,19 @@ from typing import TextIO
 
 from pfplan.common.errors import Status, Trouble
 from pfplan.common.inputs import HEADER
+from pfplan.common.limits import DROPS, KILLS
 from pfplan.traces.records import Traces, line_blocks
 
 COLUMNS = ("row", "action", "rule", "anchor", "subrule", "reason", "rewritten")
+HEAD = ",".join(COLUMNS)
 # Reasons of a refusal by a limit, and the words of a report that mean the same (OpenBSD's PFRES_NAMES, and where
 # sys/net/pf.c sets them:
 # `max` of a rule; source nodes and what is counted by them; the pool of states, which `set limit states` bounds).
 LIMITS = {
     "state-limit": ("drop:max",),
-    "src-limit": (
-        "drop:max-src-nodes", "drop:src-nodes", "drop:max-src-states", "kill:max-src-conn", "kill:max-src-conn-rate",
-        "kill:max-src-conn+max-src-conn-rate",
-    ),
+    "src-limit": (*(it for it in DROPS if "src" in it), *KILLS),
     "memory": ("drop:states",),
-}  # fmt: skip
+}
 
 
 @dataclass(frozen=True, slots=True)
@@ -152,7 +151,7 @@ def _answers(told: Path, name: Path) -> Iterator[tuple[int, PfAnswer]]:
 def merge(packets: Iterator[Packet], trace: TextIO, told: TextIO) -> Merged:
     """Writes the trace of the packets, and the answer of pf for each that it logged."""
     trace.write(f"{HEADER}\n")
-    told.write(f"{','.join(COLUMNS)}\n")
+    told.write(f"{HEAD}\n")
     rows = number = answers = 0
     for number, packet in enumerate(packets, 1):
         rows += max(1, len(packet.answers))

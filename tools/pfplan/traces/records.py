@@ -12,14 +12,11 @@ from typing import IO
 
 from pfplan.common.errors import Status, Trouble, reason_of
 from pfplan.common.inputs import HEADER, check_trace
+from pfplan.common.limits import DROPS, KILLS
 
 BLOCK = 1 << 19
 LONGEST = 1 << 16
-WORDS = (
-    "state", "new", "pass", "block", "skip", "drop:max", "drop:max-src-nodes", "drop:src-nodes", "drop:max-src-states",
-    "drop:states", "kill:max-src-conn", "kill:max-src-conn-rate", "kill:max-src-conn+max-src-conn-rate", "expire",
-    "held", "add", "delete",
-)  # fmt: skip
+WORDS = ("state", "new", "pass", "block", "skip", *DROPS, *KILLS, "expire", "held", "add", "delete")
 OVERLOADS = ("added", "held", "full", "none")
 ADDED = ("added", "held", "conflict", "full")
 # the second columns of an administrator's records: these are no packets, and have no interface, source and target
