@@ -1,5 +1,6 @@
 """What a report holds, and what became of the users."""
 
+import json
 from collections import Counter
 from collections.abc import Iterable, Mapping, Sequence
 from dataclasses import asdict, dataclass, field
@@ -13,6 +14,7 @@ from pfplan.answers.stepping import Step, Steps
 from pfplan.common.errors import Status, Trouble
 from pfplan.common.inputs import Kind, check_trace, kind_of, regular
 from pfplan.common.networks import Network
+from pfplan.common.visible import visible
 from pfplan.pf.origins import Origins
 from pfplan.pf.reading_canonical_text import flushes_of, items_of, settings_of
 from pfplan.replays.runs import show_rules, stream_blocks
@@ -254,6 +256,21 @@ def _step_json(step: Step) -> dict[str, Any]:
         "tried": step.tried,
         "outcomes": dict(step.outcomes),
     }
+
+
+def origins_told(summary: Path, items: Sequence[str]) -> Origins:
+    """Where rules stand, as a summary for machines tells it that `run` or `watch` wrote beside a rules text.
+
+    `items` are the canonical texts of its rules. Nothing where there is no such summary, or it is of other rules.
+    """
+    try:
+        read = json.loads(summary.read_text("utf-8"))
+        told = [it for it in (*read["rules"], *read["undecided"]) if it["rule"] != "-" and it["place"]]
+        places = {int(it["rule"][1:]): visible(it["place"]) for it in told}
+        is_theirs = all(it["text"] == items[int(it["rule"][1:])] for it in told)
+    except (OSError, ValueError, LookupError, TypeError, AttributeError):
+        return Origins()
+    return Origins(places) if is_theirs else Origins()
 
 
 def held_at(rules: Path, trace: Path, count: int, entries: Sequence[str] = ()) -> list[Held]:

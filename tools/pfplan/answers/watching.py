@@ -41,6 +41,7 @@ class View:
     last_added: Sequence[str] = ()
     outcomes: Counter[str] | None = None
     refused_users: Sequence[Source] = ()
+    forgotten: int = 0  # connections of users that were open
 
     def refused(self, words: Mapping[str, int]) -> int:
         """How many records a limit refused."""
@@ -108,9 +109,15 @@ class Watched:
         new, self.before = words - self.before, words
         killed = sum(it.killed for it in answers.limits.values())
         added, last, refused = side.overloads.added, tuple(side.overloads.last), side.refused_users.top(NAMED)
+        limits, outcomes = settings_of(self.rules), side.outcomes()
         return View(
-            self.path.name, self.now, settings_of(self.rules), words, new, killed, added, last, side.outcomes(), refused
+            self.path.name, self.now, limits, words, new, killed, added, last, outcomes, refused, self.forgotten
         )
+
+    @property
+    def forgotten(self) -> int:
+        """How many connections of users were forgotten that were open."""
+        return self.side.moments.connections.forgotten
 
     def summary(self, users: Sequence[Network], frames: Frames | None, top: int) -> Summary:
         """The summary that `run` would make of the same packets."""

@@ -20,7 +20,7 @@ from pfplan.common.repository import check_program
 from pfplan.pages import play_pages, play_texts
 from pfplan.pages.differences import differences_beside
 from pfplan.pages.frames import PICTURE_STYLE
-from pfplan.pages.pictures import is_at_hand, standalone
+from pfplan.pages.pictures import standalone
 from pfplan.pages.play_texts import Told
 from pfplan.pages.record_texts import letters
 from pfplan.pages.timeline_pictures import FILES
@@ -105,9 +105,9 @@ def compare_plays(arguments: argparse.Namespace) -> int:
         sides = [{"rules": name, **play_texts.json_of(scenario, it)} for name, it in zip(told.names, plays)]
         out.write(json.dumps({"sides": sides}, indent=1) + "\n" if arguments.json else play_texts.text_of(told))
     if arguments.page:
-        drawn = play_pages.drawn_of(told) if is_at_hand() else {}
+        drawn, why_none = play_pages.drawn_of(told)
         with whole_file(arguments.page) as out:
-            out.write(play_pages.page_of(told, drawn, differences_beside(arguments.page.parent)))
+            out.write(play_pages.page_of(told, drawn, why_none, differences_beside(arguments.page.parent)))
     return Status.DONE
 
 
@@ -165,10 +165,10 @@ def _task(scenario: Scenario, folder: Path, ruleset: Ruleset) -> Task:
 
 
 def _write_page(folder: Path, folders: Sequence[Path], told: Told) -> None:
-    drawn = play_pages.drawn_of(told) if is_at_hand() else {}
+    drawn, why_none = play_pages.drawn_of(told)
     for kind, pictures in drawn.items():
         for place, it in zip(folders, pictures):
             with whole_file(place / FILES[kind]) as out:
                 out.write(standalone(it, PICTURE_STYLE))
     with whole_file(folder / "report.html") as out:
-        out.write(play_pages.page_of(told, drawn, differences_beside(folder)))
+        out.write(play_pages.page_of(told, drawn, why_none, differences_beside(folder)))

@@ -23,13 +23,13 @@ from pfplan.common.inputs import HEADER, check_readable
 from pfplan.common.outputs import make_folder, whole_file
 from pfplan.common.repository import check_program
 from pfplan.pages.report_page import PAGE, Subject, write_page
-from pfplan.pages.screens import Screen
+from pfplan.pages.screens import Screen, forgotten_text
 from pfplan.pages.summary_texts import text_of
 from pfplan.pf.conversion import Ruleset, convert, machine_of, write_rules
 from pfplan.pf.reading_canonical_text import items_of
 from pfplan.replays.live import Capture
 from pfplan.replays.runs import show_rules
-from pfplan.traces.accounts import frames_of
+from pfplan.traces.accounts import Frames, frames_of
 from pfplan.traces.captures import by_networks, check_account, way_words
 
 DESCRIPTION = """Runs limits beside the traffic of this minute, and does not touch the firewall:
@@ -40,7 +40,8 @@ The capture comes on standard input. On a terminal a screen is drawn again each 
 printed: records a second, states held of the limit, what each limit would refuse, the sources that would be in overload
 tables, and the users that would be refused. Several rulesets are answered side by side. An interrupt or --seconds ends
 it, or the end of the capture. The clock is the capture's: while no packet comes, nothing expires. Memory grows with
-what is held and open, not with time."""
+what is held, not with time. Of the users' connections at most 100,000 open ones are followed: of more, those that have
+been quiet the longest are forgotten, which is told."""
 TRACE = "the capture that was watched"
 
 
@@ -163,7 +164,7 @@ def _end(
 ) -> int:
     """Writes the folders, and tells where they are and what was wrong."""
     for it in watched if arguments.into else ():
-        _write(it, it.summary(arguments.users, frames_of(account), arguments.top))
+        _write(it, it.summary(arguments.users, _noted(frames_of(account), it.forgotten), arguments.top))
     if not watch.is_unseen:
         _tell(arguments, watched)
     for line in (*account, *by_networks(account, arguments.name or "em0")):
@@ -174,6 +175,11 @@ def _end(
     if watch.is_unseen:
         raise Trouble("standard output: can't be written: Broken pipe", Status.FAILED)
     return Status.DONE
+
+
+def _noted(frames: Frames | None, forgotten: int) -> Frames | None:
+    """What became of the frames, with a note where connections were forgotten."""
+    return replace(frames, notes=(*frames.notes, forgotten_text(forgotten))) if frames and forgotten else frames
 
 
 def _write(watched: Watched, summary: Summary) -> None:
@@ -196,6 +202,8 @@ def _tell(arguments: argparse.Namespace, watched: Sequence[Watched]) -> None:
             served = outcomes["served"]
             share = share_text(served, connections)
             print(f"{name}{share} of the users' connections were served: {served:,} of {connections:,}")
+        if it.forgotten:
+            print(f"{name}{forgotten_text(it.forgotten)}")
         doubts = sum(left.changes_answer for left in it.ruleset.leftovers)
         if doubts:
             print(

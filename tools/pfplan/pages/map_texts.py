@@ -6,11 +6,12 @@ from collections.abc import Iterator, Sequence
 
 from pfplan.answers import grids
 from pfplan.answers.maps import Border, Map, Pair
+from pfplan.common.errors import Trouble
 from pfplan.common.figures import counted
 from pfplan.common.visible import visible
 from pfplan.pages.frames import answer, bullets, document, figure, gallery, key, section, soft, table
 from pfplan.pages.markup import Child, tag
-from pfplan.pages.pictures import PACKAGE, Across, Picture, Role, Series, Style, draw, is_at_hand
+from pfplan.pages.pictures import Across, Picture, Role, Series, Style, draw
 from pfplan.pages.size_texts import want_text
 
 
@@ -103,10 +104,7 @@ def page_of(found: Map) -> str:
 
 
 def border_parts(found: Map) -> Iterator[Child]:
-    """The border drawn, or which package draws it."""
-    if not is_at_hand():
-        yield soft(f"No pictures: gnuplot is not here (Debian package {PACKAGE}).")
-        return
+    """The border drawn, or why it is not."""
     borders = [it for it in found.border() if it.served]
     if not borders:
         yield soft("No pair that was tried serves the users.")
@@ -125,4 +123,7 @@ def border_parts(found: Map) -> Iterator[Child]:
         key("the highest that serves the users", Role.SERVED),
         key("the lowest", Role.REFUSED),
     ]
-    yield gallery([figure(words, drawn) for drawn in draw([picture])])
+    try:
+        yield gallery([figure(words, drawn) for drawn in draw([picture])])
+    except Trouble as trouble:
+        yield soft(f"No pictures: {trouble.message}.")

@@ -8,7 +8,6 @@ dark, printed) and no two pictures of a page share an id. Names stand in the pag
 from __future__ import annotations
 
 import re
-import shutil
 import subprocess
 import xml.etree.ElementTree as ElementTree
 from dataclasses import dataclass
@@ -90,11 +89,6 @@ class Picture:
     logarithmic: bool = False
     width: int = 440
     height: int = 190
-
-
-def is_at_hand() -> bool:
-    """Whether gnuplot is installed."""
-    return shutil.which("gnuplot") is not None
 
 
 def draw(pictures: Sequence[Picture]) -> list[Markup]:

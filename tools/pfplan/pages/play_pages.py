@@ -6,11 +6,12 @@ from collections import Counter
 from collections.abc import Iterator, Mapping, Sequence
 
 from pfplan.answers.timelines import Moment, Timeline
+from pfplan.common.errors import Trouble
 from pfplan.common.figures import counted
 from pfplan.common.visible import visible
 from pfplan.pages.frames import answer, bullets, code, document, figure, gallery, key, section, soft, table
 from pfplan.pages.markup import Child, Markup, join, tag
-from pfplan.pages.pictures import PACKAGE, Role, draw, is_at_hand
+from pfplan.pages.pictures import Role, draw
 from pfplan.pages.play_texts import Told, headline_of, rows_of, subject_of, users_of, when
 from pfplan.pages.record_texts import WHY
 from pfplan.pages.report_page import more_of
@@ -60,8 +61,8 @@ def _in(begin: int, seconds: int, counters: Sequence[Counter[int]]) -> int:
     return sum(it[at] for it in counters for at in range(begin, begin + seconds))
 
 
-def page_of(found: Told, drawn: Mapping[str, Sequence[Markup]], differences: str) -> str:
-    """The text of the page."""
+def page_of(found: Told, drawn: Mapping[str, Sequence[Markup]], why_none: str, differences: str) -> str:
+    """The text of the page. `why_none` says why there are no pictures."""
     title = f"{visible(found.scenario.name)}, played"
     good = all(users_of(it)[0] == users_of(it)[1] for it in found.plays)
     points = [f"{name}: {headline_of(found, at)}" for at, name in enumerate(found.names)]
@@ -84,7 +85,7 @@ def page_of(found: Told, drawn: Mapping[str, Sequence[Markup]], differences: str
         parts.append(
             answer(f"{found.names[best]} serves the most users without waiting.", None, bullets([*points, *doubts]))
         )
-    parts.extend(_pictures(found, drawn))
+    parts.extend(_pictures(found, drawn, why_none))
     rows: list[Sequence[Child]] = [[_name_cell(name), *cells] for name, cells in rows_of(found)]
     parts.append(section("Group by group", table(["", *found.names], rows, "t" + "n" * len(found.names))))
     parts.append(section("What a play can't know", bullets(NOT_MODELLED), more_of(differences)))
@@ -111,8 +112,8 @@ def limit_points(play: Played) -> Iterator[Child]:
     yield f"{counted(play.most_held, 'state')} held at most"
 
 
-def drawn_of(found: Told) -> dict[str, list[Markup]]:
-    """The pictures of each kind, one for each ruleset, those of a kind on one scale. Trouble as `draw`.
+def drawn_of(found: Told) -> tuple[dict[str, list[Markup]], str]:
+    """The pictures of each kind, one for each ruleset, those of a kind on one scale; or why there are none.
 
     Connections begin within the scenario's seconds; how full the table is, is shown to the end of the longest play.
     """
@@ -121,13 +122,16 @@ def drawn_of(found: Told) -> dict[str, list[Markup]]:
     for kind, end in ends.items():
         lines = [timeline_of(found.scenario, it, end) for it in found.plays]
         if kind == "held" or lines[0].has_users:
-            drawn[kind] = draw([MAKERS[kind](line, most_of(kind, lines)) for line in lines])
-    return drawn
+            try:
+                drawn[kind] = draw([MAKERS[kind](line, most_of(kind, lines)) for line in lines])
+            except Trouble as trouble:
+                return {}, trouble.message
+    return drawn, ""
 
 
-def _pictures(found: Told, drawn: Mapping[str, Sequence[Markup]]) -> Iterator[Markup]:
-    if not is_at_hand():
-        yield section("Over time", soft(f"No pictures: gnuplot is not here (Debian package {PACKAGE})."))
+def _pictures(found: Told, drawn: Mapping[str, Sequence[Markup]], why_none: str) -> Iterator[Markup]:
+    if why_none:
+        yield section("Over time", soft(f"No pictures: {why_none}."))
     for kind, pictures in drawn.items():
         keys: list[Child] = [key(word, role) for word, role in KEYS[kind]]
         yield section(TITLES[kind], gallery([figure([name, *keys], it) for name, it in zip(found.names, pictures)]))

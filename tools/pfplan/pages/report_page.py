@@ -20,7 +20,8 @@ from pfplan.common.limits import BY_WORD
 from pfplan.common.outputs import whole_file
 from pfplan.pages.differences import differences_beside
 from pfplan.pages.frames import PICTURE_STYLE, answer, bullets, code, document, gallery, paragraph, section, soft, table
-from pfplan.pages.margin_texts import table_of as margins_table, verdict
+from pfplan.pages.margin_texts import table_of as margins_table
+from pfplan.pages.margin_texts import verdict
 from pfplan.pages.markup import Child, Markup, join, tag
 from pfplan.pages.pictures import standalone
 from pfplan.pages.rule_notes import TWO_STATES, does_fill_decide, entering_of, frame_lines, note_of, skipped_lines

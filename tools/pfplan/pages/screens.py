@@ -8,6 +8,7 @@ from collections.abc import Iterator, Sequence
 from typing import TextIO
 
 from pfplan.answers.connections import KINDS
+from pfplan.answers.live_counts import MOST_OPEN
 from pfplan.answers.watching import Shown, View
 from pfplan.common.figures import SINCE_1970, counted, moment_text, share_text
 from pfplan.common.visible import visible
@@ -97,7 +98,13 @@ def users_text(view: View) -> str:
     outcomes = view.outcomes or Counter()
     told = ", ".join(f"{outcomes[kind]:,} {kind}" for kind in KINDS if outcomes[kind] or kind in ("served", "refused"))
     most = ", ".join(f"{visible(it.address)} {it.count:,}" for it in view.refused_users)
-    return f"{counted(sum(outcomes.values()), 'connection')}: {told}" + (f"; refused most: {most}" if most else "")
+    text = f"{counted(sum(outcomes.values()), 'connection')}: {told}" + (f"; refused most: {most}" if most else "")
+    return text + (f"; {forgotten_text(view.forgotten)}" if view.forgotten else "")
+
+
+def forgotten_text(count: int) -> str:
+    """That connections were forgotten that were open."""
+    return f"{counted(count, 'open connection')} forgotten, the quietest past {MOST_OPEN:,}"
 
 
 def plain_lines(shown: Shown) -> Iterator[str]:

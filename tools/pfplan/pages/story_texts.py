@@ -3,8 +3,7 @@
 from __future__ import annotations
 
 import ipaddress
-import re
-from collections.abc import Iterator
+from collections.abc import Iterator, Sequence
 from pathlib import Path
 
 from pfplan.answers.asking_anew import Asked, ask
@@ -14,8 +13,8 @@ from pfplan.common.errors import Status, Trouble
 from pfplan.common.figures import counted
 from pfplan.common.visible import visible
 from pfplan.pages.record_texts import WHY, record_text
-from pfplan.pf.reading_canonical_text import items_of, limit_of, limit_of_all
-from pfplan.replays.runs import show_rules
+from pfplan.pf.origins import Origins
+from pfplan.pf.reading_canonical_text import items_of, limit_of, limit_of_all, settings_of
 from pfplan.traces.records import Record
 
 MOST = 40  # runs that are told
@@ -25,13 +24,14 @@ MOST_ASKED = 4  # of each kind of refusal the first is asked anew, up to this nu
 class Story:
     """Tells of one replay."""
 
-    def __init__(self, rules: Path, trace: Path, report: Path) -> None:
+    def __init__(self, rules: Path, trace: Path, report: Path, shown: Sequence[str], origins: Origins) -> None:
+        """`shown` is the canonical text of the rules; `origins` are their places in the pf.conf, as far as known."""
         self._rules = rules
         self._trace = trace
         self._report = report
-        shown = show_rules(rules)
         self._items = items_of(shown)
-        self._settings = {name: int(value) for name, value in re.findall(r"([a-z-]+) (\d+)", shown[0])}
+        self._settings = settings_of(shown)
+        self._origins = origins
         self._asked: set[str] = set()
         self._shown: set[str] = set()
 
@@ -116,7 +116,7 @@ class Story:
         if own:
             yield f"  the rule says {own}"
         elif of_all:
-            yield f"  the rules say {of_all}"
+            yield f"  the rules say {of_all}{_behind(self._origins.limits.get(of_all.split(' ')[2], ''))}"
 
     def _anew(self, event: Event) -> Iterator[str]:
         """What was held, and when it would have been let in, by a replay."""
@@ -135,15 +135,23 @@ class Story:
             )
 
     def _rule(self, name: str) -> str:
-        """A rule as it is told."""
+        """A rule as it is told: with its line of the pf.conf, and the first time with its text."""
         text = self._text(name)
-        if not text or name in self._shown:
-            return f"rule {name}" if text else "no rule"
+        if not text:
+            return "no rule"
+        told = f"rule {name}{_behind(self._origins.of(name))}"
+        if name in self._shown:
+            return told
         self._shown.add(name)
-        return f"rule {name}, `{visible(text)}`"
+        return f"{told}, `{visible(text)}`"
 
     def _text(self, name: str) -> str:
         return self._items[int(name[1:])] if name != "-" and int(name[1:]) < len(self._items) else ""
+
+
+def _behind(place: str) -> str:
+    """A place behind what stands there; nothing where it is not known."""
+    return f" ({place})" if place else ""
 
 
 def _held(found: Asked) -> str:

@@ -11,8 +11,8 @@ from dataclasses import dataclass, field, replace
 
 from pfplan.pf.left_out import (
     PASSES_MORE,
-    TRANSLATIONS,
     TRANSLATION_NOTE,
+    TRANSLATIONS,
     Reason,
     Teller,
     harmless,

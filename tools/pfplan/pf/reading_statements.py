@@ -32,8 +32,8 @@ from pfplan.pf.statements import (
     Place,
     Rule,
     Setting,
-    StateOption,
     Statement,
+    StateOption,
     Table,
 )
 

@@ -16,9 +16,10 @@ from pathlib import Path
 
 from pfplan.common.repository import program
 from pfplan.pf.conversion import RuleOptions, Ruleset, convert_text
-from pfplan.tests.drawing import IFCONFIG, Anchor, Drawer, Packet, Rule, Ruleset as Drawn, Writer
+from pfplan.tests.drawing import IFCONFIG, Anchor, Drawer, Packet, Rule
+from pfplan.tests.drawing import Ruleset as Drawn
+from pfplan.tests.drawing import Writer
 from pfplan.tests.reading import Reading
-
 
 PACKETS = 40
 HEADER = "time,dir,if,proto,src,sport,dst,dport,flags"

@@ -1,8 +1,14 @@
 """Commands that take a scenario where they take a trace: run, compare, size, margins; and maps of two numbers."""
 
+import contextlib
+import io
 import json
+import os
 import unittest
+from unittest import mock
 
+from pfplan.__main__ import main
+from pfplan.pages import pictures
 from pfplan.tests.support import FolderCase, pfplan
 from pfplan.traces.scenarios.returning import words_of
 
@@ -51,6 +57,31 @@ class PlayedCommands(FolderCase):
         self.assertLessEqual(
             {"rules", "left-out.txt", "trace.csv", "report", "summary.txt", "summary.json", "report.html"}, made
         )
+
+    def test_gnuplot_that_fails_or_hangs(self) -> None:
+        """The plays are kept, and the page says why it has no pictures."""
+        for script, why in (
+            ("echo 'no terminal' >&2; exit 1", "gnuplot failed: no terminal"),
+            ("exec sleep 60", "gnuplot drew nothing in 1 seconds"),
+        ):
+            tools = self.folder / "tools"
+            tools.mkdir(exist_ok=True)
+            program = tools / "gnuplot"
+            program.write_text(f"#!/bin/sh\n{script}\n", encoding="utf-8")
+            program.chmod(0o755)
+            into, page = self.folder / "played", self.folder / "page.html"
+            path = mock.patch.dict(os.environ, PATH=f"{tools}:{os.environ['PATH']}")
+            with path, mock.patch.object(pictures, "SECONDS_FOR_A_PICTURE", 1), contextlib.redirect_stdout(
+                io.StringIO()
+            ):
+                played = main(["play", str(self.scenario), str(self.rules), "--into", str(into)])
+                words = [self.rules, self.open, self.scenario, "--page", page, "--out", self.folder / "told"]
+                compared = main(["compare", *map(str, words)])
+            self.assertEqual((played, compared), (0, 0))
+            for it in (into / "report.html", page):
+                self.assertIn(f"No pictures: {why}.", it.read_text("utf-8"))
+            self.assertTrue((into / "rules" / "summary.json").exists())
+            self.assertEqual(list(into.rglob("*.svg")), [])
 
     def test_compare(self) -> None:
         out = self.told("compare", self.rules, self.open, self.scenario)

@@ -4,9 +4,10 @@ the same report."""
 import json
 import random
 import subprocess
-import tomllib
 import unittest
 from pathlib import Path
+
+import tomllib
 
 from pfplan.common.errors import Trouble
 from pfplan.common.repository import TOP, program

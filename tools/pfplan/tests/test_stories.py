@@ -93,6 +93,27 @@ class Stories(FolderCase):
         )
         self.assertIn("would have been let in at the end of second 7", told)
 
+    def test_lines_of_the_pf_conf(self) -> None:
+        conf = self.write("pf.conf", "# limits\n" + RULES)
+        trace = self.trace([syn(5, "198.51.100.7", it) for it in (1, 2, 3, 4)])
+        into = self.folder / "answer"
+        self.assertEqual(pfplan("run", conf, trace, "--into", into).status, 0)
+        words = ("explain", into / "report", "--trace", trace, "--row")
+        told = pfplan(*words, 1, "--rules", into / "rules").out
+        self.assertIn("  by rule @1 (pf.conf:6), `pass in ", told)
+        # another rules text in the folder is not that of the summary
+        alone = self.write("alone", (into / "rules").read_text("utf-8"))
+        self.assertIn("  by rule @1, `pass in ", pfplan(*words, 1, "--rules", alone).out)
+        told = pfplan(*words, 4, "--rules", alone, "--conf", conf).out
+        self.assertIn("  by rule @1 (pf.conf:6), `pass in ", told)
+        self.assertIn("  the rules say set limit states 3 (pf.conf:2)\n", told)
+        other = self.write("other.conf", RULES.replace("states 3", "states 4"))
+        done = pfplan(*words, 4, "--rules", alone, "--conf", other)
+        self.assertEqual(done.status, 3)
+        self.assertIn(f"{other}: by these words it makes other rules than {alone}", done.err)
+        (into / "rules").write_text((into / "rules").read_text("utf-8").replace("max-src-conn 2", "max-src-conn 9"))
+        self.assertIn("  by rule @1, `pass in ", pfplan(*words, 1, "--rules", into / "rules").out)
+
     def test_let_in(self) -> None:
         told = self.explain([syn(1, "198.51.100.7", 1)], "--row", 1)
         self.assertIn("  new: the rule lets it through, and a state is made\n", told)

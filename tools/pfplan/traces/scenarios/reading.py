@@ -1,9 +1,10 @@
 """Reads a scenario: a TOML file. Each mistake is told with the file, the line or the table, and what was wanted."""
 
-import tomllib
 from collections.abc import Mapping, Sequence
 from pathlib import Path
 from typing import Any
+
+import tomllib
 
 from pfplan.common.errors import Status, Trouble, reason_of
 from pfplan.common.inputs import Kind, kind_of
