@@ -4,7 +4,6 @@ import argparse
 import json
 import sys
 import tempfile
-from collections.abc import Sequence
 from dataclasses import replace
 from pathlib import Path
 
@@ -16,15 +15,13 @@ from pfplan.commands.words import file
 from pfplan.common.errors import Status, Trouble
 from pfplan.common.inputs import check_readable
 from pfplan.common.outputs import whole_file, whole_folder
-from pfplan.common.progress import Progress
 from pfplan.common.repository import DIFFERENCES, check_program
 from pfplan.pages.agreement_texts import page_of, text_of
 from pfplan.pages.differences import differences_beside
 from pfplan.pages.report_page import PAGE
-from pfplan.pf.conversion import Ruleset, convert, write_rules
-from pfplan.replays.runs import Replay, records_of, run_replay
+from pfplan.pf.conversion import Ruleset, convert, write_ruleset
+from pfplan.replays.runs import replay_into
 from pfplan.traces.captures import make_trace
-from pfplan.traces.insertions import asking
 from pfplan.traces.pf_answers import Merged, merge, packets_of
 
 DESCRIPTION = """Holds what a running pf said of the packets of its log beside what pfsrc says of them. On the firewall:
@@ -84,16 +81,15 @@ def run(arguments: argparse.Namespace) -> int:
 
 def _fill(arguments: argparse.Namespace, folder: Path, ruleset: Ruleset) -> str:
     """Writes all files of the folder, and answers the text that is printed."""
-    write_rules(folder / "rules", ruleset)
+    write_ruleset(folder, ruleset)
     merged = _make_trace(arguments.log, folder, is_partial=arguments.partial)
-    _replay(folder, ruleset.records)
+    replay_into(folder, folder / "trace.csv", ruleset.records)
     found = agreement_of(folder, ruleset, merged)
     hider = Hider(shows=arguments.shows_addresses)
     text = hider.text(text_of(found))
     page = page_of(found, hider, differences_beside(folder, arguments.into))
-    left_out = "".join(f"{it}\n" for it in ruleset.told())
     told = json.dumps(found.to_json(hider), indent=2) + "\n"
-    for name, whole in (("left-out.txt", left_out), ("agree.txt", text), ("agree.json", told), (PAGE, page)):
+    for name, whole in (("agree.txt", text), ("agree.json", told), (PAGE, page)):
         with whole_file(folder / name) as out:
             out.write(whole)
     return text
@@ -112,14 +108,3 @@ def _make_trace(log: Path, folder: Path, *, is_partial: bool) -> Merged:
                     f"{log}: no packet of a log of pflog(4) in it, so it does not say what pf answered", Status.REFUSED
                 )
     return merged
-
-
-def _replay(folder: Path, entries: Sequence[str]) -> None:
-    """Replays the log's packets. `entries` of tables come by records."""
-    trace = folder / "trace.csv"
-    progress = Progress("replay", records_of(trace), "records")
-    try:
-        with asking(trace, 0, entries) as asked:
-            run_replay(Replay(folder / "rules", trace, folder / "report"), progress, asked)
-    finally:
-        progress.finish()

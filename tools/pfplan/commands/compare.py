@@ -4,15 +4,17 @@ import argparse
 import contextlib
 
 from pfplan.answers.comparisons import Asked, compare, names_of
-from pfplan.commands.play import compare_plays
+from pfplan.answers.plays_beside import Told, play_apart
 from pfplan.commands.run_words import add_answer_words, add_asked, write_answer
 from pfplan.commands.words import file, number
 from pfplan.common.errors import Trouble
-from pfplan.common.inputs import check_rules, regular
+from pfplan.common.inputs import check_readable, check_rules, regular
 from pfplan.common.repository import check_program
-from pfplan.pages import comparison_texts
+from pfplan.pages import comparison_texts, play_folder, play_pages, play_texts
+from pfplan.pages.differences import differences_beside
+from pfplan.pf.conversion import RuleOptions, convert
 from pfplan.traces.entries import entries_of_rules
-from pfplan.traces.scenarios.reading import is_scenario
+from pfplan.traces.scenarios.reading import is_scenario, read_scenario
 
 DESCRIPTION = """Replays one trace under several rulesets and tells how they differ: what became of the users,
 which limits were met, what is held; the first record at which they part and why; how many records had which word in
@@ -46,7 +48,7 @@ def run(arguments: argparse.Namespace) -> int:
     if len(arguments.rules) < 2:
         raise Trouble("two rules texts or more are wanted, and then a trace (pfplan compare --help)")
     if is_scenario(arguments.trace):
-        return compare_plays(arguments)
+        return _compare_plays(arguments)
     check_program()
     for path in arguments.rules:
         check_rules(path)
@@ -57,3 +59,20 @@ def run(arguments: argparse.Namespace) -> int:
         found = compare(names_of(arguments.rules), paths, trace, entries, wanted)
     found.trace = arguments.trace.name
     return write_answer(arguments, found, comparison_texts.text_of, comparison_texts.page_of)
+
+
+def _compare_plays(arguments: argparse.Namespace) -> int:
+    """Plays a scenario against each ruleset, and tells how they differ."""
+    if arguments.users:
+        raise Trouble(f"--users: {arguments.trace} is a scenario, which says itself who the users are")
+    for path in (arguments.trace, *arguments.rules):
+        check_readable(path)
+    scenario = read_scenario(arguments.trace)
+    rulesets = [convert(it, RuleOptions(by_records=True)) for it in arguments.rules]
+    check_program()
+    told = play_apart(scenario, play_folder.names_of(arguments.rules), rulesets, arguments.rules)
+
+    def page_of(told: Told) -> str:
+        return play_pages.page_of(told, *play_pages.drawn_of(told), differences_beside(arguments.page.parent))
+
+    return write_answer(arguments, told, play_texts.text_of, page_of)

@@ -75,7 +75,7 @@ def _origins(arguments: argparse.Namespace, items: Sequence[str]) -> Origins:
         return origins_told(arguments.rules.with_name("summary.json"), items)
     text = read_text(arguments.rules)
     made = convert(arguments.conf, replace(options_of(arguments), by_records=marked(text) is not None))
-    if made.text != text:
+    if made.written != text:
         raise Trouble(f"{arguments.conf}: by these words it makes other rules than {arguments.rules}", Status.RULES)
     return origins_of(made)
 

@@ -2,10 +2,8 @@
 
 import argparse
 import contextlib
-import json
 import sys
-from collections.abc import Iterable, Sequence
-from dataclasses import dataclass, replace
+from dataclasses import replace
 from fractions import Fraction
 from pathlib import Path
 
@@ -19,21 +17,18 @@ from pfplan.commands.words import file, interface, networks, number, share_word
 from pfplan.common.errors import Status, Trouble
 from pfplan.common.figures import share_text
 from pfplan.common.inputs import Kind, check_readable, kind_of, name_of, regular, unpacked
-from pfplan.common.outputs import whole_file, whole_folder
-from pfplan.common.progress import Progress
+from pfplan.common.outputs import whole_folder
 from pfplan.common.repository import DIFFERENCES, check_program
-from pfplan.pages import summary_texts
-from pfplan.pages.report_page import PAGE, Subject, write_page
+from pfplan.pages.report_page import PAGE, Subject, write_answer
 from pfplan.pages.rule_notes import frame_lines
 from pfplan.pages.timeline_pictures import FILES
-from pfplan.pf.conversion import RuleOptions, Ruleset, convert_named, machine_of, write_rules
+from pfplan.pf.conversion import RuleOptions, Ruleset, convert_named, machine_of, write_ruleset
 from pfplan.pf.lexer import printable
 from pfplan.pf.origins import origins_of
 from pfplan.replays.machines import Machines, measure_words
-from pfplan.replays.runs import Replay, records_of, run_replay
+from pfplan.replays.runs import replay_into
 from pfplan.traces.accounts import Frames, frames_of
 from pfplan.traces.captures import make_trace
-from pfplan.traces.insertions import Held, asking
 from pfplan.traces.scenarios.reading import is_scenario
 
 DESCRIPTION = """Makes a rules text and a trace where they are not yet, replays, and puts into a folder:
@@ -51,21 +46,6 @@ OURS = (
 MOST_MISSING = 5
 # Moments at which the program is asked what is held.
 MOMENTS = 20
-
-
-@dataclass(frozen=True)
-class Files:
-    """The files of a folder."""
-
-    folder: Path
-
-    def __truediv__(self, name: str) -> Path:
-        return self.folder / name
-
-    def write(self, name: str, lines: Iterable[str]) -> None:
-        """Writes a text whole. Trouble with status 4 where that fails."""
-        with whole_file(self / name) as out:
-            out.writelines(lines)
 
 
 def add_words(parser: Parser) -> None:
@@ -150,7 +130,7 @@ def run(arguments: argparse.Namespace) -> int:
         given = stack.enter_context(regular(arguments.capture))
         capture = stack.enter_context(unpacked(given, name_of(arguments.capture)))
         with whole_folder(arguments.into, OURS) as folder:
-            summary = _fill(arguments, where, Files(folder), capture, ruleset)
+            summary = _fill(arguments, where, folder, capture, ruleset)
     _tell(arguments, ruleset, summary)
     return Status.DONE
 
@@ -159,24 +139,21 @@ def _options(arguments: argparse.Namespace) -> RuleOptions:
     return replace(options_of(arguments), by_records=True)
 
 
-def _fill(arguments: argparse.Namespace, where: Machines, files: Files, capture: Path, ruleset: Ruleset) -> Summary:
+def _fill(arguments: argparse.Namespace, where: Machines, folder: Path, capture: Path, ruleset: Ruleset) -> Summary:
     """Writes all files of the folder, and answers the summary."""
-    write_rules(files / "rules", ruleset)
-    files.write("left-out.txt", (f"{it}\n" for it in ruleset.told()))
-    trace, frames = _trace(arguments, capture, files)
-    held = _replay(files, trace, ruleset.records, arguments.held)
+    write_ruleset(folder, ruleset)
+    trace, frames = _trace(arguments, capture, folder)
+    held = replay_into(folder, trace, ruleset.records, arguments.held)
     wanted = Wanted(
-        trace, arguments.users, files / "rules", ruleset.labels, origins_of(ruleset), frames, top=arguments.top
+        trace, arguments.users, folder / "rules", ruleset.labels, origins_of(ruleset), frames, top=arguments.top
     )
-    summary = summarize(files / "report", wanted)
+    summary = summarize(folder / "report", wanted)
     summary.held = held
-    files.write("summary.txt", [summary_texts.text_of(summary)])
-    files.write("summary.json", [json.dumps(summary.to_json(), indent=2), "\n"])
-    _page(arguments, where, files, trace, ruleset, summary)
+    write_answer(folder, summary, _subject(arguments, where, folder, trace, ruleset), arguments.into)
     return summary
 
 
-def _trace(arguments: argparse.Namespace, given: Path, files: Files) -> tuple[Path, Frames | None]:
+def _trace(arguments: argparse.Namespace, given: Path, folder: Path) -> tuple[Path, Frames | None]:
     """The trace that was given, or that of the capture with what became of its frames."""
     if kind_of(given) is Kind.TRACE:
         return given, None
@@ -186,7 +163,7 @@ def _trace(arguments: argparse.Namespace, given: Path, files: Files) -> tuple[Pa
     account = make_trace(
         given,
         inside,
-        files / "trace.csv",
+        folder / "trace.csv",
         name=arguments.name,
         macs=macs,
         is_zero=arguments.zero,
@@ -195,35 +172,19 @@ def _trace(arguments: argparse.Namespace, given: Path, files: Files) -> tuple[Pa
     )
     for line in account:
         print(line, file=sys.stderr)
-    return files / "trace.csv", frames_of(account)
+    return folder / "trace.csv", frames_of(account)
 
 
-def _replay(files: Files, trace: Path, entries: Sequence[str], moments: int) -> list[Held]:
-    """Replays the trace into the folder's report, and answers how much is held at so many moments. `entries` come by
-    records."""
-    rules = files / "rules"
-    progress = Progress("replay", records_of(trace), "records")
-    try:
-        with asking(trace, moments, entries) as asked:
-            heard = asked.heard(rules)
-            run_replay(Replay(rules, trace, files / "report"), progress, asked, heard)
-    finally:
-        progress.finish()
-    return heard.held
-
-
-def _page(
-    arguments: argparse.Namespace, where: Machines, files: Files, trace: Path, ruleset: Ruleset, summary: Summary
-) -> None:
+def _subject(arguments: argparse.Namespace, where: Machines, folder: Path, trace: Path, ruleset: Ruleset) -> Subject:
+    """What the page tells beside the summary."""
     names = (Path(name_of(arguments.capture)).name, name_of(arguments.rules_from))
     found = None
     if arguments.margins:
         words = measure_words(arguments.users, 0)
         found = measure_margins(
-            files / "rules", trace, arguments.users, arguments.want, where, words, names, ruleset.records
+            folder / "rules", trace, arguments.users, arguments.want, where, words, names, ruleset.records
         )
-    subject = Subject(names[1], names[0], ruleset.leftovers, ruleset.notes, found, arguments.want)
-    write_page(files.folder, summary, subject, arguments.into)
+    return Subject(names[1], names[0], ruleset.leftovers, ruleset.notes, found, arguments.want)
 
 
 def _tell(arguments: argparse.Namespace, ruleset: Ruleset, summary: Summary) -> None:

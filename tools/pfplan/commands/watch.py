@@ -2,7 +2,6 @@
 
 import argparse
 import contextlib
-import json
 import sys
 import tempfile
 from collections.abc import Iterator, Sequence
@@ -12,7 +11,6 @@ from typing import TextIO
 
 from pfplan.answers.connections import LATE
 from pfplan.answers.live_counts import Side
-from pfplan.answers.summaries import Summary
 from pfplan.answers.watching import Signals, Watch, Watched
 from pfplan.commands.parser import Parser
 from pfplan.commands.rule_words import add_rule_words, options_of
@@ -22,10 +20,9 @@ from pfplan.common.figures import share_text
 from pfplan.common.inputs import HEADER, check_readable
 from pfplan.common.outputs import make_folder, whole_file
 from pfplan.common.repository import check_program
-from pfplan.pages.report_page import PAGE, Subject, write_page
+from pfplan.pages.report_page import PAGE, Subject, write_answer
 from pfplan.pages.screens import Screen, forgotten_text
-from pfplan.pages.summary_texts import text_of
-from pfplan.pf.conversion import Ruleset, convert, machine_of, write_rules
+from pfplan.pf.conversion import Ruleset, convert, machine_of, write_ruleset
 from pfplan.pf.reading_canonical_text import items_of
 from pfplan.replays.live import Capture
 from pfplan.replays.runs import show_rules
@@ -143,9 +140,7 @@ def _started(
 ) -> Watched:
     """A ruleset whose program waits for records."""
     make_folder(folder)
-    write_rules(folder / "rules", ruleset)
-    with whole_file(folder / "left-out.txt") as out:
-        out.writelines(f"{it}\n" for it in ruleset.told())
+    write_ruleset(folder, ruleset)
     shown = show_rules(folder / "rules")
     side = Side(path.name, folder / "rules", items_of(shown), arguments.users)
     stack.callback(side.replaying.stop)
@@ -164,7 +159,9 @@ def _end(
 ) -> int:
     """Writes the folders, and tells where they are and what was wrong."""
     for it in watched if arguments.into else ():
-        _write(it, it.summary(arguments.users, _noted(frames_of(account), it.forgotten), arguments.top))
+        summary = it.summary(arguments.users, _noted(frames_of(account), it.forgotten), arguments.top)
+        subject = Subject(str(it.path), TRACE, it.ruleset.leftovers, it.ruleset.notes)
+        write_answer(it.folder, summary, subject)
     if not watch.is_unseen:
         _tell(arguments, watched)
     for line in (*account, *by_networks(account, arguments.name or "em0")):
@@ -180,16 +177,6 @@ def _end(
 def _noted(frames: Frames | None, forgotten: int) -> Frames | None:
     """What became of the frames, with a note where connections were forgotten."""
     return replace(frames, notes=(*frames.notes, forgotten_text(forgotten))) if frames and forgotten else frames
-
-
-def _write(watched: Watched, summary: Summary) -> None:
-    """Writes the files of a folder that `run` would have written at the end."""
-    texts = {"summary.txt": text_of(summary), "summary.json": json.dumps(summary.to_json(), indent=2) + "\n"}
-    for name, text in texts.items():
-        with whole_file(watched.folder / name) as out:
-            out.write(text)
-    ruleset = watched.ruleset
-    write_page(watched.folder, summary, Subject(str(watched.path), TRACE, ruleset.leftovers, ruleset.notes))
 
 
 def _tell(arguments: argparse.Namespace, watched: Sequence[Watched]) -> None:

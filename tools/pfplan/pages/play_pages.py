@@ -5,6 +5,7 @@ from __future__ import annotations
 from collections import Counter
 from collections.abc import Iterator, Mapping, Sequence
 
+from pfplan.answers.plays_beside import Told
 from pfplan.answers.timelines import Moment, Timeline
 from pfplan.common.errors import Trouble
 from pfplan.common.figures import counted
@@ -12,7 +13,7 @@ from pfplan.common.visible import visible
 from pfplan.pages.frames import answer, bullets, code, document, figure, gallery, key, section, soft, table
 from pfplan.pages.markup import Child, Markup, join, tag
 from pfplan.pages.pictures import Role, draw
-from pfplan.pages.play_texts import Told, headline_of, rows_of, subject_of, users_of, when
+from pfplan.pages.play_texts import headline_of, rows_of, subject_of, users_of, when
 from pfplan.pages.record_texts import WHY
 from pfplan.pages.report_page import more_of
 from pfplan.pages.timeline_pictures import MAKERS, most_of

@@ -3,28 +3,17 @@
 from __future__ import annotations
 
 from collections.abc import Iterator, Sequence
-from dataclasses import asdict, dataclass
-from typing import Any
 
+from pfplan.answers.plays_beside import Told
 from pfplan.common.figures import counted, share_text
 from pfplan.common.visible import visible
 from pfplan.pages.record_texts import letters
 from pfplan.traces.records import WORDS
 from pfplan.traces.scenarios.counts import Count
-from pfplan.traces.scenarios.model import Askers, Forgers, Laid, Scenario
+from pfplan.traces.scenarios.model import Askers, Forgers, Laid
 from pfplan.traces.scenarios.playing import Played
 
 Row = tuple[str, list[str]]
-
-
-@dataclass(frozen=True)
-class Told:
-    """Plays of one scenario under several rulesets, by the names that the user gave."""
-
-    scenario: Scenario
-    names: Sequence[str]
-    plays: Sequence[Played]
-    doubts: Sequence[int]
 
 
 def rows_of(found: Told) -> Iterator[Row]:
@@ -135,37 +124,3 @@ def text_of(found: Told) -> str:
         for name, cells in rows
     ]
     return "\n".join(lines) + "\n"
-
-
-def json_of(scenario: Scenario, play: Played) -> dict[str, Any]:
-    """The numbers of one play for machines (tools/README.md)."""
-    groups = [
-        {
-            "name": it.group.name,
-            "kind": it.group.kind,
-            "users": it.group.users,
-            "connections": it.connections,
-            "opened": it.opened,
-            "served": it.served,
-            "served_without_waiting": it.served_at_once,
-            "gave_up": it.gave_up,
-            "killed": it.killed,
-            "tries": it.tries,
-            "packets": it.packets,
-            "let_in": it.passed,
-            "wait": {"median": it.wait_at(0.5), "95_of_100": it.wait_at(0.95), "longest": it.wait_at(1.0)},
-            "refused": {word: asdict(one) for word, one in it.refused.items()},
-        }
-        for it in play.tally.counts
-    ]
-    return {
-        "scenario": scenario.name,
-        "seconds": scenario.seconds,
-        "last": play.last,
-        "wait": scenario.wait,
-        "groups": groups,
-        "held": [asdict(it) for it in play.tally.fills],
-        "states_killed": play.tally.states_killed,
-        "overloads": dict(play.tally.overloads),
-        "end": asdict(play.end),
-    }

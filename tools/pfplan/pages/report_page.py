@@ -1,6 +1,7 @@
 """report.html: what a replay came to, in one file to read in a browser, to print, and to send to a colleague. The
 answer stands first."""
 
+import json
 from collections.abc import Iterator, Mapping, Sequence
 from dataclasses import dataclass
 from fractions import Fraction
@@ -25,6 +26,7 @@ from pfplan.pages.margin_texts import verdict
 from pfplan.pages.markup import Child, Markup, join, tag
 from pfplan.pages.pictures import standalone
 from pfplan.pages.rule_notes import TWO_STATES, does_fill_decide, entering_of, frame_lines, note_of, skipped_lines
+from pfplan.pages.summary_texts import text_of
 from pfplan.pages.timeline_pictures import FILES, Drawn, drawn_kinds
 
 PAGE = "report.html"
@@ -86,6 +88,15 @@ class Subject:
     notes: Sequence[str] = ()
     margins: Margins | None = None
     want: Fraction = Fraction(99, 100)  # the share of the users' connections that makes the answer a good one
+
+
+def write_answer(folder: Path, summary: Summary, subject: Subject, place: Path | None = None) -> None:
+    """Writes summary.txt, summary.json and the page with its pictures into a folder. Trouble as `write_page`."""
+    texts = {"summary.txt": text_of(summary), "summary.json": json.dumps(summary.to_json(), indent=2) + "\n"}
+    for name, text in texts.items():
+        with whole_file(folder / name) as file:
+            file.write(text)
+    write_page(folder, summary, subject, place)
 
 
 def write_page(folder: Path, summary: Summary, subject: Subject, place: Path | None = None) -> list[Path]:

@@ -64,6 +64,11 @@ class Ruleset:
     skipped: frozenset[int] = frozenset()
     limits: dict[str, Place] = field(default_factory=dict)
 
+    @property
+    def written(self) -> str:
+        """The text that a file of it has."""
+        return self.text or "# no rule and no setting is left\n"
+
     def told(self) -> list[str]:
         """The lines for standard error: what was left out, what else is to know, and how much there is of each."""
         changing = sum(it.changes_answer for it in self.leftovers)
@@ -176,7 +181,14 @@ def write_rules(path: Path | None, ruleset: Ruleset) -> None:
     if path and ruleset.records:
         write_entries(path, ruleset.records)
     with whole_file(path) as file:
-        file.write(ruleset.text or "# no rule and no setting is left\n")
+        file.write(ruleset.written)
+
+
+def write_ruleset(folder: Path, ruleset: Ruleset) -> None:
+    """Writes the files `rules` and `left-out.txt` of a folder. Trouble as `write_rules`."""
+    write_rules(folder / "rules", ruleset)
+    with whole_file(folder / "left-out.txt") as file:
+        file.writelines(f"{it}\n" for it in ruleset.told())
 
 
 def _expander(

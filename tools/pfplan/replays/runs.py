@@ -17,7 +17,7 @@ from pfplan.common.inputs import check_rules, check_trace
 from pfplan.common.outputs import whole_file
 from pfplan.common.progress import Progress
 from pfplan.common.repository import program
-from pfplan.traces.insertions import NOTHING, Asking, Heard, Insertions
+from pfplan.traces.insertions import NOTHING, Asking, Heard, Held, Insertions, asking
 from pfplan.traces.records import BLOCK, blocks_of
 from pfplan.traces.rows import Rows
 
@@ -67,6 +67,20 @@ def run_replay(
         with _started(_words(replay.rules, replay.trace), report, told) as process:
             _wait(process, Path(report.name), progress)
             _check_end(process.returncode, told, replay.rules, replay.trace)
+
+
+def replay_into(folder: Path, trace: Path, entries: Sequence[str], moments: int = 0) -> list[Held]:
+    """Replays a trace under the file `rules` of a folder into its file `report`, shows how far it is, and answers how
+    much is held at so many moments. `entries` come by records. Trouble as `run_replay`."""
+    rules = folder / "rules"
+    progress = Progress("replay", records_of(trace), "records")
+    try:
+        with asking(trace, moments, entries) as asked:
+            heard = asked.heard(rules)
+            run_replay(Replay(rules, trace, folder / "report"), progress, asked, heard)
+    finally:
+        progress.finish()
+    return heard.held
 
 
 def stream_report(rules: Path, trace: Path) -> Iterator[str]:
