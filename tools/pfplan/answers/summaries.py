@@ -162,7 +162,7 @@ def summarize(report: Path, wanted: Wanted) -> Summary:
 
 
 def summarize_blocks(blocks: Iterable[list[str]], name: Path | str, wanted: Wanted) -> Summary:
-    """Sums up the lines of a report as they come (records.blocks_of_lines, runs.stream_report); `name` stands in
+    """Sums up the lines of a report as they come (records.blocks_of_lines, runs.stream_blocks); `name` stands in
     messages."""
     shown = show_rules(wanted.rules) if wanted.rules else []
     texts = items_of(shown)

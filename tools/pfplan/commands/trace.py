@@ -1,4 +1,4 @@
-"""The command `trace`: a trace of a capture, which ./pfstrace makes."""
+"""The command `trace`: a trace of a capture, which ./pfstrace makes, or of a scenario in which nobody reacts."""
 
 import argparse
 import sys

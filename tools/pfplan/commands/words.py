@@ -24,17 +24,6 @@ def number(least: int, most: int) -> Callable[[str], int]:
     return read
 
 
-def one_of(*names: str) -> Callable[[str], str]:
-    """A reader of one of some names, for argparse."""
-
-    def read(text: str) -> str:
-        if text not in names:
-            raise argparse.ArgumentTypeError(f"'{text}' is none of {', '.join(names)}")
-        return text
-
-    return read
-
-
 def network(text: str) -> Network:
     """A reader of a prefix of either family, for argparse; bits past its length are cleared."""
     try:

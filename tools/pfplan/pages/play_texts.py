@@ -1,4 +1,4 @@
-"""How plays of a scenario are told: as a text, and as numbers."""
+"""How plays of a scenario are told as a text."""
 
 from __future__ import annotations
 

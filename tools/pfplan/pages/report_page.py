@@ -37,12 +37,12 @@ LIMITS_OF_A_REPLAY = (
     "What the trace lacks is not counted: ICMP, other interfaces, sequence numbers, and states from before its first "
     "packet.",
 )
-# Rules that are shown of a long text, besides those that decided; missing things that are named first; rules named for
-# a limit.
 FOOTER = (
     "Made by pfplan, which is tested and not proved. The replay is that of the proved program pfsrc; how far its "
     "answers agree with a running pf is not proved."
 )
+# Rules that are shown of a long text, besides those that decided; missing things that are named first; rules named for
+# a limit.
 MOST_RULES, MOST_MISSING, MOST_LIMITING = 200, 20, 5
 
 

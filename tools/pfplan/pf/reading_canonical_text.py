@@ -1,16 +1,11 @@
-"""Runs of the program: `./pfsrc replay RULES TRACE`, and `./pfsrc show RULES`."""
+"""What stands in the canonical text of rules, as `./pfsrc show` prints it: the items, and of each the tables that it
+names, its limits, and what a kill of it flushes."""
 
 import re
 from collections.abc import Mapping, Sequence
 from dataclasses import dataclass
 
 from pfplan.common.limits import BY_WORD, OF_RULES
-
-
-def items_of(shown: Sequence[str]) -> list[str]:
-    """The rules and heads of anchors of a canonical text: the n-th is that of `@n`."""
-    return [it.strip() for it in shown if it.strip() != "}" and not it.startswith(("set ", "table "))]
-
 
 _TABLE = re.compile(r"<([A-Za-z0-9_.-]+)>")
 _OVERLOAD = re.compile(r"overload <([A-Za-z0-9_.-]+)>( flush)?( global)?")
@@ -24,6 +19,11 @@ class Overload:
     table: str
     flushes: bool
     is_global: bool
+
+
+def items_of(shown: Sequence[str]) -> list[str]:
+    """The rules and heads of anchors of a canonical text: the n-th is that of `@n`."""
+    return [it.strip() for it in shown if it.strip() != "}" and not it.startswith(("set ", "table "))]
 
 
 def overload_of(text: str) -> Overload | None:

@@ -83,12 +83,6 @@ def replay_into(folder: Path, trace: Path, entries: Sequence[str], moments: int 
     return heard.held
 
 
-def stream_report(rules: Path, trace: Path) -> Iterator[str]:
-    """The lines of a report, one by one, as `stream_blocks`."""
-    for lines in stream_blocks(rules, trace):
-        yield from lines
-
-
 def stream_blocks(
     rules: Path, trace: Path, asked: Asking = NOTHING, heard: Heard | None = None
 ) -> Generator[list[str], None, None]:
