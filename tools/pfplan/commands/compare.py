@@ -5,8 +5,8 @@ import contextlib
 
 from pfplan.answers.comparisons import Asked, compare, names_of
 from pfplan.answers.plays_beside import Told, play_apart
-from pfplan.commands.run_words import add_answer_words, add_asked, write_answer
-from pfplan.commands.words import file, number
+from pfplan.commands.run_words import add_answer_words, write_answer
+from pfplan.commands.words import add_asked, file, number
 from pfplan.common.errors import Trouble
 from pfplan.common.inputs import check_readable, check_rules, regular
 from pfplan.common.repository import check_program

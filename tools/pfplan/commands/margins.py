@@ -4,8 +4,8 @@ import argparse
 from fractions import Fraction
 
 from pfplan.answers.margins import measure_margins
-from pfplan.commands.run_words import add_answer_words, add_asked, add_machine_words, machines_of, write_answer
-from pfplan.commands.words import file, share_word
+from pfplan.commands.run_words import add_answer_words, add_machine_words, machines_of, write_answer
+from pfplan.commands.words import add_asked, file, share_word
 from pfplan.common.errors import Trouble
 from pfplan.common.inputs import check_rules, check_trace, regular
 from pfplan.common.repository import check_program

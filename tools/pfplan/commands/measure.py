@@ -9,8 +9,7 @@ from collections.abc import Callable
 from pathlib import Path
 
 from pfplan.answers.measures import Measure, measure, measure_asked
-from pfplan.commands.run_words import add_asked
-from pfplan.commands.words import file
+from pfplan.commands.words import add_asked, file
 from pfplan.common.errors import Status
 from pfplan.common.inputs import Kind, kind_of, regular
 from pfplan.traces.entries import entries_of_rules, read_entries

@@ -1,11 +1,11 @@
-"""The words that say what is asked of many runs, where these go on, and how their answer is told."""
+"""The words that say where many runs go on, and how their answer is told."""
 
 import argparse
 import json
 from collections.abc import Callable
 from typing import Any, Protocol, TypeVar
 
-from pfplan.commands.words import file, networks, number
+from pfplan.commands.words import file, number
 from pfplan.common.errors import Status, Trouble
 from pfplan.common.inputs import check_readable
 from pfplan.common.outputs import whole_file
@@ -48,17 +48,6 @@ def machines_of(arguments: argparse.Namespace) -> Machines:
     if not machines.is_here:
         check_parallel()
     return machines
-
-
-def add_asked(parser: argparse.ArgumentParser, moments: int) -> None:
-    """The words that say what is asked of a replay."""
-    parser.add_argument(
-        "--users", type=networks, default=(), metavar="PREFIX..", help="networks of the users, split by commas"
-    )
-    parser.add_argument(
-        "--held", type=number(0, 1000), default=moments, metavar="N",
-        help=f"asks at N moments how many states are held ({moments})",
-    )  # fmt: skip
 
 
 class Answer(Protocol):

@@ -3,6 +3,7 @@
 from __future__ import annotations
 
 import argparse
+import re
 from collections.abc import Iterable
 from fractions import Fraction
 from pathlib import Path
@@ -11,9 +12,9 @@ from pfplan.answers.changed_rules import RulesText
 from pfplan.answers.maps import map_of
 from pfplan.answers.measures import Measure
 from pfplan.answers.plays_measured import Subject
-from pfplan.answers.sizes import Wanted, size
-from pfplan.commands.run_words import add_answer_words, add_asked, add_machine_words, machines_of, write_answer
-from pfplan.commands.words import file, number, share_word, vary_word
+from pfplan.answers.sizes import Vary, Wanted, size
+from pfplan.commands.run_words import add_answer_words, add_machine_words, machines_of, write_answer
+from pfplan.commands.words import add_asked, file, number, share_word
 from pfplan.common.errors import Status, Trouble
 from pfplan.common.inputs import check_rules, check_trace, regular
 from pfplan.common.repository import check_program
@@ -37,6 +38,16 @@ def check_users(arguments: argparse.Namespace, is_played: bool) -> None:
         raise Trouble(f"--users: {arguments.trace} is a scenario, which says itself who the users are")
     if not is_played and not arguments.users:
         raise Trouble("--users: whose connections are to be served? (networks, split by commas)")
+
+
+def vary_word(text: str) -> Vary:
+    """A reader of `NAME=FROM..TO` for argparse."""
+    found = re.fullmatch(r"([@A-Za-z0-9_.-]{1,128})=([0-9]{1,10})\.\.([0-9]{1,10})", text)
+    if not found:
+        raise argparse.ArgumentTypeError(f"'{text}' is not NAME=FROM..TO, as states=500..5000")
+    if int(found[2]) >= int(found[3]):
+        raise argparse.ArgumentTypeError(f"'{text}': {found[3]} is not above {found[2]}")
+    return Vary(found[1], int(found[2]), int(found[3]))
 
 
 def add_words(parser: argparse.ArgumentParser) -> None:

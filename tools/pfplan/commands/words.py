@@ -1,4 +1,4 @@
-"""Readers of the words that several commands take, for argparse."""
+"""Words that several commands take, and their readers, for argparse."""
 
 import argparse
 import ipaddress
@@ -7,7 +7,6 @@ from collections.abc import Callable
 from fractions import Fraction
 from pathlib import Path
 
-from pfplan.answers.sizes import Vary
 from pfplan.common.networks import Network, interface_name
 
 
@@ -66,11 +65,12 @@ def share_word(text: str) -> Fraction:
     return share
 
 
-def vary_word(text: str) -> Vary:
-    """A reader of `NAME=FROM..TO` for argparse."""
-    found = re.fullmatch(r"([@A-Za-z0-9_.-]{1,128})=([0-9]{1,10})\.\.([0-9]{1,10})", text)
-    if not found:
-        raise argparse.ArgumentTypeError(f"'{text}' is not NAME=FROM..TO, as states=500..5000")
-    if int(found[2]) >= int(found[3]):
-        raise argparse.ArgumentTypeError(f"'{text}': {found[3]} is not above {found[2]}")
-    return Vary(found[1], int(found[2]), int(found[3]))
+def add_asked(parser: argparse.ArgumentParser, moments: int) -> None:
+    """The words that say what is asked of a replay."""
+    parser.add_argument(
+        "--users", type=networks, default=(), metavar="PREFIX..", help="networks of the users, split by commas"
+    )
+    parser.add_argument(
+        "--held", type=number(0, 1000), default=moments, metavar="N",
+        help=f"asks at N moments how many states are held ({moments})",
+    )  # fmt: skip

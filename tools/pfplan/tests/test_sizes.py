@@ -7,7 +7,8 @@ from pfplan.answers import grids
 from pfplan.answers.changed_rules import Number
 from pfplan.answers.measures import Measure
 from pfplan.answers.sizes import Sizing, Vary, search
-from pfplan.commands.words import share_word, vary_word
+from pfplan.commands.size import vary_word
+from pfplan.commands.words import share_word
 from pfplan.pages import size_texts
 
 
