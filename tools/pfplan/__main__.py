@@ -1,20 +1,26 @@
 """Runs a command, and tells what went wrong in one line."""
 
+import gc
 import signal
 import sys
 from collections.abc import Sequence
 from types import FrameType
 
-from .errors import Status, Trouble, reason_of
-from .markup import visible
-from .words import COMMANDS, parse
+from pfplan.commands.parser import COMMANDS, parse
+from pfplan.common.errors import Status, Trouble, reason_of
+from pfplan.common.visible import visible
+
+# Values that are made before the collector looks for circles of them. Records are made and let go by the million, and
+# stand in no circle.
+UNWATCHED = 200_000
 
 
 def main(words: Sequence[str] | None = None) -> int:
     """Runs the command that the words name, and answers the status (man/pfplan.1)."""
     given = list(sys.argv[1:] if words is None else words)
-    name = f"pfplan {given[0]}" if given and given[0] in [it for it, _, _ in COMMANDS] else "pfplan"
+    name = f"pfplan {given[0]}" if given and given[0] in [it for it, _ in COMMANDS] else "pfplan"
     signal.signal(signal.SIGTERM, _interrupt)
+    gc.set_threshold(UNWATCHED, 20, 20)
     try:
         arguments = parse(given)
         return int(arguments.run(arguments))

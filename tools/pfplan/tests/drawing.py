@@ -34,13 +34,26 @@ NAMES = {
 }
 ADDRESSES4 = [*(f"10.0.0.{it}" for it in range(8)), *(f"10.0.1.{it}" for it in range(4)), "127.0.0.1", "192.0.2.9"]
 ADDRESSES6 = [*(f"2001:db8::{it}" for it in range(1, 5)), "2001:db8:1::1", "2001:db8:1::2", "::1"]
-PREFIXES = ["10.0.0.0/8", "10.0.0.0/30", "10.0.0.4/31", "10.0.1.0/24", "0.0.0.0/0", "2001:db8::/32", "2001:db8::/127", "2001:db8:1::/64"]
+PREFIXES = [
+    "10.0.0.0/8",
+    "10.0.0.0/30",
+    "10.0.0.4/31",
+    "10.0.1.0/24",
+    "0.0.0.0/0",
+    "2001:db8::/32",
+    "2001:db8::/127",
+    "2001:db8:1::/64",
+]
 PORTS = [0, 1, 21, 22, 23, 25, 53, 79, 80, 81, 443, 65535]
 PORT_NAMES = {21: "ftp", 22: "ssh", 25: "smtp", 53: "domain", 80: "www", 443: "https"}
-HARMLESS = ['label "a b"', "queue q", "queue (q, p)", "tag T", "set prio 3", "set (prio 3, tos 8)", "allow-opts", "rtable 1", "route-to 10.0.0.2",
-            "reply-to 10.0.0.2@em0", "dup-to 10.0.0.2", "scrub (no-df)", "divert-packet port 700"]  # fmt: skip
-BEYOND = ["user root", "group { 5 > 10 }", "tagged T", "! tagged T", "received-on em1", "! received-on em1", "tos 8", "prio 3",
-          "fragment", "probability 50%", "once", "max-pkt-rate 9/9"]  # fmt: skip
+HARMLESS = [
+    'label "a b"', "queue q", "queue (q, p)", "tag T", "set prio 3", "set (prio 3, tos 8)", "allow-opts", "rtable 1",
+    "route-to 10.0.0.2", "reply-to 10.0.0.2@em0", "dup-to 10.0.0.2", "scrub (no-df)", "divert-packet port 700",
+]  # fmt: skip
+BEYOND = [
+    "user root", "group { 5 > 10 }", "tagged T", "! tagged T", "received-on em1", "! received-on em1", "tos 8",
+    "prio 3", "fragment", "probability 50%", "once", "max-pkt-rate 9/9",
+]  # fmt: skip
 
 
 @dataclass(frozen=True)
@@ -168,7 +181,9 @@ class Drawer:
     def rule(self) -> Rule:
         """A rule whose state clause fits its action."""
         action = self.random.choice(["pass", "pass", "block"])
-        states = ["", "", "no state", "keep state", "keep state (max 5000)", "modulate state"] if action == "pass" else [""]
+        states = (
+            ["", "", "no state", "keep state", "keep state (max 5000)", "modulate state"] if action == "pass" else [""]
+        )
         return Rule(action, self.filter(), self.random.choice(states))
 
     def filter(self, is_head: bool = False, is_single: bool = False) -> Filter:
@@ -208,7 +223,9 @@ class Drawer:
 
     def host(self, family: str, is_single: bool) -> Host:
         """A host. Where a family is asked for, most are of it."""
-        kinds = ["any", "plain", "plain", "plain", "range", "table", "dynamic", "route"] + ([] if is_single else ["static"])
+        kinds = ["any", "plain", "plain", "plain", "range", "table", "dynamic", "route"] + (
+            [] if is_single else ["static"]
+        )
         kind = self.random.choice(kinds)
         negated = kind != "any" and self.chance(0.2)
         if kind == "plain":
@@ -220,7 +237,11 @@ class Drawer:
             return Host(kind, self.random.choice("tuv"), negated=negated)
         if kind in ("static", "dynamic"):
             return Host(kind, self.random.choice(list(NAMES)), negated=negated)
-        return Host(kind, "any") if kind == "any" else Host(kind, self.random.choice(["no-route", "urpf-failed"]), negated=negated)
+        return (
+            Host(kind, "any")
+            if kind == "any"
+            else Host(kind, self.random.choice(["no-route", "urpf-failed"]), negated=negated)
+        )
 
     def prefix(self, family: str = "") -> str:
         """An address or a prefix, most often of the family."""
@@ -259,7 +280,8 @@ def counts_states(item: Rule | Anchor) -> bool:
 
 
 def has_combination(asked: Filter) -> bool:
-    """Whether two hosts of a filter are of one family: else pfctl refuses the rule. What is not carried counts as one."""
+    """Whether two hosts of a filter are of one family: else pfctl refuses the rule. What is not carried counts as
+    one."""
 
     def families(hosts: list[Host]) -> set[str]:
         found: set[str] = set()
@@ -274,13 +296,19 @@ def has_combination(asked: Filter) -> bool:
                 found.update(FAMILIES.values())
         return found
 
-    return bool(families(asked.source) & families(asked.destination) & ({asked.family} if asked.family else set(FAMILIES.values())))
+    return bool(
+        families(asked.source)
+        & families(asked.destination)
+        & ({asked.family} if asked.family else set(FAMILIES.values()))
+    )
 
 
 def most_rules(item: Rule | Anchor) -> int:
     """At most how many rules and anchors an item stands for."""
     asked = item.asked
-    count = max(1, len(asked.protocols)) * max(1, sum(len(GROUPS.get(name, (name,))) + 2 * negated for name, negated in asked.interfaces))
+    count = max(1, len(asked.protocols)) * max(
+        1, sum(len(GROUPS.get(name, (name,))) + 2 * negated for name, negated in asked.interfaces)
+    )
     for hosts in (asked.source, asked.destination):
         count *= max(1, sum(len(NAMES[it.value]) if it.kind == "static" else 1 for it in hosts))
     for ports in (asked.source_ports, asked.destination_ports):
@@ -340,13 +368,17 @@ class Writer:
         answer = self._drawer.random.choice(["", "drop ", "return "]) if rule.action == "block" else ""
         tail = [*self._tail(rule.asked), rule.state]
         self._drawer.random.shuffle(tail)
-        self._statement(rule, f"{rule.action} {answer}{self._filter(rule.asked, True)} {' '.join(it for it in tail if it)}")
+        self._statement(
+            rule, f"{rule.action} {answer}{self._filter(rule.asked, True)} {' '.join(it for it in tail if it)}"
+        )
 
     def _anchor(self, anchor: Anchor, used: set[str]) -> None:
         name = "" if anchor.name in used else anchor.name
         used.add(anchor.name)
         shown = f'"{name}" ' if name else ""
-        self._statement(anchor, f"anchor {shown}{self._filter(anchor.asked, False)} {' '.join(self._tail(anchor.asked))} {{")
+        self._statement(
+            anchor, f"anchor {shown}{self._filter(anchor.asked, False)} {' '.join(self._tail(anchor.asked))} {{"
+        )
         self._items(anchor.body)
         self._lines.append("}")
 
@@ -372,7 +404,10 @@ class Writer:
             words.append("on " + self._list([("! " if negated else "") + name for name, negated in asked.interfaces]))
         words.append(asked.family)
         if asked.protocols:
-            words.append("proto " + self._list([{"tcp": self._drawer.random.choice(["tcp", "6"])}.get(it, it) for it in asked.protocols]))
+            words.append(
+                "proto "
+                + self._list([{"tcp": self._drawer.random.choice(["tcp", "6"])}.get(it, it) for it in asked.protocols])
+            )
         source = self._side("from", asked.source, asked.source_ports)
         destination = self._side("to", asked.destination, asked.destination_ports)
         words += [source, destination] if source or destination else [self._drawer.random.choice(["", "all"])]

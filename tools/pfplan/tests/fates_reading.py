@@ -1,7 +1,8 @@
-"""What becomes of connections, read slowly and apart from pfplan: over plain lists of packets, states, kills and flushes.
+"""What becomes of connections, read slowly and apart from pfplan: over plain lists of packets, states, kills and
+flushes.
 
-Nothing of pfplan is used here. A report is a list of texts behind the rows' numbers, and a trace a list of records. No state may run out
-between its last packet and a flush: then the list of states is what the firewall holds.
+Nothing of pfplan is used here. A report is a list of texts behind the rows' numbers, and a trace a list of records. No
+state may run out between its last packet and a flush: then the list of states is what the firewall holds.
 """
 
 import ipaddress
@@ -33,7 +34,8 @@ class Packet:
 
 @dataclass
 class State:
-    """A state that is held: the two ends by the direction of the packet that made it, its rule, and the source it counts for."""
+    """A state that is held: the two ends by the direction of the packet that made it, its rule, and the source it
+    counts for."""
 
     protocol: str
     inner: End
@@ -66,7 +68,8 @@ class Reading:
     last: int = 0
 
     def read(self, records: list[str], texts: list[str]) -> list[tuple[tuple[str, ...], int, str]]:
-        """Each connection of a user: protocol and ends with who began it first, the row of its first packet, and its fate."""
+        """Each connection of a user: protocol and ends with who began it first, the row of its first packet, and its
+        fate."""
         for row, (record, text) in enumerate(zip(records, texts, strict=True), 1):
             packet = packet_of(row, record, text)
             self.last = packet.moment
@@ -76,7 +79,9 @@ class Reading:
         for it in self.connections:
             first = it.packets[0]
             if it.is_counted:
-                found.append(((first.protocol, *first.source, *first.target), first.row, it.fate or self.fate_at_end(it)))
+                found.append(
+                    ((first.protocol, *first.source, *first.target), first.row, it.fate or self.fate_at_end(it))
+                )
         return sorted(found)
 
     def is_user(self, end: End) -> bool:
@@ -85,7 +90,11 @@ class Reading:
 
     def latest(self, packet: Packet) -> Connection | None:
         """The latest connection between the ends of a packet."""
-        same = [it for it in self.connections if it.packets[0].protocol == packet.protocol and it.ends() == {packet.source, packet.target}]
+        same = [
+            it
+            for it in self.connections
+            if it.packets[0].protocol == packet.protocol and it.ends() == {packet.source, packet.target}
+        ]
         return same[-1] if same else None
 
     def take(self, packet: Packet) -> None:
@@ -119,13 +128,19 @@ class Reading:
         inner, outer = (packet.source, packet.target) if packet.place[0] == "in" else (packet.target, packet.source)
         mine = [it for it in self.states if (it.protocol, it.inner, it.outer) == (packet.protocol, inner, outer)]
         if packet.word == "new":
-            self.states = [it for it in self.states if it not in mine] + [State(packet.protocol, inner, outer, packet.rule, packet.source[0])]
+            self.states = [it for it in self.states if it not in mine] + [
+                State(packet.protocol, inner, outer, packet.rule, packet.source[0])
+            ]
         if not packet.word.startswith("kill:"):
             return
         flush = self.flushes.get(packet.rule, "")
         gone = list(mine)
         if flush:
-            gone += [it for it in self.states if it not in mine and it.source == packet.source[0] and (flush == "global" or it.rule == packet.rule)]
+            gone += [
+                it
+                for it in self.states
+                if it not in mine and it.source == packet.source[0] and (flush == "global" or it.rule == packet.rule)
+            ]
         assert len(gone) == packet.killed, (packet, gone)
         self.states = [it for it in self.states if it not in gone]
         for connection in self.connections:
@@ -139,13 +154,19 @@ def packet_of(row: int, record: str, text: str) -> Packet:
     """A record and its answer, taken apart."""
     column = record.split(",")
     word, rule, *more = text.split(" ")
-    ends = [("" if not address else str(ipaddress.ip_address(address)), port) for address, port in (column[4:6], column[6:8])]
+    ends = [
+        ("" if not address else str(ipaddress.ip_address(address)), port)
+        for address, port in (column[4:6], column[6:8])
+    ]
     killed = int(more[1].removeprefix("killed=")) if word.startswith("kill:") else 0
-    return Packet(row, int(column[0]), (column[1], column[2]), column[3], ends[0], ends[1], column[8], word, rule, killed)
+    return Packet(
+        row, int(column[0]), (column[1], column[2]), column[3], ends[0], ends[1], column[8], word, rule, killed
+    )
 
 
 def is_refused(packets: list[Packet]) -> bool:
-    """Whether the connection is refused so far: the last of its opening packets at some place was, and no other went through there before.
+    """Whether the connection is refused so far: the last of its opening packets at some place was, and no other went
+    through there before.
 
     What comes of the opening packets alone is asked, and no more of them once an answer has come through.
     """
@@ -171,15 +192,24 @@ def greets(packet: Packet, first: Packet) -> bool:
 
 
 def is_answered(packets: list[Packet]) -> bool:
-    """Whether the handshake went through: an answer, and then a packet of who began that opens nothing. What comes while it is refused is none of it."""
+    """Whether the handshake went through: an answer, and then a packet of who began that opens nothing. What comes
+    while it is refused is none of it."""
     first = packets[0]
     packets = [it for at, it in enumerate(packets) if not is_refused(packets[: at + 1])]
-    after = [it for at, it in enumerate(packets) if any(greets(other, first) and other.word not in BLOCKED for other in packets[:at])]
-    return any(it.source == first.source and it.word not in BLOCKED and not (it.protocol == "tcp" and it.opens()) for it in after)
+    after = [
+        it
+        for at, it in enumerate(packets)
+        if any(greets(other, first) and other.word not in BLOCKED for other in packets[:at])
+    ]
+    return any(
+        it.source == first.source and it.word not in BLOCKED and not (it.protocol == "tcp" and it.opens())
+        for it in after
+    )
 
 
 def fate_after(packets: list[Packet]) -> str:
-    """The fate that the last packet seals, or nothing. `packets` are those up to it, and none before it has sealed one."""
+    """The fate that the last packet seals, or nothing. `packets` are those up to it, and none before it has sealed
+    one."""
     last = packets[-1]
     if is_refused(packets[:-1]) or is_refused(packets):
         return ""

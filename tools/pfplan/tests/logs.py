@@ -5,12 +5,12 @@ import re
 from collections.abc import Sequence
 from pathlib import Path
 
-from ..numbering import PfRule
-from ..pf_answers import LIMITS
-from ..records import Answer, Record, read_answer, records
-from ..replays import Replay, run_replay
-from ..rulesets import RuleOptions, convert
-from .packets import NONE, Logged
+from pfplan.pf.conversion import RuleOptions, convert
+from pfplan.pf.numbers_of_pf import PfRule
+from pfplan.replays.runs import Replay, run_replay
+from pfplan.tests.packets import NONE, Logged
+from pfplan.traces.pf_answers import LIMITS
+from pfplan.traces.records import Answer, Record, read_answer, records
 
 # OpenBSD's PFRES_NAMES (sys/net/pfvar.h).
 REASONS = (

@@ -6,7 +6,7 @@ from collections.abc import Iterable
 from dataclasses import dataclass
 from functools import lru_cache
 
-from ..records import Record
+from pfplan.traces.records import Record
 
 ETHERNET, PFLOG = 1, 117
 NONE = 0xFFFFFFFF

@@ -1,14 +1,14 @@
 """What a drawn ruleset means, read from the values that were drawn and not from any expansion.
 
-A rule matches where any of its combinations does: one item of each list, of one family. Items that a trace can't answer match nothing,
-and rules with a part that it can't answer are not there.
+A rule matches where any of its combinations does: one item of each list, of one family. Items that a trace can't answer
+match nothing, and rules with a part that it can't answer are not there.
 """
 
 import ipaddress
 from dataclasses import dataclass, field
 
-from . import drawing
-from .drawing import FAMILIES, Anchor, Filter, Host, Packet, Ports, Rule, Ruleset
+from pfplan.tests import drawing
+from pfplan.tests.drawing import FAMILIES, Anchor, Filter, Host, Packet, Ports, Rule, Ruleset
 
 
 @dataclass
@@ -19,11 +19,14 @@ class Reading:
     keys: set[tuple[object, ...]] = field(default_factory=set)
 
     def answer(self, packet: Packet) -> tuple[str, int]:
-        """The word of the report, and the line of the rule that decided; 0 where none did, or where a state was there."""
+        """The word of the report, and the line of the rule that decided; 0 where none did, or where a state was
+        there."""
         key = key_of(packet)
         if key in self.keys:
             return "state", 0
-        if any(packet.interface in ("lo0",) if it == "lo" else is_on(it, False, packet, False) for it in self.drawn.skipped):
+        if any(
+            packet.interface in ("lo0",) if it == "lo" else is_on(it, False, packet, False) for it in self.drawn.skipped
+        ):
             return "pass", self.drawn.skip_line
         decided, _, _ = self._walk(self.drawn.items, packet, None)
         if decided is None:
@@ -64,11 +67,16 @@ class Reading:
         """Whether any combination matches; `counts` where none may stand for several rules."""
         return (
             asked.direction in ("", packet.direction)
-            and (not asked.interfaces or any(is_on(name, negated, packet, counts) for name, negated in asked.interfaces))
+            and (
+                not asked.interfaces or any(is_on(name, negated, packet, counts) for name, negated in asked.interfaces)
+            )
             and (not asked.protocols or packet.protocol in asked.protocols)
             and has_flags(asked.flags or "any", packet)
             and (not asked.source_ports or any(has_port(it, packet.source_port, counts) for it in asked.source_ports))
-            and (not asked.destination_ports or any(has_port(it, packet.destination_port, counts) for it in asked.destination_ports))
+            and (
+                not asked.destination_ports
+                or any(has_port(it, packet.destination_port, counts) for it in asked.destination_ports)
+            )
             and self._matches_hosts(asked, packet)
         )
 
@@ -78,7 +86,8 @@ class Reading:
             return False
         any_host = [Host("any")]
         return any(
-            self.holds(source, packet.source, asked.family) and self.holds(destination, packet.destination, asked.family)
+            self.holds(source, packet.source, asked.family)
+            and self.holds(destination, packet.destination, asked.family)
             for source in asked.source or any_host
             for destination in asked.destination or any_host
         )
@@ -95,17 +104,27 @@ class Reading:
         if host.kind == "static":
             return any(_in_prefix(it, address, host.negated) for it in drawing.NAMES[host.value])
         if host.kind == "dynamic":
-            there = [it for it in drawing.NAMES[host.value] if not family or FAMILIES[ipaddress.ip_network(it).version] == family]
+            there = [
+                it
+                for it in drawing.NAMES[host.value]
+                if not family or FAMILIES[ipaddress.ip_network(it).version] == family
+            ]
             return bool(there) and any(_in_prefix(it, address, False) for it in there) != host.negated
         if host.kind == "range":
             if address.version == 6:
                 return False
-            return (int(ipaddress.ip_address(host.value)) <= int(address) <= int(ipaddress.ip_address(host.last))) != host.negated
+            return (
+                int(ipaddress.ip_address(host.value)) <= int(address) <= int(ipaddress.ip_address(host.last))
+            ) != host.negated
         return _in_prefix(host.value, address, host.negated)
 
     def _in_table(self, name: str, address: "ipaddress.IPv4Address | ipaddress.IPv6Address") -> bool:
         covering = [(ipaddress.ip_network(it), negated) for it, negated in self.drawn.tables.get(name, [])]
-        covering = [(network, negated) for network, negated in covering if address.version == network.version and address in network]
+        covering = [
+            (network, negated)
+            for network, negated in covering
+            if address.version == network.version and address in network
+        ]
         return bool(covering) and not max(covering, key=lambda it: it[0].prefixlen)[1]
 
 
@@ -118,7 +137,13 @@ def is_on(name: str, negated: bool, packet: Packet, counts: bool) -> bool:
     """Whether a packet is on an interface or one of a group; a group of several can't count as one rule."""
     members = drawing.GROUPS.get(name, (name,))
     rest = [it for it in drawing.INTERFACES if it not in members]
-    if name != "any" and counts and name in drawing.GROUPS and len(members if not negated else rest) > 1 and len(members) > 1:
+    if (
+        name != "any"
+        and counts
+        and name in drawing.GROUPS
+        and len(members if not negated else rest) > 1
+        and len(members) > 1
+    ):
         return False
     return (packet.interface in members) != negated
 

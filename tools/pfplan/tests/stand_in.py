@@ -1,9 +1,10 @@
 #!/usr/bin/env python3
 """A stand-in for pfsrc in tests of what is around it: a machine of one limit, that knows no timeouts.
 
-It reads rules texts of `set limit states N`, `set timeout` lines and rules with options, and makes a state for each first SYN of a connection
-while fewer than N are held (`max N` of a rule is a lower limit); a FIN ends one. Entries that come to tables are counted, and it says how much is
-held. A trace may come from standard input. Its `show` prints a text of the form of pfsrc's.
+It reads rules texts of `set limit states N`, `set timeout` lines and rules with options, and makes a state for each
+first SYN of a connection while fewer than N are held (`max N` of a rule is a lower limit); a FIN ends one. Entries that
+come to tables are counted, and it says how much is held. A trace may come from standard input. Its `show` prints a text
+of the form of pfsrc's.
 """
 
 import re
@@ -12,9 +13,9 @@ import time
 
 LIMITS = {"states": 100000, "src-nodes": 10000, "tables": 1000, "table-entries": 200000}
 TIMEOUTS = {
-    "tcp.first": 120, "tcp.opening": 30, "tcp.established": 86400, "tcp.closing": 900, "tcp.finwait": 45, "tcp.closed": 90,
-    "udp.first": 60, "udp.single": 30, "udp.multiple": 60, "other.first": 60, "other.single": 30, "other.multiple": 60,
-    "src.track": 0, "interval": 10,
+    "tcp.first": 120, "tcp.opening": 30, "tcp.established": 86400, "tcp.closing": 900, "tcp.finwait": 45,
+    "tcp.closed": 90, "udp.first": 60, "udp.single": 30, "udp.multiple": 60, "other.first": 60, "other.single": 30,
+    "other.multiple": 60, "src.track": 0, "interval": 10,
 }  # fmt: skip
 
 
@@ -45,7 +46,11 @@ def show(path: str) -> None:
     """Prints the rules as pfsrc does."""
     limits, times, items = read_rules(path)
     start, end = limits["states"] * 6 // 10, limits["states"] * 12 // 10
-    resolved = {**times, "adaptive.start": times.get("adaptive.start", start), "adaptive.end": times.get("adaptive.end", end)}
+    resolved = {
+        **times,
+        "adaptive.start": times.get("adaptive.start", start),
+        "adaptive.end": times.get("adaptive.end", end),
+    }
     print(f"set limit {{ {', '.join(f'{name} {value}' for name, value in limits.items())} }}")
     print(f"set timeout {{ {', '.join(f'{name} {value}' for name, value in resolved.items())} }}")
     for item in items:

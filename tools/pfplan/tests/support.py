@@ -10,8 +10,8 @@ from collections.abc import Iterable, Mapping
 from dataclasses import dataclass
 from pathlib import Path
 
-from ..inputs import HEADER
-from ..replays import TOP
+from pfplan.common.inputs import HEADER
+from pfplan.common.repository import TOP
 
 STAND_IN = Path(__file__).resolve().parent / "stand_in.py"
 
@@ -34,7 +34,17 @@ def pfplan(*words: object, stdin: str = "", cwd: Path | None = None, env: Mappin
     """Calls ./pfplan with some words."""
     given = [sys.executable, str(TOP / "pfplan"), *map(str, words)]
     around = os.environ | dict(env or {})
-    ended = subprocess.run(given, input=stdin, capture_output=True, text=True, cwd=cwd, env=around, check=False, timeout=120, errors="surrogateescape")
+    ended = subprocess.run(
+        given,
+        input=stdin,
+        capture_output=True,
+        text=True,
+        cwd=cwd,
+        env=around,
+        check=False,
+        timeout=120,
+        errors="surrogateescape",
+    )
     return Done(ended.returncode, ended.stdout, ended.stderr)
 
 

@@ -8,17 +8,18 @@ import time
 import unittest
 from pathlib import Path
 
-from ..errors import Status
-from ..inputs import HEADER
-from ..replays import TOP
-from .support import STAND_IN, FolderCase, heed_interrupts, pfplan
+from pfplan.common.errors import Status
+from pfplan.common.inputs import HEADER
+from pfplan.common.repository import TOP
+from pfplan.tests.support import STAND_IN, FolderCase, heed_interrupts, pfplan
 
 RECORD = "0,in,em0,udp,203.0.113.1,1000,192.0.2.1,53,"
 STATUSES = {int(it) for it in Status}
 
 
 class BadInput(FolderCase):
-    """Each command over each kind of file that it can't use. The program is a stand-in, so that nothing has to be built."""
+    """Each command over each kind of file that it can't use. The program is a stand-in, so that nothing has to be
+    built."""
 
     def setUp(self) -> None:
         super().setUp()
@@ -51,12 +52,15 @@ class BadInput(FolderCase):
         rules, trace, report = self.rules, self.good, self.answers
         if place == "rules":
             return [
-                ("compare", path, rules, trace), ("size", path, trace, "--vary", "states=1..5", "--users", "10.0.0.0/8"), ("margins", path, trace),
-                ("summary", report, "--rules", path), ("run", path, trace, "--into", self.out), ("rules", path, "--out", self.out),
+                ("compare", path, rules, trace),
+                ("size", path, trace, "--vary", "states=1..5", "--users", "10.0.0.0/8"), ("margins", path, trace),
+                ("summary", report, "--rules", path), ("run", path, trace, "--into", self.out),
+                ("rules", path, "--out", self.out),
             ]  # fmt: skip
         if place == "trace":
             return [
-                ("compare", rules, rules, path), ("size", rules, path, "--vary", "states=1..5", "--users", "10.0.0.0/8"), ("margins", rules, path),
+                ("compare", rules, rules, path),
+                ("size", rules, path, "--vary", "states=1..5", "--users", "10.0.0.0/8"), ("margins", rules, path),
                 ("summary", report, "--trace", path),
             ]  # fmt: skip
         if place == "report":
@@ -110,7 +114,11 @@ class BadInput(FolderCase):
             self.assertIn(str(path), self.told("summary", path, "--out", self.out)[1])
 
     def test_no_program(self) -> None:
-        for words in (("run", self.rules, self.good, "--into", self.out), ("summary", self.answers, "--rules", self.rules), ("compare", self.rules, self.rules, self.good)):
+        for words in (
+            ("run", self.rules, self.good, "--into", self.out),
+            ("summary", self.answers, "--rules", self.rules),
+            ("compare", self.rules, self.rules, self.good),
+        ):
             status, line = self.told(*words, env={"PFSRC": str(self.folder / "pfsrc")})
             self.assertEqual(status, Status.NOT_BUILT)
             self.assertIn("pfsrc: can't be run: No such file or directory", line)
@@ -125,34 +133,56 @@ class BadInput(FolderCase):
         self.assertNotIn("out", self.left())
 
     def test_another_program(self) -> None:
-        self.assertIn("is not pfsrc", self.told("run", self.rules, self.good, "--into", self.out, env={"PFSRC": "/bin/false"})[1])
+        self.assertIn(
+            "is not pfsrc", self.told("run", self.rules, self.good, "--into", self.out, env={"PFSRC": "/bin/false"})[1]
+        )
 
     def test_a_record_that_the_program_refuses(self) -> None:
         script = self.folder / "pfsrc"
-        script.write_text("#!/bin/sh\ntest \"$1\" = replay || exit 0\necho '1 new @0'\necho 'trace: row 2: field 6' >&2\nexit 1\n", encoding="utf-8")
+        script.write_text(
+            "#!/bin/sh\ntest \"$1\" = replay || exit 0\necho '1 new @0'\necho 'trace: row 2: field 6' >&2\nexit 1\n",
+            encoding="utf-8",
+        )
         script.chmod(0o755)
         done = pfplan("run", self.rules, self.good, "--into", self.out, env={"PFSRC": str(script)})
         self.assertEqual((done.status, done.err), (Status.REFUSED, f"pfplan run: {self.good}: row 2: field 6\n"))
         self.assertNotIn("out", self.left())
 
     def test_a_folder_that_is_a_file(self) -> None:
-        self.assertIn("a file, where a folder is wanted", self.told("run", self.rules, self.good, "--into", self.text)[1])
+        self.assertIn(
+            "a file, where a folder is wanted", self.told("run", self.rules, self.good, "--into", self.text)[1]
+        )
         self.assertIn("a folder, where a file is to be written", self.told("scenario", "--out", self.folder)[1])
-        self.assertIn("can't be written: No such file or directory", self.told("scenario", "--out", self.folder / "no" / "where")[1])
+        self.assertIn(
+            "can't be written: No such file or directory",
+            self.told("scenario", "--out", self.folder / "no" / "where")[1],
+        )
 
     def test_a_full_disk(self) -> None:
         for words in (("scenario",), ("summary", self.answers), ("rules", self.rules)):
             status, line = self.told(*words, "--out", "/dev/full")
             self.assertEqual((status, line), (Status.FAILED, "/dev/full: can't be written: No space left on device"))
             with open("/dev/full", "wb") as full:
-                ended = subprocess.run([sys.executable, str(TOP / "pfplan"), *map(str, words)], stdout=full, stderr=subprocess.PIPE, text=True, check=False)
+                ended = subprocess.run(
+                    [sys.executable, str(TOP / "pfplan"), *map(str, words)],
+                    stdout=full,
+                    stderr=subprocess.PIPE,
+                    text=True,
+                    check=False,
+                )
             self.assertEqual(ended.returncode, Status.FAILED)
             self.assertIn("standard output: can't be written: No space left on device\n", ended.stderr)
 
     def test_a_file_that_grows_too_large(self) -> None:
-        script = f"ulimit -f 100; trap '' XFSZ; exec '{sys.executable}' '{TOP / 'pfplan'}' trace '{self.flood}' --out '{self.out}'"
+        script = (
+            f"ulimit -f 100; trap '' XFSZ; exec '{sys.executable}' '{TOP / 'pfplan'}' trace '{self.flood}' --out "
+            f"'{self.out}'"
+        )
         ended = subprocess.run(["sh", "-c", script], capture_output=True, text=True, check=False)
-        self.assertEqual((ended.returncode, ended.stderr), (Status.FAILED, f"pfplan trace: {self.out}: can't be written: File too large\n"))
+        self.assertEqual(
+            (ended.returncode, ended.stderr),
+            (Status.FAILED, f"pfplan trace: {self.out}: can't be written: File too large\n"),
+        )
         self.assertNotIn("out", self.left())
 
     def test_what_stood_there_stays(self) -> None:
@@ -164,11 +194,16 @@ class BadInput(FolderCase):
         script = f"'{sys.executable}' '{TOP / 'pfplan'}' trace '{self.flood}' 2>'{self.folder / 'err'}' | head -n 1"
         ended = subprocess.run(["sh", "-c", script], capture_output=True, text=True, check=False)
         self.assertEqual(ended.stdout, f"{HEADER}\n")
-        self.assertEqual((self.folder / "err").read_text("utf-8"), "pfplan trace: standard output: can't be written: Broken pipe\n")
+        self.assertEqual(
+            (self.folder / "err").read_text("utf-8"), "pfplan trace: standard output: can't be written: Broken pipe\n"
+        )
 
     def test_an_interrupt(self) -> None:
         slow = self.folder / "pfsrc"
-        begun = "test \"$1\" = replay || exec '%s' \"$@\"\n: > '%s'\necho '1 new @0'\nexec sleep 60\n" % (STAND_IN, self.folder / "begun")
+        begun = "test \"$1\" = replay || exec '%s' \"$@\"\n: > '%s'\necho '1 new @0'\nexec sleep 60\n" % (
+            STAND_IN,
+            self.folder / "begun",
+        )
         slow.write_text(f"#!/bin/sh\n{begun}", encoding="utf-8")
         slow.chmod(0o755)
         calls = (
@@ -187,7 +222,9 @@ class BadInput(FolderCase):
         around = os.environ | {"PFSRC": str(program)}
         begun = self.folder / "begun"
         begun.unlink(missing_ok=True)
-        process = subprocess.Popen(given, stderr=subprocess.PIPE, stdout=subprocess.PIPE, text=True, env=around, preexec_fn=heed_interrupts)
+        process = subprocess.Popen(
+            given, stderr=subprocess.PIPE, stdout=subprocess.PIPE, text=True, env=around, preexec_fn=heed_interrupts
+        )
         until = time.monotonic() + 60
         while not begun.exists() and time.monotonic() < until:
             time.sleep(0.05)
@@ -196,7 +233,10 @@ class BadInput(FolderCase):
         self.assertEqual((process.returncode, out, err), (Status.INTERRUPTED, "", f"pfplan {words[0]}: interrupted\n"))
         self.assertNotIn("out", self.left())
         into = self.folder / "into"
-        self.assertEqual([it for it in (sorted(os.listdir(into)) if into.exists() else []) if it not in ("rules", "left-out.txt")], [])
+        self.assertEqual(
+            [it for it in (sorted(os.listdir(into)) if into.exists() else []) if it not in ("rules", "left-out.txt")],
+            [],
+        )
 
 
 if __name__ == "__main__":

@@ -1,12 +1,13 @@
-"""Texts that stand for more than any ruleset does end soon and by name; files that a text names stay where they belong; names are shown escaped."""
+"""Texts that stand for more than any ruleset does end soon and by name; files that a text names stay where they belong;
+names are shown escaped."""
 
 import time
 import unittest
 
-from ..errors import Status, Trouble
-from ..lexer import Budget
-from ..rulesets import RuleOptions, convert, convert_text
-from .support import STAND_IN, FolderCase, pfplan
+from pfplan.common.errors import Status, Trouble
+from pfplan.pf.conversion import RuleOptions, convert, convert_text
+from pfplan.pf.lexer import Budget
+from pfplan.tests.support import STAND_IN, FolderCase, pfplan
 
 
 class Bounds(FolderCase):
@@ -23,25 +24,37 @@ class Bounds(FolderCase):
 
     def test_macros(self) -> None:
         text = f'm = "{" 10.0.0.1" * 12000}"\n' + "block in from { $m }\n" * 400
-        self.assertEqual(self.refused(text), "pf.conf: line 20: the text stands for more than 2,000,000 characters by its macros")
+        self.assertEqual(
+            self.refused(text), "pf.conf: line 20: the text stands for more than 2,000,000 characters by its macros"
+        )
 
     def test_words(self) -> None:
-        self.assertEqual(self.refused("set debug" + " a" * 1_000_001 + "\n"), "pf.conf: line 1: the text stands for more than 1,000,000 words")
+        self.assertEqual(
+            self.refused("set debug" + " a" * 1_000_001 + "\n"),
+            "pf.conf: line 1: the text stands for more than 1,000,000 words",
+        )
 
     def test_files(self) -> None:
         for number in range(8):
             self.write(f"{number}.conf", f'include "{number + 1}.conf"\n' * 8 if number < 7 else "pass\n")
-        self.assertRegex(self.refused('include "0.conf"\n'), r"\d\.conf: line \d: the text stands for more than 500 files that it includes")
+        self.assertRegex(
+            self.refused('include "0.conf"\n'),
+            r"\d\.conf: line \d: the text stands for more than 500 files that it includes",
+        )
 
     def test_lists(self) -> None:
         ports = " ".join(map(str, range(1, 251)))
         text = f"pass in on ! egress proto tcp from any port {{ {ports} }} to any port {{ {ports} }}\n" * 9
-        self.assertEqual(self.refused(text), "pf.conf: line 9: the text stands for more than 500,000 rules by its lists")
+        self.assertEqual(
+            self.refused(text), "pf.conf: line 9: the text stands for more than 500,000 rules by its lists"
+        )
 
     def test_nine_thousand_ranges(self) -> None:
         ranges = " ".join(f"{it}:{it + 1}" for it in range(1, 36001, 4))
         began = time.process_time()
-        self.assertEqual(len(convert_text(f"pass in proto tcp to port {{ {ranges} }}\n", "x", RuleOptions()).origins), 9000)
+        self.assertEqual(
+            len(convert_text(f"pass in proto tcp to port {{ {ranges} }}\n", "x", RuleOptions()).origins), 9000
+        )
         self.assertLess(time.process_time() - began, 5)
 
     def test_a_budget_is_of_one_call(self) -> None:
@@ -67,7 +80,11 @@ class NamedFiles(FolderCase):
         (self.folder / "root" / "etc" / "link").symlink_to(self.secret)
         root = ("--root", self.folder / "root")
         for name in ("../../secret", "/../secret", "/etc/link", "link"):
-            for text in (f'include "{name}"\npass\n', f'table <t> file "{name}"\npass\n', f'anchor x\nload anchor x from "{name}"\n'):
+            for text in (
+                f'include "{name}"\npass\n',
+                f'table <t> file "{name}"\npass\n',
+                f'anchor x\nload anchor x from "{name}"\n',
+            ):
                 status, err = self.told(text, *root)
                 self.assertEqual(status, Status.RULES, (text, err))
                 self.assertIn(f"'{name}' leads out of --root", err)
@@ -93,7 +110,9 @@ class NamedFiles(FolderCase):
         status, err = self.told("table <t>\nblock from <t>\n", "--entries", f"t={self.write('words', words)}")
         self.assertEqual((status, err.count("\n")), (Status.RULES, 1))
         self.assertIn("none of its 500 words is an address", err)
-        status, err = self.told("table <t>\nblock from <t>\n", "--entries", f"t={self.write('words', '10.0.0.1 ' + words)}")
+        status, err = self.told(
+            "table <t>\nblock from <t>\n", "--entries", f"t={self.write('words', '10.0.0.1 ' + words)}"
+        )
         self.assertEqual((status, err.count("it is no address"), err.count("490 entries of <t>")), (0, 10, 1))
 
     def test_many_labels_are_one_line(self) -> None:
@@ -109,7 +128,14 @@ class Names(FolderCase):
         name = "a\x1b[31mb\n"
         trace = self.trace(["0,in,em0,udp,203.0.113.1,1000,192.0.2.1,53,"])
         conf = self.write(name, "pass received-on em1\nfrob\n")
-        for words in (("rules", conf), ("rules", self.folder / f"no{name}"), ("summary", conf), ("compare", conf, conf, trace), ("trace", conf), ("run", conf, trace, "--into", self.folder / "x")):
+        for words in (
+            ("rules", conf),
+            ("rules", self.folder / f"no{name}"),
+            ("summary", conf),
+            ("compare", conf, conf, trace),
+            ("trace", conf),
+            ("run", conf, trace, "--into", self.folder / "x"),
+        ):
             done = pfplan(*words, env={"PFSRC": str(STAND_IN)})
             self.assertNotEqual(done.status, 0, words)
             self.assertEqual(done.err.count("\n"), 1, (words, done.err))
@@ -123,8 +149,9 @@ class Names(FolderCase):
         empty, trace = self.write("empty", ""), self.trace(["0,in,em0,udp,203.0.113.1,1000,192.0.2.1,53,"])
         report, users = self.report(["new @0"]), ("--users", "203.0.113.0/24")
         for words in (
-            ("rules", empty), ("run", empty, trace, "--into", self.folder / "x"), ("compare", empty, empty, trace), ("margins", empty, trace),
-            ("size", empty, trace, "--vary", "states=1..5", *users), ("summary", report, "--rules", empty),
+            ("rules", empty), ("run", empty, trace, "--into", self.folder / "x"), ("compare", empty, empty, trace),
+            ("margins", empty, trace), ("size", empty, trace, "--vary", "states=1..5", *users),
+            ("summary", report, "--rules", empty),
         ):  # fmt: skip
             done = pfplan(*words, env={"PFSRC": str(STAND_IN)})
             wanted = f"pfplan {words[0]}: {empty}: an empty file, where rules are wanted\n"

@@ -5,9 +5,9 @@ import subprocess
 import unittest
 from pathlib import Path
 
-from ..replays import TOP, program
-from ..words import COMMANDS
-from .support import FolderCase, pfplan
+from pfplan.commands.parser import COMMANDS
+from pfplan.common.repository import TOP, program
+from pfplan.tests.support import FolderCase, pfplan
 
 CASES = TOP / "cases" / "pfplan"
 
@@ -16,7 +16,7 @@ class Commands(FolderCase):
     def test_every_command_helps(self) -> None:
         whole = pfplan("--help")
         self.assertEqual((whole.status, whole.err), (0, ""))
-        for name, _, _ in COMMANDS:
+        for name, _ in COMMANDS:
             done = pfplan(name, "--help")
             self.assertEqual((done.status, done.err), (0, ""))
             self.assertTrue(done.out.startswith(f"usage: pfplan {name} "), done.out[:80])
@@ -24,7 +24,10 @@ class Commands(FolderCase):
     def test_slips(self) -> None:
         for words, line in (
             (("sumary",), "pfplan: 'sumary': no such command; is summary meant?"),
-            (("summary", "report", "--trase", "x"), "pfplan summary: '--trase': no such word; is --trace meant? (pfplan summary --help)"),
+            (
+                ("summary", "report", "--trase", "x"),
+                "pfplan summary: '--trase': no such word; is --trace meant? (pfplan summary --help)",
+            ),
             (("summary",), "pfplan summary: the following arguments are required: REPORT"),
         ):
             done = pfplan(*words)
@@ -47,17 +50,29 @@ class Commands(FolderCase):
                 self.assertEqual((checked.stdout.strip(), checked.stderr), (told, ""))
 
     def test_run(self) -> None:
-        conf = self.write("pf.conf", 'web = "192.0.2.1"\nblock all\npass in proto { tcp udp } to $web port { 80 443 } label "w" keep state (max 40)\npass in all received-on em1\n')
+        conf = self.write(
+            "pf.conf",
+            'web = "192.0.2.1"\nblock all\npass in proto { tcp udp } to $web port { 80 443 } label "w" keep state '
+            "(max 40)\npass in all received-on em1\n",
+        )
         homes = '[group.homes]\nkind = "visits"\nfrom = "198.51.100.0/24"\nhosts = 10\n'
         flood = '[group.flood]\nkind = "syn"\nfrom = "203.0.113.0/24"\nrate = 20\n'
         trace = self.folder / "trace"
-        pfplan("trace", self.write("scenario.toml", f'seconds = 30\nserver = "192.0.2.1:80"\n{homes}{flood}'), "--out", trace)
+        pfplan(
+            "trace",
+            self.write("scenario.toml", f'seconds = 30\nserver = "192.0.2.1:80"\n{homes}{flood}'),
+            "--out",
+            trace,
+        )
         into = self.folder / "a folder"
         done = pfplan("run", conf, trace, "--into", into, "--users", "198.51.100.0/24", "--held", 3)
         self.assertEqual((done.status, done.err), (0, ""))
         lines = done.out.splitlines()
         self.assertRegex(lines[0], r"^[0-9.]+ % of the users' connections were served: \d+ of 10$")
-        self.assertEqual(lines[1:], [f"left out of {conf}: 1 that can change this answer ({into / 'left-out.txt'})", str(into / "report.html")])
+        self.assertEqual(
+            lines[1:],
+            [f"left out of {conf}: 1 that can change this answer ({into / 'left-out.txt'})", str(into / "report.html")],
+        )
         made = {it.name for it in into.iterdir()}
         self.assertLessEqual({"rules", "left-out.txt", "report", "summary.txt", "summary.json", "report.html"}, made)
         told = json.loads((into / "summary.json").read_text("utf-8"))
@@ -69,7 +84,9 @@ class Commands(FolderCase):
 
     def test_the_names_are_arguments_and_not_shell_text(self) -> None:
         name = "$(touch here) 'a\"b"
-        conf, trace = self.write(f"{name}.conf", "pass all\n"), self.trace(["0,in,em0,udp,203.0.113.1,1,192.0.2.1,53,"], f"{name}.csv")
+        conf, trace = self.write(f"{name}.conf", "pass all\n"), self.trace(
+            ["0,in,em0,udp,203.0.113.1,1,192.0.2.1,53,"], f"{name}.csv"
+        )
         done = pfplan("run", conf, trace, "--into", self.folder / name, cwd=self.folder)
         self.assertEqual(done.status, 0, done.err)
         self.assertFalse((self.folder / "here").exists())

@@ -1,7 +1,7 @@
 """Each construct of pf.conf(5): what becomes of it. The cases are in constructs.txt, and docs/PFCONF.md names them.
 
-A case is `=== NAME WORDS`, a text, what `pfplan rules WORDS` writes behind `--- rules`, and what it says behind `--- told`. Files that
-the texts name are in the folder constructs/.
+A case is `=== NAME WORDS`, a text, what `pfplan rules WORDS` writes behind `--- rules`, and what it says behind `---
+told`. Files that the texts name are in the folder constructs/.
 """
 
 import contextlib
@@ -15,7 +15,7 @@ from dataclasses import dataclass
 from pathlib import Path
 
 from pfplan.__main__ import main
-from pfplan.replays import TOP, program
+from pfplan.common.repository import TOP, program
 
 HERE = Path(__file__).resolve().parent
 TEXTS = HERE / "constructs"
@@ -45,7 +45,8 @@ def cases() -> list[Case]:
 
 
 def answer(name: str, words: tuple[str, ...], text: str) -> tuple[int, str, str]:
-    """Status, standard output and standard error of `pfplan rules` on a file of that name, in the folder of the texts."""
+    """Status, standard output and standard error of `pfplan rules` on a file of that name, in the folder of the
+    texts."""
     with tempfile.TemporaryDirectory() as folder, contextlib.chdir(folder):
         for it in TEXTS.iterdir():
             os.symlink(it, it.name)
@@ -80,14 +81,21 @@ class Constructs(unittest.TestCase):
                 self.assertEqual((ended.returncode, ended.stderr), (0, ""))
 
     def test_again(self) -> None:
-        """Expanding what was expanded changes nothing, and leaves nothing out. Of a text with entries by records test_entries says so."""
+        """Expanding what was expanded changes nothing, and leaves nothing out. Of a text with entries by records
+        test_entries says so."""
         for case in cases():
-            if not case.rules.removeprefix("# no rule and no setting is left\n") or case.name in ("on_group_unknown", "set_skip_groups") or case.rules.startswith("# entries:"):
+            if (
+                not case.rules.removeprefix("# no rule and no setting is left\n")
+                or case.name in ("on_group_unknown", "set_skip_groups")
+                or case.rules.startswith("# entries:")
+            ):
                 continue
             with self.subTest(case.name):
                 _, rules, told = answer("again", (), case.rules)
                 self.assertEqual(rules, case.rules)
-                self.assertRegex(told, r"^again: \d+ items?; left out: 0 that can change an answer, 0 that change none\n$")
+                self.assertRegex(
+                    told, r"^again: \d+ items?; left out: 0 that can change an answer, 0 that change none\n$"
+                )
 
     def test_documented(self) -> None:
         """docs/PFCONF.md names every case, and no other."""

@@ -14,12 +14,12 @@ import tempfile
 import unittest
 from pathlib import Path
 
-from pfplan.replays import program
-from pfplan.rulesets import RuleOptions, Ruleset, convert_text
-
-from .drawing import IFCONFIG, Anchor, Drawer, Packet, Rule, Writer
-from .drawing import Ruleset as Drawn
-from .reading import Reading
+from pfplan.common.repository import program
+from pfplan.pf.conversion import RuleOptions, Ruleset, convert_text
+from pfplan.tests.drawing import IFCONFIG, Anchor, Drawer, Packet, Rule
+from pfplan.tests.drawing import Ruleset as Drawn
+from pfplan.tests.drawing import Writer
+from pfplan.tests.reading import Reading
 
 PACKETS = 40
 HEADER = "time,dir,if,proto,src,sport,dst,dport,flags"
@@ -86,7 +86,9 @@ class DrawnRulesets(unittest.TestCase):
         alone = "".join(f"{it}\n" for it in [*tables, *mine])
         for packet, (word, number) in zip(packets, self.replay(alone, packets), strict=True):
             if word != "state":
-                self.assertEqual(number is not None, reading.matches_rule(rule, packet), f"{packet}\n{drawn.text}\n{alone}")
+                self.assertEqual(
+                    number is not None, reading.matches_rule(rule, packet), f"{packet}\n{drawn.text}\n{alone}"
+                )
 
     def replay(self, rules: str, packets: list[Packet]) -> list[tuple[str, int | None]]:
         """The words and rules of the report. A text that pfsrc refuses fails the test."""

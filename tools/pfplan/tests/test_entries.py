@@ -9,10 +9,10 @@ import unittest
 from collections.abc import Sequence
 from pathlib import Path
 
-from ..entries import add_records, entries_of_rules, names_to_move
-from ..errors import Trouble
-from ..inputs import HEADER
-from .support import Done, FolderCase, pfplan
+from pfplan.common.errors import Trouble
+from pfplan.common.inputs import HEADER
+from pfplan.tests.support import Done, FolderCase, pfplan
+from pfplan.traces.entries import add_records, entries_of_rules, names_to_move
 
 USERS = "198.51.100.0/24"
 CONF = """set limit states 500
@@ -28,7 +28,10 @@ SHOWN = "   198.51.100.1\n   198.51.100.64/26\n  !198.51.100.77\n   2001:db8::/3
 def packets(seed: int, count: int, begin: int = 1000) -> list[str]:
     """First packets of some sources, one after another."""
     draw = random.Random(seed)
-    return [f"{begin + it // 9},in,em0,tcp,198.51.100.{draw.randint(1, 99)},{1024 + it},192.0.2.1,80,S" for it in range(count)]
+    return [
+        f"{begin + it // 9},in,em0,tcp,198.51.100.{draw.randint(1, 99)},{1024 + it},192.0.2.1,80,S"
+        for it in range(count)
+    ]
 
 
 def addresses(seed: int, count: int) -> list[str]:
@@ -64,7 +67,10 @@ class Persisting(FolderCase):
         self.assertIn("\ntable <bad> persist\n", text)
         self.assertIn("table <good> const { 198.51.100.7, !198.51.100.8 }\n", text)
         entries = ["198.51.100.1", "198.51.100.64/26", "!198.51.100.77", "2001:db8::/32"]
-        self.assertEqual((self.folder / "rules.entries").read_text().splitlines(), [HEADER, *(f"0,add,bad,,{it},,,," for it in entries)])
+        self.assertEqual(
+            (self.folder / "rules.entries").read_text().splitlines(),
+            [HEADER, *(f"0,add,bad,,{it},,,," for it in entries)],
+        )
         self.assertEqual(list(add_records(self.rules, 77)), [f"77,add,bad,,{it},,,," for it in entries])
         self.assertIn("table <bad> persist { 198.51.100.1, ", self.in_text().read_text())
 
@@ -83,7 +89,9 @@ class Persisting(FolderCase):
         self.assertEqual(*(self._runs("size", it, trace, "--vary", "max=2..40", "--runs", 5) for it in both))
         self.assertEqual(*(self._runs("margins", it, trace) for it in both))
         told = json.loads(pfplan("compare", *both, trace, *words, "--json").out)
-        self.assertEqual((told["against_first"][0]["parting"], *(it["end"]["entries"] for it in told["sides"])), (None, 2, 2))
+        self.assertEqual(
+            (told["against_first"][0]["parting"], *(it["end"]["entries"] for it in told["sides"])), (None, 2, 2)
+        )
         self.assertIn("# entries: 4 by records", "".join(told["against_first"][0]["lines"]["first_only"]))
 
     def _runs(self, command: str, rules: Path, trace: Path, *words: object) -> str:
@@ -117,8 +125,10 @@ class Persisting(FolderCase):
     def _refused(self, trace: Path, why: str) -> None:
         into = self.folder / "answer"
         calls: Sequence[tuple[object, ...]] = (
-            ("run", self.rules, trace, "--into", into), ("measure", self.rules, trace), ("compare", self.rules, self.rules, trace),
-            ("size", self.rules, trace, "--users", USERS, "--vary", "max=2..3"), ("margins", self.rules, trace), ("rules", self.rules),
+            ("run", self.rules, trace, "--into", into), ("measure", self.rules, trace),
+            ("compare", self.rules, self.rules, trace),
+            ("size", self.rules, trace, "--users", USERS, "--vary", "max=2..3"), ("margins", self.rules, trace),
+            ("rules", self.rules),
         )  # fmt: skip
         for words in calls:
             ended = pfplan(*words)
@@ -163,7 +173,9 @@ class TooLarge(FolderCase):
         self.assertEqual((ended.status, ended.out), (3, ""))
         self.assertIn("with --out FILE, entries of tables go into FILE.entries", ended.err)
         self.write("b.const", "\n".join(addresses(1, 100_001)))
-        self.assertIn("stands for 200001 entries of tables", pfplan("run", conf, self.trace(records), "--into", into).err)
+        self.assertIn(
+            "stands for 200001 entries of tables", pfplan("run", conf, self.trace(records), "--into", into).err
+        )
 
     def test_which(self) -> None:
         """The largest go, as few as are needed; small ones stay, and so does a const one that an overload names."""
@@ -182,7 +194,12 @@ class TooLarge(FolderCase):
         self.write("rules.entries", "nothing")
         self.assertEqual(entries_of_rules(self.write("rules", "pass\n")), [])
         with self.assertRaises(Trouble):
-            entries_of_rules(self.write("rules", f"# entries: 1 by records, sha256 {'0' * 64}, in the file of this name with .entries behind it\n"))
+            entries_of_rules(
+                self.write(
+                    "rules",
+                    f"# entries: 1 by records, sha256 {'0' * 64}, in the file of this name with .entries behind it\n",
+                )
+            )
         self.assertTrue(re.match("pass", (self.folder / "rules").read_text()) is None)
 
 

@@ -9,14 +9,15 @@ import unittest
 from collections.abc import Sequence
 from pathlib import Path
 
-from ..connections import KINDS
-from ..errors import Trouble
-from ..inputs import HEADER
-from ..insertions import Held, asking
-from ..replays import program, stream_blocks
-from ..rows import Rows
-from ..summaries import held_at
-from .support import FolderCase, pfplan
+from pfplan.answers.connections import KINDS
+from pfplan.answers.summaries import held_at
+from pfplan.common.errors import Trouble
+from pfplan.common.inputs import HEADER
+from pfplan.common.repository import program
+from pfplan.replays.runs import stream_blocks
+from pfplan.tests.support import FolderCase, pfplan
+from pfplan.traces.insertions import Held, asking
+from pfplan.traces.rows import Rows
 
 RULES = """set timeout { tcp.first 3, udp.first 2, interval 1, src.track 4 }
 table <bad> persist { 203.0.113.9 }
@@ -36,18 +37,30 @@ def drawn_records(seed: int, count: int) -> list[str]:
         source = f"198.51.100.{draw.randint(1, 9)},{draw.randint(1, 3)}"
         packets = [f"{time},in,em0,tcp,{source},192.0.2.1,80,{flags}" for flags in ("S", "A")]
         answer = f"{time},out,em0,tcp,192.0.2.1,80,{source},SA"
-        orders = [f"{time},held,,,,,,,", f"{time},add,bad,,198.51.100.{draw.randint(1, 9)},,,,", f"{time},expire,bad,,,5,,,"]
+        orders = [
+            f"{time},held,,,,,,,",
+            f"{time},add,bad,,198.51.100.{draw.randint(1, 9)},,,,",
+            f"{time},expire,bad,,,5,,,",
+        ]
         found.append(draw.choice([*packets, answer, f"{time},in,em0,udp,{source},192.0.2.1,53,", *orders]))
     return found
 
 
-def held_by_beginnings(rules: Path, folder: Path, records: Sequence[str], moments: Sequence[int]) -> list[tuple[int, ...]]:
+def held_by_beginnings(
+    rules: Path, folder: Path, records: Sequence[str], moments: Sequence[int]
+) -> list[tuple[int, ...]]:
     """What is held at some moments, by a replay of the records that are not after each, and of one that is skipped."""
     found = []
     for moment in moments:
-        lines = [HEADER, *(it for it in records if int(it.partition(",")[0]) <= moment), f"{moment},in,em0,icmp,192.0.2.1,,192.0.2.2,,"]
+        lines = [
+            HEADER,
+            *(it for it in records if int(it.partition(",")[0]) <= moment),
+            f"{moment},in,em0,icmp,192.0.2.1,,192.0.2.2,,",
+        ]
         (folder / "beginning").write_text("".join(f"{it}\n" for it in lines))
-        done = subprocess.run([program(), "replay", rules, folder / "beginning"], capture_output=True, text=True, check=True)
+        done = subprocess.run(
+            [program(), "replay", rules, folder / "beginning"], capture_output=True, text=True, check=True
+        )
         end = done.stdout.splitlines()[-1].split()
         found.append((moment, *(int(it.partition("=")[2]) for it in end[2:])))
     return found
@@ -74,7 +87,9 @@ class RowNumbers(unittest.TestCase):
         first = draw.randint(1, len(own) + 1)
         count = draw.randint(0, len(own) - first + 1)
         parts = rows.parts(first, count)
-        self.assertEqual([it for begin, many in parts for it in range(begin, begin + many)], own[first - 1 : first - 1 + count])
+        self.assertEqual(
+            [it for begin, many in parts for it in range(begin, begin + many)], own[first - 1 : first - 1 + count]
+        )
         begin = draw.randint(1, len(whole) + 1)
         lines = [str(it) for it in range(begin, len(whole) + 1)]
         parted = ([it for it in lines if whole[int(it) - 1]], [it for it in lines if not whole[int(it) - 1]])
@@ -105,8 +120,13 @@ class Questions(FolderCase):
     def test_few_records(self) -> None:
         """One moment is the last; a trace of one moment has one, and one without records none."""
         rules = self.write("rules", RULES)
-        self.assertEqual([it.moment for it in held_at(rules, self.trace(drawn_records(1, 50)), 1)], [int(drawn_records(1, 50)[-1].split(",")[0])])
-        self.assertEqual(held_at(rules, self.trace(["5,in,em0,udp,198.51.100.1,1,192.0.2.1,53,"]), 9), [Held(5, 1, 1, 1)])
+        self.assertEqual(
+            [it.moment for it in held_at(rules, self.trace(drawn_records(1, 50)), 1)],
+            [int(drawn_records(1, 50)[-1].split(",")[0])],
+        )
+        self.assertEqual(
+            held_at(rules, self.trace(["5,in,em0,udp,198.51.100.1,1,192.0.2.1,53,"]), 9), [Held(5, 1, 1, 1)]
+        )
         self.assertEqual(held_at(rules, self.trace([]), 9), [])
 
     def test_own_rows(self) -> None:
@@ -114,7 +134,9 @@ class Questions(FolderCase):
         rules, trace = self.write("rules", RULES), self.trace(drawn_records(2, 400))
         alone = [line for lines in stream_blocks(rules, trace) for line in lines]
         into = self.folder / "answer"
-        self.assertEqual(pfplan("run", rules, trace, "--into", into, "--users", USERS, "--held", 9).err.count("pfplan"), 0)
+        self.assertEqual(
+            pfplan("run", rules, trace, "--into", into, "--users", USERS, "--held", 9).err.count("pfplan"), 0
+        )
         self.assertEqual((into / "report").read_text().splitlines(), alone)
         told = json.loads((into / "summary.json").read_text())
         self.assertEqual((told["records"], len(told["held"]), set(told["users"]["outcomes"])), (400, 9, set(KINDS)))
@@ -125,7 +147,11 @@ class Questions(FolderCase):
     def test_faults(self) -> None:
         """A fault is told by its row in the trace, whatever was put in before it."""
         rules, records = self.write("rules", RULES), drawn_records(4, 100)
-        for row, record, why in ((50, "x,in,em0", "columns"), (51, "0,held,,,,,,,", "time falls"), (100, "9999,kill,,,,,,,", "field 2")):
+        for row, record, why in (
+            (50, "x,in,em0", "columns"),
+            (51, "0,held,,,,,,,", "time falls"),
+            (100, "9999,kill,,,,,,,", "field 2"),
+        ):
             trace = self.trace([*records[: row - 1], record, *records[row:]])
             with self.assertRaises(Trouble) as raised:
                 held_at(rules, trace, 20)
@@ -151,8 +177,9 @@ class Orders(FolderCase):
     """An administrator's records in a trace."""
 
     RECORDS = (
-        "5,in,em0,udp,198.51.100.1,1,192.0.2.1,53,", "5,held,,,,,,,", "6,add,bad,,198.51.100.0/24,,,,", "6,add,bad,,!198.51.100.1,,,,",
-        "6,in,em0,udp,198.51.100.2,1,192.0.2.1,53,", "7,delete,bad,,198.51.100.0/24,,,,", "8,expire,bad,,,1,,,",
+        "5,in,em0,udp,198.51.100.1,1,192.0.2.1,53,", "5,held,,,,,,,", "6,add,bad,,198.51.100.0/24,,,,",
+        "6,add,bad,,!198.51.100.1,,,,", "6,in,em0,udp,198.51.100.2,1,192.0.2.1,53,",
+        "7,delete,bad,,198.51.100.0/24,,,,", "8,expire,bad,,,1,,,",
     )  # fmt: skip
 
     def test_counted(self) -> None:
@@ -166,7 +193,9 @@ class Orders(FolderCase):
         found = {word: count for word, count in told["words"].items() if count}
         self.assertEqual(found, {"new": 1, "block": 1, "held": 1, "add": 2, "delete": 1, "expire": 1})
         self.assertEqual([it["address"] for it in told["sources"]["seen"]], ["198.51.100.1", "198.51.100.2"])
-        self.assertEqual((told["users"]["connections"], told["interfaces"]), (2, {"without_records": [], "without_rules": []}))
+        self.assertEqual(
+            (told["users"]["connections"], told["interfaces"]), (2, {"without_records": [], "without_rules": []})
+        )
 
     def test_compared(self) -> None:
         """Rulesets that take an entry otherwise part there."""

@@ -6,8 +6,8 @@ import sys
 import unittest
 from pathlib import Path
 
-from ..replays import TOP
-from .support import Done, FolderCase
+from pfplan.common.repository import TOP
+from pfplan.tests.support import Done, FolderCase
 
 ROUTER = TOP / "examples" / "pf.conf"
 COMMANDS = ("pfplan", "pfsrc", "pfstrace")
@@ -33,7 +33,9 @@ class Install(FolderCase):
     def call(self, *words: object, **env: str) -> Done:
         """Calls a program, without PFSRC and PFSTRACE where they are not given."""
         around = {name: it for name, it in os.environ.items() if name not in ("PFSRC", "PFSTRACE")} | env
-        ended = subprocess.run([*map(str, words)], capture_output=True, text=True, cwd=self.folder, env=around, check=False, timeout=120)
+        ended = subprocess.run(
+            [*map(str, words)], capture_output=True, text=True, cwd=self.folder, env=around, check=False, timeout=120
+        )
         return Done(ended.returncode, ended.stdout, ended.stderr)
 
     def install(self, **env: str) -> Done:
@@ -50,20 +52,48 @@ class Install(FolderCase):
 
     def files(self) -> list[str]:
         """The files and links below PREFIX."""
-        return sorted(str(it.relative_to(self.prefix)) for it in self.prefix.rglob("*") if it.is_symlink() or not it.is_dir())
+        return sorted(
+            str(it.relative_to(self.prefix)) for it in self.prefix.rglob("*") if it.is_symlink() or not it.is_dir()
+        )
 
     def test_what_is_installed_answers_as_the_repository_does(self) -> None:
         programs = {name.upper(): built(name) for name in ("pfsrc", "pfstrace")}
         done = self.install(**programs)
         self.assertEqual((done.status, done.err), (0, ""))
-        words = ("run", ROUTER / "etc" / "pf.conf", ROUTER / "web.pcap", "--root", ROUTER, "--ifconfig", ROUTER / "ifconfig", "--users", "198.51.100.0/24", "--into")
+        words = (
+            "run",
+            ROUTER / "etc" / "pf.conf",
+            ROUTER / "web.pcap",
+            "--root",
+            ROUTER,
+            "--ifconfig",
+            ROUTER / "ifconfig",
+            "--users",
+            "198.51.100.0/24",
+            "--into",
+        )
         installed = self.call(self.prefix / "bin" / "pfplan", *words, "installed")
         here = self.call(TOP / "pfplan", *words, "here", **programs)
         self.assertEqual((installed.status, installed.err), (0, here.err))
         for name in ("rules", "trace.csv", "report", "summary.json", "DIFFERENCES.md"):
-            self.assertEqual((self.folder / "installed" / name).read_bytes(), (self.folder / "here" / name).read_bytes(), name)
+            self.assertEqual(
+                (self.folder / "installed" / name).read_bytes(), (self.folder / "here" / name).read_bytes(), name
+            )
         # (size calls pfplan itself for each value)
-        sized = self.call(self.prefix / "bin" / "pfplan", "size", "here/rules", "here/trace.csv", "--vary", "states=100..5000", "--grid", "2", "--runs", "2", "--users", "198.51.100.0/24")
+        sized = self.call(
+            self.prefix / "bin" / "pfplan",
+            "size",
+            "here/rules",
+            "here/trace.csv",
+            "--vary",
+            "states=100..5000",
+            "--grid",
+            "2",
+            "--runs",
+            "2",
+            "--users",
+            "198.51.100.0/24",
+        )
         self.assertEqual((sized.status, sized.err), (0, ""))
 
     def test_it_is_whole_and_readable(self) -> None:
@@ -73,9 +103,17 @@ class Install(FolderCase):
             page = self.prefix / "share" / "man" / "man1" / f"{name}.1"
             self.assertEqual(page.read_bytes(), (TOP / "man" / f"{name}.1").read_bytes())
         home = self.prefix / "lib" / "pfplan"
-        self.assertEqual(sorted(it.name for it in home.iterdir()), ["docs", "man", "pfplan", "pfsrc", "pfstrace", "tools"])
-        self.assertEqual([it for it in home.rglob("*") if not it.stat().st_mode & 0o044 or it.name in ("tests", "__pycache__")], [])
-        here = {it.relative_to(TOP) for it in (TOP / "tools" / "pfplan").rglob("*") if it.is_file() and not {"tests", "__pycache__"}.intersection(it.parts)}
+        self.assertEqual(
+            sorted(it.name for it in home.iterdir()), ["docs", "man", "pfplan", "pfsrc", "pfstrace", "tools"]
+        )
+        self.assertEqual(
+            [it for it in home.rglob("*") if not it.stat().st_mode & 0o044 or it.name in ("tests", "__pycache__")], []
+        )
+        here = {
+            it.relative_to(TOP)
+            for it in (TOP / "tools" / "pfplan").rglob("*")
+            if it.is_file() and not {"tests", "__pycache__"}.intersection(it.parts)
+        }
         self.assertEqual({it.relative_to(home) for it in (home / "tools").rglob("*") if it.is_file()}, here)
 
     def test_a_second_takes_the_place_of_the_first(self) -> None:
@@ -121,10 +159,17 @@ class Install(FolderCase):
         on_the_path = self.folder / "path"
         on_the_path.mkdir()
         self.program("pfsrc", "path").rename(on_the_path / "pfsrc")
-        code = "from pfplan.replays import program; print(program())"
+        code = "from pfplan.common.repository import program; print(program())"
         for beside, wanted in (("pfsrc", self.prefix / "lib" / "pfplan" / "pfsrc"), ("gone", on_the_path / "pfsrc")):
             self.prefix.joinpath("lib", "pfplan", "pfsrc").rename(self.prefix / "lib" / "pfplan" / beside)
-            told = self.call(sys.executable, "-B", "-c", code, PATH=f"{on_the_path}:{os.defpath}", PYTHONPATH=str(self.prefix / "lib" / "pfplan" / "tools"))
+            told = self.call(
+                sys.executable,
+                "-B",
+                "-c",
+                code,
+                PATH=f"{on_the_path}:{os.defpath}",
+                PYTHONPATH=str(self.prefix / "lib" / "pfplan" / "tools"),
+            )
             self.assertEqual((told.out, told.err), (f"{wanted}\n", ""))
 
 

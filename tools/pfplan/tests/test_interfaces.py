@@ -3,10 +3,9 @@
 import ipaddress
 import unittest
 
-from pfplan.interfaces import Location, Machine, prefix_of, read_ifconfig, shown
-from pfplan.services import PROTOCOLS, SERVICES, port_of, protocol_of, shown_protocol
-
-from .test_constructs import TEXTS
+from pfplan.pf.interfaces import Location, Machine, prefix_of, read_ifconfig, shown
+from pfplan.pf.services import PROTOCOLS, SERVICES, port_of, protocol_of, shown_protocol
+from pfplan.tests.test_constructs import TEXTS
 
 
 def machine() -> Machine:
@@ -51,7 +50,12 @@ class Interfaces(unittest.TestCase):
 
     def test_given_with_a_length(self) -> None:
         """An address with a length stands for the address alone; its network is that of `:network`."""
-        found = Machine(given={"em0": [ipaddress.ip_interface("192.0.2.1/24")], "em1:network": [ipaddress.ip_interface("10.0.0.0/8")]})
+        found = Machine(
+            given={
+                "em0": [ipaddress.ip_interface("192.0.2.1/24")],
+                "em1:network": [ipaddress.ip_interface("10.0.0.0/8")],
+            }
+        )
         self.assertEqual(found.locations("em0"), networks("192.0.2.1"))
         self.assertEqual(found.locations("em0:network"), networks("192.0.2.0/24"))
         self.assertEqual(found.locations("em1:network"), networks("10.0.0.0/8"))
@@ -59,11 +63,17 @@ class Interfaces(unittest.TestCase):
 
     def test_inside(self) -> None:
         """What is behind the firewall: networks of inner interfaces, and the outer ones' own addresses."""
-        self.assertEqual([str(it) for it in machine().inside()], ["203.0.113.5/32", "2001:db8::5/128", "192.168.1.0/24", "10.9.9.1/32"])
+        self.assertEqual(
+            [str(it) for it in machine().inside()],
+            ["203.0.113.5/32", "2001:db8::5/128", "192.168.1.0/24", "10.9.9.1/32"],
+        )
 
     def test_other_masks(self) -> None:
         """Masks in other spellings are read, and a line that is none is passed over."""
-        text = "em0: flags=8843<UP> mtu 1500\n\tinet 10.0.0.1/8\n\tinet 10.1.0.1 netmask 255.255.0.0\n\tinet 10.2.0.1\n\tinet frob netmask 0x0\n"
+        text = (
+            "em0: flags=8843<UP> mtu 1500\n\tinet 10.0.0.1/8\n\tinet 10.1.0.1 netmask 255.255.0.0\n\tinet "
+            "10.2.0.1\n\tinet frob netmask 0x0\n"
+        )
         found = [str(it.network) for it in read_ifconfig(text)["em0"].addresses]
         self.assertEqual(found, ["10.0.0.0/8", "10.1.0.0/16", "10.2.0.1/32"])
 
@@ -71,7 +81,14 @@ class Interfaces(unittest.TestCase):
         """Short addresses want a length; an IPv6 address is shown without dots."""
         self.assertEqual(str(prefix_of("172.16", 12)), "172.16.0.0/12")
         self.assertEqual(str(prefix_of("10.1.2.3", 8)), "10.0.0.0/8")
-        for text, length in (("10", None), ("10.1", None), ("10.0.0.1", 33), ("fe80::1%em0", None), ("010.0.0.1", None), ("host", 8)):
+        for text, length in (
+            ("10", None),
+            ("10.1", None),
+            ("10.0.0.1", 33),
+            ("fe80::1%em0", None),
+            ("010.0.0.1", None),
+            ("host", 8),
+        ):
             self.assertIsNone(prefix_of(text, length))
         self.assertEqual(shown(ipaddress.ip_network("::ffff:192.0.2.1")), "::ffff:c000:201")
         self.assertEqual(shown(ipaddress.ip_network("2001:DB8::/32")), "2001:db8::/32")
@@ -89,13 +106,25 @@ class Services(unittest.TestCase):
 
     def test_protocols(self) -> None:
         """Names, digits, and how a rules text writes them."""
-        self.assertEqual([protocol_of(it) for it in ("tcp", "ipv6-icmp", "255", "256", "tpc")], [6, 58, 255, None, None])
+        self.assertEqual(
+            [protocol_of(it) for it in ("tcp", "ipv6-icmp", "255", "256", "tpc")], [6, 58, 255, None, None]
+        )
         self.assertEqual([shown_protocol(it) for it in (6, 58, 89)], ["tcp", "icmp6", "89"])
         self.assertTrue(all(0 <= it <= 255 for it in PROTOCOLS.values()))
 
     def test_protocols_that_are_easily_mistaken(self) -> None:
         """As OpenBSD's protocols(5) and the registry of numbers have them; a word of pf.conf, as `any`, is none."""
-        rows = (("ipip", 94), ("ipencap", 4), ("etherip", 97), ("encap", 98), ("carp", 112), ("shim6", 140), ("pfsync", 240), ("any", None), ("private", None))
+        rows = (
+            ("ipip", 94),
+            ("ipencap", 4),
+            ("etherip", 97),
+            ("encap", 98),
+            ("carp", 112),
+            ("shim6", 140),
+            ("pfsync", 240),
+            ("any", None),
+            ("private", None),
+        )
         for name, number in rows:
             self.assertEqual(protocol_of(name), number, name)
 

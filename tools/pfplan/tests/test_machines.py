@@ -12,11 +12,11 @@ import unittest
 from pathlib import Path
 from unittest import mock
 
-from .. import machines
-from ..errors import Trouble
-from ..machines import Machines, Runs
-from ..replays import TOP
-from .support import STAND_IN, FolderCase, heed_interrupts, pfplan
+from pfplan.common.errors import Trouble
+from pfplan.common.repository import TOP
+from pfplan.replays import machines
+from pfplan.replays.machines import Machines, Runs
+from pfplan.tests.support import STAND_IN, FolderCase, heed_interrupts, pfplan
 
 ENV = {"PFSRC": str(STAND_IN)}
 RECORDS = [f"{at},in,em0,tcp,198.51.100.{at + 1},1000,192.0.2.1,80,S" for at in range(20)]
@@ -29,7 +29,9 @@ class CommandLines(FolderCase):
     def test_words_are_quoted(self) -> None:
         path = "/a b;touch HACK$(x)'\"/pf plan"
         where = Machines(3, ("user@host", ":"), (Path("/logins"),), path)
-        with mock.patch.dict(os.environ, {"PFSRC": "/x y;z"}), Runs(where, self.trace(RECORDS), ["--users=198.51.100.0/24", "--held=0"]) as runs:
+        with mock.patch.dict(os.environ, {"PFSRC": "/x y;z"}), Runs(
+            where, self.trace(RECORDS), ["--users=198.51.100.0/24", "--held=0"]
+        ) as runs:
             *command, last = runs._parallel()
             folder = runs._folder.name
         self.assertIn("--jobs=3", command)
@@ -37,7 +39,10 @@ class CommandLines(FolderCase):
         self.assertIn("--sshloginfile=/logins", command)
         begin, _, rest = last.partition("; ")
         self.assertEqual(begin, f"test -e trace || cd {tempfile.gettempdir()}/{folder}")
-        self.assertEqual(shlex.split(rest), ["env", "PFSRC=/x y;z", path, "measure", "--named", "{}", "trace", "--users=198.51.100.0/24", "--held=0"])
+        self.assertEqual(
+            shlex.split(rest),
+            ["env", "PFSRC=/x y;z", path, "measure", "--named", "{}", "trace", "--users=198.51.100.0/24", "--held=0"],
+        )
         self.assertRegex(folder, r"^pfplan-[a-z0-9_]+$")
 
     def test_package_is_named_where_it_is_missing(self) -> None:
@@ -45,9 +50,17 @@ class CommandLines(FolderCase):
             machines.check_parallel()
 
     def test_what_a_run_said(self) -> None:
-        unreachable = "parallel: Warning: no cpus\nssh: connect to host one: Connection refused\nparallel: This job failed:\ntest -e trace\n"
+        unreachable = (
+            "parallel: Warning: no cpus\nssh: connect to host one: Connection refused\nparallel: This job "
+            "failed:\ntest -e trace\n"
+        )
         rows = (
-            ("pfplan measure: /tmp/x: row 3: the moment falls\nparallel: This job failed:\nx\n", 1, "/tmp/x: row 3: the moment falls", 1),
+            (
+                "pfplan measure: /tmp/x: row 3: the moment falls\nparallel: This job failed:\nx\n",
+                1,
+                "/tmp/x: row 3: the moment falls",
+                1,
+            ),
             (unreachable, 1, "ssh: connect to host one: Connection refused", 4),
             ("", 255, "a run ended with status 255 and said nothing", 4),
         )
@@ -62,7 +75,11 @@ class CommandLines(FolderCase):
                 machines.check_parallel()
 
     def test_logins(self) -> None:
-        for words, status, said in ((["--sshlogin", ""], 2, "no login"), (["--sshlogin", "a\nb"], 2, "no login"), (["--sshloginfile", "none"], 4, "no such file")):
+        for words, status, said in (
+            (["--sshlogin", ""], 2, "no login"),
+            (["--sshlogin", "a\nb"], 2, "no login"),
+            (["--sshloginfile", "none"], 4, "no such file"),
+        ):
             rules, trace = self.write("rules", RULES), self.trace(RECORDS)
             ended = pfplan("margins", rules, trace, *words, env=ENV)
             self.assertEqual((ended.status, ended.out), (status, ""), ended.err)
@@ -75,9 +92,27 @@ class RunsHere(FolderCase):
     def size(self, *words: object, rules: str = RULES) -> "subprocess.Popen[str]":
         """A call of `size` that goes on."""
         files = [str(self.write("rules", rules)), str(self.trace(RECORDS))]
-        command = [sys.executable, str(TOP / "pfplan"), "size", *files, "--users", "198.51.100.0/24", "--held", "0", *map(str, words)]
+        command = [
+            sys.executable,
+            str(TOP / "pfplan"),
+            "size",
+            *files,
+            "--users",
+            "198.51.100.0/24",
+            "--held",
+            "0",
+            *map(str, words),
+        ]
         around = os.environ | ENV | {"TMPDIR": str(self.folder)}
-        return subprocess.Popen(command, stdout=subprocess.PIPE, stderr=subprocess.PIPE, text=True, env=around, start_new_session=True, preexec_fn=heed_interrupts)
+        return subprocess.Popen(
+            command,
+            stdout=subprocess.PIPE,
+            stderr=subprocess.PIPE,
+            text=True,
+            env=around,
+            start_new_session=True,
+            preexec_fn=heed_interrupts,
+        )
 
     def test_size(self) -> None:
         process = self.size("--vary", "states=1..40", "--json", "--jobs", "3", "--grid", "3")
@@ -92,7 +127,9 @@ class RunsHere(FolderCase):
     def test_interrupt(self) -> None:
         out = self.write("out", "what stood there")
         for number in (signal.SIGINT, signal.SIGTERM):
-            process = self.size("--vary", "states=1..40", "--jobs", "2", "--out", out, rules="set timeout interval 77\n" + RULES)
+            process = self.size(
+                "--vary", "states=1..40", "--jobs", "2", "--out", out, rules="set timeout interval 77\n" + RULES
+            )
             self.wait_for_runs()
             process.send_signal(number)
             said, told = process.communicate(timeout=60)
@@ -129,8 +166,9 @@ class RunsHere(FolderCase):
 
     def test_bad_words(self) -> None:
         rows = (
-            (("--vary", "states=5"), "is not NAME=FROM..TO"), (("--vary", "state=1..5"), "is states meant?"), (("--vary", "max=1..5"), "no rule states max"),
-            (("--vary", "states=0..5"), "may be from 1 to"), (("--vary", "states=1..5", "--want", "200%"), "more than 100%"), ((), "--vary"),
+            (("--vary", "states=5"), "is not NAME=FROM..TO"), (("--vary", "state=1..5"), "is states meant?"),
+            (("--vary", "max=1..5"), "no rule states max"), (("--vary", "states=0..5"), "may be from 1 to"),
+            (("--vary", "states=1..5", "--want", "200%"), "more than 100%"), ((), "--vary"),
         )  # fmt: skip
         for words, said in rows:
             process = self.size(*words)

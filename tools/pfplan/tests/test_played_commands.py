@@ -1,10 +1,16 @@
 """Commands that take a scenario where they take a trace: run, compare, size, margins; and maps of two numbers."""
 
+import contextlib
+import io
 import json
+import os
 import unittest
+from unittest import mock
 
-from ..scenarios.returning import words_of
-from .support import FolderCase, pfplan
+from pfplan.__main__ import main
+from pfplan.pages import pictures
+from pfplan.tests.support import FolderCase, pfplan
+from pfplan.traces.scenarios.returning import words_of
 
 SCENARIO = """seconds = 12
 server = "192.0.2.1:80"
@@ -51,6 +57,31 @@ class PlayedCommands(FolderCase):
         self.assertLessEqual(
             {"rules", "left-out.txt", "trace.csv", "report", "summary.txt", "summary.json", "report.html"}, made
         )
+
+    def test_gnuplot_that_fails_or_hangs(self) -> None:
+        """The plays are kept, and the page says why it has no pictures."""
+        for script, why in (
+            ("echo 'no terminal' >&2; exit 1", "gnuplot failed: no terminal"),
+            ("exec sleep 60", "gnuplot drew nothing in 1 seconds"),
+        ):
+            tools = self.folder / "tools"
+            tools.mkdir(exist_ok=True)
+            program = tools / "gnuplot"
+            program.write_text(f"#!/bin/sh\n{script}\n", encoding="utf-8")
+            program.chmod(0o755)
+            into, page = self.folder / "played", self.folder / "page.html"
+            path = mock.patch.dict(os.environ, PATH=f"{tools}:{os.environ['PATH']}")
+            with path, mock.patch.object(pictures, "SECONDS_FOR_A_PICTURE", 1), contextlib.redirect_stdout(
+                io.StringIO()
+            ):
+                played = main(["play", str(self.scenario), str(self.rules), "--into", str(into)])
+                words = [self.rules, self.open, self.scenario, "--page", page, "--out", self.folder / "told"]
+                compared = main(["compare", *map(str, words)])
+            self.assertEqual((played, compared), (0, 0))
+            for it in (into / "report.html", page):
+                self.assertIn(f"No pictures: {why}.", it.read_text("utf-8"))
+            self.assertTrue((into / "rules" / "summary.json").exists())
+            self.assertEqual(list(into.rglob("*.svg")), [])
 
     def test_compare(self) -> None:
         out = self.told("compare", self.rules, self.open, self.scenario)
@@ -169,8 +200,10 @@ class PlayedCommands(FolderCase):
 class Returning(unittest.TestCase):
     def test_words_by_number(self) -> None:
         text = (
-            "# block return, in a comment\nset limit states 5\ntable <block> { 10.0.0.0/8 } # block return\n  block \\\n return in\npass out log # \\\n"
-            'block drop out\nanchor "return" {\n\tblock return-rst in proto tcp\n\tpass\n}\nblock\nblock return-icmp6 in quick\n'
+            "# block return, in a comment\nset limit states 5\ntable <block> { 10.0.0.0/8 } # block return\n  block "
+            "\\\n return in\npass out log # \\\n"
+            'block drop out\nanchor "return" {\n\tblock return-rst in proto tcp\n\tpass\n}\nblock\nblock return-icmp6 '
+            "in quick\n"
         )
         self.assertEqual(words_of(text), {0: "return", 4: "return-rst", 7: "return-icmp6"})
 

@@ -1,21 +1,23 @@
-"""Scenarios: what is read, and how each mistake is told; plays by the command, whose traces the program answers with the same report."""
+"""Scenarios: what is read, and how each mistake is told; plays by the command, whose traces the program answers with
+the same report."""
 
 import json
 import random
 import subprocess
-import tomllib
 import unittest
 from pathlib import Path
 
-from ..errors import Trouble
-from ..replays import TOP, program
-from ..scenarios.model import KINDS, Visits
-from ..scenarios.playing import Task, play
-from ..scenarios.reading import OF_KIND, numbers_of, read_scenario, value_of
-from ..scenarios.returning import answers_of, words_of
-from .playing import scenario
-from .support import FolderCase, pfplan
-from .test_plays import drawn
+import tomllib
+
+from pfplan.common.errors import Trouble
+from pfplan.common.repository import TOP, program
+from pfplan.tests.playing import scenario
+from pfplan.tests.support import FolderCase, pfplan
+from pfplan.tests.test_plays import drawn
+from pfplan.traces.scenarios.model import KINDS, Visits
+from pfplan.traces.scenarios.playing import Task, play
+from pfplan.traces.scenarios.reading import OF_KIND, numbers_of, read_scenario, value_of
+from pfplan.traces.scenarios.returning import answers_of, words_of
 
 HEAD = 'seconds = 10\nserver = { web = ["192.0.2.1:80", "192.0.2.1:443"], six = "[2001:db8::1]:80" }\n'
 HOMES = '[group.homes]\nkind = "visits"\nfrom = "198.51.100.0/24"\nhosts = 3\n'
@@ -28,12 +30,23 @@ MISTAKES = (
     (HEAD, "group: a group is wanted, as [group.homes]"),
     (HEAD + "seed = 0\n" + HOMES, "the head: seed: wanted a whole number from 1 to 2147483646; there is 0"),
     ("second = 1\n" + HEAD + HOMES, "the head: second: no such word; is seconds meant?"),
-    ('seconds = 10\nserver = "192.0.2.1"\n' + HOMES, "server: server: wanted an address and a port, as \"192.0.2.1:80\" or \"[2001:db8::1]:80\", and '192.0.2.1' is none"),
+    (
+        'seconds = 10\nserver = "192.0.2.1"\n' + HOMES,
+        "server: server: wanted an address and a port, as \"192.0.2.1:80\" or \"[2001:db8::1]:80\", and "
+        "'192.0.2.1' is none",
+    ),
     (HEAD + "[group.a]\nhosts = 1\n", "group.a: kind is wanted, and is not there"),
-    (HEAD + HOMES.replace('"visits"', '"visit"'), 'group.homes: kind: wanted one of visits, hold, connect, syn, udp, query, trace; is visits meant?; there is "visit"'),
+    (
+        HEAD + HOMES.replace('"visits"', '"visit"'),
+        'group.homes: kind: wanted one of visits, hold, connect, syn, udp, query, trace; is visits meant?; '
+        'there is "visit"',
+    ),
     (HEAD + HOMES + "host = 3\n", "group.homes: host: no such word; is hosts meant?"),
     (HEAD + HOMES + "rate = 3\n", "group.homes: rate: no such word; there are"),
-    (HEAD + HOMES.replace("hosts = 3", "hosts = 300"), "group.homes: hosts: 198.51.100.0/24 has 254 addresses, and 300 are asked for"),
+    (
+        HEAD + HOMES.replace("hosts = 3", "hosts = 300"),
+        "group.homes: hosts: 198.51.100.0/24 has 254 addresses, and 300 are asked for",
+    ),
     (HEAD + HOMES + "people = 2\n", "group.homes: people: 2 are fewer than the 3 hosts that they sit at"),
     (HEAD + HOMES + "stay = 1.5\n", "group.homes: stay: wanted a whole number from 1 to 86400; there is 1.5"),
     (HEAD + HOMES + "users = 1\n", "group.homes: users: wanted true or false; there is 1"),
@@ -41,9 +54,15 @@ MISTAKES = (
     (HEAD + HOMES + "begin = 10\n", "group.homes: begin: 10 is not below seconds, 10"),
     (HEAD + HOMES + 'to = "wep"\n', "group.homes: to: no server is named 'wep'; is web meant?"),
     (HEAD + HOMES + 'to = "six"\n', "group.homes: to: [2001:db8::1]:80 and 198.51.100.0/24 are of two families"),
-    (HEAD + HOMES + "visits = 2\nevery = 3\n", "group.homes: every: visits come at random moments, or every so many seconds; one of the two is given"),
+    (
+        HEAD + HOMES + "visits = 2\nevery = 3\n",
+        "group.homes: every: visits come at random moments, or every so many seconds; one of the two is given",
+    ),
     (HEAD + HOMES + 'interface = "a b"\n', 'group.homes: interface: wanted the name of an interface, as "em0"'),
-    (HEAD + BOTS.replace("rate = 5", "rate = 0"), "group.bots: rate: wanted a number a second, from 0.001 to 1000000; there is 0"),
+    (
+        HEAD + BOTS.replace("rate = 5", "rate = 0"),
+        "group.bots: rate: wanted a number a second, from 0.001 to 1000000; there is 0",
+    ),
     (HEAD + BOTS + "patience = true\n", "group.bots: patience: wanted a whole number from 1 to 86400; there is true"),
     (HEAD + '[group.a]\nkind = "trace"\n', "group.a: file is wanted, and is not there"),
     (HEAD + 'forward = { "em 0" = "em1" }\n' + HOMES, 'forward: em 0: wanted the name of an interface, as "em0"'),
@@ -60,7 +79,8 @@ block return in
 block drop out
 block in quick from <bad>
 pass out proto tcp from 192.0.2.1 keep state
-pass in proto tcp to 192.0.2.1 port 80 keep state (max 30, max-src-conn 4, max-src-conn-rate 9/5, overload <bad> flush global)
+pass in proto tcp to 192.0.2.1 port 80 keep state (max 30, max-src-conn 4, max-src-conn-rate 9/5, overload <bad> \
+flush global)
 pass in proto tcp to 2001:db8::1 port 80 keep state (max-src-states 3)
 pass in proto tcp to 192.0.2.1 port 443 no state
 pass in proto udp to 192.0.2.1 port 53
@@ -208,9 +228,10 @@ class Command(FolderCase):
         """Drawn groups against drawn rules: the trace that came of each gives the same report."""
         words = ["", "return", "return-rst", "drop"]
         options = [
-            "", "keep state (max 40)", "keep state (max-src-states 3)", "keep state (max-src-nodes 5, max-src-states 4)",
-            "keep state (max-src-conn 3, overload <bad> flush)", "keep state (max-src-conn-rate 6/5, overload <bad> flush global)",
-            "no state", "keep state (tcp.first 3, tcp.opening 2, tcp.closed 1)",
+            "", "keep state (max 40)", "keep state (max-src-states 3)",
+            "keep state (max-src-nodes 5, max-src-states 4)", "keep state (max-src-conn 3, overload <bad> flush)",
+            "keep state (max-src-conn-rate 6/5, overload <bad> flush global)", "no state",
+            "keep state (tcp.first 3, tcp.opening 2, tcp.closed 1)",
         ]  # fmt: skip
         for seed in range(1, 7):
             numbers = random.Random(seed)
@@ -218,7 +239,10 @@ class Command(FolderCase):
             def one(several: list[str], numbers: random.Random = numbers) -> str:
                 return several[int(numbers.random() * len(several))]
 
-            rules = f"set limit {{ states {one(['30', '100', '5000'])} }}\nset timeout interval {one(['1', '10'])}\ntable <bad> persist\n"
+            rules = (
+                f"set limit {{ states {one(['30', '100', '5000'])} }}\nset timeout interval {one(['1', '10'])}\ntable "
+                "<bad> persist\n"
+            )
             rules += f"block {one(words)}\nblock {one(words)} in quick from <bad>\n"
             rules += "".join(f"pass {one(['in', ''])} proto {one(['tcp', 'udp'])} {one(options)}\n" for _ in range(4))
             path, kept = self.write("rules", rules), (self.folder / "trace", self.folder / "report")

@@ -5,16 +5,16 @@ from collections import Counter
 from collections.abc import Sequence
 from unittest import mock
 
-from .. import sources
-from ..connections import Connections, Refusal, Reply
-from ..errors import Trouble
-from ..records import WORDS, blocks_of_lines
-from ..replays import TOP
-from ..sources import Sources
-from ..summaries import Summary, Users, Wanted, summarize, summarize_blocks
-from ..summary_texts import share
-from ..words import networks
-from .support import FolderCase, pfplan
+from pfplan.answers import sources
+from pfplan.answers.connections import Connections, Refusal, Reply
+from pfplan.answers.sources import Sources
+from pfplan.answers.summaries import Summary, Users, Wanted, summarize, summarize_blocks
+from pfplan.commands.words import networks
+from pfplan.common.errors import Trouble
+from pfplan.common.repository import TOP
+from pfplan.pages.summary_texts import share, text_of
+from pfplan.tests.support import FolderCase, pfplan
+from pfplan.traces.records import WORDS, blocks_of_lines
 
 CASE = TOP / "cases" / "pfplan" / "summary_users"
 USERS = networks("198.51.100.0/24")
@@ -37,7 +37,10 @@ class Summaries(FolderCase):
     def test_counts_agree_with_the_report(self) -> None:
         lines = (CASE / "report").read_text("utf-8").splitlines()
         told = Counter(it.split(" ")[1] for it in lines[:-1])
-        self.assertEqual({word: number for word, number in summarize(CASE / "report", Wanted()).words().items() if number}, dict(told))
+        self.assertEqual(
+            {word: number for word, number in summarize(CASE / "report", Wanted()).words().items() if number},
+            dict(told),
+        )
 
     def test_carriage_returns(self) -> None:
         records = self.write("records", (CASE / "records").read_text("utf-8").replace("\n", "\r\n"))
@@ -45,18 +48,29 @@ class Summaries(FolderCase):
 
     def test_blank_lines_and_a_mark_at_the_start(self) -> None:
         text = "\xef\xbb\xbf" + (CASE / "records").read_text("utf-8").replace("\n", "\n\n")
-        self.assertEqual(summarize(CASE / "report", Wanted(self.write("records", text), USERS)), summarize(CASE / "report", WANTED))
+        self.assertEqual(
+            summarize(CASE / "report", Wanted(self.write("records", text), USERS)), summarize(CASE / "report", WANTED)
+        )
 
     def test_small_blocks_say_the_same(self) -> None:
         lines = (CASE / "report").read_text("utf-8").splitlines()
         whole = summarize(CASE / "report", WANTED)
-        with mock.patch("pfplan.records.BLOCK", 64):
+        with mock.patch("pfplan.traces.records.BLOCK", 64):
             self.assertEqual(summarize(CASE / "report", WANTED), whole)
         self.assertEqual(summarize_blocks(([it] for it in lines), "report", WANTED), whole)
         self.assertEqual(summarize_blocks(blocks_of_lines(lines), "report", WANTED), whole)
 
     def test_two_networks(self) -> None:
-        done = pfplan("summary", CASE / "report", "--trace", CASE / "records", "--users", "198.51.100.0/30,198.51.100.5", "--top", 2)
+        done = pfplan(
+            "summary",
+            CASE / "report",
+            "--trace",
+            CASE / "records",
+            "--users",
+            "198.51.100.0/30,198.51.100.5",
+            "--top",
+            2,
+        )
         self.assertEqual(users_of(done.out), (DATA / "two_networks").read_text("utf-8"))
 
     def test_tried_again_and_cut_by_timeouts(self) -> None:
@@ -65,11 +79,13 @@ class Summaries(FolderCase):
                 rules, records = (DATA / f"{name}.{it}" for it in ("rules", "records"))
                 done = pfplan("run", rules, records, "--into", self.folder / name, "--users", USERS[0], "--held", 0)
                 self.assertEqual(done.status, 0, done.err)
-                self.assertEqual(users_of((self.folder / name / "summary.txt").read_text("utf-8")), (DATA / name).read_text("utf-8"))
+                self.assertEqual(
+                    users_of((self.folder / name / "summary.txt").read_text("utf-8")), (DATA / name).read_text("utf-8")
+                )
 
     def test_expire(self) -> None:
         summary = summarize(DATA / "expire.report", Wanted(DATA / "expire.trace"))
-        self.assertEqual(summary.to_text(), (DATA / "expire").read_text("utf-8"))
+        self.assertEqual(text_of(summary), (DATA / "expire").read_text("utf-8"))
         self.assertEqual(summary.words()["expire"], sum(summary.answers["expire"].values()))
 
     def test_trace_of_a_pipe(self) -> None:
@@ -79,12 +95,19 @@ class Summaries(FolderCase):
         self.assertIn("/dev/stdin: row 4: the report has more rows than the trace has records", done.err)
 
     def test_shares_are_never_rounded_to_all_or_none(self) -> None:
-        self.assertEqual([share(*it).strip() for it in ((999_999, 1_000_000), (1, 1_000_000), (5, 5), (0, 5), (0, 0))], ["> 99.9 %", "< 0.1 %", "100 %", "0 %", "-"])
+        self.assertEqual(
+            [share(*it).strip() for it in ((999_999, 1_000_000), (1, 1_000_000), (5, 5), (0, 5), (0, 0))],
+            ["> 99.9 %", "< 0.1 %", "100 %", "0 %", "-"],
+        )
         self.assertEqual(share(1, 608_797).strip(), "< 0.1 %")
 
     def test_both_families_of_users(self) -> None:
         trace = self.trace(
-            ["1,in,em0,tcp,2001:db8::1,1000,2001:db8:f::1,80,S", "1,out,em0,tcp,2001:db8:f::1,80,2001:db8::1,1000,SA", "1,in,em0,tcp,2001:DB8:0::1,1000,2001:db8:f::1,80,A"]
+            [
+                "1,in,em0,tcp,2001:db8::1,1000,2001:db8:f::1,80,S",
+                "1,out,em0,tcp,2001:db8:f::1,80,2001:db8::1,1000,SA",
+                "1,in,em0,tcp,2001:DB8:0::1,1000,2001:db8:f::1,80,A",
+            ]
         )
         report = self.report(["new @0", "state @0", "state @0"])
         self.assertEqual(outcomes(summarize(report, Wanted(trace, networks("2001:db8::/64")))), {"served": 1})
@@ -93,14 +116,26 @@ class Summaries(FolderCase):
         self.assertEqual(outcomes(summary), {"served": 1})
 
     def test_rules_that_never_decided_and_interfaces(self) -> None:
-        trace = self.trace(["1,in,em0,udp,203.0.113.1,1000,192.0.2.1,53,", "2,in,em7,udp,203.0.113.1,1000,192.0.2.1,53,"])
+        trace = self.trace(
+            ["1,in,em0,udp,203.0.113.1,1000,192.0.2.1,53,", "2,in,em7,udp,203.0.113.1,1000,192.0.2.1,53,"]
+        )
         report = self.report(["new @1", "state @1"])
-        shown = ["set limit { states 10 }", "table <bad>", "block on em9 all", "pass in on em0 all", 'anchor "a" on ! em3 all {', "pass all", "}"]
-        with mock.patch("pfplan.summaries.show_rules", return_value=shown):
+        shown = [
+            "set limit { states 10 }",
+            "table <bad>",
+            "block on em9 all",
+            "pass in on em0 all",
+            'anchor "a" on ! em3 all {',
+            "pass all",
+            "}",
+        ]
+        with mock.patch("pfplan.answers.summaries.show_rules", return_value=shown):
             summary = summarize(report, Wanted(trace, rules=report))
         self.assertEqual(summary.undecided, [0, 3])
         assert summary.interfaces is not None
-        self.assertEqual((summary.interfaces.without_records, summary.interfaces.without_rules), (["em3", "em9"], ["em7"]))
+        self.assertEqual(
+            (summary.interfaces.without_records, summary.interfaces.without_rules), (["em3", "em9"], ["em7"])
+        )
 
     def test_moment_falls(self) -> None:
         trace = self.trace(["5,in,em0,udp,203.0.113.1,1,192.0.2.1,53,", "4,in,em0,udp,203.0.113.1,1,192.0.2.1,53,"])
@@ -131,15 +166,18 @@ class Summaries(FolderCase):
 
 RULES = (
     "block in quick from <bad> to any flags any",
-    "pass in proto tcp from any to any flags S/SA keep state (source-track rule, max-src-conn-rate 3/10, overload <bad> flush)",
+    "pass in proto tcp from any to any flags S/SA keep state (source-track rule, max-src-conn-rate 3/10, overload "
+    "<bad> flush)",
     "pass in proto udp from any to any keep state",
-    "pass in proto tcp from any to any port 25 flags S/SA keep state (source-track rule, max-src-conn 2, overload <bad> flush global)",
+    "pass in proto tcp from any to any port 25 flags S/SA keep state (source-track rule, max-src-conn 2, overload "
+    "<bad> flush global)",
     "pass in proto tcp from any to any port 22 flags S/SA keep state (source-track rule, max-src-conn 2)",
 )
 
 
 def packet(ends: str, flags: str, moment: int = 0, place: str = "in,em0") -> str:
-    """A record of TCP; `ends` are `HOST:PORT>HOST:PORT`, each host a last number of 198.51.100.0/24, or of 192.0.2.0/24 behind `s`."""
+    """A record of TCP; `ends` are `HOST:PORT>HOST:PORT`, each host a last number of 198.51.100.0/24, or of 192.0.2.0/24
+    behind `s`."""
     shown = []
     for end in ends.split(">"):
         host, port = end.split(":")
@@ -156,22 +194,38 @@ def handshake(port: int, moment: int = 0, user: str = "1", service: int = 80) ->
 class Fates(FolderCase):
     """What becomes of connections: each of these was told wrongly once."""
 
-    def users(self, records: Sequence[str], texts: Sequence[str], users: str = "198.51.100.0/24", rules: Sequence[str] | None = RULES) -> Users:
+    def users(
+        self,
+        records: Sequence[str],
+        texts: Sequence[str],
+        users: str = "198.51.100.0/24",
+        rules: Sequence[str] | None = RULES,
+    ) -> Users:
         """The users of a summary; nobody does anything for 100 seconds at its end."""
         quiet = [*records, "100,in,em0,icmp,203.0.113.9,,192.0.2.1,,"]
         report = self.report([*texts, "skip -"])
-        with mock.patch("pfplan.summaries.show_rules", return_value=list(rules or ())):
+        with mock.patch("pfplan.answers.summaries.show_rules", return_value=list(rules or ())):
             summary = summarize(report, Wanted(self.trace(quiet), networks(users), rules=report if rules else None))
         assert summary.users is not None
         return summary.users
 
-    def fates(self, records: Sequence[str], texts: Sequence[str], users: str = "198.51.100.0/24", rules: Sequence[str] | None = RULES) -> dict[str, int]:
+    def fates(
+        self,
+        records: Sequence[str],
+        texts: Sequence[str],
+        users: str = "198.51.100.0/24",
+        rules: Sequence[str] | None = RULES,
+    ) -> dict[str, int]:
         """The outcomes that somebody met."""
         return {kind: number for kind, number in self.users(records, texts, users, rules).outcomes.items() if number}
 
     def test_flush(self) -> None:
         records = [it for port in (1, 2, 3, 4) for it in handshake(port)]
-        texts = ["new @1", "state @1", "state @1"] * 3 + ["new @1", "state @1", "kill:max-src-conn-rate @1 overload=added killed=4"]
+        texts = ["new @1", "state @1", "state @1"] * 3 + [
+            "new @1",
+            "state @1",
+            "kill:max-src-conn-rate @1 overload=added killed=4",
+        ]
         self.assertEqual(self.fates(records, texts), {"killed": 4})
         self.assertEqual(self.fates(records, texts, rules=None), {"killed": 4})
 
@@ -181,16 +235,26 @@ class Fates(FolderCase):
         kill = "kill:max-src-conn-rate @1 overload={} killed={}"
         self.assertEqual(self.fates(records, [*texts, kill.format("added", 2)]), {"served": 2, "killed": 2})
         texts[-2:] = ["new @3", "state @3"]
-        self.assertEqual(self.fates(records, [*texts, "kill:max-src-conn @3 overload=added killed=3"]), {"served": 1, "killed": 3})
+        self.assertEqual(
+            self.fates(records, [*texts, "kill:max-src-conn @3 overload=added killed=3"]), {"served": 1, "killed": 3}
+        )
 
     def test_a_kill_without_flush(self) -> None:
         records = [it for port in (1, 2, 3) for it in handshake(port, service=22)]
-        texts = ["new @4", "state @4", "state @4"] * 2 + ["new @4", "state @4", "kill:max-src-conn @4 overload=none killed=1"]
+        texts = ["new @4", "state @4", "state @4"] * 2 + [
+            "new @4",
+            "state @4",
+            "kill:max-src-conn @4 overload=none killed=1",
+        ]
         self.assertEqual(self.fates(records, texts), {"served": 2, "killed": 1})
 
     def test_a_flush_takes_no_more_than_the_report_says(self) -> None:
         records = [*handshake(1), *handshake(2, 50), *handshake(3, 50)]
-        texts = ["new @1", "state @1", "state @1"] * 2 + ["new @1", "state @1", "kill:max-src-conn-rate @1 overload=added killed=2"]
+        texts = ["new @1", "state @1", "state @1"] * 2 + [
+            "new @1",
+            "state @1",
+            "kill:max-src-conn-rate @1 overload=added killed=2",
+        ]
         self.assertEqual(self.fates(records, texts), {"served": 1, "killed": 2})
 
     def test_both_ends_are_users(self) -> None:
@@ -200,7 +264,12 @@ class Fates(FolderCase):
         self.assertEqual(self.fates(asked, ["new @2", "state @2"], users), {"served": 1})
 
     def test_begun_by_others(self) -> None:
-        records = [packet("s1:25>1:7", "S", place="out,em0"), packet("1:7>s1:25", "SA"), packet("s1:25>1:7", "A", place="out,em0"), packet("1:8>s1:80", "A")]
+        records = [
+            packet("s1:25>1:7", "S", place="out,em0"),
+            packet("1:7>s1:25", "SA"),
+            packet("s1:25>1:7", "A", place="out,em0"),
+            packet("1:8>s1:80", "A"),
+        ]
         found = self.users(records, ["new @1", "state @1", "state @1", "block @0"])
         self.assertEqual((found.connections, found.begun_by_others, found.without_beginning), (0, 1, 1))
 
@@ -209,18 +278,30 @@ class Fates(FolderCase):
         found = self.users([*records, *records], ["new @1", "block @0", "state @1", "block @0"])
         self.assertEqual((found.outcomes["refused"], found.connections, found.refused_by), (1, 1, {"block": 1}))
         texts = ["new @1", "block @0", "state @1", "new @1", "state @1", "state @1", "state @1", "state @1"]
-        answers = [packet("s1:80>1:7", "SA", 1, "in,em1"), packet("s1:80>1:7", "SA", 1, "out,em0"), packet("1:7>s1:80", "A", 1), packet("1:7>s1:80", "A", 1, "out,em1")]
+        answers = [
+            packet("s1:80>1:7", "SA", 1, "in,em1"),
+            packet("s1:80>1:7", "SA", 1, "out,em0"),
+            packet("1:7>s1:80", "A", 1),
+            packet("1:7>s1:80", "A", 1, "out,em1"),
+        ]
         self.assertEqual(self.fates([*records, *records, *answers], texts), {"served": 1})
 
     def test_cut_by_the_end_of_the_trace(self) -> None:
-        records = [packet("1:1>s1:80", "S", 97), packet("1:2>s1:80", "S", 98), packet("1:3>s1:80", "S", 100), packet("s1:80>1:3", "RA", 100, "out,em0")]
+        records = [
+            packet("1:1>s1:80", "S", 97),
+            packet("1:2>s1:80", "S", 98),
+            packet("1:3>s1:80", "S", 100),
+            packet("s1:80>1:3", "RA", 100, "out,em0"),
+        ]
         found = self.users(records, ["new @1"] * 3 + ["state @1"])
         self.assertEqual({kind: count for kind, count in found.outcomes.items() if count}, {"unanswered": 2, "late": 1})
         self.assertEqual((found.connections, found.counted), (3, 2))
 
     def test_why_a_source_was_blocked(self) -> None:
         records = [*handshake(1, 7), packet("1:2>s1:80", "S", 9), packet("2:1>s1:80", "S", 9)]
-        found = self.users(records, ["new @1", "state @1", "kill:max-src-conn-rate @1 overload=added killed=1", "block @0", "block @0"])
+        found = self.users(
+            records, ["new @1", "state @1", "kill:max-src-conn-rate @1 overload=added killed=1", "block @0", "block @0"]
+        )
         self.assertEqual(found.refusals, [Refusal("block", "@0", 2, 1, ("kill:max-src-conn-rate", "@1"), 7, 7)])
 
 
@@ -236,14 +317,18 @@ class Bounds(unittest.TestCase):
 
     def test_connections_that_are_over_are_forgotten(self) -> None:
         told: list[tuple[int, str]] = []
-        followed = Connections(networks("198.51.100.0/24"), lambda begin, outcome: told.append((begin, outcome)), remembered=10)
+        followed = Connections(
+            networks("198.51.100.0/24"), lambda begin, outcome: told.append((begin, outcome)), remembered=10
+        )
         for row in range(1, 1000):
             column = [str(row), "in", "em0", "tcp", "198.51.100.1", str(row), "192.0.2.1", "80", "S"]
             followed.follow(row, Reply("block" if row % 100 else "new", "@0"), column)
         self.assertGreater(len(told), 900)
         followed.last = 999
         followed.finish()
-        self.assertEqual(dict(followed.outcomes), {"refused": 990, "unanswered": 9})  # the last that was let in began 99 seconds before the end
+        self.assertEqual(
+            dict(followed.outcomes), {"refused": 990, "unanswered": 9}
+        )  # the last that was let in began 99 seconds before the end
         self.assertEqual(len(told), 999)
 
 

@@ -7,17 +7,19 @@ from pathlib import Path
 from typing import Any
 from unittest import mock
 
-from .. import records, replays, tallies
-from ..errors import Trouble
-from ..insertions import asking
-from ..measuring import replayed
-from ..replays import items_of, show_rules, stream_texts
-from ..rule_texts import flushes_of
-from ..sides import Side, follow, side_of
-from ..tallies import tally, trace_texts
-from ..words import Network, networks
-from .support import FolderCase
-from .test_insertions import RULES, drawn_records
+from pfplan.answers import tallies
+from pfplan.answers.sides import Side, follow, side_of
+from pfplan.answers.tallies import tally, trace_texts
+from pfplan.commands.words import networks
+from pfplan.common.errors import Trouble
+from pfplan.common.networks import Network
+from pfplan.pf.reading_canonical_text import flushes_of, items_of
+from pfplan.replays import runs
+from pfplan.replays.runs import replayed, show_rules, stream_texts
+from pfplan.tests.support import FolderCase
+from pfplan.tests.test_insertions import RULES, drawn_records
+from pfplan.traces import records
+from pfplan.traces.insertions import asking
 
 ENTRIES = [f"0,add,bad,,203.0.113.{it},,,," for it in range(20, 60)]
 USERS = ("198.51.100.0/24", "198.51.100.3", "0.0.0.0/0", "198.51.100.1,198.51.100.8,2001:db8::/32", "203.0.113.0/24")
@@ -27,7 +29,7 @@ USERS = ("198.51.100.0/24", "198.51.100.3", "0.0.0.0/0", "198.51.100.1,198.51.10
 def blocks_of(size: int) -> Iterator[None]:
     """Blocks of so many bytes are read."""
     with ExitStack() as stack:
-        for module in (records, replays, tallies):
+        for module in (records, runs, tallies):
             stack.enter_context(mock.patch.object(module, "BLOCK", size))
         yield
 

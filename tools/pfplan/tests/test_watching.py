@@ -18,15 +18,19 @@ from dataclasses import fields
 from pathlib import Path
 from typing import Any
 
-from ..counting import MOST_STEPS, Answers, Moments, step_of
-from ..errors import Status
-from ..live import Fed, LiveMoments
-from ..records import Record, read_record, records
-from ..replays import TOP
-from ..screens import Shown, View, plain_lines, screen_lines
-from ..records import End
-from .packets import ETHERNET, ethernet, head, seen
-from .support import Done, FolderCase, heed_interrupts, pfplan
+from pfplan.answers.connections import Connections, Reply
+from pfplan.answers.counting import Answers, Moments
+from pfplan.answers.live_counts import Fed, LiveMoments
+from pfplan.answers.stepping import Steps
+from pfplan.answers.watching import Shown, View
+from pfplan.commands.words import networks
+from pfplan.common.errors import Status
+from pfplan.common.repository import TOP
+from pfplan.pages.screens import plain_lines, screen_lines
+from pfplan.tests.packets import ETHERNET, ethernet, head, seen
+from pfplan.tests.support import Done, FolderCase, heed_interrupts, pfplan
+from pfplan.traces.moments import MOST_STEPS, step_of
+from pfplan.traces.records import End, Record, read_record, records
 
 CONF = """
 set limit states 60
@@ -353,15 +357,43 @@ class Counts(unittest.TestCase):
             moments.take(answers.take([f"{row} {text}" for row, text in enumerate(texts[at : at + 7], at + 1)]))
             most = max(most, len(moments.steps))
         moments.finish(True)
-        return {it.moment: it.words for it in moments.steps.values()}, most
+        return {it.moment: it.words for it in moments.steps.whole() if it.words}, most
 
     def whole_steps(self, lines: list[str], texts: list[str], seconds: int) -> Any:
         """The steps of a trace whose end is known."""
         trace, answers = Fed(), Answers("report", 1)
         trace.put(lines)
-        moments = Moments(trace, answers, (), seconds)
+        moments = Moments(trace, answers, (), Steps(seconds))
         moments.take(answers.take([f"{row} {text}" for row, text in enumerate(texts, 1)]))
-        return {it.moment: it.words for it in moments.steps.values()}
+        return {it.moment: it.words for it in moments.steps.whole() if it.words}
+
+    def test_open_connections_are_bounded(self) -> None:
+        """Of many that never close, those that were quiet the longest go, and are counted as they were then."""
+        ended: list[tuple[int, str]] = []
+        connections = Connections(
+            networks("198.51.100.0/24"), lambda begin, outcome: ended.append((begin, outcome)), None, {}, 4, 10
+        )
+        talker = ("198.51.100.1", "1", "192.0.2.1", "53", "")
+        for row in range(1, 1001):
+            column = (str(row), "in", "em0", "udp", "198.51.100.2", str(1000 + row), "192.0.2.1", "53", "")
+            connections.follow(2 * row, Reply("new", "@0"), column)
+            connections.follow(
+                2 * row + 1, Reply("new" if row == 1 else "state", "@0"), (str(row), "in", "em0", "udp", *talker)
+            )
+            connections.last = row
+            self.assertLess(sum(connections.so_far().values()) - len(ended), 10 + 3 * 4 + 2)
+        # the one that went on talking was kept
+        self.assertEqual(connections.forgotten, len(ended))
+        self.assertGreater(connections.forgotten, 970)
+        self.assertEqual({it for _, it in ended}, {"served"})
+        connections.finish()
+        self.assertEqual(connections.outcomes, Counter(served=1001))
+
+    def test_forgotten_connections_are_told(self) -> None:
+        view = View("x.conf", End(0, 1, 1, 0), {"states": 5}, {}, {}, 0, 0, (), Counter(served=1), (), 1234)
+        shown = Shown(1, 5, 10, 2.0, [view])
+        for lines in (plain_lines(shown), screen_lines(shown)):
+            self.assertIn("1,234 open connections forgotten, the quietest past 100,000", "\n".join(lines))
 
     def test_names_are_text(self) -> None:
         view = View(

@@ -1,0 +1,1 @@
+"""What comes of replays and plays, as values: connections, summaries, comparisons, sizes, margins, agreement."""

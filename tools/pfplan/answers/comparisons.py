@@ -1,0 +1,268 @@
+"""Rulesets under one trace, side by side."""
+
+import contextlib
+from collections import Counter
+from collections.abc import Callable, Iterator, Sequence
+from dataclasses import asdict, dataclass, field
+from itertools import groupby
+from pathlib import Path
+from typing import Any
+
+from pfplan.answers.connections import Key
+from pfplan.answers.measures import Measure, measure_of, most_of
+from pfplan.answers.sides import Side, follow, side_of
+from pfplan.answers.stepping import Steps, steps_of
+from pfplan.answers.timelines import Timeline, timeline_of
+from pfplan.common.networks import Network
+from pfplan.common.progress import Progress
+from pfplan.pf.reading_canonical_text import flushes_of, items_of
+from pfplan.replays.runs import records_of, replayed, show_rules
+from pfplan.traces.entries import mark_of
+from pfplan.traces.insertions import Held, asking
+from pfplan.traces.records import Record, read_record
+
+
+@dataclass(frozen=True)
+class Parting:
+    """The first record that two rulesets answer with other words: what each said, and the rule that it named."""
+
+    row: int
+    record: Record
+    texts: tuple[str, str]
+    rules: tuple[str, str]
+
+
+@dataclass(frozen=True)
+class Changed:
+    """A connection of a user whose fate is another under the second ruleset. `-`: there it is no connection of its
+    own."""
+
+    key: Key
+    row: int
+    fates: tuple[str, str]
+
+
+@dataclass
+class Against:
+    """A ruleset against the first: pairs of words with how many records had them, the parting, and pairs of fates."""
+
+    words: Counter[tuple[str, str]] = field(default_factory=Counter)
+    parting: Parting | None = None
+    fates: Counter[tuple[str, str]] = field(default_factory=Counter)
+    changed: list[Changed] = field(default_factory=list)
+    only: tuple[Sequence[str], Sequence[str]] = ((), ())
+
+    @property
+    def differing(self) -> int:
+        """How many records had another word."""
+        return sum(count for (one, other), count in self.words.items() if one != other)
+
+
+@dataclass
+class Comparison:
+    """Rulesets under one trace. `against` has one for each ruleset but the first."""
+
+    trace: str
+    users: str
+    names: list[str]
+    measures: list[Measure]
+    against: list[Against]
+    moments: int
+    timelines: list[Timeline] = field(default_factory=list)
+
+    def to_json(self) -> dict[str, Any]:
+        """The numbers for machines (man/pfplan.1)."""
+        sides = [{"rules": name, **it.to_json()} for name, it in zip(self.names, self.measures)]
+        return {
+            "trace": self.trace,
+            "users": self.users,
+            "sides": sides,
+            "against_first": [_against_json(it) for it in self.against],
+        }
+
+
+def _against_json(against: Against) -> dict[str, Any]:
+    return {
+        "words": [[one, other, count] for (one, other), count in against.words.items()],
+        "parting": asdict(against.parting) if against.parting else None,
+        "fates": [[one, other, count] for (one, other), count in against.fates.items()],
+        "changed": [asdict(it) for it in against.changed],
+        "lines": {"first_only": against.only[0], "other_only": against.only[1]},
+    }
+
+
+class Fates:
+    """Puts together what became of each connection under the rulesets. A connection is told by its ends and the row of
+    its first packet."""
+
+    def __init__(self, sides: int, most: int) -> None:
+        self._sides = sides
+        self._most = most
+        self._open: dict[tuple[Key, int], list[str]] = {}
+        self.counts = [Counter[tuple[str, str]]() for _ in range(sides - 1)]
+        self.changed: list[list[Changed]] = [[] for _ in range(sides - 1)]
+
+    def ended(self, side: int) -> Callable[[Key, int, str], None]:
+        """What a side tells of its connections."""
+
+        def tell(key: Key, row: int, outcome: str) -> None:
+            fates = self._open.setdefault((key, row), ["-"] * self._sides)
+            fates[side] = outcome
+            if "-" not in fates:
+                self._count((key, row), self._open.pop((key, row)))
+
+        return tell
+
+    def finish(self) -> None:
+        """Counts those that not all sides have as a connection."""
+        for place, fates in self._open.items():
+            self._count(place, fates)
+        self._open.clear()
+        for changed in self.changed:
+            changed.sort(key=lambda it: it.row)
+            del changed[self._most :]
+
+    def _count(self, place: tuple[Key, int], fates: Sequence[str]) -> None:
+        for at, other in enumerate(fates[1:]):
+            self.counts[at][fates[0], other] += 1
+            if fates[0] == other:
+                continue
+            changed = self.changed[at]
+            changed.append(Changed(*place, (fates[0], other)))
+            if len(changed) > 64 * (self._most + 1):
+                changed.sort(key=lambda it: it.row)
+                del changed[self._most :]
+
+
+def count_steps(steps: Steps, side: Side, lines: Sequence[str]) -> None:
+    """Counts the block whose texts the side holds, by its steps."""
+    at = 0
+    for moment, group in groupby(lines, key=lambda it: it.partition(",")[0]):
+        count = sum(1 for _ in group)
+        step = steps.at(int(moment))
+        for text, times in Counter(side.texts[at : at + count]).items():
+            step.words[side.answers.word_of(text)] += times
+            step.killed += side.answers.killed_of(text) * times
+        at += count
+
+
+class Pairs:
+    """Counts, block by block, how the words of each side go with those of the first, and notes where they part."""
+
+    def __init__(
+        self, sides: Sequence[Side], rules: Sequence[Sequence[str]], progress: Progress, steps: Sequence[Steps] = ()
+    ) -> None:
+        self._sides = sides
+        self._rules = rules
+        self._progress = progress
+        self._steps = steps
+        self.texts = [Counter[tuple[str, str]]() for _ in sides[1:]]
+        self.partings: list[Parting | None] = [None for _ in sides[1:]]
+
+    def take(self, row: int, lines: Sequence[str]) -> None:
+        """Counts the block whose texts the sides hold."""
+        self._progress.at(row + len(lines))
+        for steps, side in zip(self._steps, self._sides):
+            count_steps(steps, side, lines)
+        first = self._sides[0].texts
+        for at, side in enumerate(self._sides[1:]):
+            counts = Counter(zip(first, side.texts))
+            parts = self.partings[at] is None and {it for it in counts if _word(it[0]) != _word(it[1])}
+            if parts:
+                place = next(i for i, it in enumerate(zip(first, side.texts)) if it in parts)
+                self.partings[at] = self._parting(at + 1, row, place, lines[place])
+            for (one, other), count in counts.items():
+                self.texts[at][_word(one), _word(other)] += count
+
+    def _parting(self, side: int, row: int, place: int, line: str) -> Parting:
+        texts = (self._sides[0].texts[place], self._sides[side].texts[place])
+        rules = (_rule(texts[0], self._rules[0]), _rule(texts[1], self._rules[side]))
+        return Parting(row + place + 1, read_record(line), texts, rules)
+
+
+def _word(text: str) -> str:
+    return text.partition(" ")[0]
+
+
+def _rule(text: str, rules: Sequence[str]) -> str:
+    """The text of the rule that an answer names; nothing where it names none."""
+    name = text.split(" ")[1]
+    return rules[int(name[1:])] if name != "-" and int(name[1:]) < len(rules) else ""
+
+
+def names_of(paths: Sequence[Path]) -> list[str]:
+    """A name for each ruleset: its file's, or the whole path where two files have one name."""
+    names = [it.name for it in paths]
+    return names if len(set(names)) == len(names) else [str(it) for it in paths]
+
+
+@dataclass(frozen=True)
+class Asked:
+    """What is asked of a comparison: about whose connections, of how many moments what is held, how many of the
+    connections that change are named, and whether it is told over time."""
+
+    users: Sequence[Network] = ()
+    moments: int = 0
+    most: int = 5
+    over_time: bool = False
+
+
+def compare(
+    names: Sequence[str], paths: Sequence[Path], trace: Path, entries: Sequence[Sequence[str]], wanted: Asked
+) -> Comparison:
+    """Replays the trace under each ruleset, all at once. `entries` are those of each that come by records. Trouble as
+    the program's own for each."""
+    shown = [show_rules(it) for it in paths]
+    rules = [items_of(it) for it in shown]
+    fates = Fates(len(paths), wanted.most)
+    progress = Progress("compare", records_of(trace), "records")
+    with contextlib.ExitStack() as stack:
+        stack.callback(progress.finish)
+        asked = [stack.enter_context(asking(trace, wanted.moments, it)) for it in entries]
+        heard = [one.heard(it) for one, it in zip(asked, paths)]
+        reports = [stack.enter_context(replayed(it, trace, asked[at], heard[at])) for at, it in enumerate(paths)]
+        steps = [steps_of(trace) for _ in paths] if wanted.over_time else []
+        told = [steps[at].told if steps else None for at in range(len(paths))]
+        flushes = [flushes_of(it) for it in rules]
+        sides = [
+            side_of(it, reports[at], wanted.users, fates.ended(at), told[at], flushes[at], asked[at].numbers)
+            for at, it in enumerate(names_of(paths))
+        ]
+        pairs = Pairs(sides, rules, progress, steps)
+        follow(trace, sides, wanted.users, pairs.take)
+    fates.finish()
+    measures = [measure_of(side, most_of(it.held, measure_of(side).end)) for side, it in zip(sides, heard)]
+    lines_of = [[*lines, *([mark_of(it)] if it else [])] for lines, it in zip(shown, entries)]
+    lines = [_timeline(it, said.held, any(one.connections for one in measures)) for it, said in zip(steps, heard)]
+    users = ",".join(map(str, wanted.users))
+    return Comparison(trace.name, users, list(names), measures, _against(pairs, fates, lines_of), wanted.moments, lines)
+
+
+def _against(pairs: Pairs, fates: Fates, lines_of: Sequence[Sequence[str]]) -> list[Against]:
+    """Each ruleset but the first against it."""
+    found = zip(pairs.texts, pairs.partings, fates.counts, fates.changed, lines_of[1:])
+    return [
+        Against(words, parting, counts, changed, _only(lines_of[0], lines))
+        for words, parting, counts, changed, lines in found
+    ]
+
+
+def _timeline(steps: Steps, held: Sequence[Held], has_users: bool) -> Timeline:
+    """A ruleset over time."""
+    points = [(it.moment, it.states) for it in held]
+    return timeline_of(steps.whole(), steps.seconds, points, steps.first or 0, has_users)
+
+
+def _only(one: Sequence[str], other: Sequence[str]) -> tuple[list[str], list[str]]:
+    """The lines of canonical texts that only one of the two has; of limits and timeouts, each is a line."""
+    here, there = Counter(_lines(one)), Counter(_lines(other))
+    return list((here - there).elements()), list((there - here).elements())
+
+
+def _lines(shown: Sequence[str]) -> Iterator[str]:
+    for line in shown:
+        if line.startswith("set "):
+            head, _, inner = line.partition("{")
+            yield from (f"{head}{it.strip()}" for it in inner.rstrip(" }").split(","))
+        elif line.strip() != "}":
+            yield line

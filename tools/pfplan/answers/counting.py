@@ -1,0 +1,370 @@
+"""Counts what a report and its trace hold, block by block. What is counted is told by summaries.Summary."""
+
+from collections import Counter
+from collections.abc import Iterable, Iterator, Mapping, Sequence
+from dataclasses import dataclass
+from functools import lru_cache
+from itertools import chain, compress, groupby
+from pathlib import Path
+from typing import NoReturn
+
+from pfplan.answers.connections import Connections, Reply
+from pfplan.answers.sources import Sources
+from pfplan.answers.stepping import Steps
+from pfplan.common.errors import Status, Trouble
+from pfplan.common.networks import Network
+from pfplan.traces.records import ORDERS, End, Traces, read_answer
+from pfplan.traces.rows import Rows
+
+# The words of records that are no packets with ports: those that are skipped, and those of an administrator.
+NO_PACKETS = ("skip", "expire", "held", "add", "delete")
+# Limits of a block whose last place is looked for one by one.
+FEW = 8
+# Texts of a report's lines that are remembered.
+KNOWN = 50_000
+# Names of interfaces that are kept of a trace.
+INTERFACES = 1000
+
+
+@dataclass(slots=True)
+class Limit:
+    """A limit that was met: by which rows, and with a trace at which moments and in how many seconds."""
+
+    word: str
+    records: int = 0
+    first_row: int = 0
+    last_row: int = 0
+    first_moment: int | None = None
+    last_moment: int | None = None
+    seconds: int = 0
+    killed: int = 0
+
+
+@lru_cache(maxsize=4)
+def _row_begins(first: int, count: int) -> tuple[str, ...]:
+    """How the lines of rows begin: their number and a space. Reports that are read side by side ask for the same."""
+    return tuple([f"{it} " for it in range(first, first + count)])
+
+
+class Answers:
+    """Counts the lines of a report: each word by rule, limits with their rows, kills and what overload did.
+
+    `numbers` are those of the rows in the report where records were put into the trace; the counts are by the trace's
+    own rows.
+    """
+
+    def __init__(self, name: Path | str, items: int | None, numbers: Rows | None = None) -> None:
+        self.rows = 0
+        self._numbers = numbers or Rows(())
+        self.by_rule: dict[str, Counter[str]] = {}
+        self.limits: dict[str, Limit] = {}
+        self.overloads: Counter[str] = Counter()
+        self.end: End | None = None
+        self._name = name
+        self._items = items
+        # what a text behind the row's number says
+        self._known: dict[str, Reply] = {}
+
+    def take(self, lines: Sequence[str]) -> list[str]:
+        """Counts the lines of a block, and answers the texts behind the rows' numbers, without that of the last
+        line."""
+        if self.end is not None and lines:
+            self._refuse(self.rows + 2, "a line after the last")
+        if len(self._known) > KNOWN:
+            self._known.clear()
+        texts = self._texts(lines)
+        first = self.rows + 1
+        self.rows += len(texts)
+        counts = Counter(texts)
+        for text in counts:
+            if text not in self._known:
+                self._know(text, first + texts.index(text))
+        for text, count in counts.items():
+            self._count(self._known[text], count)
+        self._count_limits(texts, counts, first)
+        if len(lines) > len(texts):
+            self._take_end(lines[len(texts)])
+            if len(lines) > len(texts) + 1:
+                self._refuse(self.rows + 2, "a line after the last")
+        return texts
+
+    def word_of(self, text: str) -> str:
+        """The word of a text that `take` answered."""
+        return self._known[text].word
+
+    def killed_of(self, text: str) -> int:
+        """The states that a text of `take` says were killed."""
+        return self._known[text].killed
+
+    def reply_of(self, text: str) -> Reply:
+        """What a text of `take` says."""
+        return self._known[text]
+
+    def finish(self, is_partial: bool) -> None:
+        """The report is over. Trouble where it has no last line, unless `is_partial`."""
+        if self.end is None and not is_partial:
+            why = (
+                "no end line: the report is cut, or a fault stopped it (--partial takes it)"
+                if self.rows
+                else "the report is empty"
+            )
+            self._refuse(self.rows, why)
+
+    def _texts(self, lines: Sequence[str]) -> list[str]:
+        """What stands behind the numbers of the rows; the numbers have to be those that follow."""
+        count = len(lines) - (1 if lines and lines[-1].startswith("end ") else 0)
+        begins = self._begins(count)
+        if begins and all(map(str.startswith, lines, begins)):
+            width = len(begins[0])
+            if len(begins[-1]) == width:
+                return [it[width:] for it in lines[:count]]
+            return [it[len(begin) :] for it, begin in zip(lines, begins)]
+        return self._slow_texts(lines)
+
+    def _begins(self, count: int) -> tuple[str, ...]:
+        """How the lines of the next rows begin in the report."""
+        parts = self._numbers.parts(self.rows + 1, count)
+        return (
+            _row_begins(*parts[0]) if len(parts) == 1 else tuple(chain.from_iterable(_row_begins(*it) for it in parts))
+        )
+
+    def _slow_texts(self, lines: Sequence[str]) -> list[str]:
+        """As `_texts`, of lines that are not plainly those of the rows that follow: says what is wrong with them."""
+        count = len(lines)
+        parts = [it.partition(" ") for it in lines]
+        numbers = [it[0] for it in parts]
+        if "end" in numbers:
+            count = numbers.index("end")
+        if numbers[:count] != [it[:-1] for it in self._begins(count)]:
+            self._refuse_first(lines)
+        return [it[2] for it in parts[:count]]
+
+    def _refuse_first(self, lines: Sequence[str]) -> NoReturn:
+        for line, begin in zip(lines, self._begins(len(lines)), strict=True):
+            row = int(begin)
+            try:
+                found = read_answer(line)
+            except ValueError as error:
+                self._refuse(row, str(error))
+            if isinstance(found, End):
+                break
+            if found.row != row or not line.startswith(begin):
+                self._refuse(row, f"row {row} is wanted")
+        self._refuse(self.rows + len(lines), "no line of a report")
+
+    def _know(self, text: str, row: int) -> None:
+        try:
+            answer = read_answer(f"0 {text}")
+        except ValueError as error:
+            self._refuse(row, str(error))
+        assert not isinstance(answer, End)
+        if self._items is not None and answer.rule != "-" and int(answer.rule[1:]) >= self._items:
+            self._refuse(row, f"the rules have no {answer.rule}")
+        self._known[text] = Reply(answer.word, answer.rule, answer.overload, answer.killed)
+
+    def _count(self, reply: Reply, count: int) -> None:
+        self.by_rule.setdefault(reply.word, Counter())[reply.rule] += count
+        if not reply.word.startswith(("drop:", "kill:")):
+            return
+        limit = self.limits.setdefault(reply.word, Limit(reply.word))
+        limit.records += count
+        if reply.word.startswith("kill:"):
+            self.overloads[reply.overload] += count
+            limit.killed += reply.killed * count
+
+    def _count_limits(self, texts: Sequence[str], counts: Iterable[str], first: int) -> None:
+        met = [it for it in counts if self._known[it].word in self.limits]
+        if not met:
+            return
+        # the last place of each: from the end for a few, by one walk for many
+        if len(met) < FEW:
+            backwards = texts[::-1]
+            last = {it: len(texts) - 1 - backwards.index(it) for it in met}
+        else:
+            places = dict(zip(texts, range(len(texts)), strict=True))
+            last = {it: places[it] for it in met}
+        for text in met:
+            limit = self.limits[self._known[text].word]
+            limit.last_row = max(limit.last_row, first + last[text])
+            if not limit.first_row or limit.first_row >= first:
+                row = first + texts.index(text)
+                limit.first_row = min(limit.first_row or row, row)
+
+    def _take_end(self, line: str) -> None:
+        try:
+            end = read_answer(line)
+        except ValueError as error:
+            self._refuse(self.rows + 1, str(error))
+        assert isinstance(end, End)
+        if end.rows != self.rows:
+            self._refuse(self.rows + 1, f"the last line tells {end.rows} rows, and there are {self.rows}")
+        self.end = end
+
+    def _refuse(self, line: int, why: str) -> NoReturn:
+        raise Trouble(f"{self._name}: line {line}: {why}", Status.REFUSED)
+
+
+class Moments:
+    """Counts the records of a trace beside the answers that they got: by the step of their moment, by source and by
+    interface."""
+
+    def __init__(
+        self,
+        trace: Traces,
+        answers: Answers,
+        users: Sequence[Network],
+        steps: Steps,
+        flushes: Mapping[str, bool] | None = None,
+    ) -> None:
+        self.first: int | None = None
+        self.last = 0
+        self.steps = steps
+        self.refused, self.killed, self.made, self.seen = Sources(), Sources(), Sources(), Sources()
+        self.interfaces: set[str] = set()
+        self.connections = Connections(users, steps.told, flushes=flushes)
+        self._trace = trace
+        self._back: list[str] = []
+        self._lines = self._ahead()
+        self._answers = answers
+        self._has_users = bool(users)
+        self._row = 0
+        self._seconds: dict[str, int] = {}
+
+    def take(self, texts: Sequence[str]) -> None:
+        """Counts as many records as there are answers. Trouble where the trace has fewer, or is none."""
+        while texts:
+            lines = next(self._lines, None)
+            if lines is None:
+                self._refuse("the report has more rows than the trace has records")
+            if len(lines) > len(texts):
+                self._back = lines[len(texts) :]
+                lines = lines[: len(texts)]
+            self._count(lines, texts[: len(lines)])
+            texts = texts[len(lines) :]
+
+    def finish(self, is_whole: bool) -> None:
+        """The report is over. Trouble where it is whole and the trace has more records."""
+        if is_whole and next(self._lines, None) is not None:
+            raise Trouble(
+                f"{self._trace.name}: row {self._row + 1}: the trace has more records than the report has rows",
+                Status.REFUSED,
+            )
+        self.connections.finish()
+
+    def _ahead(self) -> Iterator[list[str]]:
+        for lines in self._trace.blocks():
+            yield lines
+            while self._back:
+                lines, self._back = self._back, []
+                yield lines
+
+    def _count(self, lines: Sequence[str], texts: Sequence[str]) -> None:
+        columns = self._columns(lines)
+        if not ORDERS.isdisjoint(columns[1]):
+            _blank_orders(columns)
+        self._count_moments(columns[0], texts)
+        replies = {it: self._answers.reply_of(it) for it in set(texts)}
+        self._count_sources(columns[4], texts, replies)
+        self._see(columns[2])
+        self.connections.last = self.last
+        if self._has_users:
+            self._follow(columns, texts, replies)
+        self._row += len(lines)
+
+    def _columns(self, lines: Sequence[str]) -> list[list[str]]:
+        """The nine columns of the lines. One split serves all of them: between two lines stands a part that no line
+        holds."""
+        parts = ",\n,".join(lines).split(",")
+        if len(parts) != 10 * len(lines) - 1 or parts[9::10].count("\n") != len(lines) - 1:
+            self._row += next(i for i, it in enumerate(lines, 1) if it.count(",") != 8)
+            self._refuse("not nine columns")
+        return [parts[it::10] for it in range(9)]
+
+    def _see(self, names: Iterable[str]) -> None:
+        if len(self.interfaces) < INTERFACES:
+            self.interfaces.update(names)
+            self.interfaces.discard("")
+
+    def _count_moments(self, times: Sequence[str], texts: Sequence[str]) -> None:
+        at = 0
+        for time, group in groupby(times):
+            count = len(list(group))
+            if not (time.isascii() and time.isdigit()):
+                self._row += at + 1
+                self._refuse("the moment is no number")
+            moment = int(time)
+            if self.first is None:
+                self.first = moment
+            elif moment < self.last:
+                self._row += at + 1
+                self._refuse("the moment falls")
+            self.last = moment
+            self._count_second(moment, Counter(texts[at : at + count]) if count > 1 else Counter((texts[at],)))
+            at += count
+
+    def _count_second(self, moment: int, counts: "Counter[str]") -> None:
+        step = self.steps.at(moment)
+        for text, count in counts.items():
+            word = self._answers.word_of(text)
+            step.words[word] += count
+            limit = self._answers.limits.get(word)
+            if limit is None:
+                continue
+            step.killed += self._answers.killed_of(text) * count
+            if limit.first_moment is None:
+                limit.first_moment = moment
+            if limit.last_moment != moment:
+                limit.seconds += 1
+                limit.last_moment = moment
+
+    def _count_sources(self, sources: Sequence[str], texts: Sequence[str], replies: Mapping[str, Reply]) -> None:
+        self.seen.add(sources)
+        drops = {text for text, it in replies.items() if it.word.startswith("drop:")}
+        if drops:
+            self.refused.add(compress(sources, map(drops.__contains__, texts)))
+        made = {text for text, it in replies.items() if it.word == "new"}
+        if made:
+            self.made.add(compress(sources, map(made.__contains__, texts)))
+        kills = {text for text, it in replies.items() if it.word.startswith("kill:")}
+        for source, text in compress(zip(sources, texts, strict=True), map(kills.__contains__, texts)) if kills else ():
+            self.killed.add_one(source, replies[text].killed)
+
+    def _follow(self, columns: Sequence[Sequence[str]], texts: Sequence[str], replies: Mapping[str, Reply]) -> None:
+        sources, targets = columns[4], columns[6]
+        is_user = self.connections.members.of({*sources, *targets}).__contains__
+        rows = range(len(texts))
+        users = {*compress(rows, map(is_user, sources)), *compress(rows, map(is_user, targets))}
+        kills = {text for text, it in replies.items() if it.word.startswith("kill:")}
+        killing = {*compress(rows, map(kills.__contains__, texts))} if kills else set()
+        passed_over = {text for text, it in replies.items() if it.word in NO_PACKETS}
+        places = sorted(users | killing)
+        records = zip(*([column[at] for at in places] for column in columns), strict=True)
+        follow, row = self.connections.follow, self._row + 1
+        for at, record in zip(places, records, strict=True):
+            text = texts[at]
+            if text not in passed_over and (not killing or at in users):
+                follow(row + at, replies[text], record)
+            if text in kills:
+                self.connections.kill(int(record[0]), record[4], replies[text])
+
+    def _refuse(self, why: str) -> NoReturn:
+        raise Trouble(f"{self._trace.name}: row {self._row}: {why}", Status.REFUSED)
+
+
+def _blank_orders(columns: Sequence[list[str]]) -> None:
+    """Takes tables and entries of an administrator's records out of the columns of packets, where they are no interface
+    and no source."""
+    for at, direction in enumerate(columns[1]):
+        if direction in ORDERS:
+            columns[2][at] = columns[4][at] = ""
+
+
+def count(blocks: Iterable[list[str]], answers: Answers, moments: Moments | None, is_partial: bool) -> None:
+    """Counts a report, and its trace beside it. Trouble where one of them is none, or they are not of one replay."""
+    for lines in blocks:
+        texts = answers.take(lines)
+        if moments:
+            moments.take(texts)
+    answers.finish(is_partial)
+    if moments:
+        moments.finish(answers.end is not None)

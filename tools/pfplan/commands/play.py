@@ -1,0 +1,89 @@
+"""The command `play`: a scenario against rulesets, with clients and servers that act by what the firewall answers."""
+
+from __future__ import annotations
+
+import argparse
+from collections.abc import Sequence
+from dataclasses import replace
+from pathlib import Path
+
+from pfplan.answers.plays_beside import play_into
+from pfplan.commands.parser import Parser
+from pfplan.commands.rule_words import add_rule_words, options_of
+from pfplan.commands.words import file, number
+from pfplan.common.errors import Status, Trouble
+from pfplan.common.inputs import check_readable
+from pfplan.common.repository import check_program
+from pfplan.pages.play_folder import names_of, write_plays
+from pfplan.pages.play_texts import headline_of
+from pfplan.pages.record_texts import letters
+from pfplan.pages.report_page import PAGE
+from pfplan.pf.conversion import convert
+from pfplan.traces.scenarios.model import Scenario
+from pfplan.traces.scenarios.reading import read_scenario
+
+DESCRIPTION = """Plays a scenario against each ruleset: clients repeat what is not answered, wait, give up and come
+back, servers answer, and the firewall
+is ./pfsrc, which is asked packet by packet. pfplan scenario prints examples of what a scenario may say. Puts into a
+folder:
+
+  report.html, *.svg             who was served under each ruleset, and how long they waited (pictures where gnuplot
+                                 is installed)
+  summary.txt                    the same as a text
+  and for each ruleset a folder of its name:
+  rules, left-out.txt            the rules text, and what of the pf.conf is not in it
+  trace.csv, report              the packets that came of it, and what became of each: ./pfsrc replay
+                                 gives the same report
+  summary.json                   the numbers"""
+
+
+def add_words(parser: Parser) -> None:
+    """The words of `play`."""
+    parser.description = DESCRIPTION
+    parser.add_argument("scenario", type=file, metavar="SCENARIO", help="a scenario, a file of TOML")
+    parser.add_argument(
+        "rules", type=file, nargs="+", metavar="RULES", help="a pf.conf, what pfctl -nvf prints, or a rules text"
+    )
+    parser.add_argument(
+        "--into", type=file, required=True, metavar="FOLDER", help="the folder; it is made where it is not there"
+    )
+    parser.add_argument("--jobs", type=number(1, 1000), metavar="N", help="plays side by side (one for each processor)")
+    add_rule_words(parser)
+
+
+def run(arguments: argparse.Namespace) -> int:
+    """Plays, and writes the folder."""
+    for path in (arguments.scenario, *arguments.rules):
+        check_readable(path)
+    scenario = read_scenario(arguments.scenario)
+    play_rules(scenario, arguments.rules, arguments)
+    return Status.DONE
+
+
+def run_play(arguments: argparse.Namespace) -> int:
+    """`run` with a scenario: plays it against one ruleset, into one folder."""
+    for word in ("users", "inside", "name", "zero", "margins"):
+        if getattr(arguments, word):
+            given = "if" if word == "name" else word
+            raise Trouble(
+                f"--{given}: {arguments.capture} is a scenario, and the word is for traces"
+                + ("; pfplan margins takes it" if word == "margins" else "")
+            )
+    play_rules(read_scenario(arguments.capture), [arguments.rules_from], arguments, is_flat=True)
+    return Status.DONE
+
+
+def play_rules(scenario: Scenario, paths: Sequence[Path], arguments: argparse.Namespace, is_flat: bool = False) -> None:
+    """Plays a scenario against rulesets, writes the folder, and prints the answer and where the page is.
+
+    Each ruleset has a folder of its own in it; one that `is_flat` has none.
+    """
+    rulesets = [convert(it, replace(options_of(arguments), by_records=True)) for it in paths]
+    check_program()
+    names = names_of(paths)
+    folders = [arguments.into if is_flat else arguments.into / it for it in names]
+    told = play_into(scenario, names, rulesets, folders, arguments.jobs)
+    write_plays(arguments.into, folders, told)
+    for letter, name, at in zip(letters(len(names)), names, range(len(names))):
+        print(f"{letter}  {name}: {headline_of(told, at)}")
+    print(arguments.into / PAGE)

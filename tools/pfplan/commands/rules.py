@@ -1,0 +1,62 @@
+"""The command `rules`: a rules text of a pf.conf, and what was left out of it."""
+
+import argparse
+import sys
+from collections.abc import Sequence
+from dataclasses import replace
+from pathlib import Path
+
+from pfplan.commands.rule_words import add_rule_words, options_of
+from pfplan.commands.words import file
+from pfplan.common.errors import Status
+from pfplan.common.inputs import is_regular, name_of
+from pfplan.pf.conversion import convert, convert_text, write_rules
+from pfplan.pf.lexer import printable
+from pfplan.traces.entries import beside
+
+DESCRIPTION = """Makes a rules text for ./pfsrc of a pf.conf as it stands in /etc, with no OpenBSD at hand, or of
+what pfctl -nvf prints. Macros and lists are expanded as pfctl does. Standard error says what is left out, a line
+each:
+  FILE: line N: left out: TEXT: can change an answer (WHICH WAY): WHY     or     .. : changes no answer: WHY
+No rule comes out wider than it was: a part goes alone only where the rule matches the same packets without it, else
+the whole rule does. docs/PFCONF.md says of each construct of pf.conf(5) what becomes of it."""
+
+
+def add_words(parser: argparse.ArgumentParser) -> None:
+    """The words of `pfplan rules`."""
+    parser.description = DESCRIPTION
+    parser.add_argument(
+        "file",
+        type=file,
+        nargs="?",
+        default=Path("-"),
+        metavar="PF.CONF",
+        help="the text; - or nothing is standard input",
+    )
+    parser.add_argument(
+        "--out", type=file, metavar="FILE", help="where the rules text goes; nothing is standard output"
+    )
+    add_rule_words(parser)
+
+
+def run(arguments: argparse.Namespace) -> int:
+    """Writes the rules text, and tells on standard error what was left out. Nothing is written where the text is
+    refused."""
+    out: Path | None = arguments.out
+    options = replace(options_of(arguments), by_records=out is not None and (is_regular(out) or not out.exists()))
+    if str(arguments.file) == "-":
+        ruleset = convert_text(sys.stdin.buffer.read().decode("utf-8", "surrogateescape"), "standard input", options)
+    else:
+        ruleset = convert(arguments.file, options)
+    write_rules(out, ruleset)
+    if out and ruleset.records:
+        print(f"note: entries by records: {beside(out)}", file=sys.stderr)
+    _tell(arguments.file, ruleset.told())
+    return Status.DONE
+
+
+def _tell(path: Path, lines: Sequence[str]) -> None:
+    *told, count = lines
+    for it in told:
+        print(it, file=sys.stderr)
+    print(f"{printable(name_of(path))}: {count}", file=sys.stderr)

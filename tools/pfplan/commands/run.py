@@ -1,0 +1,214 @@
+"""The command `run`: from a pf.conf and a capture to a folder with the answer."""
+
+import argparse
+import contextlib
+import sys
+from dataclasses import replace
+from fractions import Fraction
+from pathlib import Path
+
+from pfplan.answers.margins import measure_margins
+from pfplan.answers.summaries import Summary, Wanted, summarize
+from pfplan.commands.parser import Parser
+from pfplan.commands.play import run_play
+from pfplan.commands.rule_words import add_rule_words, options_of
+from pfplan.commands.run_words import add_machine_words, machines_of
+from pfplan.commands.words import file, interface, networks, number, share_word
+from pfplan.common.errors import Status, Trouble
+from pfplan.common.figures import share_text
+from pfplan.common.inputs import Kind, check_readable, kind_of, name_of, regular, unpacked
+from pfplan.common.outputs import whole_folder
+from pfplan.common.repository import DIFFERENCES, check_program
+from pfplan.pages.report_page import PAGE, Subject, write_answer
+from pfplan.pages.rule_notes import frame_lines
+from pfplan.pages.timeline_pictures import FILES
+from pfplan.pf.conversion import RuleOptions, Ruleset, convert_named, machine_of, write_ruleset
+from pfplan.pf.lexer import printable
+from pfplan.pf.origins import origins_of
+from pfplan.replays.machines import Machines, measure_words
+from pfplan.replays.runs import replay_into
+from pfplan.traces.accounts import Frames, frames_of
+from pfplan.traces.captures import make_trace
+from pfplan.traces.scenarios.reading import is_scenario
+
+DESCRIPTION = """Makes a rules text and a trace where they are not yet, replays, and puts into a folder:
+
+  rules, left-out.txt            the rules text, and what of the pf.conf is not in it
+  rules.entries                  entries of tables that come by records, where there are any
+  trace.csv                      the trace, where it was not given as one
+  report                         what became of each record
+  summary.txt, summary.json      counts, and what became of the users
+  report.html, *.svg             the answer to look at (pictures where gnuplot is installed)"""
+OURS = (
+    "rules", "rules.entries", "left-out.txt", "trace.csv", "report", "summary.txt", "summary.json", PAGE,
+    DIFFERENCES.name, *FILES.values(),
+)  # fmt: skip
+MOST_MISSING = 5
+# Moments at which the program is asked what is held.
+MOMENTS = 20
+
+
+def add_words(parser: Parser) -> None:
+    """The words of the command."""
+    parser.description = DESCRIPTION
+    parser.add_argument(
+        "rules_from",
+        type=file,
+        metavar="PF.CONF",
+        help="a pf.conf as it stands in /etc, what pfctl -nvf prints, or a rules text; - is standard input",
+    )
+    parser.add_argument(
+        "capture",
+        type=file,
+        metavar="CAPTURE",
+        help="a capture, also packed by gzip or zstd, a trace, or a scenario, which is played; - is standard input",
+    )
+    parser.add_argument(
+        "--into", type=file, required=True, metavar="FOLDER", help="the folder; it is made where it is not there"
+    )
+    parser.add_argument(
+        "--users",
+        type=networks,
+        metavar="PREFIX,..",
+        default=(),
+        help="the networks of the users: says who of them was served",
+    )
+    parser.add_argument(
+        "--inside",
+        type=networks,
+        metavar="PREFIX,..",
+        action="extend",
+        default=[],
+        help="the networks behind the firewall, as pfplan trace takes them (by --ifconfig)",
+    )
+    parser.add_argument(
+        "--if", dest="name", type=interface, metavar="NAME", help="the interface of every record of the capture"
+    )
+    parser.add_argument(
+        "--zero", action="store_true", help="moments of the capture count from that of its first record"
+    )
+    parser.add_argument(
+        "--held",
+        type=number(0, 10_000),
+        metavar="N",
+        default=MOMENTS,
+        help=f"asks the program how much is held at N moments ({MOMENTS})",
+    )
+    parser.add_argument("--top", type=number(1, 1000), metavar="N", default=5, help="how many sources are named (5)")
+    parser.add_argument(
+        "--margins",
+        action="store_true",
+        help="also tells how sure the answer is, as pfplan margins does, which takes many replays",
+    )
+    parser.add_argument(
+        "--want",
+        type=share_word,
+        default=Fraction(99, 100),
+        metavar="SHARE",
+        help="of the users' connections: with as many served the answer is a good one (99%%)",
+    )
+    parser.add_argument("--partial", action="store_true", help="takes a capture that is cut at its end, up to there")
+    add_machine_words(parser)
+    add_rule_words(parser)
+
+
+def run(arguments: argparse.Namespace) -> int:
+    """Runs the command."""
+    where = machines_of(arguments)
+    if str(arguments.rules_from) == str(arguments.capture) == "-":
+        raise Trouble("-: standard input gives the rules or the capture, and not both")
+    for path in (arguments.rules_from, arguments.capture):
+        if str(path) != "-":
+            check_readable(path)
+    if str(arguments.capture) != "-" and is_scenario(arguments.capture):
+        return run_play(arguments)
+    with contextlib.ExitStack() as stack:
+        ruleset = convert_named(
+            stack.enter_context(regular(arguments.rules_from)), arguments.rules_from, _options(arguments)
+        )
+        check_program()
+        given = stack.enter_context(regular(arguments.capture))
+        capture = stack.enter_context(unpacked(given, name_of(arguments.capture)))
+        with whole_folder(arguments.into, OURS) as folder:
+            summary = _fill(arguments, where, folder, capture, ruleset)
+    _tell(arguments, ruleset, summary)
+    return Status.DONE
+
+
+def _options(arguments: argparse.Namespace) -> RuleOptions:
+    return replace(options_of(arguments), by_records=True)
+
+
+def _fill(arguments: argparse.Namespace, where: Machines, folder: Path, capture: Path, ruleset: Ruleset) -> Summary:
+    """Writes all files of the folder, and answers the summary."""
+    write_ruleset(folder, ruleset)
+    trace, frames = _trace(arguments, capture, folder)
+    held = replay_into(folder, trace, ruleset.records, arguments.held)
+    wanted = Wanted(
+        trace, arguments.users, folder / "rules", ruleset.labels, origins_of(ruleset), frames, top=arguments.top
+    )
+    summary = summarize(folder / "report", wanted)
+    summary.held = held
+    write_answer(folder, summary, _subject(arguments, where, folder, trace, ruleset), arguments.into)
+    return summary
+
+
+def _trace(arguments: argparse.Namespace, given: Path, folder: Path) -> tuple[Path, Frames | None]:
+    """The trace that was given, or that of the capture with what became of its frames."""
+    if kind_of(given) is Kind.TRACE:
+        return given, None
+    machine = machine_of(arguments.ifconfig)
+    inside, macs = arguments.inside or machine.inside(), machine.macs(arguments.name or "")
+    shown = name_of(arguments.capture)
+    account = make_trace(
+        given,
+        inside,
+        folder / "trace.csv",
+        name=arguments.name,
+        macs=macs,
+        is_zero=arguments.zero,
+        is_partial=arguments.partial,
+        shown=shown,
+    )
+    for line in account:
+        print(line, file=sys.stderr)
+    return folder / "trace.csv", frames_of(account)
+
+
+def _subject(arguments: argparse.Namespace, where: Machines, folder: Path, trace: Path, ruleset: Ruleset) -> Subject:
+    """What the page tells beside the summary."""
+    names = (Path(name_of(arguments.capture)).name, name_of(arguments.rules_from))
+    found = None
+    if arguments.margins:
+        words = measure_words(arguments.users, 0)
+        found = measure_margins(
+            folder / "rules", trace, arguments.users, arguments.want, where, words, names, ruleset.records
+        )
+    return Subject(names[1], names[0], ruleset.leftovers, ruleset.notes, found, arguments.want)
+
+
+def _tell(arguments: argparse.Namespace, ruleset: Ruleset, summary: Summary) -> None:
+    """The answer in a line, and where the rest is."""
+    missing = [it for it in ruleset.leftovers if it.changes_answer and it.is_missing]
+    for it in missing[:MOST_MISSING]:
+        print(f"missing: {it.text} ({printable(it.file)}:{it.line}): {it.reason} ({it.way})")
+    if len(missing) > MOST_MISSING:
+        print(f"missing: {len(missing) - MOST_MISSING} things more")
+    users = summary.users
+    if users and users.counted:
+        served = users.outcomes["served"]
+        print(
+            f"{share_text(served, users.counted)} of the users' connections were served: {served:,} of "
+            f"{users.counted:,}"
+        )
+    for line in frame_lines(summary.frames) if summary.frames else ():
+        print(line)
+    doubts = sum(it.changes_answer for it in ruleset.leftovers)
+    if doubts:
+        print(
+            printable(
+                f"left out of {name_of(arguments.rules_from)}: {doubts} that can change this answer "
+                f"({arguments.into / 'left-out.txt'})"
+            )
+        )
+    print(printable(str(arguments.into / PAGE)))

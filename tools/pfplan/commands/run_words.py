@@ -1,0 +1,79 @@
+"""The words that say where many runs go on, and how their answer is told."""
+
+import argparse
+import json
+from collections.abc import Callable
+from typing import Any, Protocol, TypeVar
+
+from pfplan.commands.words import file, number
+from pfplan.common.errors import Status, Trouble
+from pfplan.common.inputs import check_readable
+from pfplan.common.outputs import whole_file
+from pfplan.replays.machines import Machines, check_parallel
+
+
+def add_machine_words(parser: argparse.ArgumentParser) -> None:
+    """The words that say where runs go on."""
+    group = parser.add_argument_group("where it runs")
+    group.add_argument(
+        "--jobs", type=number(1, 1000), metavar="N", help="runs side by side on each machine (one for each processor)"
+    )
+    group.add_argument(
+        "--sshlogin",
+        action="append",
+        default=[],
+        metavar="LOGIN",
+        help="another machine, by GNU parallel: user@host, 8/host, : for this one",
+    )
+    group.add_argument(
+        "--sshloginfile",
+        action="append",
+        default=[],
+        type=file,
+        metavar="FILE",
+        help="a file with such logins, one a line",
+    )
+    group.add_argument("--there", metavar="PATH", help="where pfplan is on the other machines (by default as here)")
+
+
+def machines_of(arguments: argparse.Namespace) -> Machines:
+    """The machines that the words name. Trouble where a file of logins can't be read, or a Debian package is
+    missing."""
+    for path in arguments.sshloginfile:
+        check_readable(path)
+    for login in arguments.sshlogin:
+        if not login.strip() or not login.isprintable():
+            raise Trouble(f"--sshlogin: {login!r} is no login")
+    machines = Machines(arguments.jobs, tuple(arguments.sshlogin), tuple(arguments.sshloginfile), arguments.there)
+    if not machines.is_here:
+        check_parallel()
+    return machines
+
+
+class Answer(Protocol):
+    """What many runs came to."""
+
+    def to_json(self) -> dict[str, Any]:
+        """The numbers for machines."""
+
+
+Found = TypeVar("Found", bound=Answer)
+
+
+def add_answer_words(parser: argparse.ArgumentParser) -> None:
+    """The words that say how the answer is told, and where."""
+    parser.add_argument("--json", action="store_true", help="for machines")
+    parser.add_argument("--out", type=file, metavar="FILE", help="where the text goes (standard output)")
+    parser.add_argument("--page", type=file, metavar="FILE", help="also a page to look at in a browser")
+
+
+def write_answer(
+    arguments: argparse.Namespace, found: Found, text_of: Callable[[Found], str], page_of: Callable[[Found], str]
+) -> Status:
+    """Tells an answer: as a text or for machines, and as a page where one is asked for."""
+    with whole_file(arguments.out) as out:
+        out.write(json.dumps(found.to_json(), indent=1) + "\n" if arguments.json else text_of(found))
+    if arguments.page:
+        with whole_file(arguments.page) as out:
+            out.write(page_of(found))
+    return Status.DONE

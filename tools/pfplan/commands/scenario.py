@@ -1,0 +1,28 @@
+"""The command `scenario`: prints a commented example of a scenario, with a group of each kind, to begin with."""
+
+import argparse
+from importlib import resources
+
+from pfplan.commands.parser import Parser
+from pfplan.commands.words import file
+from pfplan.common.errors import Status
+from pfplan.common.outputs import whole_file
+from pfplan.traces import scenarios
+
+SKETCH = resources.files(scenarios) / "sketch.toml"
+DESCRIPTION = """Prints an example of a scenario: a group of each kind, and a comment on each word. Take out what is
+not wanted, and change the rest.
+examples/scenarios/ has ten that are shorter."""
+
+
+def add_words(parser: Parser) -> None:
+    """The words of `scenario`."""
+    parser.description = DESCRIPTION
+    parser.add_argument("--out", type=file, metavar="FILE", help="where it goes (standard output)")
+
+
+def run(arguments: argparse.Namespace) -> int:
+    """Prints it."""
+    with whole_file(arguments.out) as out:
+        out.write(SKETCH.read_text("utf-8"))
+    return Status.DONE

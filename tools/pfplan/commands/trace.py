@@ -1,0 +1,89 @@
+"""The command `trace`: a trace of a capture, which ./pfstrace makes, or of a scenario in which nobody reacts."""
+
+import argparse
+import sys
+
+from pfplan.commands.parser import Parser
+from pfplan.commands.words import file, interface, networks
+from pfplan.common.errors import Status, Trouble
+from pfplan.common.inputs import unpacked
+from pfplan.pf.conversion import machine_of
+from pfplan.traces.captures import make_trace
+from pfplan.traces.pf_answers import HEAD
+from pfplan.traces.scenarios.plain import write_plain
+from pfplan.traces.scenarios.reading import is_scenario
+
+DESCRIPTION = """Makes a trace of a capture, by ./pfstrace; or of a scenario, as it were if the firewall let
+everything in and nobody reacted.
+
+Standard error says how many frames came and how many records were made, and why the others could not be: later
+fragments (of a fragmented packet its first, which has the ports, is taken), what is not IP, packets that pf drops
+as too short, and packets neither in nor out. A frame that was seen before the one in front gets the second of that
+one; such records are counted. ICMP is a record: the program says skip. With --ifconfig and --if the interface's own
+address tells the directions; else the networks of --inside do, which is right on an outer interface alone. A pflog
+has only the packets that rules log, often the first of a state: a trace of it lacks all others."""
+
+
+def add_words(parser: Parser) -> None:
+    """The words of the command."""
+    parser.description = DESCRIPTION
+    parser.add_argument(
+        "capture", type=file, metavar="CAPTURE", help="a file of tcpdump or pflogd, - is standard input; or a scenario"
+    )
+    parser.add_argument(
+        "--inside", type=networks, metavar="PREFIX,..", action="extend", default=[],
+        help="the networks behind the firewall, and its own addresses: a packet to them from elsewhere is in, "
+        "one from them to elsewhere is out. A pflog tells the direction itself",
+    )  # fmt: skip
+    parser.add_argument(
+        "--ifconfig",
+        type=file,
+        metavar="FILE",
+        help="what ifconfig prints on the firewall, in place of --inside; with --if it also tells the interface's own "
+        "address",
+    )
+    parser.add_argument(
+        "--interface",
+        "--if",
+        type=interface,
+        metavar="NAME",
+        help="the interface of every record (em0); a record of a pflog has the one that the log tells",
+    )
+    parser.add_argument(
+        "--told",
+        type=file,
+        metavar="FILE",
+        help=f"for a pflog: writes there what pf answered for each record, as {HEAD}",
+    )
+    parser.add_argument("--partial", action="store_true", help="takes a capture that is cut at its end, up to there")
+    parser.add_argument(
+        "--zero",
+        action="store_true",
+        help="moments count from that of the first record; else they are those of the capture, since 1970",
+    )
+    parser.add_argument("--out", type=file, metavar="FILE", help="where the trace goes (standard output)")
+
+
+def run(arguments: argparse.Namespace) -> int:
+    """Runs the command."""
+    if str(arguments.capture) != "-" and is_scenario(arguments.capture):
+        _refuse_words(arguments)
+        write_plain(arguments.capture, arguments.out)
+        return Status.DONE
+    machine = machine_of(arguments.ifconfig)
+    inside, macs = arguments.inside or machine.inside(), machine.macs(arguments.interface or "")
+    with unpacked(arguments.capture, arguments.capture) as capture:
+        made = make_trace(
+            capture, inside, arguments.out, name=arguments.interface, macs=macs, told=arguments.told,
+            is_zero=arguments.zero, is_partial=arguments.partial, shown=arguments.capture,
+        )  # fmt: skip
+    for line in made:
+        print(line, file=sys.stderr)
+    return Status.DONE
+
+
+def _refuse_words(arguments: argparse.Namespace) -> None:
+    """Trouble where a word is given that asks something of a capture."""
+    for word in ("inside", "ifconfig", "interface", "told", "zero"):
+        if getattr(arguments, word):
+            raise Trouble(f"--{word}: {arguments.capture} is a scenario, and the word is for captures")

@@ -1,0 +1,76 @@
+"""Words that several commands take, and their readers, for argparse."""
+
+import argparse
+import ipaddress
+import re
+from collections.abc import Callable
+from fractions import Fraction
+from pathlib import Path
+
+from pfplan.common.networks import Network, interface_name
+
+
+def number(least: int, most: int) -> Callable[[str], int]:
+    """A reader of numbers from `least` to `most`, for argparse."""
+
+    def read(text: str) -> int:
+        if not re.fullmatch(r"[0-9]{1,10}", text):
+            raise argparse.ArgumentTypeError(f"'{text}' is no number")
+        if not least <= int(text) <= most:
+            raise argparse.ArgumentTypeError(f"'{text}' is not from {least} to {most}")
+        return int(text)
+
+    return read
+
+
+def network(text: str) -> Network:
+    """A reader of a prefix of either family, for argparse; bits past its length are cleared."""
+    try:
+        return ipaddress.ip_network(text, strict=False)
+    except ValueError:
+        raise argparse.ArgumentTypeError(f"'{text}' is no prefix") from None
+
+
+def networks(text: str) -> tuple[Network, ...]:
+    """A reader of prefixes that are split by commas, for argparse."""
+    found = tuple(network(it) for it in re.split(r"[ ,]+", text) if it)
+    if not found:
+        raise argparse.ArgumentTypeError(f"'{text}' is no prefix")
+    return found
+
+
+def interface(text: str) -> str:
+    """A reader of a name that an interface may have in a trace, for argparse."""
+    try:
+        return interface_name(text)
+    except ValueError as error:
+        raise argparse.ArgumentTypeError(str(error)) from None
+
+
+def file(text: str) -> Path:
+    """A reader of a file's name, for argparse."""
+    if not text:
+        raise argparse.ArgumentTypeError("an empty name of a file")
+    # a path forgets the folder of ./-, which is a file and not standard input
+    return Path.cwd() / "-" if text != "-" and Path(text) == Path("-") else Path(text)
+
+
+def share_word(text: str) -> Fraction:
+    """A reader of a share for argparse: `99%`, `99.5%` or `99`."""
+    if not re.fullmatch(r"[0-9]{1,3}(\.[0-9]{1,6})? ?%?", text):
+        raise argparse.ArgumentTypeError(f"'{text}' is no share, as 99%")
+    share = Fraction(text.rstrip("% ")) / 100
+    if share > 1:
+        raise argparse.ArgumentTypeError(f"'{text}' is more than 100%")
+    return share
+
+
+def add_asked(parser: argparse.ArgumentParser, moments: int) -> None:
+    """The words that say what is asked of a replay."""
+    parser.add_argument(
+        "--users", type=networks, default=(), metavar="PREFIX..", help="networks of the users, split by commas"
+    )
+    parser.add_argument(
+        "--held", type=number(0, 1000), default=moments, metavar="N",
+        help=f"asks at N moments how many states are held ({moments})",
+    )  # fmt: skip

@@ -1,0 +1,167 @@
+"""Files that are given: whether each can be read, and what kind of file it is by its first bytes."""
+
+import contextlib
+import enum
+import errno
+import os
+import re
+import shutil
+import stat
+import subprocess
+import sys
+import tempfile
+from collections.abc import Iterator
+from pathlib import Path
+from typing import BinaryIO
+
+from pfplan.common.errors import Status, Trouble, reason_of
+
+HEADER = "time,dir,if,proto,src,sport,dst,dport,flags"
+_CAPTURES = (b"\xa1\xb2\xc3\xd4", b"\xd4\xc3\xb2\xa1", b"\xa1\xb2\x3c\x4d", b"\x4d\x3c\xb2\xa1", b"\x0a\x0d\x0d\x0a")
+_REPORT = re.compile(rb"(1 [a-z]+[a-z:+-]* (@\d+|-)|end rows=0 )")
+
+
+class Kind(enum.Enum):
+    """What a file holds, as far as its beginning shows."""
+
+    EMPTY = "an empty file"
+    TRACE = "a trace"
+    CAPTURE = "a capture"
+    REPORT = "a report"
+    OTHER = "another text"
+
+
+def check_readable(path: Path) -> None:
+    """Trouble with status 4 where the file is not there, is a folder, or may not be read. A pipe is not opened: it is
+    read once."""
+    try:
+        mode = os.stat(path).st_mode
+        if stat.S_ISREG(mode) or stat.S_ISDIR(mode):
+            with open(path, "rb"):
+                pass
+        elif not os.access(path, os.R_OK):
+            raise PermissionError(errno.EACCES, os.strerror(errno.EACCES))
+    except FileNotFoundError:
+        raise Trouble(f"{path}: no such file", Status.FAILED) from None
+    except IsADirectoryError:
+        raise Trouble(f"{path}: a folder, where a file is wanted", Status.FAILED) from None
+    except OSError as error:
+        raise Trouble(f"{path}: can't be read: {reason_of(error)}", Status.FAILED) from None
+
+
+def name_of(path: Path) -> str:
+    """How a message names a file that was given."""
+    return "standard input" if str(path) == "-" else str(path)
+
+
+def is_regular(path: Path) -> bool:
+    """Whether the path leads to a file on a disk, and not to a pipe or a device. False where there is nothing."""
+    try:
+        return stat.S_ISREG(os.stat(path).st_mode)
+    except OSError:
+        return False
+
+
+def kind_of(path: Path) -> Kind | None:
+    """The kind of a file; None for a pipe or a device, of which nothing is read. Trouble as `check_readable`."""
+    check_readable(path)
+    if not is_regular(path):
+        return None
+    with open(path, "rb") as file:
+        begin = file.read(256)
+    if not begin:
+        return Kind.EMPTY
+    if begin.startswith(_CAPTURES):
+        return Kind.CAPTURE
+    if begin.removeprefix(b"\xef\xbb\xbf").startswith(HEADER.encode()):
+        return Kind.TRACE
+    return Kind.REPORT if _REPORT.match(begin) else Kind.OTHER
+
+
+def _told(kind: Kind | None) -> str:
+    return kind.value if kind else "a pipe"
+
+
+def check_trace(path: Path) -> None:
+    """Trouble where the file can't be read (status 4) or is no trace (status 1). Says what it is, and what to do."""
+    kind = kind_of(path)
+    if kind in (None, Kind.TRACE):
+        return
+    if kind is Kind.CAPTURE:
+        raise Trouble(f"{path}: a capture, where a trace is wanted: pfplan trace makes one of it", Status.REFUSED)
+    if kind is Kind.OTHER:
+        raise Trouble(f"{path}: line 1: no header of a trace, which is {HEADER}", Status.REFUSED)
+    raise Trouble(f"{path}: {_told(kind)}, where a trace is wanted", Status.REFUSED)
+
+
+def check_rules(path: Path) -> None:
+    """Trouble where the file can't be read (status 4) or is empty, a trace, a capture or a report (status 3)."""
+    kind = kind_of(path)
+    if kind in (Kind.EMPTY, Kind.TRACE, Kind.CAPTURE, Kind.REPORT):
+        raise Trouble(f"{path}: {_told(kind)}, where rules are wanted", Status.RULES)
+
+
+@contextlib.contextmanager
+def regular(path: Path) -> Iterator[Path]:
+    """The file itself, or a copy of what a pipe gives, which goes at the end; `-` is standard input, and each is opened
+    once.
+
+    Trouble as `check_readable`, or where the copy fails.
+    """
+    if str(path) != "-":
+        check_readable(path)
+    if str(path) != "-" and is_regular(path):
+        yield path
+        return
+    with tempfile.NamedTemporaryFile(prefix="pfplan-") as copy:
+        try:
+            with _opened(path) as file:
+                shutil.copyfileobj(file, copy)
+            copy.flush()
+        except OSError as error:
+            raise Trouble(
+                f"{path}: can't be copied into {tempfile.gettempdir()}: {reason_of(error)}", Status.FAILED
+            ) from None
+        yield Path(copy.name)
+
+
+@contextlib.contextmanager
+def _opened(path: Path) -> Iterator[BinaryIO]:
+    """A file, or standard input, which is not closed."""
+    if str(path) == "-":
+        yield sys.stdin.buffer
+        return
+    with open(path, "rb") as file:
+        yield file
+
+
+@contextlib.contextmanager
+def unpacked(path: Path, name: Path | str) -> Iterator[Path]:
+    """The file itself, or where gzip or zstd packed it, what they unpack, in a copy that goes at the end. `name` stands
+    in messages.
+
+    Trouble: status 1 where it can't be unpacked, 4 where the command is not installed. A pipe is left as it is.
+    """
+    command = _packed_by(path) if str(path) != "-" and is_regular(path) else ""
+    if not command:
+        yield path
+        return
+    if shutil.which(command) is None:
+        raise Trouble(f"{name}: packed by {command}, which is not here (Debian package {command})", Status.FAILED)
+    with tempfile.NamedTemporaryFile(prefix="pfplan-") as copy:
+        with open(path, "rb") as file:
+            done = subprocess.run([command, "-d", "-c"], stdin=file, stdout=copy, stderr=subprocess.PIPE, check=False)
+        if done.returncode:
+            said = done.stderr.decode("utf-8", "replace").strip().splitlines()
+            raise Trouble(f"{name}: {command} can't unpack it{': ' + said[-1] if said else ''}", Status.REFUSED)
+        yield Path(copy.name)
+
+
+def _packed_by(path: Path) -> str:
+    """The command that packed a file, by its first bytes; nothing where none did."""
+    try:
+        with open(path, "rb") as file:
+            begin = file.read(4)
+    except OSError:
+        return ""
+    return "gzip" if begin.startswith(b"\x1f\x8b") else "zstd" if begin == b"\x28\xb5\x2f\xfd" else ""

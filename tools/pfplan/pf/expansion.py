@@ -1,0 +1,475 @@
+"""Statements to the lines of a rules text: lists expanded as pfctl does, and what can't be carried told.
+
+Combinations come in this order: interfaces, protocols, source hosts, source ports, destination hosts, destination
+ports.
+"""
+
+import itertools
+import re
+from collections.abc import Iterator
+from dataclasses import dataclass, field, replace
+
+from pfplan.pf.left_out import (
+    PASSES_MORE,
+    TRANSLATION_NOTE,
+    TRANSLATIONS,
+    Reason,
+    Teller,
+    harmless,
+    reason_of_match,
+    reason_of_other,
+    reason_of_part,
+    telling,
+)
+from pfplan.pf.lexer import printable
+from pfplan.pf.linking_anchors import DEEPEST
+from pfplan.pf.numbers_of_pf import Key, Numbered, Numbers
+from pfplan.pf.services import shown_protocol
+from pfplan.pf.statements import (
+    Anchor,
+    Antispoof,
+    Filter,
+    Host,
+    HostKind,
+    Interface,
+    Other,
+    Place,
+    Rule,
+    Setting,
+    Side,
+    State,
+    Statement,
+    Table,
+)
+from pfplan.pf.writing_lists import NO_CHOICE, Choice, Chooser, Gap, Options, counts_states, places_in_pf
+from pfplan.pf.writing_settings import Settings
+from pfplan.pf.writing_states import beyond_pfsrc, carried_state, check_state, refuse
+from pfplan.pf.writing_tables import TableMaker
+
+MOST_ITEMS = 10_000  # rules and anchors of a rules text of pfsrc
+MOST_COMBINATIONS = 100_000  # of one rule, some of which may be left out
+
+
+@dataclass(frozen=True)
+class Combination:
+    """One of the rules that a rule with lists stands for, as texts. `key` says which items of pf's lists it has."""
+
+    interface: str
+    family: str
+    protocol: str
+    source: str
+    source_port: str
+    destination: str
+    destination_port: str
+    key: Key = ()
+
+    def hosts(self) -> str:
+        """`all`, or both sides."""
+        if (self.source, self.source_port, self.destination, self.destination_port) == ("any", "", "any", ""):
+            return "all"
+        return " ".join(
+            it for it in ("from", self.source, self.source_port, "to", self.destination, self.destination_port) if it
+        )
+
+
+@dataclass
+class Scope:
+    """Where statements stand: the anchors around them, the names that anchors have there, and tables of that anchor
+    alone.
+
+    A copy has the rules of a body that stand before it already; its tables are theirs. `ruleset` is pf's.
+    """
+
+    depth: int = 0
+    path: str = ""
+    anchors: dict[str, Anchor] = field(default_factory=dict)
+    tables: dict[str, str] = field(default_factory=dict)
+    is_copy: bool = False
+    ruleset: Numbered = field(default_factory=Numbered)
+
+
+@dataclass
+class Expander:
+    """Expands the statements of a text."""
+
+    chooser: Chooser
+    tables: TableMaker
+    settings: Settings
+    teller: Teller
+    numbers: Numbers
+    overloaded: frozenset[str] = frozenset()
+    lines: list[str] = field(default_factory=list)
+    labels: dict[int, str] = field(default_factory=dict)
+    origins: list[Place] = field(default_factory=list)
+    skipped: set[int] = field(default_factory=set)
+    _defaults: State | None = None
+    _lines_of_tables: dict[int, str] = field(default_factory=dict)
+    _opened: dict[int, dict[str, str]] = field(default_factory=dict)
+
+    def expand(self, statements: list[Statement]) -> None:
+        """Expands all statements of a text, into `lines`, `labels` and `origins`."""
+        self.numbers.look(walk(statements))
+        self._skip([it for it in statements if isinstance(it, Setting) and it.name == "skip"])
+        self._body(statements, Scope())
+
+    def _skip(self, settings: list[Setting]) -> None:
+        """Rules in front of all others for `set skip`: pf passes what is on these interfaces, and makes no state.
+        `none` alone undoes it."""
+        skipped: dict[str, Setting] = {}
+        for it in settings:
+            if it.interfaces == ("none",):
+                skipped.clear()
+                continue
+            for name in it.interfaces:
+                skipped.update((found, it) for found in self.chooser.skipped(name, it))
+        for name, it in skipped.items():
+            self.skipped.add(len(self.origins))
+            self._item(it.place, f"pass quick on {name} all no state", None)
+
+    def _body(self, statements: list[Statement], scope: Scope) -> None:
+        if not scope.is_copy:
+            self._tables([it for it in statements if isinstance(it, Table)], scope)
+        for it in statements:
+            self._statement(it, scope)
+
+    def _own_tables(self, body: tuple[Statement, ...], path: str) -> dict[str, str]:
+        """A table that is defined in an anchor is that anchor's own: it gets a name that no other has."""
+        names = dict.fromkeys(it.name for it in body if isinstance(it, Table))
+        return {it: self.chooser.tables.reserve(f"{path}.{it}") for it in names}
+
+    def _statement(self, statement: Statement, scope: Scope) -> None:
+        if isinstance(statement, Rule):
+            self._rule(statement, scope)
+        elif isinstance(statement, Anchor):
+            self._anchor(statement, scope)
+        elif isinstance(statement, Table) and id(statement) in self._lines_of_tables:
+            self.lines.append(self._lines_of_tables[id(statement)])
+        elif isinstance(statement, Antispoof):
+            self._antispoof(statement, scope)
+        elif isinstance(statement, Other):
+            self.teller.tell_whole(statement, reason_of_other(statement.kind, statement.text))
+            if statement.kind in ("nat", "rdr", "binat"):
+                self.teller.note(TRANSLATION_NOTE)
+        elif isinstance(statement, Setting) and scope.depth:
+            raise refuse(statement.place, f"'set {statement.name}': no setting stands in an anchor")
+        elif isinstance(statement, Setting):
+            self._defaults = self.settings.defaults(statement) or self._defaults
+            self.lines.extend(self.settings.lines(statement))
+
+    def _tables(self, defined: list[Table], scope: Scope) -> None:
+        """Makes the lines of tables before the rules are expanded, which may stand in front of them. The last of a name
+        stands.
+
+        A table that rules put sources into is no `const` one: pf's kernel adds them all the same, as far as known, and
+        pfsrc would refuse it.
+        """
+        last = {it.name: it for it in defined}
+        for it in defined:
+            if last[it.name] is not it:
+                self.teller.tell_whole(
+                    it, telling(f"<{it.name}> is defined again at line {last[it.name].place.line}, and that stands")
+                )
+                continue
+            name = scope.tables.get(it.name, self.chooser.tables.plain(it.name))
+            if "const" in it.parts and it.name in self.overloaded:
+                why = "a rule puts sources into it by overload, and whether pf takes them is not sure"
+                self.teller.tell(it.place, f"const of <{it.name}>", telling(why, PASSES_MORE))
+                parts = tuple(part for part in it.parts if part != "const")
+                line = self.tables.line(replace(it, parts=parts), name)
+            else:
+                line = self.tables.line(it, name)
+            if scope.depth:
+                self.chooser.tables.moved.append(line)
+            else:
+                self._lines_of_tables[id(it)] = line
+
+    def _antispoof(self, statement: Antispoof, scope: Scope) -> None:
+        """The rules that pfctl makes of it: no packet of the interface's networks from elsewhere, and none from its own
+        addresses."""
+        for host in statement.interfaces:
+            network = replace(host, text=f"{host.text}:network")
+            asked = Filter("in", statement.log, statement.quick, family=statement.family, parts=statement.parts)
+            elsewhere = replace(asked, interfaces=(Interface(host.text, negated=True),), source=Side((network,)))
+            self._rule(Rule(statement.place, statement.text, "block", "drop", elsewhere), scope)
+            if host.text not in self.chooser.machine.loopbacks():
+                own = replace(asked, source=Side((host,)))
+                self._rule(Rule(statement.place, statement.text, "block", "drop", own), scope)
+
+    def _rule(self, rule: Rule, scope: Scope) -> None:
+        asked = rule.filter
+        numbers = self.numbers.rule(scope.ruleset, rule, asked)
+        if any(it.kind in TRANSLATIONS for it in asked.parts):
+            self.teller.note(TRANSLATION_NOTE)
+        if rule.action == "match":
+            self.teller.tell_whole(rule, reason_of_match(asked.parts, asked.state is not None, asked.log))
+            return
+        check_state(rule)
+        state = asked.state
+        if rule.action == "pass" and state is None:
+            state = self._defaults
+        if self._goes_whole(rule, beyond_pfsrc(state)):
+            return
+        combinations = self._combinations(rule, asked, scope, counts_states(state))
+        if not combinations:
+            return
+        self._tell_parts(rule)
+        clause = carried_state(state, rule.place, self.teller, self._renamed(scope))
+        direction = asked.direction or ("out" if any(it.kind == "binat-to" for it in asked.parts) else "")
+        answer = rule.answer
+        if rule.action == "block" and not answer and self.settings.block_policy != "drop":
+            answer = self.settings.block_policy
+        head = [rule.action, answer, direction, asked.log, "quick" if asked.quick else ""]
+        flags = f"flags {asked.flags}" if asked.flags else ""
+        for it in combinations:
+            self._label(asked, it)
+            line = _joined(*head, it.interface, it.family, it.protocol, it.hosts(), flags, clause)
+            self._item(rule.place, line, numbers.get(it.key))
+
+    def _renamed(self, scope: Scope) -> dict[str, str]:
+        return {**self.chooser.tables.renamed, **scope.tables}
+
+    def _item(self, place: Place, line: str, number: int | None) -> None:
+        if len(self.origins) == MOST_ITEMS:
+            raise refuse(
+                place, f"the text stands for more than {MOST_ITEMS} rules and anchors, which pfsrc does not take"
+            )
+        self.numbers.item(number, len(self.origins))
+        self.origins.append(place)
+        self.lines.append(line)
+
+    def _goes_whole(self, statement: Rule | Anchor, more: Reason | None = None) -> bool:
+        """Tells a rule or an anchor that a part makes one that can't be carried."""
+        asked = statement.filter
+        reasons = [more] if more is not None else []
+        reasons += [reason for it in asked.parts if (reason := reason_of_part(it, asked.direction)).goes]
+        if reasons:
+            self.teller.tell_whole(statement, next((it for it in reasons if it.changes), reasons[0]))
+        return bool(reasons)
+
+    def _tell_parts(self, statement: Rule | Anchor) -> None:
+        for it in statement.filter.parts:
+            self.teller.tell(statement.place, it.text, reason_of_part(it, statement.filter.direction), statement)
+
+    def _label(self, asked: Filter, made: Combination) -> None:
+        """Keeps the label of the item that comes next, with what its macros stand for (pf.conf(5), "label")."""
+        text = next((it.text for it in asked.parts if it.kind == "label"), "")
+        if not text:
+            return
+        number = len(self.origins)
+        words = {
+            "if": made.interface.removeprefix("on "),
+            "srcaddr": made.source,
+            "dstaddr": made.destination,
+            "srcport": re.sub(r"^port =? ?", "", made.source_port),
+            "dstport": re.sub(r"^port =? ?", "", made.destination_port),
+            "proto": made.protocol.removeprefix("proto "),
+            "nr": str(number),
+        }
+        label = printable(text.removeprefix("label ").strip('"'))
+        self.labels[number] = re.sub(r"\$(srcaddr|dstaddr|srcport|dstport|proto|if|nr)", lambda it: words[it[1]], label)
+
+    def _combinations(self, statement: Rule | Anchor, asked: Filter, scope: Scope, counts: bool) -> list[Combination]:
+        """All combinations that are of one family. What can't be carried of a list is told, as is the statement if
+        nothing is left."""
+        asked = self._with_tables(asked, scope)
+        self._note_negations(statement, asked)
+        choices = self.chooser
+        axes: list[Options] = [
+            choices.interfaces(asked, statement, counts),
+            [Choice(f"proto {shown_protocol(it)}") for it in asked.protocols] or NO_CHOICE,
+            choices.hosts(asked.source.hosts, asked.family, counts),
+            choices.ports(asked.source.ports, counts),
+            choices.hosts(asked.destination.hosts, asked.family, counts),
+            choices.ports(asked.destination.ports, counts),
+        ]
+        size = 1
+        for axis in axes:
+            size *= len(axis)
+        if size > MOST_COMBINATIONS:
+            raise refuse(statement.place, f"its lists stand for {size} rules; pfsrc takes {MOST_ITEMS} in all")
+        self.tables.sources.budget.take("rules", size, statement.place.file, statement.place.line)
+        found: list[Combination] = []
+        gaps: dict[Gap, None] = {}
+        keys = itertools.product(*map(places_in_pf, axes))
+        for chosen, key in zip(itertools.product(*axes), keys, strict=True):
+            missing = [it for it in chosen if isinstance(it, Gap)]
+            gaps.update(dict.fromkeys(missing))
+            if not missing and (made := _combined(asked, [it for it in chosen if isinstance(it, Choice)])):
+                found.append(replace(made, key=key))
+        self._tell_gaps(statement, list(gaps), bool(found))
+        return found
+
+    def _tell_gaps(self, statement: Statement, gaps: list[Gap], is_carried: bool) -> None:
+        if is_carried:
+            for it in gaps:
+                self.teller.tell(statement.place, f"{it.part} of: {statement.text}", it.reason, statement)
+        elif gaps:
+            self.teller.tell_whole(statement, next((it.reason for it in gaps if it.reason.changes), gaps[0].reason))
+        else:
+            raise refuse(statement.place, "no combination of its parts is of one family, and of one interface")
+
+    def _with_tables(self, asked: Filter, scope: Scope) -> Filter:
+        """The filter, with the names that tables have in the rules text."""
+        names = self._renamed(scope)
+
+        def renamed(side: Side) -> Side:
+            return replace(
+                side,
+                hosts=tuple(
+                    replace(it, text=names.get(it.text, it.text)) if it.kind is HostKind.TABLE else it
+                    for it in side.hosts
+                ),
+            )
+
+        return replace(asked, source=renamed(asked.source), destination=renamed(asked.destination))
+
+    def _note_negations(self, statement: Statement, asked: Filter) -> None:
+        """A list with two negated items asks for nothing, as each item is a rule of its own: that is said."""
+        lists: list[tuple[Host, ...] | tuple[Interface, ...]] = [
+            asked.source.hosts,
+            asked.destination.hosts,
+            asked.interfaces,
+        ]
+        if any(len(it) > 1 and any(item.negated for item in it) for it in lists):
+            where = f"{printable(statement.place.file)}: line {statement.place.line}"
+            self.teller.note(
+                f"{where}: a list with a negated item: each item is a rule of its own, as in pf, so one rule matches "
+                "what another leaves out"
+            )
+
+    def _anchor(self, anchor: Anchor, scope: Scope) -> None:
+        numbers = self.numbers.rule(scope.ruleset, anchor, anchor.filter)
+        if self._goes_whole(anchor):
+            return
+        if anchor.body is None:
+            self.teller.tell_whole(
+                anchor,
+                telling("its rules are loaded by others while pf runs; --anchor NAME=FILE gives them", is_missing=True),
+            )
+            return
+        if scope.depth == DEEPEST:
+            self.teller.tell_whole(anchor, telling(f"it stands inside {DEEPEST} others, and pfsrc takes no more"))
+            return
+        if anchor.filter.state is not None:
+            raise refuse(anchor.place, f"{anchor.filter.state.word} state: an anchor keeps none")
+        self._check_name(anchor, scope)
+        counts = any_counts(anchor.body)
+        heads = self._combinations(anchor, anchor.filter, scope, counts)
+        if counts and (len(heads) > 1 or id(anchor.body) in self._opened):
+            self.teller.tell_whole(
+                anchor, telling("it has the same rules as another anchor, and they would count states apart")
+            )
+            return
+        if heads:
+            self._tell_parts(anchor)
+        for head in heads:
+            self._open(anchor, head, scope, numbers.get(head.key))
+
+    def _check_name(self, anchor: Anchor, scope: Scope) -> None:
+        """Trouble where an anchor with rules has the name of another with rules: pfctl takes a name once."""
+        name = re.sub(r"[^A-Za-z0-9_.-]", "_", anchor.name)[:63]
+        other = scope.anchors.get(name)
+        if anchor.name and other is not None and other.name == anchor.name and other.body is not anchor.body:
+            raise refuse(
+                anchor.place,
+                f'anchor "{printable(anchor.name)}": line {other.place.line} has an anchor of that name with other '
+                "rules",
+            )
+
+    def _note_name(self, anchor: Anchor, name: str, *, is_lost: bool) -> None:
+        if is_lost:
+            why = "a rules text has a name once; its rules are the same"
+            self.teller.tell(anchor.place, f'the name "{name}" of another anchor', harmless(why))
+        elif name != anchor.name:
+            self.teller.note(f'anchor "{anchor.name}" is called "{name}"')
+
+    def _open(self, anchor: Anchor, head: Combination, scope: Scope, number: int | None) -> None:
+        name = re.sub(r"[^A-Za-z0-9_.-]", "_", anchor.name)[:63]
+        shown = f'"{name}"' if name and name not in scope.anchors else ""
+        self._note_name(anchor, name, is_lost=bool(name) and not shown)
+        scope.anchors[name] = anchor
+        asked = anchor.filter
+        flags = f"flags {asked.flags}" if asked.flags else ""
+        quick = "quick" if asked.quick else ""
+        line = _joined(
+            "anchor",
+            shown,
+            asked.direction,
+            quick,
+            head.interface,
+            head.family,
+            head.protocol,
+            head.hosts(),
+            flags,
+            "{",
+        )
+        self._item(anchor.place, line, number)
+        path = f"{scope.path}.{name or 'anchor'}".strip(".")
+        body = anchor.body or ()
+        is_copy = scope.is_copy or id(body) in self._opened
+        if id(body) not in self._opened:
+            self._opened[id(body)] = self._own_tables(body, path)
+        ruleset = self.numbers.anchor(scope.ruleset, anchor, number)
+        self._body(
+            list(body), Scope(scope.depth + 1, path, tables=self._opened[id(body)], is_copy=is_copy, ruleset=ruleset)
+        )
+        self.lines.append("}")
+
+
+def _joined(*words: str) -> str:
+    return " ".join(it for it in words if it)
+
+
+def _combined(asked: Filter, chosen: list[Choice]) -> Combination | None:
+    """The combination, or None where two of its hosts are of different families, or a zone is not its interface."""
+    interface, protocol, source, source_port, destination, destination_port = chosen
+    family = asked.family
+    on = interface.text
+    for host in (source, destination):
+        if host.family and family and host.family != family:
+            return None
+        family = family or host.family
+        if host.zone and on and on.split()[-1] != host.zone:
+            return None
+        if host.zone and not on:
+            on = f"on {host.zone}"
+    said = family if asked.family or source.is_said or destination.is_said else ""
+    return Combination(on, said, protocol.text, source.text, source_port.text, destination.text, destination_port.text)
+
+
+def walk(statements: tuple[Statement, ...] | list[Statement]) -> Iterator[Statement]:
+    """All statements, those of anchors too."""
+    for it in statements:
+        yield it
+        if isinstance(it, Anchor) and it.body is not None:
+            yield from walk(it.body)
+
+
+def any_counts(statements: tuple[Statement, ...] | list[Statement]) -> bool:
+    """Whether a rule among the statements counts its states or sources."""
+    return any(isinstance(it, Rule) and counts_states(it.filter.state) for it in walk(statements))
+
+
+def overloaded_tables(statements: list[Statement]) -> frozenset[str]:
+    """The tables that rules put sources into."""
+    found: set[str] = set()
+    for it in walk(statements):
+        options = it.filter.state.options if isinstance(it, Rule) and it.filter.state else ()
+        found.update(option.table for option in options if option.table)
+        if isinstance(it, Setting):
+            found.update(option.table for option in it.options if option.table)
+    return frozenset(found)
+
+
+def table_names(statements: list[Statement]) -> set[str]:
+    """Every name of a table that the statements have."""
+    names: set[str] = set()
+    for it in walk(statements):
+        if isinstance(it, Table):
+            names.add(it.name)
+        if isinstance(it, Rule | Anchor):
+            hosts = (*it.filter.source.hosts, *it.filter.destination.hosts)
+            names.update(host.text for host in hosts if host.kind is HostKind.TABLE)
+            options = it.filter.state.options if it.filter.state else ()
+            names.update(option.table for option in options if option.table)
+    return names

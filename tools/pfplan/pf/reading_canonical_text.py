@@ -1,0 +1,63 @@
+"""What stands in the canonical text of rules, as `./pfsrc show` prints it: the items, and of each the tables that it
+names, its limits, and what a kill of it flushes."""
+
+import re
+from collections.abc import Mapping, Sequence
+from dataclasses import dataclass
+
+from pfplan.common.limits import BY_WORD, OF_RULES
+
+_TABLE = re.compile(r"<([A-Za-z0-9_.-]+)>")
+_OVERLOAD = re.compile(r"overload <([A-Za-z0-9_.-]+)>( flush)?( global)?")
+
+
+@dataclass(frozen=True, slots=True)
+class Overload:
+    """The `overload` of a rule: its table, whether a kill takes the source's other states of the rule, and whether
+    those of all rules."""
+
+    table: str
+    flushes: bool
+    is_global: bool
+
+
+def items_of(shown: Sequence[str]) -> list[str]:
+    """The rules and heads of anchors of a canonical text: the n-th is that of `@n`."""
+    return [it.strip() for it in shown if it.strip() != "}" and not it.startswith(("set ", "table "))]
+
+
+def overload_of(text: str) -> Overload | None:
+    """The overload of a rule's text, or None."""
+    found = _OVERLOAD.search(text)
+    return Overload(found[1], bool(found[2]), bool(found[3])) if found else None
+
+
+def tables_of(text: str) -> list[str]:
+    """The tables that a rule asks for as hosts, without that of its overload."""
+    return list(dict.fromkeys(_TABLE.findall(_OVERLOAD.sub("", text))))
+
+
+def flushes_of(texts: Sequence[str]) -> dict[str, bool]:
+    """The rules whose kills flush, by `@N`, and whether globally."""
+    found = {f"@{number}": overload_of(text) for number, text in enumerate(texts)}
+    return {rule: it.is_global for rule, it in found.items() if it is not None and it.flushes}
+
+
+def limit_of(text: str, word: str) -> str:
+    """The options of a rule that a word of a report names, as `max-src-conn-rate 3/10`; nothing where it names none of
+    the rule's."""
+    names = word.partition(":")[2].split("+")
+    options = {name: value for name, value in re.findall(r"[(,] ?([a-z-]+) (\d+(?:/\d+)?)", text)}
+    return ", ".join(f"{name} {options[name]}" for name in names if name in OF_RULES and name in options)
+
+
+def limit_of_all(settings: Mapping[str, int], word: str) -> str:
+    """The limit for all rules that a word names, as `set limit states 100000`; nothing where it names none."""
+    name = BY_WORD.get(word, "")
+    return f"set limit {name} {settings[name]}" if name in settings else ""
+
+
+def settings_of(shown: Sequence[str]) -> dict[str, int]:
+    """The limits for all rules, by the first line of a canonical text."""
+    line = next((it for it in shown if it.startswith("set limit ")), "")
+    return {name: int(value) for name, value in re.findall(r"([a-z-]+) (\d+)", line.removeprefix("set limit "))}

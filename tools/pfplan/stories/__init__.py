@@ -1,1 +1,0 @@
-"""What happened to one source or one record, in plain words."""

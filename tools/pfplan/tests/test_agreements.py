@@ -1,0 +1,354 @@
+"""The command `agree`: logs that are written from reports, with and without differences."""
+
+import json
+import unittest
+from dataclasses import replace
+from pathlib import Path
+from typing import Any
+
+from pfplan.answers import explaining, judging
+from pfplan.answers.hiding import Hider
+from pfplan.common.errors import Status
+from pfplan.common.repository import DIFFERENCES, TOP
+from pfplan.pages.differences import explanation
+from pfplan.tests.logs import BLOCK, MATCH, PASS, REASONS, Packets, log_of, repeated, reported, with_log
+from pfplan.tests.packets import NONE, Logged, ethernet_capture, log_capture
+from pfplan.tests.support import Done, FolderCase, pfplan
+from pfplan.traces.pf_answers import Packet, PfAnswer
+from pfplan.traces.records import Record
+
+EXAMPLES = ("expired-state", "ipv6-flood", "rate-memory", "source-limits", "syn-flood", "udp-flood")
+CONF = """
+set limit states 6
+table <bad> persist { 203.0.113.66 }
+match in all scrub (no-df)
+block log all
+block in log quick from <bad>
+anchor "web" in on em0 proto tcp to port 80 {
+    pass log (all) keep state (max 3)
+    anchor {
+        block log quick from 203.0.113.77
+    }
+}
+pass in log (all) on em0 proto udp to port { 53 123 } keep state (source-track rule, max-src-states 2, max-src-nodes 9)
+pass in log on em0 proto tcp to port 22 keep state
+pass in on em0 proto tcp to port 25
+"""
+
+
+def tcp(time: int, source: str, port: int, target_port: int = 80, flags: str = "S") -> str:
+    """A packet in, of TCP."""
+    return f"{time},in,em0,tcp,{source},{port},192.0.2.1,{target_port},{flags}"
+
+
+def back(time: int, target: str, port: int, source_port: int = 80, flags: str = "SA") -> str:
+    """A packet out, of TCP."""
+    return f"{time},out,em0,tcp,192.0.2.1,{source_port},{target},{port},{flags}"
+
+
+def udp(time: int, source: str, port: int, target_port: int = 53) -> str:
+    """A packet in, of UDP."""
+    return f"{time},in,em0,udp,{source},{port},192.0.2.1,{target_port},"
+
+
+TRACE = (
+    # 1 to 3: a state of the anchor
+    tcp(1, "203.0.113.1", 4001), back(1, "203.0.113.1", 4001), tcp(1, "203.0.113.1", 4001, flags="A"),
+    # 4 to 6: blocked by three rules
+    tcp(2, "203.0.113.66", 4002), tcp(2, "203.0.113.77", 4003), tcp(2, "203.0.113.2", 4004, 443),
+    # 7 to 10: the third by `max-src-states`
+    udp(3, "203.0.113.3", 5001), udp(3, "203.0.113.3", 5002), udp(3, "203.0.113.3", 5003),
+    udp(3, "203.0.113.3", 5004, 123),
+    # 11 to 13: the last by `max`
+    tcp(4, "203.0.113.4", 4005), tcp(4, "203.0.113.5", 4006), tcp(4, "203.0.113.6", 4007),
+    udp(5, "203.0.113.7", 5005), udp(5, "203.0.113.8", 5006),  # 14 and 15: `set limit states`
+    "6,in,em0,icmp,203.0.113.9,,192.0.2.1,,",  # 16
+)  # fmt: skip
+WORDS = ("new", "state", "state", "block", "block", "block", "new", "new", "drop:max-src-states", "new", "new", "new",
+         "drop:max", "drop:states", "drop:states", "skip")  # fmt: skip
+
+
+class Agreeing(FolderCase):
+    """Calls of `agree` in a folder, and what it counts."""
+
+    def agree(self, conf: Path, packets: Packets, *words: object) -> tuple[dict[str, Any], Done]:
+        """Calls it over a log of some packets; what it counted, and what it printed."""
+        log = self.folder / "pflog"
+        log.write_bytes(log_capture(packets))
+        done = pfplan("agree", conf, log, "--into", self.folder / "answer", *words)
+        self.assertEqual(done.status, 0, done.err)
+        return json.loads((self.folder / "answer" / "agree.json").read_text("utf-8")), done
+
+    def packets(self, conf: Path, trace: Path, *, whole: bool = True) -> Packets:
+        """What a pf that says the same as pfsrc logs."""
+        return log_of(*reported(self.folder, conf, trace), whole=whole)
+
+
+class Agreements(Agreeing):
+    def test_every_packet_of_the_examples_agrees(self) -> None:
+        for name in EXAMPLES:
+            with self.subTest(name):
+                conf = self.write("pf.conf", with_log((TOP / "examples" / name / "pf.conf").read_text("utf-8")))
+                packets = self.packets(conf, TOP / "examples" / name / "trace.csv")
+                told, done = self.agree(conf, packets)
+                skipped = sum(it["packets"] for it in told["judged"] if it["kind"] == judging.ICMP)
+                self.assertEqual(
+                    (told["packets"], told["agree"], told["differ"], told["apart"]),
+                    (len(packets), len(packets) - skipped, 0, skipped),
+                )
+                self.assertTrue(done.out.startswith("pf and pfsrc agree on 100 % of the packets"), done.out)
+
+    def test_each_word_agrees_with_its_reason(self) -> None:
+        conf, trace = self.write("pf.conf", CONF), self.trace(TRACE)
+        answered, rules = reported(self.folder, conf, trace)
+        self.assertEqual(tuple(it.word for _, it in answered), WORDS)
+        told, _ = self.agree(conf, log_of(answered, rules))
+        self.assertEqual((told["agree"], told["differ"], told["apart"]), (15, 0, 1))
+        pairs = {(it["pf"], it["pfsrc"]): it["packets"] for it in told["judged"]}
+        self.assertEqual(pairs[("src-limit", "drop:max-src-states")], 1)
+        self.assertEqual(pairs[("state-limit", "drop:max")], 1)
+        self.assertEqual(pairs[("memory", "drop:states")], 2)
+
+    def test_numbers_are_those_of_anchors(self) -> None:
+        conf, trace = self.write("pf.conf", CONF), self.trace(TRACE)
+        packets = self.packets(conf, trace)
+        numbers = [(told.rule, told.anchor, told.subrule) for _, told in packets[:7]]
+        web = (3, "web", 0)
+        self.assertEqual(numbers, [web, web, web, (2, "", NONE), (1, "_2", 0), (1, "", NONE), (4, "", NONE)])
+
+    def test_a_match_rule_logs_too(self) -> None:
+        conf, trace = self.write("pf.conf", CONF), self.trace(TRACE)
+        packets = repeated(self.packets(conf, trace), Logged(MATCH, 0))
+        told, done = self.agree(conf, packets)
+        self.assertEqual((told["rows"], told["packets"], told["agree"], told["differ"]), (32, 16, 15, 0))
+        self.assertIn("16 rows of packets that are logged again", done.out)
+
+    def test_the_match_in_front_of_a_refusal_is_of_the_same_packet(self) -> None:
+        conf, trace = self.write("pf.conf", CONF), self.trace(TRACE)
+        packets = self.packets(conf, trace)
+        refused = [(record, replace(told, reason=0)) for record, told in packets[12:13]]
+        told, _ = self.agree(conf, [*packets[:12], *refused, *packets[12:]])
+        self.assertEqual((told["rows"], told["packets"], told["agree"], told["differ"]), (17, 16, 15, 0))
+
+    def test_a_log_of_what_the_rules_log(self) -> None:
+        """Without the packets of rule 25, and of states by rule 22 with the first alone."""
+        ssh = [tcp(1, "203.0.113.1", 4001, 22), back(1, "203.0.113.1", 4001, 22), tcp(1, "203.0.113.1", 4001, 22, "A")]
+        again = [tcp(9, "203.0.113.1", 4001, 22)]
+        mail = [tcp(2, "203.0.113.2", 4002, 25), back(2, "203.0.113.2", 4002, 25)]
+        conf, trace = self.write("pf.conf", CONF), self.trace([*ssh, *mail, tcp(3, "203.0.113.3", 4003, 443), *again])
+        answered, rules = reported(self.folder, conf, trace)
+        logged = log_of(answered[:-1], rules, whole=False)
+        self.assertEqual([record.target_port for record, _ in logged], ["22", "443"])
+        # pf's state had ended by packets that are not logged, so pf makes one; here it is still held
+        told, done = self.agree(conf, [*logged, (answered[-1][0], logged[0][1])])
+        self.assertEqual((told["agree"], told["differ"], told["apart"]), (2, 0, 1))
+        self.assertEqual([it["kind"] for it in told["judged"] if it["verdict"] == "apart"], [judging.WITHOUT_ALL])
+        self.assertEqual((told["rules_without_log"], told["rules_without_all"]), ([9], [8]))
+        # a source that pf has in a table by what is not logged
+        told, _ = self.agree(conf, [*logged, (answered[3][0], Logged(BLOCK, 2))])
+        self.assertEqual((told["agree"], told["differ"], told["apart"]), (2, 0, 1))
+        self.assertEqual([it["kind"] for it in told["judged"] if it["verdict"] == "apart"], [judging.WITHOUT_LOG])
+
+
+class Example(FolderCase):
+    def test_what_the_example_shows(self) -> None:
+        example = TOP / "examples" / "agree"
+        done = pfplan("agree", example / "pf.conf", example / "pflog", "--into", self.folder / "answer")
+        told = (example / "answer" / "agree.txt").read_text("utf-8")
+        self.assertEqual((done.status, done.out), (0, f"{told}{self.folder / 'answer' / 'report.html'}\n"))
+        shown = (example / "README.md").read_text("utf-8")
+        self.assertIn("".join(f"    {it}\n".replace("    \n", "\n") for it in told.splitlines()[:11]), shown)
+
+
+class Differences(Agreeing):
+    """One packet of the log says something else."""
+
+    def differing(self, at: int, told: Logged, *words: object, text: str = CONF) -> tuple[dict[str, Any], Done]:
+        """What is counted where the packet of a row says this."""
+        conf, trace = self.write("pf.conf", text), self.trace(TRACE)
+        packets = self.packets(conf, trace)
+        packets[at - 1] = (packets[at - 1][0], told)
+        found, done = self.agree(conf, packets, *words)
+        self.assertEqual((found["agree"], found["differ"], found["apart"]), (14, 1, 1), done.out)
+        return found["differences"][0], done
+
+    def test_each_kind(self) -> None:
+        web, limit, source, memory = (3, "web", 0), *map(REASONS.index, ("state-limit", "src-limit", "memory"))
+        for at, told, kind, line in (
+            (1, Logged(PASS, 7), judging.OTHER_RULE, explaining.NUMBERS),
+            (3, Logged(PASS, 7), judging.OTHER_RULE, explaining.NUMBERS),
+            (4, Logged(BLOCK, 1), judging.OTHER_RULE, explaining.NUMBERS),
+            (6, Logged(PASS, *web), "pf passes, pfsrc blocks", ""),
+            (1, Logged(BLOCK, 1), "pf blocks, pfsrc passes", ""),
+            (2, Logged(BLOCK, 1), "pf blocks, pfsrc passes", explaining.WINDOWS),
+            (13, Logged(PASS, *web), "pf passes, pfsrc refuses by a limit", explaining.LOGGED),
+            (13, Logged(BLOCK, 1), "pf blocks, pfsrc refuses by a limit", ""),
+            (1, Logged(PASS, *web, limit), "pf refuses by a limit, pfsrc passes", explaining.SLICES),
+            (7, Logged(PASS, 4, reason=source), "pf refuses by a limit, pfsrc passes", explaining.NODES),
+            (7, Logged(PASS, 4, reason=memory), "pf refuses by a limit, pfsrc passes", explaining.MEMORY),
+            (10, Logged(PASS, 5, reason=memory), "pf refuses by a limit, pfsrc passes", explaining.MEMORY),
+            (12, Logged(PASS, *web, memory), "pf refuses by a limit, pfsrc passes", explaining.SLICES),
+            (4, Logged(PASS, *web, limit), "pf refuses by a limit, pfsrc blocks", explaining.SLICES),
+            (13, Logged(PASS, *web, source), judging.OTHER_LIMIT, ""),
+            (9, Logged(PASS, 5, reason=source), judging.OTHER_RULE, ""),
+        ):
+            with self.subTest(at=at, told=told):
+                found, _ = self.differing(at, told)
+                self.assertEqual((found["row"], found["kind"], found["explained_by"]), (at, kind, line))
+
+    def test_each_reason_of_a_drop(self) -> None:
+        for name in set(REASONS) - {"match", "state-limit", "src-limit", "memory"}:
+            with self.subTest(name):
+                found, done = self.differing(3, Logged(PASS, 3, "web", 0, REASONS.index(name)))
+                self.assertEqual(
+                    (found["kind"], found["pf"]["reason"]), ("pf drops for another reason, pfsrc passes", name)
+                )
+                self.assertIn(f"pf {name}, pfsrc state", done.out)
+        found, _ = self.differing(3, Logged(PASS, 3, "web", 0, REASONS.index("state-mismatch")))
+        self.assertEqual(found["explained_by"], explaining.WINDOWS)
+
+    def test_what_is_told_of_a_difference(self) -> None:
+        found, done = self.differing(13, Logged(PASS, 3, "web", 0, rewritten=True))
+        self.assertEqual(found["held"], {"rows": 0, "states": 6, "nodes": 2, "entries": 1})
+        for line in (
+            "difference 1, packet 13: pf passes, pfsrc refuses by a limit",
+            "  packet        in em0 tcp a1:4007 to a2:80 flags S",
+            "  pf            pass by rule 0 of anchor web (called by rule 3), reason match, rewritten",
+            "  pfsrc         drop:max @3: the rule holds as many states as its max allows",
+            "  held          6 states, 2 source nodes, 1 table entry",
+        ):
+            self.assertIn(line, done.out.splitlines())
+        self.assertEqual(found["explained_by"], explaining.TRANSLATION)
+
+    def test_no_address_unless_asked_for(self) -> None:
+        _, done = self.differing(4, Logged(BLOCK, 1))
+        page = (self.folder / "answer" / "report.html").read_text("utf-8")
+        told = (self.folder / "answer" / "agree.json").read_text("utf-8")
+        for text in (done.out, page, told):
+            self.assertNotRegex(text, r"203\.0\.113|192\.0\.2")
+        _, done = self.differing(4, Logged(BLOCK, 1), "--addresses")
+        self.assertIn("in em0 tcp 203.0.113.66:4002 to 192.0.2.1:80 flags S", done.out)
+
+    def test_the_first_ten(self) -> None:
+        conf, trace = self.write("pf.conf", CONF), self.trace(
+            [tcp(1, "203.0.113.2", port, 443) for port in range(1, 21)]
+        )
+        packets = [(record, Logged(BLOCK, 2)) for record, _ in self.packets(conf, trace)]
+        told, _ = self.agree(conf, packets)
+        self.assertEqual((told["differ"], [it["row"] for it in told["differences"]]), (20, list(range(1, 11))))
+
+    def test_a_state_from_before_the_log(self) -> None:
+        conf, trace = self.write("pf.conf", CONF), self.trace(
+            [tcp(1, "203.0.113.2", 4001, 80, "A"), tcp(1, "203.0.113.2", 4002, 443, "A")]
+        )
+        packets = [(record, Logged(PASS, 6)) for record, _ in self.packets(conf, trace)]
+        told, _ = self.agree(conf, packets)
+        self.assertEqual([it["explained_by"] for it in told["differences"]], [explaining.BEGINNING] * 2)
+
+
+class NotCompared(Agreeing):
+    def judged(self, told: Logged, text: str = CONF) -> str:
+        """Why a packet is not compared."""
+        conf, trace = self.write("pf.conf", text), self.trace(TRACE[:1])
+        found, _ = self.agree(conf, [(self.packets(conf, trace)[0][0], told)])
+        self.assertEqual((found["agree"], found["differ"], found["apart"]), (0, 0, 1))
+        return str(found["judged"][0]["kind"])
+
+    def test_kinds(self) -> None:
+        left_out = CONF + "pass in log proto tcp to port 80 probability 5%\n"
+        for told, text, kind in (
+            (Logged(MATCH, 0), CONF, judging.MATCH),
+            (Logged(8, 3), CONF, judging.OTHER_ACTION),
+            (Logged(PASS, 99), CONF, judging.NO_SUCH_RULE),
+            (Logged(PASS, 3, "other", 0), CONF, judging.NO_SUCH_RULE),
+            (Logged(PASS, 8), left_out, judging.LEFT_OUT),
+        ):
+            with self.subTest(kind):
+                self.assertEqual(self.judged(told, text), kind)
+
+    def test_numbers_of_another_text(self) -> None:
+        conf, trace = self.write("pf.conf", CONF), self.trace(TRACE)
+        packets = [(record, Logged(PASS, 1)) for record, _ in self.packets(conf, trace)]
+        _, done = self.agree(conf, packets)
+        self.assertIn("by 16 packets pf passed or blocked by a rule that does the other in this text", done.out)
+
+
+class Refusals(FolderCase):
+    """What is no log."""
+
+    def call(self, octets: bytes) -> Done:
+        """A call over a file of these bytes."""
+        log = self.folder / "pflog"
+        log.write_bytes(octets)
+        return pfplan("agree", self.write("pf.conf", CONF), log, "--into", self.folder / "answer")
+
+    def test_no_log(self) -> None:
+        record = Record(1, "in", "em0", "tcp", "203.0.113.1", "1", "192.0.2.1", "80", "S")
+        log = self.folder / "pflog"
+        for octets, why in (
+            (b"", f"{log}: an empty file, where a capture is wanted"),
+            (log_capture([]), f"{log}: no frames in the capture"),
+            (ethernet_capture([record]), f"{log}: none of its 1 frames is a record: 1 neither in nor out"),
+            (
+                log_capture([(record, Logged())])[:-1],
+                f"{log}: pfstrace: capture: behind frame 0: the file ends within it "
+                "(--partial takes the frames before it)",
+            ),
+        ):
+            done = self.call(octets)
+            self.assertEqual((done.status, done.out), (Status.REFUSED, ""))
+            self.assertTrue(done.err.endswith(f"pfplan agree: {why}\n"), done.err)
+            self.assertFalse((self.folder / "answer" / "report.html").exists())
+
+
+class Parts(unittest.TestCase):
+    def test_every_line_that_explains_is_in_the_document(self) -> None:
+        for it in explaining.ALL:
+            with self.subTest(it):
+                self.assertGreater(len(explanation(it)), 40)
+
+    def test_every_line_of_the_document_says_how_to_see_it(self) -> None:
+        lines = DIFFERENCES.read_text("utf-8").splitlines()
+        tables = [it.strip("|").split("|") for it in lines if it.startswith("| ")]
+        self.assertGreater(len(tables), 60)
+        for cells in tables:
+            with self.subTest(cells[0]):
+                self.assertIn(len(cells), (3, 4))
+                self.assertGreater(len(cells[-1].strip()), 2)
+
+    def test_hiding(self) -> None:
+        hider = Hider(shows=False)
+        self.assertEqual(
+            hider.text("from 192.0.2.1:80 to [2001:db8::1]:22, 192.0.2.1/24 and ::/0"),
+            "from a1:80 to [a2]:22, a1/24 and a3/0",
+        )
+        for text in (
+            "12:30:45",
+            "10,000 records",
+            "@3 max-src-conn-rate 5/60",
+            "drop:max-src-nodes",
+            "a.b.c.d",
+            "1.2.3",
+            "7.4",
+        ):
+            self.assertEqual(hider.text(text), text)
+        self.assertEqual(Hider(shows=True).text("192.0.2.1"), "192.0.2.1")
+
+    def test_rows_of_one_packet(self) -> None:
+        match, decided = PfAnswer("match", 0), PfAnswer("pass", 3, reason="match")
+        for first, then, is_same in (
+            (match, decided, True),
+            (match, match, False),
+            (match, PfAnswer("match", 1), True),
+            (decided, match, True),
+            (decided, decided, False),
+            (decided, PfAnswer("pass", 3, reason="state-limit"), True),
+            (decided, PfAnswer("pass", 4, reason="state-limit"), False),
+            (PfAnswer("pass", 3, reason="state-limit"), PfAnswer("pass", 3, reason="state-limit"), False),
+        ):
+            self.assertEqual(Packet("a line", [first]).takes("a line", then), is_same, (first, then))
+            self.assertFalse(Packet("a line", [first]).takes("another", then))
+
+
+if __name__ == "__main__":
+    unittest.main()

@@ -1,0 +1,145 @@
+"""Numbers of a rules text, and the text with some of them changed."""
+
+import os
+import tempfile
+import unittest
+from pathlib import Path
+from unittest import mock
+
+from pfplan.answers.changed_rules import Number, RulesText
+from pfplan.answers.margins import moves_of, protocols_of, tenths, turns_of
+from pfplan.answers.measures import Measure
+from pfplan.answers.sizes import serves
+from pfplan.commands.words import share_word
+from pfplan.common.errors import Trouble
+
+STAND_IN = Path(__file__).resolve().parent / "stand_in.py"
+RULES = """set limit states 50
+block in on max from any to any
+pass in on em0 proto tcp from any to any port 80 flags S/SA keep state (max 9, source-track rule, max-src-conn 40, \
+max-src-conn-rate 60/10, tcp.first 5)
+pass in on em0 proto tcp from any to any port 443 flags S/SA keep state (source-track rule, max-src-conn 40, \
+max-src-conn-rate 60/10, overload <max> flush)"""
+TRACE = """time,dir,if,proto,src,sport,dst,dport,flags
+0,in,em0,tcp,198.51.100.1,1000,192.0.2.1,80,S
+1,in,em0,icmp,198.51.100.1,,192.0.2.1,,
+2,expire,bad,,,86400,,,
+"""
+
+
+class Changes(unittest.TestCase):
+    """Each over a rules text that the stand-in reads."""
+
+    def setUp(self) -> None:
+        folder = tempfile.TemporaryDirectory()
+        self.addCleanup(folder.cleanup)
+        self.rules = Path(folder.name, "rules")
+        self.rules.write_text(RULES, encoding="ascii")
+        self.trace = Path(folder.name, "trace")
+        self.trace.write_text(TRACE, encoding="ascii")
+        patch = mock.patch.dict(os.environ, {"PFSRC": str(STAND_IN)})
+        patch.start()
+        self.addCleanup(patch.stop)
+        self.text = RulesText(self.rules)
+
+    def test_find(self) -> None:
+        self.assertEqual(self.text.find("states"), Number("states", 50))
+        self.assertEqual(self.text.find("adaptive.start"), Number("adaptive.start", 30))
+        self.assertEqual(self.text.find("max-src-conn"), Number("max-src-conn", 40, (1, 2)))
+        self.assertEqual(self.text.find("@2.max-src-conn-rate"), Number("max-src-conn-rate", 60, (2,), "/10"))
+        self.assertEqual(self.text.find("@1.tcp.first"), Number("tcp.first", 5, (1,)))
+
+    def test_find_nothing(self) -> None:
+        for name, said in (
+            ("state", "is states meant"),
+            ("max-src-states", "no rule states max-src-states"),
+            ("@2.max", "is @1.max meant"),
+            ("", "no number"),
+        ):
+            with self.assertRaisesRegex(Trouble, said):
+                self.text.find(name)
+
+    def test_setting_is_added_at_the_end(self) -> None:
+        self.assertEqual(
+            self.text.changed({Number("states", 50): 70}), (RULES + "\n\nset limit { states 70 }\n").encode()
+        )
+        self.assertTrue(self.text.changed({Number("tcp.first", 120): 7}).endswith(b"\n\nset timeout { tcp.first 7 }\n"))
+
+    def test_one_adaptive_value_brings_the_other(self) -> None:
+        self.assertTrue(
+            self.text.changed({Number("adaptive.end", 60): 66}).endswith(
+                b"set timeout { adaptive.start 30, adaptive.end 66 }\n"
+            )
+        )
+
+    def test_option_is_changed_in_its_rules_alone(self) -> None:
+        text = self.text.changed({Number("max", 9, (1,)): 12}).decode()
+        self.assertIn("keep state (max 12, source-track", text)
+        self.assertIn("block in on max from any to any", text)
+        self.assertIn("overload <max> flush)", text)
+        rate = self.text.changed({self.text.find("max-src-conn-rate"): 5}).decode()
+        self.assertEqual(rate.count("max-src-conn-rate 5/10"), 2)
+        one = self.text.changed({self.text.find("@1.tcp.first"): 6}).decode()
+        self.assertEqual(one.count("tcp.first 6"), 1)
+        self.assertIn("tcp.first 120", one)
+
+    def test_moves(self) -> None:
+        moves = list(moves_of(self.text, protocols_of(self.trace)))
+        told = {(it.title, it.step) for it in moves}
+        self.assertIn(("set limit states", "a tenth lower"), told)
+        self.assertIn(("max-src-conn of @1, @2", "a tenth higher"), told)
+        self.assertIn(("tcp.first of @1", "a tenth lower"), told)
+        self.assertNotIn(("set timeout udp.first", "a tenth lower"), told)
+        self.assertNotIn(("set limit tables", "a tenth lower"), told)
+        longer = moves[-1].values
+        self.assertEqual(longer[Number("tcp.first", 120)], 130)
+        self.assertEqual(longer[Number("tcp.first", 5, (1,))], 15)
+        self.assertEqual(longer[Number("src.track", 0)], 10)
+        self.assertNotIn(Number("interval", 10), longer)
+
+    def test_protocols(self) -> None:
+        self.assertEqual(protocols_of(self.trace), {"tcp"})
+
+
+class Tenths(unittest.TestCase):
+    """How far a number is moved."""
+
+    def test_tenths(self) -> None:
+        rows = ((100, [90, 110]), (5, [4, 6]), (1, [2]), (4294967295, [3865470566]))
+        for value, moved in rows:
+            self.assertEqual([next(iter(it.values.values())) for it in tenths(Number("states", value))], moved)
+        self.assertEqual(list(tenths(Number("src.track", 0))), [])
+
+
+class Answers(unittest.TestCase):
+    """Which answers turn over."""
+
+    def measure(self, served: int, **words: int) -> Measure:
+        """A measure of 200 connections."""
+        return Measure(
+            outcomes={"served": served, "refused": 200 - served},
+            words={it.replace("_", ":"): count for it, count in words.items()},
+        )
+
+    def test_wanted_share(self) -> None:
+        want = share_word("99.5%")
+        self.assertTrue(serves(self.measure(199), want))
+        self.assertFalse(serves(self.measure(198), want))
+        self.assertFalse(serves(Measure(), want))
+        self.assertFalse(serves(Measure(refused="line 0: TooManyEntries"), share_word("0")))
+
+    def test_turns(self) -> None:
+        want = share_word("99%")
+        base = self.measure(199, drop_states=3)
+        self.assertEqual(
+            turns_of(base, self.measure(190, drop_states=30), want, True), ("the wanted share is no longer served",)
+        )
+        self.assertEqual(turns_of(base, self.measure(200), want, True), ("drop:states is no longer met",))
+        self.assertEqual(
+            turns_of(self.measure(190), base, want, True), ("the wanted share is now served", "drop:states is now met")
+        )
+        self.assertEqual(turns_of(base, Measure(refused="line 0: TooManyEntries"), want, True), ())
+
+
+if __name__ == "__main__":
+    unittest.main()

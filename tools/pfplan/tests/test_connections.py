@@ -1,0 +1,188 @@
+"""Summaries over drawn rulesets, traces and users: each connection's fate is that of a slow reading (fates_reading.py).
+
+PFPLAN_DRAWN says how many are drawn (300), PFPLAN_SEED which is the first.
+"""
+
+import os
+import random
+import unittest
+from collections import Counter
+from collections.abc import Iterator
+
+from pfplan.answers.sides import follow, side_of
+from pfplan.answers.summaries import Wanted, summarize
+from pfplan.commands.words import networks
+from pfplan.pf.reading_canonical_text import flushes_of, items_of
+from pfplan.replays.runs import Replay, run_replay, show_rules
+from pfplan.tests.fates_reading import Reading
+from pfplan.tests.support import FolderCase
+
+USERS = (
+    ["198.51.100.0/24"],
+    ["198.51.100.1/32"],
+    ["198.51.100.0/24", "192.0.2.0/24"],
+    ["192.0.2.0/24"],
+    ["2001:db8::/64", "198.51.100.2/32"],
+)
+PORTS = ("80", "22", "25")
+BRIEF = (
+    "set timeout { tcp.first 3, tcp.opening 2, tcp.established 6, tcp.finwait 2, tcp.closed 1, udp.first 2, "
+    "udp.single 2, udp.multiple 3, interval 1 }"
+)
+
+
+class Drawer:
+    """Draws a ruleset and a trace; the same seed draws the same."""
+
+    def __init__(self, seed: int) -> None:
+        self.random = random.Random(seed)
+
+    def chance(self, share: float) -> bool:
+        """True in that share of the calls."""
+        return self.random.random() < share
+
+    def ruleset(self) -> tuple[str, dict[str, str]]:
+        """A rules text, and the rules that flush with `rule` or `global`. States run out only where nothing flushes."""
+        lines = [
+            f"set limit states {self.random.choice((3, 8, 1000, 1000))}",
+            "set timeout { adaptive.start 0, adaptive.end 0 }",
+            "table <bad> persist",
+        ]
+        items = ["block in quick from <bad>"] if self.chance(0.7) else []
+        items += ["block out on em1"] if self.chance(0.2) else []
+        flushes: dict[str, str] = {}
+        for port in PORTS:
+            if self.chance(0.7):
+                flush = self.random.choice(("none", "", "rule", "rule", "global"))
+                if flush in ("rule", "global"):
+                    flushes[f"@{len(items)}"] = flush
+                items.append(f"pass in proto tcp to any port {port} keep state ({self.options(flush)})")
+        for item in (
+            "pass in proto tcp to any port 443",
+            "pass out proto tcp",
+            "pass in proto udp",
+            "pass out proto udp flags any",
+        ):
+            items += [item] if self.chance(0.6) else []
+        if not flushes and self.chance(0.6):
+            lines.append(BRIEF)
+        return "".join(f"{it}\n" for it in (*lines, *items)), flushes
+
+    def options(self, flush: str) -> str:
+        """State options: a limit on a source that kills, with what is flushed; and others that refuse."""
+        kill = self.random.choice(("max-src-conn {}", "max-src-conn-rate {}/10")).format(self.random.randint(1, 2))
+        overload = {
+            "none": "",
+            "": ", overload <bad>",
+            "rule": ", overload <bad> flush",
+            "global": ", overload <bad> flush global",
+        }[flush]
+        more = self.random.choice(
+            ("", "", f", max {self.random.randint(2, 6)}", f", max-src-states {self.random.randint(2, 5)}")
+        )
+        return f"{kill}{overload}{more}"
+
+    def trace(self) -> list[str]:
+        """Records in the order of their moments."""
+        records = [it for _ in range(self.random.randint(4, 24)) for it in self.session()]
+        found = [record for _, record in sorted(records, key=lambda it: it[0])]
+        return found[: self.random.randint(1, len(found))] if found and self.chance(0.3) else found
+
+    def session(self) -> Iterator[tuple[int, str]]:
+        """A connection: who begins it, an answer, packets, and maybe an end; some of it may be missing, repeated, or
+        forwarded."""
+        moment = self.random.randint(0, 20)
+        address, server = self.addresses()
+        port = str(self.random.randint(1000, 1009))
+        service = self.random.choice(("80", "80", *PORTS, "443"))
+        there, back = (
+            f"{address},{port},{server},{service}",
+            f"{self.again(server)},{service},{self.again(address)},{port}",
+        )
+        protocol = self.random.choice(("tcp", "tcp", "tcp", "udp"))
+        is_forwarded, is_out = self.chance(0.3), self.chance(0.15)
+        steps = [
+            (there, "S"),
+            (back, "SA"),
+            (there, "A"),
+            (there, "PA"),
+            (back, "PA"),
+            (self.random.choice((there, back)), self.random.choice(("FA", "RA", "A"))),
+            (there, "A"),
+        ]
+        steps = [it for it in steps[: self.random.randint(1, len(steps))] if not self.chance(0.1)]
+        steps = [it for step in steps for it in ([step, step] if self.chance(0.15) else [step])]
+        for ends, flags in steps:
+            moment += self.random.choice((0, 0, 1, 1, 3))
+            direction, interface = ("in", "em0") if (ends is there) != is_out else ("out", "em0")
+            hops = [(direction, interface)]
+            if is_forwarded:
+                hops = [("in", "em0"), ("out", "em1")] if ends is there else [("in", "em1"), ("out", "em0")]
+            for hop in hops:
+                yield moment, f"{moment},{','.join(hop)},{protocol},{ends},{flags if protocol == 'tcp' else ''}"
+
+    def addresses(self) -> tuple[str, str]:
+        """Who begins a connection, and the other end: a user, somebody else, or a server; of either family."""
+        if self.chance(0.1):
+            return "2001:db8::1", "2001:db8:f::1"
+        clients = ["198.51.100.1", "198.51.100.1", "198.51.100.1", "198.51.100.2", "203.0.113.5"]
+        pair = [self.random.choice(clients), self.random.choice(("192.0.2.1", "192.0.2.1", "192.0.2.2"))]
+        return (pair[1], pair[0]) if self.chance(0.1) else (pair[0], pair[1])
+
+    def again(self, address: str) -> str:
+        """The address, maybe written in another way."""
+        return address.replace("2001:db8:", "2001:0DB8:") if self.chance(0.5) else address
+
+
+class Fates(FolderCase):
+    """Fates of drawn connections."""
+
+    def test_drawn(self) -> None:
+        """Each fate is that of the slow reading, and the summary counts them."""
+        first = int(os.environ.get("PFPLAN_SEED", "1"))
+        seen: Counter[str] = Counter()
+        count = int(os.environ.get("PFPLAN_DRAWN", "300"))
+        for seed in range(first, first + count):
+            with self.subTest(seed=seed):
+                seen.update(self.check(seed))
+        if count >= 300:
+            self.assertEqual(
+                {kind for kind, number in seen.items() if number > 9},
+                {"served", "unanswered", "refused", "killed", "cut", "late"},
+                seen,
+            )
+
+    def check(self, seed: int) -> list[str]:
+        """One ruleset with one trace. Answers the fates."""
+        drawer = Drawer(seed)
+        text, flushes = drawer.ruleset()
+        records = drawer.trace()
+        users = drawer.random.choice(USERS)
+        rules, trace, report = self.write("rules", text), self.trace(records), self.folder / "report"
+        run_replay(Replay(rules, trace, report))
+        lines = report.read_text("latin-1").splitlines()
+        wanted = Reading(users, flushes).read(records, [it.partition(" ")[2] for it in lines[:-1]])
+        found: list[tuple[tuple[str, ...], int, str]] = []
+        side = side_of(
+            "rules",
+            iter(lines),
+            networks(",".join(users)),
+            lambda key, row, fate: found.append((key, row, fate)),
+            flushes=flushes_of(items_of(show_rules(rules))),
+        )
+        follow(trace, [side], networks(",".join(users)))
+        shown = "\n".join([text, *(f"{record}   {line}" for record, line in zip(records, lines, strict=False))])
+        self.assertEqual(sorted(found), wanted, shown)
+        counted = summarize(report, Wanted(trace, networks(",".join(users)), rules)).users
+        assert counted is not None
+        self.assertEqual(
+            {kind: number for kind, number in counted.outcomes.items() if number},
+            Counter(fate for _, _, fate in wanted),
+            shown,
+        )
+        self.assertEqual(sum(it.connections for it in counted.refusals), counted.outcomes["refused"])
+        return [fate for _, _, fate in wanted]
+
+
+if __name__ == "__main__":
+    unittest.main()

@@ -1,0 +1,223 @@
+"""Records that pfplan puts into a trace that it replays: entries of tables, and questions how much is held.
+
+The trace itself stays as it is: what is replayed goes to the program through a pipe. What comes of it is told by the
+rows of the trace.
+"""
+
+import bisect
+import contextlib
+import shutil
+import tempfile
+from collections.abc import Iterator, Sequence
+from dataclasses import dataclass, field
+from pathlib import Path
+from typing import IO
+
+from pfplan.common.errors import Status, Trouble, reason_of
+from pfplan.common.inputs import HEADER
+from pfplan.traces.entries import records_at
+from pfplan.traces.moments import first_moment_of, last_moment_of
+from pfplan.traces.records import LONGEST, Traces, read_held
+from pfplan.traces.rows import Rows
+
+_BLOCK = 1 << 20
+
+
+@dataclass(frozen=True, slots=True)
+class Held:
+    """What is held at a moment."""
+
+    moment: int
+    states: int
+    nodes: int
+    entries: int
+
+
+@dataclass(slots=True)
+class Place:
+    """Records that are put behind the first `behind` records of a trace, which take `offset` bytes with its header."""
+
+    behind: int
+    offset: int
+    lines: list[str] = field(default_factory=list)
+
+
+class Insertions:
+    """A trace, and the records that are put into it."""
+
+    def __init__(self, trace: Path, places: Sequence[Place]) -> None:
+        self.trace = trace
+        self.rows = Rows([(it.behind, len(it.lines)) for it in places])
+        self._places = places
+
+    def write(self, out: IO[bytes]) -> None:
+        """Writes the trace with the records in it. OSError where reading or writing fails."""
+        with open(self.trace, "rb") as file:
+            at = 0
+            for place in self._places:
+                last = b"\n"
+                while at < place.offset and (block := file.read(min(_BLOCK, place.offset - at))):
+                    out.write(block)
+                    at, last = at + len(block), block[-1:]
+                lines = "".join(f"{it}\n" for it in place.lines).encode("latin-1")
+                out.write(lines if last == b"\n" else b"\n" + lines)
+            shutil.copyfileobj(file, out, _BLOCK)
+
+
+@dataclass
+class Heard:
+    """What a replay of some rules answers to the records that were put in: what is held at each moment that was asked
+    for.
+    """
+
+    rules: Path
+    moments: Sequence[int]
+    held: list[Held] = field(default_factory=list)
+
+    def take(self, lines: Sequence[str]) -> None:
+        """Reads lines of the report, those of records that were put in. Trouble with status 3 where a table does not
+        take an entry.
+        """
+        for line in lines:
+            if line.endswith((" add - added", " add - held")):
+                continue
+            if line.endswith(" add - full"):
+                why = "TooManyEntries: entries that come by records go past set limit table-entries"
+                raise Trouble(f"{self.rules}: {why}", Status.RULES)
+            if line.endswith(" add - conflict"):
+                why = "Duplicate: an entry that comes by a record is there with the other sign"
+                raise Trouble(f"{self.rules}: {why}", Status.RULES)
+            # a line that is cut is the last: the program then says what is wrong
+            with contextlib.suppress(ValueError):
+                found = read_held(line)
+                self.held.append(Held(self.moments[len(self.held)], found.states, found.nodes, found.entries))
+
+    def finish(self) -> None:
+        """The report is over, and the program said that it is whole. Trouble where it did not answer."""
+        if len(self.held) != len(self.moments):
+            raise Trouble(f"{self.rules}: the program did not say how much is held", Status.FAILED)
+
+
+@dataclass(frozen=True)
+class Asking:
+    """What is put into a trace: the entries of tables, and questions at some moments."""
+
+    insertions: Insertions | None
+    moments: tuple[int, ...] = ()
+
+    @property
+    def numbers(self) -> Rows | None:
+        """The numbers of the rows in the report."""
+        return self.insertions.rows if self.insertions else None
+
+    @property
+    def plain(self) -> Path | None:
+        """The trace whose lines have been looked at and are plain: each ends with a line feed, and none is blank or
+        has a quote.
+        """
+        return self.insertions.trace if self.insertions and self.moments else None
+
+    def heard(self, rules: Path) -> Heard:
+        """Where the answers of a replay of these rules go."""
+        return Heard(rules, self.moments)
+
+
+NOTHING = Asking(None)
+
+
+@contextlib.contextmanager
+def asking(trace: Path, moments: int, entries: Sequence[str] = ()) -> Iterator[Asking]:
+    """Puts entries (entries.py) before the first record, and questions how much is held at so many moments, evenly
+    from the first to the last.
+
+    The trace is a regular file; where its lines end otherwise than with a line feed, or it has blank ones, a copy is
+    replayed, which goes at the end. Trouble as Traces where it is no trace.
+    """
+    wanted = moments_of(trace, moments)
+    if not wanted and not entries:
+        yield NOTHING
+        return
+    with contextlib.ExitStack() as stack:
+        places = _places(trace, wanted)
+        if places is None:
+            trace = stack.enter_context(_plain(trace))
+            places = _places(trace, wanted) or []
+        if entries:
+            if not places or places[0].behind:
+                places.insert(0, Place(0, len(HEADER) + 1))
+            places[0].lines[:0] = records_at(entries, first_moment_of(trace) or 0)
+        yield Asking(Insertions(trace, places), tuple(wanted))
+
+
+def moments_of(trace: Path, count: int) -> list[int]:
+    """So many moments of a trace, evenly from its first to its last."""
+    first, last = (first_moment_of(trace), last_moment_of(trace)) if count else (None, None)
+    if first is None or last is None:
+        return []
+    return sorted({first + (it * (last - first) // (count - 1) if count > 1 else last - first) for it in range(count)})
+
+
+def _places(trace: Path, wanted: Sequence[int]) -> list[Place] | None:
+    """For each moment the place behind the last record that is not after it; None where the lines of the trace are
+    not plain.
+    """
+    left = list(wanted)
+    places: list[Place] = []
+    with open(trace, "rb") as file:
+        if file.readline(LONGEST) != f"{HEADER}\n".encode():
+            return None
+        records, offset = 0, len(HEADER) + 1
+        while left and (block := file.read(_BLOCK)):
+            block += b"" if block.endswith(b"\n") else file.readline(LONGEST)
+            if b'"' in block or b"\r" in block or block.rfind(b"\n\n") >= 0 or block.startswith(b"\n"):
+                return None
+            if _moment_of(block[block.rfind(b"\n", 0, -1) + 1 :]) > left[0]:
+                _place_in(block.splitlines(keepends=True), left, records, offset, places)
+            records += block.count(b"\n") + (not block.endswith(b"\n"))
+            offset += len(block)
+    for moment in left:
+        _put(places, Place(records, offset, [_question(moment)]))
+    return places
+
+
+def _place_in(lines: Sequence[bytes], left: list[int], records: int, offset: int, places: list[Place]) -> None:
+    """The places in a block of lines, of which the last is after the first moment that is left."""
+    at, last = 0, _moment_of(lines[-1])
+    while left and left[0] < last:
+        moment = left.pop(0)
+        behind = bisect.bisect(lines, moment, key=_moment_of)
+        offset += sum(map(len, lines[at:behind]))
+        at = max(at, behind)
+        _put(places, Place(records + at, offset, [_question(moment)]))
+
+
+def _put(places: list[Place], place: Place) -> None:
+    if places and places[-1].behind == place.behind:
+        places[-1].lines.extend(place.lines)
+    else:
+        places.append(place)
+
+
+def _question(moment: int) -> str:
+    return f"{moment},held,,,,,,,"
+
+
+def _moment_of(line: bytes) -> int:
+    """The moment of a record; -1 where it has none, of which the program tells the row."""
+    time = line.partition(b",")[0]
+    return int(time) if time.isdigit() and len(time) <= 10 else -1
+
+
+@contextlib.contextmanager
+def _plain(trace: Path) -> Iterator[Path]:
+    """A copy of a trace without blank lines, in which each line ends with a line feed."""
+    with tempfile.NamedTemporaryFile("w", prefix="pfplan-", encoding="latin-1", newline="\n") as copy:
+        try:
+            copy.write(f"{HEADER}\n")
+            for lines in Traces(trace).blocks():
+                copy.writelines(f"{it}\n" for it in lines)
+            copy.flush()
+        except OSError as error:
+            why = f"can't be copied into {tempfile.gettempdir()}: {reason_of(error)}"
+            raise Trouble(f"{trace}: {why}", Status.FAILED) from None
+        yield Path(copy.name)

@@ -1,0 +1,185 @@
+"""The firewall that a play asks: `./pfsrc replay --line-buffered`, behind one small interface.
+
+What is asked is kept as a trace, and what is answered as its report, so that anybody can replay the one and compare
+the other.
+"""
+
+import fcntl
+import os
+import subprocess
+import tempfile
+from collections.abc import Sequence
+from dataclasses import dataclass
+from pathlib import Path
+from types import TracebackType
+from typing import Protocol
+
+from pfplan.common.errors import Status, Trouble, reason_of
+from pfplan.common.inputs import HEADER
+from pfplan.common.repository import program
+from pfplan.traces.records import End, read_answer
+
+PIPE = 1 << 20
+# Bytes that a record takes at most, and a line of a report. A part of what is asked fits into the pipe, whatever it is.
+LONGEST = 160
+
+
+class Firewall(Protocol):
+    """What decides on packets."""
+
+    def decide(self, records: Sequence[str]) -> list[str]:
+        """The line of the report for each record.
+
+        Both are whole lines of a trace and a report; records have their line feeds, lines do not.
+        """
+
+    def end(self) -> End:
+        """There are no more records: what is held at the end."""
+
+
+class Writer(Protocol):
+    """A file to write to."""
+
+    def write(self, text: bytes, /) -> int:
+        """Writes all of it."""
+
+
+@dataclass(frozen=True)
+class Kept:
+    """The files that a play keeps: what was asked, and what was answered. None keeps nothing."""
+
+    trace: Writer | None = None
+    report: Writer | None = None
+
+
+class Pfsrc:
+    """The program as a firewall. Leaving it ends the program."""
+
+    def __init__(self, rules: Path, kept: Kept) -> None:
+        """Trouble with status 70 where the program can't be run."""
+        self._rules = rules
+        self._kept = kept
+        self._told = tempfile.TemporaryFile(prefix="pfplan-")  # noqa: SIM115 (closed by __exit__)
+        words = [program(), "replay", "--line-buffered", str(rules), "-"]
+        try:
+            self._process = subprocess.Popen(
+                words, stdin=subprocess.PIPE, stdout=subprocess.PIPE, stderr=self._told, bufsize=0
+            )
+        except OSError as error:
+            self._told.close()
+            raise Trouble(
+                f"{words[0]}: can't be run: {reason_of(error)} (PFSRC names the program)", Status.NOT_BUILT
+            ) from None
+        assert self._process.stdin is not None and self._process.stdout is not None
+        self._in, self._out = self._process.stdin.fileno(), self._process.stdout.fileno()
+        self._most = max(1, min(_grown(self._in), _grown(self._out)) // LONGEST)
+        self._rest = b""
+        self._write(f"{HEADER}\n".encode())
+
+    def __enter__(self) -> "Pfsrc":
+        return self
+
+    def __exit__(
+        self, kind: type[BaseException] | None, error: BaseException | None, trace: TracebackType | None
+    ) -> None:
+        assert self._process.stdin is not None and self._process.stdout is not None
+        if self._process.poll() is None:
+            self._process.terminate()
+        for pipe in (self._process.stdin, self._process.stdout):
+            try:
+                pipe.close()
+            except BrokenPipeError:
+                pass
+        self._process.wait()
+        self._told.close()
+
+    def decide(self, records: Sequence[str]) -> list[str]:
+        """As `Firewall.decide`. Trouble as the program's own where it ends."""
+        found: list[str] = []
+        for at in range(0, len(records), self._most):
+            part = records[at : at + self._most]
+            self._write("".join(part).encode("latin-1"))
+            found += self._read(len(part))
+        return found
+
+    def end(self) -> End:
+        """As `Firewall.end`. Trouble as the program's own where it does not end well."""
+        assert self._process.stdin is not None
+        self._process.stdin.close()
+        (last,) = self._read(1)
+        if os.read(self._out, 1) or self._process.wait():
+            raise self._trouble()
+        found = read_answer(last)
+        assert isinstance(found, End)
+        return found
+
+    def _write(self, records: bytes) -> None:
+        if self._kept.trace:
+            self._kept.trace.write(records)
+        left = memoryview(records)
+        try:
+            while left:
+                left = left[os.write(self._in, left) :]
+        except BrokenPipeError:
+            raise self._trouble() from None
+
+    def _read(self, count: int) -> list[str]:
+        """So many lines."""
+        parts = [self._rest] if self._rest else []
+        found = self._rest.count(b"\n")
+        while found < count:
+            part = os.read(self._out, PIPE)
+            if not part:
+                raise self._trouble()
+            parts.append(part)
+            found += part.count(b"\n")
+        whole = b"".join(parts)
+        lines = whole.decode("latin-1").split("\n")
+        self._rest = "\n".join(lines[count:]).encode("latin-1")
+        if self._kept.report:
+            self._kept.report.write(whole[: len(whole) - len(self._rest)] if self._rest else whole)
+        return lines[:count]
+
+    def _trouble(self) -> Trouble:
+        """Why the program ended: its own line, with the name of the rules before it."""
+        status = self._process.wait()
+        self._told.seek(0)
+        said = (
+            self._told.read(4096).decode("latin-1").splitlines() or [f"ended with status {status} and said nothing"]
+        )[-1]
+        if said.startswith("rules: "):
+            return Trouble(f"{self._rules}: {said.removeprefix('rules: ')}", Status.RULES)
+        ends = {1: Status.REFUSED, 70: Status.NOT_BUILT}
+        return Trouble(f"{program()}: {said} (rules {self._rules})", ends.get(status, Status.FAILED))
+
+
+def _grown(pipe: int) -> int:
+    """The bytes that a pipe holds, after it was asked to hold more."""
+    try:
+        return fcntl.fcntl(pipe, fcntl.F_SETPIPE_SZ, PIPE)
+    except OSError:
+        return fcntl.fcntl(pipe, fcntl.F_GETPIPE_SZ)
+
+
+class Open:
+    """A firewall that lets everything in, and keeps what it was asked as a trace."""
+
+    def __init__(self, trace: Writer | None = None) -> None:
+        self._trace = trace
+        self._rows = 0
+        self._keep(f"{HEADER}\n")
+
+    def decide(self, records: Sequence[str]) -> list[str]:
+        """As `Firewall.decide`."""
+        self._keep("".join(records))
+        first = self._rows + 1
+        self._rows += len(records)
+        return [f"{row} pass -" for row in range(first, self._rows + 1)]
+
+    def end(self) -> End:
+        """As `Firewall.end`."""
+        return End(self._rows, 0, 0, 0)
+
+    def _keep(self, text: str) -> None:
+        if self._trace is not None:
+            self._trace.write(text.encode("latin-1"))

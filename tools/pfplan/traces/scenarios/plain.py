@@ -1,0 +1,25 @@
+"""The trace of a scenario in which nobody reacts: what would come if the firewall let everything in."""
+
+from pathlib import Path
+
+from pfplan.common.outputs import whole_file
+from pfplan.common.progress import Progress
+from pfplan.traces.scenarios.firewalls import Open
+from pfplan.traces.scenarios.playing import seldom_collected
+from pfplan.traces.scenarios.plays import Play, traces_of
+from pfplan.traces.scenarios.reading import read_scenario
+
+
+def write_plain(scenario: Path, out: Path | None) -> None:
+    """Writes it; the same scenario gives the same bytes.
+
+    Forged packets get no answer. Trouble as `read_scenario`, or where writing fails.
+    """
+    read = read_scenario(scenario)
+    progress = Progress("trace", read.seconds, "seconds")
+    try:
+        with whole_file(out) as file, traces_of(read) as traces, seldom_collected():
+            Play(read, Open(file.buffer), {}, traces, is_plain=True).run(progress.at)
+            file.buffer.flush()
+    finally:
+        progress.finish()
