@@ -25,7 +25,7 @@ COMMANDS = (
     ("margins", "how sure an answer is"),
     ("measure", "one replay in a few numbers, as a line of JSON: what size and margins run"),
 )
-ENDS = """pfsrc replays, pfstrace reads captures: those beside pfplan, else on the PATH, or what PFSRC and PFSTRACE name.
+ENDS = """pfsrc replays, pfstrace reads captures: beside pfplan, else on the PATH, or what PFSRC and PFSTRACE name.
 Status: 0 done; 1 a trace, a report or a capture is refused; 2 a word of the command line; 3 a pf.conf or a rules text
 is refused; 4 reading or writing failed, or no memory; 70 pfsrc is not there or could not be built; 130 interrupted.
 pfplan is tested, not proved. pfplan(1) says more."""
