@@ -9,10 +9,11 @@ ghost use Rattle.pfs_engine_machine.specs.Runs.{MayCome, MayChange};
 
 use csv::{ByteRecord, Reader, ReaderBuilder};
 use pfs_addr_values::RUN_LIMIT;
-use pfs_cli_formats::{EndLine, TraceFault, has_columns, push_end, push_row, read_event};
+use pfs_cli_formats::{EndLine, push_end, push_row};
 use pfs_conf::{Config, LoadFault, TableNo, load};
 use pfs_engine::{Arrival, Engine, Event, Outcome};
 use pfs_store::{IndexStore, PlainStore, Store};
+use pfs_trace::{TraceFault, has_columns, read_event};
 use std::alloc::Global;
 use std::env;
 use std::fs::File;

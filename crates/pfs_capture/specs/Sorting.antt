@@ -5,7 +5,7 @@ use Rattle.pfs_addr_values.specs.Addresses.{same_family}
 use Rattle.pfs_addr_values.specs.Names.{is_name}
 use Rattle.pfs_addr_values.specs.declared.packets.Dir.{Dir}
 use Rattle.pfs_addr_values.specs.declared.packets.Dir.TheVariants.{In, Out}
-use Rattle.pfs_capture_packets.specs.Logs.{answer_in, logged_of}
+use Rattle.pfs_capture_packets.specs.Logs.{answer_in, is_log, logged_of}
 use Rattle.pfs_capture_packets.specs.Packets.{IsCarried, then_read, packet_of}
 use Rattle.pfs_capture_packets.specs.Ways.{cooked_dir, ethernet_dir}
 use Rattle.pfs_capture_packets.specs.declared.packets.IpPacket.{IpPacket}
@@ -57,10 +57,10 @@ heading_from Silent networks = option_map (λ dir. record { dir = dir; by = evid
 abbrev pub logged_way : List ℕ → Option Way
 logged_way frame = option_map (λ l. record { heading = record { dir = l.dir; by = evidence.Log; is_contradicted = false }; ifname = l.ifname }) (logged_of frame)
 
--- the way of a frame's packet and its interface: a log of packets (LINKTYPE_PFLOG, 117) has them itself
+-- the way of a frame's packet and its interface: a log of packets has them itself
 abbrev pub way_of : Point → ℕ → List ℕ → IpPacket → Option Way
 way_of point link_type frame packet =
-    if link_type == 117 then logged_way frame
+    if is_log link_type then logged_way frame
     else option_map (λ heading. record { heading = heading; ifname = point.ifname }) (heading_from (by_link point link_type frame) (networks_dir point packet))
 
 -- the packet of a frame, its way and what pf answered, or the one reason why it is no record

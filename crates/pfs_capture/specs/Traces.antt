@@ -11,9 +11,11 @@ use Rattle.pfs_capture_files.specs.declared.frames.Moment.{Moment}
 use Rattle.pfs_capture_files.specs.declared.frames.Moment.TheVariants.{At, Untold, Outside}
 use Rattle.pfs_capture_packets.specs.declared.packets.Reason.{Reason}
 use Rattle.pfs_capture_packets.specs.declared.packets.Reason.TheVariants as reason
-use Rattle.pfs_capture_rows.specs.Answers.{answer_row}
-use Rattle.pfs_capture_rows.specs.Rows.{capture_row}
-use Rattle.pfs_capture_rows.specs.declared.rows.Row.{Row}
+use Rattle.pfs_capture_answers.specs.Answers.{answer_row}
+use Rattle.pfs_capture_packets.specs.Sent.{on_way}
+use Rattle.pfs_trace.specs.Columns.{header_text}
+use Rattle.pfs_trace.specs.Rows.{packet_row}
+use Rattle.pfs_trace.specs.declared.rows.Row.{Row}
 use Rattle.pfs_capture.specs.Accounts.{no_frames}
 use Rattle.pfs_capture.specs.Captures.{Frames, Seen, frames_from, most_items}
 use Rattle.pfs_capture.specs.Points.{Point}
@@ -74,11 +76,11 @@ capture_run point form xs = judged_frames point 0 (frames_from most_items form x
 
 -- the row of a packet that was found
 abbrev pub row_from : ℕ → Found → Row
-row_from second found = record { second = second; dir = found.way.heading.dir; ifname = found.way.ifname; packet = found.packet }
+row_from second found = record { second = second; packet = on_way found.way.heading.dir found.way.ifname found.packet }
 
 -- a frame's row, or nothing
 abbrev pub frame_text : ℕ → Result Found Reason → List ℕ
-frame_text second (Ok found) = capture_row (row_from second found)
+frame_text second (Ok found) = packet_row (row_from second found)
 frame_text second (Err r) = []
 
 -- what pf answered for the record of this number, or nothing
@@ -88,7 +90,7 @@ answer_text number (Err r) = []
 
 -- the trace: its header, and the rows of the frames that are records, in order
 abbrev pub trace_text : List Judged → List ℕ
-trace_text frames = codes "time,dir,if,proto,src,sport,dst,dport,flags\n" ++ flat_map (λ j. frame_text j.second j.outcome) frames
+trace_text frames = header_text ++ flat_map (λ j. frame_text j.second j.outcome) frames
 
 -- how many records there are with one frame more
 abbrev pub records_with : ℕ → Result Found Reason → ℕ

@@ -7,7 +7,7 @@ ghost use Rattle.pfs_capture.specs.Sorting.{IsFound, by_link, by_mac, contradict
 use crate::points::CapturePoint;
 use pfs_addr_values::{Dir, IfName};
 use pfs_capture_packets::{
-    Answer, IpPacket, Reason, read_answer, read_cooked_dir, read_ethernet_dir, read_log,
+    Answer, IpPacket, Reason, is_log, read_answer, read_cooked_dir, read_ethernet_dir, read_log,
     read_packet,
 };
 
@@ -88,7 +88,7 @@ fn way_of(point: &CapturePoint, link_type: u16, frame: &[u8], packet: &IpPacket)
     ensures is { result ≡ way_of point.now link_type frame.now packet.now }
     ensures name { IfSome result (λ w. is_name 15 w.ifname ≡ true) }
 {
-    if link_type == 117 {
+    if is_log(link_type) {
         return logged_way(frame);
     }
     let heading = heading_from(

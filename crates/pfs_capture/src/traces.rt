@@ -18,10 +18,11 @@ use crate::accounts::Account;
 use crate::faults::TraceStop;
 use crate::points::CapturePoint;
 use crate::sorting::{Found, sort};
+use pfs_capture_answers::{ANSWER_HEADER, push_answer};
 use pfs_capture_files::{Frame, Item, Moment, read_item, read_start};
 use pfs_capture_packets::Reason;
-use pfs_capture_rows::{ANSWER_HEADER, HEADER, Row, push_answer, push_row};
 use pfs_cli_streams::{Feed, Sink, write_whole};
+use pfs_trace::{HEADER, Row, push_row};
 use std::alloc::Global;
 use std::io::{Read, Write};
 
@@ -192,11 +193,10 @@ fn write_row(
     let Ok(found) = outcome else {
         return Ok(());
     };
+    let way = &found.way;
     let row = Row {
         second,
-        dir: found.way.heading.dir,
-        ifname: found.way.ifname,
-        packet: found.packet,
+        packet: found.packet.on_way(way.heading.dir, way.ifname),
     };
     match push_row(line, &row) {
         Ok(()) => Ok(()),

@@ -4,5 +4,6 @@ pub mod Labels
 pub mod Links
 pub mod Headers
 pub mod Packets
+pub mod Sent
 pub mod Logs
 pub mod Ways

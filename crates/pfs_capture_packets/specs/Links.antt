@@ -6,6 +6,7 @@ use Rattle.pfs_capture_packets.specs.declared.walks.Place.{Place}
 use Rattle.pfs_capture_packets.specs.declared.packets.Reason.{Reason}
 use Rattle.pfs_capture_packets.specs.declared.packets.Reason.TheVariants as reason
 use Rattle.pfs_capture_packets.specs.Bytes.{u16_at}
+use Rattle.pfs_capture_packets.specs.Logs.{is_log, log_header}
 use Rattle.pfs_capture_packets.specs.Labels.{kind_of_ppp, kind_of_version}
 
 -- the link of a type: Ethernet, BSD's loopback, raw IP, enc(4), PPP, PPP over Ethernet, Linux cooked of both versions, pflog. Files of
@@ -21,7 +22,7 @@ link_of n =
     else (if n == 51 then Some link.PppOverEthernet
     else (if n == 113 then Some link.Cooked
     else (if n == 276 then Some link.CookedAgain
-    else (if n == 117 then Some link.Log else None)))))))))
+    else (if is_log n then Some link.Log else None)))))))))
 
 -- the EtherType of packets of an address family, as the systems of BSD number them: IPv4 is 2, IPv6 24, 28 or 30; 0 for any other
 abbrev pub kind_of_family : ℕ → ℕ
@@ -76,8 +77,8 @@ ppp_place frame =
 -- LINKTYPE_PFLOG: its length without what it is filled up with to a word of four bytes, and an address family
 abbrev pub log_place : List ℕ → Result Place Reason
 log_place frame =
-    if nat_le (0 + 61) (length frame)
-    then (if nat_lt (slice_index frame 0) 61 then Err reason.NotIp
+    if nat_le (0 + log_header) (length frame)
+    then (if nat_lt (slice_index frame 0) log_header then Err reason.NotIp
     else Ok (record { kind = kind_of_family (slice_index frame 1); at = (slice_index frame 0 + 3) / 4 * 4 }))
     else Err reason.Cut
 

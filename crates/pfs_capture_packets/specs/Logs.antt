@@ -4,9 +4,18 @@ use Rattle.std.specs.Prelude.{ℕ, ◌+◌, ◌==◌, ◌&&◌, not, Bool, List,
 use Rattle.pfs_addr_values.specs.Names.{name_of}
 use Rattle.pfs_addr_values.specs.declared.packets.Dir.{Dir}
 use Rattle.pfs_addr_values.specs.declared.packets.Dir.TheVariants.{In, Out}
+use Rattle.pfs_capture_packets.specs.declared.logs.TheConstants.{LOG_HEADER, LOG_LINK}
 use Rattle.pfs_capture_packets.specs.declared.logs.Answer.{Answer}
 use Rattle.pfs_capture_packets.specs.declared.logs.Logged.{Logged}
 use Rattle.pfs_capture_packets.specs.Bytes.{octets_at, u32_at}
+
+-- whether the frames of a link of this type are those of a log: LINKTYPE_PFLOG, 117
+abbrev pub is_log : ℕ → Bool
+is_log link_type = link_type == LOG_LINK
+
+-- a log's header has 61 bytes at least, with those that fill it up to a word 64
+abbrev pub log_header : ℕ
+log_header = LOG_HEADER
 
 -- how many bytes a text has that ends before the first zero
 abbrev pub text_length : List ℕ → ℕ
@@ -28,7 +37,7 @@ if_some (Some x) more = more x
 -- the direction is the byte 60, the interface's name the sixteen bytes from 4 on
 abbrev pub logged_of : List ℕ → Option Logged
 logged_of frame =
-    if nat_le (0 + 61) (length frame)
+    if nat_le (0 + log_header) (length frame)
     then if_some (logged_dir_at (slice_index frame 60)) (λ dir. if_some (name_at (octets_at frame 4 16)) (λ ifname. Some (record { dir = dir; ifname = ifname })))
     else None
 
@@ -41,7 +50,7 @@ rewritten_in frame =
 -- from 20 on, and the number of the rule in that anchor the four from 40 on
 abbrev pub logged_answer : List ℕ → Option Answer
 logged_answer frame =
-    if nat_le (0 + 61) (length frame)
+    if nat_le (0 + log_header) (length frame)
     then Some (record {
       action = slice_index frame 2;
       rule = u32_at frame 36;
@@ -52,9 +61,9 @@ logged_answer frame =
     })
     else None
 
--- what pf answered for a frame of this link type: only LINKTYPE_PFLOG, 117, has it
+-- what pf answered for a frame of this link type: only a log has it
 abbrev pub answer_in : ℕ → List ℕ → Option Answer
-answer_in link_type frame = if link_type == 117 then logged_answer frame else None
+answer_in link_type frame = if is_log link_type then logged_answer frame else None
 
 -- the name of the anchor whose rule it is
 abbrev pub anchor_name : Answer → List ℕ

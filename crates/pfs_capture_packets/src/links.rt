@@ -5,6 +5,7 @@ ghost use Rattle.pfs_capture_packets.specs.Links.{either_order, encapsulated_pla
 
 use crate::bytes::{holds, read_u16};
 use crate::labels::{kind_of_ppp, kind_of_version};
+use crate::logs::{LOG_HEADER, LOG_LINK};
 use crate::packets::Reason;
 use crate::walks::Place;
 
@@ -48,7 +49,7 @@ impl Link {
             51 => Some(Link::PppOverEthernet),
             113 => Some(Link::Cooked),
             276 => Some(Link::CookedAgain),
-            117 => Some(Link::Log),
+            LOG_LINK => Some(Link::Log),
             _ => None,
         }
     }
@@ -182,10 +183,10 @@ fn raw_place(frame: &[u8]) -> Result<Place, Reason>
 fn log_place(frame: &[u8]) -> Result<Place, Reason>
     ensures { result ≡ log_place frame.now }
 {
-    if !holds(frame, 0, 61) {
+    if !holds(frame, 0, LOG_HEADER) {
         return Err(Reason::Cut);
     }
-    if frame[0] < 61 {
+    if usize::from(frame[0]) < LOG_HEADER {
         return Err(Reason::NotIp);
     }
     Ok(Place {

@@ -2,10 +2,16 @@
 
 ghost use Rattle.std.specs.Prelude.{◌≡◌, ◌==◌, ◌<◌, ◌≤◌, IfSome, length, position, true};
 ghost use Rattle.pfs_addr_values.specs.Names.{is_name};
-ghost use Rattle.pfs_capture_packets.specs.Logs.{anchor_name, answer_in, logged_answer, logged_dir_at, logged_of, name_at, rewritten_in, text_length};
+ghost use Rattle.pfs_capture_packets.specs.Logs.{anchor_name, answer_in, is_log, logged_answer, logged_dir_at, logged_of, name_at, rewritten_in, text_length};
 
 use crate::bytes::{holds, read_u32};
 use pfs_addr_values::{Dir, IfName, parse_ifname};
+
+/// The type of the link of a log: LINKTYPE_PFLOG.
+pub const LOG_LINK: u16 = 117;
+
+/// The least bytes of a log's header, up to the direction. What fills them up to a word is not counted.
+pub const LOG_HEADER: usize = 61;
 
 /// What pf says of a packet that it logged. (pflog(4))
 #[derive(Clone, Copy)]
@@ -42,13 +48,20 @@ impl Answer {
     }
 }
 
+/// Whether the frames of a link of this type are those of a log of pflog(4).
+pub fn is_log(link_type: u16) -> bool
+    ensures { result ≡ is_log link_type }
+{
+    link_type == LOG_LINK
+}
+
 /// What the header of pflog(4) says of its packet, or `None` where the frame ends within it, where its direction is neither
 /// in nor out, and where the name of its interface is none that a trace can have.
 pub fn read_log(frame: &[u8]) -> Option<Logged>
     ensures is { result ≡ logged_of frame.now }
     ensures name { IfSome result (λ l. is_name 15 l.ifname ≡ true) }
 {
-    if !holds(frame, 0, 61) {
+    if !holds(frame, 0, LOG_HEADER) {
         return None;
     }
     let dir = dir_at(frame[60])?;
@@ -61,7 +74,7 @@ pub fn read_log(frame: &[u8]) -> Option<Logged>
 pub fn read_answer(link_type: u16, frame: &[u8]) -> Option<Answer>
     ensures { result ≡ answer_in link_type frame.now }
 {
-    if link_type != 117 {
+    if !is_log(link_type) {
         return None;
     }
     logged_answer(frame)
@@ -70,7 +83,7 @@ pub fn read_answer(link_type: u16, frame: &[u8]) -> Option<Answer>
 fn logged_answer(frame: &[u8]) -> Option<Answer>
     ensures { result ≡ logged_answer frame.now }
 {
-    if !holds(frame, 0, 61) {
+    if !holds(frame, 0, LOG_HEADER) {
         return None;
     }
     let mut anchor = [0; 16];

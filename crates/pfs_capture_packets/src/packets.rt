@@ -1,13 +1,15 @@
 //! The packet that a frame holds, or why it is none that a trace has.
 
-ghost use Rattle.std.specs.Prelude.{◌≡◌, ◌+◌, ◌≤◌, IfOk, length, true};
+ghost use Rattle.std.specs.Prelude.{◌≡◌, ◌+◌, ◌≤◌, IfOk, length, false, true};
 ghost use Rattle.pfs_addr_values.specs.Addresses.{same_family};
+ghost use Rattle.pfs_addr_values.specs.Protocols.{has_ports};
+ghost use Rattle.pfs_capture_packets.specs.Sent.{flags_of_carried, from_port, on_way, proto_of_carried, to_port};
 ghost use Rattle.pfs_capture_packets.specs.Packets.{IsCarried, carried_at, ends_past, flags_in, found_at, ipv4_in, ipv6_in, kept_length, own_end, packet_in, packet_of, tcp_at, udp_at, v4_at, v6_at};
 
 use crate::bytes::{holds, read_u16};
 use crate::links::{Link, first_place};
 use crate::walks::{Layer, Place, walk};
-use pfs_addr_values::{Addr, Flags, OtherProto, Proto};
+use pfs_addr_values::{Addr, Dir, Endpoint, Flags, IfName, OtherProto, Packet, Proto};
 
 /// Why a frame is no record of a trace. Each frame that is none has exactly one reason.
 #[derive(Clone, Copy)]
@@ -46,6 +48,71 @@ pub struct IpPacket {
     pub destination: Addr,
     /// What it carries.
     pub carried: Carried,
+}
+
+impl IpPacket {
+    /// The packet on its way through the interface of this name, as rules and states look at it. Its ports are 0 where it carries
+    /// neither TCP nor UDP, and it has flags only where it carries TCP.
+    pub fn on_way(&self, dir: Dir, ifname: IfName) -> Packet
+        ensures { result ≡ on_way dir ifname self.now }
+    {
+        let source = Endpoint {
+            addr: self.source,
+            port: from_port(&self.carried),
+        };
+        let destination = Endpoint {
+            addr: self.destination,
+            port: to_port(&self.carried),
+        };
+        let proto = proto_of(&self.carried);
+        Packet::new(
+            dir,
+            ifname,
+            proto,
+            source,
+            destination,
+            flags_of(&self.carried),
+        )
+    }
+}
+
+fn proto_of(carried: &Carried) -> Proto
+    ensures { result ≡ proto_of_carried carried.now }
+{
+    match *carried {
+        Carried::Tcp(_, _, _) => Proto::Tcp,
+        Carried::Udp(_, _) => Proto::Udp,
+        Carried::Other(other) => Proto::Other(other),
+    }
+}
+
+fn from_port(carried: &Carried) -> u16
+    ensures is { result ≡ from_port carried.now }
+    ensures none { has_ports (proto_of_carried carried.now) ≡ false → result ≡ 0 }
+{
+    match *carried {
+        Carried::Tcp(from, _, _) | Carried::Udp(from, _) => from,
+        Carried::Other(_) => 0,
+    }
+}
+
+fn to_port(carried: &Carried) -> u16
+    ensures is { result ≡ to_port carried.now }
+    ensures none { has_ports (proto_of_carried carried.now) ≡ false → result ≡ 0 }
+{
+    match *carried {
+        Carried::Tcp(_, to, _) | Carried::Udp(_, to) => to,
+        Carried::Other(_) => 0,
+    }
+}
+
+fn flags_of(carried: &Carried) -> Flags
+    ensures { result ≡ flags_of_carried carried.now }
+{
+    match *carried {
+        Carried::Tcp(_, _, flags) => flags,
+        Carried::Udp(_, _) | Carried::Other(_) => Flags::default(),
+    }
 }
 
 /// The outermost IP packet of a frame of this link type, or the reason for which the frame is no record.

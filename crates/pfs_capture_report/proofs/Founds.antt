@@ -12,12 +12,14 @@ use Rattle.pfs_addr_values.specs.declared.packets.Dir.{Dir}
 use Rattle.pfs_addr_values.specs.declared.protocols.Proto.TheVariants as proto
 use Rattle.pfs_capture_packets.specs.Bytes.{octets_at, u16_at}
 use Rattle.pfs_capture_packets.specs.Links.{first_place, link_of}
-use Rattle.pfs_capture_packets.specs.Logs.{answer_in, if_some, logged_dir_at, logged_of, name_at, text_length}
+use Rattle.pfs_capture_packets.specs.Logs.{answer_in, if_some, is_log, log_header, logged_dir_at, logged_of, name_at, text_length}
 use Rattle.pfs_capture_packets.specs.Packets.{IsCarried, carried_at, carried_by, ends_past, found_at, framed_packet_at, ipv4_in, ipv6_in, own_end, packet_in, packet_of, tcp_at, then_read, udp_at, v4_at, v6_at}
+use Rattle.pfs_capture_packets.specs.Sent.{flags_of_carried, from_port, proto_of_carried, to_port}
 use Rattle.pfs_capture_packets.specs.Walks.{walk_from}
 use Rattle.pfs_capture_packets.specs.declared.links.Link.{Link}
 use Rattle.pfs_capture_packets.specs.declared.logs.Logged.{Logged}
 use Rattle.pfs_capture_packets.specs.declared.packets.Carried.{Carried}
+use Rattle.pfs_capture_packets.specs.declared.packets.Carried.TheVariants.{Tcp, Udp, Other}
 use Rattle.pfs_capture_packets.specs.declared.packets.IpPacket.{IpPacket}
 use Rattle.pfs_capture_packets.specs.declared.packets.Reason.{Reason}
 use Rattle.pfs_capture_packets.specs.declared.packets.Reason.TheVariants as reason
@@ -30,6 +32,7 @@ use Rattle.pfs_capture.specs.Traces.{row_from}
 use Rattle.pfs_capture.specs.declared.sorting.Found.{Found}
 use Rattle.pfs_capture.specs.declared.sorting.Heading.{Heading}
 use Rattle.pfs_capture.specs.declared.sorting.Way.{Way}
+use Rattle.pfs_trace.specs.Rows.{CanSay}
 use Rattle.pfs_capture_files.proofs.Octets.{AreBytes, bytes-drop, bytes-take}
 use Rattle.pfs_capture_report.proofs.Octets.{octets-bytes, u16-small}
 use Rattle.pfs_capture_report.proofs.Reading.{IsReadable}
@@ -140,6 +143,12 @@ packet-whole link_type frame p h e = by (link_of link_type) e
         read-of (first_place link frame) _ p (λ first a g.
         read-of _ (λ place. framed_packet_at frame place) p (λ place b k. framed-whole frame place p h k) g) f
 
+-- columns can say what it carries
+carried-said : (c : Carried) → IsCarried c → CanSay (proto_of_carried c) (from_port c) (to_port c) (flags_of_carried c)
+carried-said (Tcp from to flags) h = h
+carried-said (Udp from to) h = (h.0, h.1, refl)
+carried-said (Other n) h = (h.0, h.1, h.2, refl, refl, refl)
+
 -- ---- its way
 
 named : (text : List ℕ) (name : List ℕ) → (if is_name 15 text then Some text else None) ≡ Some name → is_name 15 name ≡ true
@@ -150,7 +159,7 @@ named text name e = by (is_name 15 text) refl e
     by false t f = cc
 
 logged-named : (frame : List ℕ) (l : Logged) → logged_of frame ≡ Some l → is_name 15 l.ifname ≡ true
-logged-named frame l e = whole (nat_le (0 + 61) (length frame)) e
+logged-named frame l e = whole (nat_le (0 + log_header) (length frame)) e
   where
     name : (dir : Dir) (o : Option (List ℕ)) → name_at (octets_at frame 4 16) ≡ o → if_some o (λ ifname. Some (record { dir = dir; ifname = ifname })) ≡ Some l → is_name 15 l.ifname ≡ true
     name dir None t f = cc
@@ -168,7 +177,7 @@ logged-named frame l e = whole (nat_le (0 + 61) (length frame)) e
     whole false f = cc
 
 way-named : (point : Point) (link_type : ℕ) (frame : List ℕ) (p : IpPacket) (w : Way) → is_name 15 point.ifname ≡ true → way_of point link_type frame p ≡ Some w → is_name 15 w.ifname ≡ true
-way-named point link_type frame p w name e = by (link_type == 117) e
+way-named point link_type frame p w name e = by (is_log link_type) e
   where
     log : (o : Option Logged) → logged_of frame ≡ o → option_map (λ l. let way : Way = record { heading = record { dir = l.dir; by = evidence.Log; is_contradicted = false }; ifname = l.ifname } in way) o ≡ Some w
         → is_name 15 w.ifname ≡ true
@@ -206,7 +215,7 @@ found-readable point link_type frame second f name h late e =
           family = whole.family;
           second = late;
           name = way-named point link_type frame packet w name t;
-          carried = whole.carried;
+          said = carried-said packet.carried whole.carried;
           source = whole.source;
           destination = whole.destination;
         })

@@ -1,21 +1,22 @@
 -- The frames of a capture have rows that can be read, in seconds that do not fall; so their trace is read as their packets.
 use Rattle.std.proofs.Common.{◌≡◌, ◌≤◌, ◌++◌, ◌∙◌, ℕ, max, Bool, true, false, List, [], ◌∷◌, flat_map, Option, Some, None, refl, ap, arith, if◌then◌else◌, nat_lt}
-use Rattle.std.specs.Prelude.{codes, Err, Ok, Result}
+use Rattle.std.specs.Prelude.{Err, Ok, Result}
 use Rattle.std.specs.List.{AllByRecursion}
 use Rattle.std.proofs.lemmas.Bool.Decides.{nat_tests}
 use Rattle.pfs_addr_values.specs.Names.{is_name}
 use Rattle.pfs_conf_values.specs.Configs.{Conf}
-use Rattle.pfs_cli_formats.specs.Events.{falls}
+use Rattle.pfs_trace.specs.Events.{falls}
 use Rattle.pfs_cli_formats.specs.Reports.{report}
-use Rattle.pfs_cli_formats.specs.Traces.{Trace, trace_of}
+use Rattle.pfs_trace.specs.Traces.{Trace, trace_of}
 use Rattle.pfs_capture_files.specs.Forms.{start_of}
 use Rattle.pfs_capture_files.specs.declared.faults.FileFault.{FileFault}
 use Rattle.pfs_capture_files.specs.declared.forms.Form.{Form}
 use Rattle.pfs_capture_files.specs.declared.frames.Moment.{Moment}
 use Rattle.pfs_capture_files.specs.declared.frames.Moment.TheVariants.{At, Outside, Untold}
 use Rattle.pfs_capture_packets.specs.declared.packets.Reason.{Reason}
-use Rattle.pfs_capture_rows.specs.Rows.{capture_row}
-use Rattle.pfs_capture_rows.specs.declared.rows.Row.{Row}
+use Rattle.pfs_trace.specs.Columns.{header_text}
+use Rattle.pfs_trace.specs.Rows.{packet_row}
+use Rattle.pfs_trace.specs.declared.rows.Row.{Row}
 use Rattle.pfs_capture.specs.Captures.{Seen, frames_from, most_items}
 use Rattle.pfs_capture.specs.Points.{Point}
 use Rattle.pfs_capture.specs.Sorting.{found_in_frame}
@@ -31,12 +32,12 @@ use Rattle.pfs_capture_report.proofs.Reading.{AreRising, IsReadable, rows-again}
 
 -- ---- the text is that of the rows
 
-text-more : (second : ℕ) (o : Result Found Reason) (text : List ℕ) (rows : List Row) → text ≡ flat_map capture_row rows
-    → frame_text second o ++ text ≡ flat_map capture_row (rows_at second o ++ rows)
-text-more second (Ok found) text rows more = ap (λ (t : List ℕ). capture_row (row_from second found) ++ t) more
+text-more : (second : ℕ) (o : Result Found Reason) (text : List ℕ) (rows : List Row) → text ≡ flat_map packet_row rows
+    → frame_text second o ++ text ≡ flat_map packet_row (rows_at second o ++ rows)
+text-more second (Ok found) text rows more = ap (λ (t : List ℕ). packet_row (row_from second found) ++ t) more
 text-more second (Err r) text rows more = more
 
-text-of-rows : (frames : List Judged) → flat_map (λ j. frame_text j.second j.outcome) frames ≡ flat_map capture_row (rows_of frames)
+text-of-rows : (frames : List Judged) → flat_map (λ j. frame_text j.second j.outcome) frames ≡ flat_map packet_row (rows_of frames)
 text-of-rows [] = refl
 text-of-rows (j ∷ js) = text-more j.second j.outcome _ (rows_of js) (text-of-rows js)
 
@@ -106,7 +107,7 @@ pub trace-read : (conf : Conf) → TraceIsRead conf
 trace-read conf point bytes h =
     let frames = frames_in point bytes in
     let order = begun-in-order point bytes (start_of bytes) refl h.name h.octets in
-    ap (λ (t : List ℕ). trace_of conf (codes "time,dir,if,proto,src,sport,dst,dport,flags\n" ++ t)) (text-of-rows frames)
+    ap (λ (t : List ℕ). trace_of conf (header_text ++ t)) (text-of-rows frames)
     ∙ rows-again conf (rows_of frames) order.readable order.rising h.few
 
 pub capture-reported : (conf : Conf) → CaptureIsReported conf

@@ -6,13 +6,13 @@ use Rattle.pfs_conf_values.specs.Configs.{Conf}
 use Rattle.pfs_engine_machine.specs.Machine.{machine_after, start}
 use Rattle.pfs_engine_machine.specs.declared.events.Event.{Event}
 use Rattle.pfs_cli_formats.specs.Reports.{end_line_of, lines_of, report_of}
-use Rattle.pfs_cli_formats.specs.Traces.{trace_of}
+use Rattle.pfs_trace.specs.Traces.{trace_of}
 use Rattle.pfs_capture_files.specs.Forms.{start_of}
 use Rattle.pfs_capture_files.specs.declared.faults.FileFault.{FileFault}
 use Rattle.pfs_capture_files.specs.declared.forms.Form.{Form}
 use Rattle.pfs_capture_packets.specs.declared.packets.Reason.{Reason}
-use Rattle.pfs_capture_rows.specs.Rows.{event_of}
-use Rattle.pfs_capture_rows.specs.declared.rows.Row.{Row}
+use Rattle.pfs_trace.specs.Rows.{event_of}
+use Rattle.pfs_trace.specs.declared.rows.Row.{Row}
 use Rattle.pfs_capture.specs.Points.{Point}
 use Rattle.pfs_capture.specs.Traces.{Judged, capture_run, row_from, trace_text}
 use Rattle.pfs_capture.specs.declared.sorting.Found.{Found}

@@ -5,10 +5,10 @@ use Rattle.std.specs.Fmt.{option_append}
 use Rattle.std.specs.Io.KnownBytes.{Consumes}
 use Rattle.std.proofs.lemmas.Bool.Decides.{nat_tests}
 use Rattle.std.proofs.lemmas.List.{append-nil}
-use Rattle.pfs_cli_formats.specs.Traces.{trace_of}
+use Rattle.pfs_trace.specs.Traces.{trace_of}
 use Rattle.pfs_cli.proofs.Telling.{first-lines-begin, whole-report}
-use Rattle.pfs_cli_formats.specs.declared.faults.TraceFault.{TraceFault}
-use Rattle.pfs_cli_formats.specs.declared.faults.TraceFault.TheVariants as trace
+use Rattle.pfs_trace.specs.declared.faults.TraceFault.{TraceFault}
+use Rattle.pfs_trace.specs.declared.faults.TraceFault.TheVariants as trace
 use Rattle.pfs_cli.specs.declared.faults.ReplayFault.{ReplayFault}
 use Rattle.pfs_cli.specs.declared.faults.ReplayFault.TheVariants as fault
 use Rattle.pfs_conf.specs.declared.faults.LoadFault.{LoadFault}

@@ -21,20 +21,21 @@ use Rattle.pfs_engine_machine.specs.declared.events.Event.{Event}
 use Rattle.pfs_engine_machine.specs.Machine.{Machine, start, step, outcomes_of, machine_after}
 use Rattle.pfs_engine.specs.Views.{View}
 use Rattle.pfs_cli_streams.specs.Sinks.{SinkView, OwesNoFlush}
-use Rattle.pfs_cli_formats.specs.declared.faults.TraceFault.{TraceFault}
-use Rattle.pfs_cli_formats.specs.declared.faults.TraceFault.TheVariants as fault
+use Rattle.pfs_trace.specs.declared.faults.TraceFault.{TraceFault}
+use Rattle.pfs_trace.specs.declared.faults.TraceFault.TheVariants as fault
 use Rattle.pfs_cli.specs.declared.records.Stop.{Stop}
 use Rattle.pfs_cli.specs.declared.records.Stop.TheVariants as stop
-use Rattle.pfs_cli_formats.specs.Events.{event_at, is_header}
+use Rattle.pfs_trace.specs.Columns.{is_header}
+use Rattle.pfs_trace.specs.Events.{event_at}
 use Rattle.pfs_cli_formats.specs.Lines.{row_text}
-use Rattle.pfs_cli_formats.specs.Traces.{Fields, Trace, events_from, events_of, trace_of}
-use Rattle.pfs_cli_formats.specs.Reading.{records_left, records_of}
+use Rattle.pfs_trace.specs.Traces.{Fields, Trace, events_from, events_of, trace_of}
+use Rattle.pfs_trace.specs.Reading.{records_left, records_of}
 use Rattle.pfs_cli_formats.specs.Reports.{lines_from, lines_of, end_line_of, report, report_of, AreFirstLines, BeginsReport}
 use Rattle.pfs_cli.specs.Headers.{ReadsHeader}
 use Rattle.pfs_cli.specs.Turns.{Tells, TellsRows, WritesLine, TakesEvent, TakesRecord}
-use Rattle.pfs_cli_formats.proofs.Rest.{records_left-more, records_left-end}
+use Rattle.pfs_trace.proofs.Rest.{records_left-more, records_left-end}
 use Rattle.pfs_cli_formats.proofs.Runs.{machine_after-more, lines_of-more, lines_of-none, outcomes-front, lines_from-front}
-use Rattle.pfs_cli_formats.proofs.Stepping.{last-step}
+use Rattle.pfs_trace.proofs.Stepping.{last-step}
 
 -- known bytes that did not grow
 pub Appends-nothing : (a : Option (List ℕ)) → Appends a a []

@@ -2,8 +2,8 @@
 use Rattle.std.specs.Prelude.{◌++◌, ℕ, List, codes}
 use Rattle.std.specs.Fmt.{decimal}
 use Rattle.pfs_conf.specs.KindNames.{kind_name}
-use Rattle.pfs_cli_formats.specs.declared.faults.TraceFault.{TraceFault}
-use Rattle.pfs_cli_formats.specs.declared.faults.TraceFault.TheVariants as trace
+use Rattle.pfs_trace.specs.declared.faults.TraceFault.{TraceFault}
+use Rattle.pfs_trace.specs.declared.faults.TraceFault.TheVariants as trace
 use Rattle.pfs_cli.specs.declared.faults.ReplayFault.{ReplayFault}
 use Rattle.pfs_cli.specs.declared.faults.ReplayFault.TheVariants as fault
 

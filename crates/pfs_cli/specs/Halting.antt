@@ -2,7 +2,7 @@
 use Rattle.std.specs.Prelude.{ℕ, List, Result}
 use Rattle.pfs_conf_values.specs.Configs.{Conf}
 use Rattle.pfs_conf.specs.Reads.{Reads}
-use Rattle.pfs_cli_formats.specs.Traces.{trace_of}
+use Rattle.pfs_trace.specs.Traces.{trace_of}
 use Rattle.pfs_cli.specs.declared.faults.ReplayFault.TheVariants as fault
 use Rattle.pfs_cli.specs.declared.joined.Halt.{Halt}
 use Rattle.pfs_cli.specs.declared.joined.Halt.TheVariants as halt

@@ -3,8 +3,8 @@ use Rattle.std.specs.Prelude.{◌≡◌, ℕ, List, [], Option, Some, None, Resu
 use Rattle.csv.specs.Reading.{default_config, reader_state, source_of}
 use Rattle.csv.specs.declared.reader.Reader.{Reader}
 use Rattle.pfs_conf_values.specs.Configs.{Conf}
-use Rattle.pfs_cli_formats.specs.Reading.{records_left}
-use Rattle.pfs_cli_formats.specs.Traces.{Fields, events_from, events_of}
+use Rattle.pfs_trace.specs.Reading.{records_left}
+use Rattle.pfs_trace.specs.Traces.{Fields, events_from, events_of}
 use Rattle.pfs_cli.specs.Turns.{Tells}
 use Rattle.pfs_cli.specs.declared.records.Stop.{Stop}
 

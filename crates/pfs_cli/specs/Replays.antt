@@ -1,14 +1,14 @@
 -- What a replay has written when it ends. (own)
 use Rattle.std.specs.Prelude.{◌≡◌, ◌⊎◌, ◌<◌, ℕ, List, [], false, Option, Some, None, Result, Ok, Err}
-use Rattle.pfs_cli_formats.specs.declared.faults.TraceFault.{TraceFault}
-use Rattle.pfs_cli_formats.specs.declared.faults.TraceFault.TheVariants as trace
+use Rattle.pfs_trace.specs.declared.faults.TraceFault.{TraceFault}
+use Rattle.pfs_trace.specs.declared.faults.TraceFault.TheVariants as trace
 use Rattle.pfs_cli.specs.declared.faults.ReplayFault.{ReplayFault}
 use Rattle.pfs_cli.specs.declared.faults.ReplayFault.TheVariants as fault
 use Rattle.pfs_cli_streams.specs.Feeds.{FeedView, IsFresh, read_failures, reads_of}
 use Rattle.pfs_cli_streams.specs.Sinks.{SinkView, OwesNoFlush, is_unflushed}
 use Rattle.pfs_conf_values.specs.Configs.{Conf}
 use Rattle.pfs_conf.specs.Reads.{Reads}
-use Rattle.pfs_cli_formats.specs.Traces.{trace_of}
+use Rattle.pfs_trace.specs.Traces.{trace_of}
 use Rattle.pfs_cli_formats.specs.Reports.{report_of, AreFirstLines, BeginsReport}
 
 -- the whole report, under the configuration of the rules; its trace has this fault, or none

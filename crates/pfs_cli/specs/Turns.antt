@@ -6,10 +6,10 @@ use Rattle.pfs_engine_machine.specs.declared.events.Event.{Event}
 use Rattle.pfs_engine_machine.specs.Machine.{Machine, step}
 use Rattle.pfs_cli.specs.declared.records.Stop.{Stop}
 use Rattle.pfs_cli.specs.declared.records.Stop.TheVariants as stop
-use Rattle.pfs_cli_formats.specs.Events.{event_at}
+use Rattle.pfs_trace.specs.Events.{event_at}
 use Rattle.pfs_cli_formats.specs.Lines.{row_text}
 use Rattle.pfs_cli_formats.specs.Reports.{AreFirstLines, BeginsReport, lines_of, report}
-use Rattle.pfs_cli_formats.specs.Traces.{Trace}
+use Rattle.pfs_trace.specs.Traces.{Trace}
 
 -- the text of one line, by how its writing ends
 abbrev pub WritesLine : List ℕ → List ℕ → Result Unit Stop → Type 0

@@ -9,7 +9,7 @@ ghost use Rattle.pfs_conf.specs.declared.faults.LoadFault.{LoadFault};
 ghost use Rattle.pfs_conf.specs.Reads.{Reads};
 ghost use Rattle.pfs_cli.specs.Turns.{PassedOn, Tells};
 ghost use Rattle.pfs_cli.specs.Refusing.{AnswersRun, AnswersStop, IsFeedFault};
-ghost use Rattle.pfs_cli_formats.specs.Traces.{trace_of};
+ghost use Rattle.pfs_trace.specs.Traces.{trace_of};
 ghost use Rattle.pfs_cli.specs.Replays.{Replays, ShowsLines};
 
 use crate::faults::{ReplayFault, of_trace};

@@ -3,8 +3,8 @@
 ghost use Rattle.std.specs.Prelude.{◌≡◌, Some};
 ghost use Rattle.pfs_cli.specs.Faults.{fault_text, fault_status, replay_fault};
 
-use pfs_cli_formats::TraceFault;
 use pfs_conf::LoadFault;
+use pfs_trace::TraceFault;
 use std::{error, fmt};
 
 /// Why a report is not whole. Rows count from 1 after the header, columns from 1.

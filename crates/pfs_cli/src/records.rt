@@ -14,15 +14,16 @@ ghost use Rattle.pfs_engine_machine.specs.Runs.{MayCome};
 ghost use Rattle.pfs_cli_formats.specs.Reports.{end_line_of};
 ghost use Rattle.pfs_cli.specs.Headers.{ReadsHeader};
 ghost use Rattle.pfs_cli.specs.Turns.{PassedOn, Tells, TellsRows, WritesLine, TakesEvent, TakesRecord};
-ghost use Rattle.pfs_cli_formats.specs.Reading.{records_of, records_left};
-ghost use Rattle.pfs_cli_formats.specs.Traces.{events_of, events_from};
+ghost use Rattle.pfs_trace.specs.Reading.{records_of, records_left};
+ghost use Rattle.pfs_trace.specs.Traces.{events_of, events_from};
 
 use csv::{ByteRecord, Reader, ReaderBuilder};
 use pfs_addr_values::RUN_LIMIT;
-use pfs_cli_formats::{EndLine, TraceFault, has_columns, push_end, push_row, read_event};
+use pfs_cli_formats::{EndLine, push_end, push_row};
 use pfs_cli_streams::{Sink, write_whole};
 use pfs_engine::{Engine, Event, Outcome};
 use pfs_store_contract::Store;
+use pfs_trace::{TraceFault, has_columns, read_event};
 use std::alloc::Global;
 use std::io::{Read, Write};
 

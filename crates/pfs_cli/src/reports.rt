@@ -3,8 +3,8 @@
 ghost use Rattle.std.specs.Prelude.{◌≡◌, Some, Err, ◌<◌, ℕ, List};
 ghost use Rattle.std.specs.Io.KnownBytes.{Appends};
 ghost use Rattle.pfs_cli_streams.specs.Sinks.{OwesNoFlush, bytes_held, write_failures};
-ghost use Rattle.pfs_cli_formats.specs.Reading.{records_of};
-ghost use Rattle.pfs_cli_formats.specs.Traces.{events_of};
+ghost use Rattle.pfs_trace.specs.Reading.{records_of};
+ghost use Rattle.pfs_trace.specs.Traces.{events_of};
 ghost use Rattle.pfs_store_contract.specs.Worlds.{empty_world};
 ghost use Rattle.pfs_cli.specs.Turns.{PassedOn, Tells};
 

@@ -5,8 +5,8 @@ use Rattle.pfs_engine_machine.specs.declared.events.Event.{Event}
 use Rattle.pfs_engine_machine.specs.declared.events.Outcome.{Outcome}
 use Rattle.pfs_engine_machine.specs.Machine.{Machine, start, states_held, nodes_held, entries_held, outcomes_of, machine_after}
 use Rattle.pfs_cli_formats.specs.Lines.{row_text, end_text}
-use Rattle.pfs_cli_formats.specs.Traces.{Trace, trace_of}
-use Rattle.pfs_cli_formats.specs.declared.faults.TraceFault.{TraceFault}
+use Rattle.pfs_trace.specs.Traces.{Trace, trace_of}
+use Rattle.pfs_trace.specs.declared.faults.TraceFault.{TraceFault}
 
 -- one line for each outcome, the first in this row
 unfoldable pub lines_from : ℕ → List Outcome → List ℕ

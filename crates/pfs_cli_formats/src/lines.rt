@@ -4,9 +4,9 @@ ghost use Rattle.std.specs.Prelude.{◌≡◌, ◌++◌, OnOk, codes, decimal};
 ghost use Rattle.pfs_cli_formats.specs.Lines.{amounts_text, end_text, entered_word, overload_word, row_text};
 ghost use Rattle.pfs_cli_formats.specs.Words.{lead_of, note_text, number_text, rule_by};
 
-use itoa::Buffer;
 use pfs_conf_values::RuleNo;
 use pfs_engine_machine::{Added, Amounts, Entered, Exceeded, Limit, Outcome};
+use pfs_numbers::push_number;
 use std::alloc::AllocError;
 
 /// The last line of a report: how many records there were, and what is held after them.
@@ -54,13 +54,6 @@ fn push_named(out: &mut Vec<u8>, name: &[u8], number: u64) -> Result<(), AllocEr
 {
     out.extend_from_slice(name)?;
     push_number(out, number)
-}
-
-fn push_number(out: &mut Vec<u8>, number: u64) -> Result<(), AllocError>
-    ensures { OnOk result (out.new.items ≡ out.old.items ++ decimal number) }
-{
-    let mut buffer = Buffer::new();
-    out.extend_from_slice(buffer.format(number).as_bytes())
 }
 
 /// The number of a rule, after the `@` of its line.

@@ -8,7 +8,7 @@ mod splitting;
 mod writing;
 
 pub use feeds::{Begun, Feed, Reads};
-pub use rules::{RULES_LIMIT, RulesStop, read_rules};
+pub use rules::{RulesStop, read_rules};
 pub use sinks::Sink;
 pub use splitting::read_joined;
 pub use writing::{WriteFailed, write_whole};

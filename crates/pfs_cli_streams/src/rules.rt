@@ -5,11 +5,9 @@ ghost use Rattle.pfs_cli_streams.specs.Feeds.{bound_of, unread, has_ended, read_
 ghost use Rattle.pfs_cli_streams.specs.Kept.{KeepsEnough, rules_limit};
 
 use crate::feeds::Feed;
+use pfs_conf_tokens::TEXT_LIMIT;
 use std::alloc::Global;
 use std::io::Read;
-
-/// The most bytes of a rules text.
-pub const RULES_LIMIT: usize = 1_048_576;
 
 /// Why rules were not read.
 #[derive(Debug, Clone, Copy)]
@@ -36,8 +34,8 @@ pub fn read_rules<R: Read>(alloc: Global, rules: &mut Feed<R>) -> Result<Vec<u8>
 {
     let mut text = Vec::new(alloc);
     let mut chunk = [0; 4096];
-    'chunks: while text.len() <= RULES_LIMIT {
-        let room = chunk.len().min(RULES_LIMIT + 1 - text.len());
+    'chunks: while text.len() <= TEXT_LIMIT {
+        let room = chunk.len().min(TEXT_LIMIT + 1 - text.len());
         match rules.read(&mut chunk[..room]) {
             Ok(0) => return Ok(text),
             Ok(n) => {

@@ -5,13 +5,14 @@ ghost use Rattle.pfs_cli_streams.specs.Kept.{KeepsEnough, rules_limit};
 ghost use Rattle.pfs_cli_streams.specs.Joined.{split_joined};
 ghost use Rattle.pfs_cli_streams.specs.Places.{IsPastSplit, ends_split, place_after, place_over, split_at, split_mark};
 
-use crate::rules::{RULES_LIMIT, RulesStop};
+use crate::rules::RulesStop;
+use pfs_conf_tokens::TEXT_LIMIT;
 use std::alloc::Global;
 use std::io::Read;
 
 /// The most bytes that are kept of the rules: enough to show that they are too long when the
 /// split line's two bytes are taken off.
-const KEPT_LIMIT: usize = RULES_LIMIT + 3;
+const KEPT_LIMIT: usize = TEXT_LIMIT + 3;
 
 /// Where in a line a reader is.
 #[derive(Clone, Copy)]

@@ -3,11 +3,12 @@
 ghost use Rattle.std.specs.Prelude.{◌≡◌, ◌++◌, OnOk};
 ghost use Rattle.pfs_conf_show.specs.Filters.{dir_text, family_text, flags_text, host_text, hosts_text, is_every_side, on_text, parameters_text, ports_text, proto_text, quick_text, range_text, side_text};
 
-use crate::pieces::{push_not, push_number, push_prefix};
+use crate::pieces::{push_not, push_prefix};
 use crate::tables::push_table_ref;
 use pfs_addr::push_flags;
 use pfs_addr_values::{Dir, NoMemory, Proto};
 use pfs_conf_values::{Config, Family, Filter, FlagTest, Host, Interface, Ports, Side, TableNo};
+use pfs_numbers::push_number;
 
 pub fn push_parameters(
     out: &mut Vec<u8>,

@@ -6,11 +6,12 @@ ghost use Rattle.pfs_conf_values.specs.Timeouts.{timeout_names};
 ghost use Rattle.pfs_conf_show.specs.Pieces.{begun_after, text_if_given, going_on, word_and_number};
 ghost use Rattle.pfs_conf_show.specs.Options.{flush_text, options_text, overload_text, rate_text, rule_timeout_text, scope_text, state_text};
 
-use crate::pieces::{push_closing, push_number, push_separator, push_worded};
+use crate::pieces::{push_closing, push_separator, push_worded};
 use crate::settings::{TIMEOUT_NAMES, timeout_word};
 use crate::tables::push_table_ref;
 use pfs_addr_values::NoMemory;
 use pfs_conf_values::{Action, Config, Overload, Rate, RuleTimeouts, Scope, StateOptions};
+use pfs_numbers::push_number;
 
 pub fn push_state(out: &mut Vec<u8>, config: &Config, action: &Action) -> Result<(), NoMemory>
     ensures { OnOk result (out.new.items ≡ out.old.items ++ state_text config.now.tables action.now) }
@@ -92,7 +93,8 @@ fn push_rate_text(out: &mut Vec<u8>, word: &[u8], rate: Rate) -> Result<(), NoMe
 {
     push_worded(out, word, u64::from(rate.limit))?;
     out.extend_from_slice(b"/")?;
-    push_number(out, u64::from(rate.seconds))
+    push_number(out, u64::from(rate.seconds))?;
+    Ok(())
 }
 
 fn push_overload(

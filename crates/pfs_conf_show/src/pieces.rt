@@ -1,27 +1,20 @@
 //! Numbers, prefixes and the marks of lists.
 
-ghost use Rattle.std.specs.Prelude.{◌≡◌, ◌==◌, ◌++◌, OnOk, codes, decimal};
+ghost use Rattle.std.specs.Prelude.{◌≡◌, ◌==◌, ◌++◌, OnOk, codes};
 ghost use Rattle.pfs_addr_values.specs.Addresses.{width_of};
 ghost use Rattle.pfs_conf_show.specs.Pieces.{bits_text, closed_by, not_text, prefix_text, separator, word_and_number};
 
-use itoa::Buffer;
 use pfs_addr::push_addr;
 use pfs_addr_values::{NoMemory, Prefix};
-
-pub fn push_number(out: &mut Vec<u8>, n: u64) -> Result<(), NoMemory>
-    ensures { OnOk result (out.new.items ≡ out.old.items ++ decimal n) }
-{
-    let mut buffer = Buffer::new();
-    out.extend_from_slice(buffer.format(n).as_bytes())?;
-    Ok(())
-}
+use pfs_numbers::push_number;
 
 pub fn push_worded(out: &mut Vec<u8>, word: &[u8], n: u64) -> Result<(), NoMemory>
     ensures { OnOk result (out.new.items ≡ out.old.items ++ word_and_number word.now n) }
 {
     out.extend_from_slice(word)?;
     out.extend_from_slice(b" ")?;
-    push_number(out, n)
+    push_number(out, n)?;
+    Ok(())
 }
 
 pub fn push_not(out: &mut Vec<u8>, negated: bool) -> Result<(), NoMemory>

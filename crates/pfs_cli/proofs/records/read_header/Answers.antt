@@ -4,9 +4,9 @@ use Rattle.pfs_cli.specs.Turns.{Tells}
 use Rattle.pfs_cli.specs.declared.records.Stop.{Stop}
 use Rattle.csv.specs.Reading.{default_config, reader_state}
 use Rattle.csv.specs.Records.{fields_of}
-use Rattle.pfs_cli_formats.specs.Events.{is_header}
-use Rattle.pfs_cli_formats.specs.Reading.{records_left}
-use Rattle.pfs_cli_formats.specs.Traces.{events_of}
+use Rattle.pfs_trace.specs.Columns.{is_header}
+use Rattle.pfs_trace.specs.Reading.{records_left}
+use Rattle.pfs_trace.specs.Traces.{events_of}
 use Rattle.pfs_cli.proofs.Telling.{no-lines, told-empty, told-other, trace-rest}
 use Rattle.pfs_cli.proofs.records.read_header.Goals as goal
 

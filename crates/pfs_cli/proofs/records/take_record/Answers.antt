@@ -1,7 +1,7 @@
 -- Answers of take_record: an event that is read may be taken, and its turn is the record's (`takes`).
 use Rattle.std.proofs.Common.{sym, ◌∙◌, [], refl}
 use Rattle.csv.specs.Records.{fields_of}
-use Rattle.pfs_cli_formats.proofs.Stepping.{event-read}
+use Rattle.pfs_trace.proofs.Stepping.{event-read}
 use Rattle.pfs_cli.proofs.Telling.{Appends-nothing, takes-event}
 use Rattle.pfs_cli.proofs.records.take_record.Goals as goal
 

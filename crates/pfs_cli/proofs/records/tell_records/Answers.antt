@@ -1,8 +1,8 @@
 -- Answers of tell_records: what is written where memory for its reader is refused, behind a header, and without one (`tells`).
 use Rattle.std.proofs.Common.{◌∙◌, List, [], Err, ap, rules, subst, sym}
 use Rattle.csv.specs.Reading.{ChangesHeaders, strip_bom}
-use Rattle.pfs_cli_formats.specs.Traces.{Fields, Trace, events_of}
-use Rattle.pfs_cli_formats.specs.Reading.{records_of}
+use Rattle.pfs_trace.specs.Traces.{Fields, Trace, events_of}
+use Rattle.pfs_trace.specs.Reading.{records_of}
 use Rattle.pfs_cli.specs.Turns.{Tells}
 use Rattle.pfs_cli.proofs.Telling.{Appends-nothing, at-start, no-lines, rows-told}
 use Rattle.pfs_cli.proofs.records.tell_records.Goals as goal

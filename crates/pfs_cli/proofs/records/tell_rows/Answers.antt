@@ -3,8 +3,8 @@ use Rattle.std.proofs.Common.{refl, arith, subst, sym, ◌<◌, ◌+◌, ◌∙�
 use Rattle.csv.specs.Reading.{default_config, reader_state}
 use Rattle.csv.specs.Records.{fields_of}
 use Rattle.pfs_addr_values.specs.Packets.{run_limit}
-use Rattle.pfs_cli_formats.specs.Reading.{records_left}
-use Rattle.pfs_cli_formats.specs.Traces.{events_from}
+use Rattle.pfs_trace.specs.Reading.{records_left}
+use Rattle.pfs_trace.specs.Traces.{events_from}
 use Rattle.pfs_cli_streams.specs.Sinks.{bytes_held}
 use Rattle.pfs_cli.specs.Turns.{WritesLine}
 use Rattle.pfs_cli.specs.declared.records.Stop.{Stop}

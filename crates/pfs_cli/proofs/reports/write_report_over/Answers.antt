@@ -1,8 +1,8 @@
 -- Answers of write_report_over: what the engine of this configuration reports, and that nothing is written where
 -- it could not be made (`tells`).
 use Rattle.std.proofs.Common.{[]}
-use Rattle.pfs_cli_formats.specs.Reading.{records_of}
-use Rattle.pfs_cli_formats.specs.Traces.{events_of}
+use Rattle.pfs_trace.specs.Reading.{records_of}
+use Rattle.pfs_trace.specs.Traces.{events_of}
 use Rattle.pfs_cli.proofs.Telling.{Appends-nothing, ends-under, no-lines}
 use Rattle.pfs_cli.proofs.reports.write_report_over.Goals as goal
 

@@ -1,0 +1,5 @@
+pub mod Columns
+pub mod Events
+pub mod Reading
+pub mod Rows
+pub mod Traces
