@@ -1,4 +1,5 @@
 pub mod Calls
+pub mod Held
 pub mod Packets
 pub mod Rooms
 pub mod Views
