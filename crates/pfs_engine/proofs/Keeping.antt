@@ -18,7 +18,7 @@ use Rattle.pfs_engine_machine.proofs.Answering.{refused_result, shared_result}
 use Rattle.pfs_engine_machine.proofs.KeptPackets.{kept_answered, made_answered}
 use Rattle.pfs_engine_machine.proofs.KeptTime.{first_advanced, kept_advanced, kept_command, kept_start, made_advanced}
 use Rattle.pfs_engine.specs.Calls.{CountsPacket, IsAnsweredBy, IsLimited, Keeps}
-use Rattle.pfs_engine.specs.Held.{HeldView, Holds, IsAnswered, IsTold}
+use Rattle.pfs_engine.specs.Held.{HeldView, Holds, IsAnswered, IsAnsweredAs, IsTold}
 use Rattle.pfs_engine.specs.Packets.{NeedsNone}
 use Rattle.pfs_engine.specs.Views.{IsWhole, View, machine_at}
 use Rattle.pfs_engine.specs.declared.works.Work.{Work}
@@ -83,7 +83,7 @@ whole_same before after first last taken i held config =
     (subst (λ (x : Held). IsWhole before.config (machine_at x first last) taken) (sym held) i)
 
 pub whole_answered : {A E : Type 0} (before after : HeldView) (first last : Option ℕ) (taken begun at table : ℕ) (done : Command) (r : Result A E) (out : A → Outcome)
-    → IsWhole before.config (machine_at before.held first last) taken → IsAnswered r out (answer_to_command before.config before.held begun at table done) before after
+    → IsWhole before.config (machine_at before.held first last) taken → IsAnsweredAs r out (answer_to_command before.config before.held begun at table done) before after
     → IsWhole after.config (machine_at after.held first last) taken
 whole_answered before after first last taken begun at table done (Ok a) out i h =
     whole_told before after first last taken begun at table done (out a) i (record { told = h.ok; config = h.config })
@@ -102,7 +102,7 @@ keeps before after was first last taken taken' work work' is config i = subst (�
 -- ---- a packet
 
 pub whole_packet : {E : Type 0} (before after : HeldView) (first last : Option ℕ) (taken taken' now : ℕ) (p : Header) (r : Result Outcome E) → now ≡ moment_of last → taken < run_limit
-    → IsWhole before.config (machine_at before.held first last) taken → IsAnswered r (λ o. o) (answer_to_packet before.config before.held p now) before after → CountsPacket r taken taken'
+    → IsWhole before.config (machine_at before.held first last) taken → IsAnswered r (answer_to_packet before.config before.held p now) before after → CountsPacket r taken taken'
     → IsWhole after.config (machine_at after.held first last) taken'
 whole_packet before after first last taken taken' now p (Ok o) moment room i h n =
     let conf = before.config in
@@ -120,7 +120,7 @@ whole_packet before after first last taken taken' now p (Err x) moment room i h 
 
 pub answered_by : {E : Type 0} (before after : HeldView) (was : View) (first last : Option ℕ) (taken taken' now : ℕ) (work work' : Work) (p : Header) (r : Result Outcome E)
     → seen before first last taken work ≡ was → now ≡ moment_of last
-    → IsWhole after.config (machine_at after.held first last) taken' → IsAnswered r (λ o. o) (answer_to_packet before.config before.held p now) before after → CountsPacket r taken taken'
+    → IsWhole after.config (machine_at after.held first last) taken' → IsAnswered r (answer_to_packet before.config before.held p now) before after → CountsPacket r taken taken'
     → IsAnsweredBy r p was (seen after first last taken' work')
 answered_by before after was first last taken taken' now work work' p r is moment i h n =
     subst (λ (v : View). IsAnsweredBy r p v (seen after first last taken' work')) is (record {
@@ -141,7 +141,7 @@ met conf h after p now r ok free rule limit d = search rules
 
 pub limited : {E : Type 0} (before after : HeldView) (was : View) (first last : Option ℕ) (taken taken' now : ℕ) (work work' : Work) (p : Header) (r : Result Outcome E)
     → seen before first last taken work ≡ was → now ≡ moment_of last
-    → IsWhole before.config (machine_at before.held first last) taken → IsAnswered r (λ o. o) (answer_to_packet before.config before.held p now) before after
+    → IsWhole before.config (machine_at before.held first last) taken → IsAnswered r (answer_to_packet before.config before.held p now) before after
     → (NeedsNone before.config before.held p (state_with (key_of p) before.held.world) → IsOk r)
     → IsLimited r p was (seen after first last taken' work')
 limited before after was first last taken taken' now work work' p r is moment i h free =

@@ -55,24 +55,6 @@ pub record IsRefusedAtLimits {E : Type 0} (conf : Conf) (p : Header) (answer : R
   pub only : (rule : RuleNo) (limit : Limit) → answer ≡ Ok (outcome.Drop rule limit)
       → IsDropped conf before.held p rule.0 limit × (after ≡ before)
 
--- the looks of a packet, where the store counts them, by what came of it, and none where memory was refused
-pub record AreLooksOf {E : Type 0} (counts : Bool) (conf : Conf) (w : World) (p : Header) (answer : Result Outcome E) (looks : ℕ)
-    : Type 0 where
-  pub counted : counts ≡ true → IfOk answer (λ o. AreLooks conf (states_beside w (state_with (key_of p) w)) o looks)
-  pub refused : counts ≡ true → OnErr answer (looks ≡ 0)
-  pub uncounted : counts ≡ false → looks ≡ 0
-
--- what the meters of a packet show: the items that it is compared with, and the looks
-pub record AreMetersOf {E : Type 0} (counts : Bool) (conf : Conf) (h : Held) (p : Header) (answer : Result Outcome E) (compared looked : ℕ)
-    : Type 0 where
-  pub visits : AreVisits conf h p (state_with (key_of p) h.world) compared
-  pub looks : AreLooksOf counts conf h.world p answer looked
-
--- the looks after the one at the packet's own state, where the store counts them
-pub record AreFurtherLooks (counts : Bool) (before after : ℕ) (AreLooksNow : ℕ → Type 0) : Type 0 where
-  pub counted : counts ≡ true → before ≡ 1 → AreLooksNow after
-  pub uncounted : counts ≡ false → after ≡ before
-
 -- what a packet makes of an engine at its last moment: what the machine makes of it, or nothing where memory was refused
 pub record IsAnsweredBy {E : Type 0} (answer : Result Outcome E) (p : Header) (before after : View) : Type 0 where
   pub ok : IfOk answer (λ o. (o, after.machine.held) ≡ answer_to_packet before.config before.machine.held p (moment_of before.machine.last))
@@ -99,21 +81,6 @@ pub record IsWorkOfPacket {E : Type 0} (counts : Bool) (conf : Conf) (h : Held) 
       AreLooks conf (states_beside h.world (state_with (key_of p) h.world)) o work.looks)
   pub no_looks : counts ≡ true → OnErr answer (work.looks ≡ 0)
   pub uncounted : counts ≡ false → work.looks ≡ 0
-
--- the work of purges: the most that one slice of states and one of nodes examines; the looks are those of that slice of states,
--- where the store counts them; and no item is compared
-pub record IsWorkOfPurges (counts : Bool) (conf : Conf) (w : World) (seconds : List ℕ) (work : Work) : Type 0 where
-  pub most_states : work.most_states ≡ most_states conf w seconds
-  pub most_nodes : work.most_nodes ≡ most_nodes conf w seconds
-  pub visits : work.visits ≡ 0
-  pub looks : counts ≡ true → work.looks ≡ work.most_states
-  pub uncounted : counts ≡ false → work.looks ≡ 0
-
--- the work of one more purge compares no item, and counts its looks as that of those before it
-pub record CountsOn (counts : Bool) (before after : Work) : Type 0 where
-  pub visits : after.visits ≡ before.visits
-  pub looks : counts ≡ true → before.looks ≡ before.most_states → after.looks ≡ after.most_states
-  pub uncounted : counts ≡ false → before.looks ≡ 0 → after.looks ≡ 0
 
 -- the work of seconds that pass: two slices in each, with the most that one of states and one of nodes examines, within their
 -- shares; the looks are those of that slice of states, where the store counts them; and no item is compared

@@ -43,8 +43,12 @@ pub record IsTold (o : Outcome) (wanted : Outcome × Held) (before after : HeldV
   pub told : (o, after.held) ≡ wanted
   pub config : after.config ≡ before.config
 
--- the same of an answer; where memory was refused, nothing that is held has changed
-pub record IsAnswered {A E : Type 0} (answer : Result A E) (outcome : A → Outcome) (wanted : Outcome × Held) (before after : HeldView) : Type 0 where
+-- the same of an answer, by the outcome that it stands for; where memory was refused, nothing that is held has changed
+pub record IsAnsweredAs {A E : Type 0} (answer : Result A E) (outcome : A → Outcome) (wanted : Outcome × Held) (before after : HeldView) : Type 0 where
   pub ok : IfOk answer (λ a. (outcome a, after.held) ≡ wanted)
   pub err : OnErr answer (after.held ≡ before.held)
   pub config : after.config ≡ before.config
+
+-- of an answer that is the outcome itself
+abbrev pub IsAnswered : {E : Type 0} → Result Outcome E → Outcome × Held → HeldView → HeldView → Type 0
+IsAnswered answer wanted before after = IsAnsweredAs answer (λ o. o) wanted before after

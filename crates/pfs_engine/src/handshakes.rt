@@ -17,8 +17,8 @@ ghost use Rattle.pfs_engine_machine.specs.Kept.{IsKept};
 ghost use Rattle.pfs_engine_machine.specs.Looks.{AreLooks, AreLooksOfKill};
 ghost use Rattle.pfs_engine_machine.specs.Machine.{addition_of, answer_to_packet, exceeded_of, tables_after_addition};
 ghost use Rattle.pfs_engine_machine.specs.Refusals.{IsFreeOf, is_tcp};
-ghost use Rattle.pfs_engine.specs.Calls.{AreFurtherLooks, AreLooksOf};
 ghost use Rattle.pfs_engine.specs.Held.{Holds, IsAnswered, IsTold, tables_of};
+ghost use Rattle.pfs_engine.specs.Meters.{AreFurtherLooks, AreLooksOf};
 ghost use Rattle.pfs_engine.specs.Packets.{answer_of_touch};
 ghost use Rattle.pfs_engine.specs.Rooms.{HasRoomFor, rule_overload};
 
@@ -47,7 +47,7 @@ pub(crate) fn take_packet_of_state<S: Store>(
     requires kept { IsKept held.old.config held.old.held now }
     requires found { option_map state_number (state_with (key_of packet.now) held.old.held.world) ≡ Some number }
     requires looks { looks.old ≡ 0 }
-    ensures answered { IsAnswered result (λ o. o) (answer_to_packet held.old.config held.old.held packet.now now) held.old held.new }
+    ensures answered { IsAnswered result (answer_to_packet held.old.config held.old.held packet.now now) held.old held.new }
     ensures free { (s : State) → state_with (key_of packet.now) held.old.held.world ≡ Some s →
         IsFreeOf held.old.config packet.now s.rule → IsOk result }
     ensures looks { AreLooksOf S.counts held.old.config held.old.held.world packet.now result looks.new }
@@ -194,7 +194,7 @@ fn add_source(
 
 /// Which states are killed: the one of this number, rule and source, and those of its source that are flushed with it.
 #[derive(Clone, Copy)]
-pub(crate) struct Killing {
+struct Killing {
     number: StateNo,
     rule: RuleNo,
     source: Addr,

@@ -11,7 +11,7 @@ ghost use Rattle.pfs_store_contract.specs.Worlds.{empty_world, state_with};
 ghost use Rattle.pfs_engine_machine.specs.Machine.{answer_to_command, deciding_rule, due, held_of, start, world_after_purges};
 ghost use Rattle.pfs_engine_machine.specs.Visits.{AreVisits};
 ghost use Rattle.pfs_engine.specs.Calls.{IsWorkOfSeconds};
-ghost use Rattle.pfs_engine.specs.Held.{Holds, IsAnswered, IsTold};
+ghost use Rattle.pfs_engine.specs.Held.{Holds, IsAnsweredAs, IsTold};
 
 use crate::purges::purge_due;
 use crate::works::Work;
@@ -26,7 +26,8 @@ use std::marker::Model;
 /// What is held under a configuration: states and source nodes in a store, and entries in tables.
 ///
 /// Clauses see a `HeldView`: the configuration, what is held, and the room of the tables. The store, the tables and the book,
-/// which is the rules made ready, are for this configuration at all times, as `IsMadeFor` says.
+/// which is the rules made ready, are for this configuration at all times, as `IsMadeFor` says. That what is held is within the
+/// limits is the engine's to keep: where a handshake completes past `max-src-conn`, it is past the limit until states are killed.
 #[derive(Drop)]
 pub(crate) struct Held<S: Store> {
     pub(crate) config: Config,
@@ -143,7 +144,7 @@ impl<S: Store> Held<S> {
         now: u64,
     ) -> Result<Entered, NoMemory>
         requires table { table.0 < length self.old.config.tables }
-        ensures answered { IsAnswered result (λ became. Outcome.Add became)
+        ensures answered { IsAnsweredAs result (λ became. Outcome.Add became)
             (answer_to_command self.old.config self.old.held 0 now table.0 (Command.Add entry.now)) self.old self.new }
         ensures needed { OnErr result (entered_to self.old.held.tables (limit_of self.old.config LimitName.TableEntries) table.0 entry.now ≡ Entered.New) }
     {

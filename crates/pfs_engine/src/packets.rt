@@ -8,8 +8,8 @@ ghost use Rattle.pfs_engine_machine.specs.Kept.{IsKept};
 ghost use Rattle.pfs_engine_machine.specs.Looks.{AreLooks};
 ghost use Rattle.pfs_engine_machine.specs.Machine.{answer_to_packet, answer_of_rule, deciding_rule};
 ghost use Rattle.pfs_engine_machine.specs.Visits.{AreVisits};
-ghost use Rattle.pfs_engine.specs.Calls.{AreMetersOf};
 ghost use Rattle.pfs_engine.specs.Held.{IsAnswered};
+ghost use Rattle.pfs_engine.specs.Meters.{AreMetersOf};
 ghost use Rattle.pfs_engine.specs.Packets.{NeedsNone, NeedsNoneBy};
 
 use crate::handshakes::take_packet_of_state;
@@ -51,7 +51,7 @@ pub(crate) fn answer<S: Store>(
     requires kept { IsKept held.old.config held.old.held now }
     requires room { held.old.held.world.made < run_limit }
     requires meters { meters.old ≡ record { visits = 0; looks = 0 } }
-    ensures answered { IsAnswered result (λ o. o) (answer_to_packet held.old.config held.old.held packet.now now) held.old held.new }
+    ensures answered { IsAnswered result (answer_to_packet held.old.config held.old.held packet.now now) held.old held.new }
     ensures free { NeedsNone held.old.config held.old.held packet.now (state_with (key_of packet.now) held.old.held.world) → IsOk result }
     ensures meters { AreMetersOf S.counts held.old.config held.old.held packet.now result meters.new.visits meters.new.looks }
 {
@@ -71,7 +71,7 @@ fn by_rules<S: Store>(
     requires fresh { state_with (key_of packet.now) held.old.held.world ≡ None }
     requires room { held.old.held.world.made < run_limit }
     requires visits { visits.old ≡ 0 }
-    ensures answered { IsAnswered result (λ o. o) (answer_of_rule held.old.config held.old.held packet.now now
+    ensures answered { IsAnswered result (answer_of_rule held.old.config held.old.held packet.now now
         (deciding_rule held.old.config held.old.held packet.now)) held.old held.new }
     ensures visits { AreVisits held.old.config held.old.held packet.now None visits.new }
     ensures free { NeedsNone held.old.config held.old.held packet.now None → IsOk result }
@@ -92,7 +92,7 @@ fn by_action<S: Store>(
 ) -> Result<Outcome, NoMemory>
     requires fresh { state_with (key_of packet.now) held.old.held.world ≡ None }
     requires room { held.old.held.world.made < run_limit }
-    ensures answered { IsAnswered result (λ o. o) (answer_of_rule held.old.config held.old.held packet.now now (Some rule.0)) held.old held.new }
+    ensures answered { IsAnswered result (answer_of_rule held.old.config held.old.held packet.now now (Some rule.0)) held.old held.new }
     ensures free { NeedsNoneBy held.old.config held.old.held packet.now (Some rule.0) → IsOk result }
     ensures no_looks { IfOk result (λ o. AreLooks held.old.config 0 o 0) }
 {

@@ -4,7 +4,8 @@ ghost use Rattle.std.specs.Prelude.{◌≡◌, ◌+◌, ◌<◌, ◌≤◌, ◌^
 ghost use Rattle.std.specs.Option.{ForSome};
 ghost use Rattle.pfs_engine_machine.specs.Machine.{due, world_after_purges};
 ghost use Rattle.pfs_engine_machine.specs.Shares.{seconds};
-ghost use Rattle.pfs_engine.specs.Calls.{CountsOn, IsWorkOfPurges, IsWorkOfSeconds};
+ghost use Rattle.pfs_engine.specs.Calls.{IsWorkOfSeconds};
+ghost use Rattle.pfs_engine.specs.Meters.{CountsOn, IsWorkOfPurges};
 ghost use Rattle.pfs_engine.specs.Watches.{IsOnTheWay, IsWatched};
 
 use crate::watches::Watch;
