@@ -18,7 +18,7 @@ use Rattle.pfs_engine_machine.proofs.Answering.{refused_result, shared_result}
 use Rattle.pfs_engine_machine.proofs.KeptPackets.{kept_answered, made_answered}
 use Rattle.pfs_engine_machine.proofs.KeptTime.{first_advanced, kept_advanced, kept_command, kept_start, made_advanced}
 use Rattle.pfs_engine.specs.Calls.{CountsPacket, IsAnsweredBy, IsLimited, Keeps}
-use Rattle.pfs_engine.specs.Held.{HeldView, Holds, IsAnswered, IsAnsweredAs, IsTold}
+use Rattle.pfs_engine.specs.Held.{HeldView, Holds, IsAnswered, IsAnsweredAs, IsDone}
 use Rattle.pfs_engine.specs.Packets.{NeedsNone}
 use Rattle.pfs_engine.specs.Views.{IsWhole, View, machine_at}
 use Rattle.pfs_engine.specs.declared.works.Work.{Work}
@@ -62,7 +62,7 @@ whole_advanced before after first last taken now later i h =
 -- ---- what an administrator does
 
 pub whole_told : (before after : HeldView) (first last : Option ℕ) (taken begun at table : ℕ) (done : Command) (o : Outcome)
-    → IsWhole before.config (machine_at before.held first last) taken → IsTold o (answer_to_command before.config before.held begun at table done) before after
+    → IsWhole before.config (machine_at before.held first last) taken → IsDone o (answer_to_command before.config before.held begun at table done) before after
     → IsWhole after.config (machine_at after.held first last) taken
 whole_told before after first last taken begun at table done o i h =
     let is : after.held ≡ (answer_to_command before.config before.held begun at table done).1 = ap (λ (a : Outcome × Held). a.1) h.told in

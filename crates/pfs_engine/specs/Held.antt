@@ -20,8 +20,8 @@ abbrev pub view_of : Conf → World → Holdings → HeldView
 view_of conf w tables = record { config = conf; held = held_of w tables.entries; room = tables.room }
 
 -- its tables, which are under the limit of the configuration
-abbrev pub tables_of : HeldView → Holdings
-tables_of v = record { entries = v.held.tables; room = v.room; limit = limit_of v.config limit_name.TableEntries }
+abbrev pub tables_held : HeldView → Holdings
+tables_held v = record { entries = v.held.tables; room = v.room; limit = limit_of v.config limit_name.TableEntries }
 
 -- the store, the book and the tables are for the configuration, which keeps the load rules
 pub record IsMadeFor (conf of_store : Conf) (book : List Item) (holdings : Holdings) : Type 0 where
@@ -39,7 +39,7 @@ pub record Holds (before after : HeldView) (h : Held) : Type 0 where
   pub config : after.config ≡ before.config
 
 -- this is told, and held after it, under the same configuration
-pub record IsTold (o : Outcome) (wanted : Outcome × Held) (before after : HeldView) : Type 0 where
+pub record IsDone (o : Outcome) (wanted : Outcome × Held) (before after : HeldView) : Type 0 where
   pub told : (o, after.held) ≡ wanted
   pub config : after.config ≡ before.config
 

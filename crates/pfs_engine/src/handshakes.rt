@@ -17,7 +17,7 @@ ghost use Rattle.pfs_engine_machine.specs.Kept.{IsKept};
 ghost use Rattle.pfs_engine_machine.specs.Looks.{AreLooks, AreLooksOfKill};
 ghost use Rattle.pfs_engine_machine.specs.Machine.{addition_of, answer_to_packet, exceeded_of, tables_after_addition};
 ghost use Rattle.pfs_engine_machine.specs.Refusals.{IsFreeOf, is_tcp};
-ghost use Rattle.pfs_engine.specs.Held.{Holds, IsAnswered, IsTold, tables_of};
+ghost use Rattle.pfs_engine.specs.Held.{Holds, IsAnswered, IsDone, tables_held};
 ghost use Rattle.pfs_engine.specs.Meters.{AreFurtherLooks, AreLooksOf};
 ghost use Rattle.pfs_engine.specs.Packets.{answer_of_touch};
 ghost use Rattle.pfs_engine.specs.Rooms.{HasRoomFor, rule_overload};
@@ -61,7 +61,7 @@ pub(crate) fn take_packet_of_state<S: Store>(
 fn make_room<S: Store>(held: &mut Held<S>, packet: &Packet) -> Result<(), NoMemory>
     ensures same { Holds held.old held.new held.old.held }
     ensures room { OnOk result (is_tcp packet.now.proto ≡ true →
-        HasRoomFor (tables_of held.new) (rule_overload held.old.config (option_map state_rule (state_with (key_of packet.now) held.old.held.world)))) }
+        HasRoomFor (tables_held held.new) (rule_overload held.old.config (option_map state_rule (state_with (key_of packet.now) held.old.held.world)))) }
     ensures other { is_tcp packet.now.proto ≡ false → IsOk result }
     ensures none { rule_overload held.old.config (option_map state_rule (state_with (key_of packet.now) held.old.held.world)) ≡ None → IsOk result }
 {
@@ -101,8 +101,8 @@ fn complete_handshake<S: Store>(
 ) -> Outcome
     requires held { holds_number held.old.held.world.states number.0 ≡ true }
     requires looks { looks.old ≤ run_limit }
-    requires room { touched.now.completed ≡ true → HasRoomFor (tables_of held.old) (options_of held.old.config touched.now.rule.0).overload }
-    ensures told { IsTold result (answer_of_touch held.old.config held.old.held number.0 now touched.now) held.old held.new }
+    requires room { touched.now.completed ≡ true → HasRoomFor (tables_held held.old) (options_of held.old.config touched.now.rule.0).overload }
+    ensures told { IsDone result (answer_of_touch held.old.config held.old.held number.0 now touched.now) held.old held.new }
     ensures looks { AreFurtherLooks S.counts looks.old looks.new
         (AreLooks held.old.config (source_states touched.now.source held.old.held.world.states) result) }
 {

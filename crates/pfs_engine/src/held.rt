@@ -11,7 +11,7 @@ ghost use Rattle.pfs_store_contract.specs.Worlds.{empty_world, state_with};
 ghost use Rattle.pfs_engine_machine.specs.Machine.{answer_to_command, deciding_rule, due, held_of, start, world_after_purges};
 ghost use Rattle.pfs_engine_machine.specs.Visits.{AreVisits};
 ghost use Rattle.pfs_engine.specs.Calls.{IsWorkOfSeconds};
-ghost use Rattle.pfs_engine.specs.Held.{Holds, IsAnsweredAs, IsTold};
+ghost use Rattle.pfs_engine.specs.Held.{Holds, IsAnsweredAs, IsDone};
 
 use crate::purges::purge_due;
 use crate::works::Work;
@@ -130,7 +130,7 @@ impl<S: Store> Held<S> {
     pub(crate) fn expire(&mut self, table: TableNo, first: u64, now: u64, seconds: u64) -> u64
         requires table { table.0 < length self.old.config.tables }
         requires moments { first ≤ now }
-        ensures { IsTold (Outcome.Expire result) (answer_to_command self.old.config self.old.held first now table.0 (Command.Expire seconds))
+        ensures { IsDone (Outcome.Expire result) (answer_to_command self.old.config self.old.held first now table.0 (Command.Expire seconds))
             self.old self.new }
     {
         self.tables.expire(table, first, now, seconds)
@@ -154,7 +154,7 @@ impl<S: Store> Held<S> {
     /// Takes the very entry that is named out of a table, if it is there. It returns how many left: one, or none.
     pub(crate) fn delete(&mut self, table: TableNo, entry: &TableEntry) -> u64
         requires { table.0 < length self.old.config.tables }
-        ensures { IsTold (Outcome.Delete result) (answer_to_command self.old.config self.old.held 0 0 table.0 (Command.Delete entry.now))
+        ensures { IsDone (Outcome.Delete result) (answer_to_command self.old.config self.old.held 0 0 table.0 (Command.Delete entry.now))
             self.old self.new }
     {
         self.tables.delete_entry(table, entry)

@@ -7,7 +7,7 @@ use Rattle.pfs_store_contract.specs.Worlds.{state_with}
 use Rattle.pfs_store_contract.specs.Calls.{state_number, state_rule, touch_of, world_touched}
 use Rattle.pfs_engine_machine.specs.Looks.{AreLooks, states_beside}
 use Rattle.pfs_engine_machine.specs.Machine.{Held, answer_to_packet, held_of}
-use Rattle.pfs_engine.specs.Held.{HeldView, tables_of, view_of}
+use Rattle.pfs_engine.specs.Held.{HeldView, tables_held, view_of}
 use Rattle.pfs_engine.specs.Rooms.{HasRoomFor}
 use Rattle.pfs_engine.proofs.Belonging.{beside_after, held_after, opened, room_after, told_after}
 use Rattle.pfs_engine.proofs.handshakes.take_packet_of_state.Goals as goal
@@ -31,9 +31,9 @@ complete_handshake-requires-clause-room g c =
     let t = c.touch-touched.result in
     let same = opened was c.make_room.new.held inside.config w inside.tables c.held.view_is c.in_ok-make_room.ensures.same in
     let answer = subst (λ (h : Held). Some t ≡ option_map (touch_of store_conf h.world p c.args.now) (state_with (key_of p) h.world)) same.1 c.touch-touched.ensures.answer in
-    let room = room_after was.config store_conf was.held p c.args.now c.args.number t (option_map state_rule (state_with (key_of p) was.held.world)) (tables_of c.make_room.new.held) c.requires.kept c.requires.found refl answer c.in_ok-make_room.ensures.room in
-    λ done. subst (λ (k : Conf). HasRoomFor (tables_of (view_of inside.config w inside.tables)) (options_of k t.rule.0).overload) (sym same.0)
-    (subst (λ (v : HeldView). HasRoomFor (tables_of v) (options_of was.config t.rule.0).overload) (sym c.held.view_is) (room done))
+    let room = room_after was.config store_conf was.held p c.args.now c.args.number t (option_map state_rule (state_with (key_of p) was.held.world)) (tables_held c.make_room.new.held) c.requires.kept c.requires.found refl answer c.in_ok-make_room.ensures.room in
+    λ done. subst (λ (k : Conf). HasRoomFor (tables_held (view_of inside.config w inside.tables)) (options_of k t.rule.0).overload) (sym same.0)
+    (subst (λ (v : HeldView). HasRoomFor (tables_held v) (options_of was.config t.rule.0).overload) (sym c.held.view_is) (room done))
 
 pub returns-clause-answered : goal.returns-clause-answered
 returns-clause-answered g c =
