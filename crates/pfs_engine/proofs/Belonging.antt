@@ -17,8 +17,10 @@ use Rattle.pfs_store_contract.specs.declared.records.StateNo.{StateNo}
 use Rattle.pfs_store_contract.specs.declared.records.Touched.{Touched}
 use Rattle.pfs_engine_machine.specs.Kept.{IsKept}
 use Rattle.pfs_engine_machine.specs.Looks.{states_beside}
-use Rattle.pfs_engine_machine.specs.Machine.{Held}
+use Rattle.pfs_engine_machine.specs.Machine.{Held, answer_of_state, answer_to_packet, held_of}
 use Rattle.pfs_engine_machine.specs.Refusals.{is_tcp}
+use Rattle.pfs_engine.specs.Held.{HeldView, Holds, view_of}
+use Rattle.pfs_engine.specs.Packets.{answer_of_touch}
 use Rattle.pfs_engine.specs.Rooms.{HasRoomFor, rule_overload}
 use Rattle.pfs_engine_machine.proofs.Counts.{count-map}
 use Rattle.pfs_engine_machine.proofs.Renewals.{renewed-same}
@@ -66,3 +68,27 @@ beside_after store_conf w after p now number t e is touch_is =
     ∙ (ap (λ (v : World). source_states s.source v.states) after_is
     ∙ (count-map (is_of_source s.source) (numbered_state_after s.number p now) (λ (x : State). ap (λ (a : Addr). same_addr a s.source) (renewed-same s.number p now x).source) w.states
     ∙ sym (ap (states_beside w) found)))
+
+-- what a packet of the state makes of the machine is what comes of its touch
+pub told_after : (conf store_conf : Conf) (m : Held) (after : World) (p : Header) (now : ℕ) (number : StateNo) (t : Touched) → store_conf ≡ conf
+    → option_map state_number (state_with (key_of p) m.world) ≡ Some number → after ≡ world_touched store_conf m.world p now (state_with (key_of p) m.world)
+    → Some t ≡ option_map (touch_of store_conf m.world p now) (state_with (key_of p) m.world)
+    → answer_of_touch conf (held_of after m.tables) number.0 now t ≡ answer_to_packet conf m p now
+told_after conf store_conf m after p now number t made_for e is touch_is =
+    let (s, found, same) = found_state (state_with (key_of p) m.world) number e in
+    let told : Some t ≡ Some (touch_of store_conf m.world p now s) = touch_is ∙ ap (option_map (touch_of store_conf m.world p now)) found in
+    let t_is : t ≡ touch_of store_conf m.world p now s = cc in
+    let after_is : after ≡ world_after_touch store_conf m.world s p now = is ∙ ap (world_touched store_conf m.world p now) found in
+    let number_is : number.0 ≡ s.number = sym same in
+    let first : answer_of_touch conf (held_of after m.tables) number.0 now t ≡ answer_of_touch conf (held_of (world_after_touch store_conf m.world s p now) m.tables) s.number now (touch_of store_conf m.world p now s) =
+    (λ i. answer_of_touch conf (held_of (after_is i) m.tables) (number_is i) now (t_is i)) in
+    let second : answer_of_touch conf (held_of (world_after_touch store_conf m.world s p now) m.tables) s.number now (touch_of store_conf m.world p now s) ≡ answer_of_state conf m p now (Some s) =
+    ap (λ (k : Conf). answer_of_touch conf (held_of (world_after_touch k m.world s p now) m.tables) s.number now (touch_of k m.world p now s)) made_for in
+    first ∙ (second ∙ sym (ap (answer_of_state conf m p now) found))
+
+-- ---- what is held, opened after room was made
+
+-- it has the configuration, and holds what was held before
+pub opened : (before roomy : HeldView) (conf : Conf) (w : World) (holdings : Holdings) → view_of conf w holdings ≡ roomy → Holds before roomy before.held
+    → (conf ≡ before.config) × (held_of w holdings.entries ≡ before.held)
+opened before roomy conf w holdings is same = (ap (λ (v : HeldView). v.config) is ∙ same.config, ap (λ (v : HeldView). v.held) is ∙ same.held)

@@ -202,6 +202,7 @@ way-passed conf to w w' at s n k quiet e h l o hs hn =
     let before : at.second + k < until = omega (arith, l, hs, hn) in
     let within : at.second + k ≤ to = omega (arith, l, o) in
     record {
+      order = within;
       world = ap (λ (v : World). world_after_purges conf v (seconds (at.second + k) to)) e ∙ seconds-quiet conf until to k at.second w q before within;
       most_states = ap (λ (v : World). max at.work.most_states (most_states conf v (seconds (at.second + k) to))) e
           ∙ states-seen conf until to at.work.most_states k at.second w q before within (h.states.whole_seen (omega (arith, hs)));
@@ -315,6 +316,7 @@ second-way conf to w after at here e_s e_n l made es en ns ms mn = go ((e_s == 0
         let none_states = ap (most_states conf after) due in
         let none_nodes = ap (most_nodes conf after) due in
         record {
+          order = omega (arith, n);
           world = ap (world_after_purges conf after) due ∙ sym idle.0 ∙ world1;
           most_states = omega (arith, none_states, idle.1, states1);
           most_nodes = omega (arith, none_nodes, idle.2, nodes1);
@@ -322,6 +324,7 @@ second-way conf to w after at here e_s e_n l made es en ns ms mn = go ((e_s == 0
     go false t =
         let n : here.second ≡ at.second + 1 = ns ∙ ap (λ b. if b then to else (at.second + 1)) t in
         record {
+          order = omega (arith, n, l);
           world = ap (λ x. world_after_purges conf after (seconds x to)) n ∙ world1;
           most_states = ap (λ x. max here.work.most_states (most_states conf after (seconds x to))) n ∙ states1;
           most_nodes = ap (λ x. max here.work.most_nodes (most_nodes conf after (seconds x to))) n ∙ nodes1;

@@ -1,15 +1,16 @@
 -- What a call of an engine keeps, counts and costs.
-use Rattle.std.specs.Prelude.{ℕ, ◌≡◌, ◌≤◌, ◌+◌, ◌*◌, Bool, true, false, List, length, Result, Ok, IfOk, OnOk, OnErr}
+use Rattle.std.specs.Prelude.{ℕ, ◌≡◌, ◌≤◌, ◌+◌, ◌*◌, Bool, true, false, List, length, Some, Result, Ok, IfOk, OnOk, OnErr}
 use Rattle.pfs_addr_values.specs.Keys.{key_of}
 use Rattle.pfs_addr_values.specs.Packets.{Header}
-use Rattle.pfs_conf_values.specs.Configs.{Conf}
+use Rattle.pfs_conf_values.specs.Configs.{Conf, scope_of}
+use Rattle.pfs_conf_values.specs.declared.actions.Scope.TheVariants as scope
 use Rattle.pfs_conf_values.specs.declared.items.RuleNo.{RuleNo}
 use Rattle.pfs_store_contract.specs.Purging.{node_share, state_share}
 use Rattle.pfs_store_contract.specs.Worlds.{World, state_with}
 use Rattle.pfs_store_contract.specs.declared.records.Limit.{Limit}
-use Rattle.pfs_engine_machine.specs.Kept.{IsWithinLimits}
+use Rattle.pfs_engine_machine.specs.Kept.{IsWithinLimits, IsWithinShared, moment_of}
 use Rattle.pfs_engine_machine.specs.Looks.{AreLooks, states_beside}
-use Rattle.pfs_engine_machine.specs.Machine.{Held, Machine}
+use Rattle.pfs_engine_machine.specs.Machine.{Held, Machine, answer_to_packet}
 use Rattle.pfs_engine_machine.specs.Refusals.{IsDropped}
 use Rattle.pfs_engine_machine.specs.Shares.{most_nodes, most_states}
 use Rattle.pfs_engine_machine.specs.Visits.{AreVisits}
@@ -25,6 +26,23 @@ pub record Keeps (before after : View) : Type 0 where
   pub last : after.machine.last ≡ before.machine.last
   pub limits : IsWithinLimits after.config after.machine.held
 
+-- the configuration stays, and what is held is within the limits
+pub record StaysWithin (before after : View) : Type 0 where
+  pub config : after.config ≡ before.config
+  pub limits : IsWithinLimits after.config after.machine.held
+
+-- the same, at this last moment
+pub record IsAt (time : ℕ) (before after : View) : Type 0 where
+  pub config : after.config ≡ before.config
+  pub limits : IsWithinLimits after.config after.machine.held
+  pub last : after.machine.last ≡ Some time
+
+-- an event counts as so many packets, one at most, or as none where memory was refused
+pub record CountsEvent {X E : Type 0} (answer : Result X E) (packets before after : ℕ) : Type 0 where
+  pub taken : OnOk answer (after ≡ before + packets)
+  pub not_taken : OnErr answer (after ≡ before)
+  pub few : after ≤ before + 1
+
 -- one packet more was taken, or none where memory was refused
 pub record CountsPacket {X E : Type 0} (answer : Result X E) (before after : ℕ) : Type 0 where
   pub ok : OnOk answer (after ≡ before + 1)
@@ -36,6 +54,20 @@ pub record IsRefusedAtLimits {E : Type 0} (conf : Conf) (p : Header) (answer : R
   pub met : (rule : RuleNo) (limit : Limit) → IsDropped conf before.held p rule.0 limit → answer ≡ Ok (outcome.Drop rule limit)
   pub only : (rule : RuleNo) (limit : Limit) → answer ≡ Ok (outcome.Drop rule limit)
       → IsDropped conf before.held p rule.0 limit × (after ≡ before)
+
+-- what a packet makes of an engine at its last moment: what the machine makes of it, or nothing where memory was refused
+pub record IsAnsweredBy {E : Type 0} (answer : Result Outcome E) (p : Header) (before after : View) : Type 0 where
+  pub ok : IfOk answer (λ o. (o, after.machine.held) ≡ answer_to_packet before.config before.machine.held p (moment_of before.machine.last))
+  pub err : OnErr answer (after.machine ≡ before.machine)
+  pub keeps : Keeps before after
+  pub taken : CountsPacket answer before.taken after.taken
+
+-- what it has to do with limits: a state is refused exactly where one is met; and a new state of a rule with shared source nodes
+-- is within the limits of its rule, directly after it
+pub record IsLimited {E : Type 0} (answer : Result Outcome E) (p : Header) (before after : View) : Type 0 where
+  pub refused : IsRefusedAtLimits before.config p answer before.machine after.machine
+  pub shared : (rule : RuleNo) → answer ≡ Ok (outcome.New rule) → scope_of before.config rule.0 ≡ Some scope.Global
+      → IsWithinShared before.config rule.0 p.source.addr before.machine.held.world after.machine.held.world
 
 -- the work of a packet: the items that it is compared with, and no slice; the looks, where the store counts them, by what came of
 -- it, and none where memory was refused

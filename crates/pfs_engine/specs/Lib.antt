@@ -1,4 +1,6 @@
 pub mod Calls
+pub mod Held
+pub mod Meters
 pub mod Packets
 pub mod Rooms
 pub mod Views

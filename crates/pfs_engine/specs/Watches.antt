@@ -45,8 +45,9 @@ pub record IsWatched (conf : Conf) (w : World) (at : Passage) : Type 0 where
 
 -- ---- on the way to a moment
 
--- what is still to come from here makes the same as what was to come from there
+-- here is not past the moment, and what is still to come from here makes the same as what was to come from there
 pub record IsOnTheWay (conf : Conf) (to : ℕ) (w0 : World) (there : Passage) (w : World) (here : Passage) : Type 0 where
+  pub order : here.second ≤ to
   pub world : world_after_purges conf w (seconds here.second to) ≡ world_after_purges conf w0 (seconds there.second to)
   pub most_states : max here.work.most_states (most_states conf w (seconds here.second to)) ≡ max there.work.most_states (most_states conf w0 (seconds there.second to))
   pub most_nodes : max here.work.most_nodes (most_nodes conf w (seconds here.second to)) ≡ max there.work.most_nodes (most_nodes conf w0 (seconds there.second to))

@@ -1,26 +1,23 @@
 //! The engine: a machine over any store, with the rules made ready.
 
-ghost use Rattle.std.specs.Prelude.{◌≡◌, ◌+◌, ◌<◌, ◌≤◌, ◌^◌, ◌++◌, length, None, Some, Ok, IfOk, IsOk, IsSome, OnErr, OnOk};
+ghost use Rattle.std.specs.Prelude.{◌≡◌, ◌+◌, ◌<◌, ◌≤◌, ◌^◌, ◌++◌, length, Some, IfOk, IsOk, IsSome, OnErr, OnOk};
 ghost use Rattle.std.specs.Option.{ForSome};
 ghost use Rattle.pfs_addr_values.specs.Packets.{run_limit};
 ghost use Rattle.pfs_store_contract.specs.Worlds.{empty_world};
-ghost use Rattle.pfs_conf_values.specs.Configs.{limit_of, scope_of};
+ghost use Rattle.pfs_conf_values.specs.Configs.{limit_of};
 ghost use Rattle.pfs_eval.specs.Tables.{entered_to};
-ghost use Rattle.pfs_conf_values.specs.declared.actions.Scope.TheVariants as Scope;
-ghost use Rattle.pfs_conf_values.specs.declared.items.RuleNo.{RuleNo};
-ghost use Rattle.pfs_engine_machine.specs.Kept.{IsWithinLimits, IsWithinShared, moment_of};
+ghost use Rattle.pfs_engine_machine.specs.Kept.{IsWithinLimits, moment_of};
 ghost use Rattle.pfs_engine_machine.specs.Refusals.{IsFree};
 ghost use Rattle.pfs_engine_machine.specs.Machine.{machine_at_moment, amounts_of, answer_to_command, answer_to_packet, due, entries_held, nodes_held, start, states_held, step, machine_after, outcomes_of};
 ghost use Rattle.pfs_engine_machine.specs.Runs.{MayChange, MayCome, AreAllowed, IsInOrder, IsRefusedIn, IsStopped, NeedsMemory, packets_in, packets_of};
-ghost use Rattle.pfs_engine.specs.Calls.{CountsPacket, IsRefusedAtLimits, IsWorkOfPacket, IsWorkOfSeconds, Keeps};
+ghost use Rattle.pfs_engine.specs.Calls.{CountsEvent, CountsPacket, IsAnsweredBy, IsAt, IsLimited, IsWorkOfPacket, IsWorkOfSeconds, Keeps, StaysWithin};
 
+use crate::held::Held;
 use crate::packets::{Meters, answer};
-use crate::purges::purge_due;
 use crate::works::Work;
-use pfs_addr_values::{Meter, NoMemory, Packet, RUN_LIMIT};
+use pfs_addr_values::{NoMemory, Packet, RUN_LIMIT};
 use pfs_conf_values::{Config, LimitName, TableNo};
 use pfs_engine_machine::{Amounts, Arrival, Command, Entered, Event, Outcome, TableEntry};
-use pfs_eval::{Book, Tables};
 use pfs_store_contract::Store;
 use std::alloc::Global;
 use std::marker::Model;
@@ -32,10 +29,7 @@ use std::marker::Model;
 /// within the limits, as each call that changes it says.
 #[derive(Drop)]
 pub struct Engine<S: Store> {
-    config: Config,
-    book: Book,
-    tables: Tables,
-    store: S,
+    held: Held<S>,
     first: Option<u64>,
     last: Option<u64>,
     taken: u64,
@@ -48,13 +42,13 @@ impl<S: Store> Model for Engine<S> {
     ghost Value = { View };
 
     ghost view = { λ e. record {
-      config = e.config;
-      machine = machine_at (S.world e.store) e.tables.entries e.first e.last;
+      config = e.held.config;
+      machine = machine_at e.held.held e.first e.last;
       taken = e.taken;
       work = e.work;
     } };
 
-    ghost invariant = { λ e. IsWhole e.config (S.config e.store) e.book e.tables (machine_at (S.world e.store) e.tables.entries e.first e.last) e.taken };
+    ghost invariant = { λ e. IsWhole e.held.config (machine_at e.held.held e.first e.last) e.taken };
 }
 
 impl<S: Store + Drop> Engine<S> {
@@ -69,15 +63,8 @@ impl<S: Store + Drop> Engine<S> {
         ensures limits { IfOk result (λ e. IsWithinLimits e.config e.machine.held) }
         ensures work { IfOk result (λ e. e.work ≡ record { visits = 0; looks = 0; slices = 0; most_states = 0; most_nodes = 0 }) }
     {
-        // This call states to the proof that the configuration keeps the load rules.
-        let _limit = config.limit(LimitName::States);
-        let book = Book::new(alloc, &config)?;
-        let tables = Tables::new(alloc, &config)?;
         Ok(Engine {
-            config,
-            book,
-            tables,
-            store,
+            held: Held::new(alloc, config, store)?,
             first: None,
             last: None,
             taken: 0,
@@ -91,7 +78,7 @@ impl<S: Store> Engine<S> {
     pub fn config(&self) -> &Config
         ensures { result.now ≡ self.now.config }
     {
-        &self.config
+        self.held.config()
     }
 
     /// The moment of the first event, in seconds; none before it.
@@ -120,21 +107,21 @@ impl<S: Store> Engine<S> {
         ensures value { result ≡ states_held self.now.machine }
         ensures limits { IsWithinLimits self.now.config self.now.machine.held }
     {
-        self.store.state_count()
+        self.held.states()
     }
 
     /// How many source nodes are held, those without states too.
     pub fn nodes(&self) -> u64
         ensures { result ≡ nodes_held self.now.machine }
     {
-        self.store.node_count()
+        self.held.nodes()
     }
 
     /// How many entries all tables have.
     pub fn entries(&self) -> u64
         ensures { result ≡ entries_held self.now.machine }
     {
-        self.tables.entries()
+        self.held.entries()
     }
 
     /// The work of the latest `advance` or `packet`; none before the first.
@@ -157,7 +144,7 @@ impl<S: Store> Engine<S> {
         ensures config { self.new.config ≡ self.old.config }
         ensures taken { self.new.taken ≡ self.old.taken }
     {
-        self.work = purge_due(&mut self.store, self.last, now);
+        self.work = self.held.purge_due(self.last, now);
         self.first = Some(self.first.unwrap_or(now));
         self.last = Some(now);
     }
@@ -168,36 +155,17 @@ impl<S: Store> Engine<S> {
     pub fn packet(&mut self, packet: &Packet) -> Result<Outcome, NoMemory>
         requires started { IsSome self.old.machine.last }
         requires room { self.old.taken < run_limit }
-        ensures ok { IfOk result (λ o. (o, self.new.machine.held)
-            ≡ answer_to_packet self.old.config self.old.machine.held packet.now (moment_of self.old.machine.last)) }
-        ensures err { OnErr result (self.new.machine ≡ self.old.machine) }
-        ensures keeps { Keeps self.old self.new }
-        ensures taken { CountsPacket result self.old.taken self.new.taken }
-        ensures refused { IsRefusedAtLimits self.old.config packet.now result self.old.machine self.new.machine }
-
-        // Of a new state of a rule with shared source nodes, directly after it.
-        ensures shared { (rule : RuleNo) → result ≡ Ok (Outcome.New rule) → scope_of self.old.config rule.0 ≡ Some Scope.Global →
-            IsWithinShared self.old.config rule.0 packet.now.source.addr self.old.machine.held.world self.new.machine.held.world }
+        ensures answered { IsAnsweredBy result packet.now self.old self.new }
+        ensures limited { IsLimited result packet.now self.old self.new }
 
         // Memory is asked for only where a state is made, or a TCP packet is one of a rule with `overload`.
         ensures free { IsFree self.old.config packet.now
             (answer_to_packet self.old.config self.old.machine.held packet.now (moment_of self.old.machine.last)).0 → IsOk result }
         ensures work { IsWorkOfPacket S.counts self.old.config self.old.machine.held packet.now result self.new.work }
     {
-        let mut meters = Meters {
-            visits: Meter::new(),
-            looks: Meter::new(),
-        };
+        let mut meters = Meters::new();
         let now = self.last.unwrap_or(0);
-        let outcome = answer(
-            &self.config,
-            &self.book,
-            &mut self.tables,
-            &mut self.store,
-            packet,
-            now,
-            &mut meters,
-        );
+        let outcome = answer(&mut self.held, packet, now, &mut meters);
         self.work = Work::of_packet(meters.visits.count(), meters.looks.count());
         self.taken = taken_after(self.taken, &outcome);
         outcome
@@ -218,7 +186,7 @@ impl<S: Store> Engine<S> {
     {
         let first = self.first.unwrap_or(0);
         let now = self.last.unwrap_or(0);
-        self.tables.expire(table, first, now, seconds)
+        self.held.expire(table, first, now, seconds)
     }
 
     /// Adds an entry to a table at the last moment, unless the table has its prefix, with the same sign or the other, or all
@@ -237,7 +205,7 @@ impl<S: Store> Engine<S> {
         ensures work { self.new.work ≡ self.old.work }
     {
         let now = self.last.unwrap_or(0);
-        self.tables.add_entry(table, entry, now)
+        self.held.add(table, entry, now)
     }
 
     /// Takes the very entry that is named out of a table, if it is there: its prefix, with its sign. It returns how many left:
@@ -252,7 +220,7 @@ impl<S: Store> Engine<S> {
         ensures taken { self.new.taken ≡ self.old.taken }
         ensures work { self.new.work ≡ self.old.work }
     {
-        self.tables.delete_entry(table, entry)
+        self.held.delete(table, entry)
     }
 
     /// Does to a table what an administrator asks, at the last moment: as `expire`, `add` and `delete` say. `NoMemory` comes
@@ -302,12 +270,8 @@ impl<S: Store> Engine<S> {
         requires table { MayCome self.old.config event.now.what }
         ensures ok { IfOk result (λ o. (o, self.new.machine) ≡ step self.old.config self.old.machine event.now) }
         ensures err { OnErr result (IsRefusedIn self.old.config self.old.machine event.now self.new.machine) }
-        ensures limits { IsWithinLimits self.new.config self.new.machine.held }
-        ensures config { self.new.config ≡ self.old.config }
-        ensures taken { OnOk result (self.new.taken ≡ self.old.taken + packets_of event.now.what) }
-        ensures not_taken { OnErr result (self.new.taken ≡ self.old.taken) }
-        ensures few { self.new.taken ≤ self.old.taken + 1 }
-        ensures last { self.new.machine.last ≡ Some event.now.time }
+        ensures keeps { IsAt event.now.time self.old self.new }
+        ensures taken { CountsEvent result (packets_of event.now.what) self.old.taken self.new.taken }
     {
         self.advance(event.time);
         match &event.what {
@@ -331,8 +295,7 @@ impl<S: Store> Engine<S> {
         ensures machine { OnOk result (self.new.machine ≡ machine_after self.old.config self.old.machine events.now) }
         ensures err { OnErr result (IsStopped self.old.config self.old.machine events.now outcomes.old.items outcomes.new.items self.new.machine self.old.taken self.new.taken) }
         ensures taken { OnOk result (self.new.taken ≡ self.old.taken + packets_in events.now) }
-        ensures limits { IsWithinLimits self.new.config self.new.machine.held }
-        ensures config { self.new.config ≡ self.old.config }
+        ensures keeps { StaysWithin self.old self.new }
     {
         // What an engine keeps is known from here, also where there is no event.
         prove!(self.taken <= RUN_LIMIT);
@@ -352,8 +315,7 @@ impl<S: Store> Engine<S> {
 /// How many packets were answered after this one: one more, unless memory was refused.
 fn taken_after(taken: u64, outcome: &Result<Outcome, NoMemory>) -> u64
     requires { taken < run_limit }
-    ensures ok { IfOk outcome.now (λ o. result ≡ taken + 1) }
-    ensures err { OnErr outcome.now (result ≡ taken) }
+    ensures { CountsPacket outcome.now taken result }
 {
     match outcome {
         Ok(_) => taken + 1,

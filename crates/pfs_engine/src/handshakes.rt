@@ -1,6 +1,6 @@
 //! A packet of a held state: what its handshake hits, the overload table, and the states that are killed.
 
-ghost use Rattle.std.specs.Prelude.{◌≡◌, ◌≤◌, ◌<◌, ◌^◌, true, false, None, Some, filter, length, option_map, IfOk, IsOk, OnErr, OnOk};
+ghost use Rattle.std.specs.Prelude.{◌≡◌, ◌≤◌, ◌<◌, ◌^◌, true, false, None, Some, filter, length, option_map, IsOk, OnOk};
 ghost use Rattle.std.specs.Option.{ForSome, option_copied};
 ghost use Rattle.pfs_addr_values.specs.Keys.{key_of};
 ghost use Rattle.pfs_addr_values.specs.Packets.{run_limit};
@@ -12,14 +12,17 @@ ghost use Rattle.pfs_store_contract.specs.Calls.{source_states, state_number, st
 ghost use Rattle.pfs_store_contract.specs.Handshakes.{stays_at_kill, flush_of, goes_with, over_rate};
 ghost use Rattle.pfs_store_contract.specs.Leaving.{world_without};
 ghost use Rattle.pfs_store_contract.specs.Worlds.{holds_number, state_with};
-ghost use Rattle.pfs_engine_machine.specs.Kept.{IsKept};
-ghost use Rattle.pfs_engine_machine.specs.Looks.{AreLooks, AreLooksOfKill, states_beside};
-ghost use Rattle.pfs_engine_machine.specs.Machine.{addition_of, answer_of_state, exceeded_of, held_of, tables_after_addition};
 ghost use Rattle.pfs_store_contract.specs.declared.records.State.{State};
+ghost use Rattle.pfs_engine_machine.specs.Kept.{IsKept};
+ghost use Rattle.pfs_engine_machine.specs.Looks.{AreLooks, AreLooksOfKill};
+ghost use Rattle.pfs_engine_machine.specs.Machine.{addition_of, answer_to_packet, exceeded_of, tables_after_addition};
 ghost use Rattle.pfs_engine_machine.specs.Refusals.{IsFreeOf, is_tcp};
+ghost use Rattle.pfs_engine.specs.Held.{Holds, IsAnswered, IsDone, tables_held};
+ghost use Rattle.pfs_engine.specs.Meters.{AreFurtherLooks, AreLooksOf};
 ghost use Rattle.pfs_engine.specs.Packets.{answer_of_touch};
 ghost use Rattle.pfs_engine.specs.Rooms.{HasRoomFor, rule_overload};
 
+use crate::held::Held;
 use pfs_addr_values::{Addr, FlowKey, Meter, NoMemory, Packet, Proto};
 use pfs_conf_values::{Config, LimitName, Overload, Rate, RuleNo, Scope, StateOptions};
 use pfs_engine_machine::{Exceeded, Outcome};
@@ -35,57 +38,38 @@ use pfs_track::Score;
 /// where it is refused, and then nothing has changed. (pf.conf(5), STATEFUL TRACKING OPTIONS,
 /// "max-src-conn", "max-src-conn-rate" and "overload")
 pub(crate) fn take_packet_of_state<S: Store>(
-    config: &Config,
-    tables: &mut Tables,
-    store: &mut S,
+    held: &mut Held<S>,
     number: StateNo,
     packet: &Packet,
     now: u64,
     looks: &mut Meter,
 ) -> Result<Outcome, NoMemory>
-    requires made_for { S.config store.old ≡ config.now }
-    requires limit { tables.old.limit ≡ limit_of config.now LimitName.TableEntries }
-    requires kept { IsKept config.now (held_of (S.world store.old) tables.old.entries) now }
-    requires held { option_map state_number (state_with (key_of packet.now) (S.world store.old)) ≡ Some number }
+    requires kept { IsKept held.old.config held.old.held now }
+    requires found { option_map state_number (state_with (key_of packet.now) held.old.held.world) ≡ Some number }
     requires looks { looks.old ≡ 0 }
-    ensures ok { IfOk result (λ o. (o, held_of (S.world store.new) tables.new.entries)
-        ≡ answer_of_state config.now (held_of (S.world store.old) tables.old.entries) packet.now now (state_with (key_of packet.now) (S.world store.old))) }
-    ensures world { OnErr result (S.world store.new ≡ S.world store.old) }
-    ensures entries { OnErr result (tables.new.entries ≡ tables.old.entries) }
-    ensures config { S.config store.new ≡ S.config store.old }
-    ensures limit { tables.new.limit ≡ tables.old.limit }
-    ensures free { (s : State) → state_with (key_of packet.now) (S.world store.old) ≡ Some s →
-        IsFreeOf config.now packet.now s.rule → IsOk result }
-    ensures looks { S.counts ≡ true → IfOk result (λ o. AreLooks config.now
-        (states_beside (S.world store.old) (state_with (key_of packet.now) (S.world store.old))) o looks.new) }
-    ensures no_looks { S.counts ≡ true → OnErr result (looks.new ≡ 0) }
-    ensures uncounted { S.counts ≡ false → looks.new ≡ 0 }
+    ensures answered { IsAnswered result (answer_to_packet held.old.config held.old.held packet.now now) held.old held.new }
+    ensures free { (s : State) → state_with (key_of packet.now) held.old.held.world ≡ Some s →
+        IsFreeOf held.old.config packet.now s.rule → IsOk result }
+    ensures looks { AreLooksOf S.counts held.old.config held.old.held.world packet.now result looks.new }
 {
-    make_room(config, tables, store, packet)?;
-    let touched = store.touch(number, packet, now, looks);
-    Ok(complete_handshake(config, tables, store, number, &touched, now, looks))
+    make_room(held, packet)?;
+    let touched = held.store.touch(number, packet, now, looks);
+    Ok(complete_handshake(held, number, &touched, now, looks))
 }
 
 /// Room for one more entry in the overload table of the rule of the packet's state, where it may complete a handshake.
-fn make_room<S: Store>(
-    config: &Config,
-    tables: &mut Tables,
-    store: &S,
-    packet: &Packet,
-) -> Result<(), NoMemory>
-    requires tables { length tables.old.entries ≡ length config.now.tables }
-    ensures entries { tables.new.entries ≡ tables.old.entries }
-    ensures limit { tables.new.limit ≡ tables.old.limit }
+fn make_room<S: Store>(held: &mut Held<S>, packet: &Packet) -> Result<(), NoMemory>
+    ensures same { Holds held.old held.new held.old.held }
     ensures room { OnOk result (is_tcp packet.now.proto ≡ true →
-        HasRoomFor tables.new (rule_overload config.now (option_map state_rule (state_with (key_of packet.now) (S.world store.now))))) }
+        HasRoomFor (tables_held held.new) (rule_overload held.old.config (option_map state_rule (state_with (key_of packet.now) held.old.held.world)))) }
     ensures other { is_tcp packet.now.proto ≡ false → IsOk result }
-    ensures none { rule_overload config.now (option_map state_rule (state_with (key_of packet.now) (S.world store.now))) ≡ None → IsOk result }
+    ensures none { rule_overload held.old.config (option_map state_rule (state_with (key_of packet.now) held.old.held.world)) ≡ None → IsOk result }
 {
     if packet.proto() != Proto::Tcp {
         return Ok(());
     }
-    match overload(config, store.rule_at(&FlowKey::of(packet))) {
-        Some(overload) => tables.make_room(overload.table),
+    match overload(&held.config, held.store.rule_at(&FlowKey::of(packet))) {
+        Some(overload) => held.tables.make_room(overload.table),
         None => Ok(()),
     }
 }
@@ -109,45 +93,36 @@ fn options(config: &Config, rule: RuleNo) -> Option<&StateOptions>
 /// What comes of a packet that touched the state of this number: where its handshake completes past a limit of its rule, the
 /// source is added to the overload table and states are killed.
 fn complete_handshake<S: Store>(
-    config: &Config,
-    tables: &mut Tables,
-    store: &mut S,
+    held: &mut Held<S>,
     number: StateNo,
     touched: &Touched,
     now: u64,
     looks: &mut Meter,
 ) -> Outcome
-    requires made_for { S.config store.old ≡ config.now }
-    requires limit { tables.old.limit ≡ limit_of config.now LimitName.TableEntries }
-    requires held { holds_number (S.world store.old).states number.0 ≡ true }
+    requires held { holds_number held.old.held.world.states number.0 ≡ true }
     requires looks { looks.old ≤ run_limit }
-    requires room { touched.now.completed ≡ true → HasRoomFor tables.old (options_of config.now touched.now.rule.0).overload }
-    ensures answer { (result, held_of (S.world store.new) tables.new.entries)
-        ≡ answer_of_touch config.now (held_of (S.world store.old) tables.old.entries) number.0 now touched.now }
-    ensures config { S.config store.new ≡ S.config store.old }
-    ensures limit { tables.new.limit ≡ tables.old.limit }
-    ensures looks { S.counts ≡ true → looks.old ≡ 1 →
-        AreLooks config.now (source_states touched.now.source (S.world store.old).states) result looks.new }
-    ensures uncounted { S.counts ≡ false → looks.new ≡ looks.old }
+    requires room { touched.now.completed ≡ true → HasRoomFor (tables_held held.old) (options_of held.old.config touched.now.rule.0).overload }
+    ensures told { IsDone result (answer_of_touch held.old.config held.old.held number.0 now touched.now) held.old held.new }
+    ensures looks { AreFurtherLooks S.counts looks.old looks.new
+        (AreLooks held.old.config (source_states touched.now.source held.old.held.world.states) result) }
 {
     if !touched.completed {
         return Outcome::State(touched.rule);
     }
-    let Some(options) = options(config, touched.rule) else {
+    let Some(options) = options(&held.config, touched.rule) else {
         return Outcome::State(touched.rule);
     };
     let Some(exceeded) = exceeded_limits(options, touched) else {
         return Outcome::State(touched.rule);
     };
-    let added = add_source(tables, options.overload, touched.source, now);
-    let killed = kill_with(
-        store,
+    let added = add_source(&mut held.tables, options.overload, touched.source, now);
+    let which = Killing {
         number,
-        touched,
-        flush_of(options.overload),
-        now,
-        looks,
-    );
+        rule: touched.rule,
+        source: touched.source,
+        flush: flush_of(options.overload),
+    };
+    let killed = kill(&mut held.store, which, now, looks);
     Outcome::Kill {
         rule: touched.rule,
         exceeded,
@@ -208,6 +183,7 @@ fn add_source(
     ensures answer { (conf : Conf) → tables.old.limit ≡ limit_of conf LimitName.TableEntries → result ≡ addition_of conf tables.old.entries source overload }
     ensures entries { (conf : Conf) → tables.old.limit ≡ limit_of conf LimitName.TableEntries → tables.new.entries ≡ tables_after_addition conf tables.old.entries source now overload }
     ensures limit { tables.new.limit ≡ tables.old.limit }
+    ensures tables { length tables.new.entries ≡ length tables.old.entries }
 {
     let overload = overload?;
     match tables.add_host(overload.table, source, now) {
@@ -216,32 +192,33 @@ fn add_source(
     }
 }
 
-/// Kills the state of this number, and those that are flushed with it. It returns how many they are.
-fn kill_with<S: Store>(
-    store: &mut S,
+/// Which states are killed: the one of this number, rule and source, and those of its source that are flushed with it.
+#[derive(Clone, Copy)]
+struct Killing {
     number: StateNo,
-    touched: &Touched,
+    rule: RuleNo,
+    source: Addr,
     flush: Option<Scope>,
-    now: u64,
-    looks: &mut Meter,
-) -> u64
-    requires held { holds_number (S.world store.old).states number.0 ≡ true }
+}
+
+/// Kills states. It returns how many they are.
+fn kill<S: Store>(store: &mut S, which: Killing, now: u64, looks: &mut Meter) -> u64
+    requires held { holds_number (S.world store.old).states which.number.0 ≡ true }
     requires looks { looks.old ≤ 2 ^ 63 }
-    ensures answer { result ≡ length (filter (goes_with flush number.0 touched.now.rule touched.now.source) (S.world store.old).states) }
+    ensures answer { result ≡ length (filter (goes_with which.flush which.number.0 which.rule which.source) (S.world store.old).states) }
     ensures world { S.world store.new
-        ≡ world_without (S.config store.old) (S.world store.old) (stays_at_kill flush number.0 touched.now.rule touched.now.source) now }
+        ≡ world_without (S.config store.old) (S.world store.old) (stays_at_kill which.flush which.number.0 which.rule which.source) now }
     ensures config { S.config store.new ≡ S.config store.old }
-    ensures looks { S.counts ≡ true → looks.old ≡ 1 →
-        AreLooksOfKill flush result (source_states touched.now.source (S.world store.old).states) looks.new }
-    ensures uncounted { S.counts ≡ false → looks.new ≡ looks.old }
+    ensures looks { AreFurtherLooks S.counts looks.old looks.new
+        (AreLooksOfKill which.flush result (source_states which.source (S.world store.old).states)) }
 {
-    match flush {
+    match which.flush {
         None => {
             let before = store.state_count();
-            store.kill(number, now, looks);
+            store.kill(which.number, now, looks);
             before - store.state_count()
         }
-        Some(Scope::Rule) => store.flush(touched.source, Some(touched.rule), now, looks),
-        Some(Scope::Global) => store.flush(touched.source, None, now, looks),
+        Some(Scope::Rule) => store.flush(which.source, Some(which.rule), now, looks),
+        Some(Scope::Global) => store.flush(which.source, None, now, looks),
     }
 }

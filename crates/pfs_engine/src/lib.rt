@@ -3,6 +3,7 @@
 
 mod engine;
 mod handshakes;
+mod held;
 pub mod laws;
 mod packets;
 mod purges;

@@ -1,9 +1,11 @@
 //! The purges that are due when time passes.
 
-ghost use Rattle.std.specs.Prelude.{◌≡◌, ◌+◌, ◌*◌, ◌<◌, ◌≤◌, ◌^◌, ◌==◌, ◌&&◌, not, if◌then◌else◌, true, false, length, max};
+ghost use Rattle.std.specs.Prelude.{◌≡◌, ◌+◌, ◌<◌, ◌≤◌, ◌^◌, ◌==◌, ◌&&◌, not, if◌then◌else◌, max};
 ghost use Rattle.std.specs.Option.{ForSome};
 ghost use Rattle.pfs_engine_machine.specs.Machine.{due, world_after_purges};
-ghost use Rattle.pfs_engine_machine.specs.Shares.{seconds, most_nodes, most_states};
+ghost use Rattle.pfs_engine_machine.specs.Shares.{seconds};
+ghost use Rattle.pfs_engine.specs.Calls.{IsWorkOfSeconds};
+ghost use Rattle.pfs_engine.specs.Meters.{CountsOn, IsWorkOfPurges};
 ghost use Rattle.pfs_engine.specs.Watches.{IsOnTheWay, IsWatched};
 
 use crate::watches::Watch;
@@ -16,12 +18,7 @@ pub(crate) fn purge_due<S: Store>(store: &mut S, last: Option<u64>, now: u64) ->
     requires order { ForSome last (λ m. m ≤ now) }
     requires moment { now < 2 ^ 32 }
     ensures world { S.world store.new ≡ world_after_purges (S.config store.old) (S.world store.old) (due last now) }
-    ensures visits { result.visits ≡ 0 }
-    ensures slices { result.slices ≡ 2 * length (due last now) }
-    ensures most_states { result.most_states ≡ most_states (S.config store.old) (S.world store.old) (due last now) }
-    ensures most_nodes { result.most_nodes ≡ most_nodes (S.config store.old) (S.world store.old) (due last now) }
-    ensures looks { S.counts ≡ true → result.looks ≡ result.most_states }
-    ensures uncounted { S.counts ≡ false → result.looks ≡ 0 }
+    ensures work { IsWorkOfSeconds S.counts (S.config store.old) (S.world store.old) (due last now) result }
     ensures config { S.config store.new ≡ S.config store.old }
 {
     match last {
@@ -50,11 +47,7 @@ fn purge_each<S: Store>(store: &mut S, from: u64, to: u64) -> Work
     requires order { from ≤ to }
     requires moment { to < 2 ^ 32 }
     ensures world { S.world store.new ≡ world_after_purges (S.config store.old) (S.world store.old) (seconds from to) }
-    ensures visits { result.visits ≡ 0 }
-    ensures most_states { result.most_states ≡ most_states (S.config store.old) (S.world store.old) (seconds from to) }
-    ensures most_nodes { result.most_nodes ≡ most_nodes (S.config store.old) (S.world store.old) (seconds from to) }
-    ensures looks { S.counts ≡ true → result.looks ≡ result.most_states }
-    ensures uncounted { S.counts ≡ false → result.looks ≡ 0 }
+    ensures work { IsWorkOfPurges S.counts (S.config store.old) (S.world store.old) (seconds from to) result }
     ensures config { S.config store.new ≡ S.config store.old }
 {
     let mut at = Passage {
@@ -76,12 +69,9 @@ fn purge_second<S: Store>(store: &mut S, at: Passage, to: u64) -> Passage
     requires moment { to < 2 ^ 32 }
     requires watched { IsWatched (S.config store.old) (S.world store.old) at }
     ensures later { at.second < result.second }
-    ensures order { result.second ≤ to }
     ensures way { IsOnTheWay (S.config store.old) to (S.world store.old) at (S.world store.new) result }
     ensures watched { IsWatched (S.config store.old) (S.world store.new) result }
-    ensures visits { result.work.visits ≡ at.work.visits }
-    ensures looks { S.counts ≡ true → at.work.looks ≡ at.work.most_states → result.work.looks ≡ result.work.most_states }
-    ensures uncounted { S.counts ≡ false → at.work.looks ≡ 0 → result.work.looks ≡ 0 }
+    ensures work { CountsOn S.counts at.work result.work }
     ensures config { S.config store.new ≡ S.config store.old }
 {
     let second = at.second + 1;
@@ -121,7 +111,6 @@ fn pass_over<S: Store>(store: &mut S, at: Passage, to: u64) -> Passage
     requires moment { to < 2 ^ 32 }
     requires watched { IsWatched (S.config store.old) (S.world store.old) at }
     ensures later { at.second ≤ result.second }
-    ensures order { result.second ≤ to }
     ensures way { IsOnTheWay (S.config store.old) to (S.world store.old) at (S.world store.new) result }
     ensures watched { IsWatched (S.config store.old) (S.world store.new) result }
     ensures work { result.work ≡ at.work }

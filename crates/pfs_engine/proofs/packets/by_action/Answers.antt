@@ -1,24 +1,27 @@
--- Answers of by_action: a state is made where no limit is met, and else the packet is dropped for the first one met (`ok`).
+-- Answer of by_action: a state is made where no limit is met, and else the packet is dropped for the first one met (`answered`).
 use Rattle.std.proofs.Common.{◌≡◌, ◌∙◌, None, Some, ap, rules, sym}
 use Rattle.pfs_conf_values.specs.Configs.{Conf}
 use Rattle.pfs_store_contract.specs.Calls.{packet_limit}
 use Rattle.pfs_engine_machine.proofs.OptionLaws.{admitted_at, refused_at}
+use Rattle.pfs_engine.specs.Held.{HeldView}
 use Rattle.pfs_engine.proofs.packets.by_action.Goals as goal
+use Rattle.pfs_engine.proofs.packets.by_action.Goals.{in-Err, in-Ok}
 
-pub returns-in-Err-clause-ok : goal.returns-in-Err-clause-ok
-returns-in-Err-clause-ok g c =
-    let w = g.S.Store.world c.args.store.now in
-    let conf = g.S.Store.config c.args.store.now in
+pub returns-after-branch-2-clause-answered : goal.returns-after-branch-2-clause-answered
+returns-after-branch-2-clause-answered g c =
+    let inside = c.held.inside in
+    let w = g.S.Store.world inside.store in
     let a = c.in_ok-admit-in-Keep.ensures in
-    let met : packet_limit conf w c.args.packet.now c.args.rule.0 ≡ Some c.in-Err.limit = refused_at w _ c.in-Err.limit (sym c.in-Err.is ∙ a.answer) in
-    let met_here = ap (λ (k : Conf). packet_limit k w c.args.packet.now c.args.rule.0) (sym c.requires.made_for) ∙ met in
-    λ tables. search rules
-
-pub returns-in-Ok-clause-ok : goal.returns-in-Ok-clause-ok
-returns-in-Ok-clause-ok g c =
-    let w = g.S.Store.world c.args.store.now in
-    let conf = g.S.Store.config c.args.store.now in
-    let a = c.in_ok-admit-in-Keep.ensures in
-    let none : packet_limit conf w c.args.packet.now c.args.rule.0 ≡ None = admitted_at w _ c.in-Ok.field-0 (sym c.in-Ok.is ∙ a.answer) in
-    let none_here = ap (λ (k : Conf). packet_limit k w c.args.packet.now c.args.rule.0) (sym c.requires.made_for) ∙ none in
-    λ tables. search rules
+    let seen = λ (k : Conf) (v : HeldView). packet_limit k v.held.world c.args.packet.now c.args.rule.0 in
+    let same_config = ap (λ (v : HeldView). v.config) c.held.view_is in
+    let same_held = ap (λ (v : HeldView). v.held) c.held.view_is in
+    elim c.match-branch-2.branch [
+      | in-Ok x ↦
+          let none : packet_limit (g.S.Store.config inside.store) w c.args.packet.now c.args.rule.0 ≡ None = admitted_at w _ x.in-Ok.field-0 (sym x.in-Ok.is ∙ a.answer) in
+          let none_here : packet_limit inside.config w c.args.packet.now c.args.rule.0 ≡ None = ap (λ (k : Conf). packet_limit k w c.args.packet.now c.args.rule.0) (sym c.held.invariant.store) ∙ none in
+          rw x.result-is (record { ok = search rules; err = tt; config = search rules })
+      | in-Err x ↦
+          let met : packet_limit (g.S.Store.config inside.store) w c.args.packet.now c.args.rule.0 ≡ Some x.in-Err.limit = refused_at w _ x.in-Err.limit (sym x.in-Err.is ∙ a.answer) in
+          let met_here : packet_limit inside.config w c.args.packet.now c.args.rule.0 ≡ Some x.in-Err.limit = ap (λ (k : Conf). packet_limit k w c.args.packet.now c.args.rule.0) (sym c.held.invariant.store) ∙ met in
+          rw x.result-is (record { ok = search rules; err = tt; config = search rules })
+    ]

@@ -1,6 +1,23 @@
--- Answer of purge_due: two slices for each second since the last moment (`slices`).
+-- Answers of purge_due: two slices for each second since the last moment, each within its share (`work`).
+use Rattle.std.proofs.Common.{arith}
 use Rattle.std.proofs.lemmas.List.FromFn.{length-range_with_len}
+use Rattle.pfs_engine_machine.specs.Shares.{seconds}
+use Rattle.pfs_engine_machine.proofs.Shares.{most_nodes-share, most_states-share}
 use Rattle.pfs_engine.proofs.purges.purge_due.Goals as goal
 
-pub returns-in-Some-clause-slices : goal.returns-in-Some-clause-slices
-returns-in-Some-clause-slices g c = rw (c.in-Some.is, length-range_with_len)
+pub returns-in-Some-clause-work : goal.returns-in-Some-clause-work
+returns-in-Some-clause-work g c =
+    let conf = g.S.Store.config c.args.store.now in
+    let w = g.S.Store.world c.args.store.now in
+    let due = seconds c.in-Some.last c.args.now in
+    let done = c.purge_each-work.ensures.work in
+    rw c.in-Some.is (record {
+      slices = rw length-range_with_len;
+      most_states = done.most_states;
+      most_nodes = done.most_nodes;
+      states_share = omega (arith, done.most_states, most_states-share conf w due);
+      nodes_share = omega (arith, done.most_nodes, most_nodes-share conf w due);
+      visits = done.visits;
+      looks = done.looks;
+      uncounted = done.uncounted;
+    })

@@ -52,7 +52,7 @@ returns-then-is_err-clause-err g c =
 pub returns-in-Err-clause-err : goal.returns-in-Err-clause-err
 returns-in-Err-clause-err g c =
     let i = c.loop-event.invariant in
-    stopped _ _ _ c.args.events.now _ _ _ _ c.loop-event.event-index _ _ (omega arith) c.event-item.is (c.reserve.ensures.items ∙ i.outcomes) (c.in-Err.ensures.not_taken ∙ i.taken)
+    stopped _ _ _ c.args.events.now _ _ _ _ c.loop-event.event-index _ _ (omega arith) c.event-item.is (c.reserve.ensures.items ∙ i.outcomes) (c.in-Err.ensures.taken.not_taken ∙ i.taken)
     (inr (rw (i.config, i.machine) at c.in-Err.ensures.err))
 
 pub loop-event-preserved : goal.loop-event-preserved
@@ -68,12 +68,12 @@ loop-event-preserved g c =
     record {
       outcomes = c.push_reserved.ensures.items ∙ (ap (λ (os : List Outcome). os ++ c.in-Ok.outcome ∷ []) c.reserve.ensures.items ∙ outcomes_next conf first c.loop-event.self.machine c.step.new.self.machine c.args.outcomes.now.items c.loop-event.outcomes.items c.in-Ok.outcome es at _ within stepped i.machine i.outcomes);
       machine = machine_next conf first c.loop-event.self.machine _ c.in-Ok.outcome es at _ within stepped i.machine;
-      config = c.step.ensures.config ∙ i.config;
-      limits = c.step.ensures.limits;
+      config = c.step.ensures.keeps.config ∙ i.config;
+      limits = c.step.ensures.keeps.limits;
       allowed = allowed_next conf es at c.event-item.result within i.allowed;
-      order = rw (c.step.ensures.last, c.event-item.is) (order_next c.loop-event.self.machine.last es at _ within i.order);
-      taken = taken_next c.args.self.now.taken c.loop-event.self.taken c.step.new.self.taken es at _ within i.taken (rw c.event-item.is at k.taken);
-      room = omega (arith, length-drop at es, length-drop (at + 1) es, i.room, c.step.ensures.few);
+      order = rw (c.step.ensures.keeps.last, c.event-item.is) (order_next c.loop-event.self.machine.last es at _ within i.order);
+      taken = taken_next c.args.self.now.taken c.loop-event.self.taken c.step.new.self.taken es at _ within i.taken (rw c.event-item.is at k.taken.taken);
+      room = omega (arith, length-drop at es, length-drop (at + 1) es, i.room, c.step.ensures.taken.few);
     }
 
 pub step-requires-clause-table : goal.step-requires-clause-table

@@ -14,7 +14,7 @@ returns-in-Packet-clause-err g c =
     let p = c.in-Packet.packet in
     let at = c.advance.new.self.machine in
     let a = c.packet.ensures in
-    refused_in c.args.self.now.config c.args.self.now.machine at c.packet.new.self.machine c.args.event.now p c.packet.result c.in-Packet.is c.advance.ensures.machine a.err
+    refused_in c.args.self.now.config c.args.self.now.machine at c.packet.new.self.machine c.args.event.now p c.packet.result c.in-Packet.is c.advance.ensures.machine a.answered.err
     (subst (λ (k : Conf). IsFree k p (answer_to_packet k at.held p (moment_of at.last)).0 → IsOk c.packet.result) c.advance.ensures.config a.free)
 
 pub returns-in-Table-clause-err : goal.returns-in-Table-clause-err

@@ -1,0 +1,45 @@
+-- What meters show of a packet, and the work of purges, while they are done. (own)
+use Rattle.std.specs.Prelude.{ℕ, ◌≡◌, Bool, true, false, List, Result, IfOk, OnErr}
+use Rattle.pfs_addr_values.specs.Keys.{key_of}
+use Rattle.pfs_addr_values.specs.Packets.{Header}
+use Rattle.pfs_conf_values.specs.Configs.{Conf}
+use Rattle.pfs_store_contract.specs.Worlds.{World, state_with}
+use Rattle.pfs_engine_machine.specs.Looks.{AreLooks, states_beside}
+use Rattle.pfs_engine_machine.specs.Machine.{Held}
+use Rattle.pfs_engine_machine.specs.Shares.{most_nodes, most_states}
+use Rattle.pfs_engine_machine.specs.Visits.{AreVisits}
+use Rattle.pfs_engine_machine.specs.declared.events.Outcome.{Outcome}
+use Rattle.pfs_engine.specs.declared.works.Work.{Work}
+
+-- the looks of a packet, where the store counts them, by what came of it, and none where memory was refused
+pub record AreLooksOf {E : Type 0} (counts : Bool) (conf : Conf) (w : World) (p : Header) (answer : Result Outcome E) (looks : ℕ)
+    : Type 0 where
+  pub counted : counts ≡ true → IfOk answer (λ o. AreLooks conf (states_beside w (state_with (key_of p) w)) o looks)
+  pub refused : counts ≡ true → OnErr answer (looks ≡ 0)
+  pub uncounted : counts ≡ false → looks ≡ 0
+
+-- what the meters of a packet show: the items that it is compared with, and the looks
+pub record AreMetersOf {E : Type 0} (counts : Bool) (conf : Conf) (h : Held) (p : Header) (answer : Result Outcome E) (compared looked : ℕ)
+    : Type 0 where
+  pub visits : AreVisits conf h p (state_with (key_of p) h.world) compared
+  pub looks : AreLooksOf counts conf h.world p answer looked
+
+-- the looks after the one at the packet's own state, where the store counts them
+pub record AreFurtherLooks (counts : Bool) (before after : ℕ) (AreLooksNow : ℕ → Type 0) : Type 0 where
+  pub counted : counts ≡ true → before ≡ 1 → AreLooksNow after
+  pub uncounted : counts ≡ false → after ≡ before
+
+-- the work of purges: the most that one slice of states and one of nodes examines; the looks are those of that slice of states,
+-- where the store counts them; and no item is compared
+pub record IsWorkOfPurges (counts : Bool) (conf : Conf) (w : World) (seconds : List ℕ) (work : Work) : Type 0 where
+  pub most_states : work.most_states ≡ most_states conf w seconds
+  pub most_nodes : work.most_nodes ≡ most_nodes conf w seconds
+  pub visits : work.visits ≡ 0
+  pub looks : counts ≡ true → work.looks ≡ work.most_states
+  pub uncounted : counts ≡ false → work.looks ≡ 0
+
+-- the work of one more purge compares no item, and counts its looks as that of those before it
+pub record CountsOn (counts : Bool) (before after : Work) : Type 0 where
+  pub visits : after.visits ≡ before.visits
+  pub looks : counts ≡ true → before.looks ≡ before.most_states → after.looks ≡ after.most_states
+  pub uncounted : counts ≡ false → before.looks ≡ 0 → after.looks ≡ 0

@@ -1,0 +1,162 @@
+//! What is held under a configuration, as one value.
+
+ghost use Rattle.std.specs.Prelude.{◌≡◌, ◌<◌, ◌≤◌, ◌^◌, None, length, IfOk, OnErr, option_map};
+ghost use Rattle.std.specs.Option.{ForSome};
+ghost use Rattle.pfs_addr_values.specs.Keys.{key_of};
+ghost use Rattle.pfs_conf_values.specs.Configs.{limit_of};
+ghost use Rattle.pfs_conf_values.specs.Invariants.{IsConfig};
+ghost use Rattle.pfs_eval.specs.Tables.{entered_to, entry_count};
+ghost use Rattle.pfs_store_contract.specs.Calls.{state_number};
+ghost use Rattle.pfs_store_contract.specs.Worlds.{empty_world, state_with};
+ghost use Rattle.pfs_engine_machine.specs.Machine.{answer_to_command, deciding_rule, due, held_of, start, world_after_purges};
+ghost use Rattle.pfs_engine_machine.specs.Visits.{AreVisits};
+ghost use Rattle.pfs_engine.specs.Calls.{IsWorkOfSeconds};
+ghost use Rattle.pfs_engine.specs.Held.{Holds, IsAnsweredAs, IsDone};
+
+use crate::purges::purge_due;
+use crate::works::Work;
+use pfs_addr_values::{FlowKey, Meter, NoMemory, Packet};
+use pfs_conf_values::{Config, LimitName, RuleNo, TableNo};
+use pfs_engine_machine::{Command, Entered, Outcome, TableEntry};
+use pfs_eval::{Book, Tables};
+use pfs_store_contract::{StateNo, Store};
+use std::alloc::Global;
+use std::marker::Model;
+
+/// What is held under a configuration: states and source nodes in a store, and entries in tables.
+///
+/// Clauses see a `HeldView`: the configuration, what is held, and the room of the tables. The store, the tables and the book,
+/// which is the rules made ready, are for this configuration at all times, as `IsMadeFor` says. That what is held is within the
+/// limits is the engine's to keep: where a handshake completes past `max-src-conn`, it is past the limit until states are killed.
+#[derive(Drop)]
+pub(crate) struct Held<S: Store> {
+    pub(crate) config: Config,
+    pub(crate) book: Book,
+    pub(crate) tables: Tables,
+    pub(crate) store: S,
+}
+
+impl<S: Store> Model for Held<S> {
+    ghost use Rattle.pfs_engine.specs.Held.{HeldView, IsMadeFor, view_of};
+
+    ghost Value = { HeldView };
+
+    ghost view = { λ h. view_of h.config (S.world h.store) h.tables };
+
+    ghost invariant = { λ h. IsMadeFor h.config (S.config h.store) h.book h.tables };
+}
+
+impl<S: Store + Drop> Held<S> {
+    /// What is held before the first event, over an empty store that was made for the configuration. `NoMemory` where memory
+    /// for the rules or the tables was refused; configuration and store are given up then.
+    pub(crate) fn new(alloc: Global, config: Config, store: S) -> Result<Held<S>, NoMemory>
+        requires empty { S.world store ≡ empty_world }
+        requires made_for { S.config store ≡ config }
+        ensures config { IfOk result (λ h. h.config ≡ config) }
+        ensures held { IfOk result (λ h. h.held ≡ (start config).held) }
+        ensures sound { IsConfig config }
+    {
+        // This call states to the proof that the configuration keeps the load rules.
+        let _limit = config.limit(LimitName::States);
+        let book = Book::new(alloc, &config)?;
+        let tables = Tables::new(alloc, &config)?;
+        Ok(Held {
+            config,
+            book,
+            tables,
+            store,
+        })
+    }
+}
+
+impl<S: Store> Held<S> {
+    /// The configuration.
+    pub(crate) fn config(&self) -> &Config
+        ensures { result.now ≡ self.now.config }
+    {
+        &self.config
+    }
+
+    /// How many states are held.
+    pub(crate) fn states(&self) -> u64
+        ensures { result ≡ length self.now.held.world.states }
+    {
+        self.store.state_count()
+    }
+
+    /// How many source nodes are held.
+    pub(crate) fn nodes(&self) -> u64
+        ensures { result ≡ length self.now.held.world.nodes }
+    {
+        self.store.node_count()
+    }
+
+    /// How many entries all tables have.
+    pub(crate) fn entries(&self) -> u64
+        ensures { result ≡ entry_count self.now.held.tables }
+    {
+        self.tables.entries()
+    }
+
+    /// The number of the state that has the key of a packet.
+    pub(crate) fn find(&self, packet: &Packet) -> Option<StateNo>
+        ensures { result ≡ option_map state_number (state_with (key_of packet.now) self.now.held.world) }
+    {
+        self.store.find(&FlowKey::of(packet))
+    }
+
+    /// The rule that decides on a packet whose key no state has, if one does. It takes no memory.
+    pub(crate) fn decide(&self, packet: &Packet, visits: &mut Meter) -> Option<RuleNo>
+        requires { visits.old ≡ 0 }
+        ensures rule { option_map (λ r. r.0) result ≡ deciding_rule self.now.config self.now.held packet.now }
+        ensures visits { AreVisits self.now.config self.now.held packet.now None visits.new }
+    {
+        self.book.decide(&self.tables, packet, visits)
+    }
+
+    /// All purges due between the last moment and this one; none before the first event. No memory is taken.
+    pub(crate) fn purge_due(&mut self, last: Option<u64>, now: u64) -> Work
+        requires order { ForSome last (λ m. m ≤ now) }
+        requires moment { now < 2 ^ 32 }
+        ensures held { Holds self.old self.new
+            (held_of (world_after_purges self.old.config self.old.held.world (due last now)) self.old.held.tables) }
+        ensures work { IsWorkOfSeconds S.counts self.old.config self.old.held.world (due last now) result }
+    {
+        purge_due(&mut self.store, last, now)
+    }
+
+    /// Takes the entries out of a table that were added `seconds` before `now`, or earlier; those that the rules text says count
+    /// as added at the moment `first`. It returns how many left.
+    pub(crate) fn expire(&mut self, table: TableNo, first: u64, now: u64, seconds: u64) -> u64
+        requires table { table.0 < length self.old.config.tables }
+        requires moments { first ≤ now }
+        ensures { IsDone (Outcome.Expire result) (answer_to_command self.old.config self.old.held first now table.0 (Command.Expire seconds))
+            self.old self.new }
+    {
+        self.tables.expire(table, first, now, seconds)
+    }
+
+    /// Adds an entry to a table at a moment. `NoMemory` where memory was refused for an entry that is new.
+    pub(crate) fn add(
+        &mut self,
+        table: TableNo,
+        entry: &TableEntry,
+        now: u64,
+    ) -> Result<Entered, NoMemory>
+        requires table { table.0 < length self.old.config.tables }
+        ensures answered { IsAnsweredAs result (λ became. Outcome.Add became)
+            (answer_to_command self.old.config self.old.held 0 now table.0 (Command.Add entry.now)) self.old self.new }
+        ensures needed { OnErr result (entered_to self.old.held.tables (limit_of self.old.config LimitName.TableEntries) table.0 entry.now ≡ Entered.New) }
+    {
+        self.tables.add_entry(table, entry, now)
+    }
+
+    /// Takes the very entry that is named out of a table, if it is there. It returns how many left: one, or none.
+    pub(crate) fn delete(&mut self, table: TableNo, entry: &TableEntry) -> u64
+        requires { table.0 < length self.old.config.tables }
+        ensures { IsDone (Outcome.Delete result) (answer_to_command self.old.config self.old.held 0 0 table.0 (Command.Delete entry.now))
+            self.old self.new }
+    {
+        self.tables.delete_entry(table, entry)
+    }
+}
