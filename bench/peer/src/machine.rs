@@ -1,6 +1,6 @@
 //! What is held: states, source nodes and tables, and what each event does with them.
 use crate::book::Book;
-use crate::packet::{Key, Packet};
+use crate::packet::{Key, Packet, Source};
 use crate::phase::Phase;
 use crate::rules::{Action, Config, Flush, Prefix, Scope, ADAPTIVE_END, ADAPTIVE_START, INTERVAL};
 use crate::tables::Tables;
@@ -54,9 +54,9 @@ pub struct Machine<'a> {
     states: Slab<State>,
     by_key: HashMap<Key, usize>,
     by_number: BTreeMap<u64, usize>,
-    by_source: HashMap<IpAddr, BTreeSet<u64>>,
+    by_source: HashMap<Source, BTreeSet<u64>>,
     nodes: Slab<Node>,
-    by_place: HashMap<(Scope, IpAddr), usize>,
+    by_place: HashMap<(Scope, Source), usize>,
     by_node_number: BTreeMap<u64, usize>,
     of_rule: Vec<u32>,
     of_scope: HashMap<Scope, u32>,
@@ -168,7 +168,7 @@ impl<'a> Machine<'a> {
         for place in &leaving {
             let node = self.nodes.remove(*place);
             self.by_node_number.remove(&node.number);
-            self.by_place.remove(&(node.scope, node.source));
+            self.by_place.remove(&(node.scope, Source(node.source)));
             *self.of_scope.entry(node.scope).or_default() -= 1;
             if node.number > self.node_round.from && node.number <= self.node_round.to {
                 self.node_round.left -= 1;
@@ -198,10 +198,11 @@ impl<'a> Machine<'a> {
         let state = self.states.remove(place);
         self.by_key.remove(&state.key);
         self.by_number.remove(&state.number);
-        if let Some(numbers) = self.by_source.get_mut(&state.source) {
+        let source = Source(state.source);
+        if let Some(numbers) = self.by_source.get_mut(&source) {
             numbers.remove(&state.number);
             if numbers.is_empty() {
-                self.by_source.remove(&state.source);
+                self.by_source.remove(&source);
             }
         }
         if state.number > self.state_round.from && state.number <= self.state_round.to {
@@ -225,7 +226,7 @@ impl<'a> Machine<'a> {
         if let Some(place) = self.by_key.get(&key) {
             return self.touch(*place, packet);
         }
-        match self.book.decide(self.config, packet, &self.tables) {
+        match self.book.decide(packet, &self.tables) {
             None => Outcome::Pass(None),
             Some(rule) => match &self.config.items[rule].action {
                 Action::Block => Outcome::Block(rule),
@@ -237,7 +238,7 @@ impl<'a> Machine<'a> {
 
     fn admit(&mut self, rule: usize, key: Key, packet: &Packet) -> Outcome {
         let options = self.config.options(rule);
-        let node = options.scope.and_then(|scope| self.by_place.get(&(scope, packet.src)).copied());
+        let node = options.scope.and_then(|scope| self.by_place.get(&(scope, Source(packet.src))).copied());
         if let Some(limit) = self.limit_met(rule, node) {
             return Outcome::Drop(rule, limit);
         }
@@ -259,7 +260,7 @@ impl<'a> Machine<'a> {
         let place = self.states.insert(state);
         self.by_key.insert(key, place);
         self.by_number.insert(self.made, place);
-        self.by_source.entry(packet.src).or_default().insert(self.made);
+        self.by_source.entry(Source(packet.src)).or_default().insert(self.made);
         self.of_rule[rule] += 1;
         Outcome::New(rule)
     }
@@ -267,7 +268,7 @@ impl<'a> Machine<'a> {
     fn make_node(&mut self, scope: Scope, source: IpAddr) -> usize {
         let node = Node { number: self.made, scope, source, states: 0, connections: 0, score: 0, scored: 0, idle: 0 };
         let place = self.nodes.insert(node);
-        self.by_place.insert((scope, source), place);
+        self.by_place.insert((scope, Source(source)), place);
         self.by_node_number.insert(self.made, place);
         *self.of_scope.entry(scope).or_default() += 1;
         place
@@ -326,7 +327,7 @@ impl<'a> Machine<'a> {
         let leaving: Vec<usize> = match flush {
             Flush::No => vec![place],
             _ => {
-                let places = self.by_source[&source].iter().map(|number| self.by_number[number]);
+                let places = self.by_source[&Source(source)].iter().map(|number| self.by_number[number]);
                 places.filter(|it| flush == Flush::Global || self.states[*it].rule == rule).collect()
             }
         };
