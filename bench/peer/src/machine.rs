@@ -148,23 +148,25 @@ impl<'a> Machine<'a> {
     fn purge(&mut self, now: u32) -> bool {
         let share = self.share(self.config.states);
         let (held, mut expired) = (self.states.len() as u64, Vec::new());
-        let examined = slice(&mut self.state_round, &self.by_number, share);
-        for place in self.by_number.range(examined).map(|(_, place)| *place) {
+        let mut round = std::mem::take(&mut self.state_round);
+        slice(&mut round, &self.by_number, share, |place| {
             let state = &self.states[place];
             if u64::from(state.last) + self.lifetime(state, held, self.of_rule[state.rule].into()) <= now.into() {
                 expired.push(place);
             }
-        }
+        });
+        self.state_round = round;
         for place in &expired {
             self.remove(*place, now);
         }
         let share = self.share(self.config.src_nodes);
-        let examined = slice(&mut self.node_round, &self.by_node_number, share);
-        let idle = |place: &usize| {
-            let node = &self.nodes[*place];
-            node.states == 0 && u64::from(node.idle) + u64::from(self.config.retention(node.scope)) <= now.into()
-        };
-        let leaving: Vec<usize> = self.by_node_number.range(examined).map(|(_, place)| *place).filter(idle).collect();
+        let mut leaving = Vec::new();
+        slice(&mut self.node_round, &self.by_node_number, share, |place| {
+            let node = &self.nodes[place];
+            if node.states == 0 && u64::from(node.idle) + u64::from(self.config.retention(node.scope)) <= now.into() {
+                leaving.push(place);
+            }
+        });
         for place in &leaving {
             let node = self.nodes.remove(*place);
             self.by_node_number.remove(&node.number);
@@ -356,19 +358,17 @@ impl<'a> Machine<'a> {
     }
 }
 
-/// The numbers that the next slice of a round examines; the round goes on behind them.
-fn slice(round: &mut Round, held: &BTreeMap<u64, usize>, share: usize) -> std::ops::Range<u64> {
+/// Examines the next slice of a round; the round goes on behind it.
+fn slice(round: &mut Round, held: &BTreeMap<u64, usize>, share: usize, mut examine: impl FnMut(usize)) {
     if round.left == 0 {
         *round = Round { from: 0, to: held.keys().next_back().copied().unwrap_or(0), left: held.len() };
     }
-    let begin = round.from + 1;
-    if round.left <= share {
-        *round = Round { from: round.to, to: round.to, left: 0 };
-        return begin..begin.max(round.to + 1);
+    let count = round.left.min(share);
+    for (number, place) in held.range(round.from + 1..).take(count) {
+        examine(*place);
+        round.from = *number;
     }
-    let end = held.range(begin..).nth(share - 1).map_or(round.to, |(number, _)| *number);
-    *round = Round { from: end, to: round.to, left: round.left - share };
-    begin..end + 1
+    round.left -= count;
 }
 
 /// Lets a round go on by so many slices, in which nothing leaves.
@@ -382,6 +382,6 @@ fn turn(round: &mut Round, held: &BTreeMap<u64, usize>, share: usize, slices: u6
         (slices - in_this) % per_round
     };
     for _ in 0..more {
-        slice(round, held, share);
+        slice(round, held, share, |_| {});
     }
 }
