@@ -95,8 +95,13 @@ def added_tables(records: int) -> Scenario:
     return asking("two tables of 100,000 addresses, added by records, asked by each packet", rules, records, added)
 
 
+def loading(items: int) -> Scenario:
+    """A text of so many rules, and no record: what it takes to load it."""
+    return Scenario(f"{items:,} rules and no record", 0, long_rules(items), lambda: iter(()))
+
+
 def long_rules(items: int) -> str:
-    """So many rules of about 100 bytes: what is loaded."""
+    """So many rules of about 100 bytes."""
     lines: List[str] = []
     for n in range(items):
         lines.append(

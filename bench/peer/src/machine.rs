@@ -1,6 +1,6 @@
 //! What is held: states, source nodes and tables, and what each event does with them.
 use crate::book::Book;
-use crate::packet::{Key, Packet};
+use crate::packet::{Key, Packet, Source};
 use crate::phase::Phase;
 use crate::rules::{Action, Config, Flush, Prefix, Scope, ADAPTIVE_END, ADAPTIVE_START, INTERVAL};
 use crate::tables::Tables;
@@ -54,9 +54,9 @@ pub struct Machine<'a> {
     states: Slab<State>,
     by_key: HashMap<Key, usize>,
     by_number: BTreeMap<u64, usize>,
-    by_source: HashMap<IpAddr, BTreeSet<u64>>,
+    by_source: HashMap<Source, BTreeSet<u64>>,
     nodes: Slab<Node>,
-    by_place: HashMap<(Scope, IpAddr), usize>,
+    by_place: HashMap<(Scope, Source), usize>,
     by_node_number: BTreeMap<u64, usize>,
     of_rule: Vec<u32>,
     of_scope: HashMap<Scope, u32>,
@@ -148,27 +148,29 @@ impl<'a> Machine<'a> {
     fn purge(&mut self, now: u32) -> bool {
         let share = self.share(self.config.states);
         let (held, mut expired) = (self.states.len() as u64, Vec::new());
-        let examined = slice(&mut self.state_round, &self.by_number, share);
-        for place in self.by_number.range(examined).map(|(_, place)| *place) {
+        let mut round = std::mem::take(&mut self.state_round);
+        slice(&mut round, &self.by_number, share, |place| {
             let state = &self.states[place];
             if u64::from(state.last) + self.lifetime(state, held, self.of_rule[state.rule].into()) <= now.into() {
                 expired.push(place);
             }
-        }
+        });
+        self.state_round = round;
         for place in &expired {
             self.remove(*place, now);
         }
         let share = self.share(self.config.src_nodes);
-        let examined = slice(&mut self.node_round, &self.by_node_number, share);
-        let idle = |place: &usize| {
-            let node = &self.nodes[*place];
-            node.states == 0 && u64::from(node.idle) + u64::from(self.config.retention(node.scope)) <= now.into()
-        };
-        let leaving: Vec<usize> = self.by_node_number.range(examined).map(|(_, place)| *place).filter(idle).collect();
+        let mut leaving = Vec::new();
+        slice(&mut self.node_round, &self.by_node_number, share, |place| {
+            let node = &self.nodes[place];
+            if node.states == 0 && u64::from(node.idle) + u64::from(self.config.retention(node.scope)) <= now.into() {
+                leaving.push(place);
+            }
+        });
         for place in &leaving {
             let node = self.nodes.remove(*place);
             self.by_node_number.remove(&node.number);
-            self.by_place.remove(&(node.scope, node.source));
+            self.by_place.remove(&(node.scope, Source(node.source)));
             *self.of_scope.entry(node.scope).or_default() -= 1;
             if node.number > self.node_round.from && node.number <= self.node_round.to {
                 self.node_round.left -= 1;
@@ -198,10 +200,11 @@ impl<'a> Machine<'a> {
         let state = self.states.remove(place);
         self.by_key.remove(&state.key);
         self.by_number.remove(&state.number);
-        if let Some(numbers) = self.by_source.get_mut(&state.source) {
+        let source = Source(state.source);
+        if let Some(numbers) = self.by_source.get_mut(&source) {
             numbers.remove(&state.number);
             if numbers.is_empty() {
-                self.by_source.remove(&state.source);
+                self.by_source.remove(&source);
             }
         }
         if state.number > self.state_round.from && state.number <= self.state_round.to {
@@ -225,7 +228,7 @@ impl<'a> Machine<'a> {
         if let Some(place) = self.by_key.get(&key) {
             return self.touch(*place, packet);
         }
-        match self.book.decide(self.config, packet, &self.tables) {
+        match self.book.decide(packet, &self.tables) {
             None => Outcome::Pass(None),
             Some(rule) => match &self.config.items[rule].action {
                 Action::Block => Outcome::Block(rule),
@@ -237,7 +240,7 @@ impl<'a> Machine<'a> {
 
     fn admit(&mut self, rule: usize, key: Key, packet: &Packet) -> Outcome {
         let options = self.config.options(rule);
-        let node = options.scope.and_then(|scope| self.by_place.get(&(scope, packet.src)).copied());
+        let node = options.scope.and_then(|scope| self.by_place.get(&(scope, Source(packet.src))).copied());
         if let Some(limit) = self.limit_met(rule, node) {
             return Outcome::Drop(rule, limit);
         }
@@ -259,7 +262,7 @@ impl<'a> Machine<'a> {
         let place = self.states.insert(state);
         self.by_key.insert(key, place);
         self.by_number.insert(self.made, place);
-        self.by_source.entry(packet.src).or_default().insert(self.made);
+        self.by_source.entry(Source(packet.src)).or_default().insert(self.made);
         self.of_rule[rule] += 1;
         Outcome::New(rule)
     }
@@ -267,7 +270,7 @@ impl<'a> Machine<'a> {
     fn make_node(&mut self, scope: Scope, source: IpAddr) -> usize {
         let node = Node { number: self.made, scope, source, states: 0, connections: 0, score: 0, scored: 0, idle: 0 };
         let place = self.nodes.insert(node);
-        self.by_place.insert((scope, source), place);
+        self.by_place.insert((scope, Source(source)), place);
         self.by_node_number.insert(self.made, place);
         *self.of_scope.entry(scope).or_default() += 1;
         place
@@ -326,7 +329,7 @@ impl<'a> Machine<'a> {
         let leaving: Vec<usize> = match flush {
             Flush::No => vec![place],
             _ => {
-                let places = self.by_source[&source].iter().map(|number| self.by_number[number]);
+                let places = self.by_source[&Source(source)].iter().map(|number| self.by_number[number]);
                 places.filter(|it| flush == Flush::Global || self.states[*it].rule == rule).collect()
             }
         };
@@ -355,19 +358,17 @@ impl<'a> Machine<'a> {
     }
 }
 
-/// The numbers that the next slice of a round examines; the round goes on behind them.
-fn slice(round: &mut Round, held: &BTreeMap<u64, usize>, share: usize) -> std::ops::Range<u64> {
+/// Examines the next slice of a round; the round goes on behind it.
+fn slice(round: &mut Round, held: &BTreeMap<u64, usize>, share: usize, mut examine: impl FnMut(usize)) {
     if round.left == 0 {
         *round = Round { from: 0, to: held.keys().next_back().copied().unwrap_or(0), left: held.len() };
     }
-    let begin = round.from + 1;
-    if round.left <= share {
-        *round = Round { from: round.to, to: round.to, left: 0 };
-        return begin..begin.max(round.to + 1);
+    let count = round.left.min(share);
+    for (number, place) in held.range(round.from + 1..).take(count) {
+        examine(*place);
+        round.from = *number;
     }
-    let end = held.range(begin..).nth(share - 1).map_or(round.to, |(number, _)| *number);
-    *round = Round { from: end, to: round.to, left: round.left - share };
-    begin..end + 1
+    round.left -= count;
 }
 
 /// Lets a round go on by so many slices, in which nothing leaves.
@@ -381,6 +382,6 @@ fn turn(round: &mut Round, held: &BTreeMap<u64, usize>, share: usize, slices: u6
         (slices - in_this) % per_round
     };
     for _ in 0..more {
-        slice(round, held, share);
+        slice(round, held, share, |_| {});
     }
 }

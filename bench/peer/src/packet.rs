@@ -2,6 +2,7 @@
 use crate::addresses::{address, flags, is_name, number, prefix, protocol};
 use crate::rules::Prefix;
 use csv::ByteRecord;
+use std::hash::{Hash, Hasher};
 use std::net::IpAddr;
 
 pub const TCP: u8 = 6;
@@ -40,10 +41,38 @@ pub enum Fault {
     Field(usize),
 }
 
-#[derive(Clone, Copy, PartialEq, Eq, Hash)]
+/// An address as a key of a map. It is hashed in one piece; a derive would hash it in three.
+#[derive(Clone, Copy, PartialEq, Eq)]
+pub struct Source(pub IpAddr);
+
+impl Hash for Source {
+    fn hash<H: Hasher>(&self, state: &mut H) {
+        match self.0 {
+            IpAddr::V4(it) => state.write_u32(it.into()),
+            IpAddr::V6(it) => state.write_u128(it.into()),
+        }
+    }
+}
+
+#[derive(Clone, Copy, PartialEq, Eq)]
 pub struct Key {
     proto: u8,
     ends: [(IpAddr, u16); 2],
+}
+
+impl Hash for Key {
+    /// Both addresses, and then the rest, in whole words.
+    fn hash<H: Hasher>(&self, state: &mut H) {
+        let [(first, first_port), (second, second_port)] = self.ends;
+        match (first, second) {
+            (IpAddr::V4(first), IpAddr::V4(second)) => state.write_u64(u64::from(u32::from(first)) << 32 | u64::from(u32::from(second))),
+            _ => {
+                Source(first).hash(state);
+                Source(second).hash(state);
+            }
+        }
+        state.write_u64(u64::from(first_port) << 32 | u64::from(second_port) << 16 | u64::from(self.proto));
+    }
 }
 
 impl Packet<'_> {
@@ -53,16 +82,12 @@ impl Packet<'_> {
     }
 }
 
-fn text<'a>(record: &'a ByteRecord, column: usize) -> &'a str {
-    std::str::from_utf8(&record[column - 1]).unwrap_or("\u{0}")
-}
-
 /// The field of a column, read; or its fault.
-fn field<'a, T>(record: &'a ByteRecord, column: usize, read: impl FnOnce(&'a str) -> Option<T>) -> Result<T, Fault> {
-    read(text(record, column)).ok_or(Fault::Field(column))
+fn field<'a, T>(record: &'a ByteRecord, column: usize, read: impl FnOnce(&'a [u8]) -> Option<T>) -> Result<T, Fault> {
+    read(&record[column - 1]).ok_or(Fault::Field(column))
 }
 
-fn nothing(text: &str) -> Option<()> {
+fn nothing(text: &[u8]) -> Option<()> {
     text.is_empty().then_some(())
 }
 
@@ -71,16 +96,16 @@ fn empty(record: &ByteRecord, columns: impl IntoIterator<Item = usize>) -> Resul
     columns.into_iter().try_for_each(|it| field(record, it, nothing))
 }
 
-fn table_name(text: &str) -> Option<&str> {
-    is_name(text, 31).then_some(text)
+fn table_name(text: &[u8]) -> Option<&str> {
+    std::str::from_utf8(text).ok().filter(|_| is_name(text, 31))
 }
 
-fn entry(text: &str) -> Option<(Prefix, bool)> {
-    let (negated, text) = text.strip_prefix('!').map_or((false, text), |rest| (true, rest));
+fn entry(text: &[u8]) -> Option<(Prefix, bool)> {
+    let (negated, text) = text.strip_prefix(b"!").map_or((false, text), |rest| (true, rest));
     Some((prefix(text)?, negated))
 }
 
-fn seconds(text: &str) -> Option<u32> {
+fn seconds(text: &[u8]) -> Option<u32> {
     number(text, u32::MAX.into()).map(|it| it as u32)
 }
 
@@ -107,11 +132,10 @@ fn arrival(record: &ByteRecord) -> Result<Event<'_>, Fault> {
         b"out" => false,
         _ => return Err(Fault::Field(2)),
     };
-    let interface =
-        field(record, 3, |it| (is_name(it, 15) && it != "any" && it != "rdomain").then_some(it.as_bytes()))?;
+    let interface = field(record, 3, |it| (is_name(it, 15) && it != b"any" && it != b"rdomain").then_some(it))?;
     let proto = field(record, 4, protocol)?;
     let has_ports = proto == TCP || proto == UDP;
-    let port = |it: &str| if has_ports { number(it, 65_535).map(|it| it as u16) } else { nothing(it).map(|()| 0) };
+    let port = |it: &[u8]| if has_ports { number(it, 65_535).map(|it| it as u16) } else { nothing(it).map(|()| 0) };
     let src = field(record, 5, address)?;
     let sport = field(record, 6, port)?;
     let dst = field(record, 7, |it| address(it).filter(|it| it.is_ipv4() == src.is_ipv4()))?;

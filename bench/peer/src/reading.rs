@@ -8,7 +8,8 @@ use crate::rules::{
     INTERVAL, NAMES, SRC_TRACK,
 };
 use crate::words::{split, Piece, Token};
-use std::collections::HashMap;
+use std::borrow::Cow;
+use std::collections::{HashMap, HashSet};
 
 const MOST_BYTES: usize = 1_048_576;
 const MOST_ITEMS: usize = 10_000;
@@ -69,22 +70,24 @@ enum Wanted {
 }
 
 #[derive(Default)]
-struct Clauses {
+struct Clauses<'a> {
     options: Options,
     track: Option<Option<bool>>,
     is_keep: Option<bool>,
     flags: Option<Option<(u8, u8)>>,
-    without_effect: Vec<String>,
+    without_effect: Vec<&'a str>,
 }
 
-struct Reader {
-    pieces: Vec<Piece>,
+struct Reader<'a> {
+    pieces: Vec<Piece<'a>>,
     at: usize,
     config: Config,
     adaptive: [Option<u32>; 2],
-    by_name: HashMap<String, usize>,
+    by_name: HashMap<&'a str, usize>,
+    interfaces: HashMap<&'a str, usize>,
     open: Vec<usize>,
-    anchors: Vec<Vec<String>>,
+    /// The names of the anchors so far in each body that is open.
+    anchors: Vec<HashSet<&'a str>>,
     overloads: Vec<(usize, u64)>,
 }
 
@@ -99,7 +102,7 @@ fn port(text: &str) -> Option<u16> {
         "domain" => Some(53),
         "www" | "http" => Some(80),
         "https" => Some(443),
-        _ => number(text, 65_535).map(|it| it as u16),
+        _ => number(text.as_bytes(), 65_535).map(|it| it as u16),
     }
 }
 
@@ -123,16 +126,22 @@ fn repeats(word: &str, filter: &Filter, quick: bool) -> bool {
     }
 }
 
-impl Reader {
-    fn token(&self) -> &Token {
-        &self.pieces[self.at].token
+/// The place of a timeout's name.
+fn timeout_place(name: &str) -> Option<usize> {
+    let is_likely = name.contains('.') || name == NAMES[INTERVAL];
+    is_likely.then(|| NAMES.iter().position(|it| *it == name)).flatten()
+}
+
+impl<'a> Reader<'a> {
+    fn token(&self) -> Token<'a> {
+        self.pieces[self.at].token
     }
 
     fn line(&self) -> u64 {
         self.pieces[self.at].line
     }
 
-    fn word(&self) -> &str {
+    fn word(&self) -> &'a str {
         match self.token() {
             Token::Word(word) => word,
             _ => "",
@@ -140,7 +149,7 @@ impl Reader {
     }
 
     fn is_mark(&self, mark: u8) -> bool {
-        *self.token() == Token::Mark(mark)
+        self.token() == Token::Mark(mark)
     }
 
     fn take_mark(&mut self, mark: u8) -> bool {
@@ -156,7 +165,7 @@ impl Reader {
     }
 
     fn skip_lines(&mut self) {
-        while *self.token() == Token::LineEnd {
+        while self.token() == Token::LineEnd {
             self.at += 1;
         }
     }
@@ -203,7 +212,7 @@ impl Reader {
     }
 
     fn number(&mut self, least: u64, most: u64) -> Read<u32> {
-        match number(self.word(), most).filter(|it| *it >= least) {
+        match number(self.word().as_bytes(), most).filter(|it| *it >= least) {
             Some(found) => {
                 self.at += 1;
                 Ok(found as u32)
@@ -214,16 +223,16 @@ impl Reader {
 
     fn table_name(&mut self) -> Read<usize> {
         self.expect_mark(b'<')?;
-        let name = self.word().to_owned();
-        if !is_name(&name, 31) {
+        let name = self.word();
+        if !is_name(name.as_bytes(), 31) {
             return self.stop(Wanted::Other);
         }
         self.at += 1;
-        let number = self.by_name.get(&name).copied().unwrap_or(self.config.tables.len());
-        if number == self.config.tables.len() {
-            self.by_name.insert(name.clone(), number);
-            self.config.tables.push(Table { name, ..Table::default() });
-        }
+        let tables = &mut self.config.tables;
+        let number = *self.by_name.entry(name).or_insert_with(|| {
+            tables.push(Table { name: name.to_owned(), ..Table::default() });
+            tables.len() - 1
+        });
         self.expect_mark(b'>')?;
         Ok(number)
     }
@@ -254,9 +263,9 @@ impl Reader {
     }
 
     fn setting(&mut self, is_limit: bool, is_inside: bool) -> Read<()> {
-        let name = self.word().to_owned();
-        let place = NAMES.iter().position(|it| *it == name);
-        let is_known = match name.as_str() {
+        let name = self.word();
+        let place = timeout_place(name);
+        let is_known = match name {
             "states" | "src-nodes" | "tables" | "table-entries" | "frags" => is_limit,
             "frag" | "tcp.tsdiff" | "icmp.first" | "icmp.error" => !is_limit,
             _ => !is_limit && place.is_some(),
@@ -271,7 +280,7 @@ impl Reader {
         let is_adaptive = place.map_or(false, |it| it >= ADAPTIVE_START);
         let least = u64::from(is_limit || name == "interval");
         let value = self.number(least, if is_limit || is_adaptive { MOST } else { MOST_SECONDS })?;
-        match (name.as_str(), place) {
+        match (name, place) {
             ("states", _) => self.config.states = value.into(),
             ("src-nodes", _) => self.config.src_nodes = value.into(),
             ("tables", _) => self.config.tables_limit = value.into(),
@@ -291,13 +300,13 @@ impl Reader {
             return self.fault("Duplicate");
         }
         self.config.tables[number].is_defined = true;
-        let mut parts: Vec<String> = Vec::new();
-        while *self.token() != Token::LineEnd {
-            let part = if self.is_mark(b'{') { "{".to_owned() } else { self.word().to_owned() };
+        let mut parts: Vec<&str> = Vec::new();
+        while self.token() != Token::LineEnd {
+            let part = if self.is_mark(b'{') { "{" } else { self.word() };
             if parts.contains(&part) {
                 return self.fault("Duplicate");
             }
-            match part.as_str() {
+            match part {
                 "const" => self.config.tables[number].is_const = true,
                 "persist" | "counters" | "{" => {}
                 _ => return self.stop(Wanted::Other),
@@ -321,7 +330,7 @@ impl Reader {
             }
             let begin = self.at;
             let negated = self.take_mark(b'!');
-            let Some(prefix) = prefix(self.word()) else { return self.stop(Wanted::Host) };
+            let Some(prefix) = prefix(self.word().as_bytes()) else { return self.stop(Wanted::Host) };
             match signs.insert(prefix, negated) {
                 Some(sign) if sign != negated => {
                     self.at = begin;
@@ -338,14 +347,25 @@ impl Reader {
 
     // ---- rules and anchors
 
-    fn interface(&mut self) -> Read<(Vec<u8>, bool)> {
-        let negated = self.take_mark(b'!');
-        let name = self.word().to_owned();
-        if !is_name(&name, 15) || name == "any" || name == "rdomain" {
+    fn interface_name(&mut self) -> Read<&'a str> {
+        let name = self.word();
+        if !is_name(name.as_bytes(), 15) || name == "any" || name == "rdomain" {
             return self.stop(Wanted::Other);
         }
         self.at += 1;
-        Ok((name.into_bytes(), negated))
+        Ok(name)
+    }
+
+    /// An interface by its number, and whether it is negated.
+    fn interface(&mut self) -> Read<(usize, bool)> {
+        let negated = self.take_mark(b'!');
+        let name = self.interface_name()?;
+        let names = &mut self.config.interfaces;
+        let number = *self.interfaces.entry(name).or_insert_with(|| {
+            names.push(name.to_owned());
+            names.len() - 1
+        });
+        Ok((number, negated))
     }
 
     fn log(&mut self) -> Read<bool> {
@@ -363,7 +383,7 @@ impl Reader {
                     "all" | "matches" | "user" => self.at += 1,
                     "to" => {
                         self.at += 1;
-                        self.interface()?;
+                        self.interface_name()?;
                     }
                     _ => return self.stop(Wanted::Other),
                 }
@@ -379,7 +399,7 @@ impl Reader {
             side.host = if self.is_mark(b'<') {
                 Host::Table { number: self.table_name()?, negated }
             } else {
-                let Some(prefix) = prefix(self.word()) else { return self.stop(Wanted::Host) };
+                let Some(prefix) = prefix(self.word().as_bytes()) else { return self.stop(Wanted::Host) };
                 self.at += 1;
                 Host::Net { prefix, negated }
             };
@@ -403,7 +423,7 @@ impl Reader {
         let is_wide = if self.take("inet6") { Some(true) } else { self.take("inet").then_some(false) };
         let mut proto = None;
         if self.take("proto") {
-            proto = protocol(self.word());
+            proto = protocol(self.word().as_bytes());
             if proto.is_none() {
                 return self.stop(Wanted::Service);
             }
@@ -425,7 +445,7 @@ impl Reader {
         if self.take("any") {
             return Ok(None);
         }
-        let found = self.word().split_once('/').and_then(|(set, among)| Some((flags(set)?, flags(among)?)));
+        let found = self.word().split_once('/').and_then(|(set, among)| Some((flags(set.as_bytes())?, flags(among.as_bytes())?)));
         match found {
             Some(found) => {
                 self.at += 1;
@@ -436,7 +456,7 @@ impl Reader {
     }
 
     /// The clauses behind the hosts: flags and state, in any order.
-    fn clauses(&mut self) -> Read<Clauses> {
+    fn clauses(&mut self) -> Read<Clauses<'a>> {
         let mut found = Clauses::default();
         loop {
             match self.word() {
@@ -462,7 +482,7 @@ impl Reader {
         }
     }
 
-    fn options(&mut self, found: &mut Clauses) -> Read<()> {
+    fn options(&mut self, found: &mut Clauses<'a>) -> Read<()> {
         let mut is_first = true;
         while is_first || !self.take_mark(b')') {
             if !is_first {
@@ -474,11 +494,11 @@ impl Reader {
         Ok(())
     }
 
-    fn option(&mut self, found: &mut Clauses) -> Read<()> {
-        let name = self.word().to_owned();
-        let place = NAMES.iter().position(|it| *it == name).filter(|it| *it != INTERVAL);
+    fn option(&mut self, found: &mut Clauses<'a>) -> Read<()> {
+        let name = self.word();
+        let place = timeout_place(name).filter(|it| *it != INTERVAL);
         let options = &mut found.options;
-        let is_again = match (name.as_str(), place) {
+        let is_again = match (name, place) {
             ("max", _) => options.max.is_some(),
             ("source-track", _) => found.track.is_some(),
             ("max-src-nodes", _) => options.max_src_nodes.is_some(),
@@ -494,7 +514,7 @@ impl Reader {
             return self.fault("Duplicate");
         }
         self.at += 1;
-        match (name.as_str(), place) {
+        match (name, place) {
             ("max", _) => options.max = Some(self.number(1, MOST)?),
             ("source-track", _) => {
                 found.track = Some(if self.take("rule") { Some(true) } else { self.take("global").then_some(false) })
@@ -526,7 +546,7 @@ impl Reader {
         let found = self
             .word()
             .split_once('/')
-            .and_then(|(count, seconds)| Some((number(count, 4_294_967)?, number(seconds, MOST_SECONDS)?)));
+            .and_then(|(count, seconds)| Some((number(count.as_bytes(), 4_294_967)?, number(seconds.as_bytes(), MOST_SECONDS)?)));
         match found {
             Some((count, seconds)) if count > 0 && seconds > 0 => {
                 self.at += 1;
@@ -596,30 +616,29 @@ impl Reader {
 
     fn anchor(&mut self, line: u64) -> Read<()> {
         let name = match self.token() {
-            Token::Quoted(name) => Some(name.clone()),
+            Token::Quoted(name) => Some(name),
             Token::Word(word)
                 if !["in", "out", "quick", "on", "inet", "inet6", "proto", "from", "to", "all", "flags"]
-                    .contains(&word.as_str()) =>
+                    .contains(&word) =>
             {
-                Some(word.clone())
+                Some(word)
             }
             _ => None,
         };
-        if let Some(name) = &name {
-            if !is_name(name, 63) {
-                return self.fault(if name.contains('/') || name.contains('*') { "Unsupported" } else { "Syntax" });
+        if let Some(name) = name {
+            if !is_name(name.as_bytes(), 63) {
+                return self.fault(if name.contains(['/', '*']) { "Unsupported" } else { "Syntax" });
             }
-            if self.anchors[self.open.len()].contains(name) {
+            if !self.anchors[self.open.len()].insert(name) {
                 return self.fault("Duplicate");
             }
-            self.anchors[self.open.len()].push(name.clone());
             self.at += 1;
         }
         let (mut filter, quick) = self.filter(true)?;
         if self.take("flags") {
             filter.flags = self.flags()?;
         }
-        if *self.token() == Token::LineEnd {
+        if self.token() == Token::LineEnd {
             return self.fault("Unsupported");
         }
         if repeats(self.word(), &filter, quick) {
@@ -635,10 +654,10 @@ impl Reader {
             return Err(Fault { line, kind });
         }
         self.line_end()?;
-        self.config.items.push(Item { action: Action::Anchor(name), quick, filter, end: place + 1 });
+        self.config.items.push(Item { action: Action::Anchor(name.map(str::to_owned)), quick, filter, end: place + 1 });
         self.open.push(place);
         self.anchors.truncate(self.open.len());
-        self.anchors.push(Vec::new());
+        self.anchors.push(HashSet::new());
         Ok(())
     }
 
@@ -712,19 +731,22 @@ pub fn read(text: &[u8]) -> Read<Config> {
     if text.len() > MOST_BYTES {
         return Err(Fault { line: 0, kind: "TooLong" });
     }
+    // what is not UTF-8 is accepted in comments alone, and so is what stands for it then
+    let text = std::str::from_utf8(text).map_or_else(|_| String::from_utf8_lossy(text), Cow::Borrowed);
     let mut reader = Reader {
-        pieces: split(text),
+        pieces: split(&text),
         at: 0,
         config: Config::new(),
         adaptive: [None; 2],
         by_name: HashMap::new(),
+        interfaces: HashMap::new(),
         open: Vec::new(),
-        anchors: vec![Vec::new()],
+        anchors: vec![HashSet::new()],
         overloads: Vec::new(),
     };
     loop {
         reader.skip_lines();
-        if *reader.token() == Token::End {
+        if reader.token() == Token::End {
             break;
         }
         reader.statement()?;

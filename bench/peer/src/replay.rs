@@ -71,13 +71,24 @@ impl<R: Read> Read for Flushing<'_, R> {
     }
 }
 
+/// A line of a row: its number, a word and the rule. They are most of a report, so their numbers do not go through `write!`.
+fn write_line(out: &mut impl Write, row: u64, word: &str, rule: Option<usize>) -> io::Result<()> {
+    let mut digits = itoa::Buffer::new();
+    out.write_all(digits.format(row).as_bytes())?;
+    out.write_all(b" ")?;
+    out.write_all(word.as_bytes())?;
+    let Some(rule) = rule else { return out.write_all(b" -\n") };
+    out.write_all(b" @")?;
+    out.write_all(digits.format(rule).as_bytes())?;
+    out.write_all(b"\n")
+}
+
 fn write_outcome(out: &mut impl Write, row: u64, outcome: &Outcome) -> io::Result<()> {
     match outcome {
-        Outcome::State(rule) => writeln!(out, "{row} state @{rule}"),
-        Outcome::New(rule) => writeln!(out, "{row} new @{rule}"),
-        Outcome::Pass(None) => writeln!(out, "{row} pass -"),
-        Outcome::Pass(Some(rule)) => writeln!(out, "{row} pass @{rule}"),
-        Outcome::Block(rule) => writeln!(out, "{row} block @{rule}"),
+        Outcome::State(rule) => write_line(out, row, "state", Some(*rule)),
+        Outcome::New(rule) => write_line(out, row, "new", Some(*rule)),
+        Outcome::Pass(rule) => write_line(out, row, "pass", *rule),
+        Outcome::Block(rule) => write_line(out, row, "block", Some(*rule)),
         Outcome::Drop(rule, limit) => writeln!(out, "{row} drop:{limit} @{rule}"),
         Outcome::Kill { rule, conn, rate, overload, killed } => {
             let word = match (conn, rate) {

@@ -1,4 +1,5 @@
 //! The configuration: what a rules text says.
+use std::hash::{Hash, Hasher};
 use std::net::IpAddr;
 
 pub const NAMES: [&str; 16] = [
@@ -24,30 +25,47 @@ pub const INTERVAL: usize = 13;
 pub const ADAPTIVE_START: usize = 14;
 pub const ADAPTIVE_END: usize = 15;
 
-#[derive(Clone, Copy, PartialEq, Eq, Hash)]
+#[derive(Clone, Copy, PartialEq, Eq)]
 pub struct Prefix {
     pub addr: IpAddr,
     pub bits: u8,
+}
+
+impl Hash for Prefix {
+    /// The address in one piece; a derive would feed it in four.
+    fn hash<H: Hasher>(&self, state: &mut H) {
+        match self.addr {
+            IpAddr::V4(it) => state.write_u64(u64::from(u32::from(it)) << 8 | u64::from(self.bits)),
+            IpAddr::V6(it) => {
+                state.write_u128(it.into());
+                state.write_u8(self.bits);
+            }
+        }
+    }
 }
 
 impl Prefix {
     /// The network of so many bits that an address is in.
     pub fn network(addr: IpAddr, bits: u8) -> Self {
         let addr = match addr {
-            IpAddr::V4(it) => IpAddr::V4((u32::from(it) & u32::MAX.checked_shl(32 - bits as u32).unwrap_or(0)).into()),
-            IpAddr::V6(it) => {
-                IpAddr::V6((u128::from(it) & u128::MAX.checked_shl(128 - bits as u32).unwrap_or(0)).into())
-            }
+            IpAddr::V4(it) => IpAddr::V4((u32::from(it) & Prefix::narrow_mask(bits)).into()),
+            IpAddr::V6(it) => IpAddr::V6((u128::from(it) & Prefix::wide_mask(bits)).into()),
         };
         Prefix { addr, bits }
     }
 
-    pub fn host(addr: IpAddr) -> Self {
-        Prefix { addr, bits: if addr.is_ipv4() { 32 } else { 128 } }
+    /// The first bits of an IPv4 address.
+    pub fn narrow_mask(bits: u8) -> u32 {
+        u32::MAX.checked_shl(32 - u32::from(bits)).unwrap_or(0)
     }
 
-    pub fn contains(&self, addr: IpAddr) -> bool {
-        addr.is_ipv4() == self.addr.is_ipv4() && Prefix::network(addr, self.bits).addr == self.addr
+    /// The first bits of an IPv6 address.
+    pub fn wide_mask(bits: u8) -> u128 {
+        u128::MAX.checked_shl(128 - u32::from(bits)).unwrap_or(0)
+    }
+
+    pub fn host(addr: IpAddr) -> Self {
+        Prefix { addr, bits: if addr.is_ipv4() { 32 } else { 128 } }
     }
 }
 
@@ -76,7 +94,8 @@ pub struct Side {
 #[derive(Clone)]
 pub struct Filter {
     pub is_in: Option<bool>,
-    pub interface: Option<(Vec<u8>, bool)>,
+    /// The interface, by its number among those of the configuration, and whether it is negated.
+    pub interface: Option<(usize, bool)>,
     pub is_wide: Option<bool>,
     pub proto: Option<u8>,
     pub from: Side,
@@ -131,6 +150,8 @@ pub struct Config {
     pub table_entries: u64,
     pub timeouts: [u32; 16],
     pub tables: Vec<Table>,
+    /// The names of the interfaces that rules name.
+    pub interfaces: Vec<String>,
     pub items: Vec<Item>,
 }
 
@@ -143,6 +164,7 @@ impl Config {
             table_entries: 200_000,
             timeouts: [120, 30, 86_400, 900, 45, 90, 60, 30, 60, 60, 30, 60, 0, 10, 0, 0],
             tables: Vec::new(),
+            interfaces: Vec::new(),
             items: Vec::new(),
         }
     }

@@ -52,7 +52,7 @@ fn filter(config: &Config, item: &Item) -> String {
     text += is_in.map_or("", |it| if it { " in" } else { " out" });
     text += if item.quick { " quick" } else { "" };
     if let Some((name, negated)) = interface {
-        text += &format!(" on {}{}", not(*negated), String::from_utf8_lossy(name));
+        text += &format!(" on {}{}", not(*negated), config.interfaces[*name]);
     }
     text += is_wide.map_or("", |it| if it { " inet6" } else { " inet" });
     match proto {

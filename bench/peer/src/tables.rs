@@ -1,7 +1,9 @@
 //! The tables while a trace runs: which entry of an address is the narrowest, and what `overload` and the records of an administrator change.
 use crate::rules::{Config, Prefix};
-use indexmap::IndexMap;
+use std::collections::HashMap;
+use std::hash::Hash;
 use std::net::IpAddr;
+use std::ops::BitAnd;
 
 struct Entry {
     negated: bool,
@@ -9,52 +11,92 @@ struct Entry {
     moment: Option<u32>,
 }
 
+/// The networks of one length, by their addresses as numbers.
+struct Length<T> {
+    bits: u8,
+    mask: T,
+    entries: HashMap<T, Entry>,
+}
+
+/// The networks of a family by length, the longest first. No length is without entries.
+struct Networks<T>(Vec<Length<T>>);
+
+impl<T: Copy + Eq + Hash + BitAnd<Output = T>> Networks<T> {
+    fn place(&self, bits: u8) -> Result<usize, usize> {
+        self.0.binary_search_by(|it| bits.cmp(&it.bits))
+    }
+
+    fn get(&self, addr: T, bits: u8) -> Option<&Entry> {
+        self.0[self.place(bits).ok()?].entries.get(&addr)
+    }
+
+    fn insert(&mut self, addr: T, bits: u8, mask: T, entry: Entry) {
+        let place = self.place(bits).unwrap_or_else(|place| {
+            self.0.insert(place, Length { bits, mask, entries: HashMap::new() });
+            place
+        });
+        self.0[place].entries.insert(addr, entry);
+    }
+
+    fn remove(&mut self, addr: T, bits: u8) {
+        if let Ok(place) = self.place(bits) {
+            self.0[place].entries.remove(&addr);
+        }
+        self.0.retain(|it| !it.entries.is_empty());
+    }
+
+    fn retain(&mut self, stays: impl Fn(&Entry) -> bool) {
+        for length in &mut self.0 {
+            length.entries.retain(|_, entry| stays(entry));
+        }
+        self.0.retain(|it| !it.entries.is_empty());
+    }
+
+    fn matches(&self, addr: T) -> bool {
+        self.0.iter().find_map(|it| it.entries.get(&(addr & it.mask))).map_or(false, |it| !it.negated)
+    }
+
+    fn count(&self) -> usize {
+        self.0.iter().map(|it| it.entries.len()).sum()
+    }
+}
+
 struct Table {
-    entries: IndexMap<Prefix, Entry>,
-    narrow: [u32; 33],
-    wide: [u32; 129],
-    /// The lengths of its prefixes, longest first.
-    narrow_lengths: Vec<u8>,
-    wide_lengths: Vec<u8>,
+    narrow: Networks<u32>,
+    wide: Networks<u128>,
 }
 
 impl Table {
-    fn new() -> Self {
-        Table { entries: IndexMap::new(), narrow: [0; 33], wide: [0; 129], narrow_lengths: Vec::new(), wide_lengths: Vec::new() }
-    }
-
-    fn list_lengths(&mut self) {
-        let lengths = |counts: &[u32]| (0..counts.len()).rev().filter(|it| counts[*it] > 0).map(|it| it as u8).collect();
-        self.narrow_lengths = lengths(&self.narrow);
-        self.wide_lengths = lengths(&self.wide);
-    }
-
-    fn insert(&mut self, prefix: Prefix, negated: bool, moment: Option<u32>) {
-        let counts: &mut [u32] = if prefix.addr.is_ipv4() { &mut self.narrow } else { &mut self.wide };
-        counts[prefix.bits as usize] += 1;
-        let is_new = counts[prefix.bits as usize] == 1;
-        self.entries.insert(prefix, Entry { negated, moment });
-        if is_new {
-            self.list_lengths();
+    fn get(&self, prefix: &Prefix) -> Option<&Entry> {
+        match prefix.addr {
+            IpAddr::V4(addr) => self.narrow.get(addr.into(), prefix.bits),
+            IpAddr::V6(addr) => self.wide.get(addr.into(), prefix.bits),
         }
     }
 
-    fn delete(&mut self, prefix: Prefix, negated: bool) -> usize {
-        if self.entries.get(&prefix).map_or(true, |it| it.negated != negated) {
-            return 0;
+    fn insert(&mut self, prefix: &Prefix, entry: Entry) {
+        match prefix.addr {
+            IpAddr::V4(addr) => self.narrow.insert(addr.into(), prefix.bits, Prefix::narrow_mask(prefix.bits), entry),
+            IpAddr::V6(addr) => self.wide.insert(addr.into(), prefix.bits, Prefix::wide_mask(prefix.bits), entry),
         }
-        self.entries.swap_remove(&prefix);
-        let counts: &mut [u32] = if prefix.addr.is_ipv4() { &mut self.narrow } else { &mut self.wide };
-        counts[prefix.bits as usize] -= 1;
-        if counts[prefix.bits as usize] == 0 {
-            self.list_lengths();
+    }
+
+    fn remove(&mut self, prefix: &Prefix) {
+        match prefix.addr {
+            IpAddr::V4(addr) => self.narrow.remove(addr.into(), prefix.bits),
+            IpAddr::V6(addr) => self.wide.remove(addr.into(), prefix.bits),
         }
-        1
     }
 
     fn matches(&self, addr: IpAddr) -> bool {
-        let lengths = if addr.is_ipv4() { &self.narrow_lengths } else { &self.wide_lengths };
-        lengths.iter().find_map(|bits| self.entries.get(&Prefix::network(addr, *bits))).map_or(false, |it| !it.negated)
+        match addr {
+            IpAddr::V4(addr) => self.narrow.matches(addr.into()),
+            IpAddr::V6(addr) => self.wide.matches(addr.into()),
+        }
+    }
+
+    fn count(&self) -> usize {
+        self.narrow.count() + self.wide.count()
     }
 }
 
@@ -68,13 +110,13 @@ impl Tables {
     pub fn new(config: &Config) -> Self {
         let mut tables: Vec<Table> = Vec::new();
         for listed in &config.tables {
-            let mut table = Table::new();
+            let mut table = Table { narrow: Networks(Vec::new()), wide: Networks(Vec::new()) };
             for (prefix, negated) in &listed.entries {
-                table.insert(*prefix, *negated, None);
+                table.insert(prefix, Entry { negated: *negated, moment: None });
             }
             tables.push(table);
         }
-        let count = tables.iter().map(|it| it.entries.len() as u64).sum();
+        let count = tables.iter().map(|it| it.count() as u64).sum();
         Tables { tables, limit: config.table_entries, count }
     }
 
@@ -92,12 +134,12 @@ impl Tables {
 
     /// Adds an entry. What a report says of it.
     pub fn add(&mut self, table: usize, prefix: Prefix, negated: bool, now: u32) -> &'static str {
-        match self.tables[table].entries.get(&prefix) {
+        match self.tables[table].get(&prefix) {
             Some(held) if held.negated == negated => "held",
             Some(_) => "conflict",
             None if self.count >= self.limit => "full",
             None => {
-                self.tables[table].insert(prefix, negated, Some(now));
+                self.tables[table].insert(&prefix, Entry { negated, moment: Some(now) });
                 self.count += 1;
                 "added"
             }
@@ -106,26 +148,23 @@ impl Tables {
 
     /// Takes out this very entry, and answers how many left.
     pub fn delete(&mut self, table: usize, prefix: Prefix, negated: bool) -> usize {
-        let left = self.tables[table].delete(prefix, negated);
-        self.count -= left as u64;
-        left
+        let table = &mut self.tables[table];
+        if table.get(&prefix).map_or(true, |it| it.negated != negated) {
+            return 0;
+        }
+        table.remove(&prefix);
+        self.count -= 1;
+        1
     }
 
     /// Takes out the entries of an age, and answers how many.
     pub fn expire(&mut self, table: usize, first: u32, now: u32, age: u32) -> usize {
         let table = &mut self.tables[table];
-        let before = table.entries.len();
-        let (narrow, wide) = (&mut table.narrow, &mut table.wide);
-        table.entries.retain(|prefix, entry| {
-            let stays = u64::from(entry.moment.unwrap_or(first)) + u64::from(age) > u64::from(now);
-            if !stays {
-                let counts: &mut [u32] = if prefix.addr.is_ipv4() { narrow } else { wide };
-                counts[prefix.bits as usize] -= 1;
-            }
-            stays
-        });
-        let left = before - table.entries.len();
-        table.list_lengths();
+        let before = table.count();
+        let stays = |entry: &Entry| u64::from(entry.moment.unwrap_or(first)) + u64::from(age) > u64::from(now);
+        table.narrow.retain(stays);
+        table.wide.retain(stays);
+        let left = before - table.count();
         self.count -= left as u64;
         left
     }

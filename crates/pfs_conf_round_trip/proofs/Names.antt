@@ -1,12 +1,12 @@
 -- Names as words: which bytes and which key they have.
-use Rattle.std.proofs.Common.{◌≡◌, ℕ, Bool, true, false, List, [], ◌∷◌, Option, Some, None, refl, sym, ap, ◌∙◌, arith}
+use Rattle.std.proofs.Common.{◌≡◌, ℕ, Bool, true, false, List, [], ◌∷◌, Some, None, refl, sym, ap, ◌∙◌, arith}
 use Rattle.std.specs.Prelude.{codes, ◌&&◌, ◌||◌, ◌==◌, not, nat_le, length, if◌then◌else◌, unwrap_or}
 use Rattle.std.specs.List.{list_all}
 use Rattle.std.specs.Map.{lookup}
 use Rattle.std.specs.Str.{bytes_eq}
 use Rattle.std.proofs.lemmas.Bool.{cond-true, and_parts, and_from}
 use Rattle.std.proofs.lemmas.Bool.Decides.{nat_tests}
-use Rattle.std.proofs.lemmas.List.Folds.{list_all-append}
+use Rattle.std.proofs.lemmas.Slice.Eq.{bytes_eq-Decides}
 use Rattle.pfs_conf_tokens.specs.declared.keys.Key.{Key}
 use Rattle.pfs_conf_tokens.specs.declared.keys.Key.TheVariants as key
 use Rattle.pfs_conf_tokens.specs.declared.lexer.Run.TheVariants as run
@@ -99,22 +99,26 @@ key_of_word w =
     let g = is_word_key in
     key_passes g w refl refl (all_pass g w statement_words refl) (all_pass g w option_words refl) (all_pass g w named_words refl) (all_pass g w foreign_words refl)
 
--- the words of a table after its first
-abbrev tail_of : List (List ℕ × Key) → List (List ℕ × Key)
-tail_of [] = []
-tail_of (entry ∷ entries) = entries
-
--- a test that a word passes which is not this one
-other_word : (x : Bool) → x ≡ false → (not x || false) ≡ true
-other_word x h = ap (λ (b : Bool). not b || false) h
+-- the entries of a table pass with a word that is not excepted, if all others pass with any word
+all_but : (g : Key → Bool) (w : List ℕ) (excepted : List ℕ → Bool) (entries : List (List ℕ × Key)) → excepted w ≡ false
+    → list_all (λ (entry : List ℕ × Key). excepted entry.0 || g entry.1) entries ≡ true → list_all (passes g w) entries ≡ true
+all_but g w excepted [] e h = refl
+all_but g w excepted (entry ∷ entries) e h =
+    let p = and_parts (excepted entry.0 || g entry.1) (list_all (λ (x : List ℕ × Key). excepted x.0 || g x.1) entries) h in
+    and_from (passes g w entry) (list_all (passes g w) entries) (one (bytes_eq w entry.0) refl p.0) (all_but g w excepted entries e p.1)
+  where
+    one : (b : Bool) → bytes_eq w entry.0 ≡ b → (excepted entry.0 || g entry.1) ≡ true → (not b || g entry.1) ≡ true
+    one false q r = refl
+    one true q r =
+        let other : excepted entry.0 ≡ false = sym (ap excepted ((bytes_eq-Decides w entry.0).0 q)) ∙ e in
+        sym (ap (λ (b : Bool). b || g entry.1) other) ∙ r
 
 -- a word that is neither `any` nor `rdomain` may name an interface
 pub may_name : (w : List ℕ) → bytes_eq w (codes "any") ≡ false → bytes_eq w (codes "rdomain") ≡ false → may_name_interface (key_of_text w) ≡ true
 may_name w any rdomain =
     let g = may_name_interface in
     key_passes g w refl refl
-    (and_from (passes g w (codes "any", key.Any)) _ (other_word (bytes_eq w (codes "any")) any)
-    (and_from (passes g w (codes "rdomain", key.Rdomain)) _ (other_word (bytes_eq w (codes "rdomain")) rdomain) (all_pass g w (tail_of (tail_of statement_words)) refl)))
+    (all_but g w (λ (v : List ℕ). bytes_eq v (codes "any") || bytes_eq v (codes "rdomain")) statement_words (ap (λ (b : Bool). b || bytes_eq w (codes "rdomain")) any ∙ rdomain) refl)
     (all_pass g w option_words refl) (all_pass g w named_words refl) (all_pass g w foreign_words refl)
 
 -- whether a key is not that of `any`
@@ -127,5 +131,5 @@ pub not_any : (w : List ℕ) → bytes_eq w (codes "any") ≡ false → is_other
 not_any w any =
     let g = is_other in
     key_passes g w refl refl
-    (and_from (passes g w (codes "any", key.Any)) _ (other_word (bytes_eq w (codes "any")) any) (all_pass g w (tail_of statement_words) refl))
+    (all_but g w (λ (v : List ℕ). bytes_eq v (codes "any")) statement_words any refl)
     (all_pass g w option_words refl) (all_pass g w named_words refl) (all_pass g w foreign_words refl)

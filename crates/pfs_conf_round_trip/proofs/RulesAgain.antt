@@ -5,7 +5,6 @@ use Rattle.std.specs.Prelude.{◌||◌, ◌&&◌, not, nat_le, if◌then◌else�
 use Rattle.std.specs.Option.{option_map}
 use Rattle.std.proofs.lemmas.Bool.{and_parts, lt-leb}
 use Rattle.pfs_conf_tokens.specs.declared.refusals.LoadRule.TheVariants as load_rule
-use Rattle.pfs_addr_values.specs.declared.protocols.Proto.{Proto}
 use Rattle.pfs_conf_settings.specs.Drafts.{Drafted, number_of_table, with_name}
 use Rattle.pfs_conf_values.specs.LoadRules.{AreOptions, IsAction, IsAnchor, IsFilter, IsHost, IsRule, IsSide, IsTableNo, limits_connections, limits_sources}
 use Rattle.pfs_conf_values.specs.Bounds.{asks_ports, is_global}

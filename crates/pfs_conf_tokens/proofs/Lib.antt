@@ -6,3 +6,4 @@ pub mod ReaderLaws
 pub mod ValueLaws
 pub mod ShownLaws
 pub mod WordKeys
+pub mod WordLaws

@@ -1,6 +1,7 @@
 pub mod Keys
 pub mod Tokens
 pub mod Words
+pub mod WordLengths
 pub mod Lexis
 pub mod Scanning
 pub mod Numbers

@@ -8,17 +8,18 @@ use Rattle.pfs_conf_tokens.specs.declared.keys.Key.TheVariants as key
 -- words of statements, tables and filters
 abbrev pub statement_words : List (List ℕ × Key)
 statement_words =
-    (codes "any", key.Any) ∷ (codes "rdomain", key.Rdomain) ∷ (codes "set", key.Set) ∷ (codes "limit", key.Limit)
+    (codes "pass", key.Pass) ∷ (codes "block", key.Block) ∷ (codes "in", key.In) ∷ (codes "out", key.Out)
+    ∷ (codes "quick", key.Quick) ∷ (codes "on", key.On) ∷ (codes "inet", key.Inet) ∷ (codes "inet6", key.Inet6)
+    ∷ (codes "proto", key.Proto) ∷ (codes "from", key.From) ∷ (codes "to", key.To) ∷ (codes "port", key.Port)
+    ∷ (codes "any", key.Any) ∷ (codes "all", key.All) ∷ (codes "flags", key.Flags) ∷ (codes "log", key.Log)
+    ∷ (codes "rdomain", key.Rdomain) ∷ (codes "set", key.Set) ∷ (codes "limit", key.Limit)
     ∷ (codes "timeout", key.Timeout) ∷ (codes "states", key.States) ∷ (codes "src-nodes", key.SrcNodes)
     ∷ (codes "tables", key.Tables) ∷ (codes "table-entries", key.TableEntries) ∷ (codes "frags", key.Frags)
     ∷ (codes "table", key.Table) ∷ (codes "persist", key.Persist) ∷ (codes "const", key.Const)
-    ∷ (codes "counters", key.Counters) ∷ (codes "pass", key.Pass) ∷ (codes "block", key.Block)
-    ∷ (codes "drop", key.Drop) ∷ (codes "return", key.Return) ∷ (codes "return-rst", key.ReturnRst)
-    ∷ (codes "return-icmp", key.ReturnIcmp) ∷ (codes "return-icmp6", key.ReturnIcmp6) ∷ (codes "in", key.In)
-    ∷ (codes "out", key.Out) ∷ (codes "anchor", key.Anchor) ∷ (codes "inet6", key.Inet6) ∷ (codes "log", key.Log)
-    ∷ (codes "all", key.All) ∷ (codes "matches", key.Matches) ∷ (codes "user", key.User) ∷ (codes "to", key.To)
-    ∷ (codes "quick", key.Quick) ∷ (codes "on", key.On) ∷ (codes "inet", key.Inet) ∷ (codes "proto", key.Proto)
-    ∷ (codes "from", key.From) ∷ (codes "port", key.Port) ∷ (codes "flags", key.Flags) ∷ []
+    ∷ (codes "counters", key.Counters) ∷ (codes "drop", key.Drop) ∷ (codes "return", key.Return)
+    ∷ (codes "return-rst", key.ReturnRst) ∷ (codes "return-icmp", key.ReturnIcmp)
+    ∷ (codes "return-icmp6", key.ReturnIcmp6) ∷ (codes "anchor", key.Anchor) ∷ (codes "matches", key.Matches)
+    ∷ (codes "user", key.User) ∷ []
 
 -- words of the state clause, and the names of timeouts
 abbrev pub option_words : List (List ℕ × Key)

@@ -1,7 +1,7 @@
 //! Tokens from bytes: the first token of a text, and what is left after it.
 
 ghost use Rattle.std.specs.Prelude.{◌≡◌, ◌+◌, ◌<◌, ◌≤◌, ◌^◌, ◌∷◌, List, [], true, drop, length, IsTrue, MatchOption};
-ghost use Rattle.pfs_conf_tokens.specs.Lexis.{is_mark, mark_key, is_word_byte, is_space, goes_on, run_of, is_closed, piece, bytes_behind, tokens, in_front};
+ghost use Rattle.pfs_conf_tokens.specs.Lexis.{mark_key, is_word_byte, is_space, goes_on, run_of, is_closed, piece, bytes_behind, tokens, in_front};
 ghost use Rattle.pfs_conf_tokens.specs.Scanning.{tokens_of_scan};
 
 use crate::keys::Key;
@@ -19,24 +19,15 @@ pub enum Run {
     Quote,
 }
 
-fn is_mark(b: u8) -> bool
-    ensures { result ≡ is_mark b }
-{
-    b == b'{'
-        || b == b'}'
-        || b == b'('
-        || b == b')'
-        || b == b'<'
-        || b == b'>'
-        || b == b','
-        || b == b'!'
-        || b == b'='
-}
-
 fn is_word_byte(b: u8) -> bool
     ensures { result ≡ is_word_byte b }
 {
-    33 <= b && b <= 126 && !(is_mark(b) || b == b'#' || b == b'"' || b == b'\\')
+    match b {
+        b'{' | b'}' | b'(' | b')' | b'<' | b'>' | b',' | b'!' | b'=' => false,
+        b'#' | b'"' | b'\\' => false,
+        33..=126 => true,
+        _ => false,
+    }
 }
 
 fn is_space(b: u8) -> bool
