@@ -61,8 +61,7 @@ fn strike<S: BuildHasher>(
     ensures looks { meter.new ≡ meter.old + 1 }
     ensures rising { IsRising (state_numbers indexes.old.states) }
 {
-    // This call states to the proof that the numbers of the states rise.
-    let _count = indexes.state_count();
+    indexes.state_numbers_rise();
     let state = indexes.read(number, meter);
     if is_flushed(&state, source, rule) {
         indexes.take_out(state, now);

@@ -116,19 +116,30 @@ impl<S: BuildHasher> Indexes<S> {
 
     /// How many states are held.
     pub(crate) fn state_count(&self) -> u64
-        ensures value { result ≡ length self.now.states }
-        ensures rising { IsRising (state_numbers self.now.states) }
-        ensures ruled { AllByRecursion (HasRule (length self.now.config.items)) self.now.states }
+        ensures { result ≡ length self.now.states }
     {
         self.records.len()
     }
 
+    /// The numbers of the states rise: a fact for proofs, which computes nothing.
+    pub(crate) fn state_numbers_rise(&self)
+        ensures { IsRising (state_numbers self.now.states) }
+    {
+        self.records.numbers_rise();
+    }
+
     /// How many source nodes are held.
     pub(crate) fn node_count(&self) -> u64
-        ensures value { result ≡ length self.now.nodes }
-        ensures rising { IsRising (node_numbers self.now.nodes) }
+        ensures { result ≡ length self.now.nodes }
     {
         self.nodes.len()
+    }
+
+    /// The numbers of the source nodes rise: a fact for proofs, which computes nothing.
+    pub(crate) fn node_numbers_rise(&self)
+        ensures { IsRising (node_numbers self.now.nodes) }
+    {
+        self.nodes.are_orderly();
     }
 
     /// The records of the states.
@@ -177,6 +188,7 @@ impl<S: BuildHasher> Indexes<S> {
     pub(crate) fn rule_counts(&self) -> &[u64]
         ensures counts { AreCounts result.now self.now.states }
         ensures size { length result.now ≡ length self.now.config.items }
+        ensures ruled { AllByRecursion (HasRule (length self.now.config.items)) self.now.states }
     {
         &self.counts
     }
@@ -205,8 +217,7 @@ impl<S: BuildHasher> Indexes<S> {
         requires small { most < 2 ^ 32 }
         ensures { result ≡ slice_get (waiting_of source above most self.now.states) 0 }
     {
-        // This call states to the proof that the numbers of the states rise.
-        let _count = self.records.len();
+        self.records.numbers_rise();
         match self
             .pairs
             .range((
@@ -305,8 +316,7 @@ impl<S: BuildHasher> Indexes<S> {
         ensures config { self.new.config ≡ self.old.config }
         ensures looks { meter.new ≡ meter.old + 1 }
     {
-        // This call states to the proof that the numbers of the states rise.
-        let _count = self.records.len();
+        self.records.numbers_rise();
         match entry_at(&self.keys, &self.last_found, &FlowKey::of(packet)) {
             Some(entry) => {
                 let place = entry.place;
@@ -338,8 +348,7 @@ impl<S: BuildHasher> Indexes<S> {
         ensures nodes { self.new.nodes
             ≡ map (node_after_leaving self.old.config self.old.states (filter (other_than state.number) self.old.states) now) self.old.nodes }
     {
-        // This call states to the proof that the numbers of the states rise.
-        let _count = self.records.len();
+        self.records.numbers_rise();
         let rule = state.rule.0 as usize;
         let scope = node_scope(&self.config, state.rule);
         self.keys.swap_remove(&Sought { key: state.key });
@@ -357,8 +366,7 @@ impl<S: BuildHasher> Indexes<S> {
         ensures states { self.new.states ≡ self.old.states }
         ensures nodes { self.new.nodes ≡ filter (λ n. not (n.number == node.number)) self.old.nodes }
     {
-        // This call states to the proof that the numbers of the nodes rise.
-        let _count = self.nodes.len();
+        self.nodes.are_orderly();
         self.nodes.remove(node.number);
     }
 }

@@ -88,10 +88,16 @@ impl<S: BuildHasher> Nodes<S> {
 
     /// How many nodes there are. It takes no memory.
     pub fn len(&self) -> u64
-        ensures value { result ≡ length self.now }
-        ensures orderly { IsOrderly self.now }
+        ensures { result ≡ length self.now }
     {
         self.order.len() as u64
+    }
+
+    /// The numbers of the nodes rise, and no two are of one scope and source: a fact for proofs, which computes nothing.
+    pub fn are_orderly(&self)
+        ensures { IsOrderly self.now }
+    {
+        let _ = &self.order;
     }
 
     /// The places of the nodes, in the order of their numbers. It takes no memory.

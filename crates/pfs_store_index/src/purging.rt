@@ -194,8 +194,7 @@ fn examine<S: BuildHasher>(
         (take result.examined (waiting round.cursor round.mark (state_numbers indexes.old.states))) result.until indexes.new.states }
     ensures looks { meter.new ≡ meter.old + result.examined }
 {
-    // This call states to the proof that the numbers of the states rise.
-    let _count = indexes.state_count();
+    indexes.state_numbers_rise();
     let walk = walk_to_due(indexes, counts, round, share, held, now, meter);
     let stayed = walk.stayed;
     let until = walk.until;
@@ -339,8 +338,7 @@ fn examine_node<S: BuildHasher>(indexes: &mut Indexes<S>, tally: &Tally, now: u6
     ensures until { NodeHolds indexes.old.config indexes.old.states tally.now.node.number result indexes.new.nodes }
     ensures rising { IsRising (node_numbers indexes.old.nodes) }
 {
-    // This call states to the proof that the numbers of the nodes rise.
-    let _count = indexes.node_count();
+    indexes.node_numbers_rise();
     let config = indexes.config();
     let until = kept_until(config, tally);
     if is_over(config, tally, now) {

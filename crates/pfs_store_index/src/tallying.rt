@@ -37,8 +37,7 @@ pub(crate) fn join<S: BuildHasher>(
     ensures ok { OnOk result (nodes.new ≡ tallies_with_state scope state.now nodes.old) }
     ensures err { OnErr result (nodes.new ≡ nodes.old) }
 {
-    // This call states to the proof that the numbers of the nodes rise, and that no two are of one scope and source.
-    let _count = nodes.len();
+    nodes.are_orderly();
     match scope {
         None => Ok(()),
         Some(scope) => match nodes.get(scope, state.source) {
@@ -73,8 +72,7 @@ pub(crate) fn leave<S: BuildHasher>(
 )
     ensures { nodes.new ≡ map (at_node scope state.now.source (left_of state.now now)) nodes.old }
 {
-    // This call states to the proof that the numbers of the nodes rise, and that no two are of one scope and source.
-    let _count = nodes.len();
+    nodes.are_orderly();
     match scope {
         None => {}
         Some(scope) => match nodes.get(scope, state.source) {
@@ -155,8 +153,7 @@ fn meet_at<S: BuildHasher>(
     ensures nodes { nodes.new ≡ map (at_node (Some scope) source (met_by rate now completed)) nodes.old }
     ensures tally { find (is_tally scope source) nodes.new ≡ Some result }
 {
-    // This call states to the proof that the numbers of the nodes rise, and that no two are of one scope and source.
-    let _count = nodes.len();
+    nodes.are_orderly();
     match nodes.get(scope, source) {
         Some(tally) => {
             let met = after_packet(tally, rate, completed, now);

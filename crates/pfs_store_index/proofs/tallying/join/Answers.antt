@@ -23,6 +23,6 @@ pub returns-in-Some-get-clause-ok : goal.returns-in-Some-get-clause-ok
 returns-in-Some-get-clause-ok g c =
     let t = c.in-Some-get.tally in
     c.write.ensures.nodes
-    ∙ put-at c.in-Some.scope c.args.state.now.source (joined_of t) t joined_of c.args.nodes.now (rising-tallies c.args.nodes.now c.len-count.ensures.orderly.rising) c.len-count.ensures.orderly.distinct (sym c.in-Some-get.ensures) refl refl
+    ∙ put-at c.in-Some.scope c.args.state.now.source (joined_of t) t joined_of c.args.nodes.now (rising-tallies c.args.nodes.now c.are_orderly.ensures.rising) c.are_orderly.ensures.distinct (sym c.in-Some-get.ensures) refl refl
     ∙ ap (λ (o : Option Tally). if is_some o then map (at_node (Some c.in-Some.scope) c.args.state.now.source joined_of) c.args.nodes.now else c.args.nodes.now ++ new_tally c.in-Some.scope c.args.state.now ∷ []) c.in-Some-get.ensures
     ∙ ap (λ (o : Option NodeScope). tallies_with_state o c.args.state.now c.args.nodes.now) (sym c.in-Some.is)

@@ -27,7 +27,7 @@ returns-in-Some-get g c =
     let t = c.in-Some-get.tally in
     let e = c.left.ensures in
     c.write.ensures.nodes
-    ∙ put-at c.in-Some.scope c.args.state.now.source c.left.result t (left_of c.args.state.now c.args.now) c.args.nodes.now (rising-tallies c.args.nodes.now c.len-count.ensures.orderly.rising) c.len-count.ensures.orderly.distinct
+    ∙ put-at c.in-Some.scope c.args.state.now.source c.left.result t (left_of c.args.state.now c.args.now) c.args.nodes.now (rising-tallies c.args.nodes.now c.are_orderly.ensures.rising) c.are_orderly.ensures.distinct
     (sym c.in-Some-get.ensures) (ap (λ (u : Tally). u.node.number) e ∙ k.number t) (sym e)
     ∙ ap (λ (o : Option NodeScope). map (at_node o c.args.state.now.source (left_of c.args.state.now c.args.now)) c.args.nodes.now) (sym c.in-Some.is)
 

@@ -33,7 +33,7 @@ returns-then-completed-clause-nodes g c =
     let t = c.in-Some.tally in
     let e = c.after_packet-met.ensures in
     c.write.ensures.nodes
-    ∙ put-at c.args.scope c.args.source c.after_packet-met.result t (met_by c.args.rate c.args.now c.args.completed) c.args.nodes.now (rising-tallies c.args.nodes.now c.len-count.ensures.orderly.rising) c.len-count.ensures.orderly.distinct
+    ∙ put-at c.args.scope c.args.source c.after_packet-met.result t (met_by c.args.rate c.args.now c.args.completed) c.args.nodes.now (rising-tallies c.args.nodes.now c.are_orderly.ensures.rising) c.are_orderly.ensures.distinct
     (sym c.in-Some.ensures) (ap (λ (u : Tally). u.node.number) e ∙ k.number t) (sym e)
 
 pub returns-then-completed-clause-tally : goal.returns-then-completed-clause-tally

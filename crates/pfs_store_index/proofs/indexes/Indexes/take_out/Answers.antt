@@ -23,7 +23,7 @@ pub overflow_sub-index_mut : goal.overflow_sub-index_mut
 overflow_sub-index_mut g c =
     let f : find (has_number state_number c.args.state.number) (states_of c.self.inside.records) ≡ Some c.args.state = ap (λ (h : Holding). find (has_number state_number c.args.state.number) h.states) c.self.view_is ∙ c.requires.held in
     let w : c.args.state.rule.0 < length c.self.inside.counts.items = rule-within c.self.inside.config c.self.inside.records c.self.inside.keys c.self.inside.counts.items c.self.inside.nodes c.self.inside.pairs c.args.state c.self.invariant f in
-    rule-held c.args.state (states_of c.self.inside.records) c.self.inside.counts.items _ c.len-count.ensures.rising f w (get_or_read c.self.inside.counts.items _ _ w c.index_mut.ensures.value 0) c.self.invariant.by_rule
+    rule-held c.args.state (states_of c.self.inside.records) c.self.inside.counts.items _ c.numbers_rise.ensures f w (get_or_read c.self.inside.counts.items _ _ w c.index_mut.ensures.value 0) c.self.invariant.by_rule
 
 pub remove-requires-2 : goal.remove-requires-2
 remove-requires-2 g c =
@@ -39,7 +39,7 @@ invariant_of-self g c =
     c.leave.ensures ∙ ap (λ (o : Option NodeScope). map (at_node o s.source (left_of s c.args.now)) c.self.inside.nodes) c.node_scope-scope.ensures in
     rw (c.remove-2.ensures.records, at)
     (tied-left c.self.inside.config c.self.inside.records c.self.inside.keys c.self.inside.counts.items c.self.inside.nodes c.self.inside.pairs c.swap_remove.new.self c.remove.new.self s c.args.now _
-    c.self.invariant c.len-count.ensures.rising f (get_or_read c.self.inside.counts.items _ _ w c.index_mut.ensures.value 0) c.swap_remove.ensures.updates.0 c.remove.ensures.updates.0)
+    c.self.invariant c.numbers_rise.ensures f (get_or_read c.self.inside.counts.items _ _ w c.index_mut.ensures.value 0) c.swap_remove.ensures.updates.0 c.remove.ensures.updates.0)
 
 pub returns-clause-nodes : goal.returns-clause-nodes
 returns-clause-nodes g c =
@@ -47,4 +47,4 @@ returns-clause-nodes g c =
     let f : find (has_number state_number c.args.state.number) (states_of c.self.inside.records) ≡ Some c.args.state = ap (λ (h : Holding). find (has_number state_number c.args.state.number) h.states) c.self.view_is ∙ c.requires.held in
     let at : c.leave.new.nodes ≡ map (left_at c.self.inside.config s c.args.now) c.self.inside.nodes =
     c.leave.ensures ∙ ap (λ (o : Option NodeScope). map (at_node o s.source (left_of s c.args.now)) c.self.inside.nodes) c.node_scope-scope.ensures in
-    rw (sym c.self.view_is) (ap nodes_of at ∙ nodes-left c.self.inside.config s c.args.now (states_of c.self.inside.records) c.self.inside.nodes c.len-count.ensures.rising f c.self.invariant.scoped c.self.invariant.counted)
+    rw (sym c.self.view_is) (ap nodes_of at ∙ nodes-left c.self.inside.config s c.args.now (states_of c.self.inside.records) c.self.inside.nodes c.numbers_rise.ensures f c.self.invariant.scoped c.self.invariant.counted)

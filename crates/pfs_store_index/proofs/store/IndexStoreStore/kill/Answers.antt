@@ -28,5 +28,5 @@ returns-clause-world g c =
     c.take_out.ensures.nodes ∙ ap (λ xs. map (node_after_leaving h.config h.states xs c.args.now) h.nodes) (sym c.take_out.ensures.states) in
     let q = found-number state_number c.args.number.0 c.read-state.result h.states c.read-state.ensures.value in
     world-without (other_than c.read-state.result.number) c.args.now h c.take_out.new.self c.self.inside.states_round.cursor c.self.inside.states_round.mark c.self.inside.nodes_round.cursor c.self.inside.nodes_round.mark c.self.inside.made
-    c.state_count-count.ensures.rising c.take_out.ensures.states ns
+    c.state_numbers_rise.ensures c.take_out.ensures.states ns
     ∙ (λ j. world_killed (c.self.view_is j).config (c.self.view_is j).world (q j) c.args.now)
