@@ -6,7 +6,7 @@ ghost use Rattle.pfs_store_contract.specs.Calls.{source_states, stays_unflushed}
 ghost use Rattle.pfs_store_contract.specs.Leaving.{node_after_leaving, is_flushed};
 ghost use Rattle.pfs_store_contract.specs.Purging.{state_numbers};
 ghost use Rattle.pfs_store_contract.specs.Worlds.{holds_number};
-ghost use Rattle.pfs_store_index.specs.Records.{IsRising};
+ghost use Rattle.pfs_store_records.specs.Records.{IsRising};
 ghost use Rattle.pfs_store_index.specs.Rounds.{state_survives};
 ghost use Rattle.pfs_store_index.specs.Stored.{IsNumbered};
 

@@ -16,25 +16,22 @@ ghost use Rattle.pfs_store_contract.specs.Purging.{is_over, node_numbers, state_
 ghost use Rattle.pfs_store_contract.specs.Quiet.{NodeStays};
 ghost use Rattle.pfs_store_contract.specs.Touching.{completes_at, nodes_touched, numbered_state_after};
 ghost use Rattle.pfs_store_contract.specs.Worlds.{IsUpToNow, holds_number, lists, state_with};
-ghost use Rattle.pfs_store_index.specs.Records.{IsAbove, IsRising, between, placed_at, states_of};
-ghost use Rattle.pfs_store_index.specs.Sourced.{IsSourced};
-ghost use Rattle.pfs_store_index.specs.Tallies.{nodes_of};
-ghost use Rattle.pfs_store_index.specs.Walks.{IsPassing};
+ghost use Rattle.pfs_store_records.specs.Records.{IsAbove, IsRising, between, placed_at, states_of};
+ghost use Rattle.pfs_store_records.specs.Sourced.{IsSourced};
+ghost use Rattle.pfs_store_records.specs.Tallies.{nodes_of};
+ghost use Rattle.pfs_store_records.specs.Walks.{IsPassing};
 ghost use Rattle.pfs_store_index.specs.Holdings.{IsUncompleted};
 ghost use Rattle.pfs_store_index.specs.Rounds.{waiting, waiting_of};
 ghost use Rattle.pfs_store_index.specs.Ties.{HasRule, entry_of};
 
-use crate::nodes::{Nodes, Passed, Tally};
 use crate::placing::place;
-use crate::records::Records;
-use crate::rounds::Round;
-use crate::sought::Sought;
 use crate::stepping::stepped;
-use crate::tallying::{leave, meet};
 use indexmap::IndexMap;
 use pfs_addr_values::{Addr, FlowKey, Meter, NoMemory, Packet};
-use pfs_conf_values::{Config, RuleNo, Scope};
+use pfs_conf_values::{Config, RuleNo};
 use pfs_store_contract::{Node, NodeScope, State, StateNo, Touched};
+use pfs_store_records::{Nodes, Passed, Records, Round, Sought, Tally, leave, meet};
+use pfs_store_rules::node_scope;
 use std::alloc::{AllocError, Global};
 use std::cell::Cell;
 use std::collections::BTreeSet;
@@ -71,8 +68,8 @@ pub(crate) struct Indexes<S: BuildHasher> {
 }
 
 impl<S: BuildHasher> Model for Indexes<S> {
-    ghost use Rattle.pfs_store_index.specs.Records.{states_of};
-    ghost use Rattle.pfs_store_index.specs.Tallies.{nodes_of};
+    ghost use Rattle.pfs_store_records.specs.Records.{states_of};
+    ghost use Rattle.pfs_store_records.specs.Tallies.{nodes_of};
     ghost use Rattle.pfs_store_index.specs.Holdings.{Holding};
     ghost use Rattle.pfs_store_index.specs.Ties.{IsTied};
 
@@ -415,16 +412,5 @@ fn entry_of(state: &State, place: u32) -> Entry
         number: state.number as u32,
         rule: state.rule,
         place,
-    }
-}
-
-/// The scope of a rule's nodes, if it tracks sources.
-pub(crate) fn node_scope(config: &Config, rule: RuleNo) -> Option<NodeScope>
-    ensures { result ≡ node_scope_of config.now rule.0 }
-{
-    match config.scope(rule) {
-        None => None,
-        Some(Scope::Rule) => Some(NodeScope::Rule(rule)),
-        Some(Scope::Global) => Some(NodeScope::Global),
     }
 }

@@ -5,7 +5,8 @@ use Rattle.pfs_store_contract.specs.Leaving.{is_flushed}
 use Rattle.pfs_store_contract.specs.Calls.{other_than}
 use Rattle.pfs_store_index.proofs.Idling.{idled-same}
 use Rattle.pfs_store_index.proofs.Leavings.{state_number}
-use Rattle.pfs_store_index.proofs.RisingWalks.{found-number, has_number, survive-kept, survive-removed}
+use Rattle.pfs_store_records.proofs.Rising.{found-number, has_number}
+use Rattle.pfs_store_index.proofs.RisingWalks.{survive-kept, survive-removed}
 use Rattle.pfs_store_index.proofs.flushing.strike.Goals as goal
 
 pub take_out-requires-clause-held : goal.take_out-requires-clause-held

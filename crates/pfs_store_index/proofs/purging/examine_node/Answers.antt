@@ -1,10 +1,9 @@
 -- Answers of examine_node: the node leaves if it has no state and its retention is over; all others stay.
-use Rattle.std.proofs.Common.{◌≡◌, ◌∙◌, ◌+◌, ◌==◌, ◌&&◌, true, false, nat_le, sym, arith}
+use Rattle.std.proofs.Common.{◌≡◌, ◌∙◌, ◌+◌, ◌==◌, ◌&&◌, true, false, nat_le, sym, arith, ℕ, ◌≤◌, List, subst}
 use Rattle.std.proofs.lemmas.Bool.Decides.{nat_tests}
 use Rattle.pfs_store_contract.specs.Purging.{is_over, node_retention}
 use Rattle.pfs_store_index.proofs.Idling.{node_number}
 use Rattle.pfs_store_index.proofs.RisingWalks.{survive-kept, survive-removed}
-use Rattle.std.proofs.Common.{ℕ, ◌≤◌, List, subst}
 use Rattle.pfs_conf_values.specs.Configs.{Conf}
 use Rattle.pfs_store_contract.specs.Counts.{node_states}
 use Rattle.pfs_store_contract.specs.Quiet.{NodeStays}

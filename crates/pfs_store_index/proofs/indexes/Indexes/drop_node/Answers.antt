@@ -3,7 +3,7 @@ use Rattle.std.proofs.Common.{◌≡◌, ◌∙◌, ◌==◌, Some, ap, filter, 
 use Rattle.std.specs.List.{find}
 use Rattle.pfs_store_contract.specs.Counts.{node_states}
 use Rattle.pfs_store_contract.specs.declared.records.Node.{Node}
-use Rattle.pfs_store_index.specs.Tallies.{nodes_of}
+use Rattle.pfs_store_records.specs.Tallies.{nodes_of}
 use Rattle.pfs_store_index.specs.Holdings.{Holding}
 use Rattle.pfs_store_index.proofs.Dropping.{node-held, nodes-dropped, tied-dropped}
 use Rattle.pfs_store_index.proofs.indexes.Indexes.drop_node.Goals as goal

@@ -1,6 +1,6 @@
 -- Answers of Indexes::next_of_source: the index by source gives the next number of the source, or none.
 use Rattle.std.proofs.Common.{◌∙◌, ap, sym, slice_get}
-use Rattle.pfs_store_index.specs.Records.{states_of}
+use Rattle.pfs_store_records.specs.Records.{states_of}
 use Rattle.pfs_store_index.specs.Holdings.{Holding}
 use Rattle.pfs_store_index.specs.Rounds.{waiting_of}
 use Rattle.pfs_store_index.proofs.Sources.{first-none, first-of-range, first-some, none-of-range, pairs-forward}

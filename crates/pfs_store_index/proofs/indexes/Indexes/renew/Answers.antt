@@ -10,18 +10,20 @@ use Rattle.pfs_store_contract.specs.Counts.{node_scope_of}
 use Rattle.pfs_store_contract.specs.Touching.{completes_at, connections_in, nodes_touched, numbered_state_after, score_in}
 use Rattle.pfs_store_contract.specs.Worlds.{IsUpToNow, lists}
 use Rattle.pfs_store_contract.specs.declared.records.State.{State}
-use Rattle.pfs_store_index.specs.Records.{states_of}
-use Rattle.pfs_store_index.specs.Sourced.{IsSourced}
-use Rattle.pfs_store_index.specs.Tallies.{is_tally, nodes_of}
+use Rattle.pfs_store_records.specs.Records.{states_of}
+use Rattle.pfs_store_records.specs.Sourced.{IsSourced}
+use Rattle.pfs_store_records.specs.Tallies.{is_tally, nodes_of}
 use Rattle.pfs_store_index.specs.Holdings.{Holding}
-use Rattle.pfs_store_index.specs.Ties.{HasTally, IsCounted, IsFew, at_node, met_by}
+use Rattle.pfs_store_records.specs.Changes.{HasTally, IsFew, at_node, met_by}
+use Rattle.pfs_store_index.specs.Ties.{IsCounted}
 use Rattle.pfs_store_index.proofs.Comings.{few-counted}
 use Rattle.pfs_store_index.proofs.Leavings.{state_number}
-use Rattle.pfs_store_index.proofs.Meetings.{met-faithful, nodes-met, renewed_record, states-renewed}
-use Rattle.pfs_store_index.proofs.OneNode.{tally-at}
+use Rattle.pfs_store_records.proofs.TallyLaws.{met-faithful}
+use Rattle.pfs_store_index.proofs.Meetings.{nodes-met, renewed_record, states-renewed}
+use Rattle.pfs_store_records.proofs.OneNode.{tally-at}
 use Rattle.pfs_store_index.proofs.Removals.{all-found}
 use Rattle.pfs_store_index.proofs.Renewing.{counts-done, entry-record, none-entry, number-found, read-held, read-is, state-found, told-connections, told-score, write-held, written}
-use Rattle.pfs_store_index.proofs.Searches.{all-weaker}
+use Rattle.pfs_store_records.proofs.Searches.{all-weaker}
 use Rattle.pfs_store_index.proofs.Tying.{tied-met}
 use Rattle.pfs_store_index.proofs.indexes.Indexes.renew.Goals as goal
 

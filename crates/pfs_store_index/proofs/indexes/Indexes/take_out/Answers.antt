@@ -3,14 +3,15 @@ use Rattle.std.proofs.Common.{◌≡◌, ◌∙◌, ◌<◌, Option, Some, lengt
 use Rattle.std.specs.List.{find}
 use Rattle.std.proofs.lemmas.List.{get_or_read}
 use Rattle.pfs_store_contract.specs.declared.records.NodeScope.{NodeScope}
-use Rattle.pfs_store_index.specs.Records.{states_of}
-use Rattle.pfs_store_index.specs.Tallies.{nodes_of}
+use Rattle.pfs_store_records.specs.Records.{states_of}
+use Rattle.pfs_store_records.specs.Tallies.{nodes_of}
 use Rattle.pfs_store_index.specs.Holdings.{Holding}
-use Rattle.pfs_store_index.specs.Ties.{at_node, left_at, left_of}
+use Rattle.pfs_store_records.specs.Changes.{at_node, left_of}
+use Rattle.pfs_store_index.specs.Ties.{left_at}
 use Rattle.pfs_store_index.proofs.Leavings.{nodes-left, rule-held, state_number}
 use Rattle.pfs_store_index.proofs.Removals.{find-in}
 use Rattle.pfs_store_index.proofs.Tying.{rule-within, tied-left}
-use Rattle.pfs_store_index.proofs.RisingWalks.{has_number}
+use Rattle.pfs_store_records.proofs.Rising.{has_number}
 use Rattle.pfs_store_index.proofs.indexes.Indexes.take_out.Goals as goal
 
 pub index_mut-requires : goal.index_mut-requires

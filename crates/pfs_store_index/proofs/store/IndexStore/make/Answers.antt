@@ -8,7 +8,7 @@ use Rattle.pfs_store_contract.specs.Purging.{node_numbers, state_numbers}
 use Rattle.pfs_store_contract.specs.Worlds.{World, lists}
 use Rattle.pfs_store_contract.specs.declared.records.State.{State}
 use Rattle.pfs_track.specs.StatePhases.{first_phase}
-use Rattle.pfs_store_index.specs.Sourced.{source_at}
+use Rattle.pfs_store_records.specs.Sourced.{source_at}
 use Rattle.pfs_store_index.specs.Rounds.{waiting}
 use Rattle.pfs_store_index.specs.Stored.{world_of}
 use Rattle.pfs_store_index.proofs.Comings.{key-sourced}

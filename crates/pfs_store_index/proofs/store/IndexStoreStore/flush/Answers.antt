@@ -2,7 +2,7 @@
 use Rattle.std.proofs.Common.{◌≡◌, ◌∙◌, ◌-◌, ap, length, arith, rules}
 use Rattle.pfs_store_contract.specs.Calls.{source_states, world_flushed, flushed_count, stays_unflushed}
 use Rattle.pfs_store_contract.specs.Plain.{Plain}
-use Rattle.pfs_store_index.proofs.Searches.{count-le}
+use Rattle.pfs_store_records.proofs.Searches.{count-le}
 use Rattle.pfs_store_contract.specs.Counts.{is_of_source}
 use Rattle.pfs_store_index.proofs.Storing.{few-numbered, flushed-count, flushed-le, stored-without, world-without}
 use Rattle.pfs_store_index.proofs.store.IndexStoreStore.flush.Goals as goal

@@ -5,7 +5,7 @@ use Rattle.pfs_store_contract.specs.Leaving.{node_after_leaving}
 use Rattle.pfs_store_contract.specs.Calls.{world_killed, other_than}
 use Rattle.pfs_store_index.proofs.Leavings.{state_number}
 use Rattle.pfs_store_index.proofs.Storing.{stored-without, world-without}
-use Rattle.pfs_store_index.proofs.RisingWalks.{found-number, has_number}
+use Rattle.pfs_store_records.proofs.Rising.{found-number, has_number}
 use Rattle.pfs_store_index.proofs.store.IndexStoreStore.kill.Goals as goal
 
 pub take_out-requires-clause-held : goal.take_out-requires-clause-held
