@@ -24,16 +24,18 @@ use Rattle.pfs_store_contract.specs.Plain.{AreCounts}
 use Rattle.pfs_store_contract.specs.declared.records.NodeScope.{NodeScope}
 use Rattle.pfs_store_contract.specs.declared.records.NodeScope.TheVariants as node_scope
 use Rattle.pfs_store_contract.specs.declared.records.State.{State}
-use Rattle.pfs_store_index.specs.Records.{IsAbove, Placed}
-use Rattle.pfs_store_index.specs.Sourced.{source_at}
-use Rattle.pfs_store_index.specs.Tallies.{is_tally, nodes_of}
-use Rattle.pfs_store_index.specs.declared.nodes.Tally.{Tally}
+use Rattle.pfs_store_records.specs.Records.{IsAbove, Placed}
+use Rattle.pfs_store_records.specs.Sourced.{source_at}
+use Rattle.pfs_store_records.specs.Tallies.{is_tally, nodes_of}
+use Rattle.pfs_store_records.specs.declared.nodes.Tally.{Tally}
 use Rattle.pfs_store_index.specs.declared.indexes.Entry.{Entry}
-use Rattle.pfs_store_index.specs.Ties.{HasRule, HasTally, IsCounted, IsFew, IsScope, IsScored, IsScoped, at_node, entry_of, has_key, is_at, is_pair, tallies_with_state, joined_of, key_in, new_tally}
-use Rattle.pfs_store_index.proofs.OneNode.{IsFaithful, of_node, scope_of-IsScope, scoped-at, tally-at}
+use Rattle.pfs_store_index.specs.Ties.{HasRule, IsCounted, entry_of, has_key, is_pair, key_in}
+use Rattle.pfs_store_records.specs.Changes.{HasTally, IsFew, IsScope, IsScored, IsScoped, at_node, is_at, tallies_with_state, joined_of, new_tally}
+use Rattle.pfs_store_records.proofs.OneNode.{of_node, scope_of-IsScope, scoped-at, tally-at}
 use Rattle.std.proofs.lemmas.Bool.{and_parts, and_from, and_right}
 use Rattle.pfs_store_contract.proofs.ScopeLaws.{same_scope_self}
-use Rattle.pfs_store_index.proofs.Searches.{all-map, all-push, all-weaker, any-found, any-push, count-le, count-push, map-push, none-any}
+use Rattle.pfs_store_records.proofs.Searches.{all-map, all-push, all-weaker, any-found, any-push, count-le, count-push, map-push, none-any}
+use Rattle.pfs_store_records.proofs.TallyLaws.{joined-faithful}
 
 -- ---- the node of the state
 
@@ -177,9 +179,6 @@ counted-came conf (Some sc) s xs ts e p g h n = go (find (is_tally sc s.source) 
         rw f (all-push (IsCounted conf (xs ++ s ∷ [])) (new_tally sc s) ts w (new-counted conf sc s xs ts e p (none-any (is_tally sc s.source) ts f) n))
 
 -- ---- what the tallies are of
-
-pub joined-faithful : IsFaithful joined_of
-joined-faithful = record { scope = λ t. refl; source = λ t. refl; number = λ t. refl }
 
 pub scoped-came : (conf : Conf) (o : Option NodeScope) (s : State) (ts : List Tally) → node_scope_of conf s.rule.0 ≡ o → AllByRecursion (IsScoped conf) ts
     → AllByRecursion (IsScoped conf) (tallies_with_state o s ts)

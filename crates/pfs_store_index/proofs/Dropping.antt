@@ -11,15 +11,16 @@ use Rattle.pfs_store_contract.specs.Purging.{node_numbers}
 use Rattle.pfs_store_contract.specs.declared.records.Node.{Node}
 use Rattle.pfs_store_contract.specs.declared.records.NodeScope.{NodeScope}
 use Rattle.pfs_store_contract.specs.declared.records.State.{State}
-use Rattle.pfs_store_index.specs.Records.{IsRising, Placed, states_of}
-use Rattle.pfs_store_index.specs.Tallies.{has_node_number, is_tally, nodes_of, other_node}
-use Rattle.pfs_store_index.specs.declared.nodes.Tally.{Tally}
+use Rattle.pfs_store_records.specs.Records.{IsRising, Placed, states_of}
+use Rattle.pfs_store_records.specs.Tallies.{has_node_number, is_tally, nodes_of, other_node}
+use Rattle.pfs_store_records.specs.declared.nodes.Tally.{Tally}
 use Rattle.pfs_store_index.specs.declared.indexes.Entry.{Entry}
-use Rattle.pfs_store_index.specs.Ties.{HasTally, IsCounted, IsScored, IsScoped, IsTied, is_at}
-use Rattle.pfs_store_index.proofs.OneNode.{of_node}
+use Rattle.pfs_store_records.specs.Changes.{HasTally, IsScored, IsScoped, is_at}
+use Rattle.pfs_store_index.specs.Ties.{IsCounted, IsTied}
+use Rattle.pfs_store_records.proofs.OneNode.{of_node}
 use Rattle.pfs_store_index.proofs.Removals.{all-filter, any-kept}
-use Rattle.pfs_store_index.proofs.Searches.{find-part, found-all, found-any, part-found}
-use Rattle.pfs_store_index.proofs.Stands.{rising-tallies}
+use Rattle.pfs_store_records.proofs.Searches.{find-part, found-all, found-any, part-found}
+use Rattle.pfs_store_records.proofs.TallyLaws.{rising-tallies}
 
 none-first : (p : State → Bool) (x : State) (xs : List State) → length (filter p (x ∷ xs)) ≡ 0 → (p x ≡ false) × (length (filter p xs) ≡ 0)
 none-first p x xs h = go (p x) refl

@@ -16,15 +16,17 @@ use Rattle.pfs_store_contract.specs.Plain.{AreCounts}
 use Rattle.pfs_store_contract.specs.declared.records.Node.{Node}
 use Rattle.pfs_store_contract.specs.declared.records.NodeScope.{NodeScope}
 use Rattle.pfs_store_contract.specs.declared.records.State.{State}
-use Rattle.pfs_store_index.specs.Records.{Placed}
-use Rattle.pfs_store_index.specs.Tallies.{nodes_of}
-use Rattle.pfs_store_index.specs.declared.nodes.Tally.{Tally}
+use Rattle.pfs_store_records.specs.Records.{Placed}
+use Rattle.pfs_store_records.specs.Tallies.{nodes_of}
+use Rattle.pfs_store_records.specs.declared.nodes.Tally.{Tally}
 use Rattle.pfs_store_index.specs.declared.indexes.Entry.{Entry}
-use Rattle.pfs_store_index.specs.Ties.{HasRule, HasTally, IsCounted, IsScored, IsScoped, entry_of, has_key, is_at, is_pair, key_in, left_at, left_of}
-use Rattle.pfs_store_index.proofs.OneNode.{IsFaithful, of_node, tally-at}
+use Rattle.pfs_store_index.specs.Ties.{HasRule, IsCounted, entry_of, has_key, is_pair, key_in, left_at}
+use Rattle.pfs_store_records.specs.Changes.{HasTally, IsScored, IsScoped, is_at, left_of}
+use Rattle.pfs_store_records.proofs.OneNode.{of_node, tally-at}
 use Rattle.pfs_store_index.proofs.Removals.{any-kept, any-removed, count-removed, find-removed}
 use Rattle.std.proofs.lemmas.Bool.{and_parts, and_right}
-use Rattle.pfs_store_index.proofs.RisingWalks.{IsRisingBy, has_number}
+use Rattle.pfs_store_records.proofs.Rising.{IsRisingBy, has_number}
+use Rattle.pfs_store_records.proofs.TallyLaws.{left-faithful, left-node}
 
 -- the number of a state, and of a record
 abbrev pub state_number : State → ℕ
@@ -114,21 +116,6 @@ left-parted conf s now xs t r f h e = go (is_at (node_scope_of conf s.rule.0) s.
           states = m j;
           connections = n j;
         })
-
--- the change leaves what a node is
-left-node : {Y : Type 0} (part : Node → Y) (s : State) (now : ℕ) (t : Tally) → part (record t.node { idle = now }) ≡ part t.node → part (left_of s now t).node ≡ part t.node
-left-node part s now t h = go (t.states - 1 == 0)
-  where
-    go : (b : Bool) → part (if b then record t.node { idle = now } else t.node) ≡ part t.node
-    go true = h
-    go false = refl
-
-pub left-faithful : (s : State) (now : ℕ) → IsFaithful (left_of s now)
-left-faithful s now = record {
-  scope = λ t. left-node (λ n. n.scope) s now t refl;
-  source = λ t. left-node (λ n. n.source) s now t refl;
-  number = λ t. left-node (λ n. n.number) s now t refl;
-}
 
 pub counted-left : (conf : Conf) (s : State) (now : ℕ) (xs : List State) (ts : List Tally) → IsRisingBy state_number xs → find (has_number state_number s.number) xs ≡ Some s
     → AllByRecursion (IsScoped conf) ts → AllByRecursion (IsCounted conf xs) ts → AllByRecursion (IsCounted conf (filter (other_than s.number) xs)) (map (left_at conf s now) ts)

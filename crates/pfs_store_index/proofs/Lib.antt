@@ -3,15 +3,10 @@ mod Dropping
 mod Idling
 mod Leavings
 mod Meetings
-mod NodeLaws
-mod OneNode
-mod Ordered
-mod Passing
-mod RecordLaws
+mod PassingNodes
 mod Removals
 mod Renewing
 mod RisingWalks
-mod Searches
 mod Sources
 mod Stands
 mod Storing
@@ -19,4 +14,3 @@ mod Stretches
 mod Turning
 mod Tying
 mod Untils
-mod Walking

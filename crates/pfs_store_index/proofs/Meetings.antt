@@ -9,19 +9,19 @@ use Rattle.pfs_conf_values.specs.Configs.{Conf, options_of}
 use Rattle.pfs_conf_values.specs.declared.actions.Rate.{Rate}
 use Rattle.pfs_track.specs.Scores.{score_after}
 use Rattle.pfs_track.specs.StatePhases.{is_done, phase_after}
-use Rattle.pfs_track.specs.declared.scores.Score.{Score}
 use Rattle.pfs_store_contract.specs.Counts.{is_connection, is_of_node, node_connections, node_scope_of, node_states}
 use Rattle.pfs_store_contract.specs.Touching.{completes_at, goes_forward, nodes_scored, nodes_touched, numbered_state_after, state_after_packet}
-use Rattle.pfs_store_contract.specs.declared.records.Node.{Node}
 use Rattle.pfs_store_contract.specs.declared.records.NodeScope.{NodeScope}
 use Rattle.pfs_store_contract.specs.declared.records.State.{State}
-use Rattle.pfs_store_index.specs.Records.{Placed, placed_at, put, states_of}
-use Rattle.pfs_store_index.specs.Tallies.{is_tally, nodes_of}
-use Rattle.pfs_store_index.specs.declared.nodes.Tally.{Tally}
-use Rattle.pfs_store_index.specs.Ties.{HasTally, IsCounted, IsScored, IsScoped, at_node, entry_of, has_key, is_at, key_in, met_by}
+use Rattle.pfs_store_records.specs.Records.{Placed, placed_at, put, states_of}
+use Rattle.pfs_store_records.specs.Tallies.{is_tally, nodes_of}
+use Rattle.pfs_store_records.specs.declared.nodes.Tally.{Tally}
+use Rattle.pfs_store_records.specs.Changes.{HasTally, IsScored, IsScoped, at_node, is_at, met_by}
+use Rattle.pfs_store_index.specs.Ties.{IsCounted, entry_of, has_key, key_in}
 use Rattle.pfs_store_index.proofs.Leavings.{record_number, state_number}
-use Rattle.pfs_store_index.proofs.OneNode.{IsFaithful, of_node, tally-at}
-use Rattle.pfs_store_index.proofs.RisingWalks.{Apart, IsRisingBy, has_number, head-apart, head-is, rest-rising, same_number}
+use Rattle.pfs_store_records.proofs.OneNode.{of_node, tally-at}
+use Rattle.pfs_store_records.proofs.Rising.{Apart, IsRisingBy, has_number, head-apart, head-is, rest-rising, same_number}
+use Rattle.pfs_store_records.proofs.TallyLaws.{met-faithful}
 
 -- ---- what a packet leaves as it was
 
@@ -187,19 +187,6 @@ count-renewed n p now q s (x ∷ xs) r f = go (count-renewed n p now q s xs (res
 abbrev pub CountsDone : State → Header → Type 0
 CountsDone s p = ◌≡◌ {A = ℕ} (cond (is_done (phase_after s.phase (goes_forward p s) p.flags)) 1 0) (cond (is_done s.phase) 1 0 + cond (completes_at p s) 1 0)
 
-met-node : {Y : Type 0} (part : Node → Y) (rate : Option Rate) (now : ℕ) (c : Bool) (t : Tally) → ((score : Score) → part (record t.node { score = score }) ≡ part t.node)
-    → part (met_by rate now c t).node ≡ part t.node
-met-node part None now true t h = refl
-met-node part (Some rate) now true t h = h (score_after rate.seconds t.node.score now)
-met-node part rate now false t h = refl
-
-pub met-faithful : (rate : Option Rate) (now : ℕ) (c : Bool) → IsFaithful (met_by rate now c)
-met-faithful rate now c = record {
-  scope = λ t. met-node (λ n. n.scope) rate now c t (λ s. refl);
-  source = λ t. met-node (λ n. n.source) rate now c t (λ s. refl);
-  number = λ t. met-node (λ n. n.number) rate now c t (λ s. refl);
-}
-
 recount : (conf : Conf) (xs : List State) (t u : Tally) → u.node.scope ≡ t.node.scope → u.node.source ≡ t.node.source
     → u.states ≡ node_states conf t.node.scope t.node.source xs → u.connections ≡ node_connections conf t.node.scope t.node.source xs → IsCounted conf xs u
 recount conf xs t u p q m n =
@@ -322,12 +309,3 @@ nodes-met conf s now false ts = unmet ts
         go : (b : Bool) → (if b then t else t).node ≡ t.node
         go true = refl
         go false = refl
-
--- a packet that completes no handshake changes no tally
-pub unmet : (o : Option NodeScope) (a : Addr) (rate : Option Rate) (now : ℕ) (c : Bool) → c ≡ false → (ts : List Tally) → ts ≡ map (at_node o a (met_by rate now c)) ts
-unmet o a rate now c h [] = refl
-unmet o a rate now c h (t ∷ ts) = (λ i. same (is_at o a t) i ∷ unmet o a rate now c h ts i)
-  where
-    same : (b : Bool) → t ≡ (if b then met_by rate now c t else t)
-    same true = sym (ap (λ x. met_by rate now x t) h)
-    same false = refl

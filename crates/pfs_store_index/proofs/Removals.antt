@@ -6,7 +6,7 @@ use Rattle.std.proofs.lemmas.Map.Keys.{IsDistinct-head, IsDistinct-tail, IsDisti
 use Rattle.pfs_addr_values.proofs.SameLaws.{same_key_true, same_key_self}
 use Rattle.pfs_addr_values.specs.Sameness.{same_key}
 use Rattle.pfs_addr_values.specs.declared.packets.FlowKey.{FlowKey}
-use Rattle.pfs_store_index.proofs.RisingWalks.{Apart, IsRisingBy, has_number, head-apart, head-is, rest-rising, same_number}
+use Rattle.pfs_store_records.proofs.Rising.{Apart, IsRisingBy, has_number, head-apart, head-is, rest-rising, same_number}
 
 module _ {X : Type 0} (number : X → ℕ) where
   -- all but that of a number

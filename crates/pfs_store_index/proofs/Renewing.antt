@@ -20,18 +20,19 @@ use Rattle.pfs_store_contract.specs.Touching.{connections_in, goes_forward, numb
 use Rattle.pfs_store_contract.specs.declared.records.Node.{Node}
 use Rattle.pfs_store_contract.specs.declared.records.NodeScope.{NodeScope}
 use Rattle.pfs_store_contract.specs.declared.records.State.{State}
-use Rattle.pfs_store_index.specs.Records.{IsRecordAt, IsRising, Placed, is_placed, put, stands_at, states_of}
-use Rattle.pfs_store_index.specs.Tallies.{is_tally, nodes_of}
-use Rattle.pfs_store_index.specs.declared.nodes.Tally.{Tally}
+use Rattle.pfs_store_records.specs.Records.{IsRecordAt, IsRising, Placed, is_placed, put, stands_at, states_of}
+use Rattle.pfs_store_records.specs.Tallies.{is_tally, nodes_of}
+use Rattle.pfs_store_records.specs.declared.nodes.Tally.{Tally}
 use Rattle.pfs_store_index.specs.declared.indexes.Entry.{Entry}
-use Rattle.pfs_store_index.specs.Ties.{IsCounted, connections_at, entry_of, has_key, score_at}
+use Rattle.pfs_store_index.specs.Ties.{IsCounted, entry_of, has_key}
+use Rattle.pfs_store_records.specs.Changes.{connections_at, score_at}
 use Rattle.pfs_store_index.proofs.Leavings.{record_number, state_number}
 use Rattle.pfs_store_index.proofs.Meetings.{CountsDone, key-number, put-renewed, renewed_record}
-use Rattle.pfs_store_index.proofs.OneNode.{scope_is, source_is}
-use Rattle.pfs_store_index.proofs.Searches.{any-also, any-found, find-part, found-all, found-passes}
+use Rattle.pfs_store_records.proofs.OneNode.{scope_is, source_is}
+use Rattle.pfs_store_records.proofs.Searches.{any-also, any-found, find-part, found-all, found-passes}
 use Rattle.pfs_store_index.proofs.Stands.{rising-records}
 use Rattle.std.proofs.lemmas.Bool.{and_from}
-use Rattle.pfs_store_index.proofs.RisingWalks.{has_number}
+use Rattle.pfs_store_records.proofs.Rising.{has_number}
 
 -- the record to which an entry of the index leads
 pub record IsEntryOf (k : FlowKey) (e : Entry) (rs : List Placed) : Type 0 where

@@ -1,31 +1,13 @@
 -- Lists in rising numbers, of which a walk examines one number after another: what leaves, and what is still to come.
 use Rattle.std.proofs.Common.{◌≡◌, ◌∙◌, ◌+◌, ◌<◌, ◌≤◌, ◌==◌, ◌&&◌, ◌||◌, ℕ, suc, Bool, true, false, not, if◌then◌else◌, Some, None, List, [], ◌∷◌, ◌++◌, length, map, filter, take, drop, get_or, slice_get, refl, ap, sym, subst, arith, add-one, length-drop, length-take, drop-cons}
-use Rattle.std.specs.List.{find, list_any, AllByRecursion}
-use Rattle.std.specs.List.Sorted.{IsStrictlySortedBy}
-use Rattle.std.specs.Ordering.{nat_cmp}
-use Rattle.std.specs.declared.cmp.Ordering.TheVariants.{Less}
+use Rattle.std.specs.List.{find, list_any}
 use Rattle.std.proofs.lemmas.Bool.Decides.{nat_tests}
 use Rattle.std.proofs.lemmas.List.{drop_min, take_min, take_more}
-use Rattle.std.proofs.lemmas.Map.Keys.{sorted_head, sorted_tail}
 use Rattle.pfs_store_contract.specs.Purging.{is_among}
-use Rattle.pfs_store_index.specs.Records.{between}
+use Rattle.pfs_store_records.specs.Records.{between}
 use Rattle.std.proofs.lemmas.Bool.{and_right}
 use Rattle.pfs_store_index.specs.Rounds.{waiting}
-
--- ---- numbers
-
-pub same_number : (n k : ℕ) → (k == n) ≡ true → k ≡ n
-same_number n k h = grind (arith, nat_tests)
-
-less_differs : (n k : ℕ) → nat_cmp n k ≡ Less → (k == n) ≡ false
-less_differs n k h = grind (arith, nat_tests)
-
-less_above : (n k : ℕ) → nat_cmp n k ≡ Less → n < k
-less_above n k h = grind (arith, nat_tests)
-
-pub flip_eq : (a b : ℕ) (r : Bool) → (a == b) ≡ r → (b == a) ≡ r
-flip_eq a b true h = grind (arith, nat_tests)
-flip_eq a b false h = grind (arith, nat_tests)
+use Rattle.pfs_store_records.proofs.Rising.{Above, Apart, IsRisingBy, flip_eq, has_number, head-above, head-apart, head-is, rest-rising, same_number}
 
 past : (a m n k : ℕ) → a < n → n < k → between n m k ≡ between a m k
 past a m n k h l = grind (arith, nat_tests)
@@ -33,54 +15,9 @@ past a m n k h l = grind (arith, nat_tests)
 not_past : (n m k : ℕ) → k ≤ n → between n m k ≡ false
 not_past n m k l = grind (arith, nat_tests)
 
--- ---- lists in rising numbers
+-- ---- one number is examined
 
 module _ {X : Type 0} (number : X → ℕ) where
-  abbrev pub has_number : ℕ → X → Bool
-  has_number n x = number x == n
-
-  abbrev pub IsRisingBy : List X → Type 0
-  IsRisingBy xs = IsStrictlySortedBy nat_cmp (map number xs)
-
-  -- none of these has the number
-  abbrev pub Apart : ℕ → List X → Type 0
-  Apart n xs = AllByRecursion (λ (x : X). (number x == n) ≡ false) xs
-
-  -- all of these have higher numbers
-  abbrev pub Above : ℕ → List X → Type 0
-  Above n xs = AllByRecursion (λ (x : X). n < number x) xs
-
-  apart-less : (n : ℕ) (xs : List X) → AllByRecursion (λ k. nat_cmp n k ≡ Less) (map number xs) → Apart n xs
-  apart-less n [] h = tt
-  apart-less n (x ∷ xs) (h, hs) = (less_differs n (number x) h, apart-less n xs hs)
-
-  above-less : (n : ℕ) (xs : List X) → AllByRecursion (λ k. nat_cmp n k ≡ Less) (map number xs) → Above n xs
-  above-less n [] h = tt
-  above-less n (x ∷ xs) (h, hs) = (less_above n (number x) h, above-less n xs hs)
-
-  pub head-apart : (x : X) (xs : List X) → IsRisingBy (x ∷ xs) → Apart (number x) xs
-  head-apart x xs r = apart-less (number x) xs (sorted_head nat_cmp (number x) (map number xs) r)
-
-  pub head-above : (x : X) (xs : List X) → IsRisingBy (x ∷ xs) → Above (number x) xs
-  head-above x xs r = above-less (number x) xs (sorted_head nat_cmp (number x) (map number xs) r)
-
-  pub rest-rising : (x : X) (xs : List X) → IsRisingBy (x ∷ xs) → IsRisingBy xs
-  rest-rising x xs r = sorted_tail nat_cmp (number x) (map number xs) r
-
-  -- the head, where it has the number
-  pub head-is : (n : ℕ) (x s : X) (xs : List X) → (number x == n) ≡ true → find (has_number n) (x ∷ xs) ≡ Some s → x ≡ s
-  head-is n x s xs t f = let f' : Some x ≡ Some s = (rw t at f) in cc
-
-  pub found-number : (n : ℕ) (s : X) (xs : List X) → find (has_number n) xs ≡ Some s → number s ≡ n
-  found-number n s [] f = absurd cc
-  found-number n s (x ∷ xs) f = go (found-number n s xs) (number x == n) refl
-    where
-      go : (find (has_number n) xs ≡ Some s → number s ≡ n) → (b : Bool) → (number x == n) ≡ b → number s ≡ n
-      go more true t = ap number (sym (head-is n x s xs t f)) ∙ same_number n (number x) t
-      go more false t = more (rw t at f)
-
-  -- ---- one number is examined
-
   -- an element stays when this number is examined
   abbrev pub survives : (X → Bool) → ℕ → X → Bool
   survives leaves n x = not ((n == number x) && leaves x)
@@ -89,41 +26,41 @@ module _ {X : Type 0} (number : X → ℕ) where
   abbrev pub stays_by : (X → Bool) → List ℕ → X → Bool
   stays_by leaves examined x = not (is_among examined (number x) && leaves x)
 
-  survive-apart : (leaves : X → Bool) (n : ℕ) (xs : List X) → Apart n xs → filter (survives leaves n) xs ≡ xs
+  survive-apart : (leaves : X → Bool) (n : ℕ) (xs : List X) → Apart number n xs → filter (survives leaves n) xs ≡ xs
   survive-apart leaves n [] a = refl
   survive-apart leaves n (x ∷ xs) (a, more) = rw (flip_eq (number x) n false a) (ap (λ ys. x ∷ ys) (survive-apart leaves n xs more))
 
   abbrev other : ℕ → X → Bool
   other n x = not (number x == n)
 
-  other-apart : (n : ℕ) (xs : List X) → Apart n xs → filter (other n) xs ≡ xs
+  other-apart : (n : ℕ) (xs : List X) → Apart number n xs → filter (other n) xs ≡ xs
   other-apart n [] a = refl
   other-apart n (x ∷ xs) (a, more) = rw a (ap (λ ys. x ∷ ys) (other-apart n xs more))
 
-  pub survive-removed : (leaves : X → Bool) (n : ℕ) (s : X) (xs : List X) → IsRisingBy xs → find (has_number n) xs ≡ Some s → leaves s ≡ true
+  pub survive-removed : (leaves : X → Bool) (n : ℕ) (s : X) (xs : List X) → IsRisingBy number xs → find (has_number number n) xs ≡ Some s → leaves s ≡ true
       → filter (λ x. not (number x == n)) xs ≡ filter (survives leaves n) xs
   survive-removed leaves n s [] r f e = refl
-  survive-removed leaves n s (x ∷ xs) r f e = go (survive-removed leaves n s xs (rest-rising x xs r)) (number x == n) refl
+  survive-removed leaves n s (x ∷ xs) r f e = go (survive-removed leaves n s xs (rest-rising number x xs r)) (number x == n) refl
     where
-      go : (find (has_number n) xs ≡ Some s → leaves s ≡ true → filter (other n) xs ≡ filter (survives leaves n) xs) → (b : Bool) → (number x == n) ≡ b
+      go : (find (has_number number n) xs ≡ Some s → leaves s ≡ true → filter (other n) xs ≡ filter (survives leaves n) xs) → (b : Bool) → (number x == n) ≡ b
           → filter (other n) (x ∷ xs) ≡ filter (survives leaves n) (x ∷ xs)
       go more true t =
-          let q = head-is n x s xs t f in
-          let a : Apart n xs = subst (λ k. Apart k xs) (same_number n (number x) t) (head-apart x xs r) in
+          let q = head-is number n x s xs t f in
+          let a : Apart number n xs = subst (λ k. Apart number k xs) (same_number n (number x) t) (head-apart number x xs r) in
           let e' : leaves x ≡ true = ap leaves q ∙ e in
           rw (t, flip_eq (number x) n true t, e', other-apart n xs a) (sym (survive-apart leaves n xs a))
       go more false t = rw (t, flip_eq (number x) n false t) (ap (λ ys. x ∷ ys) (more (rw t at f) e))
 
-  pub survive-kept : (leaves : X → Bool) (n : ℕ) (s : X) (xs : List X) → IsRisingBy xs → find (has_number n) xs ≡ Some s → leaves s ≡ false
+  pub survive-kept : (leaves : X → Bool) (n : ℕ) (s : X) (xs : List X) → IsRisingBy number xs → find (has_number number n) xs ≡ Some s → leaves s ≡ false
       → xs ≡ filter (survives leaves n) xs
   survive-kept leaves n s [] r f e = refl
-  survive-kept leaves n s (x ∷ xs) r f e = go (survive-kept leaves n s xs (rest-rising x xs r)) (number x == n) refl
+  survive-kept leaves n s (x ∷ xs) r f e = go (survive-kept leaves n s xs (rest-rising number x xs r)) (number x == n) refl
     where
-      go : (find (has_number n) xs ≡ Some s → leaves s ≡ false → xs ≡ filter (survives leaves n) xs) → (b : Bool) → (number x == n) ≡ b
+      go : (find (has_number number n) xs ≡ Some s → leaves s ≡ false → xs ≡ filter (survives leaves n) xs) → (b : Bool) → (number x == n) ≡ b
           → x ∷ xs ≡ filter (survives leaves n) (x ∷ xs)
       go more true t =
-          let q = head-is n x s xs t f in
-          let a : Apart n xs = subst (λ k. Apart k xs) (same_number n (number x) t) (head-apart x xs r) in
+          let q = head-is number n x s xs t f in
+          let a : Apart number n xs = subst (λ k. Apart number k xs) (same_number n (number x) t) (head-apart number x xs r) in
           let e' : leaves x ≡ false = ap leaves q ∙ e in
           rw (flip_eq (number x) n true t, e') (ap (λ ys. x ∷ ys) (sym (survive-apart leaves n xs a)))
       go more false t = rw (flip_eq (number x) n false t) (ap (λ ys. x ∷ ys) (more (rw t at f) e))

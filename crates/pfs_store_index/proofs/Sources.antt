@@ -1,5 +1,5 @@
 -- The pairs of one source in the ordered set, by number, are its states.
-use Rattle.std.proofs.Common.{◌≡◌, ◌∙◌, ◌<◌, ◌≤◌, ◌==◌, ◌&&◌, ◌||◌, ℕ, Bool, true, false, cond, Some, None, List, [], ◌∷◌, slice_get, refl, ap, sym, subst, arith}
+use Rattle.std.proofs.Common.{◌≡◌, ◌∙◌, ◌<◌, ◌≤◌, ◌==◌, ◌&&◌, ◌||◌, ℕ, Bool, true, false, cond, Some, None, List, [], ◌∷◌, slice_get, refl, ap, sym, subst, arith, IfSome}
 use Rattle.std.specs.Cmp.{IsTotalOrder}
 use Rattle.std.specs.List.{list_any}
 use Rattle.std.specs.BTreeMap.{is_at as is_found}
@@ -10,19 +10,18 @@ use Rattle.std.proofs.lemmas.Bool.Decides.{nat_tests}
 use Rattle.pfs_addr_values.proofs.SameLaws.{same_addr_self, same_addr_true}
 use Rattle.pfs_addr_values.specs.Sameness.{same_addr}
 use Rattle.pfs_addr_values.specs.contracts.addresses.AddrOrd.TheImpl.Laws.{matches_eq-law, total-law}
-use Rattle.std.proofs.Common.{IfSome}
 use Rattle.std.specs.BTreeSet as tree
 use Rattle.std.specs.BTreeSet.{BTreeSet}
 use Rattle.std.specs.declared.ops.Bound.TheVariants.{Excluded, Included}
 use Rattle.pfs_addr_values.specs.declared.addresses.Addr.{Addr}
 use Rattle.pfs_store_contract.specs.Counts.{is_of_source}
 use Rattle.pfs_store_contract.specs.declared.records.State.{State}
-use Rattle.pfs_store_index.specs.Records.{between}
+use Rattle.pfs_store_records.specs.Records.{between}
 use Rattle.pfs_store_index.specs.Rounds.{waiting_of}
 use Rattle.pfs_store_index.specs.Ties.{addr_cmp, is_pair, pair_cmp}
 use Rattle.pfs_store_index.proofs.Leavings.{state_number}
 use Rattle.std.proofs.lemmas.Bool.{and_parts, and_from}
-use Rattle.pfs_store_index.proofs.RisingWalks.{Above, IsRisingBy, head-above, rest-rising}
+use Rattle.pfs_store_records.proofs.Rising.{Above, IsRisingBy, head-above, rest-rising}
 
 -- ---- the order of pairs
 

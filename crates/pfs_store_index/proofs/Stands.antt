@@ -10,30 +10,21 @@ use Rattle.pfs_conf_values.specs.Configs.{Conf, options_at, options_in, rule_in 
 use Rattle.pfs_conf_values.specs.declared.items.Item.{Item}
 use Rattle.pfs_conf_values.specs.declared.items.Rule.{Rule}
 use Rattle.pfs_store_contract.specs.Calls.{other_than, state_number, state_rule}
-use Rattle.pfs_store_contract.specs.Purging.{node_numbers, state_numbers}
+use Rattle.pfs_store_contract.specs.Purging.{state_numbers}
 use Rattle.pfs_store_contract.specs.declared.records.State.{State}
-use Rattle.pfs_store_index.specs.Records.{IsAbove, IsRising, Placed, leaves_number, states_of}
-use Rattle.pfs_store_index.specs.Tallies.{nodes_of}
-use Rattle.pfs_store_index.specs.declared.nodes.Tally.{Tally}
+use Rattle.pfs_store_records.specs.Records.{IsAbove, IsRising, Placed, leaves_number, states_of}
 use Rattle.pfs_store_index.specs.declared.indexes.Entry.{Entry}
 use Rattle.pfs_store_index.specs.Ties.{entry_of, has_key}
 use Rattle.pfs_store_index.proofs.Leavings.{record_number}
-use Rattle.pfs_store_index.proofs.Searches.{find-part}
-use Rattle.pfs_store_index.proofs.RisingWalks.{IsRisingBy}
+use Rattle.pfs_store_records.proofs.Searches.{find-part}
+use Rattle.pfs_store_records.proofs.Rising.{IsRisingBy}
 
 pub numbers-records : (rs : List Placed) → map record_number rs ≡ state_numbers (states_of rs)
 numbers-records [] = refl
 numbers-records (r ∷ rs) = ap (λ ns. r.state.number ∷ ns) (numbers-records rs)
 
-pub numbers-tallies : (ts : List Tally) → map (λ (t : Tally). t.node.number) ts ≡ node_numbers (nodes_of ts)
-numbers-tallies [] = refl
-numbers-tallies (t ∷ ts) = ap (λ ns. t.node.number ∷ ns) (numbers-tallies ts)
-
 pub rising-records : (rs : List Placed) → IsRising (state_numbers (states_of rs)) → IsRisingBy record_number rs
 rising-records rs h = subst IsRising (sym (numbers-records rs)) h
-
-pub rising-tallies : (ts : List Tally) → IsRising (node_numbers (nodes_of ts)) → IsRisingBy (λ (t : Tally). t.node.number) ts
-rising-tallies ts h = subst IsRising (sym (numbers-tallies ts)) h
 
 pub above-records : (n : ℕ) (rs : List Placed) → IsAbove n (state_numbers (states_of rs)) → IsAbove n (map record_number rs)
 above-records n rs h = subst (IsAbove n) (sym (numbers-records rs)) h

@@ -22,7 +22,7 @@ use Rattle.pfs_store_contract.specs.Worlds.{holds_number, lists}
 use Rattle.pfs_store_contract.specs.declared.records.Node.{Node}
 use Rattle.pfs_store_contract.specs.declared.records.NodeScope.{NodeScope}
 use Rattle.pfs_store_contract.specs.declared.records.State.{State}
-use Rattle.pfs_store_index.specs.Records.{IsAbove, between}
+use Rattle.pfs_store_records.specs.Records.{IsAbove, between}
 use Rattle.pfs_store_index.specs.Holdings.{Holding}
 use Rattle.pfs_store_index.specs.Rounds.{waiting}
 use Rattle.pfs_store_contract.specs.Quiet.{StateStays}
@@ -31,8 +31,9 @@ use Rattle.pfs_store_index.specs.Stored.{due_at, AreUnread, IsNumbered, IsStored
 use Rattle.pfs_store_index.proofs.Turning.{in_range}
 use Rattle.pfs_store_index.proofs.Leavings.{state_number}
 use Rattle.pfs_store_index.proofs.Meetings.{blind, map-blind}
-use Rattle.pfs_store_index.proofs.Searches.{all-push, map-push}
-use Rattle.pfs_store_index.proofs.RisingWalks.{Above, Apart, IsRisingBy, head-above, head-apart, rest-rising, stays_by}
+use Rattle.pfs_store_records.proofs.Searches.{all-push, map-push}
+use Rattle.pfs_store_records.proofs.Rising.{Above, Apart, IsRisingBy, head-above, head-apart, rest-rising}
+use Rattle.pfs_store_index.proofs.RisingWalks.{stays_by}
 
 -- ---- numbers
 

@@ -5,11 +5,12 @@ use Rattle.std.proofs.lemmas.Bool.Decides.{nat_tests}
 use Rattle.pfs_store_contract.specs.Calls.{other_than}
 use Rattle.pfs_store_contract.specs.Purging.{is_among, state_numbers}
 use Rattle.pfs_store_contract.specs.declared.records.State.{State}
-use Rattle.pfs_store_index.specs.Records.{between}
-use Rattle.pfs_store_index.specs.Walks.{IsLeaver, IsNext, IsPassing, IsWalk}
+use Rattle.pfs_store_records.specs.Records.{between}
+use Rattle.pfs_store_records.specs.Walks.{IsLeaver, IsNext, IsPassing, IsWalk}
 use Rattle.pfs_store_index.specs.Rounds.{IsExamined, waiting}
 use Rattle.pfs_store_index.proofs.Leavings.{state_number}
-use Rattle.pfs_store_index.proofs.RisingWalks.{IsRisingBy, all-in, all-next, at_next, filter-twice, same_number, stay_more, stays_by, step-stays, survive-removed, survives}
+use Rattle.pfs_store_records.proofs.Rising.{IsRisingBy, same_number}
+use Rattle.pfs_store_index.proofs.RisingWalks.{all-in, all-next, at_next, filter-twice, stay_more, stays_by, step-stays, survive-removed, survives}
 
 -- ---- those that were passed by stay
 

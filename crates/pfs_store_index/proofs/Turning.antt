@@ -9,8 +9,8 @@ use Rattle.std.proofs.lemmas.Bool.Decides.{nat_tests}
 use Rattle.pfs_store_contract.specs.Purging.{round}
 use Rattle.pfs_store_contract.specs.Quiet.{round_after_slices}
 use Rattle.pfs_store_contract.proofs.Turns.{drop-all, rounds-over, whole-round}
-use Rattle.pfs_store_index.specs.Records.{IsRising, between}
-use Rattle.pfs_store_index.proofs.Walking.{Walking, drop-front, length-keys, map-both, span, span-entries, span-keys, split-span}
+use Rattle.pfs_store_records.specs.Records.{IsRising, between}
+use Rattle.pfs_store_records.proofs.Walking.{Walking, drop-front, length-keys, map-both, span, span-entries, span-keys, split-span}
 
 not_zero : (n : ℕ) → false ≡ (suc n == 0)
 not_zero n = grind (arith, nat_tests)

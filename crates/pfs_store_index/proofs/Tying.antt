@@ -19,19 +19,21 @@ use Rattle.pfs_store_contract.specs.Purging.{state_numbers}
 use Rattle.pfs_store_contract.specs.Touching.{completes_at, numbered_state_after}
 use Rattle.pfs_store_contract.specs.declared.records.NodeScope.{NodeScope}
 use Rattle.pfs_store_contract.specs.declared.records.State.{State}
-use Rattle.pfs_store_index.specs.Records.{IsRising, Placed, leaves_number, placed_at, states_of}
-use Rattle.pfs_store_index.specs.declared.nodes.Tally.{Tally}
+use Rattle.pfs_store_records.specs.Records.{IsRising, Placed, leaves_number, placed_at, states_of}
+use Rattle.pfs_store_records.specs.declared.nodes.Tally.{Tally}
 use Rattle.pfs_store_index.specs.declared.indexes.Entry.{Entry}
-use Rattle.pfs_store_index.specs.Ties.{HasPair, HasRule, HasTally, IsCounted, IsTied, SamePairs, at_node, entry_of, has_key, is_pair, tallies_with_state, key_in, left_at, left_of, met_by, pair_cmp}
+use Rattle.pfs_store_index.specs.Ties.{HasPair, HasRule, IsCounted, IsTied, SamePairs, entry_of, has_key, is_pair, key_in, left_at, pair_cmp}
+use Rattle.pfs_store_records.specs.Changes.{HasTally, at_node, tallies_with_state, left_of, met_by}
 use Rattle.pfs_store_index.proofs.Comings.{counted-came, distinct-came, key-came, noded-came, pair-came, rule-came, ruled-came, scoped-came, scored-came}
-use Rattle.pfs_store_index.proofs.Leavings.{counted-left, key-left, left-faithful, noded-left, pair-left, record_number, rule-left, ruled-set, scored-left, state_number}
-use Rattle.pfs_store_index.proofs.Meetings.{CountsDone, all-blind, all-met, any-blind, blind, count-blind, key-renewed, keys-renewed, met-faithful, noded-met, renewed_record, scored-met, states-renewed}
-use Rattle.pfs_store_index.proofs.OneNode.{scoped-at}
+use Rattle.pfs_store_index.proofs.Leavings.{counted-left, key-left, noded-left, pair-left, record_number, rule-left, ruled-set, scored-left, state_number}
+use Rattle.pfs_store_records.proofs.TallyLaws.{left-faithful, met-faithful}
+use Rattle.pfs_store_index.proofs.Meetings.{CountsDone, all-blind, all-met, any-blind, blind, count-blind, key-renewed, keys-renewed, noded-met, renewed_record, scored-met, states-renewed}
+use Rattle.pfs_store_records.proofs.OneNode.{scoped-at}
 use Rattle.pfs_store_index.proofs.Removals.{all-filter, all-found, distinct-filter}
-use Rattle.pfs_store_index.proofs.Searches.{map-push, part-found}
+use Rattle.pfs_store_records.proofs.Searches.{map-push, part-found}
 use Rattle.pfs_store_index.proofs.Sources.{pair_test}
 use Rattle.pfs_store_index.proofs.Stands.{rising-records, states-left}
-use Rattle.pfs_store_index.proofs.RisingWalks.{has_number}
+use Rattle.pfs_store_records.proofs.Rising.{has_number}
 
 module _ {S : Type 0} (conf : Conf) (rs : List Placed) (keys : HashMap FlowKey Entry S) (counts : List ℕ) (ts : List Tally) (pairs : BTreeSet (Addr × ℕ)) where
   -- the rule of a state that is held has a count

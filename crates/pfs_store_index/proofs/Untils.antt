@@ -7,14 +7,15 @@ use Rattle.pfs_store_contract.specs.Purging.{is_among, node_numbers, state_numbe
 use Rattle.pfs_store_contract.specs.Quiet.{NodeStays}
 use Rattle.pfs_store_contract.specs.declared.records.Node.{Node}
 use Rattle.pfs_store_contract.specs.declared.records.State.{State}
-use Rattle.pfs_store_index.specs.Records.{between}
-use Rattle.pfs_store_index.specs.Walks.{IsLeaver, IsNext, IsPassing, IsWalk, StayUntil}
+use Rattle.pfs_store_records.specs.Records.{between}
+use Rattle.pfs_store_records.specs.Walks.{IsLeaver, IsNext, IsPassing, IsWalk, StayUntil}
 use Rattle.pfs_store_index.specs.Rounds.{waiting}
 use Rattle.pfs_store_index.specs.Staying.{NodeHolds, NodesHold, StatesHold}
 use Rattle.pfs_store_index.proofs.Idling.{node_number}
 use Rattle.pfs_store_index.proofs.Leavings.{state_number}
 use Rattle.pfs_store_index.proofs.Stretches.{among-append, among-between}
-use Rattle.pfs_store_index.proofs.RisingWalks.{Apart, IsRisingBy, at_next, flip_eq, has_number, head-apart, head-is, rest-rising, same_number}
+use Rattle.pfs_store_records.proofs.Rising.{Apart, IsRisingBy, flip_eq, has_number, head-apart, head-is, rest-rising, same_number}
+use Rattle.pfs_store_index.proofs.RisingWalks.{at_next}
 
 module _ {X : Type 0} (number : X → ℕ) (Stays : ℕ → X → Type 0) where
   -- each of these whose number was examined stays up to a moment

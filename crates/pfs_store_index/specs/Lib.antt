@@ -1,12 +1,5 @@
 pub mod Holdings
-pub mod Keeping
-pub mod Pieces
-pub mod Records
 pub mod Rounds
-pub mod Sourced
 pub mod Staying
-pub mod Stays
 pub mod Stored
-pub mod Tallies
 pub mod Ties
-pub mod Walks

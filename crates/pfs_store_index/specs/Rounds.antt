@@ -5,7 +5,7 @@ use Rattle.pfs_store_contract.specs.Counts.{is_of_source}
 use Rattle.pfs_store_contract.specs.Purging.{is_among}
 use Rattle.pfs_store_contract.specs.declared.records.Node.{Node}
 use Rattle.pfs_store_contract.specs.declared.records.State.{State}
-use Rattle.pfs_store_index.specs.Records.{between}
+use Rattle.pfs_store_records.specs.Records.{between}
 
 -- the numbers that a round with this cursor and mark has still to examine
 abbrev pub waiting : ℕ → ℕ → List ℕ → List ℕ

@@ -10,7 +10,7 @@ use Rattle.pfs_track.specs.Lifetimes.{lifetime_under, value_for}
 use Rattle.pfs_store_contract.specs.Purging.{node_numbers, state_numbers}
 use Rattle.pfs_store_contract.specs.Worlds.{World, lists}
 use Rattle.pfs_store_contract.specs.declared.records.State.{State}
-use Rattle.pfs_store_index.specs.Walks.{end_of, state_has_expired}
+use Rattle.pfs_store_records.specs.Walks.{end_of, state_has_expired}
 use Rattle.pfs_store_index.specs.Holdings.{Holding}
 use Rattle.pfs_store_index.specs.Rounds.{waiting}
 

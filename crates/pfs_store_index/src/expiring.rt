@@ -1,10 +1,11 @@
 //! How long states may stay, under the counts by which their lifetimes are scaled.
 
-ghost use Rattle.std.specs.Prelude.{◌≡◌, ◌+◌, ◌-◌, ◌<◌, ◌≤◌, ◌^◌, if◌then◌else◌, length, slice_index};
+ghost use Rattle.std.specs.Prelude.{◌≡◌, ◌+◌, ◌-◌, ◌<◌, ◌≤◌, ◌^◌, if◌then◌else◌, length};
 ghost use Rattle.pfs_store_index.specs.Stored.{AreUnread, has_pair, seconds_of};
 
-use crate::walks::Lifetimes;
 use pfs_conf_values::{Config, RuleNo, TimeoutName};
+use pfs_store_records::Lifetimes;
+use pfs_store_rules::count_at;
 use pfs_track::{StatePhase, lifetime};
 
 /// The lifetimes of states, where the rules had these counts of states and so many were held.
@@ -21,16 +22,6 @@ impl Lifetimes for Scaled<'_> {
     fn seconds(&self, rule: RuleNo, phase: StatePhase) -> u64 {
         let count = count_at(self.counts, rule.0 as usize);
         lifetime(self.config, rule, phase, count, self.held)
-    }
-}
-
-fn count_at(counts: &[u64], place: usize) -> u64
-    ensures { result ≡ slice_index counts.now place }
-{
-    if place < counts.len() {
-        counts[place]
-    } else {
-        0
     }
 }
 

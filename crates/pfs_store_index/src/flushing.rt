@@ -6,7 +6,7 @@ ghost use Rattle.pfs_store_contract.specs.Calls.{source_states, stays_unflushed}
 ghost use Rattle.pfs_store_contract.specs.Leaving.{node_after_leaving, is_flushed};
 ghost use Rattle.pfs_store_contract.specs.Purging.{state_numbers};
 ghost use Rattle.pfs_store_contract.specs.Worlds.{holds_number};
-ghost use Rattle.pfs_store_index.specs.Records.{IsRising};
+ghost use Rattle.pfs_store_records.specs.Records.{IsRising};
 ghost use Rattle.pfs_store_index.specs.Rounds.{state_survives};
 ghost use Rattle.pfs_store_index.specs.Stored.{IsNumbered};
 
@@ -61,8 +61,7 @@ fn strike<S: BuildHasher>(
     ensures looks { meter.new ≡ meter.old + 1 }
     ensures rising { IsRising (state_numbers indexes.old.states) }
 {
-    // This call states to the proof that the numbers of the states rise.
-    let _count = indexes.state_count();
+    indexes.state_numbers_rise();
     let state = indexes.read(number, meter);
     if is_flushed(&state, source, rule) {
         indexes.take_out(state, now);

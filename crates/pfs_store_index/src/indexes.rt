@@ -16,25 +16,22 @@ ghost use Rattle.pfs_store_contract.specs.Purging.{is_over, node_numbers, state_
 ghost use Rattle.pfs_store_contract.specs.Quiet.{NodeStays};
 ghost use Rattle.pfs_store_contract.specs.Touching.{completes_at, nodes_touched, numbered_state_after};
 ghost use Rattle.pfs_store_contract.specs.Worlds.{IsUpToNow, holds_number, lists, state_with};
-ghost use Rattle.pfs_store_index.specs.Records.{IsAbove, IsRising, between, placed_at, states_of};
-ghost use Rattle.pfs_store_index.specs.Sourced.{IsSourced};
-ghost use Rattle.pfs_store_index.specs.Tallies.{nodes_of};
-ghost use Rattle.pfs_store_index.specs.Walks.{IsPassing};
+ghost use Rattle.pfs_store_records.specs.Records.{IsAbove, IsRising, between, placed_at, states_of};
+ghost use Rattle.pfs_store_records.specs.Sourced.{IsSourced};
+ghost use Rattle.pfs_store_records.specs.Tallies.{nodes_of};
+ghost use Rattle.pfs_store_records.specs.Walks.{IsPassing};
 ghost use Rattle.pfs_store_index.specs.Holdings.{IsUncompleted};
 ghost use Rattle.pfs_store_index.specs.Rounds.{waiting, waiting_of};
 ghost use Rattle.pfs_store_index.specs.Ties.{HasRule, entry_of};
 
-use crate::nodes::{Nodes, Passed, Tally};
 use crate::placing::place;
-use crate::records::Records;
-use crate::rounds::Round;
-use crate::sought::Sought;
 use crate::stepping::stepped;
-use crate::tallying::{leave, meet};
 use indexmap::IndexMap;
 use pfs_addr_values::{Addr, FlowKey, Meter, NoMemory, Packet};
-use pfs_conf_values::{Config, RuleNo, Scope};
+use pfs_conf_values::{Config, RuleNo};
 use pfs_store_contract::{Node, NodeScope, State, StateNo, Touched};
+use pfs_store_records::{Nodes, Passed, Records, Round, Sought, Tally, leave, meet};
+use pfs_store_rules::node_scope;
 use std::alloc::{AllocError, Global};
 use std::cell::Cell;
 use std::collections::BTreeSet;
@@ -71,8 +68,8 @@ pub(crate) struct Indexes<S: BuildHasher> {
 }
 
 impl<S: BuildHasher> Model for Indexes<S> {
-    ghost use Rattle.pfs_store_index.specs.Records.{states_of};
-    ghost use Rattle.pfs_store_index.specs.Tallies.{nodes_of};
+    ghost use Rattle.pfs_store_records.specs.Records.{states_of};
+    ghost use Rattle.pfs_store_records.specs.Tallies.{nodes_of};
     ghost use Rattle.pfs_store_index.specs.Holdings.{Holding};
     ghost use Rattle.pfs_store_index.specs.Ties.{IsTied};
 
@@ -116,19 +113,30 @@ impl<S: BuildHasher> Indexes<S> {
 
     /// How many states are held.
     pub(crate) fn state_count(&self) -> u64
-        ensures value { result ≡ length self.now.states }
-        ensures rising { IsRising (state_numbers self.now.states) }
-        ensures ruled { AllByRecursion (HasRule (length self.now.config.items)) self.now.states }
+        ensures { result ≡ length self.now.states }
     {
         self.records.len()
     }
 
+    /// The numbers of the states rise: a fact for proofs, which computes nothing.
+    pub(crate) fn state_numbers_rise(&self)
+        ensures { IsRising (state_numbers self.now.states) }
+    {
+        self.records.numbers_rise();
+    }
+
     /// How many source nodes are held.
     pub(crate) fn node_count(&self) -> u64
-        ensures value { result ≡ length self.now.nodes }
-        ensures rising { IsRising (node_numbers self.now.nodes) }
+        ensures { result ≡ length self.now.nodes }
     {
         self.nodes.len()
+    }
+
+    /// The numbers of the source nodes rise: a fact for proofs, which computes nothing.
+    pub(crate) fn node_numbers_rise(&self)
+        ensures { IsRising (node_numbers self.now.nodes) }
+    {
+        self.nodes.are_orderly();
     }
 
     /// The records of the states.
@@ -177,6 +185,7 @@ impl<S: BuildHasher> Indexes<S> {
     pub(crate) fn rule_counts(&self) -> &[u64]
         ensures counts { AreCounts result.now self.now.states }
         ensures size { length result.now ≡ length self.now.config.items }
+        ensures ruled { AllByRecursion (HasRule (length self.now.config.items)) self.now.states }
     {
         &self.counts
     }
@@ -205,8 +214,7 @@ impl<S: BuildHasher> Indexes<S> {
         requires small { most < 2 ^ 32 }
         ensures { result ≡ slice_get (waiting_of source above most self.now.states) 0 }
     {
-        // This call states to the proof that the numbers of the states rise.
-        let _count = self.records.len();
+        self.records.numbers_rise();
         match self
             .pairs
             .range((
@@ -305,8 +313,7 @@ impl<S: BuildHasher> Indexes<S> {
         ensures config { self.new.config ≡ self.old.config }
         ensures looks { meter.new ≡ meter.old + 1 }
     {
-        // This call states to the proof that the numbers of the states rise.
-        let _count = self.records.len();
+        self.records.numbers_rise();
         match entry_at(&self.keys, &self.last_found, &FlowKey::of(packet)) {
             Some(entry) => {
                 let place = entry.place;
@@ -338,8 +345,7 @@ impl<S: BuildHasher> Indexes<S> {
         ensures nodes { self.new.nodes
             ≡ map (node_after_leaving self.old.config self.old.states (filter (other_than state.number) self.old.states) now) self.old.nodes }
     {
-        // This call states to the proof that the numbers of the states rise.
-        let _count = self.records.len();
+        self.records.numbers_rise();
         let rule = state.rule.0 as usize;
         let scope = node_scope(&self.config, state.rule);
         self.keys.swap_remove(&Sought { key: state.key });
@@ -357,8 +363,7 @@ impl<S: BuildHasher> Indexes<S> {
         ensures states { self.new.states ≡ self.old.states }
         ensures nodes { self.new.nodes ≡ filter (λ n. not (n.number == node.number)) self.old.nodes }
     {
-        // This call states to the proof that the numbers of the nodes rise.
-        let _count = self.nodes.len();
+        self.nodes.are_orderly();
         self.nodes.remove(node.number);
     }
 }
@@ -407,16 +412,5 @@ fn entry_of(state: &State, place: u32) -> Entry
         number: state.number as u32,
         rule: state.rule,
         place,
-    }
-}
-
-/// The scope of a rule's nodes, if it tracks sources.
-pub(crate) fn node_scope(config: &Config, rule: RuleNo) -> Option<NodeScope>
-    ensures { result ≡ node_scope_of config.now rule.0 }
-{
-    match config.scope(rule) {
-        None => None,
-        Some(Scope::Rule) => Some(NodeScope::Rule(rule)),
-        Some(Scope::Global) => Some(NodeScope::Global),
     }
 }

@@ -1,16 +1,16 @@
 //! The limits that a new state meets, by the counts that are kept.
 
 ghost use Rattle.std.specs.Prelude.{◌≡◌, [], IsSome};
-ghost use Rattle.pfs_conf_values.specs.Configs.{options_at, options_of};
+ghost use Rattle.pfs_conf_values.specs.Configs.{options_at};
 ghost use Rattle.pfs_store_contract.specs.Admission.{limit_met};
 ghost use Rattle.pfs_store_contract.specs.SourceLimits.{new_node_limit, source_limit};
-ghost use Rattle.pfs_store_contract.specs.Counts.{reaches_maximum};
 ghost use Rattle.pfs_store_contract.specs.Worlds.{lists};
 
-use crate::indexes::{Indexes, node_scope};
+use crate::indexes::Indexes;
 use pfs_addr_values::Addr;
-use pfs_conf_values::{Config, LimitName, RuleNo, StateOptions};
+use pfs_conf_values::{LimitName, RuleNo, StateOptions};
 use pfs_store_contract::{Limit, NodeScope};
+use pfs_store_rules::{is_reached, node_scope, options_for};
 use std::hash::BuildHasher;
 
 /// The first limit that a state of this rule and source would meet.
@@ -28,7 +28,7 @@ pub(crate) fn limit_met<S: BuildHasher>(
         return Some(Limit::Max);
     }
     if let Some(scope) = node_scope(indexes.config(), rule)
-        && let Some(limit) = source_limit(indexes, &options, scope, source)
+        && let Some(limit) = source_limit(indexes, options, scope, source)
     {
         return Some(limit);
     }
@@ -36,16 +36,6 @@ pub(crate) fn limit_met<S: BuildHasher>(
         return Some(Limit::States);
     }
     None
-}
-
-fn options_for(config: &Config, rule: RuleNo) -> StateOptions
-    requires { IsSome (options_at config.now rule.0) }
-    ensures { result ≡ options_of config.now rule.0 }
-{
-    match config.options(rule) {
-        Some(options) => *options,
-        None => unreachable!(),
-    }
 }
 
 /// The limit that a source meets in the scope of a rule with these options.
@@ -84,15 +74,5 @@ fn new_node_limit<S: BuildHasher>(
         Some(Limit::SrcNodes)
     } else {
         None
-    }
-}
-
-/// Whether a maximum, if there is one, is reached.
-fn is_reached(most: Option<u32>, count: u64) -> bool
-    ensures { result ≡ reaches_maximum most count }
-{
-    match most {
-        Some(most) => u64::from(most) <= count,
-        None => false,
     }
 }

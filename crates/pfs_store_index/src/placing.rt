@@ -4,16 +4,15 @@ ghost use Rattle.std.specs.Prelude.{◌≡◌, ◌<◌, ◌^◌, ◌++◌, ◌�
 ghost use Rattle.std.specs.BTreeSet.{contains};
 ghost use Rattle.std.specs.List.{AllByRecursion};
 ghost use Rattle.pfs_store_contract.specs.Purging.{node_numbers, state_numbers};
-ghost use Rattle.pfs_store_index.specs.Records.{IsAbove, placed_at, states_of};
-ghost use Rattle.pfs_store_index.specs.Sourced.{IsSourced};
-ghost use Rattle.pfs_store_index.specs.Tallies.{nodes_of};
-ghost use Rattle.pfs_store_index.specs.Ties.{HasPair, IsFew, SamePairs, tallies_with_state, pair_cmp};
+ghost use Rattle.pfs_store_records.specs.Records.{IsAbove, placed_at, states_of};
+ghost use Rattle.pfs_store_records.specs.Sourced.{IsSourced};
+ghost use Rattle.pfs_store_records.specs.Tallies.{nodes_of};
+ghost use Rattle.pfs_store_index.specs.Ties.{HasPair, SamePairs, pair_cmp};
+ghost use Rattle.pfs_store_records.specs.Changes.{IsFew, tallies_with_state};
 
-use crate::nodes::Nodes;
-use crate::records::Records;
-use crate::tallying::join;
 use pfs_addr_values::{Addr, NoMemory};
 use pfs_store_contract::{NodeScope, State};
+use pfs_store_records::{Nodes, Records, join};
 use std::collections::BTreeSet;
 use std::hash::BuildHasher;
 

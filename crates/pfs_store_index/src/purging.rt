@@ -10,21 +10,19 @@ ghost use Rattle.pfs_store_contract.specs.Leaving.{node_after_leaving};
 ghost use Rattle.pfs_store_contract.specs.Plain.{AreCounts};
 ghost use Rattle.pfs_store_contract.specs.Purging.{is_among, is_over, node_numbers, node_retention, node_stays, share, state_numbers, stays};
 ghost use Rattle.pfs_store_contract.specs.Quiet.{StateStays};
-ghost use Rattle.pfs_store_index.specs.Records.{IsRising};
-ghost use Rattle.pfs_store_index.specs.Walks.{IsWalk, StayUntil, looks_of};
+ghost use Rattle.pfs_store_records.specs.Records.{IsRising};
+ghost use Rattle.pfs_store_records.specs.Walks.{IsWalk, StayUntil, looks_of};
 ghost use Rattle.pfs_store_index.specs.Staying.{NodeHolds, NodesHold, StatesHold};
 ghost use Rattle.pfs_store_index.specs.Stored.{AreUnread, due_at, is_due};
 ghost use Rattle.pfs_store_index.specs.Rounds.{IsExamined, node_survives, nodes_survive, states_survive, waiting};
 
 use crate::expiring::Scaled;
 use crate::indexes::Indexes;
-use crate::nodes::Tally;
-use crate::retaining::{is_over, kept_until};
-use crate::rounds::{Round, is_over as is_round_over};
-use crate::walks::Walk;
+use crate::rounds::is_over as is_round_over;
 use pfs_addr_values::Meter;
 use pfs_conf_values::{Config, TimeoutName};
 use pfs_store_contract::{Slice, Watched};
+use pfs_store_records::{Round, Tally, Walk, is_over, kept_until};
 use std::collections::BTreeMap;
 use std::hash::BuildHasher;
 
@@ -194,8 +192,7 @@ fn examine<S: BuildHasher>(
         (take result.examined (waiting round.cursor round.mark (state_numbers indexes.old.states))) result.until indexes.new.states }
     ensures looks { meter.new ≡ meter.old + result.examined }
 {
-    // This call states to the proof that the numbers of the states rise.
-    let _count = indexes.state_count();
+    indexes.state_numbers_rise();
     let walk = walk_to_due(indexes, counts, round, share, held, now, meter);
     let stayed = walk.stayed;
     let until = walk.until;
@@ -339,8 +336,7 @@ fn examine_node<S: BuildHasher>(indexes: &mut Indexes<S>, tally: &Tally, now: u6
     ensures until { NodeHolds indexes.old.config indexes.old.states tally.now.node.number result indexes.new.nodes }
     ensures rising { IsRising (node_numbers indexes.old.nodes) }
 {
-    // This call states to the proof that the numbers of the nodes rise.
-    let _count = indexes.node_count();
+    indexes.node_numbers_rise();
     let config = indexes.config();
     let until = kept_until(config, tally);
     if is_over(config, tally, now) {

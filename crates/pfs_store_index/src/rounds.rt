@@ -5,19 +5,11 @@ ghost use Rattle.std.specs.List.{AllByRecursion};
 ghost use Rattle.std.specs.Map.{keys_of};
 ghost use Rattle.pfs_store_contract.specs.Purging.{round};
 ghost use Rattle.pfs_store_contract.specs.Quiet.{round_after_slices};
-ghost use Rattle.pfs_store_index.specs.Records.{IsRising, between};
+ghost use Rattle.pfs_store_records.specs.Records.{IsRising, between};
 
+use pfs_store_records::Round;
 use std::collections::BTreeMap;
 use std::ops::Bound;
-
-/// What has a number above the cursor, and up to the mark, is still to be examined.
-#[derive(Debug, Clone, Copy, PartialEq, Eq)]
-pub struct Round {
-    /// The number of the last that was examined, or one below all.
-    pub cursor: u64,
-    /// The greatest number that the round may have.
-    pub mark: u64,
-}
 
 /// A round that went on, and how many slices are still to be done.
 #[derive(Clone, Copy)]

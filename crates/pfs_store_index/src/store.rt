@@ -12,10 +12,11 @@ use crate::flushing::flush;
 use crate::indexes::Indexes;
 use crate::limits::limit_met;
 use crate::purging::{share_of, walk_nodes, walk_states};
-use crate::rounds::{Round, next_between, turned, under_way};
+use crate::rounds::{next_between, turned, under_way};
 use pfs_addr_values::{Addr, FlowKey, Meter, NoMemory, Packet};
 use pfs_conf_values::{Config, LimitName, RuleNo, RulesHasher};
 use pfs_store_contract::{Limit, Slice, State, StateNo, Store, Touched, Watched};
+use pfs_store_records::Round;
 use pfs_track::StatePhase;
 use std::alloc::Global;
 use std::hash::BuildHasher;
@@ -99,8 +100,7 @@ impl<S: BuildHasher> IndexStore<S> {
         ensures config { self.new.config ≡ self.old.config }
     {
         let source = packet.src();
-        // This call states to the proof that the numbers of the states rise.
-        let _count = self.indexes.state_count();
+        self.indexes.state_numbers_rise();
         let number = self.made + 1;
         let state = State {
             number,
@@ -172,19 +172,18 @@ impl<S: BuildHasher> Store for IndexStore<S> {
     }
 
     fn touch(&mut self, _number: StateNo, packet: &Packet, now: u64, meter: &mut Meter) -> Touched {
-        // This call states to the proof that the numbers of the states rise.
-        let _count = self.indexes.state_count();
+        self.indexes.state_numbers_rise();
         self.indexes.renew(packet, now, meter).touched
     }
 
     fn kill(&mut self, number: StateNo, now: u64, meter: &mut Meter) {
-        // This call states to the proof that the numbers of the states rise.
-        let _count = self.indexes.state_count();
+        self.indexes.state_numbers_rise();
         let state = self.indexes.read(number.0, meter);
         self.indexes.take_out(state, now);
     }
 
     fn flush(&mut self, source: Addr, rule: Option<RuleNo>, now: u64, meter: &mut Meter) -> u64 {
+        self.indexes.state_numbers_rise();
         let held = self.indexes.state_count();
         flush(&mut self.indexes, source, rule, self.made, now, meter);
         held.saturating_sub(self.indexes.state_count())
@@ -199,8 +198,7 @@ impl<S: BuildHasher> Store for IndexStore<S> {
     }
 
     fn watch_states(&mut self, now: u64, meter: &mut Meter) -> Watched {
-        // This call states to the proof that the numbers of the states rise.
-        let _count = self.indexes.state_count();
+        self.indexes.state_numbers_rise();
         let read = self.counts.len();
         let counts = self.indexes.rule_counts();
         self.counts.copy_from_slice(&counts[..read]);

@@ -1,7 +1,7 @@
 //! Counts of states, and the nodes that a scope has.
 
 ghost use Rattle.std.specs.Prelude.{◌≡◌, Bool, filter, length};
-ghost use Rattle.pfs_store_contract.specs.Counts.{has_node, in_scope, is_connection, is_of_node, is_of_rule, node_scope_of, reaches_maximum, scope_nodes};
+ghost use Rattle.pfs_store_contract.specs.Counts.{has_node, in_scope, is_connection, is_of_node, is_of_rule, scope_nodes};
 ghost use Rattle.pfs_store_contract.specs.declared.records.State.{State};
 
 use pfs_addr_values::Addr;
@@ -74,17 +74,6 @@ fn in_scope(config: &Config, scope: NodeScope, rule: RuleNo) -> bool
     }
 }
 
-/// The scope of a rule's nodes, if it tracks sources.
-pub(crate) fn node_scope(config: &Config, rule: RuleNo) -> Option<NodeScope>
-    ensures { result ≡ node_scope_of config.now rule.0 }
-{
-    match config.scope(rule) {
-        None => None,
-        Some(Scope::Rule) => Some(NodeScope::Rule(rule)),
-        Some(Scope::Global) => Some(NodeScope::Global),
-    }
-}
-
 /// Whether a source has a node in a scope.
 pub(crate) fn has_node(nodes: &[Node], scope: NodeScope, source: Addr) -> bool
     ensures { result ≡ has_node scope source nodes.now }
@@ -99,14 +88,4 @@ pub(crate) fn scope_nodes(nodes: &[Node], scope: NodeScope) -> u64
     ensures { result ≡ scope_nodes scope nodes.now }
 {
     nodes.iter().filter(|node| node.scope == scope).count() as u64
-}
-
-/// Whether a maximum, if there is one, is reached.
-pub(crate) fn is_reached(most: Option<u32>, count: u64) -> bool
-    ensures { result ≡ reaches_maximum most count }
-{
-    match most {
-        Some(most) => u64::from(most) <= count,
-        None => false,
-    }
 }

@@ -1,15 +1,16 @@
 //! The limits that a new state meets.
 
 ghost use Rattle.std.specs.Prelude.{◌≡◌, [], IsSome};
-ghost use Rattle.pfs_conf_values.specs.Configs.{options_at, options_of};
+ghost use Rattle.pfs_conf_values.specs.Configs.{options_at};
 ghost use Rattle.pfs_store_contract.specs.Admission.{limit_met};
 ghost use Rattle.pfs_store_contract.specs.SourceLimits.{held_node_limit, new_node_limit, source_limit};
 ghost use Rattle.pfs_store_contract.specs.Worlds.{lists};
 
-use crate::counts::{OfNode, OfRule, count, has_node, is_reached, node_scope, scope_nodes};
+use crate::counts::{OfNode, OfRule, count, has_node, scope_nodes};
 use pfs_addr_values::Addr;
 use pfs_conf_values::{Config, LimitName, RuleNo, StateOptions};
 use pfs_store_contract::{Limit, Node, NodeScope, State};
+use pfs_store_rules::{is_reached, node_scope, options_for};
 
 /// The first limit that a state of this rule and source would meet.
 #[tactic(auto, using(pfs_store_contract::proofs::LimitLaws::met_in_turn))]
@@ -36,16 +37,6 @@ pub(crate) fn limit_met(
         return Some(Limit::States);
     }
     None
-}
-
-fn options_for(config: &Config, rule: RuleNo) -> &StateOptions
-    requires { IsSome (options_at config.now rule.0) }
-    ensures { result.now ≡ options_of config.now rule.0 }
-{
-    match config.options(rule) {
-        Some(options) => options,
-        None => unreachable!(),
-    }
 }
 
 /// The limit that a source meets in the scope of a rule with these options.

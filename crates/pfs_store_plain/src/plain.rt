@@ -8,7 +8,7 @@ ghost use Rattle.pfs_store_contract.specs.Calls.{packet_limit};
 ghost use Rattle.pfs_store_plain.specs.Rooms.{AreScores};
 ghost use Rattle.pfs_store_contract.specs.Worlds.{empty_world};
 
-use crate::counts::{count, has_node, node_scope};
+use crate::counts::{count, has_node};
 use crate::leaving::{Flushed, OtherThan, Unflushed, holds_number, leave};
 use crate::limits::limit_met;
 use crate::purging::{slice_nodes, slice_states};
@@ -16,6 +16,7 @@ use crate::touching::{self, state_with};
 use pfs_addr_values::{Addr, FlowKey, Meter, NoMemory, Packet};
 use pfs_conf_values::{Config, RuleNo};
 use pfs_store_contract::{Limit, Node, NodeScope, Slice, State, StateNo, Store, Touched};
+use pfs_store_rules::node_scope;
 use pfs_track::{Score, StatePhase};
 use std::alloc::{AllocError, Global};
 use std::marker::Model;

@@ -1,21 +1,21 @@
 //! The slices of the purge, in lists of states and nodes.
 
-ghost use Rattle.std.specs.Prelude.{◌≡◌, ◌+◌, ◌-◌, ◌<◌, ◌≤◌, ◌==◌, ◌&&◌, ℕ, [], List, ◌^◌, not, drop, filter, length, map, min, None, replicate, slice_index, slice_index_or, take, unwrap_or, vec_capacity};
-ghost use Rattle.pfs_conf_values.specs.Configs.{rate_seconds, rule_retention, timeout_of};
+ghost use Rattle.std.specs.Prelude.{◌≡◌, ◌+◌, ◌-◌, ◌<◌, ◌≤◌, ◌==◌, ◌&&◌, ℕ, [], List, ◌^◌, not, drop, filter, length, map, min, replicate, slice_index, take, vec_capacity};
+ghost use Rattle.pfs_conf_values.specs.Configs.{timeout_of};
 ghost use Rattle.pfs_conf_values.specs.declared.timeouts.TimeoutName.TheVariants as timeout;
-ghost use Rattle.pfs_conf_values.specs.Timeouts.{place_of};
 ghost use Rattle.pfs_track.specs.Lifetimes.{is_expired, scaled_lifetime};
 ghost use Rattle.pfs_store_contract.specs.Counts.{rule_states};
 ghost use Rattle.pfs_store_contract.specs.Plain.{AreCounts};
-ghost use Rattle.pfs_store_contract.specs.Purging.{is_among, is_over, node_retention, node_share, node_slice, node_stays, round, share, state_share, state_slice};
+ghost use Rattle.pfs_store_contract.specs.Purging.{is_among, is_over, node_share, node_slice, node_stays, round, share, state_share, state_slice};
 ghost use Rattle.pfs_store_contract.specs.Calls.{node_slice_of, state_slice_of};
 ghost use Rattle.pfs_store_plain.specs.Rooms.{AreScores};
 ghost use Rattle.pfs_store_contract.specs.Worlds.{lists};
 
 use crate::counts::{OfNode, Test, count};
 use crate::leaving::{idle, keep};
-use pfs_conf_values::{Config, LimitName, StateOptions, TimeoutName};
-use pfs_store_contract::{Node, NodeScope, Slice, State};
+use pfs_conf_values::{Config, LimitName, TimeoutName};
+use pfs_store_contract::{Node, Slice, State};
+use pfs_store_rules::{count_at, node_retention};
 use pfs_track::{is_expired, lifetime};
 
 /// What a round goes over: states, or source nodes.
@@ -131,16 +131,6 @@ fn has_expired(config: &Config, rule_counts: &[u64], held: u64, state: &State, n
     is_expired(seconds, state.last, now)
 }
 
-fn count_at(counts: &[u64], place: usize) -> u64
-    ensures { result ≡ slice_index counts.now place }
-{
-    if place < counts.len() {
-        counts[place]
-    } else {
-        0
-    }
-}
-
 /// One slice of the round of the states.
 pub(crate) fn slice_states(
     config: &Config,
@@ -235,45 +225,4 @@ fn is_over(config: &Config, states: &[State], node: &Node, now: u64) -> bool
     };
     let retention = node_retention(config, node.scope);
     count(states, &of_node) == 0 && retention <= now && node.idle <= now - retention
-}
-
-/// How long a node without states is kept.
-fn node_retention(config: &Config, scope: NodeScope) -> u64
-    ensures { result ≡ node_retention config.now scope }
-{
-    let global = config.timeout(TimeoutName::SrcTrack);
-    match scope {
-        NodeScope::Rule(rule) => match config.options(rule) {
-            Some(options) => rule_retention(options, global),
-            None => global,
-        },
-        NodeScope::Global => global,
-    }
-}
-
-/// The greater of `src.track` and of the seconds of the rate, in the options of a rule.
-fn rule_retention(options: &StateOptions, global: u64) -> u64
-    ensures { result ≡ rule_retention global options.now }
-{
-    source_seconds(options, global).max(rate_seconds(options))
-}
-
-/// The rule's `src.track`, or else the global one.
-fn source_seconds(options: &StateOptions, global: u64) -> u64
-    ensures { result ≡ unwrap_or (slice_index_or options.now.timeouts (place_of timeout.SrcTrack) None) global }
-{
-    match options.timeouts.get(TimeoutName::SrcTrack) {
-        Some(seconds) => u64::from(seconds),
-        None => global,
-    }
-}
-
-/// The seconds of the rate, if there is one.
-fn rate_seconds(options: &StateOptions) -> u64
-    ensures { result ≡ rate_seconds options.now.max_src_conn_rate }
-{
-    match options.max_src_conn_rate {
-        Some(rate) => u64::from(rate.seconds),
-        None => 0,
-    }
 }

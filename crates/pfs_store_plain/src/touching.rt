@@ -10,10 +10,11 @@ ghost use Rattle.pfs_store_contract.specs.Touching.{completes_at, connections_in
 ghost use Rattle.pfs_store_contract.specs.Calls.{touch_of, world_touched};
 ghost use Rattle.pfs_store_contract.specs.Worlds.{IsUpToNow, lists, state_with};
 
-use crate::counts::{Connections, OfNode, count, node_scope};
+use crate::counts::{Connections, OfNode, count};
 use pfs_addr_values::{Addr, FlowKey, Packet};
 use pfs_conf_values::{Config, Rate, RuleNo};
 use pfs_store_contract::{Node, NodeScope, State, Touched};
+use pfs_store_rules::node_scope;
 use pfs_track::Score;
 
 /// Takes a packet of the state that has its key.

@@ -1,7 +1,7 @@
 -- Answers of place: where room for the record or the node is refused, what was placed is taken back.
 use Rattle.std.proofs.Common.{◌∙◌, sym, ap, filter, refl}
 use Rattle.std.specs.BTreeSet.{contains}
-use Rattle.pfs_store_index.specs.Records.{leaves_number, placed_at}
+use Rattle.pfs_store_records.specs.Records.{leaves_number, placed_at}
 use Rattle.pfs_store_index.specs.Ties.{pair_cmp}
 use Rattle.pfs_store_index.proofs.Comings.{push-undone}
 use Rattle.pfs_store_index.proofs.Sources.{pair-undone, pair_found}

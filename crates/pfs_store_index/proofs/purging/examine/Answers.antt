@@ -16,7 +16,7 @@ stretch : (g : _) (c : goal.After-take_out g)
 stretch g c =
     let k = c.walk_to_due-walk.result in
     let xs = c.args.indexes.now.states in
-    stretch-leaves (is_due c.args.indexes.now.config c.args.counts.now c.args.held c.args.now) c.args.round.cursor c.args.round.mark c.args.share k.stayed k.last k.leaver c.in-Some.state xs c.take_out.new.self.states c.in-Some.is c.state_count-count.ensures.rising c.walk_to_due-walk.ensures.walk
+    stretch-leaves (is_due c.args.indexes.now.config c.args.counts.now c.args.held c.args.now) c.args.round.cursor c.args.round.mark c.args.share k.stayed k.last k.leaver c.in-Some.state xs c.take_out.new.self.states c.in-Some.is c.state_numbers_rise.ensures c.walk_to_due-walk.ensures.walk
     (c.take_out.ensures.states ∙ ap (λ (s : State). filter (other_than s.number) xs) c.in-Some.state-is)
 
 pub returns-in-Some-clause-states : goal.returns-in-Some-clause-states

@@ -16,7 +16,7 @@ pub loop-done-init : goal.loop-done-init
 loop-done-init g c = rw c.none-done.ensures (record {
   config = refl;
   kept = refl;
-  held = c.node_count-held.ensures.value;
+  held = c.node_count-held.ensures;
   order = c.requires.order;
   examined = examined-none c.args.share (waiting c.args.round.cursor c.args.round.mark (node_numbers c.args.indexes.now.nodes));
   nodes = stays-none node_number (is_over c.args.indexes.now.config c.args.indexes.now.states c.args.now) c.args.indexes.now.nodes;

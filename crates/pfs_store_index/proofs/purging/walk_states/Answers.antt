@@ -21,7 +21,7 @@ IsStaying conf counts held until s = until ≤ due_at conf counts held s
 pub loop-done-init : goal.loop-done-init
 loop-done-init g c = rw c.none-done.ensures (record {
   config = refl;
-  held = c.state_count-held.ensures.value;
+  held = c.state_count-held.ensures;
   order = c.requires.order;
   examined = examined-none c.args.share (waiting c.args.round.cursor c.args.round.mark (state_numbers c.args.indexes.now.states));
   states = stays-none state_number (is_due c.args.indexes.now.config c.args.counts.now (length c.args.indexes.now.states) c.args.now) c.args.indexes.now.states;

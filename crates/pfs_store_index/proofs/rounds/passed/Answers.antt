@@ -1,7 +1,7 @@
 -- Answers of passed: its loop passes by one number after another, up to a share of them or the end.
 use Rattle.std.proofs.Common.{◌≡◌, ◌∙◌, ap, arith, drop}
 use Rattle.pfs_store_index.proofs.Turning.{among, passed-all, passed-drop}
-use Rattle.pfs_store_index.proofs.Walking.{walking-init, walking-step}
+use Rattle.pfs_store_records.proofs.Walking.{walking-init, walking-step}
 use Rattle.pfs_store_index.proofs.rounds.passed.Goals as goal
 
 pub loop-passed-init : goal.loop-passed-init

@@ -4,7 +4,7 @@ use Rattle.std.specs.List.{IsDistinct, find}
 use Rattle.std.specs.Map.{lookup}
 use Rattle.pfs_addr_values.specs.Sameness.{same_key}
 use Rattle.pfs_store_contract.specs.Plain.{AreCounts}
-use Rattle.pfs_store_index.specs.Records.{states_of}
+use Rattle.pfs_store_records.specs.Records.{states_of}
 use Rattle.pfs_store_index.specs.Ties.{entry_of, has_key, key_in}
 use Rattle.pfs_store_index.proofs.Tying.{counts-none, distinct-none}
 use Rattle.pfs_store_index.proofs.indexes.Indexes.new.Goals as goal

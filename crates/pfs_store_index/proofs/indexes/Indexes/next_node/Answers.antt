@@ -1,11 +1,10 @@
 -- Answers of Indexes::next_node: the node that is returned is held (`node`), and has as many states (`states`).
-use Rattle.std.proofs.Common.{◌≡◌, IfSome, Some, subst}
+use Rattle.std.proofs.Common.{◌≡◌, IfSome, Some, subst, ◌==◌}
 use Rattle.std.specs.List.{find}
-use Rattle.std.proofs.Common.{◌==◌}
 use Rattle.pfs_store_contract.specs.Counts.{node_states}
 use Rattle.pfs_store_contract.specs.declared.records.Node.{Node}
-use Rattle.pfs_store_index.specs.Records.{states_of}
-use Rattle.pfs_store_index.specs.declared.nodes.Tally.{Tally}
+use Rattle.pfs_store_records.specs.Records.{states_of}
+use Rattle.pfs_store_records.specs.declared.nodes.Tally.{Tally}
 use Rattle.pfs_store_index.specs.Holdings.{Holding}
 use Rattle.pfs_store_index.proofs.Dropping.{counted-of, node-of}
 use Rattle.pfs_store_index.proofs.indexes.Indexes.next_node.Goals as goal

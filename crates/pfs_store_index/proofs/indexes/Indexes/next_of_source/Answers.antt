@@ -1,6 +1,6 @@
 -- Answers of Indexes::next_of_source: the index by source gives the next number of the source, or none.
 use Rattle.std.proofs.Common.{◌∙◌, ap, sym, slice_get}
-use Rattle.pfs_store_index.specs.Records.{states_of}
+use Rattle.pfs_store_records.specs.Records.{states_of}
 use Rattle.pfs_store_index.specs.Holdings.{Holding}
 use Rattle.pfs_store_index.specs.Rounds.{waiting_of}
 use Rattle.pfs_store_index.proofs.Sources.{first-none, first-of-range, first-some, none-of-range, pairs-forward}
@@ -13,7 +13,7 @@ pub returns-in-Some : goal.returns-in-Some
 returns-in-Some g c =
     let f = first-of-range c.args.source c.args.above c.args.most (states_of c.self.inside.records) c.self.inside.pairs _ _ _ c.self.invariant.paired c.in-Some.ensures.steps (c.range.ensures.in_range tt) in
     rw c.from.ensures
-    (sym (first-some c.args.source c.args.above c.args.most _ (states_of c.self.inside.records) c.len-count.ensures.rising f)
+    (sym (first-some c.args.source c.args.above c.args.most _ (states_of c.self.inside.records) c.numbers_rise.ensures f)
     ∙ ap (λ (h : Holding). slice_get (waiting_of c.args.source c.args.above c.args.most h.states) 0) c.self.view_is)
 
 pub returns-in-None : goal.returns-in-None

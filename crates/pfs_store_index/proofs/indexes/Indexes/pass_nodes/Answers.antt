@@ -5,10 +5,10 @@ use Rattle.pfs_store_contract.specs.Purging.{is_over}
 use Rattle.pfs_store_contract.specs.Quiet.{NodeStays}
 use Rattle.pfs_store_contract.specs.declared.records.Node.{Node}
 use Rattle.pfs_store_index.specs.Holdings.{Holding}
-use Rattle.pfs_store_index.specs.Records.{between, states_of}
-use Rattle.pfs_store_index.specs.Walks.{IsPassing}
+use Rattle.pfs_store_records.specs.Records.{between, states_of}
+use Rattle.pfs_store_records.specs.Walks.{IsPassing}
 use Rattle.pfs_store_index.proofs.Idling.{node_number}
-use Rattle.pfs_store_index.proofs.Passing.{kept-nodes, passing-nodes}
+use Rattle.pfs_store_index.proofs.PassingNodes.{kept-nodes, passing-nodes}
 use Rattle.pfs_store_index.proofs.indexes.Indexes.pass_nodes.Goals as goal
 
 pub returns-clause-passing : goal.returns-clause-passing

@@ -10,12 +10,13 @@ use Rattle.pfs_store_contract.specs.Counts.{is_of_rule, node_scope_of}
 use Rattle.pfs_store_contract.specs.Purging.{node_numbers, state_numbers}
 use Rattle.pfs_store_contract.specs.declared.records.NodeScope.{NodeScope}
 use Rattle.pfs_store_contract.specs.declared.records.State.{State}
-use Rattle.pfs_store_index.specs.Records.{IsAbove, states_of}
-use Rattle.pfs_store_index.specs.Tallies.{nodes_of}
+use Rattle.pfs_store_records.specs.Records.{IsAbove, states_of}
+use Rattle.pfs_store_records.specs.Tallies.{nodes_of}
 use Rattle.pfs_store_index.specs.Holdings.{Holding}
-use Rattle.pfs_store_index.specs.Ties.{IsCounted, IsFew}
+use Rattle.pfs_store_index.specs.Ties.{IsCounted}
+use Rattle.pfs_store_records.specs.Changes.{IsFew}
 use Rattle.pfs_store_index.proofs.Comings.{few-counted, nodes-came, pair-fresh}
-use Rattle.pfs_store_index.proofs.Searches.{all-weaker, count-le}
+use Rattle.pfs_store_records.proofs.Searches.{all-weaker, count-le}
 use Rattle.pfs_store_index.proofs.Stands.{none-found, rule-known}
 use Rattle.pfs_store_index.proofs.Tying.{tied-came, tied-same}
 use Rattle.pfs_store_index.proofs.indexes.Indexes.put.Goals as goal

@@ -10,18 +10,20 @@ use Rattle.pfs_store_contract.specs.Counts.{node_scope_of}
 use Rattle.pfs_store_contract.specs.Touching.{completes_at, connections_in, nodes_touched, numbered_state_after, score_in}
 use Rattle.pfs_store_contract.specs.Worlds.{IsUpToNow, lists}
 use Rattle.pfs_store_contract.specs.declared.records.State.{State}
-use Rattle.pfs_store_index.specs.Records.{states_of}
-use Rattle.pfs_store_index.specs.Sourced.{IsSourced}
-use Rattle.pfs_store_index.specs.Tallies.{is_tally, nodes_of}
+use Rattle.pfs_store_records.specs.Records.{states_of}
+use Rattle.pfs_store_records.specs.Sourced.{IsSourced}
+use Rattle.pfs_store_records.specs.Tallies.{is_tally, nodes_of}
 use Rattle.pfs_store_index.specs.Holdings.{Holding}
-use Rattle.pfs_store_index.specs.Ties.{HasTally, IsCounted, IsFew, at_node, met_by}
+use Rattle.pfs_store_records.specs.Changes.{HasTally, IsFew, at_node, met_by}
+use Rattle.pfs_store_index.specs.Ties.{IsCounted}
 use Rattle.pfs_store_index.proofs.Comings.{few-counted}
 use Rattle.pfs_store_index.proofs.Leavings.{state_number}
-use Rattle.pfs_store_index.proofs.Meetings.{met-faithful, nodes-met, renewed_record, states-renewed}
-use Rattle.pfs_store_index.proofs.OneNode.{tally-at}
+use Rattle.pfs_store_records.proofs.TallyLaws.{met-faithful}
+use Rattle.pfs_store_index.proofs.Meetings.{nodes-met, renewed_record, states-renewed}
+use Rattle.pfs_store_records.proofs.OneNode.{tally-at}
 use Rattle.pfs_store_index.proofs.Removals.{all-found}
 use Rattle.pfs_store_index.proofs.Renewing.{counts-done, entry-record, none-entry, number-found, read-held, read-is, state-found, told-connections, told-score, write-held, written}
-use Rattle.pfs_store_index.proofs.Searches.{all-weaker}
+use Rattle.pfs_store_records.proofs.Searches.{all-weaker}
 use Rattle.pfs_store_index.proofs.Tying.{tied-met}
 use Rattle.pfs_store_index.proofs.indexes.Indexes.renew.Goals as goal
 
@@ -48,7 +50,7 @@ meet-met-requires-clause-has g c =
     let rs = c.self.inside.records in
     let h = entry-record k c.in-Some.entry c.self.inside.records (c.in-Some.ensures ∙ ap (hash.get same_key c.self.inside.keys) c.of.ensures ∙ c.self.invariant.by_key k) in
     let q = read-is k c.in-Some.entry c.read_at-state.result rs h c.read_at-state.ensures.value in
-    let f = number-found k c.in-Some.entry c.read_at-state.result rs h q c.len-count.ensures.rising in
+    let f = number-found k c.in-Some.entry c.read_at-state.result rs h q c.numbers_rise.ensures in
     all-found state_number (HasTally c.self.inside.config c.self.inside.nodes) c.read_at-state.result.number c.read_at-state.result (states_of rs) c.self.invariant.noded f
 
 pub meet-met-requires-clause-few : goal.meet-met-requires-clause-few
@@ -69,13 +71,13 @@ invariant_of-self g c =
     let s = c.read_at-state.result in
     let h = entry-record k c.in-Some.entry c.self.inside.records (c.in-Some.ensures ∙ ap (hash.get same_key c.self.inside.keys) c.of.ensures ∙ c.self.invariant.by_key k) in
     let q = read-is k c.in-Some.entry c.read_at-state.result rs h c.read_at-state.ensures.value in
-    let f = number-found k c.in-Some.entry s rs h q c.len-count.ensures.rising in
+    let f = number-found k c.in-Some.entry s rs h q c.numbers_rise.ensures in
     let w : c.write_at.new.self ≡ map (renewed_record s.number c.args.packet.now c.args.now) c.self.inside.records =
-    c.write_at.ensures.records ∙ written k c.in-Some.entry c.args.packet.now c.args.now s _ rs h q c.len-count.ensures.rising c.stepped-completed.ensures.state in
+    c.write_at.ensures.records ∙ written k c.in-Some.entry c.args.packet.now c.args.now s _ rs h q c.numbers_rise.ensures c.stepped-completed.ensures.state in
     let m : c.meet-met.new.nodes ≡ map (at_node (node_scope_of c.self.inside.config s.rule.0) s.source (met_by (options_of c.self.inside.config s.rule.0).max_src_conn_rate c.args.now (completes_at c.args.packet.now s))) c.self.inside.nodes =
     c.meet-met.ensures.nodes ∙ ap (λ b. map (at_node (node_scope_of c.self.inside.config s.rule.0) s.source (met_by (options_of c.self.inside.config s.rule.0).max_src_conn_rate c.args.now b)) c.self.inside.nodes) c.stepped-completed.ensures.completes in
     rw (w, m)
-    (tied-met c.self.inside.config rs c.self.inside.keys c.self.inside.counts.items c.self.inside.nodes c.self.inside.pairs s.number c.args.packet.now c.args.now s c.self.invariant c.len-count.ensures.rising f (counts-done s c.args.packet.now))
+    (tied-met c.self.inside.config rs c.self.inside.keys c.self.inside.counts.items c.self.inside.nodes c.self.inside.pairs s.number c.args.packet.now c.args.now s c.self.invariant c.numbers_rise.ensures f (counts-done s c.args.packet.now))
 
 pub returns-clause-before : goal.returns-clause-before
 returns-clause-before g c =
@@ -93,7 +95,7 @@ returns-clause-states g c =
     let h = entry-record k c.in-Some.entry c.self.inside.records (c.in-Some.ensures ∙ ap (hash.get same_key c.self.inside.keys) c.of.ensures ∙ c.self.invariant.by_key k) in
     let q = read-is k c.in-Some.entry c.read_at-state.result rs h c.read_at-state.ensures.value in
     let w : c.write_at.new.self ≡ map (renewed_record s.number c.args.packet.now c.args.now) c.self.inside.records =
-    c.write_at.ensures.records ∙ written k c.in-Some.entry c.args.packet.now c.args.now s _ rs h q c.len-count.ensures.rising c.stepped-completed.ensures.state in
+    c.write_at.ensures.records ∙ written k c.in-Some.entry c.args.packet.now c.args.now s _ rs h q c.numbers_rise.ensures c.stepped-completed.ensures.state in
     ap states_of w ∙ states-renewed s.number c.args.packet.now c.args.now rs ∙ ap (λ (x : Holding). map (numbered_state_after s.number c.args.packet.now c.args.now) x.states) c.self.view_is
 
 pub returns-clause-nodes : goal.returns-clause-nodes
@@ -118,7 +120,7 @@ returns-clause-told g c =
     let rs = c.self.inside.records in
     let h = entry-record k c.in-Some.entry c.self.inside.records (c.in-Some.ensures ∙ ap (hash.get same_key c.self.inside.keys) c.of.ensures ∙ c.self.invariant.by_key k) in
     let q = read-is k c.in-Some.entry s rs h c.read_at-state.ensures.value in
-    let f = number-found k c.in-Some.entry s rs h q c.len-count.ensures.rising in
+    let f = number-found k c.in-Some.entry s rs h q c.numbers_rise.ensures in
     let has : HasTally c.self.inside.config c.self.inside.nodes s =
     all-found state_number (HasTally c.self.inside.config c.self.inside.nodes) s.number s (states_of rs) c.self.invariant.noded f in
     let n = c.meet-met.ensures.connections

@@ -1,14 +1,14 @@
 -- Answers of Indexes::source_count: whether there is a node (`some`), and how many states it has (`value`).
 use Rattle.std.proofs.Common.{◌∙◌, ap, is_some, sym}
 use Rattle.pfs_store_contract.specs.Counts.{has_node, node_states}
-use Rattle.pfs_store_index.specs.Records.{states_of}
-use Rattle.pfs_store_index.specs.Tallies.{is_tally}
-use Rattle.pfs_store_index.specs.declared.nodes.Tally.{Tally}
+use Rattle.pfs_store_records.specs.Records.{states_of}
+use Rattle.pfs_store_records.specs.Tallies.{is_tally}
+use Rattle.pfs_store_records.specs.declared.nodes.Tally.{Tally}
 use Rattle.pfs_store_index.specs.Holdings.{Holding}
 use Rattle.pfs_store_index.specs.Ties.{IsCounted}
 use Rattle.pfs_store_index.proofs.Comings.{has_node-tally}
-use Rattle.pfs_store_index.proofs.OneNode.{scope_is, source_is}
-use Rattle.pfs_store_index.proofs.Searches.{found-all, found-passes}
+use Rattle.pfs_store_records.proofs.OneNode.{scope_is, source_is}
+use Rattle.pfs_store_records.proofs.Searches.{found-all, found-passes}
 use Rattle.pfs_store_index.proofs.indexes.Indexes.source_count.Goals as goal
 
 pub returns-in-Some-clause-some : goal.returns-in-Some-clause-some

@@ -3,14 +3,15 @@ use Rattle.std.proofs.Common.{◌≡◌, ◌∙◌, ◌<◌, Option, Some, lengt
 use Rattle.std.specs.List.{find}
 use Rattle.std.proofs.lemmas.List.{get_or_read}
 use Rattle.pfs_store_contract.specs.declared.records.NodeScope.{NodeScope}
-use Rattle.pfs_store_index.specs.Records.{states_of}
-use Rattle.pfs_store_index.specs.Tallies.{nodes_of}
+use Rattle.pfs_store_records.specs.Records.{states_of}
+use Rattle.pfs_store_records.specs.Tallies.{nodes_of}
 use Rattle.pfs_store_index.specs.Holdings.{Holding}
-use Rattle.pfs_store_index.specs.Ties.{at_node, left_at, left_of}
+use Rattle.pfs_store_records.specs.Changes.{at_node, left_of}
+use Rattle.pfs_store_index.specs.Ties.{left_at}
 use Rattle.pfs_store_index.proofs.Leavings.{nodes-left, rule-held, state_number}
 use Rattle.pfs_store_index.proofs.Removals.{find-in}
 use Rattle.pfs_store_index.proofs.Tying.{rule-within, tied-left}
-use Rattle.pfs_store_index.proofs.RisingWalks.{has_number}
+use Rattle.pfs_store_records.proofs.Rising.{has_number}
 use Rattle.pfs_store_index.proofs.indexes.Indexes.take_out.Goals as goal
 
 pub index_mut-requires : goal.index_mut-requires
@@ -23,7 +24,7 @@ pub overflow_sub-index_mut : goal.overflow_sub-index_mut
 overflow_sub-index_mut g c =
     let f : find (has_number state_number c.args.state.number) (states_of c.self.inside.records) ≡ Some c.args.state = ap (λ (h : Holding). find (has_number state_number c.args.state.number) h.states) c.self.view_is ∙ c.requires.held in
     let w : c.args.state.rule.0 < length c.self.inside.counts.items = rule-within c.self.inside.config c.self.inside.records c.self.inside.keys c.self.inside.counts.items c.self.inside.nodes c.self.inside.pairs c.args.state c.self.invariant f in
-    rule-held c.args.state (states_of c.self.inside.records) c.self.inside.counts.items _ c.len-count.ensures.rising f w (get_or_read c.self.inside.counts.items _ _ w c.index_mut.ensures.value 0) c.self.invariant.by_rule
+    rule-held c.args.state (states_of c.self.inside.records) c.self.inside.counts.items _ c.numbers_rise.ensures f w (get_or_read c.self.inside.counts.items _ _ w c.index_mut.ensures.value 0) c.self.invariant.by_rule
 
 pub remove-requires-2 : goal.remove-requires-2
 remove-requires-2 g c =
@@ -39,7 +40,7 @@ invariant_of-self g c =
     c.leave.ensures ∙ ap (λ (o : Option NodeScope). map (at_node o s.source (left_of s c.args.now)) c.self.inside.nodes) c.node_scope-scope.ensures in
     rw (c.remove-2.ensures.records, at)
     (tied-left c.self.inside.config c.self.inside.records c.self.inside.keys c.self.inside.counts.items c.self.inside.nodes c.self.inside.pairs c.swap_remove.new.self c.remove.new.self s c.args.now _
-    c.self.invariant c.len-count.ensures.rising f (get_or_read c.self.inside.counts.items _ _ w c.index_mut.ensures.value 0) c.swap_remove.ensures.updates.0 c.remove.ensures.updates.0)
+    c.self.invariant c.numbers_rise.ensures f (get_or_read c.self.inside.counts.items _ _ w c.index_mut.ensures.value 0) c.swap_remove.ensures.updates.0 c.remove.ensures.updates.0)
 
 pub returns-clause-nodes : goal.returns-clause-nodes
 returns-clause-nodes g c =
@@ -47,4 +48,4 @@ returns-clause-nodes g c =
     let f : find (has_number state_number c.args.state.number) (states_of c.self.inside.records) ≡ Some c.args.state = ap (λ (h : Holding). find (has_number state_number c.args.state.number) h.states) c.self.view_is ∙ c.requires.held in
     let at : c.leave.new.nodes ≡ map (left_at c.self.inside.config s c.args.now) c.self.inside.nodes =
     c.leave.ensures ∙ ap (λ (o : Option NodeScope). map (at_node o s.source (left_of s c.args.now)) c.self.inside.nodes) c.node_scope-scope.ensures in
-    rw (sym c.self.view_is) (ap nodes_of at ∙ nodes-left c.self.inside.config s c.args.now (states_of c.self.inside.records) c.self.inside.nodes c.len-count.ensures.rising f c.self.invariant.scoped c.self.invariant.counted)
+    rw (sym c.self.view_is) (ap nodes_of at ∙ nodes-left c.self.inside.config s c.args.now (states_of c.self.inside.records) c.self.inside.nodes c.numbers_rise.ensures f c.self.invariant.scoped c.self.invariant.counted)

@@ -8,7 +8,7 @@ use Rattle.pfs_store_contract.specs.Purging.{node_numbers, state_numbers}
 use Rattle.pfs_store_contract.specs.Worlds.{World, lists}
 use Rattle.pfs_store_contract.specs.declared.records.State.{State}
 use Rattle.pfs_track.specs.StatePhases.{first_phase}
-use Rattle.pfs_store_index.specs.Sourced.{source_at}
+use Rattle.pfs_store_records.specs.Sourced.{source_at}
 use Rattle.pfs_store_index.specs.Rounds.{waiting}
 use Rattle.pfs_store_index.specs.Stored.{world_of}
 use Rattle.pfs_store_index.proofs.Comings.{key-sourced}
@@ -23,7 +23,7 @@ put-requires-clause-nodes_above g c = made-above c.self.inside.made _ c.self.inv
 
 pub put-requires-clause-few : goal.put-requires-clause-few
 put-requires-clause-few g c =
-    omega (arith, few-numbered c.self.inside.made c.self.inside.indexes.states c.state_count-count.ensures.rising c.self.invariant.numbered, c.self.invariant.few)
+    omega (arith, few-numbered c.self.inside.made c.self.inside.indexes.states c.state_numbers_rise.ensures c.self.invariant.numbered, c.self.invariant.few)
 
 pub put-requires-clause-sourced : goal.put-requires-clause-sourced
 put-requires-clause-sourced g c =

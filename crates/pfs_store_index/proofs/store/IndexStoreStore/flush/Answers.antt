@@ -2,14 +2,14 @@
 use Rattle.std.proofs.Common.{◌≡◌, ◌∙◌, ◌-◌, ap, length, arith, rules}
 use Rattle.pfs_store_contract.specs.Calls.{source_states, world_flushed, flushed_count, stays_unflushed}
 use Rattle.pfs_store_contract.specs.Plain.{Plain}
-use Rattle.pfs_store_index.proofs.Searches.{count-le}
+use Rattle.pfs_store_records.proofs.Searches.{count-le}
 use Rattle.pfs_store_contract.specs.Counts.{is_of_source}
 use Rattle.pfs_store_index.proofs.Storing.{few-numbered, flushed-count, flushed-le, stored-without, world-without}
 use Rattle.pfs_store_index.proofs.store.IndexStoreStore.flush.Goals as goal
 
 pub flush-requires-clause-few : goal.flush-requires-clause-few
 flush-requires-clause-few g c =
-    omega (arith, few-numbered c.self.inside.made c.self.inside.indexes.states c.state_count-held.ensures.rising c.self.invariant.numbered, c.self.invariant.few)
+    omega (arith, few-numbered c.self.inside.made c.self.inside.indexes.states c.state_numbers_rise.ensures c.self.invariant.numbered, c.self.invariant.few)
 
 pub invariant_of-self : goal.invariant_of-self
 invariant_of-self g c =
@@ -19,7 +19,7 @@ invariant_of-self g c =
 pub returns-clause-world : goal.returns-clause-world
 returns-clause-world g c =
     world-without (stays_unflushed c.args.source c.args.rule) c.args.now c.self.inside.indexes c.flush.new.indexes c.self.inside.states_round.cursor c.self.inside.states_round.mark c.self.inside.nodes_round.cursor c.self.inside.nodes_round.mark c.self.inside.made
-    c.state_count-held.ensures.rising c.flush.ensures.states c.flush.ensures.nodes
+    c.state_numbers_rise.ensures c.flush.ensures.states c.flush.ensures.nodes
     ∙ ap (λ (p : Plain). world_flushed p.config p.world c.args.source c.args.rule c.args.now) c.self.view_is
 
 pub returns-clause-answer : goal.returns-clause-answer
@@ -43,4 +43,4 @@ returns-clause-few_looks g c = λ _.
 pub returns-clause-most : goal.returns-clause-most
 returns-clause-most g c =
     let h = c.self.inside.indexes in
-    omega (arith, c.flush.ensures.looks, count-le (is_of_source c.args.source) h.states, few-numbered c.self.inside.made h.states c.state_count-held.ensures.rising c.self.invariant.numbered, c.self.invariant.few)
+    omega (arith, c.flush.ensures.looks, count-le (is_of_source c.args.source) h.states, few-numbered c.self.inside.made h.states c.state_numbers_rise.ensures c.self.invariant.numbered, c.self.invariant.few)

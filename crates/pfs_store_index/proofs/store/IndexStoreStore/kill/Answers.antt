@@ -5,7 +5,7 @@ use Rattle.pfs_store_contract.specs.Leaving.{node_after_leaving}
 use Rattle.pfs_store_contract.specs.Calls.{world_killed, other_than}
 use Rattle.pfs_store_index.proofs.Leavings.{state_number}
 use Rattle.pfs_store_index.proofs.Storing.{stored-without, world-without}
-use Rattle.pfs_store_index.proofs.RisingWalks.{found-number, has_number}
+use Rattle.pfs_store_records.proofs.Rising.{found-number, has_number}
 use Rattle.pfs_store_index.proofs.store.IndexStoreStore.kill.Goals as goal
 
 pub take_out-requires-clause-held : goal.take_out-requires-clause-held
@@ -28,5 +28,5 @@ returns-clause-world g c =
     c.take_out.ensures.nodes ∙ ap (λ xs. map (node_after_leaving h.config h.states xs c.args.now) h.nodes) (sym c.take_out.ensures.states) in
     let q = found-number state_number c.args.number.0 c.read-state.result h.states c.read-state.ensures.value in
     world-without (other_than c.read-state.result.number) c.args.now h c.take_out.new.self c.self.inside.states_round.cursor c.self.inside.states_round.mark c.self.inside.nodes_round.cursor c.self.inside.nodes_round.mark c.self.inside.made
-    c.state_count-count.ensures.rising c.take_out.ensures.states ns
+    c.state_numbers_rise.ensures c.take_out.ensures.states ns
     ∙ (λ j. world_killed (c.self.view_is j).config (c.self.view_is j).world (q j) c.args.now)

@@ -60,4 +60,4 @@ returns-clause-most g c =
     let ws = waiting round.cursor round.mark (state_numbers h.states) in
     let a : length (take c.share_of-share.result ws) ≤ length ws = length-take_le c.share_of-share.result ws in
     let b : length ws ≤ length h.states = all-fewer state_number round.cursor round.mark h.states in
-    omega (arith, c.walk_states-steps.ensures.looks, c.walk_states-steps.ensures.examined, a, b, few-numbered c.self.inside.made h.states c.state_count-count.ensures.rising c.self.invariant.numbered, c.self.invariant.few)
+    omega (arith, c.walk_states-steps.ensures.looks, c.walk_states-steps.ensures.examined, a, b, few-numbered c.self.inside.made h.states c.state_numbers_rise.ensures c.self.invariant.numbered, c.self.invariant.few)

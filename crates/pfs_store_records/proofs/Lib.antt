@@ -1,0 +1,9 @@
+pub mod NodeLaws
+pub mod OneNode
+mod Ordered
+mod Passing
+mod RecordLaws
+pub mod Rising
+pub mod Searches
+pub mod TallyLaws
+pub mod Walking

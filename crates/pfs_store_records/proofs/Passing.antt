@@ -1,0 +1,71 @@
+-- A walk by nodes that stay: of the entries in a range, and of their tallies.
+use Rattle.std.proofs.Common.{◌≡◌, ◌∙◌, ◌≤◌, ℕ, Bool, true, false, Option, Some, List, [], ◌∷◌, ◌++◌, length, map, filter, ap, sym, subst, arith}
+use Rattle.std.specs.List.{AllByRecursion}
+use Rattle.std.specs.List.Sorted.{IsStrictlySortedBy}
+use Rattle.std.specs.Map.{keys_of}
+use Rattle.std.specs.Ordering.{nat_cmp}
+use Rattle.pfs_conf_values.specs.Configs.{Conf}
+use Rattle.pfs_store_records.specs.Keeping.{AreInPlace, IsPlaced, values_at}
+use Rattle.pfs_store_records.specs.Records.{between}
+use Rattle.pfs_store_records.specs.Retaining.{IsKeptUntil}
+use Rattle.pfs_store_records.specs.Walks.{IsPassing}
+use Rattle.pfs_store_records.specs.declared.nodes.Tally.{Tally}
+use Rattle.pfs_store_records.proofs.Ordered.{numbers-held}
+use Rattle.pfs_store_records.proofs.Walking.{Each, Walking, drop-front, each-more, head-in, length-keys, span, span-keys, split-keys, take-front}
+
+-- ---- entries in a range
+
+module _ {P V : Type 0} where
+  -- an entry whose value has a property
+  abbrev pub OfValue : (V → Type 0) → (P → Option V) → ℕ × P → Type 0
+  OfValue Q at e = (v : V) → at e.1 ≡ Some v → Q v
+
+  pub one-value : (Q : V → Type 0) (at : P → Option V) (e : ℕ × P) (v : V) → at e.1 ≡ Some v → Q v → OfValue Q at e
+  one-value Q at e v g q u h = let s : u ≡ v = cc (h, g) in subst Q (sym s) q
+
+  each-weaker : (Q R : V → Type 0) → ((v : V) → Q v → R v) → (at : P → Option V) (a m : ℕ) (es : List (ℕ × P)) → Each (OfValue Q at) a m es → Each (OfValue R at) a m es
+  each-weaker Q R f at a m [] u = tt
+  each-weaker Q R f at a m (e ∷ es) (u, us) = ((λ b v g. f v (u b v g)), each-weaker Q R f at a m es us)
+
+  -- one value more has a property that holds of all so far
+  pub each-value-more : (Q R : V → Type 0) → ((v : V) → Q v → R v) → (at : P → Option V) (above last most k : ℕ) (p : P) (v : V) (rest es : List (ℕ × P)) → IsStrictlySortedBy nat_cmp (keys_of es)
+      → (k, p) ∷ rest ≡ span last most es → at p ≡ Some v → R v → Each (OfValue Q at) above last es → Each (OfValue R at) above k es
+  each-value-more Q R f at above last most k p v rest es o x g r u =
+      each-more (OfValue R at) above last most k p rest es o (head-in last most k p rest es x) x (each-weaker Q R f at above last es u)
+      (λ w h. let q : w ≡ v = cc (h, g) in subst R (sym q) r)
+
+module _ {P V : Type 0} (number : V → ℕ) (At : V → P → Type 0) where
+  pub each-value : (Q : V → Type 0) (at : P → Option V) (a m : ℕ) (es : List (ℕ × P)) → AllByRecursion (IsPlaced number At at) es → Each (OfValue Q at) a m es
+      → AllByRecursion (λ (v : V). between a m (number v) ≡ true → Q v) (values_at at es)
+  each-value Q at a m [] h w = tt
+  each-value Q at a m (e ∷ es) (h, hs) (w, ws) = rw h.1 (here, each-value Q at a m es hs ws)
+    where
+      here : between a m (number h.0) ≡ true → Q h.0
+      here b = w (ap (between a m) (sym h.2) ∙ b) h.0 h.1
+
+  -- the walk so far
+  pub is-passing : (test : V → Bool) (at : P → Option V) (es left : List (ℕ × P)) (above last most share stayed : ℕ) → AreInPlace number At at es
+      → Walking (OfValue (λ (v : V). test v ≡ false) at) es left above last most stayed → stayed ≤ share → IsPassing number test (values_at at es) above most share stayed last
+  is-passing test at es left above last most share stayed k w s = record {
+    from = w.from;
+    to = w.to;
+    stay = each-value (λ (v : V). test v ≡ false) at above last es k.placed w.stay;
+    count = rw numbers length_is;
+    passed = rw (numbers, split, length_is) (sym (take-front (filter (between above last) (keys_of es)) (filter (between last most) (keys_of es))));
+    rest = rw (numbers, split, length_is) (sym (drop-front (filter (between above last) (keys_of es)) (filter (between last most) (keys_of es))));
+    within = s;
+  }
+    where
+      numbers : map number (values_at at es) ≡ keys_of es
+      numbers = numbers-held number At at es k.placed
+
+      split : filter (between above most) (keys_of es) ≡ filter (between above last) (keys_of es) ++ filter (between last most) (keys_of es)
+      split = split-keys above last most es k.ordered w.from w.to
+
+      length_is : stayed ≡ length (filter (between above last) (keys_of es))
+      length_is = w.count ∙ sym (length-keys (span above last es)) ∙ ap length (span-keys above last es)
+
+-- ---- tallies
+
+pub kept-less : (conf : Conf) (u v : ℕ) (t : Tally) → v ≤ u → IsKeptUntil conf u t → IsKeptUntil conf v t
+kept-less conf u v t h k = λ z. let l = k z in omega (arith, h, l)

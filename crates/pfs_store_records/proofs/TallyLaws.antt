@@ -1,0 +1,66 @@
+-- What states do to the tally of one node: a change leaves what the node is, and one that changes nothing leaves all.
+use Rattle.std.proofs.Common.{◌≡◌, ◌-◌, ◌==◌, ℕ, Bool, true, false, if◌then◌else◌, Option, Some, None, List, [], ◌∷◌, map, refl, ap, sym, subst}
+use Rattle.pfs_addr_values.specs.declared.addresses.Addr.{Addr}
+use Rattle.pfs_store_contract.specs.declared.records.Node.{Node}
+use Rattle.pfs_store_contract.specs.declared.records.NodeScope.{NodeScope}
+use Rattle.pfs_store_contract.specs.declared.records.State.{State}
+use Rattle.pfs_store_records.specs.Tallies.{nodes_of}
+use Rattle.pfs_store_records.specs.declared.nodes.Tally.{Tally}
+use Rattle.pfs_store_records.specs.Changes.{is_at, left_of, at_node, met_by, joined_of}
+use Rattle.pfs_store_records.proofs.OneNode.{IsFaithful}
+use Rattle.pfs_store_records.proofs.Rising.{IsRisingBy}
+use Rattle.pfs_conf_values.specs.declared.actions.Rate.{Rate}
+use Rattle.pfs_track.specs.Scores.{score_after}
+use Rattle.pfs_track.specs.declared.scores.Score.{Score}
+use Rattle.pfs_store_contract.specs.Purging.{node_numbers}
+use Rattle.pfs_store_records.specs.Records.{IsRising}
+use Rattle.pfs_store_records.proofs.NodeLaws.{numbers-nodes}
+
+pub rising-tallies : (ts : List Tally) → IsRising (node_numbers (nodes_of ts)) → IsRisingBy (λ (t : Tally). t.node.number) ts
+rising-tallies ts h = subst IsRising (numbers-nodes ts) h
+
+-- ---- a state comes
+
+pub joined-faithful : IsFaithful joined_of
+joined-faithful = record { scope = λ t. refl; source = λ t. refl; number = λ t. refl }
+
+-- ---- a state leaves
+
+-- the change leaves what a node is
+pub left-node : {Y : Type 0} (part : Node → Y) (s : State) (now : ℕ) (t : Tally) → part (record t.node { idle = now }) ≡ part t.node → part (left_of s now t).node ≡ part t.node
+left-node part s now t h = go (t.states - 1 == 0)
+  where
+    go : (b : Bool) → part (if b then record t.node { idle = now } else t.node) ≡ part t.node
+    go true = h
+    go false = refl
+
+pub left-faithful : (s : State) (now : ℕ) → IsFaithful (left_of s now)
+left-faithful s now = record {
+  scope = λ t. left-node (λ n. n.scope) s now t refl;
+  source = λ t. left-node (λ n. n.source) s now t refl;
+  number = λ t. left-node (λ n. n.number) s now t refl;
+}
+
+-- ---- a packet of a state
+
+met-node : {Y : Type 0} (part : Node → Y) (rate : Option Rate) (now : ℕ) (c : Bool) (t : Tally) → ((score : Score) → part (record t.node { score = score }) ≡ part t.node)
+    → part (met_by rate now c t).node ≡ part t.node
+met-node part None now true t h = refl
+met-node part (Some rate) now true t h = h (score_after rate.seconds t.node.score now)
+met-node part rate now false t h = refl
+
+pub met-faithful : (rate : Option Rate) (now : ℕ) (c : Bool) → IsFaithful (met_by rate now c)
+met-faithful rate now c = record {
+  scope = λ t. met-node (λ n. n.scope) rate now c t (λ s. refl);
+  source = λ t. met-node (λ n. n.source) rate now c t (λ s. refl);
+  number = λ t. met-node (λ n. n.number) rate now c t (λ s. refl);
+}
+
+-- a packet that completes no handshake changes no tally
+pub unmet : (o : Option NodeScope) (a : Addr) (rate : Option Rate) (now : ℕ) (c : Bool) → c ≡ false → (ts : List Tally) → ts ≡ map (at_node o a (met_by rate now c)) ts
+unmet o a rate now c h [] = refl
+unmet o a rate now c h (t ∷ ts) = (λ i. same (is_at o a t) i ∷ unmet o a rate now c h ts i)
+  where
+    same : (b : Bool) → t ≡ (if b then met_by rate now c t else t)
+    same true = sym (ap (λ x. met_by rate now x t) h)
+    same false = refl

@@ -1,0 +1,59 @@
+-- Answers of Records::push: a new record goes last (`records`, `states`), or room is refused; numbers rise.
+use Rattle.std.proofs.Common.{◌≡◌, ◌∙◌, ◌++◌, ◌∷◌, [], Some, ap, refl, sym}
+use Rattle.pfs_store_records.specs.Keeping.{values_at, number_in, RecordIsAt, record_in}
+use Rattle.pfs_store_records.specs.Records.{placed_at, states_of}
+use Rattle.pfs_store_records.proofs.Ordered.{held-all, held-pushed, kept-all, kept-pushed}
+use Rattle.pfs_store_records.proofs.RecordLaws.{grown, numbers-states, rising-states, states-push, updated, vacant}
+use Rattle.pfs_store_records.proofs.records.Records.push.Goals as goal
+
+pub invariant_of-self : goal.invariant_of-self
+invariant_of-self c =
+    kept-all number_in RecordIsAt (record_in c.self.inside.slab) (record_in c.reserve.new.self) c.self.inside.places.entries (grown c.self.inside.slab c.reserve.new.self _ c.reserve.ensures.rest_kept) c.self.invariant
+
+pub returns-in_err-reserve-clause-rising : goal.returns-in_err-reserve-clause-rising
+returns-in_err-reserve-clause-rising c = rising-states c.reserve.new.self _ (invariant_of-self c)
+
+pub invariant_of-self-in_err-insert : goal.invariant_of-self-in_err-insert
+invariant_of-self-in_err-insert c =
+    let k = kept-all number_in RecordIsAt (record_in c.self.inside.slab) (record_in c.reserve.new.self) c.self.inside.places.entries (grown c.self.inside.slab c.reserve.new.self _ c.reserve.ensures.rest_kept) c.self.invariant in
+    rw c.in_err-insert.ensures.err k
+
+pub returns-in_err-insert-clause-rising : goal.returns-in_err-insert-clause-rising
+returns-in_err-insert-clause-rising c = rising-states c.reserve.new.self _ (invariant_of-self-in_err-insert c)
+
+pub invariant_of-self-2 : goal.invariant_of-self-2
+invariant_of-self-2 c =
+    let g = grown c.self.inside.slab c.reserve.new.self _ c.reserve.ensures.rest_kept in
+    let k = kept-all number_in RecordIsAt (record_in c.self.inside.slab) (record_in c.reserve.new.self) c.self.inside.places.entries g c.self.invariant in
+    let w : values_at (record_in c.reserve.new.self) c.self.inside.places.entries ≡ c.args.self.now = held-all number_in RecordIsAt (record_in c.self.inside.slab) (record_in c.reserve.new.self) c.self.inside.places.entries g ∙ c.self.view_is in
+    let q = c.in_ok-place.ensures ∙ c.vacant_key.ensures.value ∙ sym c.insert_reserved.ensures.key in
+    kept-pushed number_in RecordIsAt (record_in c.reserve.new.self) (record_in c.insert_reserved.new.self) c.insert_reserved.result (placed_at c.insert_reserved.result c.args.state.now) c.self.inside.places.entries _
+    (vacant c.reserve.new.self c.insert_reserved.result c.insert_reserved.ensures.was_vacant)
+    (updated c.reserve.new.self c.insert_reserved.new.self c.insert_reserved.result (Some c.args.state.now) (rw c.of.ensures at c.insert_reserved.ensures.updates))
+    k (rw w (rw (numbers-states c.args.self.now) at c.requires.above)) refl (rw q at c.in_ok-insert.ensures.entries) c.insert.ensures.ordered
+
+pub returns-clause-records : goal.returns-clause-records
+returns-clause-records c =
+    let g = grown c.self.inside.slab c.reserve.new.self _ c.reserve.ensures.rest_kept in
+    let k = kept-all number_in RecordIsAt (record_in c.self.inside.slab) (record_in c.reserve.new.self) c.self.inside.places.entries g c.self.invariant in
+    let w : values_at (record_in c.reserve.new.self) c.self.inside.places.entries ≡ c.args.self.now = held-all number_in RecordIsAt (record_in c.self.inside.slab) (record_in c.reserve.new.self) c.self.inside.places.entries g ∙ c.self.view_is in
+    let q = c.in_ok-place.ensures ∙ c.vacant_key.ensures.value ∙ sym c.insert_reserved.ensures.key in
+    held-pushed number_in RecordIsAt (record_in c.reserve.new.self) (record_in c.insert_reserved.new.self) c.insert_reserved.result (placed_at c.insert_reserved.result c.args.state.now) c.self.inside.places.entries _
+    (vacant c.reserve.new.self c.insert_reserved.result c.insert_reserved.ensures.was_vacant)
+    (updated c.reserve.new.self c.insert_reserved.new.self c.insert_reserved.result (Some c.args.state.now) (rw c.of.ensures at c.insert_reserved.ensures.updates))
+    k (rw w (rw (numbers-states c.args.self.now) at c.requires.above)) (rw q at c.in_ok-insert.ensures.entries)
+    ∙ ap (λ xs. xs ++ placed_at c.insert_reserved.result c.args.state.now ∷ []) w
+    ∙ ap (λ place. c.args.self.now ++ placed_at place c.args.state.now ∷ []) (sym q)
+
+pub returns-clause-states : goal.returns-clause-states
+returns-clause-states c = ap states_of (returns-clause-records c) ∙ states-push c.in_ok-place.place c.args.state.now c.args.self.now
+
+pub returns-clause-rising : goal.returns-clause-rising
+returns-clause-rising c = rising-states c.insert_reserved.new.self _ (invariant_of-self-2 c)
+
+pub invariant_of-self-in_err-place : goal.invariant_of-self-in_err-place
+invariant_of-self-in_err-place c =
+    kept-all number_in RecordIsAt (record_in c.self.inside.slab) (record_in c.reserve.new.self) c.self.inside.places.entries (grown c.self.inside.slab c.reserve.new.self _ c.reserve.ensures.rest_kept) c.self.invariant
+
+pub returns-in_err-place-clause-rising : goal.returns-in_err-place-clause-rising
+returns-in_err-place-clause-rising c = rising-states c.reserve.new.self _ (invariant_of-self-in_err-place c)

@@ -1,0 +1,9 @@
+pub mod Changes
+pub mod Keeping
+pub mod Pieces
+pub mod Records
+pub mod Retaining
+pub mod Sourced
+pub mod Stays
+pub mod Tallies
+pub mod Walks

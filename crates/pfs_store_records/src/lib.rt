@@ -1,0 +1,20 @@
+//! The records of a store by indexes: states by number and place, source nodes with the counts of their states, and how both
+//! are found.
+#![tactic(auto)]
+
+mod kept;
+mod nodes;
+mod records;
+mod retaining;
+mod scope_counts;
+mod sought;
+mod stays;
+mod tallying;
+mod walks;
+
+pub use nodes::{Nodes, Passed, Tally};
+pub use records::Records;
+pub use retaining::{is_over, kept_until};
+pub use sought::{Sought, Tracked};
+pub use tallying::{Met, join, leave, meet};
+pub use walks::{Lifetimes, Round, Walk};

@@ -1,0 +1,257 @@
+//! The source nodes with the counts of their states, found by scope and source, and by number.
+
+ghost use Rattle.std.specs.Prelude.{◌≡◌, ◌<◌, ◌≤◌, ◌++◌, ◌∷◌, [], IfSome, None, OnErr, OnOk, Some, filter, length, map, option_map, slice_get, true};
+ghost use Rattle.std.specs.List.{AllByRecursion, find, list_any};
+ghost use Rattle.std.specs.Map.{keys_of};
+ghost use Rattle.pfs_store_contract.specs.Counts.{scope_nodes};
+ghost use Rattle.pfs_store_contract.specs.Purging.{node_numbers};
+ghost use Rattle.pfs_store_records.specs.Keeping.{Anywhere, AreInPlace, number_of_node, tally_in, values_at};
+ghost use Rattle.pfs_store_records.specs.Records.{IsAbove, IsRising, between};
+ghost use Rattle.pfs_store_records.specs.Retaining.{IsKeptUntil, is_past};
+ghost use Rattle.pfs_store_records.specs.Tallies.{IsOrderly, IsTallied, has_node_number, is_tally, nodes_of, other_node, put_tally};
+ghost use Rattle.pfs_store_records.specs.Walks.{IsPassing};
+
+use crate::records::short;
+use crate::retaining::stays_until;
+use crate::scope_counts::ScopeCounts;
+use crate::sought::Tracked;
+use crate::walks::Round;
+use indexmap::IndexMap;
+use pfs_addr_values::{Addr, NoMemory};
+use pfs_conf_values::Config;
+use pfs_store_contract::{Node, NodeScope};
+use slab::Slab;
+use std::alloc::Global;
+use std::collections::BTreeMap;
+use std::hash::BuildHasher;
+use std::marker::Model;
+use std::ops::Bound;
+
+/// A source node, and what is counted of it.
+#[derive(Debug, Clone, Copy, PartialEq, Eq)]
+pub struct Tally {
+    /// The node.
+    pub node: Node,
+    /// How many states it has.
+    pub states: u64,
+    /// How many of them are connections: their handshake has completed.
+    pub connections: u64,
+}
+
+/// How far a walk by nodes came that all stay.
+#[derive(Debug, Clone, Copy, PartialEq, Eq)]
+pub struct Passed {
+    /// How many it passed by.
+    pub stayed: u64,
+    /// The number of the last of them, or that above which the walk began.
+    pub last: u64,
+    /// A moment, in seconds, up to which none of them leaves that gets no state and loses none, or an earlier one.
+    pub until: u64,
+}
+
+/// The source nodes by rising number, each with its counts. They are found by a hash of scope and source, of the hasher
+/// that is given.
+#[derive(Drop)]
+pub struct Nodes<S: BuildHasher> {
+    slab: Slab<Tally>,
+    order: BTreeMap<u64, u32>,
+    table: IndexMap<Tracked, u32, S>,
+    counts: ScopeCounts,
+}
+
+impl<S: BuildHasher> Model for Nodes<S> {
+    ghost use Rattle.std.specs.Prelude.{List};
+    ghost use Rattle.indexmap.specs.IndexMap.{get};
+    ghost use Rattle.pfs_store_records.specs.declared.nodes.Tally.{Tally};
+    ghost use Rattle.pfs_store_records.specs.Keeping.{IsNoted, same_source, tally_in, values_at};
+
+    ghost Value = { List Tally };
+
+    ghost view = { λ n. values_at (tally_in n.slab) n.order.entries };
+
+    ghost invariant = { λ n. IsNoted (get same_source n.table) (tally_in n.slab) n.order.entries n.counts.rules.items n.counts.global };
+}
+
+impl<S: BuildHasher> Nodes<S> {
+    /// No nodes. They will be found by hashes of this hasher. It takes no memory.
+    pub fn new(alloc: Global, hasher: S) -> Nodes<S>
+        ensures nodes { result ≡ [] }
+        ensures orderly { IsOrderly result }
+    {
+        Nodes {
+            slab: Slab::new(alloc),
+            order: BTreeMap::new(alloc),
+            table: IndexMap::with_hasher(alloc, hasher),
+            counts: ScopeCounts::new(alloc),
+        }
+    }
+
+    /// How many nodes there are. It takes no memory.
+    pub fn len(&self) -> u64
+        ensures { result ≡ length self.now }
+    {
+        self.order.len() as u64
+    }
+
+    /// The numbers of the nodes rise, and no two are of one scope and source: a fact for proofs, which computes nothing.
+    pub fn are_orderly(&self)
+        ensures { IsOrderly self.now }
+    {
+        let _ = &self.order;
+    }
+
+    /// The places of the nodes, in the order of their numbers. It takes no memory.
+    pub fn order(&self) -> &BTreeMap<u64, u32>
+        ensures numbers { keys_of result.now.entries ≡ node_numbers (nodes_of self.now) }
+        ensures rising { IsRising (keys_of result.now.entries) }
+    {
+        &self.order
+    }
+
+    /// How many nodes of a scope there are. It takes no memory.
+    pub fn count(&self, scope: NodeScope) -> u64
+        ensures { result ≡ scope_nodes scope (nodes_of self.now) }
+    {
+        self.counts.get(scope)
+    }
+
+    /// The tally of the node of a scope and source, where there is one. It takes no memory.
+    pub fn get(&self, scope: NodeScope, source: Addr) -> Option<Tally>
+        ensures { result ≡ find (is_tally scope source) self.now }
+    {
+        match self.table.get(&Tracked { scope, source }) {
+            Some(place) => self.slab.get(*place as usize).copied(),
+            None => None,
+        }
+    }
+
+    /// The tally of the node of the least number above `above`, and up to `most`. It takes no memory.
+    pub fn next_between(&self, above: u64, most: u64) -> Option<Tally>
+        requires { above ≤ most }
+        ensures number { option_map (λ t. t.node.number) result
+            ≡ slice_get (filter (between above most) (node_numbers (nodes_of self.now))) 0 }
+        ensures tally { IfSome result (λ t. find (has_node_number t.node.number) self.now ≡ Some t) }
+    {
+        match self
+            .order
+            .range((Bound::Excluded(above), Bound::Included(most)))
+            .next()
+        {
+            Some((_, place)) => self.slab.get(*place as usize).copied(),
+            None => None,
+        }
+    }
+
+    /// Passes by the nodes that are still to be examined in a round, from the least number on, as long as none of them leaves
+    /// at the second `now`, and by at most `share`. All are found by one search by number. It takes no memory.
+    pub fn pass(&self, config: &Config, round: Round, share: u64, now: u64) -> Passed
+        requires range { round.cursor ≤ round.mark }
+        ensures passing { IsPassing number_of_node (is_past config.now now) self.now round.cursor round.mark share result.stayed result.last }
+        ensures until { AllByRecursion (λ t. between round.cursor result.last (number_of_node t) ≡ true → IsKeptUntil config.now result.until t) self.now }
+    {
+        pass_range(&self.slab, &self.order, config, round, share, now)
+    }
+
+    /// Adds a node, whose number is above all others and whose scope and source no other has, with its counts. It
+    /// returns `NoMemory` where memory for it is refused; nothing changes then.
+    pub fn push(&mut self, tally: Tally) -> Result<(), NoMemory>
+        requires absent { find (is_tally tally.node.scope tally.node.source) self.old ≡ None }
+        requires above { IsAbove tally.node.number (node_numbers (nodes_of self.old)) }
+        ensures ok { OnOk result (self.new ≡ self.old ++ tally ∷ []) }
+        ensures err { OnErr result (self.new ≡ self.old) }
+        ensures orderly { IsOrderly self.new }
+    {
+        // This call states to the proof that no count is near the greatest number, which follows from the order.
+        let _count = self.order.len();
+        let source = Tracked {
+            scope: tally.node.scope,
+            source: tally.node.source,
+        };
+        self.counts.make_room(tally.node.scope)?;
+        self.table.reserve(1)?;
+        self.slab.reserve(1)?;
+        let place = short(self.slab.vacant_key())?;
+        self.order.insert(tally.node.number, place)?;
+        match self.table.insert(source, place) {
+            Ok(_) => {
+                self.slab.insert_reserved(tally);
+                self.counts.add(tally.node.scope);
+                Ok(())
+            }
+            Err(_) => unreachable!(),
+        }
+    }
+
+    /// Writes a tally in place of the one that its node has. It takes no memory.
+    pub fn write(&mut self, tally: Tally)
+        requires { IsTallied tally self.old }
+        ensures nodes { self.new ≡ map (put_tally tally) self.old }
+        ensures orderly { IsOrderly self.new }
+    {
+        let source = Tracked {
+            scope: tally.node.scope,
+            source: tally.node.source,
+        };
+        match self.table.get(&source) {
+            Some(place) => self.slab[*place as usize] = tally,
+            None => unreachable!(),
+        }
+    }
+
+    /// Removes the node of this number, of which there is one. It takes no memory.
+    pub fn remove(&mut self, number: u64)
+        requires { list_any (has_node_number number) self.old ≡ true }
+        ensures nodes { self.new ≡ filter (other_node number) self.old }
+        ensures orderly { IsOrderly self.new }
+    {
+        match self.order.remove(&number) {
+            Some(place) => {
+                let node = self.slab.remove(place as usize).node;
+                self.table.swap_remove(&Tracked {
+                    scope: node.scope,
+                    source: node.source,
+                });
+                self.counts.take(node.scope);
+            }
+            None => unreachable!(),
+        }
+    }
+}
+
+fn pass_range(
+    slab: &Slab<Tally>,
+    order: &BTreeMap<u64, u32>,
+    config: &Config,
+    round: Round,
+    share: u64,
+    now: u64,
+) -> Passed
+    requires kept { AreInPlace number_of_node Anywhere (tally_in slab.now) order.now.entries }
+    requires range { round.cursor ≤ round.mark }
+    ensures passing { IsPassing number_of_node (is_past config.now now) (values_at (tally_in slab.now) order.now.entries) round.cursor round.mark share result.stayed result.last }
+    ensures until { AllByRecursion (λ t. between round.cursor result.last (number_of_node t) ≡ true → IsKeptUntil config.now result.until t) (values_at (tally_in slab.now) order.now.entries) }
+{
+    let mut rest = order.range((Bound::Excluded(round.cursor), Bound::Included(round.mark)));
+    let mut stayed = 0;
+    let mut last = round.cursor;
+    let mut until = u64::MAX;
+    while stayed < share {
+        let Some((number, place)) = rest.next() else {
+            break;
+        };
+        let Some(tally) = slab.get(*place as usize) else {
+            break;
+        };
+        let Some(moment) = stays_until(config, tally, now) else {
+            break;
+        };
+        until = until.min(moment);
+        stayed += 1;
+        last = *number;
+    }
+    Passed {
+        stayed,
+        last,
+        until,
+    }
+}

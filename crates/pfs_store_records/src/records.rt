@@ -1,0 +1,260 @@
+//! The records of states: the one module that reads a record, and ticks the meter for it.
+
+ghost use Rattle.std.specs.Prelude.{◌≡◌, ◌+◌, ◌-◌, ◌<◌, ◌≤◌, ◌^◌, ◌==◌, ◌++◌, ◌∷◌, [], IfOk, IfSome, OnErr, OnOk, Some, filter, length, map, slice_get, true};
+ghost use Rattle.std.specs.List.{find, list_any};
+ghost use Rattle.std.specs.Map.{keys_of};
+ghost use Rattle.slab.specs.Slab.{ContainsKey, get};
+ghost use Rattle.pfs_store_contract.specs.Calls.{other_than};
+ghost use Rattle.pfs_store_contract.specs.Purging.{state_numbers};
+ghost use Rattle.pfs_store_contract.specs.Worlds.{holds_number};
+ghost use Rattle.pfs_store_records.specs.Keeping.{AreInPlace, RecordIsAt, number_in, record_in, values_at};
+ghost use Rattle.pfs_store_records.specs.Sourced.{IsSourced};
+ghost use Rattle.pfs_store_records.specs.Walks.{IsWalk, StayUntil, end_of, state_has_expired, looks_of};
+ghost use Rattle.pfs_store_records.specs.Records.{IsAbove, IsRecordAt, IsRising, is_placed, leaves_number, placed_at, put, put_state, stands_at, states_of};
+
+use crate::kept::Kept;
+use crate::stays::{Stay, stay_of, stays_until};
+use crate::walks::{Lifetimes, Round, Walk};
+use pfs_addr_values::{Meter, NoMemory};
+use pfs_store_contract::State;
+use slab::Slab;
+use std::alloc::Global;
+use std::collections::BTreeMap;
+use std::marker::Model;
+use std::ops::Bound;
+
+/// The records of the states that are held, by rising number. Callers see each with its place, which it keeps until it
+/// is removed. To read a record is a look, and ticks the meter.
+#[derive(Drop)]
+pub struct Records {
+    slab: Slab<Kept>,
+    places: BTreeMap<u64, u32>,
+}
+
+impl Model for Records {
+    ghost use Rattle.std.specs.Prelude.{List};
+    ghost use Rattle.pfs_store_records.specs.Records.{Placed};
+    ghost use Rattle.pfs_store_records.specs.Keeping.{AreInPlace, RecordIsAt, number_in, record_in, values_at};
+
+    ghost Value = { List Placed };
+
+    ghost view = { λ r. values_at (record_in r.slab) r.places.entries };
+
+    ghost invariant = { λ r. AreInPlace number_in RecordIsAt (record_in r.slab) r.places.entries };
+}
+
+impl Records {
+    /// No records. It takes no memory.
+    pub fn new(alloc: Global) -> Records
+        ensures { result ≡ [] }
+    {
+        Records {
+            slab: Slab::new(alloc),
+            places: BTreeMap::new(alloc),
+        }
+    }
+
+    /// How many records there are. It takes no memory.
+    pub fn len(&self) -> u64
+        ensures { result ≡ length self.now }
+    {
+        self.places.len() as u64
+    }
+
+    /// The numbers of the states rise: a fact for proofs, which computes nothing.
+    pub fn numbers_rise(&self)
+        ensures { IsRising (state_numbers (states_of self.now)) }
+    {
+        let _ = &self.places;
+    }
+
+    /// The places of the records, in the order of their numbers. It is no look, and takes no memory.
+    pub fn order(&self) -> &BTreeMap<u64, u32>
+        ensures numbers { keys_of result.now.entries ≡ state_numbers (states_of self.now) }
+        ensures rising { IsRising (keys_of result.now.entries) }
+    {
+        &self.places
+    }
+
+    /// The state of this number, of which there is a record: one look, and one search by number. It takes no memory.
+    pub fn read(&self, number: u64, meter: &mut Meter) -> State
+        requires held { holds_number (states_of self.now) number ≡ true }
+        requires room { meter.old < 2 ^ 64 - 1 }
+        ensures value { Some result ≡ find (λ s. s.number == number) (states_of self.now) }
+        ensures small { result.number < 2 ^ 32 }
+        ensures looks { meter.new ≡ meter.old + 1 }
+    {
+        match self.places.get(&number) {
+            Some(place) => look(&self.slab, *place as usize, meter).state(),
+            None => unreachable!(),
+        }
+    }
+
+    /// The state of the record at this place: one look, and no search. It takes no memory.
+    pub fn read_at(&self, place: u32, meter: &mut Meter) -> State
+        requires held { list_any (stands_at place) self.now ≡ true }
+        requires room { meter.old < 2 ^ 64 - 1 }
+        ensures value { IsRecordAt place result self.now }
+        ensures sourced { IsSourced result }
+        ensures small { result.number < 2 ^ 32 }
+        ensures looks { meter.new ≡ meter.old + 1 }
+    {
+        look(&self.slab, place as usize, meter).state()
+    }
+
+    /// Walks over the records that are still to be examined in a round, from the least number on: over at most `share` of
+    /// them, and up to the first whose state has expired at the second `now`. Each is one look, and all are found by one
+    /// search. It takes no memory.
+    pub fn walk<T: Lifetimes>(
+        &self,
+        round: Round,
+        share: u64,
+        now: u64,
+        lifetimes: &T,
+        meter: &mut Meter,
+    ) -> Walk
+        requires range { round.cursor ≤ round.mark }
+        requires room { meter.old + share < 2 ^ 64 }
+        ensures walk { IsWalk (state_has_expired (T.lifetime lifetimes.now) now) (states_of self.now) round.cursor round.mark share
+            result.stayed result.last result.leaver }
+        ensures until { StayUntil (end_of (T.lifetime lifetimes.now)) (states_of self.now) round.cursor result.last result.until }
+        ensures small { IfSome result.leaver (λ s. s.number < 2 ^ 32) }
+        ensures looks { meter.new ≡ meter.old + looks_of result.stayed result.leaver }
+    {
+        walk_range(
+            &self.slab,
+            &self.places,
+            round,
+            share,
+            now,
+            lifetimes,
+            meter,
+        )
+    }
+
+    /// Writes a state into the record of its number, which is at this place. It is no look, and takes no memory.
+    pub fn write_at(&mut self, place: u32, state: State)
+        requires placed { list_any (is_placed state.number place) self.old ≡ true }
+        requires sourced { IsSourced state }
+        requires small { state.number < 2 ^ 32 }
+        ensures records { self.new ≡ map (put state) self.old }
+        ensures states { states_of self.new ≡ map (put_state state) (states_of self.old) }
+        ensures rising { IsRising (state_numbers (states_of self.new)) }
+    {
+        self.slab[place as usize] = Kept::of(&state);
+    }
+
+    /// Adds the record of a state whose number is above all others, and returns its place. It returns `NoMemory` where
+    /// memory for it is refused, or where the place does not fit into 32 bits; nothing changes then.
+    pub fn push(&mut self, state: &State) -> Result<u32, NoMemory>
+        requires above { IsAbove state.now.number (state_numbers (states_of self.old)) }
+        requires sourced { IsSourced state.now }
+        requires small { state.now.number < 2 ^ 32 }
+        ensures records { IfOk result (λ place. self.new ≡ self.old ++ placed_at place state.now ∷ []) }
+        ensures states { OnOk result (states_of self.new ≡ states_of self.old ++ state.now ∷ []) }
+        ensures err { OnErr result (self.new ≡ self.old) }
+        ensures rising { IsRising (state_numbers (states_of self.new)) }
+    {
+        self.slab.reserve(1)?;
+        let place = short(self.slab.vacant_key())?;
+        self.places.insert(state.number, place)?;
+        // The proof needs the types of a key named here.
+        let key = &state.key;
+        let _proto = &key.proto;
+        self.slab.insert_reserved(Kept::of(state));
+        Ok(place)
+    }
+
+    /// Removes the record of this number, of which there is one. It is no look, and takes no memory.
+    pub fn remove(&mut self, number: u64)
+        requires { holds_number (states_of self.old) number ≡ true }
+        ensures records { self.new ≡ filter (leaves_number number) self.old }
+        ensures states { states_of self.new ≡ filter (other_than number) (states_of self.old) }
+        ensures rising { IsRising (state_numbers (states_of self.new)) }
+    {
+        match self.places.remove(&number) {
+            Some(place) => {
+                self.slab.remove(place as usize);
+            }
+            None => unreachable!(),
+        }
+    }
+}
+
+/// A place in 32 bits. It returns `NoMemory` where it does not fit.
+pub(crate) fn short(place: usize) -> Result<u32, NoMemory>
+    ensures { IfOk result (λ p. p ≡ place) }
+{
+    match u32::try_from(place) {
+        Ok(number) => Ok(number),
+        Err(_) => Err(NoMemory),
+    }
+}
+
+/// Reads the record at a place: the one look.
+fn look<'a>(slab: &'a Slab<Kept>, place: usize, meter: &mut Meter) -> &'a Kept
+    requires held { ContainsKey slab.now place }
+    requires room { meter.old < 2 ^ 64 - 1 }
+    ensures value { get slab.now place ≡ Some result.now }
+    ensures looks { meter.new ≡ meter.old + 1 }
+{
+    meter.tick();
+    &slab[place]
+}
+
+fn walk_range<T: Lifetimes>(
+    slab: &Slab<Kept>,
+    places: &BTreeMap<u64, u32>,
+    round: Round,
+    share: u64,
+    now: u64,
+    lifetimes: &T,
+    meter: &mut Meter,
+) -> Walk
+    requires kept { AreInPlace number_in RecordIsAt (record_in slab.now) places.now.entries }
+    requires range { round.cursor ≤ round.mark }
+    requires room { meter.old + share < 2 ^ 64 }
+    ensures walk { IsWalk (state_has_expired (T.lifetime lifetimes.now) now) (states_of (values_at (record_in slab.now) places.now.entries)) round.cursor round.mark share
+        result.stayed result.last result.leaver }
+    ensures until { StayUntil (end_of (T.lifetime lifetimes.now)) (states_of (values_at (record_in slab.now) places.now.entries)) round.cursor result.last result.until }
+    ensures small { IfSome result.leaver (λ s. s.number < 2 ^ 32) }
+    ensures looks { meter.new ≡ meter.old + looks_of result.stayed result.leaver }
+{
+    let mut rest = places.range((Bound::Excluded(round.cursor), Bound::Included(round.mark)));
+    let mut stayed = 0;
+    let mut last = round.cursor;
+    let mut until = u64::MAX;
+    let mut known: Option<Stay> = None;
+    while stayed < share {
+        let Some((number, place)) = rest.next() else {
+            return Walk {
+                stayed,
+                last,
+                until,
+                leaver: None,
+            };
+        };
+        let kept = look(slab, *place as usize, meter);
+        let stay = stay_of(lifetimes, kept, known);
+        known = Some(stay);
+        match stays_until(kept, stay.seconds, now) {
+            Some(moment) => until = until.min(moment),
+            None => {
+                return Walk {
+                    stayed,
+                    last,
+                    until,
+                    leaver: Some(kept.state()),
+                };
+            }
+        }
+        stayed += 1;
+        last = *number;
+    }
+    Walk {
+        stayed,
+        last,
+        until,
+        leaver: None,
+    }
+}

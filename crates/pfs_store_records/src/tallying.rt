@@ -1,0 +1,213 @@
+//! What a state does to the tally of its node: when it comes, when a packet of it comes, and when it leaves.
+
+ghost use Rattle.std.specs.Prelude.{◌≡◌, ◌≤◌, [], IfSome, OnErr, OnOk, Some, map, true};
+ghost use Rattle.std.specs.List.{AllByRecursion, find, list_any};
+ghost use Rattle.pfs_conf_values.specs.Configs.{options_of};
+ghost use Rattle.pfs_conf_values.specs.Bounds.{IsRate};
+ghost use Rattle.pfs_store_contract.specs.Counts.{node_scope_of};
+ghost use Rattle.pfs_store_contract.specs.Purging.{node_numbers};
+ghost use Rattle.pfs_store_contract.specs.Worlds.{IsUpToNow, lists};
+ghost use Rattle.pfs_store_records.specs.Records.{IsAbove};
+ghost use Rattle.pfs_store_records.specs.Tallies.{is_tally, nodes_of};
+ghost use Rattle.pfs_store_records.specs.Changes.{HasTally, IsFew, IsScored, at_node, connections_at, tallies_with_state, left_of, met_by, score_at, scored_by};
+
+use crate::nodes::{Nodes, Tally};
+use pfs_addr_values::{Addr, NoMemory};
+use pfs_conf_values::{Config, Rate, RuleNo};
+use pfs_store_contract::{Node, NodeScope, State};
+use pfs_store_rules::node_scope;
+use pfs_track::Score;
+use std::hash::BuildHasher;
+
+/// What is reported of a node after a packet of one of its states; 0 where there is none.
+#[derive(Clone, Copy)]
+pub struct Met {
+    pub connections: u64,
+    pub score: Score,
+}
+
+/// A state comes: its node has one more, or is made with it. Where memory for a new node is refused, nothing changes.
+pub fn join<S: BuildHasher>(
+    nodes: &mut Nodes<S>,
+    scope: Option<NodeScope>,
+    state: &State,
+) -> Result<(), NoMemory>
+    requires few { AllByRecursion IsFew nodes.old }
+    requires above { IsAbove state.now.number (node_numbers (nodes_of nodes.old)) }
+    ensures ok { OnOk result (nodes.new ≡ tallies_with_state scope state.now nodes.old) }
+    ensures err { OnErr result (nodes.new ≡ nodes.old) }
+{
+    nodes.are_orderly();
+    match scope {
+        None => Ok(()),
+        Some(scope) => match nodes.get(scope, state.source) {
+            Some(tally) => {
+                nodes.write(Tally {
+                    states: tally.states + 1,
+                    ..tally
+                });
+                Ok(())
+            }
+            None => nodes.push(Tally {
+                node: Node {
+                    number: state.number,
+                    scope,
+                    source: state.source,
+                    score: Score::default(),
+                    idle: 0,
+                },
+                states: 1,
+                connections: 0,
+            }),
+        },
+    }
+}
+
+/// A state leaves: its node has one less, and where that was the last, it has been idle since now.
+pub fn leave<S: BuildHasher>(
+    nodes: &mut Nodes<S>,
+    scope: Option<NodeScope>,
+    state: &State,
+    now: u64,
+)
+    ensures { nodes.new ≡ map (at_node scope state.now.source (left_of state.now now)) nodes.old }
+{
+    nodes.are_orderly();
+    match scope {
+        None => {}
+        Some(scope) => match nodes.get(scope, state.source) {
+            Some(tally) => nodes.write(left(tally, state, now)),
+            None => {}
+        },
+    }
+}
+
+fn left(tally: Tally, state: &State, now: u64) -> Tally
+    ensures { result ≡ left_of state.now now tally }
+{
+    let states = tally.states.saturating_sub(1);
+    Tally {
+        node: if states == 0 {
+            Node {
+                idle: now,
+                ..tally.node
+            }
+        } else {
+            tally.node
+        },
+        states,
+        connections: tally
+            .connections
+            .saturating_sub(if state.phase.done() { 1 } else { 0 }),
+    }
+}
+
+/// A packet of a state comes, which completes its handshake or does not: a connection more of its node, and the score where
+/// its rule has a rate.
+pub fn meet<S: BuildHasher>(
+    config: &Config,
+    nodes: &mut Nodes<S>,
+    state: &State,
+    completed: bool,
+    now: u64,
+) -> Met
+    requires has { HasTally config.now nodes.old state.now }
+    requires few { AllByRecursion IsFew nodes.old }
+    requires scored { AllByRecursion IsScored nodes.old }
+    requires order { IsUpToNow now (lists [] (nodes_of nodes.old) [] [] 0) }
+    ensures nodes { nodes.new
+        ≡ map (at_node (node_scope_of config.now state.now.rule.0) state.now.source (met_by (options_of config.now state.now.rule.0).max_src_conn_rate now completed)) nodes.old }
+    ensures connections { result.connections ≡ connections_at (node_scope_of config.now state.now.rule.0) state.now.source nodes.new }
+    ensures score { result.score ≡ score_at (node_scope_of config.now state.now.rule.0) state.now.source nodes.new }
+{
+    match node_scope(config, state.rule) {
+        None => Met {
+            connections: 0,
+            score: Score::default(),
+        },
+        Some(scope) => {
+            let rate = rate_of(config, state.rule);
+            let tally = meet_at(nodes, scope, state.source, rate, completed, now);
+            Met {
+                connections: tally.connections,
+                score: tally.node.score,
+            }
+        }
+    }
+}
+
+/// The tally of the node of a scope and a source, after a packet of one of its states.
+fn meet_at<S: BuildHasher>(
+    nodes: &mut Nodes<S>,
+    scope: NodeScope,
+    source: Addr,
+    rate: Option<Rate>,
+    completed: bool,
+    now: u64,
+) -> Tally
+    requires has { list_any (is_tally scope source) nodes.old ≡ true }
+    requires few { AllByRecursion IsFew nodes.old }
+    requires scored { AllByRecursion IsScored nodes.old }
+    requires order { IsUpToNow now (lists [] (nodes_of nodes.old) [] [] 0) }
+    requires rate { IfSome rate IsRate }
+    ensures nodes { nodes.new ≡ map (at_node (Some scope) source (met_by rate now completed)) nodes.old }
+    ensures tally { find (is_tally scope source) nodes.new ≡ Some result }
+{
+    nodes.are_orderly();
+    match nodes.get(scope, source) {
+        Some(tally) => {
+            let met = after_packet(tally, rate, completed, now);
+            if completed {
+                nodes.write(met);
+            }
+            met
+        }
+        None => unreachable!(),
+    }
+}
+
+fn after_packet(tally: Tally, rate: Option<Rate>, completed: bool, now: u64) -> Tally
+    requires few { IsFew tally }
+    requires scored { IsScored tally }
+    requires order { tally.node.score.last ≤ now }
+    requires rate { IfSome rate IsRate }
+    ensures { result ≡ met_by rate now completed tally }
+{
+    if completed {
+        Tally {
+            node: scored(tally.node, rate, now),
+            states: tally.states,
+            connections: tally.connections + 1,
+        }
+    } else {
+        tally
+    }
+}
+
+fn scored(node: Node, rate: Option<Rate>, now: u64) -> Node
+    requires scored { node.score.value ≤ 4294968000 }
+    requires order { node.score.last ≤ now }
+    requires rate { IfSome rate IsRate }
+    ensures { result ≡ scored_by rate now node }
+{
+    match rate {
+        Some(rate) => Node {
+            score: node.score.add(now, u64::from(rate.seconds)),
+            ..node
+        },
+        None => node,
+    }
+}
+
+/// The rate of a rule, if it has one.
+fn rate_of(config: &Config, rule: RuleNo) -> Option<Rate>
+    ensures value { result ≡ (options_of config.now rule.0).max_src_conn_rate }
+    ensures sound { IfSome result IsRate }
+{
+    // This call states to the proof that the options of each rule keep the load rules.
+    let _count = config.item_count();
+    match config.options(rule) {
+        Some(options) => options.max_src_conn_rate,
+        None => None,
+    }
+}
