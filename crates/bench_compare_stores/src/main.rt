@@ -9,7 +9,7 @@ ghost use Rattle.pfs_engine_machine.specs.Runs.{MayCome, MayChange};
 
 use csv::{ByteRecord, Reader, ReaderBuilder};
 use pfs_addr_values::RUN_LIMIT;
-use pfs_cli_formats::{EndLine, push_end, push_row};
+use pfs_cli_formats::{EndLine, push_end, push_outcome};
 use pfs_conf::{Config, LoadFault, TableNo, load};
 use pfs_engine::{Arrival, Engine, Event, Outcome};
 use pfs_store::{IndexStore, PlainStore, Store};
@@ -169,7 +169,7 @@ fn go_through<R: Read, S: Store, T: Store, W: Write>(
             |fault| Stop::Trace(fault),
         )?;
         let outcome = take_both(rows + 1, &event, plain, indexed)?;
-        push_row(&mut line, rows + 1, &outcome).map_err(|_| Stop::Memory)?;
+        push_outcome(&mut line, rows + 1, &outcome).map_err(|_| Stop::Memory)?;
         out.write_all(&line).map_err(|_| Stop::File)?;
     }
     Err(Stop::Trace(TraceFault::TooManyRows))

@@ -12,7 +12,7 @@ abbrev pub run_limit : ℕ
 run_limit = RUN_LIMIT
 
 -- the fields of a packet: its direction, the name of its interface, its protocol, its two ends and its flags
-pub record Header : Type 0 where
+pub record PacketView : Type 0 where
   pub dir : Dir
   pub ifname : List ℕ
   pub proto : Proto

@@ -35,7 +35,7 @@ pub struct Endpoint {
 
 /// A packet on an interface.
 ///
-/// Clauses see it as a `Header`: direction, interface name, protocol, the source and the destination with their ports,
+/// Clauses see it as a `PacketView`: direction, interface name, protocol, the source and the destination with their ports,
 /// and flags. Its ports are 0 for protocols other than TCP and UDP.
 #[derive(Debug, Clone, Copy, PartialEq, Eq)]
 pub struct Packet {
@@ -49,9 +49,9 @@ pub struct Packet {
 
 impl Model for Packet {
     ghost use Rattle.std.specs.Prelude.{◌≡◌, false};
-    ghost use Rattle.pfs_addr_values.specs.Packets.{Header, IsPortless};
+    ghost use Rattle.pfs_addr_values.specs.Packets.{PacketView, IsPortless};
 
-    ghost Value = { Header };
+    ghost Value = { PacketView };
 
     ghost view = { λ p. record { dir = p.dir; ifname = p.ifname; proto = p.proto; source = p.source; destination = p.destination; flags = p.flags } };
 

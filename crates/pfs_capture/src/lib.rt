@@ -13,6 +13,6 @@ pub use accounts::Account;
 pub use directions::Directions;
 pub use faults::{TraceStop, status};
 pub use pfs_capture_packets::{Mac, parse_mac};
-pub use pfs_cli_streams::{Feed, Sink};
+pub use pfs_streams::{Feed, Sink};
 pub use points::{CapturePoint, Side};
 pub use traces::write_trace;

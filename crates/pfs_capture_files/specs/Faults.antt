@@ -1,6 +1,6 @@
 -- The faults of a file, and of what is around it. (own)
 use Rattle.std.specs.Prelude.{◌⊎◌, ◌<◌, Bool, true, false}
-use Rattle.pfs_cli_streams.specs.Feeds.{FeedView, IsSpent, read_failures}
+use Rattle.pfs_streams.specs.Feeds.{FeedView, IsSpent, read_failures}
 use Rattle.pfs_capture_files.specs.declared.faults.FileFault.{FileFault}
 use Rattle.pfs_capture_files.specs.declared.faults.FileFault.TheVariants as fault
 

@@ -2,11 +2,11 @@
 
 ghost use Rattle.std.specs.Prelude.{◌≡◌, ◌⊎◌, ◌<◌, ◌≤◌, ℕ, List, [], Some, Err, IfErr, OnOk, drop, length, take};
 ghost use Rattle.std.specs.Vec.{vec_capacity};
-ghost use Rattle.pfs_cli_streams.specs.Feeds.{read_failures, unread};
+ghost use Rattle.pfs_streams.specs.Feeds.{read_failures, unread};
 ghost use Rattle.pfs_capture_files.specs.Faults.{HasFailed};
 
 use crate::faults::FileFault;
-use pfs_cli_streams::Feed;
+use pfs_streams::Feed;
 use std::io::Read;
 
 /// The most bytes that are read by a small chunk, since it is cheaper to make: the head of a record or of a block.

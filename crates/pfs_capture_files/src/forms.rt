@@ -2,7 +2,7 @@
 
 ghost use Rattle.std.specs.Prelude.{◌≡◌, ◌⊎◌, ◌<◌, ◌≤◌, false, ℕ, List, Some, Err, IfErr, OnErr, drop, length};
 ghost use Rattle.std.specs.Vec.{vec_capacity};
-ghost use Rattle.pfs_cli_streams.specs.Feeds.{read_failures, unread};
+ghost use Rattle.pfs_streams.specs.Feeds.{read_failures, unread};
 ghost use Rattle.pfs_capture_files.specs.declared.forms.Form.TheVariants as form;
 ghost use Rattle.pfs_capture_files.specs.Faults.{HasFailed, is_outside};
 ghost use Rattle.pfs_capture_files.specs.Forms.{Begins, IsWithinStart, ReadsItem, block_turn, blocks_start, classic_form, classic_start, frame_turn, record_turn, rest_turn, start_of, start_of_magic, start_of_version, turn_of, what_begins};
@@ -13,7 +13,7 @@ use crate::faults::FileFault;
 use crate::filling::fill;
 use crate::frames::{Frame, Item};
 use crate::orders::{Order, read_u16, read_u32};
-use pfs_cli_streams::Feed;
+use pfs_streams::Feed;
 use std::alloc::Global;
 use std::io::Read;
 

@@ -1,6 +1,6 @@
 -- The packet of a frame on its way through an interface, as rules and states look at it.
 use Rattle.std.specs.Prelude.{ℕ, false, List}
-use Rattle.pfs_addr_values.specs.Packets.{Header}
+use Rattle.pfs_addr_values.specs.Packets.{PacketView}
 use Rattle.pfs_addr_values.specs.declared.flag_sets.Flags.{Flags}
 use Rattle.pfs_addr_values.specs.declared.packets.Dir.{Dir}
 use Rattle.pfs_addr_values.specs.declared.protocols.Proto.{Proto}
@@ -37,7 +37,7 @@ flags_of_carried (Udp from to) = no_flags
 flags_of_carried (Other n) = no_flags
 
 -- a packet that comes in or goes out on the interface of this name
-abbrev pub on_way : Dir → List ℕ → IpPacket → Header
+abbrev pub on_way : Dir → List ℕ → IpPacket → PacketView
 on_way dir ifname packet = record {
   dir = dir;
   ifname = ifname;

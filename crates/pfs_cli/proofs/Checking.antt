@@ -12,7 +12,7 @@ use Rattle.pfs_cli.specs.declared.faults.ReplayFault.TheVariants as fault
 use Rattle.pfs_cli.specs.Refusing.{IsFeedFault, RefusesText, fault_by, fault_of}
 use Rattle.pfs_cli.specs.Checks.{Answers}
 use Rattle.pfs_cli.specs.Replays.{ShowsLines}
-use Rattle.pfs_cli_streams.specs.Sinks.{SinkView, OwesNoFlush, is_unflushed}
+use Rattle.pfs_streams.specs.Sinks.{SinkView, OwesNoFlush, is_unflushed}
 
 -- no fault of rules is one of writing
 pub refused-no_write : (f : LoadFault) → fault_of f ≢ fault.Write

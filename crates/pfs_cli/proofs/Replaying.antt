@@ -18,7 +18,7 @@ use Rattle.pfs_conf.specs.Reads.{Reads}
 use Rattle.pfs_conf.specs.Faults.{IsFault, memory, long, breaks, stops}
 use Rattle.pfs_cli.specs.declared.records.Stop.TheVariants as stop
 use Rattle.pfs_cli.specs.Faults.{replay_fault}
-use Rattle.pfs_cli_streams.specs.Kept.{KeepsEnough, rules_limit}
+use Rattle.pfs_streams.specs.Kept.{KeepsEnough, rules_limit}
 use Rattle.pfs_cli.specs.Rules.{AreRefused}
 use Rattle.pfs_cli_formats.specs.Reports.{AreFirstLines, BeginsReport}
 use Rattle.pfs_cli.specs.Turns.{Tells}

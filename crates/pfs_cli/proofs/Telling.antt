@@ -20,7 +20,7 @@ use Rattle.pfs_conf_values.specs.Configs.{Conf}
 use Rattle.pfs_engine_machine.specs.declared.events.Event.{Event}
 use Rattle.pfs_engine_machine.specs.Machine.{Machine, start, step, outcomes_of, machine_after}
 use Rattle.pfs_engine.specs.Views.{View}
-use Rattle.pfs_cli_streams.specs.Sinks.{SinkView, OwesNoFlush}
+use Rattle.pfs_streams.specs.Sinks.{SinkView, OwesNoFlush}
 use Rattle.pfs_trace.specs.declared.faults.TraceFault.{TraceFault}
 use Rattle.pfs_trace.specs.declared.faults.TraceFault.TheVariants as fault
 use Rattle.pfs_cli.specs.declared.records.Stop.{Stop}

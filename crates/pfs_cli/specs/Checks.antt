@@ -2,9 +2,9 @@
 use Rattle.std.specs.Prelude.{◌≡◌, ◌++◌, ◌<◌, ◌≤◌, ◌+◌, ℕ, List, [], codes, drop, length, Option, Some, Result, Ok, Err}
 use Rattle.std.specs.Fmt.{decimal}
 use Rattle.std.specs.Io.KnownBytes.{Appends}
-use Rattle.pfs_cli_streams.specs.Feeds.{FeedView, IsSpent, bound_of, read_failures, unread}
-use Rattle.pfs_cli_streams.specs.Kept.{rules_limit}
-use Rattle.pfs_cli_streams.specs.Sinks.{SinkView, OwesNoFlush, bytes_held, write_failures}
+use Rattle.pfs_streams.specs.Feeds.{FeedView, IsSpent, bound_of, read_failures, unread}
+use Rattle.pfs_streams.specs.Kept.{rules_limit}
+use Rattle.pfs_streams.specs.Sinks.{SinkView, OwesNoFlush, bytes_held, write_failures}
 use Rattle.pfs_conf_values.specs.Configs.{Conf, entry_count_of}
 use Rattle.pfs_conf.specs.Reads.{Reads}
 use Rattle.pfs_conf.specs.declared.faults.LoadFault.{LoadFault}

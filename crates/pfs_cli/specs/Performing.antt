@@ -5,7 +5,7 @@ use Rattle.pfs_cli_jobs.specs.declared.tasks.Job.TheVariants as job
 use Rattle.pfs_conf_show.specs.Texts.{text_of}
 use Rattle.pfs_cli.specs.declared.faults.ReplayFault.{ReplayFault}
 use Rattle.pfs_cli.specs.Checks.{Answers, counts_text}
-use Rattle.pfs_cli_streams.specs.Joined.{split_joined}
+use Rattle.pfs_streams.specs.Joined.{split_joined}
 use Rattle.pfs_cli.specs.Replays.{Replays}
 
 -- without words, rules and trace are in the one text that is read; `check` reports the counts of the rules, `show`

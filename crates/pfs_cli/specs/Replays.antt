@@ -4,8 +4,8 @@ use Rattle.pfs_trace.specs.declared.faults.TraceFault.{TraceFault}
 use Rattle.pfs_trace.specs.declared.faults.TraceFault.TheVariants as trace
 use Rattle.pfs_cli.specs.declared.faults.ReplayFault.{ReplayFault}
 use Rattle.pfs_cli.specs.declared.faults.ReplayFault.TheVariants as fault
-use Rattle.pfs_cli_streams.specs.Feeds.{FeedView, IsFresh, read_failures, reads_of}
-use Rattle.pfs_cli_streams.specs.Sinks.{SinkView, OwesNoFlush, is_unflushed}
+use Rattle.pfs_streams.specs.Feeds.{FeedView, IsFresh, read_failures, reads_of}
+use Rattle.pfs_streams.specs.Sinks.{SinkView, OwesNoFlush, is_unflushed}
 use Rattle.pfs_conf_values.specs.Configs.{Conf}
 use Rattle.pfs_conf.specs.Reads.{Reads}
 use Rattle.pfs_trace.specs.Traces.{trace_of}

@@ -1,6 +1,6 @@
 -- What one turn of a run writes, and what is written when it ends. (own)
 use Rattle.std.specs.Prelude.{◌≡◌, ◌<◌, ◌⊎◌, ℕ, List, [], length, take, Some, None, Result, Ok, Err}
-use Rattle.pfs_cli_streams.specs.Sinks.{SinkView, OwesNoFlush}
+use Rattle.pfs_streams.specs.Sinks.{SinkView, OwesNoFlush}
 use Rattle.pfs_conf_values.specs.Configs.{Conf}
 use Rattle.pfs_engine_machine.specs.declared.events.Event.{Event}
 use Rattle.pfs_engine_machine.specs.Machine.{Machine, step}

@@ -2,16 +2,16 @@
 
 ghost use Rattle.std.specs.Prelude.{◌≡◌, ◌++◌, ◌<◌, false, ℕ, List, IfOk, IfErr, OnOk, OnErr, string_bytes};
 ghost use Rattle.std.specs.Io.KnownBytes.{Appends, Keeps};
-ghost use Rattle.pfs_cli_streams.specs.Feeds.{IsFresh};
-ghost use Rattle.pfs_cli_streams.specs.Sinks.{bytes_held, is_unflushed, write_failures};
+ghost use Rattle.pfs_streams.specs.Feeds.{IsFresh};
+ghost use Rattle.pfs_streams.specs.Sinks.{bytes_held, is_unflushed, write_failures};
 ghost use Rattle.pfs_conf_show.specs.Texts.{text_of};
 ghost use Rattle.pfs_cli.specs.Checks.{TellsRules, counts_text, wanted_text};
 
 use crate::faults::ReplayFault;
 use crate::rules::read_config;
 use pfs_addr_values::NoMemory;
-use pfs_cli_streams::{Feed, Sink, write_whole};
 use pfs_conf::{Config, show};
+use pfs_streams::{Feed, Sink, write_whole};
 use std::alloc::{AllocError, Global};
 use std::io::{Read, Write};
 

@@ -2,8 +2,8 @@
 
 ghost use Rattle.std.specs.Prelude.{◌≡◌, ◌≢◌, ◌⊎◌, Err, ◌<◌, ℕ, List};
 ghost use Rattle.std.specs.Io.KnownBytes.{Keeps};
-ghost use Rattle.pfs_cli_streams.specs.Feeds.{IsSpent, read_failures};
-ghost use Rattle.pfs_cli_streams.specs.Sinks.{bytes_held, write_failures};
+ghost use Rattle.pfs_streams.specs.Feeds.{IsSpent, read_failures};
+ghost use Rattle.pfs_streams.specs.Sinks.{bytes_held, write_failures};
 ghost use Rattle.pfs_conf_values.specs.Configs.{Conf};
 ghost use Rattle.pfs_conf.specs.declared.faults.LoadFault.{LoadFault};
 ghost use Rattle.pfs_conf.specs.Reads.{Reads};
@@ -14,7 +14,7 @@ ghost use Rattle.pfs_cli.specs.Replays.{Replays, ShowsLines};
 
 use crate::faults::{ReplayFault, of_trace};
 use crate::records::Stop;
-use pfs_cli_streams::{Feed, Sink};
+use pfs_streams::{Feed, Sink};
 use std::io::Write;
 
 /// Why a call over this feed failed, where it has no fault of its own.

@@ -2,15 +2,15 @@
 
 ghost use Rattle.std.specs.Prelude.{◌≡◌, ◌≢◌, ◌⊎◌, Some, Ok, Err, ◌<◌, ℕ, List, IfOk, IfErr, OnErr};
 ghost use Rattle.std.specs.Io.KnownBytes.{Appends};
-ghost use Rattle.pfs_cli_streams.specs.Feeds.{bound_of, unread, IsSpent, reads_of, read_failures};
-ghost use Rattle.pfs_cli_streams.specs.Sinks.{OwesNoFlush, bytes_held, write_failures};
+ghost use Rattle.pfs_streams.specs.Feeds.{bound_of, unread, IsSpent, reads_of, read_failures};
+ghost use Rattle.pfs_streams.specs.Sinks.{OwesNoFlush, bytes_held, write_failures};
 ghost use Rattle.pfs_conf.specs.declared.faults.LoadFault.{LoadFault};
 ghost use Rattle.pfs_cli.specs.Rules.{AreRefused};
 ghost use Rattle.pfs_cli.specs.Replays.{Replays, ShowsLines, WaitsForRead};
 ghost use Rattle.pfs_cli.specs.Refusing.{RefusesRules, RefusesText};
 ghost use Rattle.pfs_cli.specs.Turns.{PassedOn};
 ghost use Rattle.pfs_cli.specs.Halting.{IsHalt, RefusesWithin, TellsWithin};
-ghost use Rattle.pfs_cli_streams.specs.Joined.{split_joined};
+ghost use Rattle.pfs_streams.specs.Joined.{split_joined};
 
 use crate::endings::{feed_fault, finish, memory_fault};
 use crate::faults::ReplayFault;
@@ -18,7 +18,7 @@ use crate::records::Stop;
 use crate::replays::FIRST_READ;
 use crate::reports::write_report;
 use crate::rules::load_config;
-use pfs_cli_streams::{Feed, RulesStop, Sink, read_joined};
+use pfs_streams::{Feed, RulesStop, Sink, read_joined};
 use std::alloc::Global;
 use std::io::{BufReader, Read, Write};
 

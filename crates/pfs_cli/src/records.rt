@@ -6,7 +6,7 @@ ghost use Rattle.csv.specs.Reading.{Ready, ReadRecord, source_of, reader_trim, r
 ghost use Rattle.csv.specs.declared.reader.Trim.TheVariants as trim;
 ghost use Rattle.csv.specs.Records.{fields_of};
 ghost use Rattle.pfs_addr_values.specs.Packets.{run_limit};
-ghost use Rattle.pfs_cli_streams.specs.Sinks.{OwesNoFlush, bytes_held, write_failures as failures_of};
+ghost use Rattle.pfs_streams.specs.Sinks.{OwesNoFlush, bytes_held, write_failures as failures_of};
 ghost use Rattle.pfs_cli_formats.specs.Lines.{row_text, end_text};
 ghost use Rattle.std.specs.Option.{ForSome};
 ghost use Rattle.pfs_engine_machine.specs.Machine.{start, step};
@@ -19,10 +19,10 @@ ghost use Rattle.pfs_trace.specs.Traces.{events_of, events_from};
 
 use csv::{ByteRecord, Reader, ReaderBuilder};
 use pfs_addr_values::RUN_LIMIT;
-use pfs_cli_formats::{EndLine, push_end, push_row};
-use pfs_cli_streams::{Sink, write_whole};
+use pfs_cli_formats::{EndLine, push_end, push_outcome};
 use pfs_engine::{Engine, Event, Outcome};
 use pfs_store_contract::Store;
+use pfs_streams::{Sink, write_whole};
 use pfs_trace::{TraceFault, has_columns, read_event};
 use std::alloc::Global;
 use std::io::{Read, Write};
@@ -65,7 +65,7 @@ fn write_row<W: Write>(
     ensures passed_on { PassedOn out.new result }
 {
     line.clear();
-    match push_row(line, row, outcome) {
+    match push_outcome(line, row, outcome) {
         Ok(()) => send(line.as_slice(), out),
         Err(_) => Err(Stop::Memory),
     }

@@ -2,10 +2,10 @@
 
 ghost use Rattle.std.specs.Prelude.{◌≡◌, ◌⊎◌, Some, Err, ◌<◌, ◌≤◌, ◌+◌, ℕ, List, true, drop};
 ghost use Rattle.std.specs.Io.KnownBytes.{Appends};
-ghost use Rattle.pfs_cli_streams.specs.Feeds.{bound_of, unread, has_ended, IsFresh, IsSpent, reads_of, read_failures};
-ghost use Rattle.pfs_cli_streams.specs.Sinks.{OwesNoFlush, bytes_held, write_failures};
+ghost use Rattle.pfs_streams.specs.Feeds.{bound_of, unread, has_ended, IsFresh, IsSpent, reads_of, read_failures};
+ghost use Rattle.pfs_streams.specs.Sinks.{OwesNoFlush, bytes_held, write_failures};
 ghost use Rattle.pfs_conf.specs.declared.faults.LoadFault.{LoadFault};
-ghost use Rattle.pfs_cli_streams.specs.Kept.{rules_limit};
+ghost use Rattle.pfs_streams.specs.Kept.{rules_limit};
 ghost use Rattle.pfs_cli.specs.Rules.{AreRefused};
 ghost use Rattle.pfs_cli.specs.Refusing.{HasNoRules, TellsRulesAlone};
 ghost use Rattle.pfs_cli.specs.Replays.{Replays, ShowsLines, WaitsForRead};
@@ -14,7 +14,7 @@ use crate::endings::{feed_fault, finish};
 use crate::faults::ReplayFault;
 use crate::reports::write_report;
 use crate::rules::read_config;
-use pfs_cli_streams::{Feed, Sink};
+use pfs_streams::{Feed, Sink};
 use std::alloc::Global;
 use std::io::{Read, Write};
 

@@ -2,18 +2,18 @@
 
 ghost use Rattle.std.specs.Prelude.{◌≡◌, Some, Err, ◌<◌, ℕ, List};
 ghost use Rattle.std.specs.Io.KnownBytes.{Appends};
-ghost use Rattle.pfs_cli_streams.specs.Sinks.{OwesNoFlush, bytes_held, write_failures};
+ghost use Rattle.pfs_streams.specs.Sinks.{OwesNoFlush, bytes_held, write_failures};
 ghost use Rattle.pfs_trace.specs.Reading.{records_of};
 ghost use Rattle.pfs_trace.specs.Traces.{events_of};
 ghost use Rattle.pfs_store_contract.specs.Worlds.{empty_world};
 ghost use Rattle.pfs_cli.specs.Turns.{PassedOn, Tells};
 
 use crate::records::{Stop, tell_records};
-use pfs_cli_streams::Sink;
 use pfs_conf_values::Config;
 use pfs_engine::Engine;
 use pfs_store_contract::Store;
 use pfs_store_index::IndexStore;
+use pfs_streams::Sink;
 use std::alloc::Global;
 use std::io::{Read, Write};
 

@@ -1,15 +1,15 @@
 //! From a rules text to its configuration.
 
 ghost use Rattle.std.specs.Prelude.{◌≡◌, ◌≢◌, Some, Err, ◌<◌, ◌≤◌, ◌+◌, ℕ, List, true, IfOk, IfErr, length, drop};
-ghost use Rattle.pfs_cli_streams.specs.Feeds.{bound_of, unread, has_ended, IsSpent, read_failures};
-ghost use Rattle.pfs_cli_streams.specs.Kept.{KeepsEnough, rules_limit};
+ghost use Rattle.pfs_streams.specs.Feeds.{bound_of, unread, has_ended, IsSpent, read_failures};
+ghost use Rattle.pfs_streams.specs.Kept.{KeepsEnough, rules_limit};
 ghost use Rattle.pfs_conf.specs.Reads.{Reads};
 ghost use Rattle.pfs_cli.specs.Refusing.{IsFeedFault, RefusesRules, RefusesText, fault_of};
 
 use crate::endings::feed_fault;
 use crate::faults::ReplayFault;
-use pfs_cli_streams::{Feed, RulesStop, read_rules};
 use pfs_conf::{Config, Kind, LoadFault, load};
+use pfs_streams::{Feed, RulesStop, read_rules};
 use std::alloc::Global;
 use std::io::Read;
 

@@ -1,4 +1,4 @@
--- The line of a record is its parts, one appended after the other: for push_row.
+-- The line of a record is its parts, one appended after the other: for push_outcome.
 use Rattle.std.proofs.Common.{ℕ, List, ◌≡◌, ◌++◌, ◌∙◌, Option, Some, None, codes, append_assoc, ap, decimal, refl, sym}
 use Rattle.pfs_conf_values.specs.declared.items.RuleNo.{RuleNo}
 use Rattle.pfs_engine_machine.specs.declared.events.Outcome.{Outcome}

@@ -3,4 +3,4 @@
 
 mod lines;
 
-pub use lines::{EndLine, push_end, push_row};
+pub use lines::{EndLine, push_end, push_outcome};

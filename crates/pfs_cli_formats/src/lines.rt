@@ -21,7 +21,7 @@ pub struct EndLine {
 /// Appends the line of a record: its row, what the machine did with it, and by which rule. It fails where memory was
 /// refused; a part of the line may have been appended then.
 #[tactic(auto, using(crate::proofs::Rows::parted))]
-pub fn push_row(out: &mut Vec<u8>, row: u64, outcome: &Outcome) -> Result<(), AllocError>
+pub fn push_outcome(out: &mut Vec<u8>, row: u64, outcome: &Outcome) -> Result<(), AllocError>
     ensures { OnOk result (out.new.items ≡ out.old.items ++ row_text row outcome.now) }
 {
     push_number(out, row)?;

@@ -2,7 +2,7 @@
 use Rattle.std.proofs.Common.{◌≡◌, ℕ, true, Option, None, Some, ap, ◌∙◌, sym, subst, refl}
 use Rattle.std.specs.Prelude.{option_map}
 use Rattle.pfs_addr_values.specs.Keys.{key_of}
-use Rattle.pfs_addr_values.specs.Packets.{Header}
+use Rattle.pfs_addr_values.specs.Packets.{PacketView}
 use Rattle.pfs_addr_values.specs.Sameness.{same_addr}
 use Rattle.pfs_addr_values.specs.declared.addresses.Addr.{Addr}
 use Rattle.pfs_eval.specs.Holdings.{Holdings}
@@ -31,7 +31,7 @@ pub found_state : (o : Option State) (number : StateNo) → option_map state_num
 found_state None number e = cc
 found_state (Some s) number e = let same : state_number s ≡ number = cc in (s, refl, ap (λ (n : StateNo). n.0) same)
 
-pub held_after : (conf : Conf) (w after : World) (p : Header) (now : ℕ) (number : StateNo) → option_map state_number (state_with (key_of p) w) ≡ Some number
+pub held_after : (conf : Conf) (w after : World) (p : PacketView) (now : ℕ) (number : StateNo) → option_map state_number (state_with (key_of p) w) ≡ Some number
     → after ≡ world_touched conf w p now (state_with (key_of p) w) → holds_number after.states number.0 ≡ true
 held_after conf w after p now number e is =
     let (s, found, same) = found_state (state_with (key_of p) w) number e in
@@ -39,7 +39,7 @@ held_after conf w after p now number e is =
     ap (λ (v : World). holds_number v.states number.0) after_is
     ∙ (ap (λ (n : ℕ). holds_number (world_after_touch conf w s p now).states n) (sym same) ∙ held_touched conf w p now s found)
 
-pub room_after : (conf store_conf : Conf) (m : Held) (p : Header) (now : ℕ) (number : StateNo) (t : Touched) (rule : Option RuleNo) (tables : Holdings)
+pub room_after : (conf store_conf : Conf) (m : Held) (p : PacketView) (now : ℕ) (number : StateNo) (t : Touched) (rule : Option RuleNo) (tables : Holdings)
     → IsKept conf m now → option_map state_number (state_with (key_of p) m.world) ≡ Some number
     → rule ≡ option_map state_rule (state_with (key_of p) m.world)
     → Some t ≡ option_map (touch_of store_conf m.world p now) (state_with (key_of p) m.world)
@@ -55,7 +55,7 @@ room_after conf store_conf m p now number t rule tables kept e rule_is touch_is 
     subst (λ (r : RuleNo). HasRoomFor tables (options_of conf r.0).overload) (sym (ap (λ (x : Touched). x.rule) t_is)) here
 
 -- the source of the state has as many states as before
-pub beside_after : (store_conf : Conf) (w after : World) (p : Header) (now : ℕ) (number : StateNo) (t : Touched)
+pub beside_after : (store_conf : Conf) (w after : World) (p : PacketView) (now : ℕ) (number : StateNo) (t : Touched)
     → option_map state_number (state_with (key_of p) w) ≡ Some number → after ≡ world_touched store_conf w p now (state_with (key_of p) w)
     → Some t ≡ option_map (touch_of store_conf w p now) (state_with (key_of p) w)
     → source_states t.source after.states ≡ states_beside w (state_with (key_of p) w)
@@ -70,7 +70,7 @@ beside_after store_conf w after p now number t e is touch_is =
     ∙ sym (ap (states_beside w) found)))
 
 -- what a packet of the state makes of the machine is what comes of its touch
-pub told_after : (conf store_conf : Conf) (m : Held) (after : World) (p : Header) (now : ℕ) (number : StateNo) (t : Touched) → store_conf ≡ conf
+pub told_after : (conf store_conf : Conf) (m : Held) (after : World) (p : PacketView) (now : ℕ) (number : StateNo) (t : Touched) → store_conf ≡ conf
     → option_map state_number (state_with (key_of p) m.world) ≡ Some number → after ≡ world_touched store_conf m.world p now (state_with (key_of p) m.world)
     → Some t ≡ option_map (touch_of store_conf m.world p now) (state_with (key_of p) m.world)
     → answer_of_touch conf (held_of after m.tables) number.0 now t ≡ answer_to_packet conf m p now

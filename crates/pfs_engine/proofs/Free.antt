@@ -2,7 +2,7 @@
 use Rattle.std.proofs.Common.{◌≡◌, ◌∙◌, ℕ, if◌then◌else◌, Option, Some, None, IsSome, Result, Ok, Err, IsOk, OnErr, ap, refl, subst, sym}
 use Rattle.std.proofs.lemmas.Bool.{false≢true}
 use Rattle.pfs_addr_values.specs.Keys.{key_of}
-use Rattle.pfs_addr_values.specs.Packets.{Header}
+use Rattle.pfs_addr_values.specs.Packets.{PacketView}
 use Rattle.pfs_conf_values.specs.Configs.{Conf, rule_of}
 use Rattle.pfs_conf_values.specs.declared.actions.Action.{Action}
 use Rattle.pfs_conf_values.specs.declared.actions.Action.TheVariants as action
@@ -23,21 +23,21 @@ use Rattle.pfs_engine_machine.specs.declared.events.Arrival.{Arrival}
 use Rattle.pfs_engine_machine.specs.declared.events.Arrival.TheVariants as arrival
 use Rattle.pfs_engine.specs.Packets.{NeedsNone, NeedsNoneAt, NeedsNoneBy}
 
-free_limit : (conf : Conf) (m : Held) (p : Header) (now rule : ℕ) (limit : Option Limit) → IsFree conf p (answer_of_limits conf m p now rule limit).0 → IsSome limit
+free_limit : (conf : Conf) (m : Held) (p : PacketView) (now rule : ℕ) (limit : Option Limit) → IsFree conf p (answer_of_limits conf m p now rule limit).0 → IsSome limit
 free_limit conf m p now rule None free = absurd free
 free_limit conf m p now rule (Some l) free = refl
 
-free_action : (conf : Conf) (m : Held) (p : Header) (now rule : ℕ) (what : Action) → IsFree conf p (answer_of_action conf m p now rule what).0
+free_action : (conf : Conf) (m : Held) (p : PacketView) (now rule : ℕ) (what : Action) → IsFree conf p (answer_of_action conf m p now rule what).0
     → NeedsNoneAt conf m p rule what
 free_action conf m p now rule action.Block free = tt
 free_action conf m p now rule action.Pass free = tt
 free_action conf m p now rule (action.Keep o) free = free_limit conf m p now rule (packet_limit conf m.world p rule) free
 
-free_rule : (conf : Conf) (m : Held) (p : Header) (now : ℕ) (rule : Option ℕ) → IsFree conf p (answer_of_rule conf m p now rule).0 → NeedsNoneBy conf m p rule
+free_rule : (conf : Conf) (m : Held) (p : PacketView) (now : ℕ) (rule : Option ℕ) → IsFree conf p (answer_of_rule conf m p now rule).0 → NeedsNoneBy conf m p rule
 free_rule conf m p now None free = tt
 free_rule conf m p now (Some rule) free = free_action conf m p now rule (rule_of conf rule).action free
 
-free_state : (conf : Conf) (m : Held) (p : Header) (now : ℕ) (found : Option State) → IsFree conf p (answer_of_state conf m p now found).0 → NeedsNone conf m p found
+free_state : (conf : Conf) (m : Held) (p : PacketView) (now : ℕ) (found : Option State) → IsFree conf p (answer_of_state conf m p now found).0 → NeedsNone conf m p found
 free_state conf m p now None free = free_rule conf m p now (deciding_rule conf m p) free
 free_state conf m p now (Some s) free = by (if completes_at p s then exceeded_of (hits_connections conf after s) (hits_rate conf after s) else None) free
   where
@@ -49,12 +49,12 @@ free_state conf m p now (Some s) free = by (if completes_at p s then exceeded_of
     by (Some e) of = of
     by None of = of
 
-pub needs_none : (conf : Conf) (m : Held) (p : Header) (now : ℕ) → IsFree conf p (answer_to_packet conf m p now).0 → NeedsNone conf m p (state_with (key_of p) m.world)
+pub needs_none : (conf : Conf) (m : Held) (p : PacketView) (now : ℕ) → IsFree conf p (answer_to_packet conf m p now).0 → NeedsNone conf m p (state_with (key_of p) m.world)
 needs_none conf m p now free = free_state conf m p now (state_with (key_of p) m.world) free
 
 -- ---- memory that was refused was needed
 
-pub refused_in : {E : Type 0} (conf : Conf) (m at new : Machine) (e : Event) (p : Header) (r : Result Outcome E) → e.what ≡ arrival.Packet p
+pub refused_in : {E : Type 0} (conf : Conf) (m at new : Machine) (e : Event) (p : PacketView) (r : Result Outcome E) → e.what ≡ arrival.Packet p
     → at ≡ machine_at_moment conf m e.time → OnErr r (new ≡ at) → (IsFree conf p (answer_to_packet conf at.held p (moment_of at.last)).0 → IsOk r)
     → OnErr r (IsRefusedIn conf m e new)
 refused_in conf m at new e p (Ok o) comes is same free = tt

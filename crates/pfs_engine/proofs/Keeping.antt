@@ -2,7 +2,7 @@
 use Rattle.std.proofs.Common.{◌≡◌, ◌∙◌, ◌≤◌, ◌<◌, ℕ, Option, Some, None, Result, Ok, Err, IfOk, IsOk, OnErr, ap, arith, refl, rules, subst, sym}
 use Rattle.std.specs.Option.{ForSome}
 use Rattle.pfs_addr_values.specs.Keys.{key_of}
-use Rattle.pfs_addr_values.specs.Packets.{Header, run_limit}
+use Rattle.pfs_addr_values.specs.Packets.{PacketView, run_limit}
 use Rattle.pfs_conf_values.specs.Configs.{Conf}
 use Rattle.pfs_conf_values.specs.Invariants.{IsConfig}
 use Rattle.pfs_conf_values.specs.declared.items.RuleNo.{RuleNo}
@@ -101,7 +101,7 @@ keeps before after was first last taken taken' work work' is config i = subst (�
 
 -- ---- a packet
 
-pub whole_packet : {E : Type 0} (before after : HeldView) (first last : Option ℕ) (taken taken' now : ℕ) (p : Header) (r : Result Outcome E) → now ≡ moment_of last → taken < run_limit
+pub whole_packet : {E : Type 0} (before after : HeldView) (first last : Option ℕ) (taken taken' now : ℕ) (p : PacketView) (r : Result Outcome E) → now ≡ moment_of last → taken < run_limit
     → IsWhole before.config (machine_at before.held first last) taken → IsAnswered r (answer_to_packet before.config before.held p now) before after → CountsPacket r taken taken'
     → IsWhole after.config (machine_at after.held first last) taken'
 whole_packet before after first last taken taken' now p (Ok o) moment room i h n =
@@ -118,7 +118,7 @@ whole_packet before after first last taken taken' now p (Ok o) moment room i h n
 whole_packet before after first last taken taken' now p (Err x) moment room i h n =
     whole_same before after first last taken' (subst (λ (t : ℕ). IsWhole before.config (machine_at before.held first last) t) (sym n.err) i) h.err h.config
 
-pub answered_by : {E : Type 0} (before after : HeldView) (was : View) (first last : Option ℕ) (taken taken' now : ℕ) (work work' : Work) (p : Header) (r : Result Outcome E)
+pub answered_by : {E : Type 0} (before after : HeldView) (was : View) (first last : Option ℕ) (taken taken' now : ℕ) (work work' : Work) (p : PacketView) (r : Result Outcome E)
     → seen before first last taken work ≡ was → now ≡ moment_of last
     → IsWhole after.config (machine_at after.held first last) taken' → IsAnswered r (answer_to_packet before.config before.held p now) before after → CountsPacket r taken taken'
     → IsAnsweredBy r p was (seen after first last taken' work')
@@ -135,11 +135,11 @@ answered_by before after was first last taken taken' now work work' p r is momen
     same (Err x) e = ap (λ (x : Held). machine_at x first last) e
 
 -- a packet whose state meets a limit is dropped for it
-met : {E : Type 0} (conf : Conf) (h after : Held) (p : Header) (now : ℕ) (r : Result Outcome E) → IfOk r (λ o. (o, after) ≡ answer_to_packet conf h p now)
+met : {E : Type 0} (conf : Conf) (h after : Held) (p : PacketView) (now : ℕ) (r : Result Outcome E) → IfOk r (λ o. (o, after) ≡ answer_to_packet conf h p now)
     → (NeedsNone conf h p (state_with (key_of p) h.world) → IsOk r) → (rule : RuleNo) (limit : Limit) → IsDropped conf h p rule.0 limit → r ≡ Ok (outcome.Drop rule limit)
 met conf h after p now r ok free rule limit d = search rules
 
-pub limited : {E : Type 0} (before after : HeldView) (was : View) (first last : Option ℕ) (taken taken' now : ℕ) (work work' : Work) (p : Header) (r : Result Outcome E)
+pub limited : {E : Type 0} (before after : HeldView) (was : View) (first last : Option ℕ) (taken taken' now : ℕ) (work work' : Work) (p : PacketView) (r : Result Outcome E)
     → seen before first last taken work ≡ was → now ≡ moment_of last
     → IsWhole before.config (machine_at before.held first last) taken → IsAnswered r (answer_to_packet before.config before.held p now) before after
     → (NeedsNone before.config before.held p (state_with (key_of p) before.held.world) → IsOk r)

@@ -1,7 +1,7 @@
 -- What a call of an engine keeps, counts and costs.
 use Rattle.std.specs.Prelude.{ℕ, ◌≡◌, ◌≤◌, ◌+◌, ◌*◌, Bool, true, false, List, length, Some, Result, Ok, IfOk, OnOk, OnErr}
 use Rattle.pfs_addr_values.specs.Keys.{key_of}
-use Rattle.pfs_addr_values.specs.Packets.{Header}
+use Rattle.pfs_addr_values.specs.Packets.{PacketView}
 use Rattle.pfs_conf_values.specs.Configs.{Conf, scope_of}
 use Rattle.pfs_conf_values.specs.declared.actions.Scope.TheVariants as scope
 use Rattle.pfs_conf_values.specs.declared.items.RuleNo.{RuleNo}
@@ -49,14 +49,14 @@ pub record CountsPacket {X E : Type 0} (answer : Result X E) (before after : ℕ
   pub err : OnErr answer (after ≡ before)
 
 -- a state is refused exactly where a limit is met; then nothing has changed
-pub record IsRefusedAtLimits {E : Type 0} (conf : Conf) (p : Header) (answer : Result Outcome E) (before after : Machine)
+pub record IsRefusedAtLimits {E : Type 0} (conf : Conf) (p : PacketView) (answer : Result Outcome E) (before after : Machine)
     : Type 0 where
   pub met : (rule : RuleNo) (limit : Limit) → IsDropped conf before.held p rule.0 limit → answer ≡ Ok (outcome.Drop rule limit)
   pub only : (rule : RuleNo) (limit : Limit) → answer ≡ Ok (outcome.Drop rule limit)
       → IsDropped conf before.held p rule.0 limit × (after ≡ before)
 
 -- what a packet makes of an engine at its last moment: what the machine makes of it, or nothing where memory was refused
-pub record IsAnsweredBy {E : Type 0} (answer : Result Outcome E) (p : Header) (before after : View) : Type 0 where
+pub record IsAnsweredBy {E : Type 0} (answer : Result Outcome E) (p : PacketView) (before after : View) : Type 0 where
   pub ok : IfOk answer (λ o. (o, after.machine.held) ≡ answer_to_packet before.config before.machine.held p (moment_of before.machine.last))
   pub err : OnErr answer (after.machine ≡ before.machine)
   pub keeps : Keeps before after
@@ -64,14 +64,14 @@ pub record IsAnsweredBy {E : Type 0} (answer : Result Outcome E) (p : Header) (b
 
 -- what it has to do with limits: a state is refused exactly where one is met; and a new state of a rule with shared source nodes
 -- is within the limits of its rule, directly after it
-pub record IsLimited {E : Type 0} (answer : Result Outcome E) (p : Header) (before after : View) : Type 0 where
+pub record IsLimited {E : Type 0} (answer : Result Outcome E) (p : PacketView) (before after : View) : Type 0 where
   pub refused : IsRefusedAtLimits before.config p answer before.machine after.machine
   pub shared : (rule : RuleNo) → answer ≡ Ok (outcome.New rule) → scope_of before.config rule.0 ≡ Some scope.Global
       → IsWithinShared before.config rule.0 p.source.addr before.machine.held.world after.machine.held.world
 
 -- the work of a packet: the items that it is compared with, and no slice; the looks, where the store counts them, by what came of
 -- it, and none where memory was refused
-pub record IsWorkOfPacket {E : Type 0} (counts : Bool) (conf : Conf) (h : Held) (p : Header) (answer : Result Outcome E) (work : Work)
+pub record IsWorkOfPacket {E : Type 0} (counts : Bool) (conf : Conf) (h : Held) (p : PacketView) (answer : Result Outcome E) (work : Work)
     : Type 0 where
   pub visits : AreVisits conf h p (state_with (key_of p) h.world) work.visits
   pub slices : work.slices ≡ 0

@@ -1,7 +1,7 @@
 -- What meters show of a packet, and the work of purges, while they are done. (own)
 use Rattle.std.specs.Prelude.{ℕ, ◌≡◌, Bool, true, false, List, Result, IfOk, OnErr}
 use Rattle.pfs_addr_values.specs.Keys.{key_of}
-use Rattle.pfs_addr_values.specs.Packets.{Header}
+use Rattle.pfs_addr_values.specs.Packets.{PacketView}
 use Rattle.pfs_conf_values.specs.Configs.{Conf}
 use Rattle.pfs_store_contract.specs.Worlds.{World, state_with}
 use Rattle.pfs_engine_machine.specs.Looks.{AreLooks, states_beside}
@@ -12,14 +12,14 @@ use Rattle.pfs_engine_machine.specs.declared.events.Outcome.{Outcome}
 use Rattle.pfs_engine.specs.declared.works.Work.{Work}
 
 -- the looks of a packet, where the store counts them, by what came of it, and none where memory was refused
-pub record AreLooksOf {E : Type 0} (counts : Bool) (conf : Conf) (w : World) (p : Header) (answer : Result Outcome E) (looks : ℕ)
+pub record AreLooksOf {E : Type 0} (counts : Bool) (conf : Conf) (w : World) (p : PacketView) (answer : Result Outcome E) (looks : ℕ)
     : Type 0 where
   pub counted : counts ≡ true → IfOk answer (λ o. AreLooks conf (states_beside w (state_with (key_of p) w)) o looks)
   pub refused : counts ≡ true → OnErr answer (looks ≡ 0)
   pub uncounted : counts ≡ false → looks ≡ 0
 
 -- what the meters of a packet show: the items that it is compared with, and the looks
-pub record AreMetersOf {E : Type 0} (counts : Bool) (conf : Conf) (h : Held) (p : Header) (answer : Result Outcome E) (compared looked : ℕ)
+pub record AreMetersOf {E : Type 0} (counts : Bool) (conf : Conf) (h : Held) (p : PacketView) (answer : Result Outcome E) (compared looked : ℕ)
     : Type 0 where
   pub visits : AreVisits conf h p (state_with (key_of p) h.world) compared
   pub looks : AreLooksOf counts conf h.world p answer looked

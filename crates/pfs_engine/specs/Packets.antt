@@ -1,6 +1,6 @@
 -- What an engine makes of a packet, by what its store reports of it, and which packets need no memory before they are answered.
 use Rattle.std.specs.Prelude.{ℕ, if◌then◌else◌, Option, Some, None, IsSome}
-use Rattle.pfs_addr_values.specs.Packets.{Header}
+use Rattle.pfs_addr_values.specs.Packets.{PacketView}
 use Rattle.pfs_conf_values.specs.Configs.{Conf, options_of, rule_of}
 use Rattle.pfs_conf_values.specs.declared.actions.Action.{Action}
 use Rattle.pfs_conf_values.specs.declared.actions.Action.TheVariants as action
@@ -21,16 +21,16 @@ answer_of_touch conf h number now t =
     answer_of_exceeded conf h number t.rule t.source now (if t.completed then limits else None)
 
 -- a rule makes no state, or the state is refused
-abbrev pub NeedsNoneAt : Conf → Held → Header → ℕ → Action → Type 0
+abbrev pub NeedsNoneAt : Conf → Held → PacketView → ℕ → Action → Type 0
 NeedsNoneAt conf h p rule action.Block = Unit {0}
 NeedsNoneAt conf h p rule action.Pass = Unit {0}
 NeedsNoneAt conf h p rule (action.Keep o) = IsSome (packet_limit conf h.world p rule)
 
-abbrev pub NeedsNoneBy : Conf → Held → Header → Option ℕ → Type 0
+abbrev pub NeedsNoneBy : Conf → Held → PacketView → Option ℕ → Type 0
 NeedsNoneBy conf h p None = Unit {0}
 NeedsNoneBy conf h p (Some rule) = NeedsNoneAt conf h p rule (rule_of conf rule).action
 
 -- a packet of this state needs none, or, where there is none, by the rule that decides
-abbrev pub NeedsNone : Conf → Held → Header → Option State → Type 0
+abbrev pub NeedsNone : Conf → Held → PacketView → Option State → Type 0
 NeedsNone conf h p None = NeedsNoneBy conf h p (deciding_rule conf h p)
 NeedsNone conf h p (Some s) = IsFreeOf conf p s.rule

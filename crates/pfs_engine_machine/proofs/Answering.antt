@@ -3,7 +3,7 @@ use Rattle.std.proofs.Common.{◌≡◌, ℕ, Bool, true, false, if◌then◌els
 use Rattle.std.proofs.lemmas.Bool.{false≢true}
 use Rattle.std.specs.Option.{option_and_then}
 use Rattle.pfs_addr_values.specs.Keys.{key_of}
-use Rattle.pfs_addr_values.specs.Packets.{Header}
+use Rattle.pfs_addr_values.specs.Packets.{PacketView}
 use Rattle.pfs_conf_values.specs.Configs.{Conf, no_rule, options_at, options_in, rule_at, rule_of, scope_of}
 use Rattle.pfs_conf_values.specs.Invariants.{IsConfig}
 use Rattle.pfs_conf_values.specs.declared.actions.Action.{Action}
@@ -28,7 +28,7 @@ use Rattle.pfs_engine_machine.specs.declared.events.Outcome.TheVariants as outco
 use Rattle.pfs_engine_machine.proofs.KeptAdmission.{shared_admitted}
 
 -- what holds of each answer holds of a packet's
-pub record Answers (conf : Conf) (m : Held) (p : Header) (now : ℕ) (Q : Outcome × Held → Type 0) : Type 0 where
+pub record Answers (conf : Conf) (m : Held) (p : PacketView) (now : ℕ) (Q : Outcome × Held → Type 0) : Type 0 where
   pub held : (s : State) → state_with (key_of p) m.world ≡ Some s → Q (answer_of_state conf m p now (Some s))
   pub passes : Q (outcome.Pass None, m)
   pub passed : (rule : ℕ) → Q (outcome.Pass (Some (record { 0 = rule })), m)
@@ -42,13 +42,13 @@ keeps_state : (found : Option Rule) (o : StateOptions) → (unwrap_or found no_r
 keeps_state None o e = cc
 keeps_state (Some r) o e = rw e refl
 
-limit_answers : (conf : Conf) (m : Held) (p : Header) (now rule : ℕ) (Q : Outcome × Held → Type 0) → Answers conf m p now Q
+limit_answers : (conf : Conf) (m : Held) (p : PacketView) (now rule : ℕ) (Q : Outcome × Held → Type 0) → Answers conf m p now Q
     → state_with (key_of p) m.world ≡ None → deciding_rule conf m p ≡ Some rule → IsSome (options_at conf rule)
     → (limit : Option Limit) → packet_limit conf m.world p rule ≡ limit → Q (answer_of_limits conf m p now rule limit)
 limit_answers conf m p now rule Q a fresh at keeps None e = a.made rule e
 limit_answers conf m p now rule Q a fresh at keeps (Some l) e = a.refused rule l (record { fresh = fresh; rule_is = at; keeps = keeps; met = e })
 
-action_answers : (conf : Conf) (m : Held) (p : Header) (now rule : ℕ) (Q : Outcome × Held → Type 0) → Answers conf m p now Q
+action_answers : (conf : Conf) (m : Held) (p : PacketView) (now rule : ℕ) (Q : Outcome × Held → Type 0) → Answers conf m p now Q
     → state_with (key_of p) m.world ≡ None → deciding_rule conf m p ≡ Some rule
     → (what : Action) → (rule_of conf rule).action ≡ what → Q (answer_of_action conf m p now rule what)
 action_answers conf m p now rule Q a fresh at action.Block e = a.blocked rule
@@ -56,17 +56,17 @@ action_answers conf m p now rule Q a fresh at action.Pass e = a.passed rule
 action_answers conf m p now rule Q a fresh at (action.Keep o) e =
     limit_answers conf m p now rule Q a fresh at (keeps_state (rule_at conf rule) o e) (packet_limit conf m.world p rule) refl
 
-rule_answers : (conf : Conf) (m : Held) (p : Header) (now : ℕ) (Q : Outcome × Held → Type 0) → Answers conf m p now Q
+rule_answers : (conf : Conf) (m : Held) (p : PacketView) (now : ℕ) (Q : Outcome × Held → Type 0) → Answers conf m p now Q
     → state_with (key_of p) m.world ≡ None → (rule : Option ℕ) → deciding_rule conf m p ≡ rule → Q (answer_of_rule conf m p now rule)
 rule_answers conf m p now Q a fresh None e = a.passes
 rule_answers conf m p now Q a fresh (Some rule) e = action_answers conf m p now rule Q a fresh e (rule_of conf rule).action refl
 
-state_answers : (conf : Conf) (m : Held) (p : Header) (now : ℕ) (Q : Outcome × Held → Type 0) → Answers conf m p now Q
+state_answers : (conf : Conf) (m : Held) (p : PacketView) (now : ℕ) (Q : Outcome × Held → Type 0) → Answers conf m p now Q
     → (found : Option State) → state_with (key_of p) m.world ≡ found → Q (answer_of_state conf m p now found)
 state_answers conf m p now Q a None e = rule_answers conf m p now Q a e (deciding_rule conf m p) refl
 state_answers conf m p now Q a (Some s) e = a.held s e
 
-pub answered_has : (conf : Conf) (m : Held) (p : Header) (now : ℕ) (Q : Outcome × Held → Type 0) → Answers conf m p now Q → Q (answer_to_packet conf m p now)
+pub answered_has : (conf : Conf) (m : Held) (p : PacketView) (now : ℕ) (Q : Outcome × Held → Type 0) → Answers conf m p now Q → Q (answer_to_packet conf m p now)
 answered_has conf m p now Q a = state_answers conf m p now Q a (state_with (key_of p) m.world) refl
 
 -- ---- a packet of a held state is not refused, and makes no state
@@ -91,7 +91,7 @@ handshake_held conf m s now completes = by (if completes then exceeded_of (hits_
     by (Some e) = refl
     by None = refl
 
-state_held : (conf : Conf) (m : Held) (p : Header) (now : ℕ) (s : State) → is_of_held (answer_of_state conf m p now (Some s)).0 ≡ true
+state_held : (conf : Conf) (m : Held) (p : PacketView) (now : ℕ) (s : State) → is_of_held (answer_of_state conf m p now (Some s)).0 ≡ true
 state_held conf m p now s = handshake_held conf (held_of (world_after_touch conf m.world s p now) m.tables) s now (completes_at p s)
 
 -- ---- a state that is refused, and one that is made with shared nodes
@@ -99,10 +99,10 @@ state_held conf m p now s = handshake_held conf (held_of (world_after_touch conf
 abbrev numbered : ℕ → RuleNo
 numbered n = record { 0 = n }
 
-abbrev pub RefusedOnly : Conf → Held → Header → Outcome × Held → Type 0
+abbrev pub RefusedOnly : Conf → Held → PacketView → Outcome × Held → Type 0
 RefusedOnly conf m p a = (rule : RuleNo) (limit : Limit) → a.0 ≡ outcome.Drop rule limit → IsDropped conf m p rule.0 limit × (a.1 ≡ m)
 
-pub refused_only : (conf : Conf) (m : Held) (p : Header) (now : ℕ) → RefusedOnly conf m p (answer_to_packet conf m p now)
+pub refused_only : (conf : Conf) (m : Held) (p : PacketView) (now : ℕ) → RefusedOnly conf m p (answer_to_packet conf m p now)
 refused_only conf m p now = answered_has conf m p now (RefusedOnly conf m p) (record {
   held = λ s found rule limit e. absurd (false≢true (sym (ap is_of_held e) ∙ state_held conf m p now s));
   passes = λ rule limit e. cc;
@@ -115,11 +115,11 @@ refused_only conf m p now = answered_has conf m p now (RefusedOnly conf m p) (re
   made = λ r none rule limit e. cc;
 })
 
-abbrev pub MadeShared : Conf → Held → Header → Outcome × Held → Type 0
+abbrev pub MadeShared : Conf → Held → PacketView → Outcome × Held → Type 0
 MadeShared conf m p a = (rule : RuleNo) → a.0 ≡ outcome.New rule → scope_of conf rule.0 ≡ Some scope.Global
     → IsWithinShared conf rule.0 p.source.addr m.world a.1.world
 
-pub made_shared : (conf : Conf) (m : Held) (p : Header) (now : ℕ) → IsConfig conf → IsKept conf m now → MadeShared conf m p (answer_to_packet conf m p now)
+pub made_shared : (conf : Conf) (m : Held) (p : PacketView) (now : ℕ) → IsConfig conf → IsKept conf m now → MadeShared conf m p (answer_to_packet conf m p now)
 made_shared conf m p now config kept = answered_has conf m p now (MadeShared conf m p) (record {
   held = λ s found rule e. absurd (false≢true (sym (ap is_of_held e) ∙ state_held conf m p now s));
   passes = λ rule e. cc;
@@ -134,7 +134,7 @@ made_shared conf m p now config kept = answered_has conf m p now (MadeShared con
 
 -- ---- of an answer that may be out of memory
 
-pub refused_result : {E : Type 0} (conf : Conf) (m before after : Held) (p : Header) (now : ℕ) (r : Result Outcome E) → before ≡ m
+pub refused_result : {E : Type 0} (conf : Conf) (m before after : Held) (p : PacketView) (now : ℕ) (r : Result Outcome E) → before ≡ m
     → IfOk r (λ o. (o, after) ≡ answer_to_packet conf before p now) → (rule : RuleNo) (limit : Limit) → r ≡ Ok (outcome.Drop rule limit)
     → IsDropped conf m p rule.0 limit × (after ≡ before)
 refused_result conf m before after p now (Ok o) same ok rule limit e =
@@ -143,7 +143,7 @@ refused_result conf m before after p now (Ok o) same ok rule limit e =
     (rw (sym same) told.0, ap (λ (a : Outcome × Held). a.1) ok ∙ told.1)
 refused_result conf m before after p now (Err x) same ok rule limit e = cc
 
-pub shared_result : {E : Type 0} (conf : Conf) (m before after : Held) (p : Header) (now : ℕ) (r : Result Outcome E) → before ≡ m
+pub shared_result : {E : Type 0} (conf : Conf) (m before after : Held) (p : PacketView) (now : ℕ) (r : Result Outcome E) → before ≡ m
     → IsConfig conf → IsKept conf before now → IfOk r (λ o. (o, after) ≡ answer_to_packet conf before p now) → (rule : RuleNo)
     → r ≡ Ok (outcome.New rule) → scope_of conf rule.0 ≡ Some scope.Global → IsWithinShared conf rule.0 p.source.addr m.world after.world
 shared_result conf m before after p now (Ok o) same config kept ok rule e global =

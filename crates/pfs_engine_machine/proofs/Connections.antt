@@ -3,7 +3,7 @@ use Rattle.std.proofs.Common.{◌≡◌, ◌≤◌, ◌==◌, ◌&&◌, ◌⊎�
 use Rattle.std.proofs.lemmas.Bool.{and_from, and_parts, and_right, eqb-true, false≢true, ltb-false}
 use Rattle.std.proofs.lemmas.List.Elements.{All-weaker}
 use Rattle.pfs_addr_values.proofs.SameLaws.{same_addr_self, same_addr_true}
-use Rattle.pfs_addr_values.specs.Packets.{Header}
+use Rattle.pfs_addr_values.specs.Packets.{PacketView}
 use Rattle.pfs_addr_values.specs.Sameness.{same_addr}
 use Rattle.pfs_addr_values.specs.declared.addresses.Addr.{Addr}
 use Rattle.pfs_conf_values.specs.Configs.{Conf, options_of, scope_of}
@@ -25,7 +25,7 @@ abbrev pub IsAlone : State → List State → Type 0
 IsAlone s states = All (λ (t : State). t.number ≡ s.number → t ≡ s) states
 
 -- what a packet makes of a state, by whether it has the packet's number
-renewed-cases : (s : State) (p : Header) (now : ℕ) (P : State → State → Type 0) → P s (state_after_packet p now s) → ((t : State) → P t t)
+renewed-cases : (s : State) (p : PacketView) (now : ℕ) (P : State → State → Type 0) → P s (state_after_packet p now s) → ((t : State) → P t t)
     → (t : State) → (t.number ≡ s.number → t ≡ s) → P t (numbered_state_after s.number p now t)
 renewed-cases s p now P here there t alone = go (t.number == s.number) (λ e. alone (eqb-true t.number s.number e))
   where
@@ -36,7 +36,7 @@ renewed-cases s p now P here there t alone = go (t.number == s.number) (λ e. al
 -- ---- a handshake that does not complete, or of another source
 
 -- a state is of another node, or its handshake does not complete
-stepped-connection : (conf : Conf) (sc : NodeScope) (source : Addr) (s : State) (p : Header) (now : ℕ)
+stepped-connection : (conf : Conf) (sc : NodeScope) (source : Addr) (s : State) (p : PacketView) (now : ℕ)
     → ((completes_at p s ≡ false) ⊎ (is_of_node conf sc source s ≡ false))
     → is_connection conf sc source (state_after_packet p now s) ≡ is_connection conf sc source s
 stepped-connection conf sc source s p now (inl before) =
@@ -46,7 +46,7 @@ stepped-connection conf sc source s p now (inr other) =
     ∙ sym (and_right (is_done s.phase) (is_of_node conf sc source s) other)
 
 -- then its node has as many connections as before
-pub connections-same : (conf : Conf) (sc : NodeScope) (source : Addr) (s : State) (p : Header) (now : ℕ) (states : List State)
+pub connections-same : (conf : Conf) (sc : NodeScope) (source : Addr) (s : State) (p : PacketView) (now : ℕ) (states : List State)
     → IsAlone s states → ((completes_at p s ≡ false) ⊎ (is_of_node conf sc source s ≡ false))
     → node_connections conf sc source (map (numbered_state_after s.number p now) states) ≡ node_connections conf sc source states
 connections-same conf sc source s p now states alone why =
@@ -63,12 +63,12 @@ not_exceeded None count e = λ n is. cc
 not_exceeded (Some m) count e = λ n is. let same : m ≡ n = cc in omega (arith, ltb-false m count e, same)
 
 -- the connections that count are those of the rule's own node
-told-connections : (conf : Conf) (w : World) (p : Header) (now : ℕ) (s : State) → TracksAlone conf s.rule.0
+told-connections : (conf : Conf) (w : World) (p : PacketView) (now : ℕ) (s : State) → TracksAlone conf s.rule.0
     → connections_in conf s.source (map (numbered_state_after s.number p now) w.states) (node_scope_of conf s.rule.0) ≡ node_connections conf (own_scope s.rule.0) s.source (map (numbered_state_after s.number p now) w.states)
 told-connections conf w p now s alone =
     ap (λ (sc : Option Scope). connections_in conf s.source (map (numbered_state_after s.number p now) w.states) (node_scope_under s.rule.0 sc)) alone
 
-pub connections-within : (conf : Conf) (w : World) (p : Header) (now : ℕ) (s : State) (rule : ℕ) (source : Addr)
+pub connections-within : (conf : Conf) (w : World) (p : PacketView) (now : ℕ) (s : State) (rule : ℕ) (source : Addr)
     → TracksAlone conf rule → is_of_node conf (own_scope rule) source s ≡ true
     → hits_connections conf (world_after_touch conf w s p now) s ≡ false
     → IsWithin (options_of conf rule).max_src_conn (node_connections conf (own_scope rule) source (map (numbered_state_after s.number p now) w.states))
@@ -87,7 +87,7 @@ connections-within conf w p now s rule source alone own few =
 -- ---- states are killed
 
 -- the state of the packet is killed in any case
-stepped-goes : (conf : Conf) (w : World) (p : Header) (now : ℕ) (s : State) (flush : Option Scope)
+stepped-goes : (conf : Conf) (w : World) (p : PacketView) (now : ℕ) (s : State) (flush : Option Scope)
     → goes_with flush s.number s.rule s.source (state_after_packet p now s) ≡ true
 stepped-goes conf w p now s None = eq-eqb s.number s.number refl
 stepped-goes conf w p now s (Some scope.Rule) =
@@ -95,7 +95,7 @@ stepped-goes conf w p now s (Some scope.Rule) =
 stepped-goes conf w p now s (Some scope.Global) = same_addr_self s.source
 
 -- so those that stay are as before, and no node has more connections
-pub connections-killed : (conf : Conf) (w : World) (p : Header) (now : ℕ) (s : State) (flush : Option Scope) (sc : NodeScope) (source : Addr)
+pub connections-killed : (conf : Conf) (w : World) (p : PacketView) (now : ℕ) (s : State) (flush : Option Scope) (sc : NodeScope) (source : Addr)
     → IsAlone s w.states
     → node_connections conf sc source (filter (stays_at_kill flush s.number s.rule s.source) (map (numbered_state_after s.number p now) w.states))
     ≤ node_connections conf sc source w.states

@@ -5,7 +5,7 @@ use Rattle.std.proofs.lemmas.Bool.{false≢true}
 use Rattle.std.proofs.lemmas.Bool.Decides.{nat_tests}
 use Rattle.pfs_addr_values.proofs.SameLaws.{same_addr_self, same_addr_true}
 use Rattle.pfs_addr_values.specs.Keys.{key_of}
-use Rattle.pfs_addr_values.specs.Packets.{Header}
+use Rattle.pfs_addr_values.specs.Packets.{PacketView}
 use Rattle.pfs_addr_values.specs.Sameness.{same_addr, same_key}
 use Rattle.pfs_addr_values.specs.declared.addresses.Addr.{Addr}
 use Rattle.pfs_conf_values.proofs.RuleLaws.{rated-scope}
@@ -154,7 +154,7 @@ abbrev pub heard : ℕ → Addr → ℕ → Score → ℕ → Option State → S
 heard rule source seconds history now None = history
 heard rule source seconds history now (Some s) = cond (is_of rule source s) (score_after seconds history now) history
 
-pub states-touched : (conf : Conf) (scope : NodeScope) (source : Addr) (number : ℕ) (p : Header) (now : ℕ) (ss : List State)
+pub states-touched : (conf : Conf) (scope : NodeScope) (source : Addr) (number : ℕ) (p : PacketView) (now : ℕ) (ss : List State)
     → node_states conf scope source (map (numbered_state_after number p now) ss) ≡ node_states conf scope source ss
 states-touched conf scope source number p now ss = count-map (is_of_node conf scope source) (numbered_state_after number p now) (λ s. one s (s.number == number)) ss
   where
@@ -163,7 +163,7 @@ states-touched conf scope source number p now ss = count-map (is_of_node conf sc
     one s false = refl
 
 -- a state that is found is counted
-pub found-count : (conf : Conf) (rule : ℕ) (source : Addr) (p : Header) (w : World) (s : State) → state_with (key_of p) w ≡ Some s → is_of rule source s ≡ true
+pub found-count : (conf : Conf) (rule : ℕ) (source : Addr) (p : PacketView) (w : World) (s : State) → state_with (key_of p) w ≡ Some s → is_of rule source s ≡ true
     → 0 < node_states conf (own_scope rule) source w.states
 found-count conf rule source p w s e f = count-found (λ (t : State). same_key t.key (key_of p)) (is_of_node conf (own_scope rule) source) s w.states e f
 

@@ -3,7 +3,7 @@ use Rattle.std.proofs.Common.{◌≡◌, ℕ, ◌+◌, ◌<◌, ◌≤◌, Bool,
 use Rattle.std.specs.List.{AllByRecursion, list_any}
 use Rattle.std.proofs.lemmas.Bool.{false≢true}
 use Rattle.std.proofs.lemmas.Bool.Decides.{nat_tests}
-use Rattle.pfs_addr_values.specs.Packets.{Header}
+use Rattle.pfs_addr_values.specs.Packets.{PacketView}
 use Rattle.pfs_addr_values.specs.declared.addresses.Addr.{Addr}
 use Rattle.pfs_conf_values.specs.Configs.{Conf, options_of}
 use Rattle.pfs_conf_values.specs.declared.actions.Rate.{Rate}
@@ -101,7 +101,7 @@ among-same n xs ys e h = ap (λ (zs : List ℕ). is_among zs n) (sym e) ∙ h
 
 -- ---- of states and nodes
 
-pub numbers-renewed : (number : ℕ) (p : Header) (now : ℕ) (ss : List State) → state_numbers (map (numbered_state_after number p now) ss) ≡ state_numbers ss
+pub numbers-renewed : (number : ℕ) (p : PacketView) (now : ℕ) (ss : List State) → state_numbers (map (numbered_state_after number p now) ss) ≡ state_numbers ss
 numbers-renewed number p now ss = same-map (λ (s : State). s.number) (numbered_state_after number p now) (λ s. one s (s.number == number)) ss
   where
     one : (s : State) (b : Bool) → (cond b (state_after_packet p now s) s).number ≡ s.number

@@ -7,7 +7,7 @@ use Rattle.std.proofs.lemmas.Bool.{false≢true}
 use Rattle.std.proofs.lemmas.Bool.Decides.{nat_tests}
 use Rattle.pfs_addr_values.proofs.SameLaws.{same_addr_self, same_addr_true}
 use Rattle.pfs_addr_values.specs.Keys.{key_of}
-use Rattle.pfs_addr_values.specs.Packets.{Header}
+use Rattle.pfs_addr_values.specs.Packets.{PacketView}
 use Rattle.pfs_addr_values.specs.Sameness.{same_addr}
 use Rattle.pfs_addr_values.specs.declared.addresses.Addr.{Addr}
 use Rattle.pfs_conf_values.specs.Configs.{Conf, options_of, rate_seconds}
@@ -106,7 +106,7 @@ more-count rule source seconds now history count count' nodes h noded r = record
   noded = noded;
 }
 
-admitted-in : (conf : Conf) (rule : ℕ) (source : Addr) (x : Rate) (now : ℕ) (history : Score) (w : World) (p : Header) (other at : ℕ) → IsRated conf rule x
+admitted-in : (conf : Conf) (rule : ℕ) (source : Addr) (x : Rate) (now : ℕ) (history : Score) (w : World) (p : PacketView) (other at : ℕ) → IsRated conf rule x
     → RemembersIn conf rule source x.seconds now history w → RemembersIn conf rule source x.seconds now history (world_after_admission conf w p other at)
 admitted-in conf rule source x now history w p other at i r =
     let new : State = new_state (w.made + 1) p other at in
@@ -142,7 +142,7 @@ with-count : (rule : ℕ) (source : Addr) (seconds now : ℕ) (history : Score) 
 with-count rule source seconds now history count count' nodes e r = subst (λ (c : ℕ). Remembers rule source seconds now history c nodes) (sym e) r
 
 -- the history after a packet of a state that is found
-touched-in : (conf : Conf) (rule : ℕ) (source : Addr) (x : Rate) (now : ℕ) (history : Score) (w : World) (p : Header) (s : State) → IsRated conf rule x
+touched-in : (conf : Conf) (rule : ℕ) (source : Addr) (x : Rate) (now : ℕ) (history : Score) (w : World) (p : PacketView) (s : State) → IsRated conf rule x
     → state_with (key_of p) w ≡ Some s → RemembersIn conf rule source x.seconds now history w
     → RemembersIn conf rule source x.seconds now (heard rule source x.seconds history now (completed_state p (Some s))) (world_after_touch conf w s p now)
 touched-in conf rule source x now history w p s i found r =
@@ -154,7 +154,7 @@ touched-in conf rule source x now history w p s i found r =
     go true = scored-in conf rule source x now history (node_states conf (own_scope rule) source w.states) w.nodes s i (found-count conf rule source p w s found) r
     go false = r
 
-packet-in : (conf : Conf) (rule : ℕ) (source : Addr) (x : Rate) (now : ℕ) (history : Score) (w : World) (p : Header) → IsRated conf rule x
+packet-in : (conf : Conf) (rule : ℕ) (source : Addr) (x : Rate) (now : ℕ) (history : Score) (w : World) (p : PacketView) → IsRated conf rule x
     → RemembersIn conf rule source x.seconds now history w
     → Changes conf w p now (RemembersIn conf rule source x.seconds now (heard rule source x.seconds history now (completed_state p (state_with (key_of p) w))))
 packet-in conf rule source x now history w p i r = record {
@@ -275,7 +275,7 @@ remembers-start conf rule source seconds = record { nodes = tt; absent = λ e t 
 
 -- ---- the law
 
-completed-is : (p : Header) (o : Option State) (s : State) → completed_state p o ≡ Some s → (o ≡ Some s) × (completes_at p s ≡ true)
+completed-is : (p : PacketView) (o : Option State) (s : State) → completed_state p o ≡ Some s → (o ≡ Some s) × (completes_at p s ≡ true)
 completed-is p None s e = cc
 completed-is p (Some t) s e = go (completes_at p t) refl e
   where
@@ -290,7 +290,7 @@ own-handshake s = rw (one s.rule.0, same_addr_self s.source) refl
     one a = grind (arith, nat_tests)
 
 -- the score that is compared with the limit
-score-in : (conf : Conf) (x : Rate) (now : ℕ) (history : Score) (w : World) (p : Header) (s : State) → IsRated conf s.rule.0 x → state_with (key_of p) w ≡ Some s
+score-in : (conf : Conf) (x : Rate) (now : ℕ) (history : Score) (w : World) (p : PacketView) (s : State) → IsRated conf s.rule.0 x → state_with (key_of p) w ≡ Some s
     → completes_at p s ≡ true → RemembersIn conf s.rule.0 s.source x.seconds now history w → score_in s.source (world_after_touch conf w s p now).nodes (node_scope_of conf s.rule.0) ≡ score_after x.seconds history now
 score-in conf x now history w p s i found act_done r =
     let some : 0 < node_states conf (own_scope s.rule.0) s.source w.states = found-count conf s.rule.0 s.source p w s found (own-handshake s) in
@@ -307,7 +307,7 @@ rate-hit conf h s now true false = refl
 rate-hit conf h s now false true = refl
 rate-hit conf h s now false false = refl
 
-hit-in : (conf : Conf) (x : Rate) (now : ℕ) (h : Held) (p : Header) (s : State) → IsRated conf s.rule.0 x → completed_state p (state_with (key_of p) h.world) ≡ Some s
+hit-in : (conf : Conf) (x : Rate) (now : ℕ) (h : Held) (p : PacketView) (s : State) → IsRated conf s.rule.0 x → completed_state p (state_with (key_of p) h.world) ≡ Some s
     → rate_hit (answer_to_packet conf h p now).0 ≡ nat_lt (1000 * x.limit) (score_in s.source (world_after_touch conf h.world s p now).nodes (node_scope_of conf s.rule.0)).value
 hit-in conf x now h p s i e =
     let q = completed-is p (state_with (key_of p) h.world) s e in

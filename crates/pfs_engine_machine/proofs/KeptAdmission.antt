@@ -3,7 +3,7 @@ use Rattle.std.proofs.Common.{◌≡◌, ◌∙◌, ◌+◌, ◌<◌, ◌≤◌,
 use Rattle.std.proofs.lemmas.Bool.Decides.{nat_tests}
 use Rattle.std.proofs.lemmas.List.Elements.{All-push, All-weaker}
 use Rattle.pfs_addr_values.proofs.SameLaws.{same_addr_self, same_addr_true}
-use Rattle.pfs_addr_values.specs.Packets.{Header}
+use Rattle.pfs_addr_values.specs.Packets.{PacketView}
 use Rattle.pfs_addr_values.specs.Sameness.{same_addr}
 use Rattle.pfs_addr_values.specs.declared.addresses.Addr.{Addr}
 use Rattle.pfs_addr_values.specs.declared.protocols.Proto.{Proto}
@@ -112,7 +112,7 @@ room_states conf w rule source found sound whole at free noded n is = by (has_no
         omega (arith, none_without_node conf found source w.nodes whole e w.states noded, count.0)
 
 -- the states of each source of a rule that tracks sources by itself
-states_with : (conf : Conf) (w : World) (p : Header) (rule now other : ℕ) (source : Addr) → IsConfig conf → TracksAlone conf other
+states_with : (conf : Conf) (w : World) (p : PacketView) (rule now other : ℕ) (source : Addr) → IsConfig conf → TracksAlone conf other
     → MeetsNone conf w rule p.source.addr → All (HasNode conf w.nodes) w.states
     → (n : ℕ) → (options_of conf other).max_src_states ≡ Some n → node_states conf (own_scope other) source w.states ≤ n
     → node_states conf (own_scope other) source (world_after_admission conf w p rule now).states ≤ n
@@ -139,14 +139,14 @@ undone proto.Tcp = refl
 undone proto.Udp = refl
 undone (proto.Other n) = refl
 
-connections_with : (conf : Conf) (w : World) (p : Header) (rule now : ℕ) (found : NodeScope) (source : Addr)
+connections_with : (conf : Conf) (w : World) (p : PacketView) (rule now : ℕ) (found : NodeScope) (source : Addr)
     → node_connections conf found source (world_after_admission conf w p rule now).states ≡ node_connections conf found source w.states
 connections_with conf w p rule now found source =
     count-push_failing (is_connection conf found source) w.states (new_state (w.made + 1) p rule now)
     (ap (λ b. b && is_of_node conf found source (new_state (w.made + 1) p rule now)) (undone p.proto))
 
 -- the states of each rule
-rule_states_with : (conf : Conf) (w : World) (p : Header) (rule now other : ℕ) → MeetsNone conf w rule p.source.addr
+rule_states_with : (conf : Conf) (w : World) (p : PacketView) (rule now other : ℕ) → MeetsNone conf w rule p.source.addr
     → (n : ℕ) → (options_of conf other).max ≡ Some n → rule_states other w.states ≤ n → rule_states other (world_after_admission conf w p rule now).states ≤ n
 rule_states_with conf w p rule now other free n is before = by (rule == other) refl
   where
@@ -238,7 +238,7 @@ nodes_with-own nodes number source found = by (has_node found source nodes) refl
     by true e = e
     by false e = any-push (is_node found source) nodes (new_node number found source) ∙ rw (e, same_scope_self found, same_addr_self source) refl
 
-noded_with : (conf : Conf) (w : World) (p : Header) (rule now : ℕ) → All (HasNode conf w.nodes) w.states
+noded_with : (conf : Conf) (w : World) (p : PacketView) (rule now : ℕ) → All (HasNode conf w.nodes) w.states
     → All (HasNode conf (world_after_admission conf w p rule now).nodes) (world_after_admission conf w p rule now).states
 noded_with conf w p rule now h =
     let nodes = nodes_with w.nodes (w.made + 1) p.source.addr (node_scope_of conf rule) in
@@ -261,7 +261,7 @@ phase_first (proto.Other n) = tt
 
 -- ---- what is kept
 
-pub kept_admitted : (conf : Conf) (m : Held) (p : Header) (rule now : ℕ) → IsConfig conf
+pub kept_admitted : (conf : Conf) (m : Held) (p : PacketView) (rule now : ℕ) → IsConfig conf
     → packet_limit conf m.world p rule ≡ None → IsKept conf m now
     → IsKept conf (held_of (world_after_admission conf m.world p rule now) m.tables) now
 kept_admitted conf m p rule now sound met k =
@@ -289,7 +289,7 @@ kept_admitted conf m p rule now sound met k =
     }
 
 -- directly after it, the maxima of a rule with shared nodes hold too
-pub shared_admitted : (conf : Conf) (m : Held) (p : Header) (rule now : ℕ) → IsConfig conf
+pub shared_admitted : (conf : Conf) (m : Held) (p : PacketView) (rule now : ℕ) → IsConfig conf
     → packet_limit conf m.world p rule ≡ None → scope_of conf rule ≡ Some scope.Global → IsKept conf m now
     → IsWithinShared conf rule p.source.addr m.world (world_after_admission conf m.world p rule now)
 shared_admitted conf m p rule now sound met shared k =

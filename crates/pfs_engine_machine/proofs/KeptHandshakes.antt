@@ -4,7 +4,7 @@ use Rattle.std.proofs.lemmas.List.{length-map}
 use Rattle.std.proofs.lemmas.List.Elements.{All-filter, All-map, All-weaker}
 use Rattle.pfs_addr_values.proofs.SameLaws.{same_key_true}
 use Rattle.pfs_addr_values.specs.Keys.{key_of}
-use Rattle.pfs_addr_values.specs.Packets.{Header}
+use Rattle.pfs_addr_values.specs.Packets.{PacketView}
 use Rattle.pfs_addr_values.specs.Sameness.{same_key}
 use Rattle.pfs_addr_values.specs.declared.addresses.Addr.{Addr}
 use Rattle.pfs_addr_values.specs.declared.packets.FlowKey.{FlowKey}
@@ -81,17 +81,17 @@ kept_whole conf m now k few = record {
 HasNode-alike : (conf : Conf) (before after : List Node) → AreAlike before after → (s : State) → HasNode conf before s → HasNode conf after s
 HasNode-alike conf before after alike s h = λ scope is. alike.has scope s.source ∙ h scope is
 
-renewed-noded : (conf : Conf) (nodes : List Node) (number : ℕ) (p : Header) (now : ℕ) (s : State) → HasNode conf nodes s
+renewed-noded : (conf : Conf) (nodes : List Node) (number : ℕ) (p : PacketView) (now : ℕ) (s : State) → HasNode conf nodes s
     → HasNode conf nodes (numbered_state_after number p now s)
 renewed-noded conf nodes number p now s h = λ scope is.
     let same = renewed-same number p now s in
     ap (λ (a : Addr). has_node scope a nodes) same.source ∙ h scope (sym (ap (λ (r : RuleNo). node_scope_of conf r.0) same.rule) ∙ is)
 
-renewed-of_node : (conf : Conf) (scope : NodeScope) (source : Addr) (number : ℕ) (p : Header) (now : ℕ) (s : State)
+renewed-of_node : (conf : Conf) (scope : NodeScope) (source : Addr) (number : ℕ) (p : PacketView) (now : ℕ) (s : State)
     → is_of_node conf scope source (numbered_state_after number p now s) ≡ is_of_node conf scope source s
 renewed-of_node conf scope source number p now s = let same = renewed-same number p now s in rw (same.rule, same.source)
 
-kept_but_touched : (conf : Conf) (m : Held) (p : Header) (now : ℕ) (s : State) → IsKept conf m now
+kept_but_touched : (conf : Conf) (m : Held) (p : PacketView) (now : ℕ) (s : State) → IsKept conf m now
     → IsKeptBut conf (held_of (world_after_touch conf m.world s p now) m.tables) now
 kept_but_touched conf m p now s k =
     let w = m.world in
@@ -118,11 +118,11 @@ kept_but_touched conf m p now s k =
     }
 
 -- the state alone has its number
-alone_of : (conf : Conf) (m : Held) (p : Header) (now : ℕ) (s : State) → state_with (key_of p) m.world ≡ Some s → IsKept conf m now → IsAlone s m.world.states
+alone_of : (conf : Conf) (m : Held) (p : PacketView) (now : ℕ) (s : State) → state_with (key_of p) m.world ≡ Some s → IsKept conf m now → IsAlone s m.world.states
 alone_of conf m p now s found k = Rise-alone (λ (t : State). same_key t.key (key_of p)) s 0 m.world.made m.world.states k.numbers found
 
 -- where the handshake does not complete, or hits no `max-src-conn`, no source has too many connections
-few_touched : (conf : Conf) (m : Held) (p : Header) (now : ℕ) (s : State) → state_with (key_of p) m.world ≡ Some s
+few_touched : (conf : Conf) (m : Held) (p : PacketView) (now : ℕ) (s : State) → state_with (key_of p) m.world ≡ Some s
     → ((completes_at p s ≡ false) ⊎ (hits_connections conf (world_after_touch conf m.world s p now) s ≡ false))
     → IsKept conf m now → AreFew conf (world_after_touch conf m.world s p now).states
 few_touched conf m p now s found why k rule source tracks = go why (is_of_node conf (own_scope rule) source s) refl
@@ -142,7 +142,7 @@ few_touched conf m p now s found why k rule source tracks = go why (is_of_node c
     go (inr few) true e = connections-within conf m.world p now s rule source tracks e few
     go (inr few) false e = same (inr e)
 
-pub kept_touched : (conf : Conf) (m : Held) (p : Header) (now : ℕ) (s : State) → state_with (key_of p) m.world ≡ Some s
+pub kept_touched : (conf : Conf) (m : Held) (p : PacketView) (now : ℕ) (s : State) → state_with (key_of p) m.world ≡ Some s
     → ((completes_at p s ≡ false) ⊎ (hits_connections conf (world_after_touch conf m.world s p now) s ≡ false))
     → IsKept conf m now → IsKept conf (held_of (world_after_touch conf m.world s p now) m.tables) now
 kept_touched conf m p now s found why k =
@@ -199,13 +199,13 @@ kept_but_added conf m source overload now k = record {
   moments = k.moments;
 }
 
-few_killed : (conf : Conf) (m : Held) (p : Header) (now : ℕ) (s : State) (flush : Option Scope) → state_with (key_of p) m.world ≡ Some s
+few_killed : (conf : Conf) (m : Held) (p : PacketView) (now : ℕ) (s : State) (flush : Option Scope) → state_with (key_of p) m.world ≡ Some s
     → IsKept conf m now
     → AreFew conf (filter (stays_at_kill flush s.number s.rule s.source) (world_after_touch conf m.world s p now).states)
 few_killed conf m p now s flush found k rule source tracks =
     within_less (options_of conf rule).max_src_conn _ _ (connections-killed conf m.world p now s flush (own_scope rule) source (alone_of conf m p now s found k)) (k.limits.source_connections rule source tracks)
 
-pub kept_killed : (conf : Conf) (m : Held) (p : Header) (now : ℕ) (s : State) (limits : Exceeded) → state_with (key_of p) m.world ≡ Some s
+pub kept_killed : (conf : Conf) (m : Held) (p : PacketView) (now : ℕ) (s : State) (limits : Exceeded) → state_with (key_of p) m.world ≡ Some s
     → IsKept conf m now → IsKept conf (answer_of_kill conf (held_of (world_after_touch conf m.world s p now) m.tables) s.number s.rule s.source now limits).1 now
 kept_killed conf m p now s limits found k =
     let overload = (options_of conf s.rule.0).overload in
@@ -218,7 +218,7 @@ kept_killed conf m p now s limits found k =
 
 -- ---- together
 
-kept_by_handshake : (conf : Conf) (m : Held) (p : Header) (now : ℕ) (s : State) (conn rate : Bool) → state_with (key_of p) m.world ≡ Some s
+kept_by_handshake : (conf : Conf) (m : Held) (p : PacketView) (now : ℕ) (s : State) (conn rate : Bool) → state_with (key_of p) m.world ≡ Some s
     → IsKept conf m now → conn ≡ hits_connections conf (world_after_touch conf m.world s p now) s
     → (completes : Bool) → completes_at p s ≡ completes
     → IsKept conf (answer_of_exceeded conf (held_of (world_after_touch conf m.world s p now) m.tables) s.number s.rule s.source now (if completes then exceeded_of conn rate else None)).1 now
@@ -228,14 +228,14 @@ kept_by_handshake conf m p now s true false found k is true done = kept_killed c
 kept_by_handshake conf m p now s false true found k is true done = kept_killed conf m p now s exceeded.Rate found k
 kept_by_handshake conf m p now s false false found k is true done = kept_touched conf m p now s found (inr (sym is)) k
 
-pub kept_held : (conf : Conf) (m : Held) (p : Header) (now : ℕ) (s : State) → state_with (key_of p) m.world ≡ Some s
+pub kept_held : (conf : Conf) (m : Held) (p : PacketView) (now : ℕ) (s : State) → state_with (key_of p) m.world ≡ Some s
     → IsKept conf m now → IsKept conf (answer_of_state conf m p now (Some s)).1 now
 kept_held conf m p now s found k =
     let after = world_after_touch conf m.world s p now in
     kept_by_handshake conf m p now s (hits_connections conf after s) (hits_rate conf after s) found k refl (completes_at p s) refl
 
 -- no state is made
-pub made_held : (conf : Conf) (m : Held) (p : Header) (now : ℕ) (s : State) → (answer_of_state conf m p now (Some s)).1.world.made ≡ m.world.made
+pub made_held : (conf : Conf) (m : Held) (p : PacketView) (now : ℕ) (s : State) → (answer_of_state conf m p now (Some s)).1.world.made ≡ m.world.made
 made_held conf m p now s = by (if completes_at p s then exceeded_of (hits_connections conf after s) (hits_rate conf after s) else None)
   where
     after : World
@@ -248,7 +248,7 @@ made_held conf m p now s = by (if completes_at p s then exceeded_of (hits_connec
 -- ---- of a state that is held
 
 -- only TCP completes
-pub proto_of_completed : (conf : Conf) (m : Held) (p : Header) (now : ℕ) (s : State) → IsKept conf m now → state_with (key_of p) m.world ≡ Some s
+pub proto_of_completed : (conf : Conf) (m : Held) (p : PacketView) (now : ℕ) (s : State) → IsKept conf m now → state_with (key_of p) m.world ≡ Some s
     → completes_at p s ≡ true → is_tcp p.proto ≡ true
 proto_of_completed conf m p now s k found done =
     let key : s.key ≡ key_of p = same_key_true s.key (key_of p) (find-passes (λ (t : State). same_key t.key (key_of p)) m.world.states s found) in
@@ -256,7 +256,7 @@ proto_of_completed conf m p now s k found done =
     ap (λ (f : FlowKey). is_tcp f.proto) (sym key) ∙ is_tcp-completes s.key.proto s.phase (goes_forward p s) p.flags own done
 
 -- the state is held after its packet
-pub held_touched : (conf : Conf) (w : World) (p : Header) (now : ℕ) (s : State) → state_with (key_of p) w ≡ Some s
+pub held_touched : (conf : Conf) (w : World) (p : PacketView) (now : ℕ) (s : State) → state_with (key_of p) w ≡ Some s
     → holds_number (world_after_touch conf w s p now).states s.number ≡ true
 held_touched conf w p now s found =
     any-map (λ (t : State). t.number == s.number) (numbered_state_after s.number p now) (λ (t : State). ap (λ n. n == s.number) (renewed-same s.number p now t).number) w.states

@@ -1,7 +1,7 @@
 -- What a packet may do to what is held: nothing, make a state, renew one, and kill some.
 use Rattle.std.proofs.Common.{◌≡◌, ◌∙◌, ℕ, Bool, if◌then◌else◌, Option, Some, None, refl, subst, sym}
 use Rattle.pfs_addr_values.specs.Keys.{key_of}
-use Rattle.pfs_addr_values.specs.Packets.{Header}
+use Rattle.pfs_addr_values.specs.Packets.{PacketView}
 use Rattle.pfs_conf_values.specs.Configs.{Conf, options_of}
 use Rattle.pfs_store_contract.specs.Admission.{world_after_admission}
 use Rattle.pfs_store_contract.specs.Calls.{packet_limit}
@@ -16,7 +16,7 @@ use Rattle.pfs_engine_machine.specs.declared.events.Exceeded.{Exceeded}
 use Rattle.pfs_engine_machine.specs.declared.events.Outcome.{Outcome}
 
 -- a fact of what a packet leaves, from what it may do
-pub record Changes (conf : Conf) (w : World) (p : Header) (now : ℕ) (Q : World → Type 0) : Type 0 where
+pub record Changes (conf : Conf) (w : World) (p : PacketView) (now : ℕ) (Q : World → Type 0) : Type 0 where
   pub passes : state_with (key_of p) w ≡ None → Q w
   pub admits : (rule : ℕ) → state_with (key_of p) w ≡ None → packet_limit conf w p rule ≡ None → Q (world_after_admission conf w p rule now)
   pub touches : (s : State) → state_with (key_of p) w ≡ Some s → Q (world_after_touch conf w s p now)
@@ -30,7 +30,7 @@ handshake_has conf h s now completes Q kills k = by (if completes then exceeded_
     by (Some e) = kills h.world (stays_at_kill (flush_of (options_of conf s.rule.0).overload) s.number s.rule s.source) k
     by None = k
 
-pub answered_has : (conf : Conf) (h : Held) (p : Header) (now : ℕ) (Q : World → Type 0) → Changes conf h.world p now Q → Q (answer_to_packet conf h p now).1.world
+pub answered_has : (conf : Conf) (h : Held) (p : PacketView) (now : ℕ) (Q : World → Type 0) → Changes conf h.world p now Q → Q (answer_to_packet conf h p now).1.world
 answered_has conf h p now Q c = go (state_with (key_of p) h.world) refl
   where
     go : (found : Option State) → state_with (key_of p) h.world ≡ found → Q (answer_to_packet conf h p now).1.world
@@ -49,11 +49,11 @@ answered_has conf h p now Q c = go (state_with (key_of p) h.world) refl
 -- ---- a fact that each change keeps
 
 pub record IsKeptByPackets (conf : Conf) (P : World → Type 0) : Type 0 where
-  pub touches : (w : World) (s : State) (p : Header) (now : ℕ) → P w → P (world_after_touch conf w s p now)
+  pub touches : (w : World) (s : State) (p : PacketView) (now : ℕ) → P w → P (world_after_touch conf w s p now)
   pub kills : (w : World) (stays : State → Bool) (now : ℕ) → P w → P (world_without conf w stays now)
-  pub admits : (w : World) (p : Header) (rule now : ℕ) → packet_limit conf w p rule ≡ None → P w → P (world_after_admission conf w p rule now)
+  pub admits : (w : World) (p : PacketView) (rule now : ℕ) → packet_limit conf w p rule ≡ None → P w → P (world_after_admission conf w p rule now)
 
-pub answered_keeps : (conf : Conf) (P : World → Type 0) → IsKeptByPackets conf P → (h : Held) (p : Header) (now : ℕ) → P h.world → P (answer_to_packet conf h p now).1.world
+pub answered_keeps : (conf : Conf) (P : World → Type 0) → IsKeptByPackets conf P → (h : Held) (p : PacketView) (now : ℕ) → P h.world → P (answer_to_packet conf h p now).1.world
 answered_keeps conf P k h p now i = answered_has conf h p now P (record {
   passes = λ fresh. i;
   admits = λ rule fresh none. k.admits h.world p rule now none i;

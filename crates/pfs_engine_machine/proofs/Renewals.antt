@@ -1,7 +1,7 @@
 -- What a packet changes of its state: the phase, which stays one of its protocol, and the moment.
 use Rattle.std.proofs.Common.{◌≡◌, ◌||◌, ◌==◌, ℕ, Bool, true, false, if◌then◌else◌, refl, ap, ◌∙◌}
 use Rattle.std.proofs.Math.Bool.{or-false}
-use Rattle.pfs_addr_values.specs.Packets.{Header}
+use Rattle.pfs_addr_values.specs.Packets.{PacketView}
 use Rattle.pfs_addr_values.specs.declared.flag_sets.Flags.{Flags}
 use Rattle.pfs_addr_values.specs.declared.protocols.Proto.{Proto}
 use Rattle.pfs_addr_values.specs.declared.protocols.Proto.TheVariants as proto
@@ -54,14 +54,14 @@ pub record IsSameState (before after : State) : Type 0 where
   pub source : after.source ≡ before.source
   pub rule : after.rule ≡ before.rule
 
-pub renewed-same : (number : ℕ) (p : Header) (now : ℕ) (s : State) → IsSameState s (numbered_state_after number p now s)
+pub renewed-same : (number : ℕ) (p : PacketView) (now : ℕ) (s : State) → IsSameState s (numbered_state_after number p now s)
 renewed-same number p now s = go (s.number == number)
   where
     go : (b : Bool) → IsSameState s (if b then state_after_packet p now s else s)
     go true = record { number = refl; key = refl; source = refl; rule = refl }
     go false = record { number = refl; key = refl; source = refl; rule = refl }
 
-pub renewed-phase : (number : ℕ) (p : Header) (now : ℕ) (s : State) → IsPhaseOf s.key.proto s.phase
+pub renewed-phase : (number : ℕ) (p : PacketView) (now : ℕ) (s : State) → IsPhaseOf s.key.proto s.phase
     → IsPhaseOf (numbered_state_after number p now s).key.proto (numbered_state_after number p now s).phase
 renewed-phase number p now s h = go (s.number == number)
   where

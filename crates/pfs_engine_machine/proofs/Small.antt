@@ -3,7 +3,7 @@ use Rattle.std.proofs.Common.{◌≡◌, ℕ, ◌+◌, ◌≤◌, Bool, true, fa
 use Rattle.std.proofs.lemmas.Bool.{false≢true}
 use Rattle.std.proofs.lemmas.Bool.Decides.{nat_tests}
 use Rattle.std.proofs.lemmas.List.{length-map}
-use Rattle.pfs_addr_values.specs.Packets.{Header}
+use Rattle.pfs_addr_values.specs.Packets.{PacketView}
 use Rattle.pfs_addr_values.specs.declared.addresses.Addr.{Addr}
 use Rattle.pfs_conf_values.specs.Configs.{Conf, limit_of, options_of}
 use Rattle.pfs_conf_values.specs.declared.actions.Rate.{Rate}
@@ -85,7 +85,7 @@ made-admitted nodes made source (Some scope) h n k = go (has_node scope source n
     go true e = omega (arith, h n e)
     go false e = made-more (λ (d : Node). d.number) made nodes new refl h n e
 
-small-admitted : (conf : Conf) (w : World) (p : Header) (rule now : ℕ) → packet_limit conf w p rule ≡ None → IsSmall conf w → IsSmall conf (world_after_admission conf w p rule now)
+small-admitted : (conf : Conf) (w : World) (p : PacketView) (rule now : ℕ) → packet_limit conf w p rule ≡ None → IsSmall conf w → IsSmall conf (world_after_admission conf w p rule now)
 small-admitted conf w p rule now e k =
     let new : State = new_state (w.made + 1) p rule now in
     let a = none_of (cond (reaches_maximum (options_of conf rule).max (rule_states rule w.states)) (Some limit.Max) None) _ (sym (met_in_turn conf w rule p.source.addr) ∙ e) in
@@ -110,7 +110,7 @@ length-touched : (conf : Conf) (ns : List Node) (s : State) (now : ℕ) (complet
 length-touched conf ns s now true = length-scored ns s.source now (node_scope_of conf s.rule.0) (options_of conf s.rule.0).max_src_conn_rate
 length-touched conf ns s now false = refl
 
-small-touched : (conf : Conf) (w : World) (s : State) (p : Header) (now : ℕ) → IsSmall conf w → IsSmall conf (world_after_touch conf w s p now)
+small-touched : (conf : Conf) (w : World) (s : State) (p : PacketView) (now : ℕ) → IsSmall conf w → IsSmall conf (world_after_touch conf w s p now)
 small-touched conf w s p now k = record {
   states = omega (arith, length-map w.states (numbered_state_after s.number p now), k.states);
   nodes = omega (arith, length-touched conf w.nodes s now (completes_at p s), k.nodes);

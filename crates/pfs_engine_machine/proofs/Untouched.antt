@@ -5,7 +5,7 @@ use Rattle.std.proofs.lemmas.Bool.{false≢true, or_right}
 use Rattle.std.proofs.lemmas.Bool.Decides.{nat_tests}
 use Rattle.std.proofs.lemmas.List.Elements.{All-contains, All-from_recursion, Contains-append_cases, Contains-push_cases, recursion_from_All}
 use Rattle.pfs_addr_values.specs.Keys.{key_of}
-use Rattle.pfs_addr_values.specs.Packets.{Header}
+use Rattle.pfs_addr_values.specs.Packets.{PacketView}
 use Rattle.pfs_addr_values.specs.Sameness.{same_key}
 use Rattle.pfs_conf_values.specs.Configs.{Conf}
 use Rattle.pfs_conf_values.specs.Invariants.{IsConfig}
@@ -88,7 +88,7 @@ record IsAsBefore (s : State) (w : World) : Type 0 where
   made : s.number ≤ w.made
   same : AllByRecursion (λ (t : State). t.number ≡ s.number → t ≡ s) w.states
 
-before-touched : (conf : Conf) (s : State) (w : World) (x : State) (p : Header) (now : ℕ) → (x.number ≡ s.number → ⊥) → IsAsBefore s w
+before-touched : (conf : Conf) (s : State) (w : World) (x : State) (p : PacketView) (now : ℕ) → (x.number ≡ s.number → ⊥) → IsAsBefore s w
     → IsAsBefore s (world_after_touch conf w x p now)
 before-touched conf s w x p now other h = record {
   made = h.made;
@@ -101,13 +101,13 @@ before-touched conf s w x p now other h = record {
     one t f true e n = let same : t.number ≡ x.number = grind (arith, nat_tests) in absurd (other (sym same ∙ n))
 
 -- another state is found
-another : (s : State) (w : World) (p : Header) → same_key s.key (key_of p) ≡ false → IsAsBefore s w → (x : State) → state_with (key_of p) w ≡ Some x
+another : (s : State) (w : World) (p : PacketView) → same_key s.key (key_of p) ≡ false → IsAsBefore s w → (x : State) → state_with (key_of p) w ≡ Some x
     → x.number ≡ s.number → ⊥
 another s w p apart h x e n =
     let f = found (λ (t : State). t.number ≡ s.number → t ≡ s) (λ (t : State). same_key t.key (key_of p)) x w.states h.same e in
     false≢true (sym apart ∙ ap (λ (t : State). same_key t.key (key_of p)) (sym (f.1 n)) ∙ f.0)
 
-before-packet : (conf : Conf) (s : State) (w : World) (p : Header) (now : ℕ) → same_key s.key (key_of p) ≡ false → IsAsBefore s w → Changes conf w p now (IsAsBefore s)
+before-packet : (conf : Conf) (s : State) (w : World) (p : PacketView) (now : ℕ) → same_key s.key (key_of p) ≡ false → IsAsBefore s w → Changes conf w p now (IsAsBefore s)
 before-packet conf s w p now apart h = record {
   passes = λ fresh. h;
   admits = λ rule fresh none. record {

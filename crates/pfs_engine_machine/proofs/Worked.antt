@@ -1,6 +1,6 @@
 -- Worked runs of the machine, each by computation.
 use Rattle.std.proofs.Common.{◌≡◌, ℕ, Bool, true, false, Option, None, Some, List, [], ◌∷◌, ◌++◌, refl}
-use Rattle.pfs_addr_values.specs.Packets.{Header}
+use Rattle.pfs_addr_values.specs.Packets.{PacketView}
 use Rattle.pfs_addr_values.specs.Prefixes.{cleared_addr, covers}
 use Rattle.pfs_addr_values.specs.declared.addresses.Addr.{Addr}
 use Rattle.pfs_addr_values.specs.declared.addresses.Addr.TheVariants.{V4}
@@ -80,15 +80,15 @@ abbrev flagged : Bool → Bool → Bool → Flags
 flagged syn ack rst =
     record { fin = false; syn = syn; rst = rst; psh = false; ack = ack; urg = false; ece = false; cwr = false }
 
-abbrev to_server : Proto → ℕ → ℕ → ℕ → Flags → Header
+abbrev to_server : Proto → ℕ → ℕ → ℕ → Flags → PacketView
 to_server proto n sport dport flags =
     record { dir = In; ifname = []; proto = proto; source = end_at (source n) sport; destination = end_at server dport; flags = flags }
 
-abbrev from_server : ℕ → ℕ → Flags → Header
+abbrev from_server : ℕ → ℕ → Flags → PacketView
 from_server n port flags =
     record { dir = Out; ifname = []; proto = Tcp; source = end_at server 80; destination = end_at (source n) port; flags = flags }
 
-abbrev comes : ℕ → Header → Event
+abbrev comes : ℕ → PacketView → Event
 comes now p = record { time = now; what = Packet p }
 
 abbrev nothing : ℕ → Event

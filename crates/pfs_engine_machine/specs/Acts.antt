@@ -1,6 +1,6 @@
 -- A run as the single things that happen in it, one after another. (own)
 use Rattle.std.specs.Prelude.{◌≡◌, ℕ, suc, Option, Some, None, List, [], ◌∷◌, ◌++◌, map}
-use Rattle.pfs_addr_values.specs.Packets.{Header}
+use Rattle.pfs_addr_values.specs.Packets.{PacketView}
 use Rattle.pfs_conf_values.specs.Configs.{Conf}
 use Rattle.pfs_store_contract.specs.Purging.{purge}
 use Rattle.pfs_engine_machine.specs.Kept.{IsWithinLimits}
@@ -14,7 +14,7 @@ use Rattle.pfs_engine_machine.specs.declared.events.Arrival.TheVariants as arriv
 -- first of these moments, at the second
 pub data RunAct : Type 0 where
   Purge : ℕ → RunAct
-  Arrive : ℕ → Header → RunAct
+  Arrive : ℕ → PacketView → RunAct
   Change : ℕ → ℕ → ℕ → Command → RunAct
 
 abbrev pub arrivals : ℕ → ℕ → Arrival → List RunAct

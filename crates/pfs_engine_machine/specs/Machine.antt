@@ -2,7 +2,7 @@
 use Rattle.std.specs.Prelude.{ℕ, ◌+◌, ◌-◌, Bool, true, false, if◌then◌else◌, Option, Some, None, List, [], ◌∷◌, length, filter, unwrap_or}
 use Rattle.std.specs.List.{range_with_len}
 use Rattle.pfs_addr_values.specs.Keys.{key_of}
-use Rattle.pfs_addr_values.specs.Packets.{Header}
+use Rattle.pfs_addr_values.specs.Packets.{PacketView}
 use Rattle.pfs_addr_values.specs.declared.addresses.Addr.{Addr}
 use Rattle.pfs_eval.specs.Entries.{Entry}
 use Rattle.pfs_eval.specs.Matching.{matches_item}
@@ -128,33 +128,33 @@ answer_of_handshake conf h s now completes =
 -- ---- one packet
 
 -- the state that it would make meets a limit, or none
-abbrev pub answer_of_limits : Conf → Held → Header → ℕ → ℕ → Option Limit → Outcome × Held
+abbrev pub answer_of_limits : Conf → Held → PacketView → ℕ → ℕ → Option Limit → Outcome × Held
 answer_of_limits conf h p now rule None = (outcome.New (record { 0 = rule }), held_of (world_after_admission conf h.world p rule now) h.tables)
 answer_of_limits conf h p now rule (Some l) = (outcome.Drop (record { 0 = rule }) l, h)
 
 -- what the rule that decides says
-abbrev pub answer_of_action : Conf → Held → Header → ℕ → ℕ → Action → Outcome × Held
+abbrev pub answer_of_action : Conf → Held → PacketView → ℕ → ℕ → Action → Outcome × Held
 answer_of_action conf h p now rule action.Block = (outcome.Block (record { 0 = rule }), h)
 answer_of_action conf h p now rule action.Pass = (outcome.Pass (Some (record { 0 = rule })), h)
 answer_of_action conf h p now rule (action.Keep o) = answer_of_limits conf h p now rule (limit_met conf h.world rule p.source.addr)
 
 -- a rule decides, or none
-abbrev pub answer_of_rule : Conf → Held → Header → ℕ → Option ℕ → Outcome × Held
+abbrev pub answer_of_rule : Conf → Held → PacketView → ℕ → Option ℕ → Outcome × Held
 answer_of_rule conf h p now None = (outcome.Pass None, h)
 answer_of_rule conf h p now (Some rule) = answer_of_action conf h p now rule (rule_of conf rule).action
 
 -- the rule that decides
-abbrev pub deciding_rule : Conf → Held → Header → Option ℕ
+abbrev pub deciding_rule : Conf → Held → PacketView → Option ℕ
 deciding_rule conf h p = verdict (matches_item h.tables p) conf.items
 
 -- a held state has its key, or none
-abbrev pub answer_of_state : Conf → Held → Header → ℕ → Option State → Outcome × Held
+abbrev pub answer_of_state : Conf → Held → PacketView → ℕ → Option State → Outcome × Held
 answer_of_state conf h p now (Some s) =
     answer_of_handshake conf (held_of (world_after_touch conf h.world s p now) h.tables) s now (completes_at p s)
 answer_of_state conf h p now None = answer_of_rule conf h p now (deciding_rule conf h p)
 
 -- what a packet does at a moment
-abbrev pub answer_to_packet : Conf → Held → Header → ℕ → Outcome × Held
+abbrev pub answer_to_packet : Conf → Held → PacketView → ℕ → Outcome × Held
 answer_to_packet conf h p now = answer_of_state conf h p now (state_with (key_of p) h.world)
 
 -- ---- an administrator: old entries leave a table, an entry is added, that very entry is taken out (pfctl(8), "-T")

@@ -2,7 +2,7 @@
 -- OPTIONS, "max-src-conn-rate"; the score is own)
 use Rattle.std.specs.Prelude.{ℕ, ◌==◌, ◌&&◌, Bool, if◌then◌else◌, Option, Some, None, List, [], ◌∷◌, filter, map}
 use Rattle.pfs_addr_values.specs.Keys.{key_of}
-use Rattle.pfs_addr_values.specs.Packets.{Header}
+use Rattle.pfs_addr_values.specs.Packets.{PacketView}
 use Rattle.pfs_addr_values.specs.Sameness.{same_addr}
 use Rattle.pfs_addr_values.specs.declared.addresses.Addr.{Addr}
 use Rattle.pfs_conf_values.specs.Configs.{Conf, options_of, rate_seconds}
@@ -23,7 +23,7 @@ pub record Handshake : Type 0 where
   pub moment : ℕ
 
 -- the state whose handshake a packet completes
-abbrev pub completed_state : Header → Option State → Option State
+abbrev pub completed_state : PacketView → Option State → Option State
 completed_state p None = None
 completed_state p (Some s) = if completes_at p s then Some s else None
 

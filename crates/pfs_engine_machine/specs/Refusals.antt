@@ -1,7 +1,7 @@
 -- When a new state is refused, and which packets need no memory.
 use Rattle.std.specs.Prelude.{ℕ, ◌≡◌, ◌⊎◌, Bool, true, false, Some, None, IsSome}
 use Rattle.pfs_addr_values.specs.Keys.{key_of}
-use Rattle.pfs_addr_values.specs.Packets.{Header}
+use Rattle.pfs_addr_values.specs.Packets.{PacketView}
 use Rattle.pfs_addr_values.specs.declared.protocols.Proto.{Proto}
 use Rattle.pfs_addr_values.specs.declared.protocols.Proto.TheVariants as proto
 use Rattle.pfs_conf_values.specs.Configs.{Conf, options_at, options_of}
@@ -20,18 +20,18 @@ is_tcp proto.Udp = false
 is_tcp (proto.Other n) = false
 
 -- no held state has the packet's key, this rule decides on it and keeps state, and this is the first limit that the state meets
-pub record IsDropped (conf : Conf) (h : Held) (p : Header) (rule : ℕ) (limit : Limit) : Type 0 where
+pub record IsDropped (conf : Conf) (h : Held) (p : PacketView) (rule : ℕ) (limit : Limit) : Type 0 where
   pub fresh : state_with (key_of p) h.world ≡ None
   pub rule_is : deciding_rule conf h p ≡ Some rule
   pub keeps : IsSome (options_at conf rule)
   pub met : packet_limit conf h.world p rule ≡ Some limit
 
 -- a packet of a state of this rule needs no memory: it is not TCP, or the rule has no `overload`
-abbrev pub IsFreeOf : Conf → Header → RuleNo → Type 0
+abbrev pub IsFreeOf : Conf → PacketView → RuleNo → Type 0
 IsFreeOf conf p rule = (is_tcp p.proto ≡ false) ⊎ ((options_of conf rule.0).overload ≡ None)
 
 -- a packet of which this comes needs no memory: no state is made, and it is one of no held state, or needs none there
-abbrev pub IsFree : Conf → Header → Outcome → Type 0
+abbrev pub IsFree : Conf → PacketView → Outcome → Type 0
 IsFree conf p (outcome.New rule) = ⊥
 IsFree conf p (outcome.State rule) = IsFreeOf conf p rule
 IsFree conf p (outcome.Kill rule limits overload killed) = IsFreeOf conf p rule

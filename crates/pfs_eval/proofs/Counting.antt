@@ -3,7 +3,7 @@ use Rattle.std.proofs.Common.{◌≡◌, ℕ, ◌+◌, ◌<◌, ◌≤◌, ◌==
 use Rattle.std.specs.List.{dedup, dedup_from}
 use Rattle.std.proofs.lemmas.Bool.{cases_order, cond-true}
 use Rattle.std.proofs.lemmas.Bool.Decides.{nat_tests}
-use Rattle.pfs_addr_values.specs.Packets.{Header}
+use Rattle.pfs_addr_values.specs.Packets.{PacketView}
 use Rattle.pfs_conf_values.specs.declared.items.Item.{Item}
 use Rattle.pfs_eval.specs.Entries.{Entry}
 use Rattle.pfs_eval.specs.Matching.{filter_of, matches_item}
@@ -35,7 +35,7 @@ behind_none same x xs h = behind_other same x xs (λ y ys e. h y)
 -- ---- what is left behind
 
 -- the item i is left behind with y, which fails on the parameter k
-record IsLeftWith (tables : List (List Entry)) (packet : Header) (k : Parameter) (y : Place) (i : Item) : Type 0 where
+record IsLeftWith (tables : List (List Entry)) (packet : PacketView) (k : Parameter) (y : Place) (i : Item) : Type 0 where
   pub on : failing_at tables packet (filter_of y.item.what) ≡ Some k
   pub deep : y.item.depth ≡ i.depth
   pub same : IsSame k (filter_of y.item.what) (filter_of i.what)
@@ -43,7 +43,7 @@ record IsLeftWith (tables : List (List Entry)) (packet : Header) (k : Parameter)
 both : (a b : Bool) → a ≡ true → b ≡ true → (a && b) ≡ true
 both a b e f = grind arith
 
-left_true : (tables : List (List Entry)) (packet : Header) (k : Parameter) (x y : Place) → IsLeftWith tables packet k y x.item
+left_true : (tables : List (List Entry)) (packet : PacketView) (k : Parameter) (x y : Place) → IsLeftWith tables packet k y x.item
     → is_left_with tables packet x y ≡ true
 left_true tables packet k x y l =
     let deep : (y.item.depth == x.item.depth) ≡ true = grind (arith, nat_tests, l.deep) in
@@ -58,7 +58,7 @@ left_by k i j true true d e f h =
 left_by k i j true false d e f h = rw (e, f) refl
 left_by k i j false c d e f h = rw e refl
 
-left_false : (tables : List (List Entry)) (packet : Header) (k : Parameter) (x y : Place)
+left_false : (tables : List (List Entry)) (packet : PacketView) (k : Parameter) (x y : Place)
     → failing_at tables packet (filter_of y.item.what) ≡ Some k
     → (y.item.depth ≡ x.item.depth → IsSame k (filter_of y.item.what) (filter_of x.item.what) → ⊥)
     → is_left_with tables packet x y ≡ false
@@ -66,7 +66,7 @@ left_false tables packet k x y on h =
     ap (λ o. is_left_on o y.item x.item) on ∙ left_by k y.item x.item _ _ true refl refl h
 
 -- nothing is left behind with an item that matches
-pub none_left : (tables : List (List Entry)) (packet : Header) (x y : Place) → failing_at tables packet (filter_of y.item.what) ≡ None
+pub none_left : (tables : List (List Entry)) (packet : PacketView) (x y : Place) → failing_at tables packet (filter_of y.item.what) ≡ None
     → is_left_with tables packet x y ≡ false
 none_left tables packet x y on = ap (λ o. is_left_on o y.item x.item) on
 
@@ -103,7 +103,7 @@ begins_at m items stop q y ys e = by (cases_order q (length items))
     by (inr (inr g)) = past (omega (arith, g))
 
 -- all that a skip passes over is left behind with y, and what stands behind the skip is not
-past_skip : (tables : List (List Entry)) (packet : Header) (k : Parameter) (items : List Item) (stop p q : ℕ) (i : Item)
+past_skip : (tables : List (List Entry)) (packet : PacketView) (k : Parameter) (items : List Item) (stop p q : ℕ) (i : Item)
     → IsSkip k items p i q → slice_get items p ≡ Some i → stop ≤ i.depth → holds_at tables packet k (filter_of i.what) ≡ false
     → (y : Place) → IsLeftWith tables packet k y i
     → length (dedup_from (is_left_with tables packet) y (walked (matches_item tables packet) stop (rest_of (matches_item tables packet) items p)))
@@ -159,7 +159,7 @@ same_itself parameter.DestinationPort i = refl
 same_itself parameter.Flags i = refl
 
 -- a visit to an item that fails on a parameter, and the skip from there
-pub skip-counts : (tables : List (List Entry)) (packet : Header) (k : Parameter) (items : List Item) (stop p q : ℕ) (i : Item)
+pub skip-counts : (tables : List (List Entry)) (packet : PacketView) (k : Parameter) (items : List Item) (stop p q : ℕ) (i : Item)
     → IsSkip k items p i q → slice_get items p ≡ Some i → stop ≤ i.depth → holds_at tables packet k (filter_of i.what) ≡ false
     → failing_at tables packet (filter_of i.what) ≡ Some k
     → length (dedup (is_left_with tables packet) (walked (matches_item tables packet) stop (rest_of (matches_item tables packet) items p)))

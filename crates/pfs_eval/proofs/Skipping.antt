@@ -1,7 +1,7 @@
 -- A skip step passes over nothing that could match.
 use Rattle.std.proofs.Common.{◌≡◌, ℕ, ◌+◌, ◌<◌, ◌≤◌, Bool, false, ◌&&◌, List, [], ◌∷◌, length, filter, drop, slice_get, Option, Some, ap, sym, subst, ◌∙◌, ◌⊎◌, inl, inr, suc, zero, arith}
 use Rattle.std.proofs.lemmas.Bool.{cases_order, cond-false}
-use Rattle.pfs_addr_values.specs.Packets.{Header}
+use Rattle.pfs_addr_values.specs.Packets.{PacketView}
 use Rattle.pfs_conf_values.specs.declared.filters.Filter.{Filter}
 use Rattle.pfs_conf_values.specs.declared.items.Item.{Item}
 use Rattle.pfs_eval.specs.Entries.{Entry}
@@ -79,7 +79,7 @@ both_on m items stop p q r h k = record {
 }
 
 -- items that ask the same at a parameter agree there
-pub same-holds : (tables : List (List Entry)) (packet : Header) (k : Parameter) (f g : Filter) → IsSame k f g
+pub same-holds : (tables : List (List Entry)) (packet : PacketView) (k : Parameter) (f g : Filter) → IsSame k f g
     → holds_at tables packet k f ≡ holds_at tables packet k g
 same-holds tables packet parameter.Interface f g e = ap (λ r. interface_holds r packet.ifname) e
 same-holds tables packet parameter.Direction f g e = ap (λ r. dir_holds r packet.dir) e
@@ -92,7 +92,7 @@ same-holds tables packet parameter.DestinationPort f g e = ap (λ r. ports_hold 
 same-holds tables packet parameter.Flags f g e = ap (λ r. flags_hold r packet.proto packet.flags) e
 
 -- an item that fails on a parameter does not match
-pub fails : (tables : List (List Entry)) (packet : Header) (k : Parameter) (i : Item)
+pub fails : (tables : List (List Entry)) (packet : PacketView) (k : Parameter) (i : Item)
     → holds_at tables packet k (filter_of i.what) ≡ false → matches_item tables packet i ≡ false
 unfolding matches_item
 fails tables packet parameter.Interface i e = no_first _ _ (no_first _ _ (no_first _ _ (no_first _ _ (no_first _ _ (no_first _ _ (no_first _ _ (no_match _ _ e)))))))
@@ -194,7 +194,7 @@ pub over_skip : (P : ℕ → Item → Type 0) (k : Parameter) (items : List Item
 over_skip P k items p q i last more s at = skip_within q P k items p q i last more (omega arith) s at
 
 -- a walk goes on at the skip of the parameter that an item fails on
-pub skip-on : (tables : List (List Entry)) (packet : Header) (k : Parameter) (items : List Item) (stop p q : ℕ) (i : Item)
+pub skip-on : (tables : List (List Entry)) (packet : PacketView) (k : Parameter) (items : List Item) (stop p q : ℕ) (i : Item)
     → IsSkip k items p i q → slice_get items p ≡ Some i → stop ≤ i.depth
     → holds_at tables packet k (filter_of i.what) ≡ false → MayGoOn (matches_item tables packet) items stop p q
 skip-on tables packet k items stop p q i s at d h = over_skip GoesOn k items p q i last more s at d h

@@ -3,7 +3,7 @@ use Rattle.std.proofs.Common.{◌≡◌, ℕ, ◌+◌, ◌<◌, ◌≤◌, max, 
 use Rattle.std.specs.List.{dedup}
 use Rattle.std.proofs.lemmas.Option.{slice_get_within}
 use Rattle.std.proofs.lemmas.Bool.{cond-true, cond-false}
-use Rattle.pfs_addr_values.specs.Packets.{Header}
+use Rattle.pfs_addr_values.specs.Packets.{PacketView}
 use Rattle.pfs_conf_values.specs.Depths.{is_rule}
 use Rattle.pfs_conf_values.specs.declared.items.Item.{Item}
 use Rattle.pfs_eval.specs.Entries.{Entry}
@@ -43,14 +43,14 @@ left-start same m items count = record {
 }
 
 -- what the walk has found, and how many items it has compared
-pub record IsFound (tables : List (List Entry)) (packet : Header) (items : List Item) (found : Option ℕ) (count first : ℕ) : Type 0 where
+pub record IsFound (tables : List (List Entry)) (packet : PacketView) (items : List Item) (found : Option ℕ) (count first : ℕ) : Type 0 where
   pub verdict : found ≡ verdict (matches_item tables packet) items
   pub visits : count ≡ first + visits_of tables packet items
   pub most : count ≤ first + length (cut (matches_item tables packet) items)
   pub least : first + visit_floor (matches_item tables packet) items ≤ count
 
 -- the walk is over
-left-end : (tables : List (List Entry)) (packet : Header) (items : List Item) (w : Walk) (count first : ℕ)
+left-end : (tables : List (List Entry)) (packet : PacketView) (items : List Item) (w : Walk) (count first : ℕ)
     → walked (matches_item tables packet) w.stop_depth (rest_of (matches_item tables packet) items w.place) ≡ []
     → IsLeft (is_left_with tables packet) (matches_item tables packet) items w count first → IsFound tables packet items w.found count first
 unfolding matching visits_of
@@ -182,16 +182,16 @@ pub record IsVisit (same : Place → Place → Bool) (m : Item → Bool) (items 
   pub forward : w.place < w'.place
 
 -- what the comparison of what an item asks with a packet tells
-pub record Tells (tables : List (List Entry)) (packet : Header) (line : Line) (failed : Option Parameter) : Type 0 where
+pub record Tells (tables : List (List Entry)) (packet : PacketView) (line : Line) (failed : Option Parameter) : Type 0 where
   pub first : failed ≡ failing_at tables packet (filter_of line.item.what)
   pub answer : MatchOption failed (filter_holds tables packet (filter_of line.item.what) ≡ true) (λ k. holds_at tables packet k (filter_of line.item.what) ≡ false)
 
-matching_item : (tables : List (List Entry)) (packet : Header) (i : Item) → filter_holds tables packet (filter_of i.what) ≡ true
+matching_item : (tables : List (List Entry)) (packet : PacketView) (i : Item) → filter_holds tables packet (filter_of i.what) ≡ true
     → matches_item tables packet i ≡ true
 unfolding matches_item
 matching_item tables packet i e = e
 
-visit_by : (tables : List (List Entry)) (packet : Header) (items : List Item) (w : Walk) (i : Item) (line : Line)
+visit_by : (tables : List (List Entry)) (packet : PacketView) (items : List Item) (w : Walk) (i : Item) (line : Line)
     (failed : Option Parameter) (count first : ℕ) → slice_get items w.place ≡ Some i → IsLine items w.place i line
     → w.stop_depth ≤ i.depth → AreSkipsOf items w.place line.skips → Tells tables packet line failed
     → IsLeft (is_left_with tables packet) (matches_item tables packet) items w count first
@@ -215,7 +215,7 @@ visit_by tables packet items w i line (Some k) count first at l d s t h =
     let counts = skip-counts tables packet k items w.stop_depth w.place q i (s i at k) at d e (sym (t.first ∙ ap (λ (x : Item). failing_at tables packet (filter_of x.what)) l.item)) in
     record { left = left-skip same m items w q count first on counts h; forward = on.forward }
 
-pub visit : (tables : List (List Entry)) (packet : Header) (items : List Item) (lines : List Line) (w w' : Walk)
+pub visit : (tables : List (List Entry)) (packet : PacketView) (items : List Item) (lines : List Line) (w w' : Walk)
     (tested line : Line) (failed : Option Parameter) (count count' first : ℕ)
     → AreLines items lines → slice_get lines w.place ≡ Some tested → slice_get lines w.place ≡ Some line
     → w.stop_depth ≤ tested.item.depth → Tells tables packet line failed → w' ≡ walk_after w line failed
@@ -241,7 +241,7 @@ nothing_left m items lines w a (inr k) =
     ap (walked m w.stop_depth) (rest-at m items w.place i.item i.at)
     ∙ walked-less m w.stop_depth _ _ (omega (arith, k.2, depth_of i.is))
 
-pub walk_end : {tables : List (List Entry)} {packet : Header} {items : List Item} {lines : List Line} {w : Walk} {count first : ℕ}
+pub walk_end : {tables : List (List Entry)} {packet : PacketView} {items : List Item} {lines : List Line} {w : Walk} {count first : ℕ}
     → AreLines items lines → IsEnd lines w → IsLeft (is_left_with tables packet) (matches_item tables packet) items w count first
     → IsFound tables packet items w.found count first
 walk_end {tables} {packet} {items} {lines} {w} {count} {first} a ends h =

@@ -9,7 +9,7 @@ use Rattle.pfs_addr_values.specs.declared.packets.Dir.{Dir}
 use Rattle.pfs_addr_values.specs.declared.packets.Dir.TheVariants.{In, Out}
 use Rattle.pfs_addr_values.specs.declared.protocols.Proto.{Proto}
 use Rattle.pfs_addr_values.specs.declared.protocols.Proto.TheVariants as proto
-use Rattle.pfs_addr_values.specs.Packets.{Header}
+use Rattle.pfs_addr_values.specs.Packets.{PacketView}
 use Rattle.pfs_addr_values.specs.Prefixes.{Network, covers}
 use Rattle.pfs_conf_values.specs.declared.filters.Family.{Family}
 use Rattle.pfs_conf_values.specs.declared.filters.Family.TheVariants.{Inet, Inet6}
@@ -105,7 +105,7 @@ flags_hold (flag_test.Exactly set among) proto.Tcp f = same_flags (common_flags 
 flags_hold _ _ f = true
 
 -- all that is asked of a packet holds
-abbrev pub filter_holds : List (List Entry) → Header → Filter → Bool
+abbrev pub filter_holds : List (List Entry) → PacketView → Filter → Bool
 filter_holds tables p f =
     dir_holds f.dir p.dir && interface_holds f.on p.ifname && family_holds f.family p.source.addr p.destination.addr && proto_holds f.proto p.proto
     && host_holds tables f.from.host p.source.addr && ports_hold f.from.ports p.source.port
@@ -118,5 +118,5 @@ filter_of (Rule r) = r.filter
 filter_of (Anchor a) = a.filter
 
 -- an item matches a packet when each parameter that it gives holds
-unfoldable pub matches_item : List (List Entry) → Header → Item → Bool
+unfoldable pub matches_item : List (List Entry) → PacketView → Item → Bool
 matches_item tables p i = filter_holds tables p (filter_of i.what)

@@ -4,7 +4,7 @@ use Rattle.std.specs.List.{find}
 use Rattle.std.specs.Option.{option_eq}
 use Rattle.std.specs.Str.{bytes_eq}
 use Rattle.std.proofs.Math.Bool.{beq}
-use Rattle.pfs_addr_values.specs.Packets.{Header}
+use Rattle.pfs_addr_values.specs.Packets.{PacketView}
 use Rattle.pfs_addr_values.specs.Sameness.{same_prefix}
 use Rattle.pfs_conf_values.specs.declared.filters.Family.{Family}
 use Rattle.pfs_conf_values.specs.declared.filters.Family.TheVariants.{Inet, Inet6}
@@ -22,7 +22,7 @@ use Rattle.pfs_eval.specs.declared.comparing.Parameter.{Parameter}
 use Rattle.pfs_eval.specs.declared.comparing.Parameter.TheVariants as parameter
 
 -- whether what is asked at one parameter holds of a packet
-abbrev pub holds_at : List (List Entry) → Header → Parameter → Filter → Bool
+abbrev pub holds_at : List (List Entry) → PacketView → Parameter → Filter → Bool
 holds_at tables p parameter.Interface f = interface_holds f.on p.ifname
 holds_at tables p parameter.Direction f = dir_holds f.dir p.dir
 holds_at tables p parameter.Family f = family_holds f.family p.source.addr p.destination.addr
@@ -40,7 +40,7 @@ parameters =
     ∷ parameter.DestinationHost ∷ parameter.SourcePort ∷ parameter.DestinationPort ∷ parameter.Flags ∷ []
 
 -- the first parameter that does not hold of a packet, if one does not
-unfoldable pub failing_at : List (List Entry) → Header → Filter → Option Parameter
+unfoldable pub failing_at : List (List Entry) → PacketView → Filter → Option Parameter
 failing_at tables p f = find (λ k. not (holds_at tables p k f)) parameters
 
 -- the same is asked at a parameter: it is written the same, negation included

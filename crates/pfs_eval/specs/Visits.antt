@@ -1,7 +1,7 @@
 -- How many items an evaluation compares with a packet, and how many at most and at least. (own)
 use Rattle.std.specs.Prelude.{ℕ, ◌+◌, if◌then◌else◌, Bool, false, ◌&&◌, ◌==◌, not, nat_lt, Option, Some, None, List, [], ◌∷◌, length, filter}
 use Rattle.std.specs.List.{dedup, take_while}
-use Rattle.pfs_addr_values.specs.Packets.{Header}
+use Rattle.pfs_addr_values.specs.Packets.{PacketView}
 use Rattle.pfs_conf_values.specs.declared.items.Item.{Item}
 use Rattle.pfs_conf_values.specs.Depths.{is_rule}
 use Rattle.pfs_eval.specs.Entries.{Entry}
@@ -18,11 +18,11 @@ is_left_on None i j = false
 is_left_on (Some k) i j = (i.depth == j.depth) && asks_same k (filter_of i.what) (filter_of j.what)
 
 -- a packet leaves x behind with y, which was compared last
-abbrev pub is_left_with : List (List Entry) → Header → Place → Place → Bool
+abbrev pub is_left_with : List (List Entry) → PacketView → Place → Place → Bool
 is_left_with tables p x y = is_left_on (failing_at tables p (filter_of y.item.what)) y.item x.item
 
 -- how many items are compared: those before the cut, but for each that is left behind with the one compared last
-unfoldable pub visits_of : List (List Entry) → Header → List Item → ℕ
+unfoldable pub visits_of : List (List Entry) → PacketView → List Item → ℕ
 visits_of tables p items = length (dedup (is_left_with tables p) (cut (matches_item tables p) items))
 
 -- ---- the most and the fewest

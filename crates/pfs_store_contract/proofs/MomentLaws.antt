@@ -1,7 +1,7 @@
 -- No handshake that a score counts came after a moment, whatever comes by that moment.
 use Rattle.std.proofs.Common.{◌≤◌, ◌++◌, ◌∷◌, [], ℕ, Bool, true, false, Option, None, Some, List, All, if◌then◌else◌, ◌+◌, ◌==◌, ◌&&◌, nat_lt, arith}
 use Rattle.std.proofs.lemmas.List.Elements.{All-filter, All-map, All-nil, All-push, All-weaker}
-use Rattle.pfs_addr_values.specs.Packets.{Header}
+use Rattle.pfs_addr_values.specs.Packets.{PacketView}
 use Rattle.pfs_addr_values.specs.declared.addresses.Addr.{Addr}
 use Rattle.pfs_conf_values.specs.Configs.{Conf, options_of}
 use Rattle.pfs_conf_values.specs.declared.actions.Rate.{Rate}
@@ -38,7 +38,7 @@ nodes_with-scored now nodes number source (Some scope) h = by (has_node scope so
     by true = h
     by false = All-push (IsScoredBy now) nodes (new_node number scope source) h (omega arith)
 
-pub world_at-up_to_now : (conf : Conf) (w : World) (p : Header) (rule now : ℕ) (limit : Option Limit) → IsUpToNow now w
+pub world_at-up_to_now : (conf : Conf) (w : World) (p : PacketView) (rule now : ℕ) (limit : Option Limit) → IsUpToNow now w
     → IsUpToNow now (world_at conf w p rule now limit)
 world_at-up_to_now conf w p rule now None h = nodes_with-scored now w.nodes (w.made + 1) p.source.addr (node_scope_of conf rule) h
 world_at-up_to_now conf w p rule now (Some l) h = h
@@ -64,7 +64,7 @@ nodes_touched-scored conf nodes s now true h =
     nodes_scored-scored nodes s.source now (node_scope_of conf s.rule.0) (options_of conf s.rule.0).max_src_conn_rate h
 nodes_touched-scored conf nodes s now false h = h
 
-pub world_touched-up_to_now : (conf : Conf) (w : World) (p : Header) (now : ℕ) (state : Option State) → IsUpToNow now w
+pub world_touched-up_to_now : (conf : Conf) (w : World) (p : PacketView) (now : ℕ) (state : Option State) → IsUpToNow now w
     → IsUpToNow now (world_touched conf w p now state)
 world_touched-up_to_now conf w p now None h = h
 world_touched-up_to_now conf w p now (Some s) h = nodes_touched-scored conf w.nodes s now (completes_at p s) h

@@ -1,7 +1,7 @@
 -- Worked examples of the definitions, each by computation.
 use Rattle.std.proofs.Common.{◌≡◌, ℕ, Bool, true, false, Option, None, Some, Err, Ok, List, [], ◌∷◌, length, refl}
 use Rattle.std.specs.Prelude.{option_map}
-use Rattle.pfs_addr_values.specs.Packets.{Header}
+use Rattle.pfs_addr_values.specs.Packets.{PacketView}
 use Rattle.pfs_addr_values.specs.Keys.{key_of}
 use Rattle.pfs_addr_values.specs.declared.addresses.Addr.{Addr}
 use Rattle.pfs_addr_values.specs.declared.addresses.Addr.TheVariants.{V4}
@@ -54,7 +54,7 @@ flagged syn ack =
     record { fin = false; syn = syn; rst = false; psh = false; ack = ack; urg = false; ece = false; cwr = false }
 
 -- a packet of a source and port to a server
-abbrev udp : Addr → ℕ → Header
+abbrev udp : Addr → ℕ → PacketView
 udp source port = record {
   dir = In;
   ifname = [];
@@ -65,7 +65,7 @@ udp source port = record {
 }
 
 -- the three packets of a handshake
-abbrev syn : Addr → ℕ → Header
+abbrev syn : Addr → ℕ → PacketView
 syn source port = record {
   dir = In;
   ifname = [];
@@ -75,10 +75,10 @@ syn source port = record {
   flags = flagged true false;
 }
 
-abbrev ack : Addr → ℕ → Header
+abbrev ack : Addr → ℕ → PacketView
 ack source port = record (syn source port) { flags = flagged false true }
 
-abbrev syn_ack : Addr → ℕ → Header
+abbrev syn_ack : Addr → ℕ → PacketView
 syn_ack source port = record {
   dir = Out;
   ifname = [];
@@ -89,11 +89,11 @@ syn_ack source port = record {
 }
 
 -- the world after a packet that makes a state, or is refused
-abbrev after_new : Conf → World → Header → ℕ → World
+abbrev after_new : Conf → World → PacketView → ℕ → World
 after_new conf w p now = world_at conf w p 0 now (packet_limit conf w p 0)
 
 -- the world after a packet of a state
-abbrev after_more : Conf → World → Header → ℕ → World
+abbrev after_more : Conf → World → PacketView → ℕ → World
 after_more conf w p now = world_touched conf w p now (state_with (key_of p) w)
 
 -- ---- at most two states of a source

@@ -1,7 +1,7 @@
 -- The limits that a new state meets, and the world with it. (pf.conf(5), OPTIONS, "set limit", and STATEFUL TRACKING OPTIONS;
 -- the order of the limits is own)
 use Rattle.std.specs.Prelude.{ℕ, ◌+◌, ◌&&◌, not, nat_le, Bool, false, if◌then◌else◌, Option, Some, None, List, [], ◌∷◌, ◌++◌, length}
-use Rattle.pfs_addr_values.specs.Packets.{Header}
+use Rattle.pfs_addr_values.specs.Packets.{PacketView}
 use Rattle.pfs_addr_values.specs.Keys.{key_of}
 use Rattle.pfs_addr_values.specs.declared.addresses.Addr.{Addr}
 use Rattle.pfs_conf_values.specs.Configs.{Conf, limit_of, options_of}
@@ -45,7 +45,7 @@ limit_met conf w rule source =
 -- ---- a new state
 
 -- the state that a packet makes
-abbrev pub new_state : ℕ → Header → ℕ → ℕ → State
+abbrev pub new_state : ℕ → PacketView → ℕ → ℕ → State
 new_state number p rule now = record {
   number = number;
   key = key_of p;
@@ -65,7 +65,7 @@ nodes_with nodes number source None = nodes
 nodes_with nodes number source (Some scope) = if has_node scope source nodes then nodes else nodes ++ new_node number scope source ∷ []
 
 -- the world with one state more: numbers count from 1 and are never used again
-abbrev pub world_after_admission : Conf → World → Header → ℕ → ℕ → World
+abbrev pub world_after_admission : Conf → World → PacketView → ℕ → ℕ → World
 world_after_admission conf w p rule now = record w {
   states = w.states ++ new_state (w.made + 1) p rule now ∷ [];
   nodes = nodes_with w.nodes (w.made + 1) p.source.addr (node_scope_of conf rule);

@@ -1,6 +1,6 @@
 -- What the calls of a store answer and leave, by the definitions of the machine.
 use Rattle.std.specs.Prelude.{ℕ, ◌+◌, ◌-◌, ◌==◌, not, Bool, Option, Some, None, List, length, filter, take, Result, Ok, Err}
-use Rattle.pfs_addr_values.specs.Packets.{Header}
+use Rattle.pfs_addr_values.specs.Packets.{PacketView}
 use Rattle.pfs_addr_values.specs.declared.addresses.Addr.{Addr}
 use Rattle.pfs_conf_values.specs.Configs.{Conf}
 use Rattle.pfs_conf_values.specs.declared.items.RuleNo.{RuleNo}
@@ -27,7 +27,7 @@ state_rule s = s.rule
 -- ---- a new state
 
 -- the limit that a packet meets at a rule
-abbrev pub packet_limit : Conf → World → Header → ℕ → Option Limit
+abbrev pub packet_limit : Conf → World → PacketView → ℕ → Option Limit
 packet_limit conf w p rule = limit_met conf w rule p.source.addr
 
 -- where this limit is met, or none
@@ -36,18 +36,18 @@ answer_at w None = Ok (record { 0 = w.made + 1 })
 answer_at w (Some l) = Err l
 
 -- a refusal changes nothing
-abbrev pub world_at : Conf → World → Header → ℕ → ℕ → Option Limit → World
+abbrev pub world_at : Conf → World → PacketView → ℕ → ℕ → Option Limit → World
 world_at conf w p rule now None = world_after_admission conf w p rule now
 world_at conf w p rule now (Some l) = w
 
 -- ---- a packet of the state that has its key
 
-abbrev pub world_touched : Conf → World → Header → ℕ → Option State → World
+abbrev pub world_touched : Conf → World → PacketView → ℕ → Option State → World
 world_touched conf w p now None = w
 world_touched conf w p now (Some s) = world_after_touch conf w s p now
 
 -- the rule, the source, whether the handshake completed, and the connections and the score after it
-abbrev pub touch_of : Conf → World → Header → ℕ → State → Touched
+abbrev pub touch_of : Conf → World → PacketView → ℕ → State → Touched
 touch_of conf w p now s = record {
   rule = s.rule;
   source = s.source;

@@ -2,7 +2,7 @@
 -- score. (pf.conf(5), STATEFUL TRACKING OPTIONS; the table of phases and the score are own)
 use Rattle.std.specs.Prelude.{ℕ, ◌==◌, Bool, true, false, if◌then◌else◌, Option, Some, None, List, map, option_map, unwrap_or}
 use Rattle.std.specs.List.{find}
-use Rattle.pfs_addr_values.specs.Packets.{Header}
+use Rattle.pfs_addr_values.specs.Packets.{PacketView}
 use Rattle.pfs_addr_values.specs.declared.addresses.Addr.{Addr}
 use Rattle.pfs_addr_values.specs.contracts.packets.DirPartialEq.TheImpl as dir_eq
 use Rattle.pfs_conf_values.specs.Configs.{Conf, options_of}
@@ -17,19 +17,19 @@ use Rattle.pfs_store_contract.specs.declared.records.NodeScope.{NodeScope}
 use Rattle.pfs_store_contract.specs.declared.records.State.{State}
 
 -- a packet goes forward when its direction is that of the packet that made the state
-abbrev pub goes_forward : Header → State → Bool
+abbrev pub goes_forward : PacketView → State → Bool
 goes_forward p s = (dir_eq.ghosts).eq p.dir s.dir
 
 -- a packet completes the handshake of a state
-abbrev pub completes_at : Header → State → Bool
+abbrev pub completes_at : PacketView → State → Bool
 completes_at p s = completes s.phase (goes_forward p s) p.flags
 
 -- the state after its packet
-abbrev pub state_after_packet : Header → ℕ → State → State
+abbrev pub state_after_packet : PacketView → ℕ → State → State
 state_after_packet p now s = record s { phase = phase_after s.phase (goes_forward p s) p.flags; last = now }
 
 -- the state of a number after its packet
-abbrev pub numbered_state_after : ℕ → Header → ℕ → State → State
+abbrev pub numbered_state_after : ℕ → PacketView → ℕ → State → State
 numbered_state_after number p now s = if s.number == number then state_after_packet p now s else s
 
 -- ---- scores
@@ -56,7 +56,7 @@ nodes_touched conf nodes s now true = nodes_scored nodes s.source now (node_scop
 nodes_touched conf nodes s now false = nodes
 
 -- the phase and the last moment of the state are renewed, and its node's score
-abbrev pub world_after_touch : Conf → World → State → Header → ℕ → World
+abbrev pub world_after_touch : Conf → World → State → PacketView → ℕ → World
 world_after_touch conf w s p now = record w {
   states = map (numbered_state_after s.number p now) w.states;
   nodes = nodes_touched conf w.nodes s now (completes_at p s);

@@ -7,7 +7,7 @@ use Rattle.std.proofs.lemmas.Grind.{get_or-set_at}
 use Rattle.std.proofs.lemmas.Map.Keys.{IsDistinct-head, IsDistinct-tail, IsDistinct-cons}
 use Rattle.pfs_addr_values.proofs.SameLaws.{same_addr_self, same_addr_true, same_key_true}
 use Rattle.pfs_addr_values.specs.Keys.{first_end, second_end}
-use Rattle.pfs_addr_values.specs.Packets.{Header, run_limit}
+use Rattle.pfs_addr_values.specs.Packets.{PacketView, run_limit}
 use Rattle.pfs_addr_values.specs.Sameness.{same_key}
 use Rattle.pfs_addr_values.specs.declared.addresses.Addr.{Addr}
 use Rattle.pfs_addr_values.specs.declared.packets.Dir.{Dir}
@@ -363,6 +363,6 @@ few-counted conf xs t l h =
 -- ---- the source of a state that a packet makes
 
 -- the source of a packet is the end of its key from which packets of its direction come
-pub key-sourced : (d : Dir) (p : Header) → p.source.addr ≡ source_at d (record { proto = p.proto; a = first_end d p; b = second_end d p })
+pub key-sourced : (d : Dir) (p : PacketView) → p.source.addr ≡ source_at d (record { proto = p.proto; a = first_end d p; b = second_end d p })
 key-sourced In p = refl
 key-sourced Out p = refl

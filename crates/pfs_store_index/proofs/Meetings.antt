@@ -2,7 +2,7 @@
 use Rattle.std.proofs.Common.{◌≡◌, ◌∙◌, ◌+◌, ◌==◌, ◌&&◌, ◌||◌, ℕ, Bool, true, false, cond, if◌then◌else◌, Option, Some, None, List, [], ◌∷◌, length, map, filter, option_map, refl, ap, sym, subst, arith}
 use Rattle.std.specs.List.{find, list_any, AllByRecursion}
 use Rattle.std.proofs.lemmas.Bool.Decides.{nat_tests}
-use Rattle.pfs_addr_values.specs.Packets.{Header}
+use Rattle.pfs_addr_values.specs.Packets.{PacketView}
 use Rattle.pfs_addr_values.specs.declared.addresses.Addr.{Addr}
 use Rattle.pfs_addr_values.specs.declared.packets.FlowKey.{FlowKey}
 use Rattle.pfs_conf_values.specs.Configs.{Conf, options_of}
@@ -25,21 +25,21 @@ use Rattle.pfs_store_records.proofs.TallyLaws.{met-faithful}
 
 -- ---- what a packet leaves as it was
 
-abbrev pub IsBlind : {X : Type 0} → ℕ → Header → ℕ → (State → X) → Type 0
+abbrev pub IsBlind : {X : Type 0} → ℕ → PacketView → ℕ → (State → X) → Type 0
 IsBlind n p now f = (s : State) → f (numbered_state_after n p now s) ≡ f s
 
-pub blind : {X : Type 0} (n : ℕ) (p : Header) (now : ℕ) (f : State → X) → ((s : State) → f (state_after_packet p now s) ≡ f s) → IsBlind n p now f
+pub blind : {X : Type 0} (n : ℕ) (p : PacketView) (now : ℕ) (f : State → X) → ((s : State) → f (state_after_packet p now s) ≡ f s) → IsBlind n p now f
 blind n p now f h s = go (s.number == n)
   where
     go : (b : Bool) → f (if b then state_after_packet p now s else s) ≡ f s
     go true = h s
     go false = refl
 
-pub map-blind : {X : Type 0} (n : ℕ) (p : Header) (now : ℕ) (f : State → X) (xs : List State) → IsBlind n p now f → map f (map (numbered_state_after n p now) xs) ≡ map f xs
+pub map-blind : {X : Type 0} (n : ℕ) (p : PacketView) (now : ℕ) (f : State → X) (xs : List State) → IsBlind n p now f → map f (map (numbered_state_after n p now) xs) ≡ map f xs
 map-blind n p now f [] h = refl
 map-blind n p now f (x ∷ xs) h = (λ i. h x i ∷ map-blind n p now f xs h i)
 
-pub count-blind : (n : ℕ) (p : Header) (now : ℕ) (q : State → Bool) (xs : List State) → IsBlind n p now q → length (filter q (map (numbered_state_after n p now) xs)) ≡ length (filter q xs)
+pub count-blind : (n : ℕ) (p : PacketView) (now : ℕ) (q : State → Bool) (xs : List State) → IsBlind n p now q → length (filter q (map (numbered_state_after n p now) xs)) ≡ length (filter q xs)
 count-blind n p now q [] h = refl
 count-blind n p now q (x ∷ xs) h = rw (h x) (go (count-blind n p now q xs h) (q x))
   where
@@ -48,11 +48,11 @@ count-blind n p now q (x ∷ xs) h = rw (h x) (go (count-blind n p now q xs h) (
     go m true = omega (arith, m)
     go m false = m
 
-pub any-blind : (n : ℕ) (p : Header) (now : ℕ) (q : State → Bool) (xs : List State) → IsBlind n p now q → list_any q (map (numbered_state_after n p now) xs) ≡ list_any q xs
+pub any-blind : (n : ℕ) (p : PacketView) (now : ℕ) (q : State → Bool) (xs : List State) → IsBlind n p now q → list_any q (map (numbered_state_after n p now) xs) ≡ list_any q xs
 any-blind n p now q [] h = refl
 any-blind n p now q (x ∷ xs) h = (λ i. h x i || any-blind n p now q xs h i)
 
-pub all-blind : (n : ℕ) (p : Header) (now : ℕ) (P : State → Type 0) (xs : List State) → ((s : State) → P s → P (state_after_packet p now s)) → AllByRecursion P xs → AllByRecursion P (map (numbered_state_after n p now) xs)
+pub all-blind : (n : ℕ) (p : PacketView) (now : ℕ) (P : State → Type 0) (xs : List State) → ((s : State) → P s → P (state_after_packet p now s)) → AllByRecursion P xs → AllByRecursion P (map (numbered_state_after n p now) xs)
 all-blind n p now P [] keep h = tt
 all-blind n p now P (x ∷ xs) keep (h, hs) = (go (x.number == n), all-blind n p now P xs keep hs)
   where
@@ -63,14 +63,14 @@ all-blind n p now P (x ∷ xs) keep (h, hs) = (go (x.number == n), all-blind n p
 -- ---- the record of the state
 
 -- a record after a packet
-abbrev pub renewed_record : ℕ → Header → ℕ → Placed → Placed
+abbrev pub renewed_record : ℕ → PacketView → ℕ → Placed → Placed
 renewed_record n p now r = placed_at r.place (numbered_state_after n p now r.state)
 
-pub states-renewed : (n : ℕ) (p : Header) (now : ℕ) (rs : List Placed) → states_of (map (renewed_record n p now) rs) ≡ map (numbered_state_after n p now) (states_of rs)
+pub states-renewed : (n : ℕ) (p : PacketView) (now : ℕ) (rs : List Placed) → states_of (map (renewed_record n p now) rs) ≡ map (numbered_state_after n p now) (states_of rs)
 states-renewed n p now [] = refl
 states-renewed n p now (r ∷ rs) = ap (λ xs. numbered_state_after n p now r.state ∷ xs) (states-renewed n p now rs)
 
-renew-apart : (n : ℕ) (p : Header) (now : ℕ) (rs : List Placed) → Apart record_number n rs → map (renewed_record n p now) rs ≡ rs
+renew-apart : (n : ℕ) (p : PacketView) (now : ℕ) (rs : List Placed) → Apart record_number n rs → map (renewed_record n p now) rs ≡ rs
 renew-apart n p now [] a = refl
 renew-apart n p now (r ∷ rs) (a, more) = rw a (ap (λ xs. r ∷ xs) (renew-apart n p now rs more))
 
@@ -80,7 +80,7 @@ put-apart n st (r ∷ rs) e (a, more) =
     let a' : (r.state.number == st.number) ≡ false = ap (λ k. r.state.number == k) e ∙ a in
     rw a' (ap (λ xs. r ∷ xs) (put-apart n st rs e more))
 
-pub put-renewed : (n : ℕ) (p : Header) (now : ℕ) (s : Placed) (st : State) (rs : List Placed) → IsRisingBy record_number rs → find (has_number record_number n) rs ≡ Some s
+pub put-renewed : (n : ℕ) (p : PacketView) (now : ℕ) (s : Placed) (st : State) (rs : List Placed) → IsRisingBy record_number rs → find (has_number record_number n) rs ≡ Some s
     → st ≡ numbered_state_after n p now s.state → st.number ≡ n → map (put st) rs ≡ map (renewed_record n p now) rs
 put-renewed n p now s st [] r f e k = refl
 put-renewed n p now s st (x ∷ xs) r f e k = go (put-renewed n p now s st xs (rest-rising record_number x xs r)) (x.state.number == n) refl
@@ -131,7 +131,7 @@ key-number k s (x ∷ xs) r h = go (key-number k s xs (rest-rising record_number
 
 -- ---- the index by key
 
-pub key-renewed : (n : ℕ) (p : Header) (now : ℕ) (k : FlowKey) (rs : List Placed) → option_map entry_of (find (has_key k) (map (renewed_record n p now) rs)) ≡ option_map entry_of (find (has_key k) rs)
+pub key-renewed : (n : ℕ) (p : PacketView) (now : ℕ) (k : FlowKey) (rs : List Placed) → option_map entry_of (find (has_key k) (map (renewed_record n p now) rs)) ≡ option_map entry_of (find (has_key k) rs)
 key-renewed n p now k [] = refl
 key-renewed n p now k (r ∷ rs) = on (r.state.number == n) (key-renewed n p now k rs)
   where
@@ -146,14 +146,14 @@ key-renewed n p now k (r ∷ rs) = on (r.state.number == n) (key-renewed n p now
     on true m = go (placed_at r.place (state_after_packet p now r.state)) refl (has_key k r) m
     on false m = go r refl (has_key k r) m
 
-pub keys-renewed : (n : ℕ) (p : Header) (now : ℕ) (rs : List Placed) → map key_in (map (renewed_record n p now) rs) ≡ map key_in rs
+pub keys-renewed : (n : ℕ) (p : PacketView) (now : ℕ) (rs : List Placed) → map key_in (map (renewed_record n p now) rs) ≡ map key_in rs
 keys-renewed n p now [] = refl
 keys-renewed n p now (r ∷ rs) = (λ i. blind n p now (λ (s : State). s.key) (λ s. refl) r.state i ∷ keys-renewed n p now rs i)
 
 -- ---- the node of the state
 
 -- a count of states, which only that of the number changes
-count-renewed : (n : ℕ) (p : Header) (now : ℕ) (q : State → Bool) (s : State) (xs : List State) → IsRisingBy state_number xs → find (has_number state_number n) xs ≡ Some s
+count-renewed : (n : ℕ) (p : PacketView) (now : ℕ) (q : State → Bool) (s : State) (xs : List State) → IsRisingBy state_number xs → find (has_number state_number n) xs ≡ Some s
     → length (filter q (map (numbered_state_after n p now) xs)) + cond (q s) 1 0 ≡ length (filter q xs) + cond (q (state_after_packet p now s)) 1 0
 count-renewed n p now q s [] r f = absurd cc
 count-renewed n p now q s (x ∷ xs) r f = go (count-renewed n p now q s xs (rest-rising state_number x xs r)) (x.number == n) refl
@@ -184,7 +184,7 @@ count-renewed n p now q s (x ∷ xs) r f = go (count-renewed n p now q s xs (res
     go more false t = rw t (same (more (rw t at f)) (q x))
 
 -- the handshake of a state has completed after a packet where it had before, or where it completes with it
-abbrev pub CountsDone : State → Header → Type 0
+abbrev pub CountsDone : State → PacketView → Type 0
 CountsDone s p = ◌≡◌ {A = ℕ} (cond (is_done (phase_after s.phase (goes_forward p s) p.flags)) 1 0) (cond (is_done s.phase) 1 0 + cond (completes_at p s) 1 0)
 
 recount : (conf : Conf) (xs : List State) (t u : Tally) → u.node.scope ≡ t.node.scope → u.node.source ≡ t.node.source
@@ -204,7 +204,7 @@ met-connections : (rate : Option Rate) (now : ℕ) (c : Bool) (t : Tally) → (m
 met-connections rate now true t = refl
 met-connections rate now false t = omega arith
 
-counted-met : (conf : Conf) (n : ℕ) (p : Header) (now : ℕ) (rate : Option Rate) (s : State) (xs : List State) (t : Tally) → IsRisingBy state_number xs
+counted-met : (conf : Conf) (n : ℕ) (p : PacketView) (now : ℕ) (rate : Option Rate) (s : State) (xs : List State) (t : Tally) → IsRisingBy state_number xs
     → find (has_number state_number n) xs ≡ Some s → CountsDone s p → IsScoped conf t → IsCounted conf xs t
     → IsCounted conf (map (numbered_state_after n p now) xs) (at_node (node_scope_of conf s.rule.0) s.source (met_by rate now (completes_at p s)) t)
 counted-met conf n p now rate s xs t r f k h e = go (is_at (node_scope_of conf s.rule.0) s.source t) refl
@@ -253,7 +253,7 @@ counted-met conf n p now rate s xs t r f k h e = go (is_at (node_scope_of conf s
         subst (IsCounted conf (map (numbered_state_after n p now) xs)) (sym w)
         (recount conf (map (numbered_state_after n p now) xs) t t refl refl (es ∙ sym c) m)
 
-pub all-met : (conf : Conf) (n : ℕ) (p : Header) (now : ℕ) (rate : Option Rate) (s : State) (xs : List State) (ts : List Tally) → IsRisingBy state_number xs
+pub all-met : (conf : Conf) (n : ℕ) (p : PacketView) (now : ℕ) (rate : Option Rate) (s : State) (xs : List State) (ts : List Tally) → IsRisingBy state_number xs
     → find (has_number state_number n) xs ≡ Some s → CountsDone s p → AllByRecursion (IsScoped conf) ts → AllByRecursion (IsCounted conf xs) ts
     → AllByRecursion (IsCounted conf (map (numbered_state_after n p now) xs)) (map (at_node (node_scope_of conf s.rule.0) s.source (met_by rate now (completes_at p s))) ts)
 all-met conf n p now rate s xs [] r f k g h = tt
@@ -270,7 +270,7 @@ scored-met o a rate now c (t ∷ ts) (h, hs) = (go (is_at o a t) rate c, scored-
     go true rate false = h
     go false rate c = h
 
-pub noded-met : (conf : Conf) (n : ℕ) (p : Header) (now : ℕ) (o : Option NodeScope) (a : Addr) (rate : Option Rate) (c : Bool) (xs : List State) (ts : List Tally)
+pub noded-met : (conf : Conf) (n : ℕ) (p : PacketView) (now : ℕ) (o : Option NodeScope) (a : Addr) (rate : Option Rate) (c : Bool) (xs : List State) (ts : List Tally)
     → AllByRecursion (HasTally conf ts) xs → AllByRecursion (HasTally conf (map (at_node o a (met_by rate now c)) ts)) (map (numbered_state_after n p now) xs)
 noded-met conf n p now o a rate c xs ts h =
     all-blind n p now (HasTally conf (map (at_node o a (met_by rate now c)) ts)) xs (λ s k. k) (each xs h)

@@ -2,7 +2,7 @@
 use Rattle.std.proofs.Common.{◌≡◌, ◌∙◌, ◌+◌, ◌==◌, ◌||◌, ℕ, Bool, true, false, cond, if◌then◌else◌, Option, Some, None, is_some, unwrap_or, List, map, option_map, refl, ap, sym, subst, arith}
 use Rattle.std.specs.List.{find, list_any, AllByRecursion}
 use Rattle.std.proofs.lemmas.Bool.Decides.{nat_tests}
-use Rattle.pfs_addr_values.specs.Packets.{Header}
+use Rattle.pfs_addr_values.specs.Packets.{PacketView}
 use Rattle.pfs_addr_values.specs.Sameness.{same_key}
 use Rattle.pfs_addr_values.specs.declared.addresses.Addr.{Addr}
 use Rattle.pfs_addr_values.specs.declared.packets.FlowKey.{FlowKey}
@@ -75,10 +75,10 @@ number-found k e s rs h q r =
     subst (λ (x : State). find (has_number record_number x.number) rs ≡ Some h.record_of) q (key-number k h.record_of rs (rising-records rs r) h.found) in
     find-part (λ (p : Placed). p.state) (has_number state_number s.number) rs ∙ ap (option_map (λ (p : Placed). p.state)) f ∙ ap Some q
 
-renewed-self : (p : Header) (now : ℕ) (s : State) → numbered_state_after s.number p now s ≡ state_after_packet p now s
+renewed-self : (p : PacketView) (now : ℕ) (s : State) → numbered_state_after s.number p now s ≡ state_after_packet p now s
 renewed-self p now s = ap (λ (b : Bool). if b then state_after_packet p now s else s) (same_self s.number)
 
-pub written : (k : FlowKey) (e : Entry) (p : Header) (now : ℕ) (s after : State) (rs : List Placed) (h : IsEntryOf k e rs) → h.record_of.state ≡ s → IsRising (state_numbers (states_of rs))
+pub written : (k : FlowKey) (e : Entry) (p : PacketView) (now : ℕ) (s after : State) (rs : List Placed) (h : IsEntryOf k e rs) → h.record_of.state ≡ s → IsRising (state_numbers (states_of rs))
     → after ≡ state_after_packet p now s → map (put after) rs ≡ map (renewed_record s.number p now) rs
 written k e p now s after rs h q r a =
     let f : find (has_number record_number s.number) rs ≡ Some h.record_of =
@@ -93,7 +93,7 @@ done_more true false h = refl
 done_more false true h = refl
 done_more false false h = refl
 
-pub counts-done : (s : State) (p : Header) → CountsDone s p
+pub counts-done : (s : State) (p : PacketView) → CountsDone s p
 counts-done s p = go s.phase
   where
     go : (ph : StatePhase) → ◌≡◌ {A = ℕ} (cond (is_done (phase_after ph (goes_forward p s) p.flags)) 1 0) (cond (is_done ph) 1 0 + cond (completes ph (goes_forward p s) p.flags) 1 0)

@@ -3,7 +3,7 @@ use Rattle.std.proofs.Common.{◌≡◌, ◌∙◌, ◌+◌, ◌-◌, ◌<◌, �
 use Rattle.std.specs.List.{AllByRecursion}
 use Rattle.std.proofs.lemmas.Bool.Decides.{nat_tests}
 use Rattle.std.proofs.lemmas.Option.{slice_get_past}
-use Rattle.pfs_addr_values.specs.Packets.{Header, run_limit}
+use Rattle.pfs_addr_values.specs.Packets.{PacketView, run_limit}
 use Rattle.pfs_addr_values.specs.declared.addresses.Addr.{Addr}
 use Rattle.pfs_conf_values.specs.Configs.{Conf}
 use Rattle.pfs_conf_values.specs.declared.actions.Rate.{Rate}
@@ -60,7 +60,7 @@ numbers-idled conf before after now (n ∷ ns) = (λ i. go (nat_lt 0 (node_state
     go true = refl
     go false = refl
 
-pub numbers-renewed : (n : ℕ) (p : Header) (now : ℕ) (xs : List State) → state_numbers (map (numbered_state_after n p now) xs) ≡ state_numbers xs
+pub numbers-renewed : (n : ℕ) (p : PacketView) (now : ℕ) (xs : List State) → state_numbers (map (numbered_state_after n p now) xs) ≡ state_numbers xs
 numbers-renewed n p now xs = map-blind n p now (λ (s : State). s.number) xs (blind n p now (λ (s : State). s.number) (λ s. refl))
 
 numbers-scored : (ns : List Node) (a : Addr) (now : ℕ) (sc : Option NodeScope) (rate : Option Rate) → node_numbers (nodes_scored ns a now sc rate) ≡ node_numbers ns
@@ -211,7 +211,7 @@ stored-nodes p h h' c m c' m' c2 m2 made places g e f i l k = record {
 
 -- ---- a packet of a state
 
-pub world-touched : (s : State) (p : Header) (now : ℕ) (h h' : Holding) (c m c' m' made : ℕ) → h'.states ≡ map (numbered_state_after s.number p now) h.states
+pub world-touched : (s : State) (p : PacketView) (now : ℕ) (h h' : Holding) (c m c' m' made : ℕ) → h'.states ≡ map (numbered_state_after s.number p now) h.states
     → h'.nodes ≡ nodes_touched h.config h.nodes s now (completes_at p s) → world_of h' c m c' m' made ≡ world_after_touch h.config (world_of h c m c' m' made) s p now
 world-touched s p now h h' c m c' m' made e f =
     (λ i. lists (e i) (f i) ((ap (λ xs. waiting c m (state_numbers xs)) e ∙ ap (waiting c m) (numbers-renewed s.number p now h.states)) i)
@@ -221,7 +221,7 @@ world-touched s p now h h' c m c' m' made e f =
     same true = numbers-scored h.nodes s.source now (node_scope_of h.config s.rule.0) _
     same false = refl
 
-pub stored-touched : (s : State) (p : Header) (now : ℕ) (h h' : Holding) (c m c' m' made places : ℕ) → h'.config ≡ h.config → h'.states ≡ map (numbered_state_after s.number p now) h.states
+pub stored-touched : (s : State) (p : PacketView) (now : ℕ) (h h' : Holding) (c m c' m' made places : ℕ) → h'.config ≡ h.config → h'.states ≡ map (numbered_state_after s.number p now) h.states
     → h'.nodes ≡ nodes_touched h.config h.nodes s now (completes_at p s) → IsStored h c m c' m' made places → IsStored h' c m c' m' made places
 stored-touched s p now h h' c m c' m' made places g e f i = record {
   order = i.order;

@@ -6,7 +6,7 @@ use Rattle.std.specs.BTreeSet.{BTreeSet}
 use Rattle.std.specs.HashMap as hash
 use Rattle.std.specs.HashMap.{HashMap}
 use Rattle.std.specs.List.{find, list_any, AllByRecursion, IsDistinct}
-use Rattle.pfs_addr_values.specs.Packets.{Header}
+use Rattle.pfs_addr_values.specs.Packets.{PacketView}
 use Rattle.pfs_addr_values.specs.Sameness.{same_key}
 use Rattle.pfs_addr_values.specs.declared.addresses.Addr.{Addr}
 use Rattle.pfs_addr_values.specs.declared.packets.FlowKey.{FlowKey}
@@ -93,7 +93,7 @@ module _ {S : Type 0} (conf : Conf) (rs : List Placed) (keys : HashMap FlowKey E
             ∙ ap (list_any (is_pair a n)) (sym at);
       }
 
-  pub tied-met : (n : ℕ) (p : Header) (now : ℕ) (s : State) → IsTied conf rs keys counts ts pairs → IsRising (state_numbers (states_of rs))
+  pub tied-met : (n : ℕ) (p : PacketView) (now : ℕ) (s : State) → IsTied conf rs keys counts ts pairs → IsRising (state_numbers (states_of rs))
       → find (has_number state_number n) (states_of rs) ≡ Some s → CountsDone s p
       → IsTied conf (map (renewed_record n p now) rs) keys counts
       (map (at_node (node_scope_of conf s.rule.0) s.source (met_by (options_of conf s.rule.0).max_src_conn_rate now (completes_at p s))) ts) pairs

@@ -1,7 +1,7 @@
 //! The calls of the program: replays, what is reported of rules, and the words of the command line.
 
 ghost use Rattle.std.specs.Prelude.{IfOk};
-ghost use Rattle.pfs_cli_streams.specs.Sinks.{OwesNoFlush};
+ghost use Rattle.pfs_streams.specs.Sinks.{OwesNoFlush};
 
 use crate::rules_texts::{FULL, NODES, OVERLOAD};
 use crate::telling::{Stop, begin, begin_free, end, plain, refused, wrong};

@@ -6,7 +6,7 @@ use Rattle.std.proofs.lemmas.Map.Entries.{option_filter}
 use Rattle.std.specs.List.{position_or_len}
 use Rattle.std.proofs.lemmas.Bool.Decides.{nat_tests}
 use Rattle.pfs_addr_values.specs.Numbers.{number_of}
-use Rattle.pfs_addr_values.specs.Packets.{Header}
+use Rattle.pfs_addr_values.specs.Packets.{PacketView}
 use Rattle.pfs_conf_values.specs.Configs.{Conf, has_name, is_const_table, table_named}
 use Rattle.pfs_conf_values.specs.declared.filters.TableNo.{TableNo}
 use Rattle.pfs_engine_machine.specs.Machine.{Machine, step}
@@ -80,7 +80,7 @@ change-may conf done name w e = by (changing conf (table_named conf name)) refl 
         subst (MayCome conf) same (changing-may conf (table_named conf name) t (named-known conf name) at)
 
 -- a packet, and a record that is skipped, may come
-arrived-may : (conf : Conf) (packet : Option Header) → MayCome conf (option_map_or arrival.Packet packet arrival.Skip)
+arrived-may : (conf : Conf) (packet : Option PacketView) → MayCome conf (option_map_or arrival.Packet packet arrival.Skip)
 arrived-may conf None = tt
 arrived-may conf (Some p) = tt
 
@@ -112,7 +112,7 @@ moment-read conf row last time o e may q = by (falls last time) refl q
 arrival-read : (conf : Conf) (row : ℕ) (last : Option ℕ) (time : ℕ) (fields : List (List ℕ)) (e : Event) → arrival_at row last time fields ≡ Ok e → IsRead conf last time e
 arrival-read conf row last time fields e q = by (packet_at row fields) q
   where
-    by : (r : Result (Option Header) TraceFault) → and_then r (λ packet. at_moment row last time (Some (option_map_or arrival.Packet packet arrival.Skip))) ≡ Ok e → IsRead conf last time e
+    by : (r : Result (Option PacketView) TraceFault) → and_then r (λ packet. at_moment row last time (Some (option_map_or arrival.Packet packet arrival.Skip))) ≡ Ok e → IsRead conf last time e
     by (Err f) h = cc
     by (Ok o) h =
         let comes : Arrival = option_map_or arrival.Packet o arrival.Skip in

@@ -10,7 +10,7 @@ use Rattle.pfs_addr_values.specs.FlagSets.{flags_of}
 use Rattle.pfs_addr.specs.Texts.{addr_of, prefix_of}
 use Rattle.pfs_addr_values.specs.Prefixes.{Network}
 use Rattle.pfs_eval.specs.declared.entries.TableEntry.{TableEntry}
-use Rattle.pfs_addr_values.specs.Packets.{Header}
+use Rattle.pfs_addr_values.specs.Packets.{PacketView}
 use Rattle.pfs_addr_values.specs.Protocols.{proto_in, has_ports, is_icmp}
 use Rattle.pfs_addr_values.specs.declared.flag_sets.Flags.{Flags}
 use Rattle.pfs_addr_values.specs.declared.packets.Dir.{Dir}
@@ -71,7 +71,7 @@ ends_at row proto fields =
     Ok (record { addr = src; port = sport }, record { addr = dst; port = dport })))))
 
 -- a packet, or none where a record is skipped: of ICMP a trace does not say enough
-abbrev pub packet_at : ℕ → List (List ℕ) → Result (Option Header) TraceFault
+abbrev pub packet_at : ℕ → List (List ℕ) → Result (Option PacketView) TraceFault
 packet_at row fields =
     in_column row 2 (dir_of (column_of fields 2)) (λ dir.
     in_column row 3 (name_of 15 (column_of fields 3)) (λ ifname.

@@ -8,7 +8,7 @@ use Rattle.pfs_addr_values.specs.declared.flag_sets.Flags.{Flags}
 use Rattle.pfs_addr_values.specs.declared.packets.Dir.{Dir}
 use Rattle.pfs_addr_values.specs.declared.packets.Dir.TheVariants.{In, Out}
 use Rattle.pfs_addr_values.specs.declared.packets.Endpoint.{Endpoint}
-use Rattle.pfs_addr_values.specs.Packets.{Header}
+use Rattle.pfs_addr_values.specs.Packets.{PacketView}
 use Rattle.pfs_addr_values.specs.Protocols.{has_ports, is_icmp}
 use Rattle.pfs_addr_values.specs.declared.protocols.Proto.{Proto}
 use Rattle.pfs_addr_values.specs.declared.protocols.Proto.TheVariants.{Tcp, Udp, Other}
@@ -23,7 +23,7 @@ CanSay Tcp from to flags = (from ≤ 65535) × (to ≤ 65535)
 CanSay Udp from to flags = (from ≤ 65535) × (to ≤ 65535) × (flags_of [] ≡ Some flags)
 CanSay (Other n) from to flags = (n < 256) × (n ≢ 6) × (n ≢ 17) × (from ≡ 0) × (to ≡ 0) × (flags_of [] ≡ Some flags)
 
-abbrev pub IsSaid : Header → Type 0
+abbrev pub IsSaid : PacketView → Type 0
 IsSaid packet = CanSay packet.proto packet.source.port packet.destination.port packet.flags
 
 -- ---- the text

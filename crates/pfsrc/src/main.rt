@@ -2,7 +2,7 @@
 //! fault's status.
 #![tactic(auto)]
 
-ghost use Rattle.pfs_cli_streams.specs.Sinks.{OwesNoFlush};
+ghost use Rattle.pfs_streams.specs.Sinks.{OwesNoFlush};
 
 use clap::Error;
 use clap::error::ErrorKind;

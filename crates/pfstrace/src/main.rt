@@ -5,7 +5,7 @@
 
 ghost use Rattle.std.specs.Prelude.{◌≡◌, IfOk, true};
 ghost use Rattle.pfs_addr_values.specs.Names.{is_name};
-ghost use Rattle.pfs_cli_streams.specs.Sinks.{OwesNoFlush};
+ghost use Rattle.pfs_streams.specs.Sinks.{OwesNoFlush};
 
 use clap::error::ErrorKind;
 use clap::{Arg, ArgAction, ArgMatches, Command, Error};

@@ -4,7 +4,7 @@ use super::fakes::{Endless, Halting, narrow_writer};
 use super::reports::trace_of;
 use super::runs::{replayed, replayed_joined};
 use pfs_cli::{Job, Kind, LoadFault, ReplayFault, perform, replay};
-use pfs_cli_streams::{Feed, Sink};
+use pfs_streams::{Feed, Sink};
 use pfs_tests_cases::{HEADER, same};
 use std::alloc::AllocGlobal;
 use std::io::Read;

@@ -1,7 +1,7 @@
 //! Checks, canonical texts and jobs over readers and writers in memory.
 
 use pfs_cli::{Job, Kind, LoadFault, ReplayFault, check, perform, print};
-use pfs_cli_streams::{Feed, Sink};
+use pfs_streams::{Feed, Sink};
 use pfs_tests_cases::{EVERYTHING, SHOWN, same};
 use std::process::Abort;
 use std::test::Fail;

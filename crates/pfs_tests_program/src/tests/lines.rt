@@ -4,7 +4,7 @@ use super::failing::{RECORDS, REPORT, RULES, lines_len};
 use super::fakes::{Pieces, Shown, shown_writer};
 use super::reports::trace_of;
 use pfs_cli::{ReplayFault, replay, replay_joined};
-use pfs_cli_streams::{Feed, Sink};
+use pfs_streams::{Feed, Sink};
 use pfs_tests_cases::same;
 use std::alloc::{AllocGlobal, Global};
 use std::process::Abort;

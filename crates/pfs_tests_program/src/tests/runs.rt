@@ -1,9 +1,9 @@
 //! Replays over any readers and writer, and over texts in memory.
 
 use pfs_cli::{ReplayFault, Stop, replay, replay_joined, write_report_over};
-use pfs_cli_streams::{Feed, Sink};
 use pfs_conf::load;
 use pfs_store::{IndexStore, PlainStore};
+use pfs_streams::{Feed, Sink};
 use pfs_tests_cases::same;
 use pfs_trace::TraceFault;
 use std::alloc::{AllocGlobal, Global};

@@ -1,7 +1,7 @@
 //! Bounded readers, and writers whose failures are counted.
 
 use super::fakes::{Halting, Narrow, narrow_writer};
-use pfs_cli_streams::{Feed, Sink, write_whole};
+use pfs_streams::{Feed, Sink, write_whole};
 use pfs_tests_cases::{holds, same};
 use std::alloc::Global;
 use std::io::{ErrorKind, Read, Write};

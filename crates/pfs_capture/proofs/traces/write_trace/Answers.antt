@@ -5,7 +5,7 @@ use Rattle.pfs_capture.specs.Accounts.{no_frames}
 use Rattle.pfs_capture_files.specs.Forms.{start_of}
 use Rattle.pfs_capture.specs.Traces.{capture_run}
 use Rattle.pfs_capture.specs.declared.faults.TraceStop.TheVariants as stop
-use Rattle.pfs_cli_streams.specs.Feeds.{unread}
+use Rattle.pfs_streams.specs.Feeds.{unread}
 use Rattle.pfs_capture.proofs.Running.{captured-none, captured-run, kept-ok, counted, ends-end, ends-frame, ends-headers, ends-many, ends-read, ends-send, headers, sends-these, so_far-frame, so_far-other, so_far-start}
 use Rattle.pfs_capture.proofs.traces.write_trace.Goals as goal
 

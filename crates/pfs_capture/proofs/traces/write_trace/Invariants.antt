@@ -1,8 +1,8 @@
 -- Invariant of write_trace: there is one frame for each turn at most, the account adds up, nothing has failed, and what is written is that
 -- of the frames so far.
 use Rattle.std.proofs.Common.{◌≡◌, ◌≤◌, ℕ, List, Some}
-use Rattle.pfs_cli_streams.specs.Feeds.{read_failures, unread}
-use Rattle.pfs_cli_streams.specs.Sinks.{bytes_held, write_failures}
+use Rattle.pfs_streams.specs.Feeds.{read_failures, unread}
+use Rattle.pfs_streams.specs.Sinks.{bytes_held, write_failures}
 use Rattle.pfs_capture.specs.Accounts.{AddsUp}
 use Rattle.pfs_capture.specs.Traces.{capture_run}
 use Rattle.pfs_capture.proofs.Running.{SoFar}

@@ -2,7 +2,7 @@
 -- room that it had.
 use Rattle.std.proofs.Common.{◌≡◌, ◌≤◌, ◌-◌, ◌++◌, ℕ, List, Some, length}
 use Rattle.std.specs.Vec.{vec_capacity}
-use Rattle.pfs_cli_streams.specs.Feeds.{read_failures, unread}
+use Rattle.pfs_streams.specs.Feeds.{read_failures, unread}
 use Rattle.pfs_capture_files.proofs.filling.fill_by.Given as goal
 
 abbrev pub invariant-chunks : goal.invariant-chunks

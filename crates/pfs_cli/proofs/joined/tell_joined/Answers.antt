@@ -3,7 +3,7 @@
 use Rattle.std.proofs.Common.{◌≡◌, Some, ℕ, List, [], Option, refl}
 use Rattle.std.specs.Io.Buffered.{reader_remaining, reader_buffer, reader_inner, reader_capacity}
 use Rattle.std.specs.declared.io.buffered.BufReader.{BufReader}
-use Rattle.pfs_cli_streams.specs.Joined.{split_joined}
+use Rattle.pfs_streams.specs.Joined.{split_joined}
 use Rattle.pfs_cli.proofs.Replaying.{kept-reads, kept-refuses, refuses-halt}
 use Rattle.pfs_cli.proofs.joined.tell_joined.Goals as goal
 

@@ -5,7 +5,7 @@ use Rattle.csv.specs.Records.{fields_of}
 use Rattle.pfs_addr_values.specs.Packets.{run_limit}
 use Rattle.pfs_trace.specs.Reading.{records_left}
 use Rattle.pfs_trace.specs.Traces.{events_from}
-use Rattle.pfs_cli_streams.specs.Sinks.{bytes_held}
+use Rattle.pfs_streams.specs.Sinks.{bytes_held}
 use Rattle.pfs_cli.specs.Turns.{WritesLine}
 use Rattle.pfs_cli.specs.declared.records.Stop.{Stop}
 use Rattle.pfs_cli.proofs.Telling.{EndsRows, so_far-start, so_far-more, ends-source, ends-end, ends-limit, ends-record, TakesRecord-rules}

@@ -1,5 +1,5 @@
 -- Invariant of tell_rows: the lines written and the machine are those of the records read so far, and by lines none is to be flushed.
-use Rattle.pfs_cli_streams.specs.Sinks.{bytes_held}
+use Rattle.pfs_streams.specs.Sinks.{bytes_held}
 use Rattle.pfs_cli.proofs.Telling.{Running}
 use Rattle.pfs_cli.proofs.records.tell_rows.Given as goal
 

@@ -1,8 +1,8 @@
 //! The bytes of a rules text that has a reader of its own.
 
 ghost use Rattle.std.specs.Prelude.{◌≡◌, ◌⊎◌, Some, Err, ◌<◌, ◌≤◌, ◌+◌, ℕ, List, true, IfOk, length, drop};
-ghost use Rattle.pfs_cli_streams.specs.Feeds.{bound_of, unread, has_ended, read_failures, IsSpent};
-ghost use Rattle.pfs_cli_streams.specs.Kept.{KeepsEnough, rules_limit};
+ghost use Rattle.pfs_streams.specs.Feeds.{bound_of, unread, has_ended, read_failures, IsSpent};
+ghost use Rattle.pfs_streams.specs.Kept.{KeepsEnough, rules_limit};
 
 use crate::feeds::Feed;
 use pfs_conf_tokens::TEXT_LIMIT;

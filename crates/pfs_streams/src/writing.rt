@@ -2,7 +2,7 @@
 
 ghost use Rattle.std.specs.Prelude.{◌≡◌, ◌≤◌, ◌<◌, Some, true, false, OnOk, OnErr, take, length, codes, ℕ};
 ghost use Rattle.std.specs.Io.KnownBytes.{Appends};
-ghost use Rattle.pfs_cli_streams.specs.Sinks.{write_failures, bytes_held, one_more, is_by_lines, is_unflushed, OwesNoFlush};
+ghost use Rattle.pfs_streams.specs.Sinks.{write_failures, bytes_held, one_more, is_by_lines, is_unflushed, OwesNoFlush};
 
 use crate::sinks::Sink;
 use std::io::Write;

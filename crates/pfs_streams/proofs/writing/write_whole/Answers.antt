@@ -1,7 +1,7 @@
 -- Answer of write_whole: a write that took some bytes leaves a front written that is longer by them.
 use Rattle.std.proofs.Common.{rules, arith, ◌≤◌, ◌-◌, length, length-drop, length-take}
-use Rattle.pfs_cli_streams.proofs.Appending.{Appends-taken}
-use Rattle.pfs_cli_streams.proofs.writing.write_whole.Goals as goal
+use Rattle.pfs_streams.proofs.Appending.{Appends-taken}
+use Rattle.pfs_streams.proofs.writing.write_whole.Goals as goal
 
 pub loop-at-preserved : goal.loop-at-preserved
 loop-at-preserved g c =

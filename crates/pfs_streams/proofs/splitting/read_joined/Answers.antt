@@ -1,8 +1,8 @@
 -- Answers of read_joined: the start, and a byte more; rules and trace at the split line and the end, and rules of which no more is kept.
 use Rattle.std.proofs.Common.{rules, arith, refl, sym, ap, ◌≡◌, ◌∙◌, ◌∷◌, [], ◌+◌, ◌++◌, length, length-append, take, slice_index_or}
-use Rattle.pfs_cli_streams.specs.Joined.{split_joined}
-use Rattle.pfs_cli_streams.proofs.Joining.{joins-start, joins-end, joins-more, joins-split, joins-full, joins-past, past-now, one-byte, splits-not, mark-after}
-use Rattle.pfs_cli_streams.proofs.splitting.read_joined.Goals as goal
+use Rattle.pfs_streams.specs.Joined.{split_joined}
+use Rattle.pfs_streams.proofs.Joining.{joins-start, joins-end, joins-more, joins-split, joins-full, joins-past, past-now, one-byte, splits-not, mark-after}
+use Rattle.pfs_streams.proofs.splitting.read_joined.Goals as goal
 
 pub bytes-init : goal.bytes-init
 bytes-init g c =

@@ -1,9 +1,9 @@
 //! The rules of a text that has a trace after them, up to the line between the two.
 
 ghost use Rattle.std.specs.Prelude.{◌≡◌, Some, ◌<◌, ◌≤◌, ◌-◌, ◌^◌, ℕ, List, IfOk, OnOk, length, take};
-ghost use Rattle.pfs_cli_streams.specs.Kept.{KeepsEnough, rules_limit};
-ghost use Rattle.pfs_cli_streams.specs.Joined.{split_joined};
-ghost use Rattle.pfs_cli_streams.specs.Places.{IsPastSplit, ends_split, place_after, place_over, split_at, split_mark};
+ghost use Rattle.pfs_streams.specs.Kept.{KeepsEnough, rules_limit};
+ghost use Rattle.pfs_streams.specs.Joined.{split_joined};
+ghost use Rattle.pfs_streams.specs.Places.{IsPastSplit, ends_split, place_after, place_over, split_at, split_mark};
 
 use crate::rules::RulesStop;
 use pfs_conf_tokens::TEXT_LIMIT;

@@ -1,7 +1,7 @@
 -- Answers of read_on: one chunk more; the split line in a chunk, the end, and where turns run out (`past`).
 use Rattle.std.proofs.Common.{arith, refl, sym, ◌∙◌, ◌<◌, length, length-take, take}
-use Rattle.pfs_cli_streams.proofs.Joining.{on-start, on-more, on-split, on-end, on-count}
-use Rattle.pfs_cli_streams.proofs.splitting.read_on.Goals as goal
+use Rattle.pfs_streams.proofs.Joining.{on-start, on-more, on-split, on-end, on-count}
+use Rattle.pfs_streams.proofs.splitting.read_on.Goals as goal
 
 pub chunks-init : goal.chunks-init
 chunks-init g c = record { so_far = λ xs e. on-start c.args.place xs _ e }

@@ -4,7 +4,7 @@ ghost use Rattle.std.specs.Prelude.{◌≡◌, ◌≢◌, ◌⊎◌, ◌+◌, �
 ghost use Rattle.std.specs.Io.{ReadsAtMost};
 ghost use Rattle.std.specs.Io.KnownBytes.{ReadConsumes};
 ghost use Rattle.std.specs.IoError.{error_kind};
-ghost use Rattle.pfs_cli_streams.specs.Feeds.{FeedView, HasReads, BeganWell, SameReads, unread, unread_behind, reader_of, bound_of, reads_of, read_failures, has_ended, IsSpent, IsFresh, MayRead, IsClosed};
+ghost use Rattle.pfs_streams.specs.Feeds.{FeedView, HasReads, BeganWell, SameReads, unread, unread_behind, reader_of, bound_of, reads_of, read_failures, has_ended, IsSpent, IsFresh, MayRead, IsClosed};
 
 use std::io;
 use std::io::{Error, ErrorKind, Read};

@@ -1,8 +1,8 @@
 -- Invariant of read_joined: what is kept, and the place in the line, are those of the bytes read so far.
 use Rattle.std.proofs.Common.{◌≡◌, ◌≤◌, ◌-◌, ℕ, List, Some, length}
-use Rattle.pfs_cli_streams.specs.Places.{pending}
-use Rattle.pfs_cli_streams.proofs.Joining.{Joins}
-use Rattle.pfs_cli_streams.proofs.splitting.read_joined.Given as goal
+use Rattle.pfs_streams.specs.Places.{pending}
+use Rattle.pfs_streams.proofs.Joining.{Joins}
+use Rattle.pfs_streams.proofs.splitting.read_joined.Given as goal
 
 abbrev pub invariant-bytes : goal.invariant-bytes
 invariant-bytes g l = record {

@@ -1,7 +1,7 @@
 -- Answer of read_rules: also where there was no memory to keep them, few bytes were read (`few`).
 use Rattle.std.proofs.Common.{arith, rules, ◌≤◌, ◌+◌, ℕ, List, length, take, length-take}
-use Rattle.pfs_cli_streams.proofs.Chunks.{left-after}
-use Rattle.pfs_cli_streams.proofs.rules.read_rules.Goals as goal
+use Rattle.pfs_streams.proofs.Chunks.{left-after}
+use Rattle.pfs_streams.proofs.rules.read_rules.Goals as goal
 
 pub returns-then-is_err-clause-few : goal.returns-then-is_err-clause-few
 returns-then-is_err-clause-few g c rs e =

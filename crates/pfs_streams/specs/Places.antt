@@ -1,9 +1,9 @@
 -- Where in a line the reading of a joined text is, and how its bytes are split. (own)
 use Rattle.std.specs.Prelude.{◌≡◌, ◌++◌, ◌==◌, ◌&&◌, ℕ, Bool, true, false, List, [], ◌∷◌, drop, Option, Some, None, if◌then◌else◌}
 use Rattle.std.specs.Io.BufRead.{take_through, drop_through}
-use Rattle.pfs_cli_streams.specs.declared.splitting.Place.{Place}
-use Rattle.pfs_cli_streams.specs.declared.splitting.Place.TheVariants as place
-use Rattle.pfs_cli_streams.specs.Joined.{is_split}
+use Rattle.pfs_streams.specs.declared.splitting.Place.{Place}
+use Rattle.pfs_streams.specs.declared.splitting.Place.TheVariants as place
+use Rattle.pfs_streams.specs.Joined.{is_split}
 
 -- rules and a trace
 abbrev pub Parts : Type 0

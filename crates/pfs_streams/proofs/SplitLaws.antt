@@ -3,8 +3,8 @@ use Rattle.std.proofs.Common.{◌≡◌, ◌++◌, ◌∙◌, ℕ, List, [], ◌
 use Rattle.std.specs.Prelude.{◌==◌, if◌then◌else◌}
 use Rattle.std.specs.List.{after_first, before_first, concat, onto_first, position_or_len}
 use Rattle.std.specs.Io.BufRead.{take_through, drop_through}
-use Rattle.pfs_cli_streams.specs.Joined.{is_split, lines_in, split_joined}
-use Rattle.pfs_cli_streams.specs.Places.{Parts, ahead, split_from}
+use Rattle.pfs_streams.specs.Joined.{is_split, lines_in, split_joined}
+use Rattle.pfs_streams.specs.Places.{Parts, ahead, split_from}
 
 -- what is before the first split line of these lines, and what after it
 abbrev split_lines : List (List ℕ) → Parts

@@ -1,8 +1,8 @@
 -- Invariant of write_whole: the bytes up to the place are written in order, and not flushed, and no write has failed.
 use Rattle.std.proofs.Common.{◌≡◌, ◌≤◌, ◌<◌, ◌-◌, true, take, length}
 use Rattle.std.specs.Io.KnownBytes.{Appends}
-use Rattle.pfs_cli_streams.specs.Sinks.{bytes_held, is_by_lines, is_unflushed, write_failures}
-use Rattle.pfs_cli_streams.proofs.writing.write_whole.Given as goal
+use Rattle.pfs_streams.specs.Sinks.{bytes_held, is_by_lines, is_unflushed, write_failures}
+use Rattle.pfs_streams.proofs.writing.write_whole.Given as goal
 
 abbrev pub invariant-loop-at : goal.invariant-loop-at
 invariant-loop-at g l =

@@ -1,7 +1,7 @@
 -- Invariant of read_rules: the bytes kept, few enough, and those unread are the rules; no read has failed.
 use Rattle.std.proofs.Common.{◌≡◌, ◌≤◌, ◌-◌, ◌++◌, ℕ, List, Some, length}
-use Rattle.pfs_cli_streams.specs.Feeds.{bound_of, unread, read_failures}
-use Rattle.pfs_cli_streams.proofs.rules.read_rules.Given as goal
+use Rattle.pfs_streams.specs.Feeds.{bound_of, unread, read_failures}
+use Rattle.pfs_streams.proofs.rules.read_rules.Given as goal
 
 abbrev pub invariant-chunks : goal.invariant-chunks
 invariant-chunks g l = record {

@@ -3,7 +3,7 @@
 ghost use Rattle.std.specs.Prelude.{◌≡◌, ◌⊎◌, ◌<◌, true, false, length, IfOk, OnOk, OnErr};
 ghost use Rattle.std.specs.Io.{WritesAtMost};
 ghost use Rattle.std.specs.Io.KnownBytes.{WriteAppends, Keeps};
-ghost use Rattle.pfs_cli_streams.specs.Sinks.{SinkView, writer_of, write_failures, bytes_held, one_more, is_by_lines, is_unflushed, OwesNoFlush};
+ghost use Rattle.pfs_streams.specs.Sinks.{SinkView, writer_of, write_failures, bytes_held, one_more, is_by_lines, is_unflushed, OwesNoFlush};
 
 use std::io;
 use std::io::Write;

@@ -5,12 +5,12 @@ use Rattle.std.proofs.lemmas.List.{append-nil}
 use Rattle.std.proofs.lemmas.Bool.{eqb-true, eqb-false}
 use Rattle.std.proofs.Math.Seq.{take-append_seam, drop-append_seam}
 use Rattle.std.specs.Io.KnownBytes.{Consumes, IsAtEnd}
-use Rattle.pfs_cli_streams.specs.declared.splitting.Place.{Place}
-use Rattle.pfs_cli_streams.specs.declared.splitting.Place.TheVariants as place
-use Rattle.pfs_cli_streams.specs.Kept.{KeepsEnough, rules_limit}
-use Rattle.pfs_cli_streams.specs.Joined.{split_joined}
-use Rattle.pfs_cli_streams.proofs.SplitLaws.{split-lines}
-use Rattle.pfs_cli_streams.specs.Places.{Parts, ahead, split_from, IsPastSplit, pending, place_after, place_over, split_at, split_mark, settled_bytes, ends_split}
+use Rattle.pfs_streams.specs.declared.splitting.Place.{Place}
+use Rattle.pfs_streams.specs.declared.splitting.Place.TheVariants as place
+use Rattle.pfs_streams.specs.Kept.{KeepsEnough, rules_limit}
+use Rattle.pfs_streams.specs.Joined.{split_joined}
+use Rattle.pfs_streams.proofs.SplitLaws.{split-lines}
+use Rattle.pfs_streams.specs.Places.{Parts, ahead, split_from, IsPastSplit, pending, place_after, place_over, split_at, split_mark, settled_bytes, ends_split}
 
 pub ahead-ahead : (a b : List ℕ) (p : Parts) → ahead a (ahead b p) ≡ ahead (a ++ b) p
 ahead-ahead a b p = ap (λ (l : List ℕ). (l, p.1)) (sym (append_assoc a b p.0))
