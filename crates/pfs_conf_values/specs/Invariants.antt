@@ -6,8 +6,10 @@ use Rattle.pfs_addr_values.specs.Names.{is_name}
 use Rattle.pfs_addr_values.specs.Prefixes.{IsNetwork}
 use Rattle.pfs_conf_values.specs.Configs.{Conf, entries_in, entry_count_of, is_adaptive, overloads_const, table_names, timeout_of}
 use Rattle.pfs_conf_values.specs.Entries.{TextEntry, same_network}
+use Rattle.pfs_conf_values.specs.Hashing.{hasher_of}
 use Rattle.pfs_conf_values.specs.LoadRules.{IsCount, IsItem}
 use Rattle.pfs_conf_values.specs.Order.{AreNamedOnce, IsPreorder}
+use Rattle.pfs_conf_values.specs.declared.hashing.RulesHasher.{RulesHasher}
 use Rattle.pfs_conf_values.specs.declared.limits.Limits.{Limits}
 use Rattle.pfs_conf_values.specs.declared.tables.TableDef.{TableDef}
 use Rattle.pfs_conf_values.specs.declared.timeouts.TimeoutName.{TimeoutName}
@@ -50,7 +52,8 @@ pub record IsConfig (conf : Conf) : Type 0 where
   pub anchors : AreNamedOnce [] conf.items
   pub overloads : list_any (overloads_const conf.tables) conf.items ≡ false
 
--- a configuration, beside which its entries are counted
-pub record IsConfigCounted (entries : ℕ) (conf : Conf) : Type 0 where
+-- a configuration, beside which are the count of its entries, and its hasher
+pub record IsConfigKept (entries : ℕ) (hasher : RulesHasher) (conf : Conf) : Type 0 where
   pub config : IsConfig conf
   pub count : entries ≡ entry_count_of conf
+  pub begun : hasher.begun ≡ hasher_of conf

@@ -3,18 +3,18 @@
 ghost use Rattle.std.specs.Prelude.{◌≡◌, ◌<◌, ◌≤◌, ◌-◌, ◌^◌, IfOk, IfSome, IsSome, length, min, position, slice_get};
 ghost use Rattle.std.specs.Option.{option_copied};
 ghost use Rattle.pfs_conf_values.specs.Configs.{conf_of, entries_in, entry_count_of, has_name, is_const_table, limit_of, options_at, rate_seconds, retention_in, retention_of, rule_at, rule_timeout_of, scope_of, table_named, timeout_of};
-ghost use Rattle.pfs_conf_values.specs.Hashing.{after_conf};
+ghost use Rattle.pfs_conf_values.specs.Hashing.{hasher_of};
 ghost use Rattle.pfs_conf_values.specs.Invariants.{IsConfig, IsTable};
 ghost use Rattle.pfs_conf_values.specs.LoadRules.{AreOptions, IsItem, IsRule};
 
 use crate::actions::{Action, Rate, Scope, StateOptions};
 use crate::filters::TableNo;
+use crate::hashing::RulesHasher;
 use crate::items::{Item, ItemKind, Rule, RuleNo};
 use crate::limits::{LimitName, Limits};
-use crate::tables::{TableDef, copy_tables, feed_tables};
+use crate::tables::{TableDef, copy_tables};
 use crate::timeouts::{TimeoutName, Timeouts};
 use pfs_addr_values::NoMemory;
-use std::hash::{DefaultHasher, Hash};
 use std::marker::Model;
 
 /// What an accepted rules text says: limits, timeouts, tables and items, with defaults filled in.
@@ -29,21 +29,23 @@ pub struct Config {
     tables: Vec<TableDef>,
     entries: u64,
     items: Vec<Item>,
+    hasher: RulesHasher,
 }
 
 impl Model for Config {
     ghost use Rattle.pfs_conf_values.specs.Configs.{Conf};
-    ghost use Rattle.pfs_conf_values.specs.Invariants.{IsConfigCounted};
+    ghost use Rattle.pfs_conf_values.specs.Invariants.{IsConfigKept};
 
     ghost Value = { Conf };
 
     ghost view = { λ c. record { limits = c.limits; timeouts = c.timeouts; tables = c.tables.items; items = c.items.items } };
 
-    ghost invariant = { λ c. IsConfigCounted c.entries (record { limits = c.limits; timeouts = c.timeouts; tables = c.tables.items; items = c.items.items }) };
+    ghost invariant = { λ c. IsConfigKept c.entries c.hasher (record { limits = c.limits; timeouts = c.timeouts; tables = c.tables.items; items = c.items.items }) };
 }
 
 impl Config {
-    /// The configuration of these parts, which keep the load rules. It counts the entries, and takes no memory.
+    /// The configuration of these parts, which keep the load rules. It counts the entries, feeds the hasher with all parts, and takes no
+    /// memory.
     pub fn of_parts(
         limits: Limits,
         timeouts: Timeouts,
@@ -54,12 +56,14 @@ impl Config {
         ensures { result ≡ conf_of limits timeouts tables.items items.items }
     {
         let entries = count_entries(&tables);
+        let hasher = RulesHasher::of_parts(&limits, &timeouts, &tables, &items);
         Config {
             limits,
             timeouts,
             tables,
             entries,
             items,
+            hasher,
         }
     }
 
@@ -192,14 +196,11 @@ impl Config {
         retention_by(options, global)
     }
 
-    /// Feeds a hasher with all that the configuration says.
-    pub(crate) fn feed(&self, state: &mut DefaultHasher)
-        ensures { state.new ≡ after_conf state.old self.now }
+    /// The hasher that was fed with all that the configuration says.
+    pub fn hasher(&self) -> RulesHasher
+        ensures { result.begun ≡ hasher_of self.now }
     {
-        self.limits.hash(state);
-        self.timeouts.hash(state);
-        feed_tables(&self.tables, state);
-        self.items.hash(state);
+        self.hasher
     }
 
     /// An equal configuration in memory of its own. It returns `NoMemory` where that memory is refused.
@@ -209,7 +210,14 @@ impl Config {
         let alloc = *self.tables.allocator();
         let items = Vec::from_slice(alloc, &self.items)?;
         let tables = copy_tables(alloc, &self.tables)?;
-        Ok(Config::of_parts(self.limits, self.timeouts, tables, items))
+        Ok(Config {
+            limits: self.limits,
+            timeouts: self.timeouts,
+            tables,
+            entries: self.entries,
+            items,
+            hasher: self.hasher,
+        })
     }
 }
 

@@ -2,12 +2,16 @@
 
 ghost use Rattle.std.specs.Prelude.{◌≡◌};
 ghost use Rattle.std.specs.Hash.DefaultHasher as sip;
-ghost use Rattle.pfs_conf_values.specs.Hashing.{after_conf, after_text};
+ghost use Rattle.pfs_conf_values.specs.Configs.{conf_of};
+ghost use Rattle.pfs_conf_values.specs.Hashing.{after_conf, begun_with, hasher_of, hasher_of_text};
 
-use crate::configs::Config;
-use std::hash::{BuildHasher, DefaultHasher, Hasher};
+use crate::items::Item;
+use crate::limits::Limits;
+use crate::tables::{TableDef, feed_tables};
+use crate::timeouts::Timeouts;
+use std::hash::{BuildHasher, DefaultHasher, Hash, Hasher};
 
-/// The hasher of an index whose keys a stranger chooses: SipHash that was fed with the rules. Each key goes on from a
+/// The hasher of an index whose keys a stranger chooses: SipHash that was fed with the rules' own hash. Each key goes on from a
 /// copy of it. So a sender who does not know the rules cannot tell which keys meet in one place. One who knows or
 /// guesses them can search: some 65,000 tries for each key in a chosen place of 65,536. (own to this profile)
 #[derive(Debug, Clone, Copy)]
@@ -16,22 +20,39 @@ pub struct RulesHasher {
 }
 
 impl RulesHasher {
-    /// The hasher that was fed with all that a configuration says: limits, timeouts, tables with their entries, and items.
+    /// The hasher of a configuration: it was fed with all that this says: limits, timeouts, tables with their entries, and items.
     /// It goes through them once, and takes no memory.
-    pub fn of_config(config: &Config) -> RulesHasher
-        ensures { result.begun ≡ after_conf sip.initial config.now }
+    pub(crate) fn of_parts(
+        limits: &Limits,
+        timeouts: &Timeouts,
+        tables: &[TableDef],
+        items: &[Item],
+    ) -> RulesHasher
+        ensures { result.begun ≡ hasher_of (conf_of limits.now timeouts.now tables.now items.now) }
     {
-        let mut begun = DefaultHasher::new();
-        config.feed(&mut begun);
-        RulesHasher { begun }
+        let mut rules = DefaultHasher::new();
+        limits.hash(&mut rules);
+        timeouts.hash(&mut rules);
+        feed_tables(tables, &mut rules);
+        items.hash(&mut rules);
+        RulesHasher::begun_with(&rules)
     }
 
     /// The hasher that was fed with the bytes of a text. It goes through them once, and takes no memory.
     pub fn of_text(text: &[u8]) -> RulesHasher
-        ensures { result.begun ≡ after_text sip.initial text.now }
+        ensures { result.begun ≡ hasher_of_text text.now }
+    {
+        let mut rules = DefaultHasher::new();
+        rules.write(text);
+        RulesHasher::begun_with(&rules)
+    }
+
+    /// The hasher that was fed with what another answers. Its keys begin on a whole word.
+    fn begun_with(rules: &DefaultHasher) -> RulesHasher
+        ensures { result.begun ≡ begun_with rules.now }
     {
         let mut begun = DefaultHasher::new();
-        begun.write(text);
+        begun.write_u64(rules.finish());
         RulesHasher { begun }
     }
 }

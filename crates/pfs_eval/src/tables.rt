@@ -69,7 +69,7 @@ impl Tables {
         ensures entries { IfOk result (λ t. t.entries ≡ config_entries config.now) }
         ensures limit { IfOk result (λ t. t.limit ≡ limit_of config.now LimitName.TableEntries) }
     {
-        let hasher = RulesHasher::of_config(config);
+        let hasher = config.hasher();
         let count = config.table_count();
         let mut tables = Vec::with_capacity(alloc, count as usize)?;
         for number in 0..count {

@@ -59,7 +59,7 @@ impl IndexStore {
     pub fn new(alloc: Global, config: &Config) -> Result<IndexStore, NoMemory>
         ensures { IfOk result (λ s. s ≡ record { config = config.now; world = empty_world }) }
     {
-        let hasher = RulesHasher::of_config(config);
+        let hasher = config.hasher();
         IndexStore::with_hashers(alloc, config, hasher, hasher)
     }
 }

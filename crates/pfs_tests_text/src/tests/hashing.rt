@@ -55,8 +55,8 @@ fn addresses_found_under_one_text_are_spread_under_another(rt: HostRuntime) -> R
     same!(rt; most_in_a_place(alloc, &RulesHasher::of_text(RULES))?, 2_000);
     let others = [
         RulesHasher::of_text(OTHER),
-        RulesHasher::of_config(&load(alloc, RULES)?),
-        RulesHasher::of_config(&load(alloc, OTHER)?),
+        load(alloc, RULES)?.hasher(),
+        load(alloc, OTHER)?.hasher(),
     ];
     for other in &others {
         let most = most_in_a_place(alloc, other)?;
