@@ -221,7 +221,7 @@ class Moments:
         self.steps = steps
         self.refused, self.killed, self.made, self.seen = Sources(), Sources(), Sources(), Sources()
         self.interfaces: set[str] = set()
-        self.connections = Connections(users, steps.told, flushes=flushes)
+        self.connections = Connections(users, steps.hear, flushes=flushes)
         self._trace = trace
         self._back: list[str] = []
         self._lines = self._ahead()
