@@ -1,4 +1,4 @@
-"""Counts what a report and its trace hold, block by block. What is counted is told by summaries.Summary."""
+"""Counts what a report and its trace hold, block by block; Summary of summaries.py says what is counted."""
 
 from collections import Counter
 from collections.abc import Iterable, Iterator, Mapping, Sequence
