@@ -1,7 +1,7 @@
 """Each construct of pf.conf(5): what becomes of it. The cases are in constructs.txt, and docs/PFCONF.md names them.
 
-A case is `=== NAME WORDS`, a text, what `pfplan rules WORDS` writes behind `--- rules`, and what it says behind `---
-told`. Files that the texts name are in the folder constructs/.
+A case is `=== NAME WORDS`, a text, what `pfplan rules WORDS` writes behind `--- rules`, and what it says on
+standard error behind `--- errors`. Files that the texts name are in the folder constructs/.
 """
 
 import contextlib
@@ -63,7 +63,7 @@ class Constructs(unittest.TestCase):
     """What becomes of each construct."""
 
     def test_each(self) -> None:
-        """Rules and what is told are those of the case; a text that is refused has no rules."""
+        """Rules and what is said are those of the case; a text that is refused has no rules."""
         for case in cases():
             with self.subTest(case.name):
                 status, rules, errors = answer(case.name, case.words, case.text)
