@@ -4,7 +4,6 @@ use Rattle.std.proofs.lemmas.Bool.{ltb-true}
 use Rattle.pfs_conf_tokens.specs.Tokens.{Tok}
 use Rattle.pfs_conf_tokens.specs.declared.keys.Key.{Key}
 use Rattle.pfs_conf_tokens.specs.declared.keys.Key.TheVariants as key
-use Rattle.pfs_conf_tokens.specs.declared.refusals.Why.TheVariants as why
 use Rattle.pfs_conf_tokens.specs.Keys.{timeout_place}
 use Rattle.pfs_conf_tokens.specs.Reading.{closes_parens, Refused, Act, done, number_at, next_of}
 use Rattle.pfs_conf_tokens.proofs.Laws.{Taking, OnlineAct, Online, inside, online_done, online_chain, online_front, online_taking, once_taking, front_shrinks, Shrinks}

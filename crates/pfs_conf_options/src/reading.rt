@@ -2,7 +2,7 @@
 //! at the token that no statement accepts there.
 
 ghost use Rattle.std.specs.Prelude.{◌≡◌, ◌<◌, ◌≤◌, IfOk, IfSome, MatchBool, Ok, Err, Some};
-ghost use Rattle.pfs_conf_tokens.specs.Reading.{closes_parens, act, chain, done, once, take, until_all, next_of, list_all, number_at};
+ghost use Rattle.pfs_conf_tokens.specs.Reading.{Reader, closes_parens, act, chain, done, once, take, until_all, next_of, list_all, number_at};
 ghost use Rattle.pfs_conf_tokens.specs.Giving.{Gives};
 ghost use Rattle.pfs_conf_options.specs.Options.{rule_place, options_given};
 ghost use Rattle.pfs_conf_options.specs.Bounds.{AreRead};
@@ -94,7 +94,7 @@ fn option(cursor: &mut Cursor, options: Options) -> Result<Options, Refusal>
 fn max(cursor: &mut Cursor, options: Options) -> Result<Options, Refusal>
     ensures { Gives result cursor.new (act (once options.max (take (chain (number_at 1 4294967295) (λ n. done (record options { max = Some n }))))) cursor.old) }
 {
-    match maximum_once(cursor, options.max) {
+    match value_once(cursor, options.max) {
         Ok(max) => Ok(Options {
             max: Some(max),
             ..options
@@ -106,7 +106,7 @@ fn max(cursor: &mut Cursor, options: Options) -> Result<Options, Refusal>
 fn source_track(cursor: &mut Cursor, options: Options) -> Result<Options, Refusal>
     ensures { Gives result cursor.new (act (once options.track (take (chain track_at (λ s. done (record options { track = Some s }))))) cursor.old) }
 {
-    match track_once(cursor, options.track) {
+    match value_once(cursor, options.track) {
         Ok(track) => Ok(Options {
             track: Some(track),
             ..options
@@ -118,7 +118,7 @@ fn source_track(cursor: &mut Cursor, options: Options) -> Result<Options, Refusa
 fn max_src_nodes(cursor: &mut Cursor, options: Options) -> Result<Options, Refusal>
     ensures { Gives result cursor.new (act (once options.max_src_nodes (take (chain (number_at 1 4294967295) (λ n. done (record options { max_src_nodes = Some n }))))) cursor.old) }
 {
-    match maximum_once(cursor, options.max_src_nodes) {
+    match value_once(cursor, options.max_src_nodes) {
         Ok(nodes) => Ok(Options {
             max_src_nodes: Some(nodes),
             ..options
@@ -130,7 +130,7 @@ fn max_src_nodes(cursor: &mut Cursor, options: Options) -> Result<Options, Refus
 fn max_src_states(cursor: &mut Cursor, options: Options) -> Result<Options, Refusal>
     ensures { Gives result cursor.new (act (once options.max_src_states (take (chain (number_at 1 4294967295) (λ n. done (record options { max_src_states = Some n }))))) cursor.old) }
 {
-    match maximum_once(cursor, options.max_src_states) {
+    match value_once(cursor, options.max_src_states) {
         Ok(states) => Ok(Options {
             max_src_states: Some(states),
             ..options
@@ -145,15 +145,15 @@ fn connection_option(cursor: &mut Cursor, options: Options) -> Result<Options, R
     ensures { Gives result cursor.new (connection_at options cursor.old) }
 {
     match cursor.key() {
-        Key::MaxSrcConn => match maximum_once(cursor, options.max_src_conn) {
+        Key::MaxSrcConn => match value_once(cursor, options.max_src_conn) {
             Ok(connections) => Ok(with_connections(options, connections)),
             Err(refusal) => Err(refusal),
         },
-        Key::MaxSrcConnRate => match rate_once(cursor, options.max_src_conn_rate) {
+        Key::MaxSrcConnRate => match value_once(cursor, options.max_src_conn_rate) {
             Ok(rate) => Ok(with_rate(options, rate)),
             Err(refusal) => Err(refusal),
         },
-        Key::Overload => match overload_once(cursor, options.overload) {
+        Key::Overload => match value_once(cursor, options.overload) {
             Ok(overload) => Ok(with_overload(options, overload)),
             Err(refusal) => Err(refusal),
         },
@@ -268,59 +268,59 @@ fn only_once(is_given: bool) -> Result<(), Refusal>
     }
 }
 
+/// A value behind the word of an option.
+trait OptionValue: Copy {
+    // what reads it
+    ghost reading: { Reader Self };
+
+    /// Reads it at the cursor.
+    fn read(cursor: &mut Cursor) -> Result<Self, Refusal>
+        ensures { Gives result cursor.new (reading cursor.old) };
+}
+
+impl OptionValue for u32 {
+    ghost reading = { number_at 1 4294967295 };
+
+    fn read(cursor: &mut Cursor) -> Result<u32, Refusal> {
+        number_within(cursor, 1, u32::MAX)
+    }
+}
+
+impl OptionValue for Track {
+    ghost reading = { track_at };
+
+    fn read(cursor: &mut Cursor) -> Result<Track, Refusal> {
+        track(cursor)
+    }
+}
+
+impl OptionValue for Rate {
+    ghost reading = { rate_at };
+
+    fn read(cursor: &mut Cursor) -> Result<Rate, Refusal> {
+        rate(cursor)
+    }
+}
+
+impl OptionValue for OverloadText {
+    ghost reading = { overload_text_at };
+
+    fn read(cursor: &mut Cursor) -> Result<OverloadText, Refusal> {
+        overload(cursor)
+    }
+}
+
 /// Reads what follows the word of an option, at that word. The word is refused where the option is given already.
-fn maximum_once(cursor: &mut Cursor, given: Option<u32>) -> Result<u32, Refusal>
-    ensures { Gives result cursor.new (act (once given (take (number_at 1 4294967295))) cursor.old) }
+fn value_once<T: OptionValue>(cursor: &mut Cursor, given: Option<T>) -> Result<T, Refusal>
+    ensures { Gives result cursor.new (act (once given (take T.reading)) cursor.old) }
 {
     match given {
         Some(_) => Err(Refusal::Stop(Why::Again)),
         None => {
             cursor.advance();
-            maximum(cursor)
+            T::read(cursor)
         }
     }
-}
-
-fn track_once(cursor: &mut Cursor, given: Option<Track>) -> Result<Track, Refusal>
-    ensures { Gives result cursor.new (act (once given (take track_at)) cursor.old) }
-{
-    match given {
-        Some(_) => Err(Refusal::Stop(Why::Again)),
-        None => {
-            cursor.advance();
-            track(cursor)
-        }
-    }
-}
-
-fn rate_once(cursor: &mut Cursor, given: Option<Rate>) -> Result<Rate, Refusal>
-    ensures { Gives result cursor.new (act (once given (take rate_at)) cursor.old) }
-{
-    match given {
-        Some(_) => Err(Refusal::Stop(Why::Again)),
-        None => {
-            cursor.advance();
-            rate(cursor)
-        }
-    }
-}
-
-fn overload_once(cursor: &mut Cursor, given: Option<OverloadText>) -> Result<OverloadText, Refusal>
-    ensures { Gives result cursor.new (act (once given (take overload_text_at)) cursor.old) }
-{
-    match given {
-        Some(_) => Err(Refusal::Stop(Why::Again)),
-        None => {
-            cursor.advance();
-            overload(cursor)
-        }
-    }
-}
-
-fn maximum(cursor: &mut Cursor) -> Result<u32, Refusal>
-    ensures { Gives result cursor.new (number_at 1 4294967295 cursor.old) }
-{
-    number_within(cursor, 1, u32::MAX)
 }
 
 fn number_within(cursor: &mut Cursor, low: u32, high: u32) -> Result<u32, Refusal>

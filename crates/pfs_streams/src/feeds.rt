@@ -140,7 +140,11 @@ impl<R: Read> Read for Begun<'_, R> {
     ghost remaining = { λ b. unread_behind R.remaining b.feed };
 
     /// Reads as the feed does.
-    fn read(&mut self, buf: &mut [u8]) -> io::Result<usize> {
+    fn read(&mut self, buf: &mut [u8]) -> io::Result<usize>
+        ensures bound { ReadsAtMost result buf.new }
+        ensures bytes { ReadConsumes (unread_behind R.remaining self.old.feed) (unread_behind R.remaining self.new.feed) result buf.new }
+        ensures fails { OnErr result ((0 < read_failures self.new.feed) ⊎ IsSpent self.new.feed) }
+    {
         self.feed.read(buf)
     }
 }

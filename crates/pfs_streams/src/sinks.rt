@@ -6,7 +6,7 @@ ghost use Rattle.std.specs.Io.KnownBytes.{WriteAppends, Keeps};
 ghost use Rattle.pfs_streams.specs.Sinks.{SinkView, writer_of, write_failures, bytes_held, one_more, is_by_lines, is_unflushed, OwesNoFlush};
 
 use std::io;
-use std::io::Write;
+use std::io::{Error, Write};
 use std::marker::Model;
 
 /// A writer, how often it failed, and whether it owes a flush. Nothing is kept back: each write goes to the writer.
@@ -67,6 +67,22 @@ impl<W> Sink<W> {
         self.failures
     }
 
+    /// Counts a failure, up to the greatest `u64`.
+    fn count_failure(&mut self)
+        ensures { self.new ≡ record self.old { failures = one_more self.old.failures } }
+    {
+        self.failures = self.failures.saturating_add(1);
+    }
+
+    /// Counts a failure, and gives it back.
+    fn failed(&mut self, error: Error) -> Error
+        ensures counted { self.new ≡ record self.old { failures = one_more self.old.failures } }
+        ensures same { result ≡ error }
+    {
+        self.count_failure();
+        error
+    }
+
     /// The writer, with what was written.
     pub fn into_inner(self) -> W
         ensures { result ≡ writer_of self }
@@ -93,14 +109,11 @@ impl<W: Write> Sink<W> {
                 if n > 0 {
                     self.unflushed = true;
                 } else if !bytes.is_empty() {
-                    self.failures = self.failures.saturating_add(1);
+                    self.count_failure();
                 }
                 Ok(n)
             }
-            Err(error) => {
-                self.failures = self.failures.saturating_add(1);
-                Err(error)
-            }
+            Err(error) => Err(self.failed(error)),
         }
     }
 
@@ -119,10 +132,7 @@ impl<W: Write> Sink<W> {
                 self.unflushed = false;
                 Ok(())
             }
-            Err(error) => {
-                self.failures = self.failures.saturating_add(1);
-                Err(error)
-            }
+            Err(error) => Err(self.failed(error)),
         }
     }
 

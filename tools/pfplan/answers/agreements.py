@@ -96,7 +96,7 @@ class Agreement:
             {"verdict": it.verdict.value, "kind": it.kind, "pf": it.pf, "pfsrc": it.pfsrc, "packets": count}
             for it, count in self.judged.most_common()
         ]
-        told: dict[str, Any] = json.loads(hider.text(json.dumps([asdict(it) for it in self.differences])))
+        written: dict[str, Any] = json.loads(hider.text(json.dumps([asdict(it) for it in self.differences])))
         return {
             "rows": self.merged.rows,
             "packets": self.merged.packets,
@@ -105,7 +105,7 @@ class Agreement:
             "differ": self.count(Verdict.DIFFERS),
             "apart": self.count(Verdict.APART),
             "judged": judged,
-            "differences": told,
+            "differences": written,
             "rules_without_log": self.without_log,
             "rules_without_all": self.without_all,
         }
@@ -245,9 +245,9 @@ def agreement_of(folder: Path, ruleset: Ruleset, merged: Merged) -> Agreement:
     finally:
         progress.finish()
     shown = show_rules(folder / "rules")
-    told = _Telling(judge, items_of(shown), settings_of(shown)["states"], comparing.kills, ruleset.records)
-    differences = told.all(folder, comparing.found)
-    keeps = [it for it in ruleset.pf_rules if any("keep state" in told.items[item] for item in it.items)]
+    telling = _Telling(judge, items_of(shown), settings_of(shown)["states"], comparing.kills, ruleset.records)
+    differences = telling.all(folder, comparing.found)
+    keeps = [it for it in ruleset.pf_rules if any("keep state" in telling.items[item] for item in it.items)]
     without_log = sorted({item for it in keeps if not it.logs for item in it.items})
     without_all = sorted({item for it in keeps if it.logs and not it.logs_all for item in it.items})
     guessed = f"{ruleset.guessed.file}:{ruleset.guessed.line}" if ruleset.guessed else ""

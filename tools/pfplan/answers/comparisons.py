@@ -222,10 +222,10 @@ def compare(
         heard = [one.heard(it) for one, it in zip(asked, paths)]
         reports = [stack.enter_context(replayed(it, trace, asked[at], heard[at])) for at, it in enumerate(paths)]
         steps = [steps_of(trace) for _ in paths] if wanted.over_time else []
-        told = [steps[at].told if steps else None for at in range(len(paths))]
+        hear = [steps[at].hear if steps else None for at in range(len(paths))]
         flushes = [flushes_of(it) for it in rules]
         sides = [
-            side_of(it, reports[at], wanted.users, fates.ended(at), told[at], flushes[at], asked[at].numbers)
+            side_of(it, reports[at], wanted.users, fates.ended(at), hear[at], flushes[at], asked[at].numbers)
             for at, it in enumerate(names_of(paths))
         ]
         pairs = Pairs(sides, rules, progress, steps)

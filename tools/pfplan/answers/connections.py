@@ -172,7 +172,7 @@ class _Connection:
 class Connections:
     """Follows the connections of users, and counts those whose end is known.
 
-    `told(begin, outcome)` is called for each that is over, and `ended(key, first row, outcome)`, which tells it from
+    `hear(begin, outcome)` is called for each that is over, and `ended(key, first row, outcome)`, which tells it from
     all others. Memory grows with the connections that are open at a time, where `most_open` does not bound them: of
     more, those that have been quiet the longest are counted as they are then, and let go (`forgotten`). `flushes` says
     of the rules with `flush`, by `@N`, whether it is `flush global`; None where the rules are not known: a kill of
@@ -183,7 +183,7 @@ class Connections:
     def __init__(
         self,
         users: Sequence[Network],
-        told: Callable[[int, str], None],
+        hear: Callable[[int, str], None],
         ended: Callable[[Key, int, str], None] | None = None,
         flushes: Mapping[str, bool] | None = None,
         remembered: int = REMEMBERED,
@@ -194,7 +194,7 @@ class Connections:
         self.refusals: dict[tuple[str, str], Refusal] = {}
         self.without_beginning = 0
         self.begun_by_others = 0
-        self._told = told
+        self._hear = hear
         self._ended = ended
         self._flushes = flushes
         self._flows: dict[Key, _Connection] = {}
@@ -371,7 +371,7 @@ class Connections:
             if refusal is None:
                 refusal = self.refusals[flow.refusal] = Refusal(*flow.refusal)
             refusal.add(flow.entering)
-        self._told(flow.begin, outcome)
+        self._hear(flow.begin, outcome)
         if self._ended:
             self._ended(flow.key, flow.first, outcome)
 

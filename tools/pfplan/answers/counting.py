@@ -1,4 +1,4 @@
-"""Counts what a report and its trace hold, block by block. What is counted is told by summaries.Summary."""
+"""Counts what a report and its trace hold, block by block; Summary of summaries.py says what is counted."""
 
 from collections import Counter
 from collections.abc import Iterable, Iterator, Mapping, Sequence
@@ -221,7 +221,7 @@ class Moments:
         self.steps = steps
         self.refused, self.killed, self.made, self.seen = Sources(), Sources(), Sources(), Sources()
         self.interfaces: set[str] = set()
-        self.connections = Connections(users, steps.told, flushes=flushes)
+        self.connections = Connections(users, steps.hear, flushes=flushes)
         self._trace = trace
         self._back: list[str] = []
         self._lines = self._ahead()

@@ -43,8 +43,8 @@ def events(trace: Path, report: Path, wanted: Callable[[Record], bool]) -> Itera
     row = 0
     answers = (it for block in line_blocks(report) for it in block)
     for lines in Traces(trace).blocks():
-        told = list(islice(answers, len(lines)))
-        for line, text in zip(lines, told):
+        answered = list(islice(answers, len(lines)))
+        for line, text in zip(lines, answered):
             row += 1
             try:
                 record = read_record(line)
@@ -59,7 +59,7 @@ def events(trace: Path, report: Path, wanted: Callable[[Record], bool]) -> Itera
                     Status.REFUSED,
                 )
             yield Event(row, record, answer)
-        if len(told) < len(lines):
+        if len(answered) < len(lines):
             raise Trouble(f"{trace}: row {row + 1}: the trace has more records than {report}", Status.REFUSED)
 
 

@@ -71,7 +71,7 @@ class LiveMoments(Moments):
 
     def __init__(self, trace: Traces, answers: Answers, users: Sequence[Network], flushes: Mapping[str, bool]) -> None:
         super().__init__(trace, answers, users, LiveSteps(), flushes)
-        self.connections = Connections(users, self.steps.told, None, flushes, REMEMBERED, MOST_OPEN)
+        self.connections = Connections(users, self.steps.hear, None, flushes, REMEMBERED, MOST_OPEN)
 
     def finish(self, is_whole: bool) -> None:
         """As that of `Moments`; then the steps are those that a summary of the whole trace has."""

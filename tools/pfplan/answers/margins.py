@@ -180,9 +180,9 @@ def measure_margins(
     base, *moved = [from_json(it) for it in lines]
     if base.refused:
         raise Trouble(f"{names[1]}: {base.refused}", Status.RULES)
-    told = users_text(subject.scenario) if subject.scenario else ",".join(map(str, users))
+    who = users_text(subject.scenario) if subject.scenario else ",".join(map(str, users))
     margins = tuple(
-        Margin(it.title, it.step, values_text(it), measure, turns_of(base, measure, want, bool(told)))
+        Margin(it.title, it.step, values_text(it), measure, turns_of(base, measure, want, bool(who)))
         for it, measure in zip(moves, moved)
     )
-    return Margins(names[0], told, want, base, margins)
+    return Margins(names[0], who, want, base, margins)

@@ -16,7 +16,7 @@ from pfplan.traces.scenarios.returning import answers_of, words_of
 
 
 @dataclass(frozen=True)
-class Told:
+class PlaysBeside:
     """Plays of one scenario under several rulesets, by the names that the user gave."""
 
     scenario: Scenario
@@ -65,7 +65,7 @@ def json_of(scenario: Scenario, play: Played) -> dict[str, Any]:
 
 def play_into(
     scenario: Scenario, names: Sequence[str], rulesets: Sequence[Ruleset], folders: Sequence[Path], jobs: int | None
-) -> Told:
+) -> PlaysBeside:
     """Plays a scenario under each ruleset. Each has a folder, which gets its rules, the trace and the report.
 
     Trouble where the program refuses rules.
@@ -75,10 +75,12 @@ def play_into(
         make_folder(folder)
         write_ruleset(folder, it)
         tasks.append(_task(scenario, folder / "rules", it, folder / "trace.csv", folder / "report"))
-    return _told(scenario, names, rulesets, play_all(tasks, jobs or os.cpu_count() or 1))
+    return _beside(scenario, names, rulesets, play_all(tasks, jobs or os.cpu_count() or 1))
 
 
-def play_apart(scenario: Scenario, names: Sequence[str], rulesets: Sequence[Ruleset], paths: Sequence[Path]) -> Told:
+def play_apart(
+    scenario: Scenario, names: Sequence[str], rulesets: Sequence[Ruleset], paths: Sequence[Path]
+) -> PlaysBeside:
     """Plays a scenario under each ruleset, of files with these names, and keeps nothing but what is told. Trouble as
     `play_into`."""
     with tempfile.TemporaryDirectory(prefix="pfplan-") as folder:
@@ -88,7 +90,7 @@ def play_apart(scenario: Scenario, names: Sequence[str], rulesets: Sequence[Rule
             make_folder(rules.parent)
             write_rules(rules, it)
             tasks.append(_task(scenario, rules, it))
-        return _told(scenario, names, rulesets, play_all(tasks, os.cpu_count() or 1))
+        return _beside(scenario, names, rulesets, play_all(tasks, os.cpu_count() or 1))
 
 
 def _task(
@@ -98,6 +100,8 @@ def _task(
     return Task(scenario, rules, answers_of(words_of(ruleset.text)), ruleset.records, trace, report)
 
 
-def _told(scenario: Scenario, names: Sequence[str], rulesets: Sequence[Ruleset], plays: Sequence[Played]) -> Told:
+def _beside(
+    scenario: Scenario, names: Sequence[str], rulesets: Sequence[Ruleset], plays: Sequence[Played]
+) -> PlaysBeside:
     doubts = [sum(it.changes_answer for it in ruleset.leftovers) for ruleset in rulesets]
-    return Told(scenario, names, plays, doubts)
+    return PlaysBeside(scenario, names, plays, doubts)

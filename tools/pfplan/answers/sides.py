@@ -46,16 +46,16 @@ def side_of(
     report: Iterator[str],
     users: Sequence[Network],
     ended: Callable[[Key, int, str], None] | None = None,
-    told: Callable[[int, str], None] | None = None,
+    hear: Callable[[int, str], None] | None = None,
     flushes: Mapping[str, bool] | None = None,
     numbers: Rows | None = None,
 ) -> Side:
-    """A ruleset at the beginning of its report. `ended` and `told` hear of each connection of a user that is over, as
+    """A ruleset at the beginning of its report. `ended` and `hear` hear of each connection of a user that is over, as
     Connections says.
 
     `flushes` are as Connections takes them, and `numbers` are those of the report's rows, as Answers says.
     """
-    return Side(name, report, Answers(name, None, numbers), Connections(users, told or _pass_over, ended, flushes))
+    return Side(name, report, Answers(name, None, numbers), Connections(users, hear or _pass_over, ended, flushes))
 
 
 def follow(

@@ -43,7 +43,7 @@ class Steps:
             step = self._steps[number] = Step(self.first + number * self.seconds)
         return step
 
-    def told(self, begin: int, outcome: str) -> None:
+    def hear(self, begin: int, outcome: str) -> None:
         """A connection that began at a moment came to its end."""
         step = self.at(begin)
         step.tried += 1

@@ -236,8 +236,8 @@ def _by_number(rules: "Counter[str]") -> dict[str, int]:
 
 
 def _undecided(rules: Sequence[str], by_rule: Mapping[str, Mapping[str, int]]) -> list[int]:
-    told = {rule for rules_of in by_rule.values() for rule in rules_of}
-    return [it for it, text in enumerate(rules) if f"@{it}" not in told and not text.startswith("anchor")]
+    answered = {rule for rules_of in by_rule.values() for rule in rules_of}
+    return [it for it, text in enumerate(rules) if f"@{it}" not in answered and not text.startswith("anchor")]
 
 
 def _interfaces(rule: str) -> list[str]:
@@ -266,9 +266,9 @@ def origins_told(summary: Path, items: Sequence[str]) -> Origins:
     """
     try:
         read = json.loads(summary.read_text("utf-8"))
-        told = [it for it in (*read["rules"], *read["undecided"]) if it["rule"] != "-" and it["place"]]
-        places = {int(it["rule"][1:]): visible(it["place"]) for it in told}
-        is_theirs = all(it["text"] == items[int(it["rule"][1:])] for it in told)
+        named = [it for it in (*read["rules"], *read["undecided"]) if it["rule"] != "-" and it["place"]]
+        places = {int(it["rule"][1:]): visible(it["place"]) for it in named}
+        is_theirs = all(it["text"] == items[int(it["rule"][1:])] for it in named)
     except (OSError, ValueError, LookupError, TypeError, AttributeError):
         return Origins()
     return Origins(places) if is_theirs else Origins()

@@ -88,8 +88,8 @@ def _fill(arguments: argparse.Namespace, folder: Path, ruleset: Ruleset) -> str:
     hider = Hider(shows=arguments.shows_addresses)
     text = hider.text(text_of(found))
     page = page_of(found, hider, differences_beside(folder, arguments.into))
-    told = json.dumps(found.to_json(hider), indent=2) + "\n"
-    for name, whole in (("agree.txt", text), ("agree.json", told), (PAGE, page)):
+    as_json = json.dumps(found.to_json(hider), indent=2) + "\n"
+    for name, whole in (("agree.txt", text), ("agree.json", as_json), (PAGE, page)):
         with whole_file(folder / name) as out:
             out.write(whole)
     return text

@@ -4,7 +4,7 @@ import argparse
 import contextlib
 
 from pfplan.answers.comparisons import Asked, compare, names_of
-from pfplan.answers.plays_beside import Told, play_apart
+from pfplan.answers.plays_beside import PlaysBeside, play_apart
 from pfplan.commands.run_words import add_answer_words, write_answer
 from pfplan.commands.words import add_asked, file, number
 from pfplan.common.errors import Trouble
@@ -70,9 +70,9 @@ def _compare_plays(arguments: argparse.Namespace) -> int:
     scenario = read_scenario(arguments.trace)
     rulesets = [convert(it, RuleOptions(by_records=True)) for it in arguments.rules]
     check_program()
-    told = play_apart(scenario, play_folder.names_of(arguments.rules), rulesets, arguments.rules)
+    played = play_apart(scenario, play_folder.names_of(arguments.rules), rulesets, arguments.rules)
 
-    def page_of(told: Told) -> str:
-        return play_pages.page_of(told, *play_pages.drawn_of(told), differences_beside(arguments.page.parent))
+    def page_of(played: PlaysBeside) -> str:
+        return play_pages.page_of(played, *play_pages.drawn_of(played), differences_beside(arguments.page.parent))
 
-    return write_answer(arguments, told, play_texts.text_of, page_of)
+    return write_answer(arguments, played, play_texts.text_of, page_of)

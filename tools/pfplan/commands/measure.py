@@ -58,11 +58,11 @@ def run(arguments: argparse.Namespace) -> int:
         if _is_scenario(arguments.trace):
             from pfplan.answers.plays_measured import measure_play
 
-            told = json.dumps(measure_play(rules, arguments.trace, entries).to_json())
+            line = json.dumps(measure_play(rules, arguments.trace, entries).to_json())
         else:
             with regular(arguments.trace) as trace:
-                told = json.dumps(measure(rules, trace, arguments.users, arguments.held, entries).to_json())
-    print(f"{arguments.rules.name} {told}" if arguments.named else told)
+                line = json.dumps(measure(rules, trace, arguments.users, arguments.held, entries).to_json())
+    print(f"{arguments.rules.name} {line}" if arguments.named else line)
     return Status.DONE
 
 

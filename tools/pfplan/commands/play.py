@@ -82,8 +82,8 @@ def play_rules(scenario: Scenario, paths: Sequence[Path], arguments: argparse.Na
     check_program()
     names = names_of(paths)
     folders = [arguments.into if is_flat else arguments.into / it for it in names]
-    told = play_into(scenario, names, rulesets, folders, arguments.jobs)
-    write_plays(arguments.into, folders, told)
+    played = play_into(scenario, names, rulesets, folders, arguments.jobs)
+    write_plays(arguments.into, folders, played)
     for letter, name, at in zip(letters(len(names)), names, range(len(names))):
-        print(f"{letter}  {name}: {headline_of(told, at)}")
+        print(f"{letter}  {name}: {headline_of(played, at)}")
     print(arguments.into / PAGE)

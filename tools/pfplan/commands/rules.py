@@ -51,12 +51,12 @@ def run(arguments: argparse.Namespace) -> int:
     write_rules(out, ruleset)
     if out and ruleset.records:
         print(f"note: entries by records: {beside(out)}", file=sys.stderr)
-    _tell(arguments.file, ruleset.told())
+    _tell(arguments.file, ruleset.shown())
     return Status.DONE
 
 
 def _tell(path: Path, lines: Sequence[str]) -> None:
-    *told, count = lines
-    for it in told:
+    *shown, count = lines
+    for it in shown:
         print(it, file=sys.stderr)
     print(f"{printable(name_of(path))}: {count}", file=sys.stderr)

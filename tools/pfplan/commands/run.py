@@ -13,7 +13,7 @@ from pfplan.commands.parser import Parser
 from pfplan.commands.play import run_play
 from pfplan.commands.rule_words import add_rule_words, options_of
 from pfplan.commands.run_words import add_machine_words, machines_of
-from pfplan.commands.words import file, interface, networks, number, share_word
+from pfplan.commands.words import add_capture_words, file, networks, number, share_word
 from pfplan.common.errors import Status, Trouble
 from pfplan.common.figures import share_text
 from pfplan.common.inputs import Kind, check_readable, kind_of, name_of, regular, unpacked
@@ -73,17 +73,7 @@ def add_words(parser: Parser) -> None:
         default=(),
         help="the networks of the users: says who of them was served",
     )
-    parser.add_argument(
-        "--inside",
-        type=networks,
-        metavar="PREFIX,..",
-        action="extend",
-        default=[],
-        help="the networks behind the firewall, as pfplan trace takes them (by --ifconfig)",
-    )
-    parser.add_argument(
-        "--if", dest="name", type=interface, metavar="NAME", help="the interface of every record of the capture"
-    )
+    add_capture_words(parser)
     parser.add_argument(
         "--zero", action="store_true", help="moments of the capture count from that of its first record"
     )

@@ -14,7 +14,7 @@ from pfplan.answers.live_counts import Side
 from pfplan.answers.watching import Signals, Watch, Watched
 from pfplan.commands.parser import Parser
 from pfplan.commands.rule_words import add_rule_words, options_of
-from pfplan.commands.words import file, interface, networks, number
+from pfplan.commands.words import add_capture_words, file, networks, number
 from pfplan.common.errors import Status, Trouble
 from pfplan.common.figures import share_text
 from pfplan.common.inputs import HEADER, check_readable
@@ -52,17 +52,7 @@ def add_words(parser: Parser) -> None:
         metavar="PF.CONF",
         help="a pf.conf, what pfctl -nvf prints, or a rules text; several are answered side by side",
     )
-    parser.add_argument(
-        "--inside",
-        type=networks,
-        metavar="PREFIX,..",
-        action="extend",
-        default=[],
-        help="the networks behind the firewall, as pfplan trace takes them (by --ifconfig)",
-    )
-    parser.add_argument(
-        "--if", dest="name", type=interface, metavar="NAME", help="the interface of every record of the capture"
-    )
+    add_capture_words(parser)
     parser.add_argument(
         "--users",
         type=networks,

@@ -65,6 +65,21 @@ def share_word(text: str) -> Fraction:
     return share
 
 
+def add_capture_words(parser: argparse.ArgumentParser) -> None:
+    """The words that say of a capture which way its packets go, and where they are seen."""
+    parser.add_argument(
+        "--inside",
+        type=networks,
+        metavar="PREFIX,..",
+        action="extend",
+        default=[],
+        help="the networks behind the firewall, as pfplan trace takes them (by --ifconfig)",
+    )
+    parser.add_argument(
+        "--if", dest="name", type=interface, metavar="NAME", help="the interface of every record of the capture"
+    )
+
+
 def add_asked(parser: argparse.ArgumentParser, moments: int) -> None:
     """The words that say what is asked of a replay."""
     parser.add_argument(

@@ -78,7 +78,7 @@ def kind_of(path: Path) -> Kind | None:
     return Kind.REPORT if _REPORT.match(begin) else Kind.OTHER
 
 
-def _told(kind: Kind | None) -> str:
+def _kind_text(kind: Kind | None) -> str:
     return kind.value if kind else "a pipe"
 
 
@@ -91,14 +91,14 @@ def check_trace(path: Path) -> None:
         raise Trouble(f"{path}: a capture, where a trace is wanted: pfplan trace makes one of it", Status.REFUSED)
     if kind is Kind.OTHER:
         raise Trouble(f"{path}: line 1: no header of a trace, which is {HEADER}", Status.REFUSED)
-    raise Trouble(f"{path}: {_told(kind)}, where a trace is wanted", Status.REFUSED)
+    raise Trouble(f"{path}: {_kind_text(kind)}, where a trace is wanted", Status.REFUSED)
 
 
 def check_rules(path: Path) -> None:
     """Trouble where the file can't be read (status 4) or is empty, a trace, a capture or a report (status 3)."""
     kind = kind_of(path)
     if kind in (Kind.EMPTY, Kind.TRACE, Kind.CAPTURE, Kind.REPORT):
-        raise Trouble(f"{path}: {_told(kind)}, where rules are wanted", Status.RULES)
+        raise Trouble(f"{path}: {_kind_text(kind)}, where rules are wanted", Status.RULES)
 
 
 @contextlib.contextmanager

@@ -98,14 +98,14 @@ def explained_text(found: Difference) -> str:
 
 def points(found: Difference) -> list[tuple[str, str]]:
     """What is told of a difference, each under its head."""
-    told = [
+    texts = [
         ("packet", record_text(found.record)),
         ("pf", pf_text(found.pf)),
         ("its rule", found.rule_of_pf),
         ("pfsrc", pfsrc_text(found)),
         ("its rule", found.rule_of_pfsrc),
     ]
-    return [it for it in (*told, ("held", held_text(found)), ("explained by", explained_text(found))) if it[1]]
+    return [it for it in (*texts, ("held", held_text(found)), ("explained by", explained_text(found))) if it[1]]
 
 
 def text_of(found: Agreement) -> str:
@@ -164,9 +164,9 @@ def page_of(found: Agreement, hider: Hider, differences: str) -> str:
                 *(_difference(number, it, hider) for number, it in enumerate(found.differences, 1)),
             )
         )
-    told = [hider.text(it) for it in notes(found)]
-    if told:
-        parts.append(section("To know", bullets(told)))
+    to_know = [hider.text(it) for it in notes(found)]
+    if to_know:
+        parts.append(section("To know", bullets(to_know)))
     parts.append(
         section(
             "More",

@@ -58,7 +58,7 @@ th { font-weight: 600; color: var(--soft); } td.number, th.number { text-align: 
 font-variant-numeric: tabular-nums; }
 td.number { white-space: nowrap; } th { vertical-align: bottom; }
 td.name { min-width: 13em; } th.name { font-family: inherit; font-size: inherit; } td.short { white-space: nowrap; }
-tr.told td { font-weight: 600; }
+tr.bold td { font-weight: 600; }
 @media (max-width: 620px) { .stack thead { display: none; } .stack tr { display: block; \
 border-bottom: 1px solid var(--rule); padding: 6px 0; }
   .stack td { display: block; border: 0; padding: 0; text-align: left; white-space: normal; min-width: 0; }
@@ -135,17 +135,17 @@ def code(text: str) -> Markup:
 
 
 def table(
-    heads: Sequence[str], rows: Iterable[Sequence[Child]], kinds: str, told: frozenset[int] = frozenset()
+    heads: Sequence[str], rows: Iterable[Sequence[Child]], kinds: str, bold: frozenset[int] = frozenset()
 ) -> Markup:
     """A table. A letter of `kinds` for each column: `n` a number, `s` short, `c` a name or a rule, `t` a text. Rows in
-    `told` stand out.
+    `bold` stand out.
 
     On a narrow screen the cells of a table with many columns, or with names, stand below one another, each behind its
     head.
     """
     classes = {"n": "number", "s": "short", "c": "name", "t": "text"}
     top = tag("tr", *(tag("th", head, class_=classes[kind]) for head, kind in zip(heads, kinds)))
-    body = [row_of(row, heads, [classes[kind] for kind in kinds], number in told) for number, row in enumerate(rows)]
+    body = [row_of(row, heads, [classes[kind] for kind in kinds], number in bold) for number, row in enumerate(rows)]
     is_stacked = len(kinds) > 4 or "c" in kinds and len(kinds) > 2
     return tag(
         "div",
@@ -154,10 +154,10 @@ def table(
     )
 
 
-def row_of(cells: Sequence[Child], heads: Sequence[str], classes: Sequence[str], is_told: bool) -> Markup:
+def row_of(cells: Sequence[Child], heads: Sequence[str], classes: Sequence[str], is_bold: bool) -> Markup:
     """A row of a table."""
     inner = [tag("td", cell, class_=name, data_head=head) for cell, head, name in zip(cells, heads, classes)]
-    return tag("tr", *inner, class_="told") if is_told else tag("tr", *inner)
+    return tag("tr", *inner, class_="bold") if is_bold else tag("tr", *inner)
 
 
 def key(word: str, role: Role) -> Markup:

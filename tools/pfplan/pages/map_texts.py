@@ -82,7 +82,7 @@ def runs_text(border: Border, name: str) -> str:
 def page_of(found: Map) -> str:
     """The same as a page."""
     first, second = found.varied
-    told = list(verdicts(found))
+    answers = list(verdicts(found))
     title = f"{first.title} by {second.title}"
     rows: list[Sequence[Child]] = [
         [f"{value:,}", *(cell_of(found, (value, it)).strip() for it in found.grid[1])]
@@ -93,7 +93,7 @@ def page_of(found: Map) -> str:
     parts: list[Child] = [
         tag("h1", title),
         soft(subject_of(found)),
-        answer(f"Where are at least {want_text(found.want)} of the users served?", is_served, bullets(told)),
+        answer(f"Where are at least {want_text(found.want)} of the users served?", is_served, bullets(answers)),
         section("The border", *border_parts(found)),
         section(
             f"Shares served in per cent: {first.name} down, {second.name} across", table(heads, rows, "n" * len(heads))

@@ -48,12 +48,12 @@ def text_of(found: Margins) -> str:
     whats = [f"{it.title}, {it.step}" for it in found.margins]
     width = max((len(it) for it in whats), default=0)
     for what, it in zip(whats, found.margins):
-        told = told_of(it, bool(found.users))
-        lines.append(f"{'! ' if it.turns else '  '}{what.ljust(width)}  {it.values.ljust(22)}  {told}".rstrip())
+        came = what_came(it, bool(found.users))
+        lines.append(f"{'! ' if it.turns else '  '}{what.ljust(width)}  {it.values.ljust(22)}  {came}".rstrip())
     return "\n".join(lines) + "\n"
 
 
-def told_of(margin: Margin, has_users: bool) -> str:
+def what_came(margin: Margin, has_users: bool) -> str:
     """What a change came to, in a line."""
     if margin.measure.refused:
         return f"the rules are refused: {visible(margin.measure.refused)}"
@@ -86,7 +86,7 @@ def table_of(found: Margins) -> Markup:
     rows: list[Sequence[Child]] = []
     for it in found.margins:
         served = served_text(it.measure) if found.users and not it.measure.refused else "-"
-        told = f"the rules are refused: {it.measure.refused}" if it.measure.refused else "; ".join(it.turns)
-        rows.append([it.title, it.step, it.values, served, told])
-    told_rows = frozenset(at for at, it in enumerate(found.margins) if it.turns)
-    return table(["what", "moved", "values", "served", "turns over"], rows, "tsstt", told_rows)
+        came = f"the rules are refused: {it.measure.refused}" if it.measure.refused else "; ".join(it.turns)
+        rows.append([it.title, it.step, it.values, served, came])
+    bold = frozenset(at for at, it in enumerate(found.margins) if it.turns)
+    return table(["what", "moved", "values", "served", "turns over"], rows, "tsstt", bold)

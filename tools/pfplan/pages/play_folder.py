@@ -4,7 +4,7 @@ import json
 from collections.abc import Sequence
 from pathlib import Path
 
-from pfplan.answers.plays_beside import Told, json_of
+from pfplan.answers.plays_beside import PlaysBeside, json_of
 from pfplan.common.outputs import whole_file
 from pfplan.pages.differences import differences_beside
 from pfplan.pages.frames import PICTURE_STYLE
@@ -29,17 +29,17 @@ def names_of(paths: Sequence[Path]) -> list[str]:
     ]
 
 
-def write_plays(into: Path, folders: Sequence[Path], told: Told) -> None:
+def write_plays(into: Path, folders: Sequence[Path], played: PlaysBeside) -> None:
     """Writes what the plays came to: the numbers of each into its folder, and text, page and pictures."""
-    for folder, it in zip(folders, told.plays):
+    for folder, it in zip(folders, played.plays):
         with whole_file(folder / "summary.json") as out:
-            out.write(json.dumps(json_of(told.scenario, it), indent=2) + "\n")
+            out.write(json.dumps(json_of(played.scenario, it), indent=2) + "\n")
     with whole_file(into / "summary.txt") as out:
-        out.write(text_of(told))
-    drawn, why_none = drawn_of(told)
+        out.write(text_of(played))
+    drawn, why_none = drawn_of(played)
     for kind, pictures in drawn.items():
         for place, picture in zip(folders, pictures):
             with whole_file(place / FILES[kind]) as out:
                 out.write(standalone(picture, PICTURE_STYLE))
     with whole_file(into / PAGE) as out:
-        out.write(page_of(told, drawn, why_none, differences_beside(into)))
+        out.write(page_of(played, drawn, why_none, differences_beside(into)))

@@ -5,7 +5,7 @@ from __future__ import annotations
 from collections import Counter
 from collections.abc import Iterator, Mapping, Sequence
 
-from pfplan.answers.plays_beside import Told
+from pfplan.answers.plays_beside import PlaysBeside
 from pfplan.answers.timelines import Moment, Timeline
 from pfplan.common.errors import Trouble
 from pfplan.common.figures import counted
@@ -62,7 +62,7 @@ def _in(begin: int, seconds: int, counters: Sequence[Counter[int]]) -> int:
     return sum(it[at] for it in counters for at in range(begin, begin + seconds))
 
 
-def page_of(found: Told, drawn: Mapping[str, Sequence[Markup]], why_none: str, differences: str) -> str:
+def page_of(found: PlaysBeside, drawn: Mapping[str, Sequence[Markup]], why_none: str, differences: str) -> str:
     """The text of the page. `why_none` says why there are no pictures."""
     title = f"{visible(found.scenario.name)}, played"
     good = all(users_of(it)[0] == users_of(it)[1] for it in found.plays)
@@ -113,7 +113,7 @@ def limit_points(play: Played) -> Iterator[Child]:
     yield f"{counted(play.most_held, 'state')} held at most"
 
 
-def drawn_of(found: Told) -> tuple[dict[str, list[Markup]], str]:
+def drawn_of(found: PlaysBeside) -> tuple[dict[str, list[Markup]], str]:
     """The pictures of each kind, one for each ruleset, those of a kind on one scale; or why there are none.
 
     Connections begin within the scenario's seconds; how full the table is, is shown to the end of the longest play.
@@ -130,7 +130,7 @@ def drawn_of(found: Told) -> tuple[dict[str, list[Markup]], str]:
     return drawn, ""
 
 
-def _pictures(found: Told, drawn: Mapping[str, Sequence[Markup]], why_none: str) -> Iterator[Markup]:
+def _pictures(found: PlaysBeside, drawn: Mapping[str, Sequence[Markup]], why_none: str) -> Iterator[Markup]:
     if why_none:
         yield section("Over time", soft(f"No pictures: {why_none}."))
     for kind, pictures in drawn.items():

@@ -4,7 +4,7 @@ from __future__ import annotations
 
 from collections.abc import Iterator, Sequence
 
-from pfplan.answers.plays_beside import Told
+from pfplan.answers.plays_beside import PlaysBeside
 from pfplan.common.figures import counted, share_text
 from pfplan.common.visible import visible
 from pfplan.pages.record_texts import letters
@@ -16,7 +16,7 @@ from pfplan.traces.scenarios.playing import Played
 Row = tuple[str, list[str]]
 
 
-def rows_of(found: Told) -> Iterator[Row]:
+def rows_of(found: PlaysBeside) -> Iterator[Row]:
     """The table: a name and a cell for each ruleset."""
     for at, group in enumerate(found.scenario.groups):
         counts = [it.tally.counts[at] for it in found.plays]
@@ -89,7 +89,7 @@ def users_of(play: Played) -> tuple[int, int, int]:
     )
 
 
-def headline_of(found: Told, at: int) -> str:
+def headline_of(found: PlaysBeside, at: int) -> str:
     """What became of the users under one ruleset, in a sentence."""
     connections, at_once, served = users_of(found.plays[at])
     if not connections:
@@ -98,7 +98,7 @@ def headline_of(found: Told, at: int) -> str:
     return f"{shares[0]} of the users' connections are served without waiting, {shares[1]} in the end"
 
 
-def subject_of(found: Told) -> str:
+def subject_of(found: PlaysBeside) -> str:
     """What was played, and what the words of the table mean."""
     scenario = found.scenario
     return (
@@ -107,7 +107,7 @@ def subject_of(found: Told) -> str:
     )
 
 
-def text_of(found: Told) -> str:
+def text_of(found: PlaysBeside) -> str:
     """The plays for people."""
     names = letters(len(found.names))
     lines = [subject_of(found)]

@@ -263,11 +263,11 @@ def when(limit: Limit, summary: Summary) -> str:
     if limit.first_moment is None or limit.last_moment is None or summary.first_moment is None:
         return f"in rows {limit.first_row:,} to {limit.last_row:,}"
     first, last = limit.first_moment - summary.first_moment, limit.last_moment - summary.first_moment
-    told = f"at second {first:,}" if first == last else f"from second {first:,} to {last:,}"
+    seconds = f"at second {first:,}" if first == last else f"from second {first:,} to {last:,}"
     if limit.first_moment < SINCE_1970:
-        return told
+        return seconds
     begin, end = moment_text(limit.first_moment), moment_text(limit.last_moment)
-    return f"{told} ({begin})" if first == last else f"{told} ({begin} to {end})"
+    return f"{seconds} ({begin})" if first == last else f"{seconds} ({begin} to {end})"
 
 
 def limiting(summary: Summary, word: str) -> list[str]:
@@ -407,12 +407,12 @@ def rules_parts(summary: Summary) -> Iterator[Child]:
     rows: list[Sequence[Child]] = []
     for item in shown:
         words = decided.get(item, {})
-        told = ", ".join(f"{word} {count:,}" for word, count in words.items()) or (
+        counts = ", ".join(f"{word} {count:,}" for word, count in words.items()) or (
             "never" if item in summary.undecided else ""
         )
         label = [summary.labels.get(item, "")] if has_labels else []
         place = [places.get(item, "")] if places else []
-        rows.append([f"@{item}", *place, f"{sum(words.values()):,}", told, *label, summary.rules[item]])
+        rows.append([f"@{item}", *place, f"{sum(words.values()):,}", counts, *label, summary.rules[item]])
     heads = [
         "rule",
         *(["stands at"] if places else []),

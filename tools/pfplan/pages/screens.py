@@ -52,12 +52,12 @@ def held_text(view: View) -> str:
 
 def refused_text(view: View) -> str:
     """What a limit refused, in all and since the last screen, by the limit's word."""
-    told = [
+    counts = [
         f"{word} {view.words[word]:,}{new_text(view.new_words.get(word, 0))}"
         for word in WORDS
         if word.startswith("drop:") and view.words.get(word)
     ]
-    return ", ".join(told) or "none"
+    return ", ".join(counts) or "none"
 
 
 def new_text(count: int) -> str:
@@ -96,9 +96,10 @@ def named(addresses: Sequence[str]) -> str:
 def users_text(view: View) -> str:
     """What became of the users' connections so far, and who was refused most."""
     outcomes = view.outcomes or Counter()
-    told = ", ".join(f"{outcomes[kind]:,} {kind}" for kind in KINDS if outcomes[kind] or kind in ("served", "refused"))
+    shown = [it for it in KINDS if outcomes[it] or it in ("served", "refused")]
+    counts = ", ".join(f"{outcomes[it]:,} {it}" for it in shown)
     most = ", ".join(f"{visible(it.address)} {it.count:,}" for it in view.refused_users)
-    text = f"{counted(sum(outcomes.values()), 'connection')}: {told}" + (f"; refused most: {most}" if most else "")
+    text = f"{counted(sum(outcomes.values()), 'connection')}: {counts}" + (f"; refused most: {most}" if most else "")
     return text + (f"; {forgotten_text(view.forgotten)}" if view.forgotten else "")
 
 

@@ -82,11 +82,11 @@ def beyond(found: Sizing, low: int, high: int) -> str:
     values = sorted(found.measures)
     before = [it for it in values if it < low][-1:]
     after = [it for it in values if it > high][:1]
-    told = [
+    nearest = [
         f"at {it:,} {'the rules are refused' if found.measures[it].refused else 'it is ' + share_of(found, it)}"
         for it in before + after
     ]
-    return f"; {', '.join(told)}" if told else ""
+    return f"; {', '.join(nearest)}" if nearest else ""
 
 
 def share_of(found: Sizing, value: int) -> str:
@@ -132,12 +132,12 @@ def text_of(found: Sizing) -> str:
 
 def page_of(found: Sizing) -> str:
     """The same as a page."""
-    told = list(verdicts(found))
+    answers = list(verdicts(found))
     title = f"Which value of {found.varied.title}?"
     parts: list[Child] = [
         tag("h1", title),
         soft(subject_of(found)),
-        answer(told[0], bool(grids.intervals(found.meets)), bullets(told[1:])),
+        answer(answers[0], bool(grids.intervals(found.meets)), bullets(answers[1:])),
         section("Curve", *curve_parts(found)),
         section("Values", table_of(found)),
         tag(
@@ -151,16 +151,16 @@ def page_of(found: Sizing) -> str:
 def table_of(found: Sizing) -> Markup:
     """The table of the page. Rows of values that serve the wanted share stand out."""
     rows: list[Sequence[Child]] = []
-    told = set()
+    bold = set()
     for at, value in enumerate(sorted(found.measures)):
         measure = found.measures[value]
         note = "refused: " + measure.refused if measure.refused else "now" if value == found.varied.value else ""
         rows.append([*cells_of(value, measure, found.moments, fates_of(found)), note])
         if found.meets[value]:
-            told.add(at)
+            bold.add(at)
     held = f"most states at {counted(found.moments, 'moment')}" if found.moments else "states at the end"
     heads = ["value", "served", "share", *fates_of(found), "dropped by limits", held]
-    return table([*heads, ""], rows, "n" * len(heads) + "t", frozenset(told))
+    return table([*heads, ""], rows, "n" * len(heads) + "t", frozenset(bold))
 
 
 def curve_parts(found: Sizing) -> Iterator[Child]:

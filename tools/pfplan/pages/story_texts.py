@@ -139,11 +139,11 @@ class Story:
         text = self._text(name)
         if not text:
             return "no rule"
-        told = f"rule {name}{_behind(self._origins.of(name))}"
+        placed = f"rule {name}{_behind(self._origins.of(name))}"
         if name in self._shown:
-            return told
+            return placed
         self._shown.add(name)
-        return f"{told}, `{visible(text)}`"
+        return f"{placed}, `{visible(text)}`"
 
     def _text(self, name: str) -> str:
         return self._items[int(name[1:])] if name != "-" and int(name[1:]) < len(self._items) else ""

@@ -28,8 +28,8 @@ def _lines(summary: Summary) -> Iterator[str]:
         yield from _part(_users_title(summary.users), _users(summary, summary.users))
     yield from _part("answers", _answers(summary))
     if summary.rules:
-        told = {int(rule[1:]) for rules in summary.answers.values() for rule in rules if rule != "-"}
-        yield from _part("rules that answered", (_rule(summary, it) for it in sorted(told)))
+        answered = {int(rule[1:]) for rules in summary.answers.values() for rule in rules if rule != "-"}
+        yield from _part("rules that answered", (_rule(summary, it) for it in sorted(answered)))
         yield from _part("rules that never decided", (_rule(summary, it) for it in summary.undecided))
     yield from _part("limits met", _limits(summary))
     if does_fill_decide(summary):

@@ -69,7 +69,7 @@ class Ruleset:
         """The text that a file of it has."""
         return self.text or "# no rule and no setting is left\n"
 
-    def told(self) -> list[str]:
+    def shown(self) -> list[str]:
         """The lines for standard error: what was left out, what else is to know, and how much there is of each."""
         changing = sum(it.changes_answer for it in self.leftovers)
         lines = [*_shown(self.leftovers), *(f"note: {it}" for it in self.notes)]
@@ -139,7 +139,7 @@ def convert_text(text: str, name: str, options: RuleOptions, records: Sequence[s
     anchors = {anchor.strip("/"): path for anchor, path in options.anchors}
     linker = Linker(sources, teller, dict(options.macros), anchors)
     statements = linker.link(parsed.statements)
-    if not statements and not teller.told:
+    if not statements and not teller.leftovers:
         raise Trouble(f"{name}: there is no statement in it", Status.RULES)
     expander = _expander(statements, teller, sources, options, by_table(records))
     expander.expand(statements)
@@ -147,14 +147,14 @@ def convert_text(text: str, name: str, options: RuleOptions, records: Sequence[s
     made = expander.chooser.tables
     lines = [*made.lines(), *expander.lines, *expander.settings.last_lines()]
     left, moving = _by_records(lines, expander, teller) if options.by_records else (lines, [])
-    files = list(dict.fromkeys([name, *(it.file for it in teller.told)]))
-    told = sorted(teller.told, key=lambda it: (files.index(it.file), it.line))
+    files = list(dict.fromkeys([name, *(it.file for it in teller.leftovers)]))
+    leftovers = sorted(teller.leftovers, key=lambda it: (files.index(it.file), it.line))
     whole = "".join(f"{it}\n" for it in left)
     limits = {
         limit: it.place for it in statements if isinstance(it, Setting) and it.name == "limit" for limit, _ in it.pairs
     }
     ruleset = Ruleset(
-        whole, expander.labels, tuple(told), _notes(teller, made, sources), tuple(expander.origins), tuple(moving),
+        whole, expander.labels, tuple(leftovers), _notes(teller, made, sources), tuple(expander.origins), tuple(moving),
         tuple(expander.numbers.found), expander.numbers.guessed, frozenset(expander.skipped), limits,
     )  # fmt: skip
     _check_size(name, lines, ruleset, expander.settings.limits)
@@ -188,7 +188,7 @@ def write_ruleset(folder: Path, ruleset: Ruleset) -> None:
     """Writes the files `rules` and `left-out.txt` of a folder. Trouble as `write_rules`."""
     write_rules(folder / "rules", ruleset)
     with whole_file(folder / "left-out.txt") as file:
-        file.writelines(f"{it}\n" for it in ruleset.told())
+        file.writelines(f"{it}\n" for it in ruleset.shown())
 
 
 def _expander(

@@ -175,7 +175,7 @@ class Teller:
     """Collects what is left out. With `is_strict` the first that can change an answer is Trouble with status 3."""
 
     is_strict: bool = False
-    told: list[Leftover] = field(default_factory=list)
+    leftovers: list[Leftover] = field(default_factory=list)
     notes: list[str] = field(default_factory=list)
     _seen: set[Leftover] = field(default_factory=set)
 
@@ -186,7 +186,7 @@ class Teller:
         if leftover in self._seen:
             return
         self._seen.add(leftover)
-        self.told.append(leftover)
+        self.leftovers.append(leftover)
         if self.is_strict and reason.changes:
             raise Trouble(f"{leftover.shown()} (--strict)", Status.RULES)
 

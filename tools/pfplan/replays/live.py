@@ -21,7 +21,7 @@ from pfplan.traces.records import End, read_answer
 PIECE = 8192
 
 
-def started(words: Sequence[str], told: IO[bytes], *, is_fed: bool) -> "subprocess.Popen[bytes]":
+def started(words: Sequence[str], errors: IO[bytes], *, is_fed: bool) -> "subprocess.Popen[bytes]":
     """A program of the pipeline. It is in a group of its own: an interrupt from the terminal is for us, who end the
     others in order.
 
@@ -32,7 +32,7 @@ def started(words: Sequence[str], told: IO[bytes], *, is_fed: bool) -> "subproce
             words,
             stdin=subprocess.PIPE if is_fed else None,
             stdout=subprocess.PIPE,
-            stderr=told,
+            stderr=errors,
             bufsize=0,
             process_group=0,
         )
@@ -40,10 +40,10 @@ def started(words: Sequence[str], told: IO[bytes], *, is_fed: bool) -> "subproce
         raise Trouble(f"{words[0]}: can't be run: {reason_of(error)}", Status.NOT_BUILT) from None
 
 
-def last_said(told: IO[bytes], status: int) -> str:
+def last_said(errors: IO[bytes], status: int) -> str:
     """The last line that a program wrote to standard error, or its status."""
-    told.seek(0)
-    lines = told.read(65536).decode("utf-8", "replace").splitlines()
+    errors.seek(0)
+    lines = errors.read(65536).decode("utf-8", "replace").splitlines()
     return lines[-1] if lines else f"ended with status {status} and said nothing"
 
 
@@ -72,8 +72,8 @@ class Capture:
     """The records of the capture on standard input, as pfstrace makes them."""
 
     def __init__(self, words: Sequence[str]) -> None:
-        self._told = tempfile.TemporaryFile(prefix="pfplan-")
-        self._process = started([program("pfstrace"), "--line-buffered", *words], self._told, is_fed=False)
+        self._errors = tempfile.TemporaryFile(prefix="pfplan-")
+        self._process = started([program("pfstrace"), "--line-buffered", *words], self._errors, is_fed=False)
         assert self._process.stdout is not None
         self._lines = Lines(self._process.stdout)
         self._is_begun = False
@@ -102,8 +102,8 @@ class Capture:
         """What it told of its frames, once all is read, and what was wrong: a capture that ends within a packet, or
         memory."""
         status = self._process.wait()
-        self._told.seek(0)
-        lines = self._told.read(65536).decode("utf-8", "replace").splitlines()
+        self._errors.seek(0)
+        lines = self._errors.read(65536).decode("utf-8", "replace").splitlines()
         if status == 0 or self._is_stopped:
             return lines, None
         failed = status not in (Status.REFUSED, Status.WORDS)
@@ -116,8 +116,8 @@ class Replaying:
 
     def __init__(self, name: str, rules: Path) -> None:
         self.name = name
-        self._told = tempfile.TemporaryFile(prefix="pfplan-")
-        self._process = started([program(), "replay", "--line-buffered", str(rules), "-"], self._told, is_fed=True)
+        self._errors = tempfile.TemporaryFile(prefix="pfplan-")
+        self._process = started([program(), "replay", "--line-buffered", str(rules), "-"], self._errors, is_fed=True)
         assert self._process.stdin is not None and self._process.stdout is not None
         self._input = self._process.stdin
         self._lines = Lines(self._process.stdout)
@@ -198,5 +198,5 @@ class Replaying:
         """Trouble with what it said when it ended before its time."""
         self.stop()
         raise Trouble(
-            f"{program()}: {last_said(self._told, self._process.returncode)} (rules {self.name})", Status.FAILED
+            f"{program()}: {last_said(self._errors, self._process.returncode)} (rules {self.name})", Status.FAILED
         )

@@ -64,10 +64,10 @@ def check_parallel() -> None:
     for name, package in PACKAGES.items():
         if shutil.which(name) is None:
             raise Trouble(f"--sshlogin: {name} is not here (Debian package {package})", Status.FAILED)
-    told = subprocess.run(
+    version = subprocess.run(
         ["parallel", "--version"], capture_output=True, text=True, check=False, stdin=subprocess.DEVNULL
     )
-    if not told.stdout.startswith("GNU parallel"):
+    if not version.stdout.startswith("GNU parallel"):
         raise Trouble("--sshlogin: the command parallel is not that of GNU (Debian package parallel)", Status.FAILED)
 
 
@@ -157,10 +157,10 @@ class Runs:
             process.stdin.flush()
         said = process.stdout.readline()
         if not said.endswith("\n"):
-            told = process.stderr.read()
+            errors = process.stderr.read()
             status = process.wait()
             self._drop(process)
-            raise _trouble(told, status)
+            raise _trouble(errors, status)
         self._idle.put(process)
         return said
 
@@ -186,8 +186,8 @@ class Runs:
         """Runs by GNU parallel. Each prints one line, which begins with the name of its rules."""
         process = self._start(self._parallel(), self._folder)
         assert process.stdin is not None and process.stdout is not None and process.stderr is not None
-        told: list[str] = []
-        reader = threading.Thread(target=told.extend, args=(process.stderr,), daemon=True)
+        errors: list[str] = []
+        reader = threading.Thread(target=errors.extend, args=(process.stderr,), daemon=True)
         reader.start()
         said: dict[str, str] = {}
         with contextlib.suppress(BrokenPipeError):
@@ -202,7 +202,7 @@ class Runs:
         reader.join()
         self._drop(process)
         if status != 0 or set(said) != set(names):
-            raise _trouble("".join(told), status)
+            raise _trouble("".join(errors), status)
         return [said[it] for it in names]
 
     def _clear_there(self) -> None:
@@ -299,10 +299,10 @@ def _end(process: "subprocess.Popen[str]") -> None:
             continue
 
 
-def _trouble(told: str, status: int) -> Trouble:
+def _trouble(errors: str, status: int) -> Trouble:
     """What a run that failed said: its last line, without the name of the command; else what ssh, rsync or GNU parallel
     said first."""
-    lines = [it.strip() for it in told.splitlines() if it.strip() and not it.startswith("parallel: Warning: ")]
+    lines = [it.strip() for it in errors.splitlines() if it.strip() and not it.startswith("parallel: Warning: ")]
     own = [it for it in lines if it.startswith("pfplan measure: ")]
     said = own[-1] if own else lines[0] if lines else f"a run ended with status {status} and said nothing"
     known = status if own and status in set(Status) else Status.FAILED

@@ -63,10 +63,10 @@ def run_replay(
                 if progress:
                     progress.at(row)
         return
-    with whole_file(replay.report) as report, tempfile.TemporaryFile("w+", prefix="pfplan-") as told:
-        with _started(_words(replay.rules, replay.trace), report, told) as process:
+    with whole_file(replay.report) as report, tempfile.TemporaryFile("w+", prefix="pfplan-") as errors:
+        with _started(_words(replay.rules, replay.trace), report, errors) as process:
             _wait(process, Path(report.name), progress)
-            _check_end(process.returncode, told, replay.rules, replay.trace)
+            _check_end(process.returncode, errors, replay.rules, replay.trace)
 
 
 def replay_into(folder: Path, trace: Path, entries: Sequence[str], moments: int = 0) -> list[Held]:
@@ -123,13 +123,13 @@ def _report(rules: Path, trace: Path, asked: Asking, heard: Heard | None) -> Ite
     check_rules(rules)
     check_trace(trace)
     words = _words(rules, trace if asked.insertions is None else "-")
-    with tempfile.TemporaryFile("w+", prefix="pfplan-") as told, _started(
-        words, subprocess.PIPE, told, asked.insertions
+    with tempfile.TemporaryFile("w+", prefix="pfplan-") as errors, _started(
+        words, subprocess.PIPE, errors, asked.insertions
     ) as process:
         assert process.stdout is not None
         with process.stdout as lines:
             yield lines
-        _check_end(process.wait(), told, rules, trace, asked.numbers)
+        _check_end(process.wait(), errors, rules, trace, asked.numbers)
         if heard:
             heard.finish()
 
@@ -164,11 +164,11 @@ def _renumbered(lines: Sequence[str], first: int) -> Iterator[str]:
 def show_rules(rules: Path) -> list[str]:
     """The lines of the canonical text of a rules text, as `./pfsrc show` prints them. Trouble where it is refused."""
     check_rules(rules)
-    with tempfile.TemporaryFile("w+", prefix="pfplan-") as told, _started(
-        [program(), "show", str(rules)], subprocess.PIPE, told
+    with tempfile.TemporaryFile("w+", prefix="pfplan-") as errors, _started(
+        [program(), "show", str(rules)], subprocess.PIPE, errors
     ) as process:
         text, _ = process.communicate()
-        _check_end(process.returncode, told, rules, rules)
+        _check_end(process.returncode, errors, rules, rules)
     return text.splitlines()
 
 
@@ -211,13 +211,13 @@ class _Feeder(threading.Thread):
 
 @contextlib.contextmanager
 def _started(
-    words: list[str], output: IO[str] | int, told: IO[str], insertions: Insertions | None = None
+    words: list[str], output: IO[str] | int, errors: IO[str], insertions: Insertions | None = None
 ) -> Iterator["subprocess.Popen[str]"]:
     """The program, started, with the trace of `insertions` as its standard input; it is ended where the body leaves
     before it has."""
     source = subprocess.PIPE if insertions else subprocess.DEVNULL
     try:
-        process = subprocess.Popen(words, stdin=source, stdout=output, stderr=told, text=True, encoding="latin-1")
+        process = subprocess.Popen(words, stdin=source, stdout=output, stderr=errors, text=True, encoding="latin-1")
     except OSError as error:
         raise Trouble(
             f"{words[0]}: can't be run: {reason_of(error)} (PFSRC names the program)", Status.NOT_BUILT
@@ -239,15 +239,15 @@ def _started(
         )
 
 
-def _check_end(status: int, told: IO[str], rules: Path, trace: Path, numbers: Rows | None = None) -> None:
+def _check_end(status: int, errors: IO[str], rules: Path, trace: Path, numbers: Rows | None = None) -> None:
     """Trouble where the program did not end well: its own line, with the file's name for the word before its colon.
 
     `numbers` are those of the rows of a trace into which records were put.
     """
     if status == 0:
         return
-    told.seek(0)
-    said = (told.read(4096).splitlines() or [f"ended with status {status} and said nothing"])[-1]
+    errors.seek(0)
+    said = (errors.read(4096).splitlines() or [f"ended with status {status} and said nothing"])[-1]
     found = re.fullmatch(r"trace: row (\d+): (.*)", said)
     if numbers and found and int(found[1]):
         row = numbers.own(int(found[1]))

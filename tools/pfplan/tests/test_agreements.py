@@ -90,10 +90,10 @@ class Agreements(Agreeing):
             with self.subTest(name):
                 conf = self.write("pf.conf", with_log((TOP / "examples" / name / "pf.conf").read_text("utf-8")))
                 packets = self.packets(conf, TOP / "examples" / name / "trace.csv")
-                told, done = self.agree(conf, packets)
-                skipped = sum(it["packets"] for it in told["judged"] if it["kind"] == judging.ICMP)
+                answer, done = self.agree(conf, packets)
+                skipped = sum(it["packets"] for it in answer["judged"] if it["kind"] == judging.ICMP)
                 self.assertEqual(
-                    (told["packets"], told["agree"], told["differ"], told["apart"]),
+                    (answer["packets"], answer["agree"], answer["differ"], answer["apart"]),
                     (len(packets), len(packets) - skipped, 0, skipped),
                 )
                 self.assertTrue(done.out.startswith("pf and pfsrc agree on 100 % of the packets"), done.out)
@@ -102,9 +102,9 @@ class Agreements(Agreeing):
         conf, trace = self.write("pf.conf", CONF), self.trace(TRACE)
         answered, rules = reported(self.folder, conf, trace)
         self.assertEqual(tuple(it.word for _, it in answered), WORDS)
-        told, _ = self.agree(conf, log_of(answered, rules))
-        self.assertEqual((told["agree"], told["differ"], told["apart"]), (15, 0, 1))
-        pairs = {(it["pf"], it["pfsrc"]): it["packets"] for it in told["judged"]}
+        answer, _ = self.agree(conf, log_of(answered, rules))
+        self.assertEqual((answer["agree"], answer["differ"], answer["apart"]), (15, 0, 1))
+        pairs = {(it["pf"], it["pfsrc"]): it["packets"] for it in answer["judged"]}
         self.assertEqual(pairs[("src-limit", "drop:max-src-states")], 1)
         self.assertEqual(pairs[("state-limit", "drop:max")], 1)
         self.assertEqual(pairs[("memory", "drop:states")], 2)
@@ -119,16 +119,16 @@ class Agreements(Agreeing):
     def test_a_match_rule_logs_too(self) -> None:
         conf, trace = self.write("pf.conf", CONF), self.trace(TRACE)
         packets = repeated(self.packets(conf, trace), Logged(MATCH, 0))
-        told, done = self.agree(conf, packets)
-        self.assertEqual((told["rows"], told["packets"], told["agree"], told["differ"]), (32, 16, 15, 0))
+        answer, done = self.agree(conf, packets)
+        self.assertEqual((answer["rows"], answer["packets"], answer["agree"], answer["differ"]), (32, 16, 15, 0))
         self.assertIn("16 rows of packets that are logged again", done.out)
 
     def test_the_match_in_front_of_a_refusal_is_of_the_same_packet(self) -> None:
         conf, trace = self.write("pf.conf", CONF), self.trace(TRACE)
         packets = self.packets(conf, trace)
         refused = [(record, replace(told, reason=0)) for record, told in packets[12:13]]
-        told, _ = self.agree(conf, [*packets[:12], *refused, *packets[12:]])
-        self.assertEqual((told["rows"], told["packets"], told["agree"], told["differ"]), (17, 16, 15, 0))
+        answer, _ = self.agree(conf, [*packets[:12], *refused, *packets[12:]])
+        self.assertEqual((answer["rows"], answer["packets"], answer["agree"], answer["differ"]), (17, 16, 15, 0))
 
     def test_a_log_of_what_the_rules_log(self) -> None:
         """Without the packets of rule 25, and of states by rule 22 with the first alone."""
@@ -140,24 +140,24 @@ class Agreements(Agreeing):
         logged = log_of(answered[:-1], rules, whole=False)
         self.assertEqual([record.target_port for record, _ in logged], ["22", "443"])
         # pf's state had ended by packets that are not logged, so pf makes one; here it is still held
-        told, done = self.agree(conf, [*logged, (answered[-1][0], logged[0][1])])
-        self.assertEqual((told["agree"], told["differ"], told["apart"]), (2, 0, 1))
-        self.assertEqual([it["kind"] for it in told["judged"] if it["verdict"] == "apart"], [judging.WITHOUT_ALL])
-        self.assertEqual((told["rules_without_log"], told["rules_without_all"]), ([9], [8]))
+        answer, done = self.agree(conf, [*logged, (answered[-1][0], logged[0][1])])
+        self.assertEqual((answer["agree"], answer["differ"], answer["apart"]), (2, 0, 1))
+        self.assertEqual([it["kind"] for it in answer["judged"] if it["verdict"] == "apart"], [judging.WITHOUT_ALL])
+        self.assertEqual((answer["rules_without_log"], answer["rules_without_all"]), ([9], [8]))
         # a source that pf has in a table by what is not logged
-        told, _ = self.agree(conf, [*logged, (answered[3][0], Logged(BLOCK, 2))])
-        self.assertEqual((told["agree"], told["differ"], told["apart"]), (2, 0, 1))
-        self.assertEqual([it["kind"] for it in told["judged"] if it["verdict"] == "apart"], [judging.WITHOUT_LOG])
+        answer, _ = self.agree(conf, [*logged, (answered[3][0], Logged(BLOCK, 2))])
+        self.assertEqual((answer["agree"], answer["differ"], answer["apart"]), (2, 0, 1))
+        self.assertEqual([it["kind"] for it in answer["judged"] if it["verdict"] == "apart"], [judging.WITHOUT_LOG])
 
 
 class Example(FolderCase):
     def test_what_the_example_shows(self) -> None:
         example = TOP / "examples" / "agree"
         done = pfplan("agree", example / "pf.conf", example / "pflog", "--into", self.folder / "answer")
-        told = (example / "answer" / "agree.txt").read_text("utf-8")
-        self.assertEqual((done.status, done.out), (0, f"{told}{self.folder / 'answer' / 'report.html'}\n"))
+        answer = (example / "answer" / "agree.txt").read_text("utf-8")
+        self.assertEqual((done.status, done.out), (0, f"{answer}{self.folder / 'answer' / 'report.html'}\n"))
         shown = (example / "README.md").read_text("utf-8")
-        self.assertIn("".join(f"    {it}\n".replace("    \n", "\n") for it in told.splitlines()[:11]), shown)
+        self.assertIn("".join(f"    {it}\n".replace("    \n", "\n") for it in answer.splitlines()[:11]), shown)
 
 
 class Differences(Agreeing):
@@ -223,8 +223,8 @@ class Differences(Agreeing):
     def test_no_address_unless_asked_for(self) -> None:
         _, done = self.differing(4, Logged(BLOCK, 1))
         page = (self.folder / "answer" / "report.html").read_text("utf-8")
-        told = (self.folder / "answer" / "agree.json").read_text("utf-8")
-        for text in (done.out, page, told):
+        answer = (self.folder / "answer" / "agree.json").read_text("utf-8")
+        for text in (done.out, page, answer):
             self.assertNotRegex(text, r"203\.0\.113|192\.0\.2")
         _, done = self.differing(4, Logged(BLOCK, 1), "--addresses")
         self.assertIn("in em0 tcp 203.0.113.66:4002 to 192.0.2.1:80 flags S", done.out)
@@ -234,16 +234,16 @@ class Differences(Agreeing):
             [tcp(1, "203.0.113.2", port, 443) for port in range(1, 21)]
         )
         packets = [(record, Logged(BLOCK, 2)) for record, _ in self.packets(conf, trace)]
-        told, _ = self.agree(conf, packets)
-        self.assertEqual((told["differ"], [it["row"] for it in told["differences"]]), (20, list(range(1, 11))))
+        answer, _ = self.agree(conf, packets)
+        self.assertEqual((answer["differ"], [it["row"] for it in answer["differences"]]), (20, list(range(1, 11))))
 
     def test_a_state_from_before_the_log(self) -> None:
         conf, trace = self.write("pf.conf", CONF), self.trace(
             [tcp(1, "203.0.113.2", 4001, 80, "A"), tcp(1, "203.0.113.2", 4002, 443, "A")]
         )
         packets = [(record, Logged(PASS, 6)) for record, _ in self.packets(conf, trace)]
-        told, _ = self.agree(conf, packets)
-        self.assertEqual([it["explained_by"] for it in told["differences"]], [explaining.BEGINNING] * 2)
+        answer, _ = self.agree(conf, packets)
+        self.assertEqual([it["explained_by"] for it in answer["differences"]], [explaining.BEGINNING] * 2)
 
 
 class NotCompared(Agreeing):

@@ -35,7 +35,7 @@ class BadInput(FolderCase):
         self.out = self.folder / "out"
         self.env = {"PFSRC": str(STAND_IN)}
 
-    def told(self, *words: object, env: dict[str, str] | None = None) -> tuple[int, str]:
+    def refusal(self, *words: object, env: dict[str, str] | None = None) -> tuple[int, str]:
         """The status and the one line of a call that has to fail and to leave nothing."""
         before = self.left()
         done = pfplan(*words, env=env or self.env)
@@ -70,48 +70,48 @@ class BadInput(FolderCase):
     def test_no_such_file(self) -> None:
         for place in ("rules", "trace", "report", "capture"):
             for words in self.calls(place, self.folder / "nowhere"):
-                status, line = self.told(*words)
+                status, line = self.refusal(*words)
                 self.assertEqual(status, Status.FAILED, words)
                 self.assertIn("nowhere: no such file", line)
 
     def test_a_folder(self) -> None:
         for place in ("rules", "trace", "report", "capture"):
             for words in self.calls(place, "/usr"):
-                status, line = self.told(*words)
+                status, line = self.refusal(*words)
                 self.assertEqual(status, Status.FAILED, words)
                 self.assertIn("/usr: a folder, where a file is wanted", line)
 
     def test_empty(self) -> None:
         for place in ("trace", "report", "capture"):
             for words in self.calls(place, self.empty):
-                status, line = self.told(*words)
+                status, line = self.refusal(*words)
                 self.assertEqual(status, Status.REFUSED, words)
                 self.assertIn("empty", line)
 
     def test_a_trace_for_rules(self) -> None:
         for words in self.calls("rules", self.good):
-            status, line = self.told(*words)
+            status, line = self.refusal(*words)
             self.assertEqual(status, Status.RULES, words)
             self.assertIn("trace: a trace, where rules are wanted", line)
 
     def test_rules_for_a_trace(self) -> None:
         for words in self.calls("trace", self.rules):
-            status, line = self.told(*words)
+            status, line = self.refusal(*words)
             self.assertEqual(status, Status.REFUSED, words)
             self.assertIn("rules: line 1: no header of a trace", line)
 
     def test_a_capture_for_a_trace(self) -> None:
         for words in self.calls("trace", self.capture):
-            self.assertIn("pfplan trace makes one of it", self.told(*words)[1])
+            self.assertIn("pfplan trace makes one of it", self.refusal(*words)[1])
 
     def test_a_text_for_a_capture(self) -> None:
         for path in (self.text, self.good, self.answers):
             for words in self.calls("capture", path):
-                self.assertIn("where a capture is wanted", self.told(*words)[1])
+                self.assertIn("where a capture is wanted", self.refusal(*words)[1])
 
     def test_a_trace_for_a_report(self) -> None:
         for path in (self.good, self.capture, self.text):
-            self.assertIn(str(path), self.told("summary", path, "--out", self.out)[1])
+            self.assertIn(str(path), self.refusal("summary", path, "--out", self.out)[1])
 
     def test_no_program(self) -> None:
         for words in (
@@ -119,7 +119,7 @@ class BadInput(FolderCase):
             ("summary", self.answers, "--rules", self.rules),
             ("compare", self.rules, self.rules, self.good),
         ):
-            status, line = self.told(*words, env={"PFSRC": str(self.folder / "pfsrc")})
+            status, line = self.refusal(*words, env={"PFSRC": str(self.folder / "pfsrc")})
             self.assertEqual(status, Status.NOT_BUILT)
             self.assertIn("pfsrc: can't be run: No such file or directory", line)
             self.assertIn("PFSRC", line)
@@ -134,7 +134,8 @@ class BadInput(FolderCase):
 
     def test_another_program(self) -> None:
         self.assertIn(
-            "is not pfsrc", self.told("run", self.rules, self.good, "--into", self.out, env={"PFSRC": "/bin/false"})[1]
+            "is not pfsrc",
+            self.refusal("run", self.rules, self.good, "--into", self.out, env={"PFSRC": "/bin/false"})[1],
         )
 
     def test_a_record_that_the_program_refuses(self) -> None:
@@ -150,17 +151,17 @@ class BadInput(FolderCase):
 
     def test_a_folder_that_is_a_file(self) -> None:
         self.assertIn(
-            "a file, where a folder is wanted", self.told("run", self.rules, self.good, "--into", self.text)[1]
+            "a file, where a folder is wanted", self.refusal("run", self.rules, self.good, "--into", self.text)[1]
         )
-        self.assertIn("a folder, where a file is to be written", self.told("scenario", "--out", self.folder)[1])
+        self.assertIn("a folder, where a file is to be written", self.refusal("scenario", "--out", self.folder)[1])
         self.assertIn(
             "can't be written: No such file or directory",
-            self.told("scenario", "--out", self.folder / "no" / "where")[1],
+            self.refusal("scenario", "--out", self.folder / "no" / "where")[1],
         )
 
     def test_a_full_disk(self) -> None:
         for words in (("scenario",), ("summary", self.answers), ("rules", self.rules)):
-            status, line = self.told(*words, "--out", "/dev/full")
+            status, line = self.refusal(*words, "--out", "/dev/full")
             self.assertEqual((status, line), (Status.FAILED, "/dev/full: can't be written: No space left on device"))
             with open("/dev/full", "wb") as full:
                 ended = subprocess.run(
@@ -187,7 +188,7 @@ class BadInput(FolderCase):
 
     def test_what_stood_there_stays(self) -> None:
         self.out.write_text("before\n", encoding="utf-8")
-        self.told("summary", self.text, "--out", self.out)
+        self.refusal("summary", self.text, "--out", self.out)
         self.assertEqual(self.out.read_text("utf-8"), "before\n")
 
     def test_nobody_reads(self) -> None:

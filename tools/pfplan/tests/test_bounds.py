@@ -70,7 +70,7 @@ class NamedFiles(FolderCase):
         self.secret = self.write("secret", "root:hidden:0:0\n")
         self.conf = self.folder / "root" / "etc" / "pf.conf"
 
-    def told(self, text: str, *words: object) -> tuple[int, str]:
+    def refusal(self, text: str, *words: object) -> tuple[int, str]:
         """The status and standard error of `rules` over a text in the folder."""
         self.conf.write_text(text, "utf-8")
         done = pfplan("rules", self.conf, *words, "--out", self.folder / "made")
@@ -85,21 +85,21 @@ class NamedFiles(FolderCase):
                 f'table <t> file "{name}"\npass\n',
                 f'anchor x\nload anchor x from "{name}"\n',
             ):
-                status, err = self.told(text, *root)
+                status, err = self.refusal(text, *root)
                 self.assertEqual(status, Status.RULES, (text, err))
                 self.assertIn(f"'{name}' leads out of --root", err)
                 self.assertNotIn("hidden", err)
         (self.folder / "root" / "etc" / "more").write_text("pass\n", "utf-8")
         for name in ("more", "/etc/more", "../etc/more"):
-            self.assertEqual(self.told(f'include "{name}"\n', *root)[0], 0)
+            self.assertEqual(self.refusal(f'include "{name}"\n', *root)[0], 0)
 
     def test_without_root_nothing_strange_is_quoted(self) -> None:
         for text in (f'include "{self.secret}"\npass\n', f'anchor x\nload anchor x from "{self.secret}"\n'):
-            status, err = self.told(text)
+            status, err = self.refusal(text)
             self.assertEqual(status, Status.RULES)
             self.assertNotIn("hidden", err)
             self.assertIn(f"{self.secret} is no text of rules at its line 1; nothing of it is quoted", err)
-        status, err = self.told(f'table <t> file "{self.secret}"\ntable <u> file "{self.secret}"\nblock from <t>\n')
+        status, err = self.refusal(f'table <t> file "{self.secret}"\ntable <u> file "{self.secret}"\nblock from <t>\n')
         self.assertEqual(status, 0)
         self.assertNotIn("hidden", err)
         self.assertIn(f"1 entries of <t> in {self.secret}", err)
@@ -107,16 +107,16 @@ class NamedFiles(FolderCase):
 
     def test_entries_that_are_no_table(self) -> None:
         words = "".join(f"word{it}\n" for it in range(500))
-        status, err = self.told("table <t>\nblock from <t>\n", "--entries", f"t={self.write('words', words)}")
+        status, err = self.refusal("table <t>\nblock from <t>\n", "--entries", f"t={self.write('words', words)}")
         self.assertEqual((status, err.count("\n")), (Status.RULES, 1))
         self.assertIn("none of its 500 words is an address", err)
-        status, err = self.told(
+        status, err = self.refusal(
             "table <t>\nblock from <t>\n", "--entries", f"t={self.write('words', '10.0.0.1 ' + words)}"
         )
         self.assertEqual((status, err.count("it is no address"), err.count("490 entries of <t>")), (0, 10, 1))
 
     def test_many_labels_are_one_line(self) -> None:
-        status, err = self.told("".join(f'pass in proto tcp to port {it} label "l{it}"\n' for it in range(1, 5001)))
+        status, err = self.refusal("".join(f'pass in proto tcp to port {it} label "l{it}"\n' for it in range(1, 5001)))
         self.assertEqual((status, err.count("\n")), (0, 2))
         self.assertIn("pf.conf: lines 1 to 5000: left out: label, 5,000 times: changes no answer", err)
 

@@ -158,21 +158,21 @@ class Captures(FolderCase):
             ((9, 1, 7), (), ""),
         ):
             with self.subTest(counts=counts, words=words):
-                told = account.format(*counts)
-                done = self.call(f"{ONE}; echo '{told}' >&2", *words)
+                line = account.format(*counts)
+                done = self.call(f"{ONE}; echo '{line}' >&2", *words)
                 wanted = (
                     Done(Status.REFUSED, "", f"pfplan trace: {NAME}: {why}\n")
                     if why
-                    else Done(0, "time,dir\n5,in\n", f"{told}\n")
+                    else Done(0, "time,dir\n5,in\n", f"{line}\n")
                 )
                 self.assertEqual(done, wanted)
 
     def test_a_capture_that_is_cut(self) -> None:
-        told = "frames 1: records 1, not IP 0, neither in nor out 0"
-        script = f"{ONE}; echo '{told}' >&2; echo 'capture: behind frame 1: the file ends within it' >&2; exit 1"
+        wanted = "frames 1: records 1, not IP 0, neither in nor out 0"
+        script = f"{ONE}; echo '{wanted}' >&2; echo 'capture: behind frame 1: the file ends within it' >&2; exit 1"
         self.assertEqual(
             self.call(script, "--partial"),
-            Done(0, "time,dir\n5,in\n", f"{told}\ncapture: behind frame 1: the file ends within it\n"),
+            Done(0, "time,dir\n5,in\n", f"{wanted}\ncapture: behind frame 1: the file ends within it\n"),
         )
         self.assertEqual(self.call(f"{ONE}; echo 'read failed' >&2; exit 4", "--partial").status, Status.FAILED)
 

@@ -85,12 +85,12 @@ class Changes(unittest.TestCase):
 
     def test_moves(self) -> None:
         moves = list(moves_of(self.text, protocols_of(self.trace)))
-        told = {(it.title, it.step) for it in moves}
-        self.assertIn(("set limit states", "a tenth lower"), told)
-        self.assertIn(("max-src-conn of @1, @2", "a tenth higher"), told)
-        self.assertIn(("tcp.first of @1", "a tenth lower"), told)
-        self.assertNotIn(("set timeout udp.first", "a tenth lower"), told)
-        self.assertNotIn(("set limit tables", "a tenth lower"), told)
+        changed = {(it.title, it.step) for it in moves}
+        self.assertIn(("set limit states", "a tenth lower"), changed)
+        self.assertIn(("max-src-conn of @1, @2", "a tenth higher"), changed)
+        self.assertIn(("tcp.first of @1", "a tenth lower"), changed)
+        self.assertNotIn(("set timeout udp.first", "a tenth lower"), changed)
+        self.assertNotIn(("set limit tables", "a tenth lower"), changed)
         longer = moves[-1].values
         self.assertEqual(longer[Number("tcp.first", 120)], 130)
         self.assertEqual(longer[Number("tcp.first", 5, (1,))], 15)

@@ -34,7 +34,7 @@ class Commands(FolderCase):
             self.assertEqual((done.status, done.out, done.err), (2, "", f"{line}\n"))
 
     def test_rules_that_are_made_are_accepted(self) -> None:
-        for name, told in (
+        for name, wanted in (
             ("rules_shipped", "ok items=4 tables=0 entries=0"),
             ("rules_manual_source_tracking", "ok items=3 tables=1 entries=0"),
             ("rules_router_without_help", "ok items=7 tables=2 entries=9"),
@@ -47,7 +47,7 @@ class Commands(FolderCase):
                 done = pfplan(*words, "--out", made, cwd=CASES / name)
                 self.assertEqual(done.status, 0, done.err)
                 checked = subprocess.run([program(), "check", str(made)], capture_output=True, text=True, check=False)
-                self.assertEqual((checked.stdout.strip(), checked.stderr), (told, ""))
+                self.assertEqual((checked.stdout.strip(), checked.stderr), (wanted, ""))
 
     def test_run(self) -> None:
         conf = self.write(
@@ -75,8 +75,8 @@ class Commands(FolderCase):
         )
         made = {it.name for it in into.iterdir()}
         self.assertLessEqual({"rules", "left-out.txt", "report", "summary.txt", "summary.json", "report.html"}, made)
-        told = json.loads((into / "summary.json").read_text("utf-8"))
-        self.assertEqual((len(told["held"]), told["users"]["connections"]), (3, 10))
+        summary = json.loads((into / "summary.json").read_text("utf-8"))
+        self.assertEqual((len(summary["held"]), summary["users"]["connections"]), (3, 10))
         self.assertIn("(w)", (into / "summary.txt").read_text("utf-8"))
         self.assertIn("received-on", (into / "report.html").read_text("utf-8"))
         again = pfplan("run", into / "rules", trace, "--into", into, "--users", "198.51.100.0/24", "--held", 0)

@@ -108,7 +108,7 @@ class Following(FolderCase):
         records = [user("S", 5 + at // 3, 1000 + at) for at in range(900)]
         trace = self.trace(records)
         steps = steps_of(trace)
-        side = side_of("r", iter(report(*texts)), USERS, None, steps.told)
+        side = side_of("r", iter(report(*texts)), USERS, None, steps.hear)
         follow(trace, [side], USERS, lambda row, lines: count_steps(steps, side, lines))
         summary = summarize(self.report(texts), Wanted(trace, USERS))
         self.assertEqual((steps.seconds, steps.whole()), (summary.step_seconds, summary.steps))

@@ -1,7 +1,7 @@
 """Each construct of pf.conf(5): what becomes of it. The cases are in constructs.txt, and docs/PFCONF.md names them.
 
-A case is `=== NAME WORDS`, a text, what `pfplan rules WORDS` writes behind `--- rules`, and what it says behind `---
-told`. Files that the texts name are in the folder constructs/.
+A case is `=== NAME WORDS`, a text, what `pfplan rules WORDS` writes behind `--- rules`, and what it says on
+standard error behind `--- errors`. Files that the texts name are in the folder constructs/.
 """
 
 import contextlib
@@ -29,7 +29,7 @@ class Case:
     words: tuple[str, ...]
     text: str
     rules: str
-    told: str
+    errors: str
 
 
 def cases() -> list[Case]:
@@ -37,10 +37,10 @@ def cases() -> list[Case]:
     found = []
     for block in (HERE / "constructs.txt").read_text("utf-8").split("=== ")[1:]:
         head, _, rest = block.partition("\n")
-        text, _, told = rest.partition("--- told\n")
+        text, _, errors = rest.partition("--- errors\n")
         text, _, rules = text.partition("--- rules\n")
         name, *words = head.split()
-        found.append(Case(name, tuple(words), text, rules, told))
+        found.append(Case(name, tuple(words), text, rules, errors))
     return found
 
 
@@ -63,13 +63,13 @@ class Constructs(unittest.TestCase):
     """What becomes of each construct."""
 
     def test_each(self) -> None:
-        """Rules and what is told are those of the case; a text that is refused has no rules."""
+        """Rules and what is said are those of the case; a text that is refused has no rules."""
         for case in cases():
             with self.subTest(case.name):
-                status, rules, told = answer(case.name, case.words, case.text)
+                status, rules, errors = answer(case.name, case.words, case.text)
                 self.assertEqual(rules, case.rules)
-                self.assertEqual(told, case.told)
-                self.assertEqual(status, 3 if told.startswith("pfplan rules: ") else 0)
+                self.assertEqual(errors, case.errors)
+                self.assertEqual(status, 3 if errors.startswith("pfplan rules: ") else 0)
 
     def test_accepted(self) -> None:
         """Every rules text is accepted by pfsrc."""
@@ -91,10 +91,10 @@ class Constructs(unittest.TestCase):
             ):
                 continue
             with self.subTest(case.name):
-                _, rules, told = answer("again", (), case.rules)
+                _, rules, errors = answer("again", (), case.rules)
                 self.assertEqual(rules, case.rules)
                 self.assertRegex(
-                    told, r"^again: \d+ items?; left out: 0 that can change an answer, 0 that change none\n$"
+                    errors, r"^again: \d+ items?; left out: 0 that can change an answer, 0 that change none\n$"
                 )
 
     def test_documented(self) -> None:

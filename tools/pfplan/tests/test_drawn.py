@@ -67,10 +67,10 @@ class DrawnRulesets(unittest.TestCase):
         reading = Reading(drawn)
         for packet, (word, number) in zip(packets, self.replay(made.text, packets), strict=True):
             wanted, line = reading.answer(packet)
-            told = f"{packet}\n{drawn.text}\n{made.text}"
-            self.assertEqual(word, wanted, told)
+            shown = f"{packet}\n{drawn.text}\n{made.text}"
+            self.assertEqual(word, wanted, shown)
             if word != "state":
-                self.assertEqual(0 if number is None else made.origins[number].line, line, told)
+                self.assertEqual(0 if number is None else made.origins[number].line, line, shown)
 
     def check_rule(self, drawn: Drawn, made: Ruleset, packets: list[Packet], drawer: Drawer) -> None:
         """What is carried of one of the rules, alone, matches the packets that the drawn rule matches and no other."""

@@ -88,11 +88,11 @@ class Persisting(FolderCase):
         self.assertEqual(*(pfplan("summary", report, "--trace", trace, "--rules", it, "--held", 3).out for it in both))
         self.assertEqual(*(self._runs("size", it, trace, "--vary", "max=2..40", "--runs", 5) for it in both))
         self.assertEqual(*(self._runs("margins", it, trace) for it in both))
-        told = json.loads(pfplan("compare", *both, trace, *words, "--json").out)
+        answer = json.loads(pfplan("compare", *both, trace, *words, "--json").out)
         self.assertEqual(
-            (told["against_first"][0]["parting"], *(it["end"]["entries"] for it in told["sides"])), (None, 2, 2)
+            (answer["against_first"][0]["parting"], *(it["end"]["entries"] for it in answer["sides"])), (None, 2, 2)
         )
-        self.assertIn("# entries: 4 by records", "".join(told["against_first"][0]["lines"]["first_only"]))
+        self.assertIn("# entries: 4 by records", "".join(answer["against_first"][0]["lines"]["first_only"]))
 
     def _runs(self, command: str, rules: Path, trace: Path, *words: object) -> str:
         ended = pfplan(command, rules, trace, "--users", USERS, "--json", "--held", 2, "--jobs", 2, *words)
@@ -139,8 +139,8 @@ class Persisting(FolderCase):
     def test_too_many(self) -> None:
         """Entries that go past a limit that is varied are a refusal, as they are in the text."""
         trace = self.trace(packets(4, 30))
-        told = json.loads(self._runs("size", self.rules, trace, "--vary", "table-entries=5..6", "--runs", 2))
-        self.assertEqual([it["refused"].partition(":")[0] for it in told["runs"]], ["TooManyEntries", ""])
+        answer = json.loads(self._runs("size", self.rules, trace, "--vary", "table-entries=5..6", "--runs", 2))
+        self.assertEqual([it["refused"].partition(":")[0] for it in answer["runs"]], ["TooManyEntries", ""])
 
 
 class TooLarge(FolderCase):

@@ -40,13 +40,13 @@ class Stories(FolderCase):
             + [syn(6, "198.51.100.8", 9)]
             + [syn(30, "198.51.100.9", 9)]
         )
-        told = self.explain(records, "--row", 4)
-        self.assertEqual(told.splitlines()[0], "row 4, second 6: in em0 tcp 198.51.100.8:9 to 192.0.2.1:80 flags S")
-        self.assertIn("  drop:states: as many states are held as set limit states allows\n", told)
-        self.assertIn("  the rules say set limit states 3\n", told)
-        self.assertIn("  Held before row 4: 3 states,", told)
-        self.assertIn("would have been let in at the end of second", told)
-        late = int(told.split("the end of second ")[1].split(",")[0])
+        text = self.explain(records, "--row", 4)
+        self.assertEqual(text.splitlines()[0], "row 4, second 6: in em0 tcp 198.51.100.8:9 to 192.0.2.1:80 flags S")
+        self.assertIn("  drop:states: as many states are held as set limit states allows\n", text)
+        self.assertIn("  the rules say set limit states 3\n", text)
+        self.assertIn("  Held before row 4: 3 states,", text)
+        self.assertIn("would have been let in at the end of second", text)
+        late = int(text.split("the end of second ")[1].split(",")[0])
         # by hand: the same packet, put into the trace at the end of that second and of the one before
         for second, word in ((late - 1, "drop:states"), (late, "new")):
             probed = self.trace([*records[:4], syn(second, "198.51.100.8", 9)], "probed")
@@ -63,15 +63,15 @@ class Stories(FolderCase):
             for it in (syn(1, source, port), answer(1, source, port), syn(1, source, port, "A"))
         ]
         records += [syn(2, source, 1, "PA"), syn(3, source, 4)]
-        told = self.explain(records, "--source", source)
-        self.assertEqual(told.splitlines()[0], f"{source}: 8 packets, seconds 1 to 3")
-        self.assertIn("and 3 states made", told)
-        self.assertIn("  kill:max-src-conn: the handshake took the source past max-src-conn\n", told)
-        self.assertIn("  3 states killed with it; the source was put into the rule's overload table\n", told)
-        self.assertIn("  the rule says max-src-conn 2\n", told)
-        self.assertIn("seconds 2 to 3: 2 packets", told)
-        self.assertIn("It belonged to no state that was held then", told)
-        self.assertIn("The packet of row 11 is not let in at the end of any later second, up to 3603.", told)
+        text = self.explain(records, "--source", source)
+        self.assertEqual(text.splitlines()[0], f"{source}: 8 packets, seconds 1 to 3")
+        self.assertIn("and 3 states made", text)
+        self.assertIn("  kill:max-src-conn: the handshake took the source past max-src-conn\n", text)
+        self.assertIn("  3 states killed with it; the source was put into the rule's overload table\n", text)
+        self.assertIn("  the rule says max-src-conn 2\n", text)
+        self.assertIn("seconds 2 to 3: 2 packets", text)
+        self.assertIn("It belonged to no state that was held then", text)
+        self.assertIn("The packet of row 11 is not let in at the end of any later second, up to 3603.", text)
 
     def test_entries_by_records(self) -> None:
         """Tables that get their entries by records have them when the program is asked anew."""
@@ -86,12 +86,12 @@ class Stories(FolderCase):
         )
         into = self.folder / "answer"
         self.assertEqual(pfplan("run", conf, trace, "--entries", f"bad={shown}", "--into", into).status, 0)
-        told = pfplan("explain", into / "report", "--trace", trace, "--rules", into / "rules", "--row", 3).out
+        text = pfplan("explain", into / "report", "--trace", trace, "--rules", into / "rules", "--row", 3).out
         self.assertIn(
             "  Held before row 3: 1 state, 0 source nodes, 2 table entries",
-            told.replace("1 source node", "0 source nodes"),
+            text.replace("1 source node", "0 source nodes"),
         )
-        self.assertIn("would have been let in at the end of second 7", told)
+        self.assertIn("would have been let in at the end of second 7", text)
 
     def test_lines_of_the_pf_conf(self) -> None:
         conf = self.write("pf.conf", "# limits\n" + RULES)
@@ -99,14 +99,14 @@ class Stories(FolderCase):
         into = self.folder / "answer"
         self.assertEqual(pfplan("run", conf, trace, "--into", into).status, 0)
         words = ("explain", into / "report", "--trace", trace, "--row")
-        told = pfplan(*words, 1, "--rules", into / "rules").out
-        self.assertIn("  by rule @1 (pf.conf:6), `pass in ", told)
+        text = pfplan(*words, 1, "--rules", into / "rules").out
+        self.assertIn("  by rule @1 (pf.conf:6), `pass in ", text)
         # another rules text in the folder is not that of the summary
         alone = self.write("alone", (into / "rules").read_text("utf-8"))
         self.assertIn("  by rule @1, `pass in ", pfplan(*words, 1, "--rules", alone).out)
-        told = pfplan(*words, 4, "--rules", alone, "--conf", conf).out
-        self.assertIn("  by rule @1 (pf.conf:6), `pass in ", told)
-        self.assertIn("  the rules say set limit states 3 (pf.conf:2)\n", told)
+        text = pfplan(*words, 4, "--rules", alone, "--conf", conf).out
+        self.assertIn("  by rule @1 (pf.conf:6), `pass in ", text)
+        self.assertIn("  the rules say set limit states 3 (pf.conf:2)\n", text)
         other = self.write("other.conf", RULES.replace("states 3", "states 4"))
         done = pfplan(*words, 4, "--rules", alone, "--conf", other)
         self.assertEqual(done.status, 3)
@@ -115,9 +115,9 @@ class Stories(FolderCase):
         self.assertIn("  by rule @1, `pass in ", pfplan(*words, 1, "--rules", into / "rules").out)
 
     def test_let_in(self) -> None:
-        told = self.explain([syn(1, "198.51.100.7", 1)], "--row", 1)
-        self.assertIn("  new: the rule lets it through, and a state is made\n", told)
-        self.assertNotIn("Held before", told)
+        text = self.explain([syn(1, "198.51.100.7", 1)], "--row", 1)
+        self.assertIn("  new: the rule lets it through, and a state is made\n", text)
+        self.assertNotIn("Held before", text)
 
     def test_nothing_to_tell(self) -> None:
         self.explain([syn(1, "198.51.100.7", 1)], "--row", 1)

@@ -138,11 +138,12 @@ class Questions(FolderCase):
             pfplan("run", rules, trace, "--into", into, "--users", USERS, "--held", 9).err.count("pfplan"), 0
         )
         self.assertEqual((into / "report").read_text().splitlines(), alone)
-        told = json.loads((into / "summary.json").read_text())
-        self.assertEqual((told["records"], len(told["held"]), set(told["users"]["outcomes"])), (400, 9, set(KINDS)))
+        answer = json.loads((into / "summary.json").read_text())
+        self.assertEqual((answer["records"], len(answer["held"])), (400, 9))
+        self.assertEqual(set(answer["users"]["outcomes"]), set(KINDS))
         measures = [json.loads(pfplan("measure", rules, trace, "--users", USERS, "--held", it).out) for it in (0, 9)]
         self.assertEqual(measures[0] | {"most_held": None}, measures[1] | {"most_held": None})
-        self.assertEqual(measures[1]["most_held"], max(it["states"] for it in [*told["held"], told["end"]]))
+        self.assertEqual(measures[1]["most_held"], max(it["states"] for it in [*answer["held"], answer["end"]]))
 
     def test_faults(self) -> None:
         """A fault is told by its row in the trace, whatever was put in before it."""
@@ -189,21 +190,21 @@ class Orders(FolderCase):
         rules, trace = self.write("rules", RULES), self.trace(self.RECORDS)
         into = self.folder / "answer"
         pfplan("run", rules, trace, "--into", into, "--users", USERS, "--held", 2)
-        told = json.loads((into / "summary.json").read_text())
-        found = {word: count for word, count in told["words"].items() if count}
+        answer = json.loads((into / "summary.json").read_text())
+        found = {word: count for word, count in answer["words"].items() if count}
         self.assertEqual(found, {"new": 1, "block": 1, "held": 1, "add": 2, "delete": 1, "expire": 1})
-        self.assertEqual([it["address"] for it in told["sources"]["seen"]], ["198.51.100.1", "198.51.100.2"])
+        self.assertEqual([it["address"] for it in answer["sources"]["seen"]], ["198.51.100.1", "198.51.100.2"])
         self.assertEqual(
-            (told["users"]["connections"], told["interfaces"]), (2, {"without_records": [], "without_rules": []})
+            (answer["users"]["connections"], answer["interfaces"]), (2, {"without_records": [], "without_rules": []})
         )
 
     def test_compared(self) -> None:
         """Rulesets that take an entry otherwise part there."""
         one, trace = self.write("one", RULES), self.trace(self.RECORDS)
         other = self.write("other", f"set limit table-entries 1\n{RULES}")
-        told = json.loads(pfplan("compare", one, other, trace, "--users", USERS, "--json", "--held", 3).out)
-        self.assertEqual(told["against_first"][0]["parting"]["row"], 5)
-        self.assertEqual([it["most_held"] for it in told["sides"]], [1, 2])
+        answer = json.loads(pfplan("compare", one, other, trace, "--users", USERS, "--json", "--held", 3).out)
+        self.assertEqual(answer["against_first"][0]["parting"]["row"], 5)
+        self.assertEqual([it["most_held"] for it in answer["sides"]], [1, 2])
 
 
 if __name__ == "__main__":

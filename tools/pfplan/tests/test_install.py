@@ -162,7 +162,7 @@ class Install(FolderCase):
         code = "from pfplan.common.repository import program; print(program())"
         for beside, wanted in (("pfsrc", self.prefix / "lib" / "pfplan" / "pfsrc"), ("gone", on_the_path / "pfsrc")):
             self.prefix.joinpath("lib", "pfplan", "pfsrc").rename(self.prefix / "lib" / "pfplan" / beside)
-            told = self.call(
+            shown = self.call(
                 sys.executable,
                 "-B",
                 "-c",
@@ -170,7 +170,7 @@ class Install(FolderCase):
                 PATH=f"{on_the_path}:{os.defpath}",
                 PYTHONPATH=str(self.prefix / "lib" / "pfplan" / "tools"),
             )
-            self.assertEqual((told.out, told.err), (f"{wanted}\n", ""))
+            self.assertEqual((shown.out, shown.err), (f"{wanted}\n", ""))
 
 
 if __name__ == "__main__":

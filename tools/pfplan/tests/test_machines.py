@@ -64,13 +64,13 @@ class CommandLines(FolderCase):
             (unreachable, 1, "ssh: connect to host one: Connection refused", 4),
             ("", 255, "a run ended with status 255 and said nothing", 4),
         )
-        for told, status, message, wanted in rows:
-            trouble = machines._trouble(told, status)
+        for errors, status, message, wanted in rows:
+            trouble = machines._trouble(errors, status)
             self.assertEqual((trouble.message, trouble.status), (message, wanted))
 
     def test_other_parallel(self) -> None:
-        told = subprocess.CompletedProcess([], 1, stdout="parallel [OPTIONS] command -- arguments", stderr="")
-        with mock.patch("shutil.which", return_value="/x"), mock.patch("subprocess.run", return_value=told):
+        version = subprocess.CompletedProcess([], 1, stdout="parallel [OPTIONS] command -- arguments", stderr="")
+        with mock.patch("shutil.which", return_value="/x"), mock.patch("subprocess.run", return_value=version):
             with self.assertRaisesRegex(Trouble, "not that of GNU"):
                 machines.check_parallel()
 
@@ -116,8 +116,8 @@ class RunsHere(FolderCase):
 
     def test_size(self) -> None:
         process = self.size("--vary", "states=1..40", "--json", "--jobs", "3", "--grid", "3")
-        out, told = process.communicate(timeout=120)
-        self.assertEqual((process.returncode, told), (0, ""))
+        out, errors = process.communicate(timeout=120)
+        self.assertEqual((process.returncode, errors), (0, ""))
         read = json.loads(out)
         self.assertEqual(read["varied"], {"name": "states", "rules": [], "now": 5})
         words = {it["value"]: it["words"].get("drop:states", 0) for it in read["runs"]}
@@ -132,8 +132,8 @@ class RunsHere(FolderCase):
             )
             self.wait_for_runs()
             process.send_signal(number)
-            said, told = process.communicate(timeout=60)
-            self.assertEqual((process.returncode, said, told), (130, "", "pfplan size: interrupted\n"))
+            said, errors = process.communicate(timeout=60)
+            self.assertEqual((process.returncode, said, errors), (130, "", "pfplan size: interrupted\n"))
             self.assertEqual(self.left(), ["out", "rules", "trace"])
             self.assertEqual(self.running(), [])
         self.assertEqual(out.read_text(), "what stood there")
@@ -172,9 +172,9 @@ class RunsHere(FolderCase):
         )  # fmt: skip
         for words, said in rows:
             process = self.size(*words)
-            out, told = process.communicate(timeout=60)
-            self.assertEqual((process.returncode, out, told.count("\n")), (2, "", 1), told)
-            self.assertIn(said, told)
+            out, errors = process.communicate(timeout=60)
+            self.assertEqual((process.returncode, out, errors.count("\n")), (2, "", 1), errors)
+            self.assertIn(said, errors)
 
     def test_users_are_wanted(self) -> None:
         ended = pfplan("size", self.write("rules", RULES), self.trace(RECORDS), "--vary", "states=1..5", env=ENV)

@@ -207,18 +207,18 @@ class Pages(unittest.TestCase):
         self.assertIn("from second 0 to 1 (2023-11-14 22:13:20 UTC to 2023-11-14 22:13:21 UTC)", text)
 
     def test_lines_of_the_pf_conf(self) -> None:
-        told = summary("pass in proto tcp from any to any keep state (max 5)")
-        told.answers = {"new": {"@0": 5}, "drop:max": {"@0": 6}, "pass": {"@1": 3}}
-        told.limits = [Limit("drop:max", 6, 3, 9, 100, 101, 2, 0), Limit("drop:states", 1, 3, 9, 100, 101, 2, 0)]
-        told.answers["drop:states"] = {"@0": 1}
-        told.settings = {"states": 50}
-        told.rules[1] = "pass quick on em1 all flags any no state"
-        told.origins = Origins({0: "pf.conf:41", 1: "pf.conf:2"}, {"states": "pf.conf:1"}, frozenset({1}))
-        told.frames = Frames(20, 12, {"neither in nor out": 8})
-        told.seen_on = ["em0"]
-        assert told.users is not None
-        told.users.refusals = [Refusal("drop:max", "@0", 1)]
-        for text in ("\n".join(read_page(report_page.page_of(told, subject(), [], "d")).text), text_of(told)):
+        found = summary("pass in proto tcp from any to any keep state (max 5)")
+        found.answers = {"new": {"@0": 5}, "drop:max": {"@0": 6}, "pass": {"@1": 3}}
+        found.limits = [Limit("drop:max", 6, 3, 9, 100, 101, 2, 0), Limit("drop:states", 1, 3, 9, 100, 101, 2, 0)]
+        found.answers["drop:states"] = {"@0": 1}
+        found.settings = {"states": 50}
+        found.rules[1] = "pass quick on em1 all flags any no state"
+        found.origins = Origins({0: "pf.conf:41", 1: "pf.conf:2"}, {"states": "pf.conf:1"}, frozenset({1}))
+        found.frames = Frames(20, 12, {"neither in nor out": 8})
+        found.seen_on = ["em0"]
+        assert found.users is not None
+        found.users.refusals = [Refusal("drop:max", "@0", 1)]
+        for text in ("\n".join(read_page(report_page.page_of(found, subject(), [], "d")).text), text_of(found)):
             self.assertIn("@0 pf.conf:41, max 5", text)
             self.assertIn("pf.conf:1, set limit states 50", text)
             self.assertIn("set skip on em1 (pf.conf:2): pf passes all packets there, and asks no rule: 3 records", text)

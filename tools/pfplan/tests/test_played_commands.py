@@ -37,7 +37,7 @@ class PlayedCommands(FolderCase):
         self.rules = self.write("rules", RULES)
         self.open = self.write("open", RULES.replace("states 60", "states 9000"))
 
-    def told(self, *words: object) -> str:
+    def output(self, *words: object) -> str:
         done = pfplan(*words)
         self.assertEqual((done.status, done.err), (0, ""))
         return done.out
@@ -46,12 +46,12 @@ class PlayedCommands(FolderCase):
         """Connections of users, and those served without waiting, in a single play."""
         scenario = self.write("single.toml", SCENARIO.replace("rate = 8", f"rate = {rate}"))
         rules = self.write("single", RULES.replace("max-src-states 50", f"max-src-states {most}"))
-        self.told("play", scenario, rules, "--into", self.folder / "single-play")
+        self.output("play", scenario, rules, "--into", self.folder / "single-play")
         group = json.loads((self.folder / "single-play/single/summary.json").read_text("utf-8"))["groups"][0]
         return group["connections"], group["served_without_waiting"]
 
     def test_run(self) -> None:
-        out = self.told("run", self.rules, self.scenario, "--into", self.folder / "answer")
+        out = self.output("run", self.rules, self.scenario, "--into", self.folder / "answer")
         self.assertTrue(out.endswith(f"{self.folder}/answer/report.html\n"))
         made = {it.name for it in (self.folder / "answer").iterdir()}
         self.assertLessEqual(
@@ -84,9 +84,9 @@ class PlayedCommands(FolderCase):
             self.assertEqual(list(into.rglob("*.svg")), [])
 
     def test_compare(self) -> None:
-        out = self.told("compare", self.rules, self.open, self.scenario)
+        out = self.output("compare", self.rules, self.open, self.scenario)
         self.assertIn("\nhomes (visits)\n  connections ", out)
-        sides = json.loads(self.told("compare", self.rules, self.open, self.scenario, "--json"))["sides"]
+        sides = json.loads(self.output("compare", self.rules, self.open, self.scenario, "--json"))["sides"]
         self.assertEqual([it["rules"] for it in sides], ["rules", "open"])
         self.assertLess(sides[0]["groups"][0]["served"], sides[1]["groups"][0]["served"] + 1)
 
@@ -105,7 +105,7 @@ class PlayedCommands(FolderCase):
             8,
             "--json",
         )
-        found = json.loads(self.told(*words))
+        found = json.loads(self.output(*words))
         self.assertEqual((found["varied"]["name"], found["varied"]["now"], found["users"]), ("holder.rate", 8, "homes"))
         runs = {it["value"]: it for it in found["runs"]}
         for value in list(runs)[:2]:
@@ -115,8 +115,8 @@ class PlayedCommands(FolderCase):
             )
             self.assertEqual(runs[value]["meets"], connections == served)
         few = ("--grid", 2, "--runs", 2)
-        self.assertEqual(self.told(*words, *few, "--jobs", 1), self.told(*words, *few))
-        self.assertIn("holder.rate, now 8: ", self.told(*words[:-1], *few))
+        self.assertEqual(self.output(*words, *few, "--jobs", 1), self.output(*words, *few))
+        self.assertIn("holder.rate, now 8: ", self.output(*words[:-1], *few))
 
     def test_a_map(self) -> None:
         words = (
@@ -132,7 +132,7 @@ class PlayedCommands(FolderCase):
             "--runs",
             6,
         )
-        found = json.loads(self.told(*words, "--json", "--want", "100%"))
+        found = json.loads(self.output(*words, "--json", "--want", "100%"))
         self.assertEqual([it["name"] for it in found["varied"]], ["max-src-states", "holder.rate"])
         self.assertGreaterEqual(len(found["runs"]), 9)
         meets = {tuple(it["values"]): it["meets"] for it in found["runs"]}
@@ -145,12 +145,12 @@ class PlayedCommands(FolderCase):
             for low, high in border["serves"]:
                 self.assertTrue(meets[low, border["second"]] and meets[high, border["second"]])
         page = self.folder / "map.html"
-        text = self.told(*words, "--grid", 2, "--runs", 2, "--page", page)
+        text = self.output(*words, "--grid", 2, "--runs", 2, "--page", page)
         self.assertIn("(down), now 50, by holder.rate (across), now 8: share served in per cent\n", text)
         self.assertIn("max-src-states", page.read_text("utf-8"))
 
     def test_margins(self) -> None:
-        found = json.loads(self.told("margins", self.rules, self.scenario, "--json"))
+        found = json.loads(self.output("margins", self.rules, self.scenario, "--json"))
         self.assertEqual(found["users"], "homes")
         self.assertEqual(sum(found["as_is"]["outcomes"].values()), 25)
         self.assertTrue(any(it["what"].startswith("set limit states") for it in found["moved"]))

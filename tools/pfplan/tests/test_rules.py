@@ -28,7 +28,7 @@ class Rulesets(unittest.TestCase):
         folder = "examples/pf.conf"
         with contextlib.chdir(TOP), contextlib.redirect_stderr(
             io.StringIO()
-        ) as told, tempfile.TemporaryDirectory() as made:
+        ) as errors, tempfile.TemporaryDirectory() as made:
             words = [
                 f"{folder}/etc/pf.conf",
                 "--root",
@@ -40,7 +40,7 @@ class Rulesets(unittest.TestCase):
             ]
             self.assertEqual(main(["rules", *words]), 0)
             self.assertEqual(Path(made, "rules").read_text("utf-8"), Path(folder, "rules").read_text("utf-8"))
-            self.assertEqual(told.getvalue(), Path(folder, "told").read_text("utf-8"))
+            self.assertEqual(errors.getvalue(), Path(folder, "told").read_text("utf-8"))
             ended = subprocess.run([program(), "check", f"{made}/rules"], capture_output=True, text=True, check=False)
             self.assertEqual(ended.stdout, "ok items=49 tables=5 entries=16\n")
 

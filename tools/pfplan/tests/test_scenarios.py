@@ -153,9 +153,9 @@ class Reading(FolderCase):
             path = self.write("scenario.toml", text)
             with self.subTest(text=text), self.assertRaises(Trouble) as caught:
                 read_scenario(path)
-            told = caught.exception.message
-            self.assertTrue(told.startswith(f"{path}: {said}"), told)
-            self.assertEqual((caught.exception.status, "\n" in told), (1, False))
+            message = caught.exception.message
+            self.assertTrue(message.startswith(f"{path}: {said}"), message)
+            self.assertEqual((caught.exception.status, "\n" in message), (1, False))
 
     def test_no_file(self) -> None:
         done = pfplan("play", self.folder / "none.toml", self.write("rules", RULES), "--into", self.folder / "out")
@@ -255,10 +255,10 @@ class Command(FolderCase):
 
     def test_numbers_for_machines(self) -> None:
         self.assertEqual(self.play(HEAD + HOMES + BOTS, self.write("rules", RULES)), (0, ""))
-        told = json.loads((self.folder / "out/rules/summary.json").read_text("utf-8"))
-        self.assertEqual([it["name"] for it in told["groups"]], ["homes", "bots"])
-        self.assertEqual(told["groups"][0]["connections"], 3)
-        self.assertEqual(told["held"][0], {"moment": 0, "states": 0, "nodes": 0, "entries": 0})
+        summary = json.loads((self.folder / "out/rules/summary.json").read_text("utf-8"))
+        self.assertEqual([it["name"] for it in summary["groups"]], ["homes", "bots"])
+        self.assertEqual(summary["groups"][0]["connections"], 3)
+        self.assertEqual(summary["held"][0], {"moment": 0, "states": 0, "nodes": 0, "entries": 0})
 
     def test_entries_by_records(self) -> None:
         """A table that a rules text can't hold comes by records, which stand in the trace that came of the play."""
@@ -319,13 +319,13 @@ class Command(FolderCase):
         rows = [
             it.split(" | ") for it in (folder / "README.md").read_text("utf-8").splitlines() if it.startswith("| `")
         ]
-        told = {row[0].split("`")[1].removesuffix(".toml"): row[1:3] for row in rows}
-        self.assertEqual(sorted(told), sorted(it.stem for it in folder.glob("*.toml")))
+        documented = {row[0].split("`")[1].removesuffix(".toml"): row[1:3] for row in rows}
+        self.assertEqual(sorted(documented), sorted(it.stem for it in folder.glob("*.toml")))
         for name in ("crawler", "dns", "office"):
             rules = [folder / f"{name}-{it}.conf" for it in ("first", "better")]
             done = pfplan("play", folder / f"{name}.toml", *rules, "--into", self.folder / "out")
             shares = [it.split(": ")[1].split(" of the users")[0] for it in done.out.splitlines()[:2]]
-            self.assertEqual(shares, told[name], name)
+            self.assertEqual(shares, documented[name], name)
 
     def test_examples(self) -> None:
         for path in sorted((TOP / "examples" / "scenarios").glob("*.toml")):

@@ -36,10 +36,10 @@ def users_of(text: str) -> str:
 class Summaries(FolderCase):
     def test_counts_agree_with_the_report(self) -> None:
         lines = (CASE / "report").read_text("utf-8").splitlines()
-        told = Counter(it.split(" ")[1] for it in lines[:-1])
+        counts = Counter(it.split(" ")[1] for it in lines[:-1])
         self.assertEqual(
             {word: number for word, number in summarize(CASE / "report", Wanted()).words().items() if number},
-            dict(told),
+            dict(counts),
         )
 
     def test_carriage_returns(self) -> None:
@@ -316,20 +316,20 @@ class Bounds(unittest.TestCase):
         self.assertEqual([it.address for it in counted.top(2)], ["192.0.2.1", counted.top(2)[1].address])
 
     def test_connections_that_are_over_are_forgotten(self) -> None:
-        told: list[tuple[int, str]] = []
+        heard: list[tuple[int, str]] = []
         followed = Connections(
-            networks("198.51.100.0/24"), lambda begin, outcome: told.append((begin, outcome)), remembered=10
+            networks("198.51.100.0/24"), lambda begin, outcome: heard.append((begin, outcome)), remembered=10
         )
         for row in range(1, 1000):
             column = [str(row), "in", "em0", "tcp", "198.51.100.1", str(row), "192.0.2.1", "80", "S"]
             followed.follow(row, Reply("block" if row % 100 else "new", "@0"), column)
-        self.assertGreater(len(told), 900)
+        self.assertGreater(len(heard), 900)
         followed.last = 999
         followed.finish()
         self.assertEqual(
             dict(followed.outcomes), {"refused": 990, "unanswered": 9}
         )  # the last that was let in began 99 seconds before the end
-        self.assertEqual(len(told), 999)
+        self.assertEqual(len(heard), 999)
 
 
 if __name__ == "__main__":

@@ -159,17 +159,16 @@ class Watching(FolderCase):
         self.assertIn("<!doctype html>", (folder / "report.html").read_text("utf-8"))
         return dict(ours)
 
-    def check_last(self, line: str, told: dict[str, Any]) -> None:
+    def check_last(self, line: str, answer: dict[str, Any]) -> None:
         """The last line that is shown says what the summary says."""
-        self.assertIn(f"; {told['records']:,} records, at the end; {told['end']['states']:,} of 60 states", line)
-        for word, count in told["words"].items():
+        self.assertIn(f"; {answer['records']:,} records, at the end; {answer['end']['states']:,} of 60 states", line)
+        for word, count in answer["words"].items():
             if word.startswith("drop:") and count:
                 self.assertIn(f"{word} {count:,}", line)
-        self.assertIn(f"blocked {told['words']['block']:,}; ", line)
-        self.assertIn(f"overload {told['overloads']['added']:,} source", line)
-        self.assertIn(
-            f"users: {told['users']['connections']:,} connections: {told['users']['outcomes']['served']:,} served", line
-        )
+        self.assertIn(f"blocked {answer['words']['block']:,}; ", line)
+        self.assertIn(f"overload {answer['overloads']['added']:,} source", line)
+        users = answer["users"]
+        self.assertIn(f"users: {users['connections']:,} connections: {users['outcomes']['served']:,} served", line)
 
     def test_the_last_screen_says_what_run_says(self) -> None:
         found = drawn(4, 60)

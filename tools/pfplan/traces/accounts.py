@@ -37,5 +37,5 @@ def frames_of(account: Sequence[str]) -> Frames | None:
 
 def reasons_of(frames: Frames) -> str:
     """Why frames are no records, the most frequent reason first: `8 neither in nor out, 1 not IP`."""
-    told = sorted(((count, reason) for reason, count in frames.others.items() if count), reverse=True)
-    return ", ".join(f"{count:,} {reason}" for count, reason in told)
+    counts = sorted(((count, reason) for reason, count in frames.others.items() if count), reverse=True)
+    return ", ".join(f"{count:,} {reason}" for count, reason in counts)

@@ -132,10 +132,10 @@ def _running(
     """
     account: list[str] = []
     given = None if str(capture) == "-" else subprocess.DEVNULL
-    with tempfile.TemporaryFile("w+", errors="replace", prefix="pfplan-") as told:
+    with tempfile.TemporaryFile("w+", errors="replace", prefix="pfplan-") as errors:
         try:
             process = subprocess.Popen(
-                words, stdin=given, stdout=subprocess.PIPE, stderr=told, text=True, encoding="latin-1"
+                words, stdin=given, stdout=subprocess.PIPE, stderr=errors, text=True, encoding="latin-1"
             )
         except OSError as error:
             raise Trouble(f"{words[0]}: can't be run: {reason_of(error)}", Status.FAILED) from None
@@ -148,8 +148,8 @@ def _running(
             raise
         finally:
             process.wait()
-        told.seek(0)
-        account += told.read(65536).splitlines()
+        errors.seek(0)
+        account += errors.read(65536).splitlines()
     if process.returncode:
         why = account[-1] if account else f"status {process.returncode}"
         is_cut = process.returncode == Status.REFUSED and bool(_CUT.search(why))

@@ -54,10 +54,10 @@ class Question:
         self._sent += 1
         count.tries += 1
         count.packets += 1
-        world.ask(self._there, self._told, None)
+        world.ask(self._there, self._hear_fate, None)
         world.at(world.now + self._manner.again, self._late, self._sent)
 
-    def _told(self, _: None, fate: Fate) -> None:
+    def _hear_fate(self, _: None, fate: Fate) -> None:
         world = self._crew.world
         if fate.passes:
             self._crew.count.passed += 1
@@ -68,9 +68,9 @@ class Question:
             world.at(world.now + self._crew.round_trip, self._hear, False)
 
     def _answer(self, _: None) -> None:
-        self._crew.world.ask(self._back, self._told_back, None)
+        self._crew.world.ask(self._back, self._hear_fate_back, None)
 
-    def _told_back(self, _: None, fate: Fate) -> None:
+    def _hear_fate_back(self, _: None, fate: Fate) -> None:
         world = self._crew.world
         if fate.passes:
             world.at(world.now + self._crew.round_trip, self._hear, True)

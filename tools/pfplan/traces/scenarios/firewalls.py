@@ -59,14 +59,14 @@ class Pfsrc:
         """Trouble with status 70 where the program can't be run."""
         self._rules = rules
         self._kept = kept
-        self._told = tempfile.TemporaryFile(prefix="pfplan-")  # noqa: SIM115 (closed by __exit__)
+        self._errors = tempfile.TemporaryFile(prefix="pfplan-")  # noqa: SIM115 (closed by __exit__)
         words = [program(), "replay", "--line-buffered", str(rules), "-"]
         try:
             self._process = subprocess.Popen(
-                words, stdin=subprocess.PIPE, stdout=subprocess.PIPE, stderr=self._told, bufsize=0
+                words, stdin=subprocess.PIPE, stdout=subprocess.PIPE, stderr=self._errors, bufsize=0
             )
         except OSError as error:
-            self._told.close()
+            self._errors.close()
             raise Trouble(
                 f"{words[0]}: can't be run: {reason_of(error)} (PFSRC names the program)", Status.NOT_BUILT
             ) from None
@@ -91,7 +91,7 @@ class Pfsrc:
             except BrokenPipeError:
                 pass
         self._process.wait()
-        self._told.close()
+        self._errors.close()
 
     def decide(self, records: Sequence[str]) -> list[str]:
         """As `Firewall.decide`. Trouble as the program's own where it ends."""
@@ -143,9 +143,9 @@ class Pfsrc:
     def _trouble(self) -> Trouble:
         """Why the program ended: its own line, with the name of the rules before it."""
         status = self._process.wait()
-        self._told.seek(0)
+        self._errors.seek(0)
         said = (
-            self._told.read(4096).decode("latin-1").splitlines() or [f"ended with status {status} and said nothing"]
+            self._errors.read(4096).decode("latin-1").splitlines() or [f"ended with status {status} and said nothing"]
         )[-1]
         if said.startswith("rules: "):
             return Trouble(f"{self._rules}: {said.removeprefix('rules: ')}", Status.RULES)

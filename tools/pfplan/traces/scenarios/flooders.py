@@ -155,9 +155,9 @@ class Forger:
         value = self._first + int(self._random() * self._hosts)
         port = FIRST_PORT + int(self._random() * PORTS)
         source = f"{value >> 24}.{value >> 16 & 255}.{value >> 8 & 255}.{value & 255},{port}"
-        return f"{self._before}{source}{self._behind}", self._told_plain, source
+        return f"{self._before}{source}{self._behind}", self._hear_fate_plain, source
 
-    def _told_plain(self, source: str, fate: Fate) -> None:
+    def _hear_fate_plain(self, source: str, fate: Fate) -> None:
         if not fate.passes:
             self._count.refuse(fate, self._world.now)
             return
@@ -175,9 +175,9 @@ class Forger:
         port = FIRST_PORT + int(self._random() * PORTS)
         way = self._ways[int(self._random() * len(self._ways))]
         back = tuple([it + "SA\n" for it in way.back(host, port)])
-        return self._world.entry(tuple([it + self._end for it in way.there(host, port)]), self._told, back)
+        return self._world.entry(tuple([it + self._end for it in way.there(host, port)]), self._hear_fate, back)
 
-    def _told(self, back: tuple[str, ...], fate: Fate) -> None:
+    def _hear_fate(self, back: tuple[str, ...], fate: Fate) -> None:
         if not fate.passes:
             self._count.refuse(fate, self._world.now)
             return

@@ -48,14 +48,14 @@ class Flow:
         """A packet to the server."""
         end = flags + "\n"
         self._count.packets += 1
-        self._world.ask(tuple([it + end for it in self._there]), self._told_there, (self, flags, number))
+        self._world.ask(tuple([it + end for it in self._there]), self._hear_fate_there, (self, flags, number))
 
     def send_back(self, flags: str, number: int) -> None:
         """A packet from the server."""
         end = flags + "\n"
-        self._world.ask(tuple([it + end for it in self._back]), self._told_back, (self, flags, number))
+        self._world.ask(tuple([it + end for it in self._back]), self._hear_fate_back, (self, flags, number))
 
-    def _told_there(self, packet: Packet, fate: Fate) -> None:
+    def _hear_fate_there(self, packet: Packet, fate: Fate) -> None:
         world = self._world
         if fate.passes:
             self._count.passed += 1
@@ -66,7 +66,7 @@ class Flow:
         if fate.resets:
             world.at(world.now + self._round_trip, self._caller.hear, (self, "R", 0))
 
-    def _told_back(self, packet: Packet, fate: Fate) -> None:
+    def _hear_fate_back(self, packet: Packet, fate: Fate) -> None:
         world = self._world
         if fate.passes:
             world.at(world.now + self._round_trip, self._caller.hear, packet)

@@ -48,9 +48,9 @@ class Layer:
         records = self._held[1]
         mine = records[part * len(records) // SLOTS : (part + 1) * len(records) // SLOTS]
         self._count.packets += len(mine)
-        return [(it, self._told, None) for it in mine], []
+        return [(it, self._hear_fate, None) for it in mine], []
 
-    def _told(self, _: None, fate: Fate) -> None:
+    def _hear_fate(self, _: None, fate: Fate) -> None:
         if fate.passes:
             self._count.passed += 1
         else:

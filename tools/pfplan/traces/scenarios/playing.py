@@ -51,7 +51,7 @@ class Played:
         return max([it.states for it in self.tally.fills] + [self.end.states])
 
 
-def play(task: Task, told: Callable[[int], None] | None = None) -> Played:
+def play(task: Task, hear: Callable[[int], None] | None = None) -> Played:
     """Plays it.
 
     Trouble as the program's own, or where a file can't be read or written; then no file is left half written.
@@ -60,8 +60,8 @@ def play(task: Task, told: Callable[[int], None] | None = None) -> Played:
 
     def at(second: int) -> None:
         nonlocal last
-        if second != last and told:
-            told(second)
+        if second != last and hear:
+            hear(second)
         last = second
 
     with _named(task.rules), contextlib.ExitStack() as stack:

@@ -61,17 +61,17 @@ class Play:
             return 1
         return min([self._answer, *(slots_of(it.round_trip) for it in self._scenario.groups)])
 
-    def run(self, told: Callable[[int], None], entries: Sequence[str] = ()) -> End:
+    def run(self, hear: Callable[[int], None], entries: Sequence[str] = ()) -> End:
         """Plays to the end.
 
-        `told` hears of the seconds; `entries` are records by which tables get theirs. Trouble as the firewall's.
+        `hear` hears of the seconds; `entries` are records by which tables get theirs. Trouble as the firewall's.
         """
         self._world.put(entries)
         if not self._is_plain:
             self._ask_held()
         for count in self.tally.counts:
             self._place(count)
-        return self._world.run(self._emitters, told)
+        return self._world.run(self._emitters, hear)
 
     def _ask_held(self) -> None:
         """Has the firewall asked how much is held, at most 120 times within the scenario's seconds, and as often
@@ -80,11 +80,11 @@ class Play:
 
         def emit(slot: int) -> tuple[list[Entry], list[Entry]]:
             second, part = divmod(slot, SLOTS)
-            return ([] if part or second % step else [(",held,,,,,,,\n", self._told_held, second)]), []
+            return ([] if part or second % step else [(",held,,,,,,,\n", self._hear_held, second)]), []
 
         self._emitters.append((0, None, emit))
 
-    def _told_held(self, second: int, fate: Fate) -> None:
+    def _hear_held(self, second: int, fate: Fate) -> None:
         numbers = [int(it.rpartition("=")[2]) for it in fate.text.split(" ")[2:]]
         self.tally.fills.append(Fill(second, *numbers))
 

@@ -78,7 +78,7 @@ class Backlog:
     def hear(self, back: tuple[str, ...]) -> None:
         """A SYN has come; `back` is the answer to it."""
         if back in self._half:
-            self._world.ask(back, self._told, back)
+            self._world.ask(back, self._hear_fate, back)
             return
         self._half.add(back)
         self._repeat((back, 0))
@@ -88,9 +88,9 @@ class Backlog:
         if sent > REPEATS or back not in self._half:
             self._half.discard(back)
             return
-        self._world.ask(back, self._told, back)
+        self._world.ask(back, self._hear_fate, back)
         self._world.at(self._world.now + (SLOTS << sent), self._repeat, (back, sent + 1))
 
-    def _told(self, back: tuple[str, ...], fate: Fate) -> None:
+    def _hear_fate(self, back: tuple[str, ...], fate: Fate) -> None:
         if fate.resets:
             self._half.discard(back)

@@ -36,8 +36,8 @@ class Fate:
     overload: str = ""  # what a kill did to the overload table
 
 
-Told = Callable[[Any, Fate], None]
-Entry = tuple[str, Told, Any]
+Hearer = Callable[[Any, Fate], None]
+Entry = tuple[str, Hearer, Any]
 # the records of a slot for which no event is in the calendar: before its events, and behind them
 Emitter = Callable[[int], tuple[list[Entry], list[Entry]]]
 
@@ -75,12 +75,12 @@ class World:
         else:
             there.append((call, argument))
 
-    def ask(self, texts: tuple[str, ...], told: Told, argument: Any) -> None:
-        """Sends a packet now: through the firewall, and where it is forwarded through it again. `told` hears its fate.
+    def ask(self, texts: tuple[str, ...], hear: Hearer, argument: Any) -> None:
+        """Sends a packet now: through the firewall, and where it is forwarded through it again. `hear` hears its fate.
 
         A text is the record behind its moment, with its line feed.
         """
-        self._batch.append(self.entry(texts, told, argument))
+        self._batch.append(self.entry(texts, hear, argument))
 
     def put(self, records: Sequence[str]) -> None:
         """Has entries put into tables before all else. Trouble with status 3 where a table does not take one."""
@@ -93,9 +93,9 @@ class World:
                 raise Trouble("Duplicate: an entry that comes by a record is there with the other sign", Status.RULES)
         self.rows += len(records)
 
-    def entry(self, texts: tuple[str, ...], told: Told, argument: Any) -> Entry:
+    def entry(self, texts: tuple[str, ...], hear: Hearer, argument: Any) -> Entry:
         """A packet as `ask` sends it, for an emitter."""
-        return (texts[0], told, argument) if len(texts) == 1 else (texts[0], self._onward, (texts[1], told, argument))
+        return (texts[0], hear, argument) if len(texts) == 1 else (texts[0], self._onward, (texts[1], hear, argument))
 
     def _onward(self, entry: Entry, fate: Fate) -> None:
         if fate.passes:
@@ -103,10 +103,10 @@ class World:
         else:
             entry[1](entry[2], fate)
 
-    def run(self, emitters: Iterable[tuple[int, int | None, Emitter]], told: Callable[[int], None]) -> End:
+    def run(self, emitters: Iterable[tuple[int, int | None, Emitter]], hear: Callable[[int], None]) -> End:
         """Runs to the end: to the last second of the scenario, and then until all that is going is over.
 
-        An emitter has records in slots from a first one to below another, or to the end of all. `told` hears of each
+        An emitter has records in slots from a first one to below another, or to the end of all. `hear` hears of each
         second.
         """
         sending = sorted(emitters, key=lambda it: it[0])
@@ -118,7 +118,7 @@ class World:
             self._window(
                 slot, end, [it for first, last, it in sending if first < end and (last is None or slot < last)]
             )
-            told(slot // SLOTS)
+            hear(slot // SLOTS)
             slot = self._next(end, sending)
         return self._firewall.end()
 
@@ -170,7 +170,7 @@ class World:
         at = 0
         for slot, part in parts:
             self.now = slot
-            for _, told, argument in part:
+            for _, hear, argument in part:
                 if row == limit:
                     width += 1
                     limit *= 10
@@ -178,7 +178,7 @@ class World:
                 fate = known.get(text)
                 if fate is None:
                     fate = known[text] = self._fate(text)
-                told(argument, fate)
+                hear(argument, fate)
                 at += 1
                 row += 1
         self.rows = row - 1
