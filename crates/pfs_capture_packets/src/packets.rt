@@ -56,13 +56,14 @@ impl IpPacket {
     pub fn on_way(&self, dir: Dir, ifname: IfName) -> Packet
         ensures { result ≡ on_way dir ifname self.now }
     {
+        let (from, to) = ports_of(&self.carried);
         let source = Endpoint {
             addr: self.source,
-            port: from_port(&self.carried),
+            port: from,
         };
         let destination = Endpoint {
             addr: self.destination,
-            port: to_port(&self.carried),
+            port: to,
         };
         let proto = proto_of(&self.carried);
         Packet::new(
@@ -86,23 +87,15 @@ fn proto_of(carried: &Carried) -> Proto
     }
 }
 
-fn from_port(carried: &Carried) -> u16
-    ensures is { result ≡ from_port carried.now }
-    ensures none { has_ports (proto_of_carried carried.now) ≡ false → result ≡ 0 }
+/// The ports that it comes from and goes to; 0 without ports.
+fn ports_of(carried: &Carried) -> (u16, u16)
+    ensures from { result.0 ≡ from_port carried.now }
+    ensures to { result.1 ≡ to_port carried.now }
+    ensures none { has_ports (proto_of_carried carried.now) ≡ false → (result.0 ≡ 0) × (result.1 ≡ 0) }
 {
     match *carried {
-        Carried::Tcp(from, _, _) | Carried::Udp(from, _) => from,
-        Carried::Other(_) => 0,
-    }
-}
-
-fn to_port(carried: &Carried) -> u16
-    ensures is { result ≡ to_port carried.now }
-    ensures none { has_ports (proto_of_carried carried.now) ≡ false → result ≡ 0 }
-{
-    match *carried {
-        Carried::Tcp(_, to, _) | Carried::Udp(_, to) => to,
-        Carried::Other(_) => 0,
+        Carried::Tcp(from, to, _) | Carried::Udp(from, to) => (from, to),
+        Carried::Other(_) => (0, 0),
     }
 }
 
