@@ -1,4 +1,4 @@
--- A packet of a held state: the state is held after it, and there is room in the overload table where it completes a handshake.
+-- A packet of a held state: there is room in the overload table where it completes a handshake, and what comes of its touch.
 use Rattle.std.proofs.Common.{◌≡◌, ℕ, true, Option, None, Some, ap, ◌∙◌, sym, subst, refl}
 use Rattle.std.specs.Prelude.{option_map}
 use Rattle.pfs_addr_values.specs.Keys.{key_of}
@@ -11,7 +11,7 @@ use Rattle.pfs_conf_values.specs.declared.items.RuleNo.{RuleNo}
 use Rattle.pfs_store_contract.specs.Counts.{is_of_source}
 use Rattle.pfs_store_contract.specs.Calls.{source_states, touch_of, world_touched, state_number, state_rule}
 use Rattle.pfs_store_contract.specs.Touching.{completes_at, numbered_state_after, world_after_touch}
-use Rattle.pfs_store_contract.specs.Worlds.{World, holds_number, state_with}
+use Rattle.pfs_store_contract.specs.Worlds.{World, state_with}
 use Rattle.pfs_store_contract.specs.declared.records.State.{State}
 use Rattle.pfs_store_contract.specs.declared.records.StateNo.{StateNo}
 use Rattle.pfs_store_contract.specs.declared.records.Touched.{Touched}
@@ -21,38 +21,31 @@ use Rattle.pfs_engine_machine.specs.Machine.{Held, answer_of_state, answer_to_pa
 use Rattle.pfs_engine_machine.specs.Refusals.{is_tcp}
 use Rattle.pfs_engine.specs.Held.{HeldView, Holds, view_of}
 use Rattle.pfs_engine.specs.Packets.{answer_of_touch}
-use Rattle.pfs_engine.specs.Rooms.{HasRoomFor, rule_overload}
+use Rattle.pfs_engine.specs.Rooms.{HasRoomFor}
 use Rattle.pfs_engine_machine.proofs.Counts.{count-map}
 use Rattle.pfs_engine_machine.proofs.Renewals.{renewed-same}
-use Rattle.pfs_engine_machine.proofs.KeptHandshakes.{held_touched, proto_of_completed}
+use Rattle.pfs_engine_machine.proofs.KeptHandshakes.{proto_of_completed}
 
 -- the state that was found
 pub found_state : (o : Option State) (number : StateNo) → option_map state_number o ≡ Some number → (s : State) × (o ≡ Some s) × (s.number ≡ number.0)
 found_state None number e = cc
 found_state (Some s) number e = let same : state_number s ≡ number = cc in (s, refl, ap (λ (n : StateNo). n.0) same)
 
-pub held_after : (conf : Conf) (w after : World) (p : PacketView) (now : ℕ) (number : StateNo) → option_map state_number (state_with (key_of p) w) ≡ Some number
-    → after ≡ world_touched conf w p now (state_with (key_of p) w) → holds_number after.states number.0 ≡ true
-held_after conf w after p now number e is =
-    let (s, found, same) = found_state (state_with (key_of p) w) number e in
-    let after_is : after ≡ world_after_touch conf w s p now = is ∙ ap (world_touched conf w p now) found in
-    ap (λ (v : World). holds_number v.states number.0) after_is
-    ∙ (ap (λ (n : ℕ). holds_number (world_after_touch conf w s p now).states n) (sym same) ∙ held_touched conf w p now s found)
-
-pub room_after : (conf store_conf : Conf) (m : Held) (p : PacketView) (now : ℕ) (number : StateNo) (t : Touched) (rule : Option RuleNo) (tables : Holdings)
+pub room_after : (conf store_conf : Conf) (m : Held) (p : PacketView) (now : ℕ) (number : StateNo) (t : Touched) (rule : RuleNo) (tables : Holdings)
     → IsKept conf m now → option_map state_number (state_with (key_of p) m.world) ≡ Some number
-    → rule ≡ option_map state_rule (state_with (key_of p) m.world)
+    → option_map state_rule (state_with (key_of p) m.world) ≡ Some rule
     → Some t ≡ option_map (touch_of store_conf m.world p now) (state_with (key_of p) m.world)
-    → (is_tcp p.proto ≡ true → HasRoomFor tables (rule_overload conf rule))
+    → (is_tcp p.proto ≡ true → HasRoomFor tables (options_of conf rule.0).overload)
     → t.completed ≡ true → HasRoomFor tables (options_of conf t.rule.0).overload
 room_after conf store_conf m p now number t rule tables kept e rule_is touch_is room done =
     let (s, found, same) = found_state (state_with (key_of p) m.world) number e in
     let told : Some t ≡ Some (touch_of store_conf m.world p now s) = touch_is ∙ ap (option_map (touch_of store_conf m.world p now)) found in
     let t_is : t ≡ touch_of store_conf m.world p now s = cc in
     let completes : completes_at p s ≡ true = sym (ap (λ (x : Touched). x.completed) t_is) ∙ done in
-    let at : rule ≡ Some s.rule = rule_is ∙ ap (option_map state_rule) found in
-    let here = subst (λ (r : Option RuleNo). HasRoomFor tables (rule_overload conf r)) at (room (proto_of_completed conf m p now s kept found completes)) in
-    subst (λ (r : RuleNo). HasRoomFor tables (options_of conf r.0).overload) (sym (ap (λ (x : Touched). x.rule) t_is)) here
+    let at : Some rule ≡ Some s.rule = sym rule_is ∙ ap (option_map state_rule) found in
+    let same_rule : rule ≡ s.rule = cc in
+    subst (λ (r : RuleNo). HasRoomFor tables (options_of conf r.0).overload) (same_rule ∙ sym (ap (λ (x : Touched). x.rule) t_is))
+    (room (proto_of_completed conf m p now s kept found completes))
 
 -- the source of the state has as many states as before
 pub beside_after : (store_conf : Conf) (w after : World) (p : PacketView) (now : ℕ) (number : StateNo) (t : Touched)
@@ -89,6 +82,6 @@ told_after conf store_conf m after p now number t made_for e is touch_is =
 -- ---- what is held, opened after room was made
 
 -- it has the configuration, and holds what was held before
-pub opened : (before roomy : HeldView) (conf : Conf) (w : World) (holdings : Holdings) → view_of conf w holdings ≡ roomy → Holds before roomy before.held
+pub opened : {X : Type 0} (before roomy : HeldView X) (conf : Conf) (store : X) (w : World) (holdings : Holdings) → view_of conf store w holdings ≡ roomy → Holds before roomy before.held
     → (conf ≡ before.config) × (held_of w holdings.entries ≡ before.held)
-opened before roomy conf w holdings is same = (ap (λ (v : HeldView). v.config) is ∙ same.config, ap (λ (v : HeldView). v.held) is ∙ same.held)
+opened {X = X} before roomy conf store w holdings is same = (ap (λ (v : HeldView X). v.config) is ∙ same.config, ap (λ (v : HeldView X). v.held) is ∙ same.held)

@@ -24,16 +24,16 @@ use Rattle.pfs_engine.specs.Views.{IsWhole, View, machine_at}
 use Rattle.pfs_engine.specs.declared.works.Work.{Work}
 
 -- an engine, by what it holds
-abbrev pub seen : HeldView → Option ℕ → Option ℕ → ℕ → Work → View
+abbrev pub seen : {X : Type 0} → HeldView X → Option ℕ → Option ℕ → ℕ → Work → View
 seen v first last taken work = record { config = v.config; machine = machine_at v.held first last; taken = taken; work = work }
 
 -- an engine is whole, by the configuration before the call
-whole_under : (conf : Conf) (after : HeldView) (first last : Option ℕ) (taken : ℕ) → after.config ≡ conf → IsWhole conf (machine_at after.held first last) taken
+whole_under : {X : Type 0} (conf : Conf) (after : HeldView X) (first last : Option ℕ) (taken : ℕ) → after.config ≡ conf → IsWhole conf (machine_at after.held first last) taken
     → IsWhole after.config (machine_at after.held first last) taken
 whole_under conf after first last taken same i = subst (λ (k : Conf). IsWhole k (machine_at after.held first last) taken) (sym same) i
 
 -- before the first event
-pub whole_start : (conf : Conf) (v : HeldView) → v.config ≡ conf → v.held ≡ (start conf).held → IsConfig conf → IsWhole v.config (machine_at v.held None None) 0
+pub whole_start : {X : Type 0} (conf : Conf) (v : HeldView X) → v.config ≡ conf → v.held ≡ (start conf).held → IsConfig conf → IsWhole v.config (machine_at v.held None None) 0
 whole_start conf v config held sound =
     whole_under conf v None None 0 config (record {
       kept = subst (λ (x : Held). IsKept conf x 0) (sym held) (kept_start conf sound);
@@ -45,7 +45,7 @@ whole_start conf v config held sound =
 
 -- ---- time passes
 
-pub whole_advanced : (before after : HeldView) (first last : Option ℕ) (taken now : ℕ) → ForSome last (λ m. m ≤ now)
+pub whole_advanced : {X : Type 0} (before after : HeldView X) (first last : Option ℕ) (taken now : ℕ) → ForSome last (λ m. m ≤ now)
     → IsWhole before.config (machine_at before.held first last) taken → Holds before after (machine_at_moment before.config (machine_at before.held first last) now).held
     → IsWhole after.config (machine_at after.held (machine_at_moment before.config (machine_at before.held first last) now).first (Some now)) taken
 whole_advanced before after first last taken now later i h =
@@ -61,7 +61,7 @@ whole_advanced before after first last taken now later i h =
 
 -- ---- what an administrator does
 
-pub whole_told : (before after : HeldView) (first last : Option ℕ) (taken begun at table : ℕ) (done : Command) (o : Outcome)
+pub whole_told : {X : Type 0} (before after : HeldView X) (first last : Option ℕ) (taken begun at table : ℕ) (done : Command) (o : Outcome)
     → IsWhole before.config (machine_at before.held first last) taken → IsDone o (answer_to_command before.config before.held begun at table done) before after
     → IsWhole after.config (machine_at after.held first last) taken
 whole_told before after first last taken begun at table done o i h =
@@ -75,14 +75,14 @@ whole_told before after first last taken begun at table done o i h =
     })
 
 -- nothing has changed
-whole_same : (before after : HeldView) (first last : Option ℕ) (taken : ℕ)
+whole_same : {X : Type 0} (before after : HeldView X) (first last : Option ℕ) (taken : ℕ)
     → IsWhole before.config (machine_at before.held first last) taken → after.held ≡ before.held → after.config ≡ before.config
     → IsWhole after.config (machine_at after.held first last) taken
 whole_same before after first last taken i held config =
     whole_under before.config after first last taken config
     (subst (λ (x : Held). IsWhole before.config (machine_at x first last) taken) (sym held) i)
 
-pub whole_answered : {A E : Type 0} (before after : HeldView) (first last : Option ℕ) (taken begun at table : ℕ) (done : Command) (r : Result A E) (out : A → Outcome)
+pub whole_answered : {X A E : Type 0} (before after : HeldView X) (first last : Option ℕ) (taken begun at table : ℕ) (done : Command) (r : Result A E) (out : A → Outcome)
     → IsWhole before.config (machine_at before.held first last) taken → IsAnsweredAs r out (answer_to_command before.config before.held begun at table done) before after
     → IsWhole after.config (machine_at after.held first last) taken
 whole_answered before after first last taken begun at table done (Ok a) out i h =
@@ -90,7 +90,7 @@ whole_answered before after first last taken begun at table done (Ok a) out i h 
 whole_answered before after first last taken begun at table done (Err x) out i h = whole_same before after first last taken i h.err h.config
 
 -- an engine is seen as this before, and keeps its configuration and its moments
-pub keeps : (before after : HeldView) (was : View) (first last : Option ℕ) (taken taken' : ℕ) (work work' : Work) → seen before first last taken work ≡ was → after.config ≡ before.config
+pub keeps : {X : Type 0} (before after : HeldView X) (was : View) (first last : Option ℕ) (taken taken' : ℕ) (work work' : Work) → seen before first last taken work ≡ was → after.config ≡ before.config
     → IsWhole after.config (machine_at after.held first last) taken' → Keeps was (seen after first last taken' work')
 keeps before after was first last taken taken' work work' is config i = subst (λ (v : View). Keeps v (seen after first last taken' work')) is (record {
   config = config;
@@ -101,7 +101,7 @@ keeps before after was first last taken taken' work work' is config i = subst (�
 
 -- ---- a packet
 
-pub whole_packet : {E : Type 0} (before after : HeldView) (first last : Option ℕ) (taken taken' now : ℕ) (p : PacketView) (r : Result Outcome E) → now ≡ moment_of last → taken < run_limit
+pub whole_packet : {X E : Type 0} (before after : HeldView X) (first last : Option ℕ) (taken taken' now : ℕ) (p : PacketView) (r : Result Outcome E) → now ≡ moment_of last → taken < run_limit
     → IsWhole before.config (machine_at before.held first last) taken → IsAnswered r (answer_to_packet before.config before.held p now) before after → CountsPacket r taken taken'
     → IsWhole after.config (machine_at after.held first last) taken'
 whole_packet before after first last taken taken' now p (Ok o) moment room i h n =
@@ -118,7 +118,7 @@ whole_packet before after first last taken taken' now p (Ok o) moment room i h n
 whole_packet before after first last taken taken' now p (Err x) moment room i h n =
     whole_same before after first last taken' (subst (λ (t : ℕ). IsWhole before.config (machine_at before.held first last) t) (sym n.err) i) h.err h.config
 
-pub answered_by : {E : Type 0} (before after : HeldView) (was : View) (first last : Option ℕ) (taken taken' now : ℕ) (work work' : Work) (p : PacketView) (r : Result Outcome E)
+pub answered_by : {X E : Type 0} (before after : HeldView X) (was : View) (first last : Option ℕ) (taken taken' now : ℕ) (work work' : Work) (p : PacketView) (r : Result Outcome E)
     → seen before first last taken work ≡ was → now ≡ moment_of last
     → IsWhole after.config (machine_at after.held first last) taken' → IsAnswered r (answer_to_packet before.config before.held p now) before after → CountsPacket r taken taken'
     → IsAnsweredBy r p was (seen after first last taken' work')
@@ -139,7 +139,7 @@ met : {E : Type 0} (conf : Conf) (h after : Held) (p : PacketView) (now : ℕ) (
     → (NeedsNone conf h p (state_with (key_of p) h.world) → IsOk r) → (rule : RuleNo) (limit : Limit) → IsDropped conf h p rule.0 limit → r ≡ Ok (outcome.Drop rule limit)
 met conf h after p now r ok free rule limit d = search rules
 
-pub limited : {E : Type 0} (before after : HeldView) (was : View) (first last : Option ℕ) (taken taken' now : ℕ) (work work' : Work) (p : PacketView) (r : Result Outcome E)
+pub limited : {X E : Type 0} (before after : HeldView X) (was : View) (first last : Option ℕ) (taken taken' now : ℕ) (work work' : Work) (p : PacketView) (r : Result Outcome E)
     → seen before first last taken work ≡ was → now ≡ moment_of last
     → IsWhole before.config (machine_at before.held first last) taken → IsAnswered r (answer_to_packet before.config before.held p now) before after
     → (NeedsNone before.config before.held p (state_with (key_of p) before.held.world) → IsOk r)

@@ -1,26 +1,37 @@
 -- What is held, as one value: what its callers see, what it keeps, and what a call makes of it.
-use Rattle.std.specs.Prelude.{ℕ, ◌≡◌, List, length, Result, IfOk, OnErr}
+use Rattle.std.specs.Prelude.{ℕ, ◌≡◌, Bool, true, Some, List, length, option_map, Result, IfOk, OnErr}
+use Rattle.pfs_addr_values.specs.Keys.{key_of}
+use Rattle.pfs_addr_values.specs.Packets.{PacketView}
 use Rattle.pfs_eval.specs.Holdings.{Holdings}
 use Rattle.pfs_conf_values.specs.Configs.{Conf, limit_of}
 use Rattle.pfs_conf_values.specs.Invariants.{IsConfig}
 use Rattle.pfs_conf_values.specs.declared.items.Item.{Item}
 use Rattle.pfs_conf_values.specs.declared.limits.LimitName.TheVariants as limit_name
-use Rattle.pfs_store_contract.specs.Worlds.{World}
+use Rattle.pfs_store_contract.specs.Calls.{state_number, state_rule}
+use Rattle.pfs_store_contract.specs.Worlds.{World, state_with}
+use Rattle.pfs_store_contract.specs.declared.records.Found.{Found}
 use Rattle.pfs_engine_machine.specs.Machine.{Held, held_of}
 use Rattle.pfs_engine_machine.specs.declared.events.Outcome.{Outcome}
 
--- the configuration, what is held under it, and how many more entries fit into each table without memory
-pub record HeldView : Type 0 where
+-- the configuration, what is held under it, how many more entries fit into each table without memory, and the store
+pub record HeldView (X : Type 0) : Type 0 where
   pub config : Conf
   pub held : Held
   pub room : List ℕ
+  pub store : X
 
--- what is seen of a configuration, a store's world, and tables
-abbrev pub view_of : Conf → World → Holdings → HeldView
-view_of conf w tables = record { config = conf; held = held_of w tables.entries; room = tables.room }
+-- what is seen of a configuration, a store and its world, and tables
+abbrev pub view_of : {X : Type 0} → Conf → X → World → Holdings → HeldView X
+view_of conf store w tables = record { config = conf; held = held_of w tables.entries; room = tables.room; store = store }
+
+-- this was found of the state that has a packet's key, and the store still reaches it
+pub record IsFound {X : Type 0} (reaches : X → Found → Bool) (v : HeldView X) (p : PacketView) (found : Found) : Type 0 where
+  pub number : option_map state_number (state_with (key_of p) v.held.world) ≡ Some found.number
+  pub rule : option_map state_rule (state_with (key_of p) v.held.world) ≡ Some found.rule
+  pub reached : reaches v.store found ≡ true
 
 -- its tables, which are under the limit of the configuration
-abbrev pub tables_held : HeldView → Holdings
+abbrev pub tables_held : {X : Type 0} → HeldView X → Holdings
 tables_held v = record { entries = v.held.tables; room = v.room; limit = limit_of v.config limit_name.TableEntries }
 
 -- the store, the book and the tables are for the configuration, which keeps the load rules
@@ -34,21 +45,21 @@ pub record IsMadeFor (conf of_store : Conf) (book : List Item) (holdings : Holdi
 -- ---- what a call makes of it
 
 -- this is held after it, under the same configuration
-pub record Holds (before after : HeldView) (h : Held) : Type 0 where
+pub record Holds {X : Type 0} (before after : HeldView X) (h : Held) : Type 0 where
   pub held : after.held ≡ h
   pub config : after.config ≡ before.config
 
 -- this is told, and held after it, under the same configuration
-pub record IsDone (o : Outcome) (wanted : Outcome × Held) (before after : HeldView) : Type 0 where
+pub record IsDone {X : Type 0} (o : Outcome) (wanted : Outcome × Held) (before after : HeldView X) : Type 0 where
   pub told : (o, after.held) ≡ wanted
   pub config : after.config ≡ before.config
 
 -- the same of an answer, by the outcome that it stands for; where memory was refused, nothing that is held has changed
-pub record IsAnsweredAs {A E : Type 0} (answer : Result A E) (outcome : A → Outcome) (wanted : Outcome × Held) (before after : HeldView) : Type 0 where
+pub record IsAnsweredAs {A E X : Type 0} (answer : Result A E) (outcome : A → Outcome) (wanted : Outcome × Held) (before after : HeldView X) : Type 0 where
   pub ok : IfOk answer (λ a. (outcome a, after.held) ≡ wanted)
   pub err : OnErr answer (after.held ≡ before.held)
   pub config : after.config ≡ before.config
 
 -- of an answer that is the outcome itself
-abbrev pub IsAnswered : {E : Type 0} → Result Outcome E → Outcome × Held → HeldView → HeldView → Type 0
+abbrev pub IsAnswered : {E X : Type 0} → Result Outcome E → Outcome × Held → HeldView X → HeldView X → Type 0
 IsAnswered answer wanted before after = IsAnsweredAs answer (λ o. o) wanted before after

@@ -1,16 +1,9 @@
 -- Room in a rule's overload table, made before a packet changes anything.
-use Rattle.std.specs.Prelude.{ℕ, ◌≡◌, ◌≤◌, ◌<◌, ◌⊎◌, true, Option, Some, None, length}
+use Rattle.std.specs.Prelude.{ℕ, ◌≡◌, ◌≤◌, ◌<◌, ◌⊎◌, true, Option, length}
 use Rattle.std.specs.Option.{ForSome}
 use Rattle.pfs_eval.specs.Holdings.{Holdings}
 use Rattle.pfs_eval.specs.Tables.{entry_count, has_room}
-use Rattle.pfs_conf_values.specs.Configs.{Conf, options_of}
 use Rattle.pfs_conf_values.specs.declared.actions.Overload.{Overload}
-use Rattle.pfs_conf_values.specs.declared.items.RuleNo.{RuleNo}
-
--- the `overload` of the rule of a held state
-abbrev pub rule_overload : Conf → Option RuleNo → Option Overload
-rule_overload conf None = None
-rule_overload conf (Some rule) = (options_of conf rule.0).overload
 
 -- one more entry fits into a table without memory, or the entries are at their limit
 abbrev pub Fits : Holdings → ℕ → Type 0

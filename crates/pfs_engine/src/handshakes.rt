@@ -1,6 +1,6 @@
 //! A packet of a held state: what its handshake hits, the overload table, and the states that are killed.
 
-ghost use Rattle.std.specs.Prelude.{◌≡◌, ◌≤◌, ◌<◌, ◌^◌, true, false, None, Some, filter, length, option_map, IsOk, OnOk};
+ghost use Rattle.std.specs.Prelude.{◌≡◌, ◌≤◌, ◌<◌, ◌^◌, true, false, None, Some, filter, length, IsOk, OnOk};
 ghost use Rattle.std.specs.Option.{ForSome, option_copied};
 ghost use Rattle.pfs_addr_values.specs.Keys.{key_of};
 ghost use Rattle.pfs_addr_values.specs.Packets.{run_limit};
@@ -8,26 +8,26 @@ ghost use Rattle.pfs_conf_values.specs.Configs.{Conf, limit_of, options_at, opti
 ghost use Rattle.pfs_conf_values.specs.LoadRules.{AreOptions};
 ghost use Rattle.pfs_conf_values.specs.Bounds.{IsRate};
 ghost use Rattle.pfs_store_contract.specs.Counts.{exceeds_maximum};
-ghost use Rattle.pfs_store_contract.specs.Calls.{source_states, state_number, state_rule};
+ghost use Rattle.pfs_store_contract.specs.Calls.{source_states};
 ghost use Rattle.pfs_store_contract.specs.Handshakes.{stays_at_kill, flush_of, goes_with, over_rate};
 ghost use Rattle.pfs_store_contract.specs.Leaving.{world_without};
-ghost use Rattle.pfs_store_contract.specs.Worlds.{holds_number, state_with};
+ghost use Rattle.pfs_store_contract.specs.Worlds.{state_with};
 ghost use Rattle.pfs_store_contract.specs.declared.records.State.{State};
 ghost use Rattle.pfs_engine_machine.specs.Kept.{IsKept};
 ghost use Rattle.pfs_engine_machine.specs.Looks.{AreLooks, AreLooksOfKill};
 ghost use Rattle.pfs_engine_machine.specs.Machine.{addition_of, answer_to_packet, exceeded_of, tables_after_addition};
 ghost use Rattle.pfs_engine_machine.specs.Refusals.{IsFreeOf, is_tcp};
-ghost use Rattle.pfs_engine.specs.Held.{Holds, IsAnswered, IsDone, tables_held};
+ghost use Rattle.pfs_engine.specs.Held.{Holds, IsAnswered, IsDone, IsFound, tables_held};
 ghost use Rattle.pfs_engine.specs.Meters.{AreFurtherLooks, AreLooksOf};
 ghost use Rattle.pfs_engine.specs.Packets.{answer_of_touch};
-ghost use Rattle.pfs_engine.specs.Rooms.{HasRoomFor, rule_overload};
+ghost use Rattle.pfs_engine.specs.Rooms.{HasRoomFor};
 
 use crate::held::Held;
-use pfs_addr_values::{Addr, FlowKey, Meter, NoMemory, Packet, Proto};
+use pfs_addr_values::{Addr, Meter, NoMemory, Packet, Proto};
 use pfs_conf_values::{Config, LimitName, Overload, Rate, RuleNo, Scope, StateOptions};
 use pfs_engine_machine::{Exceeded, Outcome};
 use pfs_eval::{Added, Tables};
-use pfs_store_contract::{StateNo, Store, Touched};
+use pfs_store_contract::{Found, Store, Touched};
 use pfs_track::Score;
 
 /// What a packet does that has the key of a held state: the state is renewed, and where its handshake
@@ -39,47 +39,47 @@ use pfs_track::Score;
 /// "max-src-conn", "max-src-conn-rate" and "overload")
 pub(crate) fn take_packet_of_state<S: Store>(
     held: &mut Held<S>,
-    number: StateNo,
+    found: Found,
     packet: &Packet,
     now: u64,
     looks: &mut Meter,
 ) -> Result<Outcome, NoMemory>
     requires kept { IsKept held.old.config held.old.held now }
-    requires found { option_map state_number (state_with (key_of packet.now) held.old.held.world) ≡ Some number }
+    requires found { IsFound S.reaches held.old packet.now found }
     requires looks { looks.old ≡ 0 }
     ensures answered { IsAnswered result (answer_to_packet held.old.config held.old.held packet.now now) held.old held.new }
     ensures free { (s : State) → state_with (key_of packet.now) held.old.held.world ≡ Some s →
         IsFreeOf held.old.config packet.now s.rule → IsOk result }
     ensures looks { AreLooksOf S.counts held.old.config held.old.held.world packet.now result looks.new }
 {
-    make_room(held, packet)?;
-    let touched = held.store.touch(number, packet, now, looks);
-    Ok(complete_handshake(held, number, &touched, now, looks))
+    make_room(held, found.rule, packet)?;
+    let touched = held.store.touch(found, packet, now, looks);
+    Ok(complete_handshake(held, found, &touched, now, looks))
 }
 
-/// Room for one more entry in the overload table of the rule of the packet's state, where it may complete a handshake.
-fn make_room<S: Store>(held: &mut Held<S>, packet: &Packet) -> Result<(), NoMemory>
+/// Room for one more entry in the overload table of a rule, where a packet of its state may complete a handshake.
+fn make_room<S: Store>(held: &mut Held<S>, rule: RuleNo, packet: &Packet) -> Result<(), NoMemory>
     ensures same { Holds held.old held.new held.old.held }
-    ensures room { OnOk result (is_tcp packet.now.proto ≡ true →
-        HasRoomFor (tables_held held.new) (rule_overload held.old.config (option_map state_rule (state_with (key_of packet.now) held.old.held.world)))) }
+    ensures store { held.new.store ≡ held.old.store }
+    ensures room { OnOk result (is_tcp packet.now.proto ≡ true → HasRoomFor (tables_held held.new) (options_of held.old.config rule.0).overload) }
     ensures other { is_tcp packet.now.proto ≡ false → IsOk result }
-    ensures none { rule_overload held.old.config (option_map state_rule (state_with (key_of packet.now) held.old.held.world)) ≡ None → IsOk result }
+    ensures none { (options_of held.old.config rule.0).overload ≡ None → IsOk result }
 {
     if packet.proto() != Proto::Tcp {
         return Ok(());
     }
-    match overload(&held.config, held.store.rule_at(&FlowKey::of(packet))) {
+    match overload(&held.config, rule) {
         Some(overload) => held.tables.make_room(overload.table),
         None => Ok(()),
     }
 }
 
 /// The overload of a rule that keeps state, if it has one: of a table that there is.
-fn overload(config: &Config, rule: Option<RuleNo>) -> Option<Overload>
-    ensures value { result ≡ rule_overload config.now rule }
+fn overload(config: &Config, rule: RuleNo) -> Option<Overload>
+    ensures value { result ≡ (options_of config.now rule.0).overload }
     ensures known { ForSome result (λ v. v.table.0 < length config.now.tables) }
 {
-    options(config, rule?)?.overload
+    options(config, rule)?.overload
 }
 
 /// The options of a rule that keeps state: they keep the load rules.
@@ -90,19 +90,19 @@ fn options(config: &Config, rule: RuleNo) -> Option<&StateOptions>
     config.options(rule)
 }
 
-/// What comes of a packet that touched the state of this number: where its handshake completes past a limit of its rule, the
+/// What comes of a packet that touched the state that was found: where its handshake completes past a limit of its rule, the
 /// source is added to the overload table and states are killed.
 fn complete_handshake<S: Store>(
     held: &mut Held<S>,
-    number: StateNo,
+    found: Found,
     touched: &Touched,
     now: u64,
     looks: &mut Meter,
 ) -> Outcome
-    requires held { holds_number held.old.held.world.states number.0 ≡ true }
+    requires reached { S.reaches held.old.store found ≡ true }
     requires looks { looks.old ≤ run_limit }
     requires room { touched.now.completed ≡ true → HasRoomFor (tables_held held.old) (options_of held.old.config touched.now.rule.0).overload }
-    ensures told { IsDone result (answer_of_touch held.old.config held.old.held number.0 now touched.now) held.old held.new }
+    ensures told { IsDone result (answer_of_touch held.old.config held.old.held found.number.0 now touched.now) held.old held.new }
     ensures looks { AreFurtherLooks S.counts looks.old looks.new
         (AreLooks held.old.config (source_states touched.now.source held.old.held.world.states) result) }
 {
@@ -117,7 +117,7 @@ fn complete_handshake<S: Store>(
     };
     let added = add_source(&mut held.tables, options.overload, touched.source, now);
     let which = Killing {
-        number,
+        found,
         rule: touched.rule,
         source: touched.source,
         flush: flush_of(options.overload),
@@ -192,10 +192,10 @@ fn add_source(
     }
 }
 
-/// Which states are killed: the one of this number, rule and source, and those of its source that are flushed with it.
+/// Which states are killed: the one that was found, of this rule and source, and those of its source that are flushed with it.
 #[derive(Clone, Copy)]
 struct Killing {
-    number: StateNo,
+    found: Found,
     rule: RuleNo,
     source: Addr,
     flush: Option<Scope>,
@@ -203,11 +203,11 @@ struct Killing {
 
 /// Kills states. It returns how many they are.
 fn kill<S: Store>(store: &mut S, which: Killing, now: u64, looks: &mut Meter) -> u64
-    requires held { holds_number (S.world store.old).states which.number.0 ≡ true }
+    requires reached { S.reaches store.old which.found ≡ true }
     requires looks { looks.old ≤ 2 ^ 63 }
-    ensures answer { result ≡ length (filter (goes_with which.flush which.number.0 which.rule which.source) (S.world store.old).states) }
+    ensures answer { result ≡ length (filter (goes_with which.flush which.found.number.0 which.rule which.source) (S.world store.old).states) }
     ensures world { S.world store.new
-        ≡ world_without (S.config store.old) (S.world store.old) (stays_at_kill which.flush which.number.0 which.rule which.source) now }
+        ≡ world_without (S.config store.old) (S.world store.old) (stays_at_kill which.flush which.found.number.0 which.rule which.source) now }
     ensures config { S.config store.new ≡ S.config store.old }
     ensures looks { AreFurtherLooks S.counts looks.old looks.new
         (AreLooksOfKill which.flush result (source_states which.source (S.world store.old).states)) }
@@ -215,7 +215,7 @@ fn kill<S: Store>(store: &mut S, which: Killing, now: u64, looks: &mut Meter) ->
     match which.flush {
         None => {
             let before = store.state_count();
-            store.kill(which.number, now, looks);
+            store.kill(which.found, now, looks);
             before - store.state_count()
         }
         Some(Scope::Rule) => store.flush(which.source, Some(which.rule), now, looks),

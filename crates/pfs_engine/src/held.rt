@@ -1,12 +1,13 @@
 //! What is held under a configuration, as one value.
 
-ghost use Rattle.std.specs.Prelude.{◌≡◌, ◌<◌, ◌≤◌, ◌^◌, None, length, IfOk, OnErr, option_map};
+ghost use Rattle.std.specs.Prelude.{◌≡◌, ◌<◌, ◌≤◌, ◌^◌, None, length, true, IfOk, IfSome, OnErr, option_map};
 ghost use Rattle.std.specs.Option.{ForSome};
 ghost use Rattle.pfs_addr_values.specs.Keys.{key_of};
 ghost use Rattle.pfs_conf_values.specs.Configs.{limit_of};
 ghost use Rattle.pfs_conf_values.specs.Invariants.{IsConfig};
 ghost use Rattle.pfs_eval.specs.Tables.{entered_to, entry_count};
-ghost use Rattle.pfs_store_contract.specs.Calls.{state_number};
+ghost use Rattle.pfs_eval.specs.Verdict.{IsRuleAt};
+ghost use Rattle.pfs_store_contract.specs.Calls.{state_number, state_rule};
 ghost use Rattle.pfs_store_contract.specs.Worlds.{empty_world, state_with};
 ghost use Rattle.pfs_engine_machine.specs.Machine.{answer_to_command, deciding_rule, due, held_of, start, world_after_purges};
 ghost use Rattle.pfs_engine_machine.specs.Visits.{AreVisits};
@@ -19,13 +20,13 @@ use pfs_addr_values::{FlowKey, Meter, NoMemory, Packet};
 use pfs_conf_values::{Config, LimitName, RuleNo, TableNo};
 use pfs_engine_machine::{Command, Entered, Outcome, TableEntry};
 use pfs_eval::{Book, Tables};
-use pfs_store_contract::{StateNo, Store};
+use pfs_store_contract::{Found, Store};
 use std::alloc::Global;
 use std::marker::Model;
 
 /// What is held under a configuration: states and source nodes in a store, and entries in tables.
 ///
-/// Clauses see a `HeldView`: the configuration, what is held, and the room of the tables. The store, the tables and the book,
+/// Clauses see a `HeldView`: the configuration, what is held, the room of the tables, and the store. The store, the tables and the book,
 /// which is the rules made ready, are for this configuration at all times, as `IsMadeFor` says. That what is held is within the
 /// limits is the engine's to keep: where a handshake completes past `max-src-conn`, it is past the limit until states are killed.
 #[derive(Drop)]
@@ -39,9 +40,9 @@ pub(crate) struct Held<S: Store> {
 impl<S: Store> Model for Held<S> {
     ghost use Rattle.pfs_engine.specs.Held.{HeldView, IsMadeFor, view_of};
 
-    ghost Value = { HeldView };
+    ghost Value = { HeldView S };
 
-    ghost view = { λ h. view_of h.config (S.world h.store) h.tables };
+    ghost view = { λ h. view_of h.config h.store (S.world h.store) h.tables };
 
     ghost invariant = { λ h. IsMadeFor h.config (S.config h.store) h.book h.tables };
 }
@@ -98,9 +99,11 @@ impl<S: Store> Held<S> {
         self.tables.entries()
     }
 
-    /// The number of the state that has the key of a packet.
-    pub(crate) fn find(&self, packet: &Packet) -> Option<StateNo>
-        ensures { result ≡ option_map state_number (state_with (key_of packet.now) self.now.held.world) }
+    /// The state that has the key of a packet.
+    pub(crate) fn find(&self, packet: &Packet) -> Option<Found>
+        ensures number { option_map (λ f. f.number) result ≡ option_map state_number (state_with (key_of packet.now) self.now.held.world) }
+        ensures rule { option_map (λ f. f.rule) result ≡ option_map state_rule (state_with (key_of packet.now) self.now.held.world) }
+        ensures reached { IfSome result (λ f. S.reaches self.now.store f ≡ true) }
     {
         self.store.find(&FlowKey::of(packet))
     }
@@ -109,6 +112,7 @@ impl<S: Store> Held<S> {
     pub(crate) fn decide(&self, packet: &Packet, visits: &mut Meter) -> Option<RuleNo>
         requires { visits.old ≡ 0 }
         ensures rule { option_map (λ r. r.0) result ≡ deciding_rule self.now.config self.now.held packet.now }
+        ensures known { IfSome result (λ r. IsRuleAt self.now.config.items r.0) }
         ensures visits { AreVisits self.now.config self.now.held packet.now None visits.new }
     {
         self.book.decide(&self.tables, packet, visits)

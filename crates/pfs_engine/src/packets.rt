@@ -3,6 +3,7 @@
 ghost use Rattle.std.specs.Prelude.{◌≡◌, ◌<◌, None, Some, IfOk, IsOk};
 ghost use Rattle.pfs_addr_values.specs.Keys.{key_of};
 ghost use Rattle.pfs_addr_values.specs.Packets.{run_limit};
+ghost use Rattle.pfs_eval.specs.Verdict.{IsRuleAt};
 ghost use Rattle.pfs_store_contract.specs.Worlds.{state_with};
 ghost use Rattle.pfs_engine_machine.specs.Kept.{IsKept};
 ghost use Rattle.pfs_engine_machine.specs.Looks.{AreLooks};
@@ -56,7 +57,7 @@ pub(crate) fn answer<S: Store>(
     ensures meters { AreMetersOf S.counts held.old.config held.old.held packet.now result meters.new.visits meters.new.looks }
 {
     match held.find(packet) {
-        Some(number) => take_packet_of_state(held, number, packet, now, &mut meters.looks),
+        Some(found) => take_packet_of_state(held, found, packet, now, &mut meters.looks),
         None => by_rules(held, packet, now, &mut meters.visits),
     }
 }
@@ -91,13 +92,14 @@ fn by_action<S: Store>(
     now: u64,
 ) -> Result<Outcome, NoMemory>
     requires fresh { state_with (key_of packet.now) held.old.held.world ≡ None }
+    requires known { IsRuleAt held.old.config.items rule.0 }
     requires room { held.old.held.world.made < run_limit }
     ensures answered { IsAnswered result (answer_of_rule held.old.config held.old.held packet.now now (Some rule.0)) held.old held.new }
     ensures free { NeedsNoneBy held.old.config held.old.held packet.now (Some rule.0) → IsOk result }
     ensures no_looks { IfOk result (λ o. AreLooks held.old.config 0 o 0) }
 {
     let Some(found) = held.config.rule(rule) else {
-        return Ok(Outcome::Block(rule));
+        unreachable!();
     };
     match &found.action {
         Action::Block => Ok(Outcome::Block(rule)),

@@ -1,5 +1,5 @@
 -- A packet of a held state keeps what a machine keeps: it is within `max-src-conn`, or states are killed for it.
-use Rattle.std.proofs.Common.{◌≡◌, ◌≤◌, ◌==◌, eq-eqb, ◌⊎◌, inl, inr, ℕ, Bool, true, false, if◌then◌else◌, Option, None, Some, List, All, filter, length, map, refl, ap, sym, ◌∙◌, arith}
+use Rattle.std.proofs.Common.{◌≡◌, ◌≤◌, ◌⊎◌, inl, inr, ℕ, Bool, true, false, if◌then◌else◌, Option, None, Some, List, All, filter, length, map, refl, ap, sym, ◌∙◌, arith}
 use Rattle.std.proofs.lemmas.List.{length-map}
 use Rattle.std.proofs.lemmas.List.Elements.{All-filter, All-map, All-weaker}
 use Rattle.pfs_addr_values.proofs.SameLaws.{same_key_true}
@@ -20,7 +20,7 @@ use Rattle.pfs_store_contract.specs.Counts.{has_node, is_of_node, is_of_rule, no
 use Rattle.pfs_store_contract.specs.Handshakes.{flush_of, hits_connections, hits_rate, stays_at_kill}
 use Rattle.pfs_store_contract.specs.Leaving.{world_without}
 use Rattle.pfs_store_contract.specs.Touching.{completes_at, goes_forward, nodes_touched, numbered_state_after, world_after_touch}
-use Rattle.pfs_store_contract.specs.Worlds.{IsUpToNow, World, holds_number, state_with}
+use Rattle.pfs_store_contract.specs.Worlds.{IsUpToNow, World, state_with}
 use Rattle.pfs_store_contract.specs.declared.records.Node.{Node}
 use Rattle.pfs_store_contract.specs.declared.records.NodeScope.{NodeScope}
 use Rattle.pfs_store_contract.specs.declared.records.State.{State}
@@ -31,9 +31,9 @@ use Rattle.pfs_engine_machine.specs.declared.events.Exceeded.{Exceeded}
 use Rattle.pfs_engine_machine.specs.declared.events.Exceeded.TheVariants as exceeded
 use Rattle.pfs_engine_machine.proofs.Additions.{entries_after-size, entries_after-within}
 use Rattle.pfs_engine_machine.proofs.Alike.{AreAlike, idled_all-alike, nodes_touched-alike}
-use Rattle.pfs_engine_machine.proofs.Changes.{find-all, find-any, find-passes}
+use Rattle.pfs_engine_machine.proofs.Changes.{find-all, find-passes}
 use Rattle.pfs_engine_machine.proofs.Connections.{IsAlone, connections-killed, connections-same, connections-within}
-use Rattle.pfs_engine_machine.proofs.Counts.{any-map, count-filter_le, count-map, count_le}
+use Rattle.pfs_engine_machine.proofs.Counts.{count-filter_le, count-map, count_le}
 use Rattle.pfs_engine_machine.proofs.KeptTime.{within_less}
 use Rattle.pfs_engine_machine.proofs.Numbers.{Rise-alone, Rise-filter, Rise-map}
 use Rattle.pfs_engine_machine.proofs.Renewals.{is_tcp-completes, renewed-phase, renewed-same}
@@ -254,10 +254,3 @@ proto_of_completed conf m p now s k found done =
     let key : s.key ≡ key_of p = same_key_true s.key (key_of p) (find-passes (λ (t : State). same_key t.key (key_of p)) m.world.states s found) in
     let own : IsPhaseOf s.key.proto s.phase = find-all (λ (t : State). IsPhaseOf t.key.proto t.phase) (λ (t : State). same_key t.key (key_of p)) m.world.states s k.phases found in
     ap (λ (f : FlowKey). is_tcp f.proto) (sym key) ∙ is_tcp-completes s.key.proto s.phase (goes_forward p s) p.flags own done
-
--- the state is held after its packet
-pub held_touched : (conf : Conf) (w : World) (p : PacketView) (now : ℕ) (s : State) → state_with (key_of p) w ≡ Some s
-    → holds_number (world_after_touch conf w s p now).states s.number ≡ true
-held_touched conf w p now s found =
-    any-map (λ (t : State). t.number == s.number) (numbered_state_after s.number p now) (λ (t : State). ap (λ n. n == s.number) (renewed-same s.number p now t).number) w.states
-    ∙ find-any (λ (t : State). t.number == s.number) (λ (t : State). same_key t.key (key_of p)) w.states s found (eq-eqb s.number s.number refl)

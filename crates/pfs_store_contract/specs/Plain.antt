@@ -1,4 +1,4 @@
--- What a store is to its callers, however it keeps it.
+-- A store over plain lists, as its callers see it; and counts of states by rule.
 use Rattle.std.specs.Prelude.{ℕ, ◌≡◌, ◌<◌, List, length, slice_index}
 use Rattle.pfs_conf_values.specs.Configs.{Conf}
 use Rattle.pfs_store_contract.specs.Counts.{rule_states}

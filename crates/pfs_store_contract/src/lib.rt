@@ -4,5 +4,5 @@
 mod records;
 mod store;
 
-pub use records::{Limit, Node, NodeScope, Slice, State, StateNo, Touched, Watched};
+pub use records::{Found, Limit, Node, NodeScope, Slice, State, StateNo, Touched, Watched};
 pub use store::Store;

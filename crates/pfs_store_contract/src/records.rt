@@ -67,6 +67,17 @@ pub enum Limit {
     States,
 }
 
+/// A state that a store found, and by what that store reaches it again, as long as the state is held.
+#[derive(Clone, Copy)]
+pub struct Found {
+    /// The number of the state.
+    pub number: StateNo,
+    /// The rule that made it.
+    pub rule: RuleNo,
+    /// Its place, which means something to that store alone.
+    pub place: u32,
+}
+
 /// What a packet of a held state did.
 #[derive(Debug, Clone, Copy, PartialEq, Eq)]
 pub struct Touched {

@@ -1,6 +1,6 @@
 //! What every kind of store does: the changes of the states and source nodes that it holds.
 
-ghost use Rattle.std.specs.Prelude.{◌≡◌, ◌+◌, ◌<◌, ◌≤◌, ◌^◌, [], Bool, false, true, None, Some, IfOk, IsOk, IsSome, OnErr, length, option_map};
+ghost use Rattle.std.specs.Prelude.{◌≡◌, ◌+◌, ◌<◌, ◌≤◌, ◌^◌, [], Bool, false, true, None, Some, IfOk, IfSome, IsOk, IsSome, OnErr, length, option_map};
 ghost use Rattle.pfs_addr_values.specs.Keys.{key_of};
 ghost use Rattle.pfs_addr_values.specs.Packets.{run_limit};
 ghost use Rattle.pfs_conf_values.specs.Configs.{Conf, options_at};
@@ -8,8 +8,9 @@ ghost use Rattle.pfs_store_contract.specs.Calls.{packet_limit, answer_at, world_
 ghost use Rattle.pfs_store_contract.specs.Purging.{node_slice, state_slice};
 ghost use Rattle.pfs_store_contract.specs.Quiet.{NodesStay, StatesStay, world_after_quiet};
 ghost use Rattle.pfs_store_contract.specs.Worlds.{IsUpToNow, World, holds_number, state_with};
+ghost use Rattle.pfs_store_contract.specs.declared.records.Found.{Found};
 
-use crate::records::{Limit, Slice, StateNo, Touched, Watched};
+use crate::records::{Found, Limit, Slice, StateNo, Touched, Watched};
 use pfs_addr_values::{Addr, FlowKey, Meter, NoMemory, Packet};
 use pfs_conf_values::RuleNo;
 
@@ -28,13 +29,14 @@ pub trait Store {
     // whether this kind of store counts looks
     ghost counts: { Bool };
 
-    /// The number of the state that has this key. It looks at no record.
-    fn find(&self, key: &FlowKey) -> Option<StateNo>
-        ensures { result ≡ option_map state_number (state_with key.now (world self.now)) };
+    // whether the state that was found is still reached by what was said of it
+    ghost reaches: { Self → Found → Bool };
 
-    /// The rule of the state that has this key. It looks at no record.
-    fn rule_at(&self, key: &FlowKey) -> Option<RuleNo>
-        ensures { result ≡ option_map state_rule (state_with key.now (world self.now)) };
+    /// The state that has this key: its number, its rule, and by what it is reached. It looks at no record.
+    fn find(&self, key: &FlowKey) -> Option<Found>
+        ensures number { option_map (λ f. f.number) result ≡ option_map state_number (state_with key.now (world self.now)) }
+        ensures rule { option_map (λ f. f.rule) result ≡ option_map state_rule (state_with key.now (world self.now)) }
+        ensures reached { IfSome result (λ f. reaches self.now f ≡ true) };
 
     /// Whether a state of this number is held. It looks at no record.
     fn holds(&self, number: StateNo) -> bool
@@ -78,29 +80,30 @@ pub trait Store {
         ensures no_memory { IsSome (packet_limit (config self.old) (world self.old) packet.now rule.0) → IsOk result }
         ensures config { config self.new ≡ config self.old };
 
-    /// Takes a packet of the state that has its key, whose number this is: the state's phase and the moment of its last packet
-    /// are renewed, and where the handshake completes at a rule that tracks sources and has `max-src-conn-rate`, the score of
-    /// its source's node. No handshake that a score counts came after `now`. It looks at one record.
+    /// Takes a packet of the state that was found by its key: the state's phase and the moment of its last packet are renewed,
+    /// and where the handshake completes at a rule that tracks sources and has `max-src-conn-rate`, the score of its source's
+    /// node. No handshake that a score counts came after `now`. It looks at one record, and the state is still reached.
     /// (pf.conf(5), STATEFUL TRACKING OPTIONS; the table of phases and the score are own to this profile)
-    fn touch(&mut self, number: StateNo, packet: &Packet, now: u64, meter: &mut Meter) -> Touched
-        requires held { option_map state_number (state_with (key_of packet.now) (world self.old)) ≡ Some number }
+    fn touch(&mut self, found: Found, packet: &Packet, now: u64, meter: &mut Meter) -> Touched
+        requires held { option_map state_number (state_with (key_of packet.now) (world self.old)) ≡ Some found.number }
+        requires reached { reaches self.old found ≡ true }
         requires order { IsUpToNow now (world self.old) }
         requires meter { meter.old ≤ 2 ^ 63 }
         ensures answer { Some result
             ≡ option_map (touch_of (config self.old) (world self.old) packet.now now) (state_with (key_of packet.now) (world self.old)) }
         ensures world { world self.new
             ≡ world_touched (config self.old) (world self.old) packet.now now (state_with (key_of packet.now) (world self.old)) }
+        ensures reached { reaches self.new found ≡ true }
         ensures looks { counts ≡ true → meter.new ≡ meter.old + 1 }
         ensures uncounted { counts ≡ false → meter.new ≡ meter.old }
         ensures most { meter.new ≤ meter.old + run_limit }
         ensures config { config self.new ≡ config self.old };
 
-    /// Takes out the state of this number, which is held. A node that loses its last state has been idle since `now`. It looks
-    /// at one record.
-    fn kill(&mut self, number: StateNo, now: u64, meter: &mut Meter)
-        requires held { holds_number (world self.old).states number.0 ≡ true }
+    /// Takes out the state that was found. A node that loses its last state has been idle since `now`. It looks at one record.
+    fn kill(&mut self, found: Found, now: u64, meter: &mut Meter)
+        requires reached { reaches self.old found ≡ true }
         requires meter { meter.old ≤ 2 ^ 63 }
-        ensures world { world self.new ≡ world_killed (config self.old) (world self.old) number.0 now }
+        ensures world { world self.new ≡ world_killed (config self.old) (world self.old) found.number.0 now }
         ensures looks { counts ≡ true → meter.new ≡ meter.old + 1 }
         ensures uncounted { counts ≡ false → meter.new ≡ meter.old }
         ensures most { meter.new ≤ meter.old + run_limit }

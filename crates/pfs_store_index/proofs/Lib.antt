@@ -4,6 +4,7 @@ mod Idling
 mod Leavings
 mod Meetings
 mod PassingNodes
+mod Reached
 mod Removals
 mod Renewing
 mod RisingWalks

@@ -1,4 +1,4 @@
--- The record that the index by key leads to, what a packet makes of it, and what is reported of its node.
+-- The record of the state that was found, what a packet makes of it, and what is reported of its node.
 use Rattle.std.proofs.Common.{◌≡◌, ◌∙◌, ◌+◌, ◌==◌, ◌||◌, ℕ, Bool, true, false, cond, if◌then◌else◌, Option, Some, None, is_some, unwrap_or, List, map, option_map, refl, ap, sym, subst, arith}
 use Rattle.std.specs.List.{find, list_any, AllByRecursion}
 use Rattle.std.proofs.lemmas.Bool.Decides.{nat_tests}
@@ -20,57 +20,37 @@ use Rattle.pfs_store_contract.specs.Touching.{connections_in, goes_forward, numb
 use Rattle.pfs_store_contract.specs.declared.records.Node.{Node}
 use Rattle.pfs_store_contract.specs.declared.records.NodeScope.{NodeScope}
 use Rattle.pfs_store_contract.specs.declared.records.State.{State}
-use Rattle.pfs_store_records.specs.Records.{IsRecordAt, IsRising, Placed, is_placed, put, stands_at, states_of}
+use Rattle.pfs_store_records.specs.Records.{IsRecordAt, IsRising, Placed, is_placed, put, states_of}
 use Rattle.pfs_store_records.specs.Tallies.{is_tally, nodes_of}
 use Rattle.pfs_store_records.specs.declared.nodes.Tally.{Tally}
-use Rattle.pfs_store_index.specs.declared.indexes.Entry.{Entry}
-use Rattle.pfs_store_index.specs.Ties.{IsCounted, entry_of, has_key}
+use Rattle.pfs_store_index.specs.Ties.{IsCounted, has_key}
 use Rattle.pfs_store_records.specs.Changes.{connections_at, score_at}
 use Rattle.pfs_store_index.proofs.Leavings.{record_number, state_number}
 use Rattle.pfs_store_index.proofs.Meetings.{CountsDone, key-number, put-renewed, renewed_record}
 use Rattle.pfs_store_records.proofs.OneNode.{scope_is, source_is}
 use Rattle.pfs_store_records.proofs.Searches.{any-also, any-found, find-part, found-all, found-passes}
+use Rattle.pfs_store_index.proofs.Reached.{IsKeyAt}
 use Rattle.pfs_store_index.proofs.Stands.{rising-records}
 use Rattle.std.proofs.lemmas.Bool.{and_from}
 use Rattle.pfs_store_records.proofs.Rising.{has_number}
 
--- the record to which an entry of the index leads
-pub record IsEntryOf (k : FlowKey) (e : Entry) (rs : List Placed) : Type 0 where
-  pub record_of : Placed
-  pub found : find (has_key k) rs ≡ Some record_of
-  pub place : record_of.place ≡ e.place
-
-pub entry-record : (k : FlowKey) (e : Entry) (rs : List Placed) → Some e ≡ option_map entry_of (find (has_key k) rs) → IsEntryOf k e rs
-entry-record k e rs h = go (find (has_key k) rs) refl
-  where
-    go : (o : Option Placed) → find (has_key k) rs ≡ o → IsEntryOf k e rs
-    go None f = let z : Some e ≡ None = h ∙ ap (option_map entry_of) f in absurd (cc z)
-    go (Some p) f =
-        let z : Some e ≡ Some (entry_of p) = h ∙ ap (option_map entry_of) f in
-        let q : e ≡ entry_of p = cc in
-        record { record_of = p; found = f; place = sym (ap (λ (x : Entry). x.place) q) }
-
 same_self : (n : ℕ) → (n == n) ≡ true
 same_self n = grind (arith, nat_tests)
 
-pub read-held : (k : FlowKey) (e : Entry) (rs : List Placed) → IsEntryOf k e rs → list_any (stands_at e.place) rs ≡ true
-read-held k e rs h =
-    any-also (has_key k) (stands_at e.place) h.record_of rs h.found (ap (λ n. n == e.place) h.place ∙ same_self e.place)
+pub read-is : (k : FlowKey) (at : ℕ) (s : State) (rs : List Placed) (h : IsKeyAt k at rs) → IsRecordAt at s rs → h.record_of.state ≡ s
+read-is k at s rs h is = found-all (λ (p : Placed). p.place ≡ at → p.state ≡ s) (has_key k) h.record_of rs is h.found h.place
 
-pub read-is : (k : FlowKey) (e : Entry) (s : State) (rs : List Placed) (h : IsEntryOf k e rs) → IsRecordAt e.place s rs → h.record_of.state ≡ s
-read-is k e s rs h at = found-all (λ (p : Placed). p.place ≡ e.place → p.state ≡ s) (has_key k) h.record_of rs at h.found h.place
+pub write-held : (k : FlowKey) (at n : ℕ) (rs : List Placed) (h : IsKeyAt k at rs) → h.record_of.state.number ≡ n → list_any (is_placed n at) rs ≡ true
+write-held k at n rs h q =
+    any-also (has_key k) (is_placed n at) h.record_of rs h.found
+    (and_from (h.record_of.state.number == n) (h.record_of.place == at) (ap (λ m. m == n) q ∙ same_self n) (ap (λ m. m == at) h.place ∙ same_self at))
 
-pub write-held : (k : FlowKey) (e : Entry) (n : ℕ) (rs : List Placed) (h : IsEntryOf k e rs) → h.record_of.state.number ≡ n → list_any (is_placed n e.place) rs ≡ true
-write-held k e n rs h q =
-    any-also (has_key k) (is_placed n e.place) h.record_of rs h.found
-    (and_from (h.record_of.state.number == n) (h.record_of.place == e.place) (ap (λ m. m == n) q ∙ same_self n) (ap (λ m. m == e.place) h.place ∙ same_self e.place))
+pub state-found : (k : FlowKey) (at : ℕ) (s : State) (rs : List Placed) (h : IsKeyAt k at rs) → h.record_of.state ≡ s → find (λ (x : State). same_key x.key k) (states_of rs) ≡ Some s
+state-found k at s rs h q = find-part (λ (p : Placed). p.state) (λ (x : State). same_key x.key k) rs ∙ ap (option_map (λ (p : Placed). p.state)) h.found ∙ ap Some q
 
-pub state-found : (k : FlowKey) (e : Entry) (s : State) (rs : List Placed) (h : IsEntryOf k e rs) → h.record_of.state ≡ s → find (λ (x : State). same_key x.key k) (states_of rs) ≡ Some s
-state-found k e s rs h q = find-part (λ (p : Placed). p.state) (λ (x : State). same_key x.key k) rs ∙ ap (option_map (λ (p : Placed). p.state)) h.found ∙ ap Some q
-
-pub number-found : (k : FlowKey) (e : Entry) (s : State) (rs : List Placed) (h : IsEntryOf k e rs) → h.record_of.state ≡ s → IsRising (state_numbers (states_of rs))
+pub number-found : (k : FlowKey) (at : ℕ) (s : State) (rs : List Placed) (h : IsKeyAt k at rs) → h.record_of.state ≡ s → IsRising (state_numbers (states_of rs))
     → find (has_number state_number s.number) (states_of rs) ≡ Some s
-number-found k e s rs h q r =
+number-found k at s rs h q r =
     let f : find (has_number record_number s.number) rs ≡ Some h.record_of =
     subst (λ (x : State). find (has_number record_number x.number) rs ≡ Some h.record_of) q (key-number k h.record_of rs (rising-records rs r) h.found) in
     find-part (λ (p : Placed). p.state) (has_number state_number s.number) rs ∙ ap (option_map (λ (p : Placed). p.state)) f ∙ ap Some q
@@ -78,9 +58,9 @@ number-found k e s rs h q r =
 renewed-self : (p : PacketView) (now : ℕ) (s : State) → numbered_state_after s.number p now s ≡ state_after_packet p now s
 renewed-self p now s = ap (λ (b : Bool). if b then state_after_packet p now s else s) (same_self s.number)
 
-pub written : (k : FlowKey) (e : Entry) (p : PacketView) (now : ℕ) (s after : State) (rs : List Placed) (h : IsEntryOf k e rs) → h.record_of.state ≡ s → IsRising (state_numbers (states_of rs))
+pub written : (k : FlowKey) (at : ℕ) (p : PacketView) (now : ℕ) (s after : State) (rs : List Placed) (h : IsKeyAt k at rs) → h.record_of.state ≡ s → IsRising (state_numbers (states_of rs))
     → after ≡ state_after_packet p now s → map (put after) rs ≡ map (renewed_record s.number p now) rs
-written k e p now s after rs h q r a =
+written k at p now s after rs h q r a =
     let f : find (has_number record_number s.number) rs ≡ Some h.record_of =
     subst (λ (x : State). find (has_number record_number x.number) rs ≡ Some h.record_of) q (key-number k h.record_of rs (rising-records rs r) h.found) in
     put-renewed s.number p now h.record_of after rs (rising-records rs r) f (a ∙ sym (renewed-self p now s) ∙ ap (numbered_state_after s.number p now) (sym q)) (ap (λ (x : State). x.number) a)
@@ -128,13 +108,3 @@ told-score (Some sc) a ts =
     parts : (o : Option Tally) → option_map (λ (t : Tally). t.node.score) o ≡ option_map (λ (n : Node). n.score) (option_map (λ (t : Tally). t.node) o)
     parts None = refl
     parts (Some t) = refl
-
--- where the index has no entry, no state has the key
-pub none-entry : (k : FlowKey) (rs : List Placed) → None ≡ option_map entry_of (find (has_key k) rs) → is_some (find (λ (s : State). same_key s.key k) (states_of rs)) ≡ true → ⊥
-none-entry k rs h held = go (find (has_key k) rs) refl
-  where
-    go : (o : Option Placed) → find (has_key k) rs ≡ o → ⊥
-    go None f =
-        let z : false ≡ true = sym (ap is_some (find-part (λ (p : Placed). p.state) (λ (s : State). same_key s.key k) rs ∙ ap (option_map (λ (p : Placed). p.state)) f)) ∙ held in
-        absurd (cc z)
-    go (Some p) f = let z : None ≡ Some (entry_of p) = h ∙ ap (option_map entry_of) f in absurd (cc z)

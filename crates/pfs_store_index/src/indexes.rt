@@ -20,7 +20,7 @@ ghost use Rattle.pfs_store_records.specs.Records.{IsAbove, IsRising, between, pl
 ghost use Rattle.pfs_store_records.specs.Sourced.{IsSourced};
 ghost use Rattle.pfs_store_records.specs.Tallies.{nodes_of};
 ghost use Rattle.pfs_store_records.specs.Walks.{IsPassing};
-ghost use Rattle.pfs_store_index.specs.Holdings.{IsUncompleted};
+ghost use Rattle.pfs_store_index.specs.Holdings.{IsUncompleted, is_reached};
 ghost use Rattle.pfs_store_index.specs.Rounds.{waiting, waiting_of};
 ghost use Rattle.pfs_store_index.specs.Ties.{HasRule, entry_of};
 
@@ -29,11 +29,10 @@ use crate::stepping::stepped;
 use indexmap::IndexMap;
 use pfs_addr_values::{Addr, FlowKey, Meter, NoMemory, Packet};
 use pfs_conf_values::{Config, RuleNo};
-use pfs_store_contract::{Node, NodeScope, State, StateNo, Touched};
+use pfs_store_contract::{Found, Node, NodeScope, State, StateNo, Touched};
 use pfs_store_records::{Nodes, Passed, Records, Round, Sought, Tally, leave, meet};
 use pfs_store_rules::node_scope;
 use std::alloc::{AllocError, Global};
-use std::cell::Cell;
 use std::collections::BTreeSet;
 use std::hash::BuildHasher;
 use std::marker::Model;
@@ -55,13 +54,12 @@ pub(crate) struct Renewed {
 }
 
 /// The states and the source nodes that are held for a configuration, with what finds and counts them. Callers see them as
-/// two lists by rising number.
+/// two lists by rising number, and the records of the states with their places.
 #[derive(Drop)]
 pub(crate) struct Indexes<S: BuildHasher> {
     config: Config,
     records: Records,
     keys: IndexMap<Sought, Entry, S>,
-    last_found: Cell<usize>,
     counts: Vec<u64>,
     nodes: Nodes<S>,
     pairs: BTreeSet<(Addr, u32)>,
@@ -75,7 +73,7 @@ impl<S: BuildHasher> Model for Indexes<S> {
 
     ghost Value = { Holding };
 
-    ghost view = { λ x. record { config = x.config; states = states_of x.records; nodes = nodes_of x.nodes } };
+    ghost view = { λ x. record { config = x.config; states = states_of x.records; nodes = nodes_of x.nodes; records = x.records } };
 
     ghost invariant = { λ x. IsTied x.config x.records x.keys x.counts.items x.nodes x.pairs };
 }
@@ -90,14 +88,13 @@ impl<S: BuildHasher> Indexes<S> {
     ) -> Result<Indexes<S>, AllocError>
     where
         S: Drop,
-        ensures { IfOk result (λ x. x ≡ record { config = config; states = []; nodes = [] }) }
+        ensures { IfOk result (λ x. x ≡ record { config = config; states = []; nodes = []; records = [] }) }
     {
         let counts = vec![in alloc; 0; config.item_count() as usize]?;
         Ok(Indexes {
             config,
             records: Records::new(alloc),
             keys: IndexMap::with_hasher(alloc, by_key),
-            last_found: Cell::new(0),
             counts,
             nodes: Nodes::new(alloc, by_source),
             pairs: BTreeSet::new(alloc),
@@ -153,22 +150,18 @@ impl<S: BuildHasher> Indexes<S> {
         &self.nodes
     }
 
-    /// The number of the state that has a key.
-    pub(crate) fn find(&self, key: &FlowKey) -> Option<StateNo>
-        ensures { result ≡ option_map state_number (state_with key.now (lists self.now.states [] [] [] 0)) }
+    /// The state that has a key: one search.
+    pub(crate) fn find(&self, key: &FlowKey) -> Option<Found>
+        ensures number { option_map (λ f. f.number) result ≡ option_map state_number (state_with key.now (lists self.now.states [] [] [] 0)) }
+        ensures rule { option_map (λ f. f.rule) result ≡ option_map state_rule (state_with key.now (lists self.now.states [] [] [] 0)) }
+        ensures reached { IfSome result (λ f. is_reached self.now.records f ≡ true) }
     {
-        match entry_at(&self.keys, &self.last_found, key) {
-            Some(entry) => Some(StateNo(u64::from(entry.number))),
-            None => None,
-        }
-    }
-
-    /// The rule of the state that has a key.
-    pub(crate) fn rule_at(&self, key: &FlowKey) -> Option<RuleNo>
-        ensures { result ≡ option_map state_rule (state_with key.now (lists self.now.states [] [] [] 0)) }
-    {
-        match entry_at(&self.keys, &self.last_found, key) {
-            Some(entry) => Some(entry.rule),
+        match entry_at(&self.keys, key) {
+            Some(entry) => Some(Found {
+                number: StateNo(u64::from(entry.number)),
+                rule: entry.rule,
+                place: entry.place,
+            }),
             None => None,
         }
     }
@@ -260,6 +253,18 @@ impl<S: BuildHasher> Indexes<S> {
         self.records.read(number, meter)
     }
 
+    /// The record of the state that was found: one look, and no search.
+    pub(crate) fn read_found(&self, found: Found, meter: &mut Meter) -> State
+        requires reached { is_reached self.now.records found ≡ true }
+        requires room { meter.old < 2 ^ 64 - 1 }
+        ensures value { find (λ s. s.number == found.number.0) self.now.states ≡ Some result }
+        ensures small { result.number < 2 ^ 32 }
+        ensures looks { meter.new ≡ meter.old + 1 }
+    {
+        self.records.numbers_rise();
+        self.records.read_at(found.place, meter)
+    }
+
     /// A state comes, and with it the node of its source where its rule tracks sources and the source has none.
     /// `NoMemory` where memory for them is refused; nothing changes then.
     pub(crate) fn put(&mut self, state: State) -> Result<(), NoMemory>
@@ -298,9 +303,16 @@ impl<S: BuildHasher> Indexes<S> {
         }
     }
 
-    /// Takes a packet of the state that has its key: one look, and one search by key.
-    pub(crate) fn renew(&mut self, packet: &Packet, now: u64, meter: &mut Meter) -> Renewed
-        requires held { is_some (state_with (key_of packet.now) (lists self.old.states [] [] [] 0)) ≡ true }
+    /// Takes a packet of the state that was found by its key: one look, and no search by key.
+    pub(crate) fn renew(
+        &mut self,
+        found: Found,
+        packet: &Packet,
+        now: u64,
+        meter: &mut Meter,
+    ) -> Renewed
+        requires held { option_map state_number (state_with (key_of packet.now) (lists self.old.states [] [] [] 0)) ≡ Some found.number }
+        requires reached { is_reached self.old.records found ≡ true }
         requires order { IsUpToNow now (lists [] self.old.nodes [] [] 0) }
         requires few { length self.old.states ≤ run_limit }
         requires room { meter.old < 2 ^ 64 - 1 }
@@ -310,29 +322,24 @@ impl<S: BuildHasher> Indexes<S> {
             ≡ nodes_touched self.old.config self.old.nodes result.before now (completes_at packet.now result.before) }
         ensures told { result.touched
             ≡ touch_of self.old.config (lists self.old.states self.old.nodes [] [] 0) packet.now now result.before }
+        ensures reached { is_reached self.new.records found ≡ true }
         ensures config { self.new.config ≡ self.old.config }
         ensures looks { meter.new ≡ meter.old + 1 }
     {
         self.records.numbers_rise();
-        match entry_at(&self.keys, &self.last_found, &FlowKey::of(packet)) {
-            Some(entry) => {
-                let place = entry.place;
-                let state = self.records.read_at(place, meter);
-                let (after, completed) = stepped(&state, packet, now);
-                self.records.write_at(place, after);
-                let met = meet(&self.config, &mut self.nodes, &state, completed, now);
-                Renewed {
-                    before: state,
-                    touched: Touched {
-                        rule: state.rule,
-                        source: state.source,
-                        completed,
-                        connections: met.connections,
-                        score: met.score,
-                    },
-                }
-            }
-            None => unreachable!(),
+        let state = self.records.read_at(found.place, meter);
+        let (after, completed) = stepped(&state, packet, now);
+        self.records.write_at(found.place, after);
+        let met = meet(&self.config, &mut self.nodes, &state, completed, now);
+        Renewed {
+            before: state,
+            touched: Touched {
+                rule: state.rule,
+                source: state.source,
+                completed,
+                connections: met.connections,
+                score: met.score,
+            },
         }
     }
 
@@ -368,39 +375,11 @@ impl<S: BuildHasher> Indexes<S> {
     }
 }
 
-/// What the index by key has of a key. The key that was found last is compared first, and is not searched for again.
-fn entry_at<S: BuildHasher>(
-    keys: &IndexMap<Sought, Entry, S>,
-    last_found: &Cell<usize>,
-    key: &FlowKey,
-) -> Option<Entry>
+/// What the index by key has of a key.
+fn entry_at<S: BuildHasher>(keys: &IndexMap<Sought, Entry, S>, key: &FlowKey) -> Option<Entry>
     ensures { result ≡ get same_key keys.now key.now }
 {
-    let sought = Sought { key: *key };
-    match entry_in(keys, last_found.get(), &sought) {
-        Some(entry) => Some(entry),
-        None => match keys.get_full(&sought) {
-            Some((place, _, entry)) => {
-                last_found.set(place);
-                Some(*entry)
-            }
-            None => None,
-        },
-    }
-}
-
-/// The entry at a place of the index by key, if it is that of the key.
-fn entry_in<S: BuildHasher>(
-    keys: &IndexMap<Sought, Entry, S>,
-    place: usize,
-    sought: &Sought,
-) -> Option<Entry>
-    ensures { IfSome result (λ e. get same_key keys.now sought.now ≡ Some e) }
-{
-    match keys.get_index(place) {
-        Some((found, entry)) => { if found == sought { Some(*entry) } else { None } }
-        None => None,
-    }
+    keys.get(&Sought { key: *key }).copied()
 }
 
 /// What the index by key has of a state whose record is at this place.

@@ -1,11 +1,12 @@
 //! A store by indexes.
 
-ghost use Rattle.std.specs.Prelude.{◌≡◌, ◌+◌, ◌<◌, IfOk, IsSome, None, OnErr, OnOk, true};
+ghost use Rattle.std.specs.Prelude.{◌≡◌, ◌+◌, ◌<◌, [], IfOk, IsSome, None, OnErr, OnOk, true};
 ghost use Rattle.pfs_addr_values.specs.Keys.{key_of};
 ghost use Rattle.pfs_addr_values.specs.Packets.{run_limit};
 ghost use Rattle.pfs_conf_values.specs.Configs.{options_at};
 ghost use Rattle.pfs_store_contract.specs.Admission.{world_after_admission};
 ghost use Rattle.pfs_store_contract.specs.Worlds.{empty_world, state_with};
+ghost use Rattle.pfs_store_index.specs.Holdings.{is_reached};
 
 use crate::expiring::counted_rules;
 use crate::flushing::flush;
@@ -15,7 +16,7 @@ use crate::purging::{share_of, walk_nodes, walk_states};
 use crate::rounds::{next_between, turned, under_way};
 use pfs_addr_values::{Addr, FlowKey, Meter, NoMemory, Packet};
 use pfs_conf_values::{Config, LimitName, RuleNo, RulesHasher};
-use pfs_store_contract::{Limit, Slice, State, StateNo, Store, Touched, Watched};
+use pfs_store_contract::{Found, Limit, Slice, State, StateNo, Store, Touched, Watched};
 use pfs_store_records::Round;
 use pfs_track::StatePhase;
 use std::alloc::Global;
@@ -26,7 +27,7 @@ use std::marker::Model;
 /// source. The cost of a call grows with the logarithm of what is held, except for the states of a source that are
 /// flushed and for the slices of the purge. It counts looks.
 ///
-/// Clauses see a `Plain`: the configuration that it was made for, and its world.
+/// Clauses see an `Indexed`: the configuration that it was made for, its world, and the records of the states.
 #[derive(Drop)]
 pub struct IndexStore<S: BuildHasher = RulesHasher> {
     indexes: Indexes<S>,
@@ -38,14 +39,15 @@ pub struct IndexStore<S: BuildHasher = RulesHasher> {
 
 impl<S: BuildHasher> Model for IndexStore<S> {
     ghost use Rattle.std.specs.Prelude.{length};
-    ghost use Rattle.pfs_store_contract.specs.Plain.{Plain};
+    ghost use Rattle.pfs_store_index.specs.Holdings.{Indexed};
     ghost use Rattle.pfs_store_index.specs.Stored.{IsStored, world_of};
 
-    ghost Value = { Plain };
+    ghost Value = { Indexed };
 
     ghost view = { λ s. record {
       config = s.indexes.config;
       world = world_of s.indexes s.states_round.cursor s.states_round.mark s.nodes_round.cursor s.nodes_round.mark s.made;
+      records = s.indexes.records;
     } };
 
     ghost invariant = { λ s.
@@ -57,7 +59,7 @@ impl IndexStore {
     /// nodes, begin with all that the configuration says (`RulesHasher`). `NoMemory` where memory for the copy is
     /// refused.
     pub fn new(alloc: Global, config: &Config) -> Result<IndexStore, NoMemory>
-        ensures { IfOk result (λ s. s ≡ record { config = config.now; world = empty_world }) }
+        ensures { IfOk result (λ s. s ≡ record { config = config.now; world = empty_world; records = [] }) }
     {
         let hasher = config.hasher();
         IndexStore::with_hashers(alloc, config, hasher, hasher)
@@ -75,7 +77,7 @@ impl<S: BuildHasher> IndexStore<S> {
     ) -> Result<IndexStore<S>, NoMemory>
     where
         S: Drop,
-        ensures { IfOk result (λ s. s ≡ record { config = config.now; world = empty_world }) }
+        ensures { IfOk result (λ s. s ≡ record { config = config.now; world = empty_world; records = [] }) }
     {
         let counts = vec![in alloc; 0; counted_rules(config)]?;
         Ok(IndexStore {
@@ -128,12 +130,10 @@ impl<S: BuildHasher> Store for IndexStore<S> {
 
     ghost counts = { true };
 
-    fn find(&self, key: &FlowKey) -> Option<StateNo> {
-        self.indexes.find(key)
-    }
+    ghost reaches = { λ s found. is_reached s.records found };
 
-    fn rule_at(&self, key: &FlowKey) -> Option<RuleNo> {
-        self.indexes.rule_at(key)
+    fn find(&self, key: &FlowKey) -> Option<Found> {
+        self.indexes.find(key)
     }
 
     fn holds(&self, number: StateNo) -> bool {
@@ -171,14 +171,14 @@ impl<S: BuildHasher> Store for IndexStore<S> {
         }
     }
 
-    fn touch(&mut self, _number: StateNo, packet: &Packet, now: u64, meter: &mut Meter) -> Touched {
+    fn touch(&mut self, found: Found, packet: &Packet, now: u64, meter: &mut Meter) -> Touched {
         self.indexes.state_numbers_rise();
-        self.indexes.renew(packet, now, meter).touched
+        self.indexes.renew(found, packet, now, meter).touched
     }
 
-    fn kill(&mut self, number: StateNo, now: u64, meter: &mut Meter) {
+    fn kill(&mut self, found: Found, now: u64, meter: &mut Meter) {
         self.indexes.state_numbers_rise();
-        let state = self.indexes.read(number.0, meter);
+        let state = self.indexes.read_found(found, meter);
         self.indexes.take_out(state, now);
     }
 

@@ -1,6 +1,6 @@
 //! A store over plain lists.
 
-ghost use Rattle.std.specs.Prelude.{◌≡◌, ◌+◌, ◌<◌, ◌≤◌, [], ◌∷◌, ◌++◌, false, IfOk, IsOk, IsSome, None, OnErr, OnOk, length, vec_capacity};
+ghost use Rattle.std.specs.Prelude.{◌≡◌, ◌+◌, ◌<◌, ◌≤◌, [], ◌∷◌, ◌++◌, false, true, IfOk, IsOk, IsSome, None, OnErr, OnOk, length, vec_capacity};
 ghost use Rattle.pfs_addr_values.specs.Packets.{run_limit};
 ghost use Rattle.pfs_conf_values.specs.Configs.{options_at};
 ghost use Rattle.pfs_store_contract.specs.Admission.{world_after_admission, nodes_with};
@@ -15,7 +15,7 @@ use crate::purging::{slice_nodes, slice_states};
 use crate::touching::{self, state_with};
 use pfs_addr_values::{Addr, FlowKey, Meter, NoMemory, Packet};
 use pfs_conf_values::{Config, RuleNo};
-use pfs_store_contract::{Limit, Node, NodeScope, Slice, State, StateNo, Store, Touched};
+use pfs_store_contract::{Found, Limit, Node, NodeScope, Slice, State, StateNo, Store, Touched};
 use pfs_store_rules::node_scope;
 use pfs_track::{Score, StatePhase};
 use std::alloc::{AllocError, Global};
@@ -108,16 +108,16 @@ impl Store for PlainStore {
 
     ghost counts = { false };
 
-    fn find(&self, key: &FlowKey) -> Option<StateNo> {
-        match state_with(&self.states, key) {
-            Some(state) => Some(StateNo(state.number)),
-            None => None,
-        }
-    }
+    // it walks its lists at each call, and needs nothing that it said
+    ghost reaches = { λ s found. true };
 
-    fn rule_at(&self, key: &FlowKey) -> Option<RuleNo> {
+    fn find(&self, key: &FlowKey) -> Option<Found> {
         match state_with(&self.states, key) {
-            Some(state) => Some(state.rule),
+            Some(state) => Some(Found {
+                number: StateNo(state.number),
+                rule: state.rule,
+                place: 0,
+            }),
             None => None,
         }
     }
@@ -153,13 +153,7 @@ impl Store for PlainStore {
         }
     }
 
-    fn touch(
-        &mut self,
-        _number: StateNo,
-        packet: &Packet,
-        now: u64,
-        _meter: &mut Meter,
-    ) -> Touched {
+    fn touch(&mut self, _found: Found, packet: &Packet, now: u64, _meter: &mut Meter) -> Touched {
         touching::touch(
             &self.config,
             self.states.as_mut_slice(),
@@ -169,13 +163,13 @@ impl Store for PlainStore {
         )
     }
 
-    fn kill(&mut self, number: StateNo, now: u64, _meter: &mut Meter) {
+    fn kill(&mut self, found: Found, now: u64, _meter: &mut Meter) {
         leave(
             &self.config,
             &mut self.states,
             self.nodes.as_mut_slice(),
             &mut self.pending_states,
-            &OtherThan(number.0),
+            &OtherThan(found.number.0),
             now,
         );
     }

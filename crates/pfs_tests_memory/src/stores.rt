@@ -127,9 +127,10 @@ fn fill_again<S: Store>(rt: &HostRuntime, store: &mut S, config: &Config) -> Res
     requires made_for { S.config store.old ≡ config.now }
 {
     admit_all(rt, store, config, UNTRACKED_ROWS)?;
-    if store.holds(StateNo(2)) {
+    let second = packet(&Sent::Udp(53), A1, 2)?;
+    if let Some(found) = store.find(&FlowKey::of(&second)) {
         let mut meter = Meter::new();
-        store.kill(StateNo(2), 6, &mut meter);
+        store.kill(found, 6, &mut meter);
     }
     admit(rt, store, config, &(Ask::InRoom, A2, 9, 0, Ok(5)))?;
     Ok(())
@@ -168,13 +169,13 @@ fn admit_first<S: Store>(
 fn touch<S: Store>(rt: &HostRuntime, store: &mut S, packet: &Packet, now: u64) -> Result<(), Stop>
     requires order { IsUpToNow now (S.world store.old) }
 {
-    let Some(number) = store.find(&FlowKey::of(packet)) else {
+    let Some(found) = store.find(&FlowKey::of(packet)) else {
         return Err(Stop::Input);
     };
     let before = counts(store);
     let mut meter = Meter::new();
     begin_free(rt, "touch")?;
-    let touched = store.touch(number, packet, now, &mut meter);
+    let touched = store.touch(found, packet, now, &mut meter);
     end(rt)?;
     plain(
         rt,
@@ -216,7 +217,9 @@ fn admit<S: Store>(
     begin_ask(rt, ask)?;
     let answer = admit_one(store, config, &packet, RuleNo(rule))?;
     end(rt)?;
-    let found = store.find(&FlowKey::of(&packet)).map(|number| number.0);
+    let found = store
+        .find(&FlowKey::of(&packet))
+        .map(|found| found.number.0);
     match answer {
         Some(Ok(number)) => plain(rt, Ok(number) == wanted && found == Some(number)),
         Some(Err(limit)) => plain(
@@ -273,12 +276,13 @@ fn take_away<S: Store>(rt: &HostRuntime, store: &mut S) -> Result<(), Stop> {
 }
 
 fn kill<S: Store>(rt: &HostRuntime, store: &mut S) -> Result<(), Stop> {
-    if !store.holds(StateNo(1)) {
+    let first = packet(&Sent::Udp(53), A1, 1)?;
+    let Some(found) = store.find(&FlowKey::of(&first)) else {
         return Err(Stop::Input);
-    }
+    };
     let mut meter = Meter::new();
     begin_free(rt, "kill")?;
-    store.kill(StateNo(1), 6, &mut meter);
+    store.kill(found, 6, &mut meter);
     end(rt)?;
     plain(rt, counts(store) == (13, 2, 14))?;
     Ok(())

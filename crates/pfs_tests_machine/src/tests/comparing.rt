@@ -17,7 +17,8 @@ use std::test::Fail;
 enum Answer {
     Touched(Touched),
     Admitted(Result<StateNo, Limit>),
-    Killed(u64),
+    Killed(Option<StateNo>),
+    Flushed(u64),
     Purged(Slice, Slice),
 }
 
@@ -78,17 +79,12 @@ fn wash<S: Store>(tried: &mut Tried<S>, draw: u64) -> Answer {
     } else {
         None
     };
-    Answer::Killed(tried.flush(source(draw), rule))
+    Answer::Flushed(tried.flush(source(draw), rule))
 }
 
-/// A state is killed, where the drawn number is one
-fn end<S: Store>(rt: &impl Abort, tried: &mut Tried<S>, draw: u64) -> Answer {
-    let number = StateNo(draw / 8 % 200);
-    if !tried.store().holds(number) {
-        return Answer::Killed(0);
-    }
-    tried.kill(rt, number);
-    Answer::Killed(1)
+/// A state is killed, where one has the key of the drawn packet
+fn end<S: Store>(tried: &mut Tried<S>, draw: u64) -> Result<Answer, Fail> {
+    Ok(Answer::Killed(tried.kill(&drawn(draw)?)))
 }
 
 /// The slices of a second
@@ -101,7 +97,7 @@ fn purge<S: Store>(tried: &mut Tried<S>) -> Answer {
 fn call<S: Store>(rt: &impl Abort, tried: &mut Tried<S>, draw: u64) -> Result<Answer, Fail> {
     match draw % 8 {
         0 => Ok(wash(tried, draw)),
-        1 => Ok(end(rt, tried, draw)),
+        1 => end(tried, draw),
         2 => Ok(purge(tried)),
         _ => come(rt, tried, draw),
     }

@@ -21,8 +21,8 @@ enum Step {
     Again(Addr, u16, u32),
     /// The first source shakes hands from this port at rule 0: how many connections it has then, and its score.
     Shake(u16, u64, u64),
-    /// The state of this number is killed.
-    Kill(u64),
+    /// The state of this number, source and port is killed.
+    Kill(u64, Addr, u16),
     /// The states of the first source leave, all or those of a rule: how many they are.
     Flush(Option<RuleNo>, u64),
     /// Whether a state of this number is held.
@@ -60,10 +60,10 @@ fn numbered(answer: Result<StateNo, Limit>) -> Result<u64, Limit> {
     }
 }
 
-/// The rule of a state that was admitted
-fn rule_of(answer: Result<StateNo, Limit>, rule: u32) -> Option<RuleNo> {
+/// The number and the rule of a state that was admitted
+fn admitted(answer: Result<StateNo, Limit>, rule: u32) -> Option<(StateNo, RuleNo)> {
     match answer {
-        Ok(_) => Some(RuleNo(rule)),
+        Ok(number) => Some((number, RuleNo(rule))),
         Err(_) => None,
     }
 }
@@ -74,9 +74,8 @@ fn come<S: Store>(rt: &impl Abort, tried: &mut Tried<S>, row: &Row) -> Result<()
             let packet = packet(&Sent::Udp(53), source, port)?;
             let answer = tried.admit(rt, &packet, RuleNo(rule))?;
             same!(rt; numbered(answer), want);
-            let key = FlowKey::of(&packet);
-            same!(rt; tried.store().find(&key), answer.ok());
-            same!(rt; tried.store().rule_at(&key), rule_of(answer, rule));
+            let found = tried.store().find(&FlowKey::of(&packet));
+            same!(rt; found.map(|it| (it.number, it.rule)), admitted(answer, rule));
         }
         Step::Again(source, port, rule) => {
             let told = tried.touch(&packet(&Sent::Udp(53), source, port)?)?;
@@ -99,9 +98,12 @@ fn come<S: Store>(rt: &impl Abort, tried: &mut Tried<S>, row: &Row) -> Result<()
     Ok(())
 }
 
-fn leave<S: Store>(rt: &impl Abort, tried: &mut Tried<S>, step: &Step) {
+fn leave<S: Store>(rt: &impl Abort, tried: &mut Tried<S>, step: &Step) -> Result<(), Fail> {
     match *step {
-        Step::Kill(number) => tried.kill(rt, StateNo(number)),
+        Step::Kill(number, source, port) => {
+            let killed = tried.kill(&packet(&Sent::Udp(53), source, port)?);
+            same!(rt; killed, Some(StateNo(number)));
+        }
         Step::Flush(rule, killed) => same!(rt; tried.flush(A1, rule), killed),
         Step::States(examined, removed) => {
             let slice = tried.purge_states();
@@ -113,6 +115,7 @@ fn leave<S: Store>(rt: &impl Abort, tried: &mut Tried<S>, step: &Step) {
         }
         _ => {}
     }
+    Ok(())
 }
 
 fn watch<S: Store>(rt: &impl Abort, tried: &mut Tried<S>, step: &Step) {
@@ -145,7 +148,7 @@ fn follow<S: Store>(rt: &impl Abort, tried: &mut Tried<S>, rows: &[Row]) -> Resu
     for row in rows {
         tried.go_to(rt, row.0);
         come(rt, tried, row)?;
-        leave(rt, tried, &row.1);
+        leave(rt, tried, &row.1)?;
         watch(rt, tried, &row.1);
         look(rt, tried.store(), &row.1);
     }
@@ -309,7 +312,7 @@ const LEAVING: &[Row] = &[
     (5, Step::Admit(A2, 4, 1, Ok(4))),
     (5, Step::Admit(A1, 5, 1, Ok(5))),
     (5, Step::Holds(2, true)),
-    (6, Step::Kill(2)),
+    (6, Step::Kill(2, A1, 2)),
     (6, Step::Holds(2, false)),
     (6, Step::Holds(1, true)),
     (6, Step::Flush(Some(RuleNo(1)), 2)),
@@ -363,17 +366,17 @@ fn a_slice_examines_its_share_of_a_round(rt: HostRuntime) -> Result<(), Fail> {
 const RETURNING: &[Row] = &[
     (5, Step::Admit(A1, 1, 0, Ok(1))),
     (5, Step::Admit(A2, 2, 0, Ok(2))),
-    (6, Step::Kill(1)),
-    (10, Step::Kill(2)),
+    (6, Step::Kill(1, A1, 1)),
+    (10, Step::Kill(2, A2, 2)),
     (26, Step::Nodes(1, 1)),
     (26, Step::Admit(A1, 3, 0, Ok(3))),
     (26, Step::Held(1, 2, 3)),
     (27, Step::Nodes(1, 0)),
     (30, Step::Nodes(1, 1)),
     (31, Step::Nodes(1, 0)),
-    (31, Step::Kill(3)),
+    (31, Step::Kill(3, A1, 3)),
     (32, Step::Admit(A2, 4, 0, Ok(4))),
-    (33, Step::Kill(4)),
+    (33, Step::Kill(4, A2, 4)),
     (51, Step::Nodes(1, 1)),
     (53, Step::Nodes(1, 1)),
     (53, Step::Held(0, 0, 4)),

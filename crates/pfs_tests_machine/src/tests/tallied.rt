@@ -4,7 +4,7 @@ ghost use Rattle.std.specs.Prelude.{◌≡◌};
 
 use pfs_addr_values::{Addr, FlowKey, Meter, NoMemory, Packet};
 use pfs_conf::RuleNo;
-use pfs_store_contract::{Limit, Slice, StateNo, Store, Touched};
+use pfs_store_contract::{Found, Limit, Slice, StateNo, Store, Touched};
 
 /// Any store, with a count of the calls that change it.
 #[derive(Drop)]
@@ -36,12 +36,10 @@ impl<S: Store> Store for Tallied<S> {
 
     ghost counts = { S.counts };
 
-    fn find(&self, key: &FlowKey) -> Option<StateNo> {
-        self.inner.find(key)
-    }
+    ghost reaches = { λ t. S.reaches t.inner };
 
-    fn rule_at(&self, key: &FlowKey) -> Option<RuleNo> {
-        self.inner.rule_at(key)
+    fn find(&self, key: &FlowKey) -> Option<Found> {
+        self.inner.find(key)
     }
 
     fn holds(&self, number: StateNo) -> bool {
@@ -70,14 +68,14 @@ impl<S: Store> Store for Tallied<S> {
         self.inner.admit(packet, rule, now)
     }
 
-    fn touch(&mut self, number: StateNo, packet: &Packet, now: u64, meter: &mut Meter) -> Touched {
+    fn touch(&mut self, found: Found, packet: &Packet, now: u64, meter: &mut Meter) -> Touched {
         self.tick();
-        self.inner.touch(number, packet, now, meter)
+        self.inner.touch(found, packet, now, meter)
     }
 
-    fn kill(&mut self, number: StateNo, now: u64, meter: &mut Meter) {
+    fn kill(&mut self, found: Found, now: u64, meter: &mut Meter) {
         self.tick();
-        self.inner.kill(number, now, meter)
+        self.inner.kill(found, now, meter)
     }
 
     fn flush(&mut self, source: Addr, rule: Option<RuleNo>, now: u64, meter: &mut Meter) -> u64 {

@@ -70,19 +70,20 @@ impl<'a, S: Store> Tried<'a, S> {
 
     /// A packet of a held state comes.
     pub fn touch(&mut self, packet: &Packet) -> Result<Touched, Fail> {
-        let number = self
+        let found = self
             .store
             .find(&FlowKey::of(packet))
             .ok_or("its key is not held")?;
         let mut meter = Meter::new();
-        Ok(self.store.touch(number, packet, self.now, &mut meter))
+        Ok(self.store.touch(found, packet, self.now, &mut meter))
     }
 
-    /// A held state is killed.
-    pub fn kill(&mut self, rt: &impl Abort, number: StateNo) {
-        assert!(rt; self.store.holds(number));
+    /// The state that has the key of a packet is killed: its number, if there is one.
+    pub fn kill(&mut self, packet: &Packet) -> Option<StateNo> {
+        let found = self.store.find(&FlowKey::of(packet))?;
         let mut meter = Meter::new();
-        self.store.kill(number, self.now, &mut meter);
+        self.store.kill(found, self.now, &mut meter);
+        Some(found.number)
     }
 
     /// The states of a source leave, all or those of a rule: how many they are.

@@ -9,11 +9,11 @@ use Rattle.pfs_engine.proofs.handshakes.kill.Goals as goal
 pub overflow_sub-result : goal.overflow_sub-result
 overflow_sub-result g c =
     let w = g.S.Store.world c.args.store.now in
-    omega (arith, c.state_count-before.ensures, c.state_count.ensures, ap (λ (v : World). length v.states) c.kill.ensures.world, count_le (other_than c.args.which.number.0) w.states)
+    omega (arith, c.state_count-before.ensures, c.state_count.ensures, ap (λ (v : World). length v.states) c.kill.ensures.world, count_le (other_than c.args.which.found.number.0) w.states)
 
 pub returns-in-None-clause-answer : goal.returns-in-None-clause-answer
 returns-in-None-clause-answer g c =
     let w = g.S.Store.world c.args.store.now in
     let after = ap (λ (v : World). length v.states) c.kill.ensures.world in
-    let all = count-rest (λ s. s.number == c.args.which.number.0) w.states in
+    let all = count-rest (λ s. s.number == c.args.which.found.number.0) w.states in
     rw c.in-None.is (omega (arith, c.state_count-before.ensures, c.state_count.ensures, after, all))

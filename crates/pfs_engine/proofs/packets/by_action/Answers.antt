@@ -12,9 +12,8 @@ returns-after-branch-2-clause-answered g c =
     let inside = c.held.inside in
     let w = g.S.Store.world inside.store in
     let a = c.in_ok-admit-in-Keep.ensures in
-    let seen = λ (k : Conf) (v : HeldView). packet_limit k v.held.world c.args.packet.now c.args.rule.0 in
-    let same_config = ap (λ (v : HeldView). v.config) c.held.view_is in
-    let same_held = ap (λ (v : HeldView). v.held) c.held.view_is in
+    let same_config = ap (λ (v : HeldView _). v.config) c.held.view_is in
+    let same_held = ap (λ (v : HeldView _). v.held) c.held.view_is in
     elim c.match-branch-2.branch [
       | in-Ok x ↦
           let none : packet_limit (g.S.Store.config inside.store) w c.args.packet.now c.args.rule.0 ≡ None = admitted_at w _ x.in-Ok.field-0 (sym x.in-Ok.is ∙ a.answer) in

@@ -1,21 +1,38 @@
--- Answers of Indexes::find: the index by key gives the number of the state that has the key, or none.
-use Rattle.std.proofs.Common.{◌∙◌, ap, option_map}
+-- Answers of Indexes::find: the index by key gives the number, the rule and the place of the state that has the key, or none.
+use Rattle.std.proofs.Common.{◌≡◌, ◌∙◌, true, ap, option_map, subst}
 use Rattle.std.specs.List.{find}
 use Rattle.pfs_addr_values.specs.Sameness.{same_key}
-use Rattle.pfs_store_contract.specs.Calls.{state_number}
+use Rattle.pfs_store_contract.specs.Calls.{state_number, state_rule}
 use Rattle.pfs_store_contract.specs.declared.records.State.{State}
-use Rattle.pfs_store_index.specs.Holdings.{Holding}
+use Rattle.pfs_store_index.specs.Holdings.{Holding, is_reached}
 use Rattle.pfs_store_index.specs.declared.indexes.Entry.{Entry}
-use Rattle.pfs_store_index.proofs.Stands.{number-at}
+use Rattle.pfs_store_index.proofs.Reached.{entry-reached}
+use Rattle.pfs_store_index.proofs.Stands.{number-at, rule-at}
 use Rattle.pfs_store_index.proofs.indexes.Indexes.find.Goals as goal
 
-pub returns-in-Some : goal.returns-in-Some
-returns-in-Some g c =
+pub returns-in-Some-clause-number : goal.returns-in-Some-clause-number
+returns-in-Some-clause-number g c =
     rw c.from.ensures
     (ap (option_map (λ (e : Entry). record { 0 = e.number })) c.in-Some.ensures ∙ number-at c.args.key.now c.self.inside.records _ (c.self.invariant.by_key c.args.key.now)
     ∙ ap (λ (h : Holding). option_map state_number (find (λ (s : State). same_key s.key c.args.key.now) h.states)) c.self.view_is)
 
-pub returns-in-None : goal.returns-in-None
-returns-in-None g c =
+pub returns-in-Some-clause-rule : goal.returns-in-Some-clause-rule
+returns-in-Some-clause-rule g c =
+    ap (option_map (λ (e : Entry). e.rule)) c.in-Some.ensures ∙ rule-at c.args.key.now c.self.inside.records _ (c.self.invariant.by_key c.args.key.now)
+    ∙ ap (λ (h : Holding). option_map state_rule (find (λ (s : State). same_key s.key c.args.key.now) h.states)) c.self.view_is
+
+pub returns-in-Some-clause-reached : goal.returns-in-Some-clause-reached
+returns-in-Some-clause-reached g c =
+    let e = c.in-Some.entry in
+    subst (λ (h : Holding). is_reached h.records (record { number = record { 0 = c.from.result }; rule = e.rule; place = e.place }) ≡ true) c.self.view_is
+    (rw c.from.ensures (entry-reached c.args.key.now e c.self.inside.records (c.in-Some.ensures ∙ c.self.invariant.by_key c.args.key.now)))
+
+pub returns-in-None-clause-number : goal.returns-in-None-clause-number
+returns-in-None-clause-number g c =
     ap (option_map (λ (e : Entry). record { 0 = e.number })) c.in-None.ensures ∙ number-at c.args.key.now c.self.inside.records _ (c.self.invariant.by_key c.args.key.now)
     ∙ ap (λ (h : Holding). option_map state_number (find (λ (s : State). same_key s.key c.args.key.now) h.states)) c.self.view_is
+
+pub returns-in-None-clause-rule : goal.returns-in-None-clause-rule
+returns-in-None-clause-rule g c =
+    ap (option_map (λ (e : Entry). e.rule)) c.in-None.ensures ∙ rule-at c.args.key.now c.self.inside.records _ (c.self.invariant.by_key c.args.key.now)
+    ∙ ap (λ (h : Holding). option_map state_rule (find (λ (s : State). same_key s.key c.args.key.now) h.states)) c.self.view_is

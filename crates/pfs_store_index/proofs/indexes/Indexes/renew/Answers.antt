@@ -1,6 +1,5 @@
 -- Answers of Indexes::renew: a packet's state is found and renewed, what is reported of it, and all stays tied.
-use Rattle.std.proofs.Common.{◌≡◌, ◌∙◌, ◌≤◌, is_some, [], length, map, ap, subst, sym, arith}
-use Rattle.std.specs.HashMap as hash
+use Rattle.std.proofs.Common.{◌≡◌, ◌∙◌, ◌≤◌, List, [], length, map, ap, subst, sym, arith}
 use Rattle.std.specs.List.{find, list_any}
 use Rattle.pfs_addr_values.specs.Keys.{key_of}
 use Rattle.pfs_addr_values.specs.Packets.{run_limit}
@@ -10,10 +9,10 @@ use Rattle.pfs_store_contract.specs.Counts.{node_scope_of}
 use Rattle.pfs_store_contract.specs.Touching.{completes_at, connections_in, nodes_touched, numbered_state_after, score_in}
 use Rattle.pfs_store_contract.specs.Worlds.{IsUpToNow, lists}
 use Rattle.pfs_store_contract.specs.declared.records.State.{State}
-use Rattle.pfs_store_records.specs.Records.{states_of}
+use Rattle.pfs_store_records.specs.Records.{Placed, states_of}
 use Rattle.pfs_store_records.specs.Sourced.{IsSourced}
 use Rattle.pfs_store_records.specs.Tallies.{is_tally, nodes_of}
-use Rattle.pfs_store_index.specs.Holdings.{Holding}
+use Rattle.pfs_store_index.specs.Holdings.{Holding, is_reached}
 use Rattle.pfs_store_records.specs.Changes.{HasTally, IsFew, at_node, met_by}
 use Rattle.pfs_store_index.specs.Ties.{IsCounted}
 use Rattle.pfs_store_index.proofs.Comings.{few-counted}
@@ -21,25 +20,24 @@ use Rattle.pfs_store_index.proofs.Leavings.{state_number}
 use Rattle.pfs_store_records.proofs.TallyLaws.{met-faithful}
 use Rattle.pfs_store_index.proofs.Meetings.{nodes-met, renewed_record, states-renewed}
 use Rattle.pfs_store_records.proofs.OneNode.{tally-at}
+use Rattle.pfs_store_index.proofs.Reached.{key-at, reached-renewed, reached-stands}
 use Rattle.pfs_store_index.proofs.Removals.{all-found}
-use Rattle.pfs_store_index.proofs.Renewing.{counts-done, entry-record, none-entry, number-found, read-held, read-is, state-found, told-connections, told-score, write-held, written}
+use Rattle.pfs_store_index.proofs.Renewing.{counts-done, number-found, read-is, state-found, told-connections, told-score, write-held, written}
 use Rattle.pfs_store_records.proofs.Searches.{all-weaker}
 use Rattle.pfs_store_index.proofs.Tying.{tied-met}
 use Rattle.pfs_store_index.proofs.indexes.Indexes.renew.Goals as goal
 
 pub read_at-state-requires-clause-held : goal.read_at-state-requires-clause-held
 read_at-state-requires-clause-held g c =
-    let k = key_of c.args.packet.now in
-    let h = entry-record k c.in-Some.entry c.self.inside.records (c.in-Some.ensures ∙ ap (hash.get same_key c.self.inside.keys) c.of.ensures ∙ c.self.invariant.by_key k) in
-    read-held k c.in-Some.entry c.self.inside.records h
+    reached-stands c.args.found c.self.inside.records (ap (λ (x : Holding). is_reached x.records c.args.found) c.self.view_is ∙ c.requires.reached)
 
 pub write_at-requires-clause-placed : goal.write_at-requires-clause-placed
 write_at-requires-clause-placed g c =
     let k = key_of c.args.packet.now in
     let rs = c.self.inside.records in
-    let h = entry-record k c.in-Some.entry c.self.inside.records (c.in-Some.ensures ∙ ap (hash.get same_key c.self.inside.keys) c.of.ensures ∙ c.self.invariant.by_key k) in
-    let q = read-is k c.in-Some.entry c.read_at-state.result rs h c.read_at-state.ensures.value in
-    write-held k c.in-Some.entry _ rs h (ap (λ (s : State). s.number) (q) ∙ sym (ap (λ (s : State). s.number) c.stepped-completed.ensures.state))
+    let h = key-at k c.args.found c.self.inside.records c.args.self.now c.numbers_rise.ensures (ap (λ (x : Holding). x.states) c.self.view_is) (ap (λ (x : Holding). x.records) c.self.view_is) c.requires.held c.requires.reached in
+    let q = read-is k c.args.found.place c.read_at-state.result rs h c.read_at-state.ensures.value in
+    write-held k c.args.found.place _ rs h (ap (λ (s : State). s.number) (q) ∙ sym (ap (λ (s : State). s.number) c.stepped-completed.ensures.state))
 
 pub write_at-requires-clause-sourced : goal.write_at-requires-clause-sourced
 write_at-requires-clause-sourced g c = subst IsSourced (sym c.stepped-completed.ensures.state) c.read_at-state.ensures.sourced
@@ -48,9 +46,9 @@ pub meet-met-requires-clause-has : goal.meet-met-requires-clause-has
 meet-met-requires-clause-has g c =
     let k = key_of c.args.packet.now in
     let rs = c.self.inside.records in
-    let h = entry-record k c.in-Some.entry c.self.inside.records (c.in-Some.ensures ∙ ap (hash.get same_key c.self.inside.keys) c.of.ensures ∙ c.self.invariant.by_key k) in
-    let q = read-is k c.in-Some.entry c.read_at-state.result rs h c.read_at-state.ensures.value in
-    let f = number-found k c.in-Some.entry c.read_at-state.result rs h q c.numbers_rise.ensures in
+    let h = key-at k c.args.found c.self.inside.records c.args.self.now c.numbers_rise.ensures (ap (λ (x : Holding). x.states) c.self.view_is) (ap (λ (x : Holding). x.records) c.self.view_is) c.requires.held c.requires.reached in
+    let q = read-is k c.args.found.place c.read_at-state.result rs h c.read_at-state.ensures.value in
+    let f = number-found k c.args.found.place c.read_at-state.result rs h q c.numbers_rise.ensures in
     all-found state_number (HasTally c.self.inside.config c.self.inside.nodes) c.read_at-state.result.number c.read_at-state.result (states_of rs) c.self.invariant.noded f
 
 pub meet-met-requires-clause-few : goal.meet-met-requires-clause-few
@@ -69,11 +67,11 @@ invariant_of-self g c =
     let k = key_of c.args.packet.now in
     let rs = c.self.inside.records in
     let s = c.read_at-state.result in
-    let h = entry-record k c.in-Some.entry c.self.inside.records (c.in-Some.ensures ∙ ap (hash.get same_key c.self.inside.keys) c.of.ensures ∙ c.self.invariant.by_key k) in
-    let q = read-is k c.in-Some.entry c.read_at-state.result rs h c.read_at-state.ensures.value in
-    let f = number-found k c.in-Some.entry s rs h q c.numbers_rise.ensures in
+    let h = key-at k c.args.found c.self.inside.records c.args.self.now c.numbers_rise.ensures (ap (λ (x : Holding). x.states) c.self.view_is) (ap (λ (x : Holding). x.records) c.self.view_is) c.requires.held c.requires.reached in
+    let q = read-is k c.args.found.place c.read_at-state.result rs h c.read_at-state.ensures.value in
+    let f = number-found k c.args.found.place s rs h q c.numbers_rise.ensures in
     let w : c.write_at.new.self ≡ map (renewed_record s.number c.args.packet.now c.args.now) c.self.inside.records =
-    c.write_at.ensures.records ∙ written k c.in-Some.entry c.args.packet.now c.args.now s _ rs h q c.numbers_rise.ensures c.stepped-completed.ensures.state in
+    c.write_at.ensures.records ∙ written k c.args.found.place c.args.packet.now c.args.now s _ rs h q c.numbers_rise.ensures c.stepped-completed.ensures.state in
     let m : c.meet-met.new.nodes ≡ map (at_node (node_scope_of c.self.inside.config s.rule.0) s.source (met_by (options_of c.self.inside.config s.rule.0).max_src_conn_rate c.args.now (completes_at c.args.packet.now s))) c.self.inside.nodes =
     c.meet-met.ensures.nodes ∙ ap (λ b. map (at_node (node_scope_of c.self.inside.config s.rule.0) s.source (met_by (options_of c.self.inside.config s.rule.0).max_src_conn_rate c.args.now b)) c.self.inside.nodes) c.stepped-completed.ensures.completes in
     rw (w, m)
@@ -83,19 +81,19 @@ pub returns-clause-before : goal.returns-clause-before
 returns-clause-before g c =
     let k = key_of c.args.packet.now in
     let rs = c.self.inside.records in
-    let h = entry-record k c.in-Some.entry c.self.inside.records (c.in-Some.ensures ∙ ap (hash.get same_key c.self.inside.keys) c.of.ensures ∙ c.self.invariant.by_key k) in
-    let q = read-is k c.in-Some.entry c.read_at-state.result rs h c.read_at-state.ensures.value in
-    ap (λ (x : Holding). find (λ (s : State). same_key s.key (key_of c.args.packet.now)) x.states) (sym c.self.view_is) ∙ state-found k c.in-Some.entry c.read_at-state.result rs h q
+    let h = key-at k c.args.found c.self.inside.records c.args.self.now c.numbers_rise.ensures (ap (λ (x : Holding). x.states) c.self.view_is) (ap (λ (x : Holding). x.records) c.self.view_is) c.requires.held c.requires.reached in
+    let q = read-is k c.args.found.place c.read_at-state.result rs h c.read_at-state.ensures.value in
+    ap (λ (x : Holding). find (λ (s : State). same_key s.key (key_of c.args.packet.now)) x.states) (sym c.self.view_is) ∙ state-found k c.args.found.place c.read_at-state.result rs h q
 
 pub returns-clause-states : goal.returns-clause-states
 returns-clause-states g c =
     let k = key_of c.args.packet.now in
     let rs = c.self.inside.records in
     let s = c.read_at-state.result in
-    let h = entry-record k c.in-Some.entry c.self.inside.records (c.in-Some.ensures ∙ ap (hash.get same_key c.self.inside.keys) c.of.ensures ∙ c.self.invariant.by_key k) in
-    let q = read-is k c.in-Some.entry c.read_at-state.result rs h c.read_at-state.ensures.value in
+    let h = key-at k c.args.found c.self.inside.records c.args.self.now c.numbers_rise.ensures (ap (λ (x : Holding). x.states) c.self.view_is) (ap (λ (x : Holding). x.records) c.self.view_is) c.requires.held c.requires.reached in
+    let q = read-is k c.args.found.place c.read_at-state.result rs h c.read_at-state.ensures.value in
     let w : c.write_at.new.self ≡ map (renewed_record s.number c.args.packet.now c.args.now) c.self.inside.records =
-    c.write_at.ensures.records ∙ written k c.in-Some.entry c.args.packet.now c.args.now s _ rs h q c.numbers_rise.ensures c.stepped-completed.ensures.state in
+    c.write_at.ensures.records ∙ written k c.args.found.place c.args.packet.now c.args.now s _ rs h q c.numbers_rise.ensures c.stepped-completed.ensures.state in
     ap states_of w ∙ states-renewed s.number c.args.packet.now c.args.now rs ∙ ap (λ (x : Holding). map (numbered_state_after s.number c.args.packet.now c.args.now) x.states) c.self.view_is
 
 pub returns-clause-nodes : goal.returns-clause-nodes
@@ -118,9 +116,9 @@ returns-clause-told g c =
     let tied = invariant_of-self g c in
     let k = key_of c.args.packet.now in
     let rs = c.self.inside.records in
-    let h = entry-record k c.in-Some.entry c.self.inside.records (c.in-Some.ensures ∙ ap (hash.get same_key c.self.inside.keys) c.of.ensures ∙ c.self.invariant.by_key k) in
-    let q = read-is k c.in-Some.entry s rs h c.read_at-state.ensures.value in
-    let f = number-found k c.in-Some.entry s rs h q c.numbers_rise.ensures in
+    let h = key-at k c.args.found c.self.inside.records c.args.self.now c.numbers_rise.ensures (ap (λ (x : Holding). x.states) c.self.view_is) (ap (λ (x : Holding). x.records) c.self.view_is) c.requires.held c.requires.reached in
+    let q = read-is k c.args.found.place s rs h c.read_at-state.ensures.value in
+    let f = number-found k c.args.found.place s rs h q c.numbers_rise.ensures in
     let has : HasTally c.self.inside.config c.self.inside.nodes s =
     all-found state_number (HasTally c.self.inside.config c.self.inside.nodes) s.number s (states_of rs) c.self.invariant.noded f in
     let n = c.meet-met.ensures.connections
@@ -133,8 +131,14 @@ returns-clause-told g c =
     ∙ ap (λ (x : Conf). score_in s.source (nodes_touched c.args.self.now.config c.args.self.now.nodes s c.args.now (completes_at c.args.packet.now s)) (node_scope_of x s.rule.0)) (ap (λ (x : Holding). x.config) c.self.view_is) in
     (λ j. record { rule = s.rule; source = s.source; completed = c.stepped-completed.ensures.completes j; connections = n j; score = z j })
 
-pub unreachable-requires : goal.unreachable-requires
-unreachable-requires g c =
+pub returns-clause-reached : goal.returns-clause-reached
+returns-clause-reached g c =
     let k = key_of c.args.packet.now in
-    none-entry k c.self.inside.records (c.in-None.ensures ∙ ap (hash.get same_key c.self.inside.keys) c.of.ensures ∙ c.self.invariant.by_key k)
-    (ap (λ (x : Holding). is_some (find (λ (s : State). same_key s.key (key_of c.args.packet.now)) x.states)) c.self.view_is ∙ c.requires.held)
+    let rs = c.self.inside.records in
+    let s = c.read_at-state.result in
+    let h = key-at k c.args.found c.self.inside.records c.args.self.now c.numbers_rise.ensures (ap (λ (x : Holding). x.states) c.self.view_is) (ap (λ (x : Holding). x.records) c.self.view_is) c.requires.held c.requires.reached in
+    let q = read-is k c.args.found.place s rs h c.read_at-state.ensures.value in
+    let w : c.write_at.new.self ≡ map (renewed_record s.number c.args.packet.now c.args.now) c.self.inside.records =
+    c.write_at.ensures.records ∙ written k c.args.found.place c.args.packet.now c.args.now s _ rs h q c.numbers_rise.ensures c.stepped-completed.ensures.state in
+    ap (λ (ps : List Placed). is_reached ps c.args.found) w
+    ∙ reached-renewed s.number c.args.packet.now c.args.now c.args.found rs (ap (λ (x : Holding). is_reached x.records c.args.found) c.self.view_is ∙ c.requires.reached)

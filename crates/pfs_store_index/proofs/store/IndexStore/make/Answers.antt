@@ -3,7 +3,7 @@ use Rattle.std.proofs.Common.{◌≡◌, ◌∙◌, ◌+◌, ◌<◌, ◌++◌, 
 use Rattle.pfs_addr_values.specs.Packets.{run_limit}
 use Rattle.pfs_store_contract.specs.Admission.{world_after_admission, new_state, nodes_with}
 use Rattle.pfs_store_contract.specs.Counts.{node_scope_of}
-use Rattle.pfs_store_contract.specs.Plain.{Plain}
+use Rattle.pfs_store_index.specs.Holdings.{Indexed}
 use Rattle.pfs_store_contract.specs.Purging.{node_numbers, state_numbers}
 use Rattle.pfs_store_contract.specs.Worlds.{World, lists}
 use Rattle.pfs_store_contract.specs.declared.records.State.{State}
@@ -32,7 +32,7 @@ put-requires-clause-sourced g c =
 pub invariant_of-self : goal.invariant_of-self
 invariant_of-self g c =
     let s : State = record { number = c.self.inside.made + 1; key = c.of.result; dir = c.dir.result; source = c.src-source.result; rule = c.args.rule; phase = c.first.result; last = c.args.now } in
-    let l : c.self.inside.made < run_limit = omega (arith, ap (λ (p : Plain). p.world.made) c.self.view_is, c.requires.room) in
+    let l : c.self.inside.made < run_limit = omega (arith, ap (λ (p : Indexed). p.world.made) c.self.view_is, c.requires.room) in
     stored-came s c.self.inside.indexes c.put.new.self c.self.inside.states_round.cursor c.self.inside.states_round.mark c.self.inside.nodes_round.cursor c.self.inside.nodes_round.mark c.self.inside.made _ l c.self.invariant refl
     c.in-Ok.ensures.config c.in-Ok.ensures.states c.in-Ok.ensures.nodes
 
@@ -46,4 +46,4 @@ returns-in-Ok-clause-ok g c =
     (λ j. record { number = c.self.inside.made + 1; key = c.of.ensures j; dir = c.dir.ensures j; source = c.src-source.ensures j; rule = c.args.rule; phase = (c.first.ensures ∙ ap first_phase c.proto.ensures) j; last = c.args.now }) in
     world-came s h c.put.new.self c.self.inside.states_round.cursor c.self.inside.states_round.mark c.self.inside.nodes_round.cursor c.self.inside.nodes_round.mark m _ c.self.invariant refl c.in-Ok.ensures.states c.in-Ok.ensures.nodes
     ∙ ap (λ (x : State). lists (h.states ++ x ∷ []) (nodes_with h.nodes (m + 1) x.source (node_scope_of h.config x.rule.0)) (waiting c.self.inside.states_round.cursor c.self.inside.states_round.mark (state_numbers h.states)) (waiting c.self.inside.nodes_round.cursor c.self.inside.nodes_round.mark (node_numbers h.nodes)) (m + 1)) q
-    ∙ ap (λ (p : Plain). world_after_admission p.config p.world c.args.packet.now c.args.rule.0 c.args.now) c.self.view_is
+    ∙ ap (λ (p : Indexed). world_after_admission p.config p.world c.args.packet.now c.args.rule.0 c.args.now) c.self.view_is

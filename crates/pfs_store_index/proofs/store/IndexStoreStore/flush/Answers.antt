@@ -1,7 +1,7 @@
 -- Answers of IndexStore's flush: the world without the flushed (`world`), how many (`answer`), and the looks.
 use Rattle.std.proofs.Common.{◌≡◌, ◌∙◌, ◌-◌, ap, length, arith, rules}
 use Rattle.pfs_store_contract.specs.Calls.{source_states, world_flushed, flushed_count, stays_unflushed}
-use Rattle.pfs_store_contract.specs.Plain.{Plain}
+use Rattle.pfs_store_index.specs.Holdings.{Indexed}
 use Rattle.pfs_store_records.proofs.Searches.{count-le}
 use Rattle.pfs_store_contract.specs.Counts.{is_of_source}
 use Rattle.pfs_store_index.proofs.Storing.{few-numbered, flushed-count, flushed-le, stored-without, world-without}
@@ -20,14 +20,14 @@ pub returns-clause-world : goal.returns-clause-world
 returns-clause-world g c =
     world-without (stays_unflushed c.args.source c.args.rule) c.args.now c.self.inside.indexes c.flush.new.indexes c.self.inside.states_round.cursor c.self.inside.states_round.mark c.self.inside.nodes_round.cursor c.self.inside.nodes_round.mark c.self.inside.made
     c.state_numbers_rise.ensures c.flush.ensures.states c.flush.ensures.nodes
-    ∙ ap (λ (p : Plain). world_flushed p.config p.world c.args.source c.args.rule c.args.now) c.self.view_is
+    ∙ ap (λ (p : Indexed). world_flushed p.config p.world c.args.source c.args.rule c.args.now) c.self.view_is
 
 pub returns-clause-answer : goal.returns-clause-answer
 returns-clause-answer g c =
     let h = c.self.inside.indexes in
     let e : c.saturating_sub.result ≡ length h.states - length c.flush.new.indexes.states = search rules in
     e ∙ ap (λ xs. length h.states - length xs) c.flush.ensures.states ∙ flushed-count c.args.source c.args.rule h.states
-    ∙ ap (λ (p : Plain). flushed_count p.world c.args.source c.args.rule) c.self.view_is
+    ∙ ap (λ (p : Indexed). flushed_count p.world c.args.source c.args.rule) c.self.view_is
 
 pub returns-clause-looks : goal.returns-clause-looks
 returns-clause-looks g c = λ _.
@@ -38,7 +38,7 @@ returns-clause-looks g c = λ _.
 
 pub returns-clause-few_looks : goal.returns-clause-few_looks
 returns-clause-few_looks g c = λ _.
-    omega (arith, c.flush.ensures.looks, ap (λ (p : Plain). source_states c.args.source p.world.states) c.self.view_is)
+    omega (arith, c.flush.ensures.looks, ap (λ (p : Indexed). source_states c.args.source p.world.states) c.self.view_is)
 
 pub returns-clause-most : goal.returns-clause-most
 returns-clause-most g c =

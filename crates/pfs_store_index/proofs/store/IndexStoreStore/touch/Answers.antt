@@ -1,25 +1,19 @@
--- Answers of IndexStore's touch: the state is there; the `world` after it and the `answer` are as defined.
-use Rattle.std.proofs.Common.{◌≡◌, ◌∙◌, true, Option, Some, None, ap, is_some, option_map, refl, sym, arith}
-use Rattle.std.specs.List.{find}
+-- Answers of IndexStore's touch: the state was found; the `world` after it and the `answer` are as defined.
+use Rattle.std.proofs.Common.{◌∙◌, Option, Some, ap, option_map, sym, arith}
 use Rattle.pfs_addr_values.specs.Keys.{key_of}
-use Rattle.pfs_addr_values.specs.Sameness.{same_key}
-use Rattle.pfs_store_contract.specs.Plain.{Plain}
 use Rattle.pfs_store_contract.specs.Calls.{touch_of, world_touched, state_number}
 use Rattle.pfs_store_contract.specs.Worlds.{state_with}
 use Rattle.pfs_store_contract.specs.declared.records.State.{State}
-use Rattle.pfs_store_contract.specs.declared.records.StateNo.{StateNo}
+use Rattle.pfs_store_index.specs.Holdings.{Indexed, is_reached}
 use Rattle.pfs_store_index.specs.Stored.{world_of}
 use Rattle.pfs_store_index.proofs.Storing.{few-numbered, stored-touched, world-touched}
 use Rattle.pfs_store_index.proofs.store.IndexStoreStore.touch.Goals as goal
 
-some_of : (o : Option State) (n : StateNo) → option_map state_number o ≡ Some n → is_some o ≡ true
-some_of None n h = absurd cc
-some_of (Some s) n h = refl
-
 pub renew-requires-clause-held : goal.renew-requires-clause-held
-renew-requires-clause-held g c =
-    some_of (find (λ (s : State). same_key s.key (key_of c.args.packet.now)) c.self.inside.indexes.states) c.args._number
-    (ap (λ (p : Plain). option_map state_number (state_with (key_of c.args.packet.now) p.world)) c.self.view_is ∙ c.requires.held)
+renew-requires-clause-held g c = ap (λ (p : Indexed). option_map state_number (state_with (key_of c.args.packet.now) p.world)) c.self.view_is ∙ c.requires.held
+
+pub renew-requires-clause-reached : goal.renew-requires-clause-reached
+renew-requires-clause-reached g c = ap (λ (p : Indexed). is_reached p.records c.args.found) c.self.view_is ∙ c.requires.reached
 
 pub renew-requires-clause-few : goal.renew-requires-clause-few
 renew-requires-clause-few g c =
@@ -34,13 +28,13 @@ returns-clause-world g c =
     world-touched c.renew.result.before c.args.packet.now c.args.now c.self.inside.indexes c.renew.new.self c.self.inside.states_round.cursor c.self.inside.states_round.mark c.self.inside.nodes_round.cursor c.self.inside.nodes_round.mark c.self.inside.made
     c.renew.ensures.states c.renew.ensures.nodes
     ∙ ap (λ (o : Option State). world_touched c.self.inside.indexes.config (world_of c.self.inside.indexes c.self.inside.states_round.cursor c.self.inside.states_round.mark c.self.inside.nodes_round.cursor c.self.inside.nodes_round.mark c.self.inside.made) c.args.packet.now c.args.now o) (sym c.renew.ensures.before)
-    ∙ ap (λ (p : Plain). world_touched p.config p.world c.args.packet.now c.args.now (state_with (key_of c.args.packet.now) p.world)) c.self.view_is
+    ∙ ap (λ (p : Indexed). world_touched p.config p.world c.args.packet.now c.args.now (state_with (key_of c.args.packet.now) p.world)) c.self.view_is
 
 pub returns-clause-answer : goal.returns-clause-answer
 returns-clause-answer g c =
     ap Some c.renew.ensures.told
     ∙ ap (λ (o : Option State). option_map (touch_of c.self.inside.indexes.config (world_of c.self.inside.indexes c.self.inside.states_round.cursor c.self.inside.states_round.mark c.self.inside.nodes_round.cursor c.self.inside.nodes_round.mark c.self.inside.made) c.args.packet.now c.args.now) o) (sym c.renew.ensures.before)
-    ∙ ap (λ (p : Plain). option_map (touch_of p.config p.world c.args.packet.now c.args.now) (state_with (key_of c.args.packet.now) p.world)) c.self.view_is
+    ∙ ap (λ (p : Indexed). option_map (touch_of p.config p.world c.args.packet.now c.args.now) (state_with (key_of c.args.packet.now) p.world)) c.self.view_is
 
 -- stated here, so another count of looks is refused without a search
 pub returns-clause-looks : goal.returns-clause-looks

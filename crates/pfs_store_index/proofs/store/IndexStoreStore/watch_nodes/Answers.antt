@@ -1,7 +1,7 @@
 -- Answers of IndexStore's watch_nodes: what it keeps, and up to when its nodes stay (`until`).
 use Rattle.std.proofs.Common.{◌≡◌, ◌∙◌, ◌≤◌, ap, arith, rules, subst, take}
 use Rattle.std.specs.Map.{keys_of}
-use Rattle.pfs_store_contract.specs.Plain.{Plain}
+use Rattle.pfs_store_index.specs.Holdings.{Indexed}
 use Rattle.pfs_store_contract.specs.Purging.{node_numbers, node_share}
 use Rattle.pfs_store_contract.specs.Quiet.{NodesStay}
 use Rattle.pfs_store_index.specs.Staying.{NodesHold}
@@ -22,5 +22,5 @@ returns-clause-until g c =
     let share : c.share_of-share.result ≡ node_share h.config = search rules in
     let numbers : keys_of c.order.result.now.entries ≡ node_numbers h.nodes = c.order.ensures.numbers ∙ ap node_numbers c.nodes.ensures in
     let pending = rw numbers at c.under_way-round.ensures.waiting in
-    rw c.watched.ensures.until (subst (λ (p : Plain). NodesStay p.config p.world until kept) c.self.view_is
+    rw c.watched.ensures.until (subst (λ (p : Indexed). NodesStay p.config p.world until kept) c.self.view_is
     (subst (λ ns. NodesHold h.config h.states ns until kept) (λ j. take (share j) (pending j)) c.walk_nodes-steps.ensures.until))

@@ -3,7 +3,7 @@ use Rattle.std.proofs.Common.{◌≡◌, ◌∙◌, ◌≤◌, ℕ, true, List, 
 use Rattle.std.specs.Map.{keys_of}
 use Rattle.pfs_store_index.specs.Rounds.{waiting}
 use Rattle.pfs_store_index.specs.Stored.{IsStored}
-use Rattle.pfs_store_contract.specs.Plain.{Plain}
+use Rattle.pfs_store_index.specs.Holdings.{Indexed}
 use Rattle.pfs_store_contract.specs.Purging.{is_among, round, state_numbers, state_share, state_slice}
 use Rattle.pfs_store_contract.specs.Quiet.{StateStays, StatesStay}
 use Rattle.pfs_store_contract.specs.declared.records.State.{State}
@@ -42,7 +42,7 @@ returns-clause-world g c =
     steps.result.round.cursor steps.result.round.mark c.self.inside.nodes_round.cursor c.self.inside.nodes_round.mark c.self.inside.made
     (waiting c.under_way-round.result.cursor c.under_way-round.result.mark (state_numbers h.states)) s (pending g c)
     steps.ensures.states steps.ensures.nodes steps.ensures.waiting
-    ∙ ap (λ (p : Plain). state_slice p.config p.world c.args.now) c.self.view_is
+    ∙ ap (λ (p : Indexed). state_slice p.config p.world c.args.now) c.self.view_is
 
 pub returns-clause-until : goal.returns-clause-until
 returns-clause-until g c =
@@ -50,7 +50,7 @@ returns-clause-until g c =
     let until = c.walk_states-steps.result.until in
     let kept = c.walk_states-steps.new.indexes.states in
     let share : c.share_of-share.result ≡ state_share h.config = search rules in
-    rw c.watched.ensures.until (subst (λ (p : Plain). StatesStay p.config p.world until kept) c.self.view_is
+    rw c.watched.ensures.until (subst (λ (p : Indexed). StatesStay p.config p.world until kept) c.self.view_is
     (subst (λ (ns : List ℕ). AllByRecursion (λ (s : State). is_among ns s.number ≡ true → StateStays h.config h.states until s) kept) (λ j. take (share j) (pending g c j)) c.walk_states-steps.ensures.until))
 
 pub returns-clause-most : goal.returns-clause-most

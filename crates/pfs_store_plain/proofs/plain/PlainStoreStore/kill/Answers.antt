@@ -15,5 +15,5 @@ returns-clause-world c =
     let as_many : s.nodes.len ≡ length c.leave.new.nodes = omega (arith, c.leave.auto.nodes, c.as_mut_slice.ensures.len, s.nodes.ok.0) in
     ap (λ xs. lists c.leave.new.states.items xs c.leave.new.pending.items s.pending_nodes.items s.made) (whole s.nodes.len c.leave.new.nodes s.nodes.items as_many)
     ∙ c.leave.ensures.world s.pending_nodes.items s.made
-    ∙ ap (λ xs. world_killed s.config (lists s.states.items xs s.pending_states.items s.pending_nodes.items s.made) c.args.number.0 c.args.now) c.as_mut_slice.ensures.value
-    ∙ ap (λ (p : Plain). world_killed p.config p.world c.args.number.0 c.args.now) c.self.view_is
+    ∙ ap (λ xs. world_killed s.config (lists s.states.items xs s.pending_states.items s.pending_nodes.items s.made) c.args.found.number.0 c.args.now) c.as_mut_slice.ensures.value
+    ∙ ap (λ (p : Plain). world_killed p.config p.world c.args.found.number.0 c.args.now) c.self.view_is

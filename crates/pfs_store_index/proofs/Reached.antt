@@ -1,0 +1,142 @@
+-- The record of a state that was found: where it is, that a packet leaves it there, and what is read there.
+use Rattle.std.proofs.Common.{◌≡◌, ◌∙◌, ◌==◌, ◌&&◌, ◌||◌, ℕ, Bool, true, false, if◌then◌else◌, Option, Some, None, List, [], ◌∷◌, map, option_map, refl, ap, sym, subst, arith}
+use Rattle.std.specs.List.{find, list_any}
+use Rattle.std.proofs.lemmas.Bool.{and_from}
+use Rattle.std.proofs.lemmas.Bool.Decides.{nat_tests}
+use Rattle.pfs_addr_values.specs.Packets.{PacketView}
+use Rattle.pfs_addr_values.specs.Sameness.{same_key}
+use Rattle.pfs_addr_values.specs.declared.packets.FlowKey.{FlowKey}
+use Rattle.pfs_store_contract.specs.Calls.{state_number as number_of_state}
+use Rattle.pfs_store_contract.specs.Purging.{state_numbers}
+use Rattle.pfs_store_contract.specs.Touching.{state_after_packet}
+use Rattle.pfs_store_contract.specs.declared.records.Found.{Found}
+use Rattle.pfs_store_contract.specs.declared.records.State.{State}
+use Rattle.pfs_store_contract.specs.declared.records.StateNo.{StateNo}
+use Rattle.pfs_store_records.specs.Records.{IsRecordAt, IsRising, Placed, is_placed, placed_at, stands_at, states_of}
+use Rattle.pfs_store_index.specs.declared.indexes.Entry.{Entry}
+use Rattle.pfs_store_index.specs.Holdings.{Holding, is_reached}
+use Rattle.pfs_store_index.specs.Ties.{entry_of, has_key}
+use Rattle.pfs_store_index.proofs.Leavings.{record_number, state_number}
+use Rattle.pfs_store_index.proofs.Meetings.{key-number, renewed_record}
+use Rattle.pfs_store_index.proofs.Stands.{rising-records}
+use Rattle.pfs_store_records.proofs.Rising.{Apart, IsRisingBy, has_number, head-apart, rest-rising, same_number}
+use Rattle.pfs_store_records.proofs.Searches.{any-also, any-map, find-part, found-all}
+
+-- the record of a number is at this place
+pub record IsNumberAt (n at : ℕ) (rs : List Placed) : Type 0 where
+  pub record_of : Placed
+  pub found : find (has_number record_number n) rs ≡ Some record_of
+  pub place : record_of.place ≡ at
+
+-- the record of the state with a key is at this place
+pub record IsKeyAt (k : FlowKey) (at : ℕ) (rs : List Placed) : Type 0 where
+  pub record_of : Placed
+  pub found : find (has_key k) rs ≡ Some record_of
+  pub place : record_of.place ≡ at
+
+same_self : (n : ℕ) → (n == n) ≡ true
+same_self n = grind (arith, nat_tests)
+
+-- ---- from the index by key
+
+pub entry-reached : (k : FlowKey) (e : Entry) (rs : List Placed) → Some e ≡ option_map entry_of (find (has_key k) rs) → list_any (is_placed e.number e.place) rs ≡ true
+entry-reached k e rs h = go (find (has_key k) rs) refl
+  where
+    go : (o : Option Placed) → find (has_key k) rs ≡ o → list_any (is_placed e.number e.place) rs ≡ true
+    go None f = let z : Some e ≡ None = h ∙ ap (option_map entry_of) f in absurd (cc z)
+    go (Some p) f =
+        let z : Some e ≡ Some (entry_of p) = h ∙ ap (option_map entry_of) f in
+        let q : e ≡ entry_of p = cc in
+        any-also (has_key k) (is_placed e.number e.place) p rs f
+        (and_from (p.state.number == e.number) (p.place == e.place)
+        (ap (λ (x : Entry). p.state.number == x.number) q ∙ same_self p.state.number) (ap (λ (x : Entry). p.place == x.place) q ∙ same_self p.place))
+
+-- ---- to the record
+
+none-placed : (n at : ℕ) (rs : List Placed) → Apart record_number n rs → list_any (is_placed n at) rs ≡ false
+none-placed n at [] h = refl
+none-placed n at (x ∷ xs) (h, hs) = rw h (none-placed n at xs hs)
+
+pub at-place : (n at : ℕ) (rs : List Placed) → IsRisingBy record_number rs → list_any (is_placed n at) rs ≡ true → IsNumberAt n at rs
+at-place n at [] r a = absurd cc
+at-place n at (x ∷ xs) r a = on (at-place n at xs (rest-rising record_number x xs r)) (x.state.number == n) refl
+  where
+    here : (c : Bool) → (x.place == at) ≡ c → (x.state.number == n) ≡ true → IsNumberAt n at (x ∷ xs)
+    here true p t = record { record_of = x; found = rw t refl; place = same_number at x.place p }
+    here false p t =
+        let apart : Apart record_number n xs = subst (λ m. Apart record_number m xs) (same_number n x.state.number t) (head-apart record_number x xs r) in
+        let a' = (rw t at a) in
+        let a'' : list_any (is_placed n at) xs ≡ true = (rw p at a') in
+        let z : false ≡ true = sym (none-placed n at xs apart) ∙ a'' in
+        absurd (cc z)
+
+    on : (list_any (is_placed n at) xs ≡ true → IsNumberAt n at xs) → (b : Bool) → (x.state.number == n) ≡ b → IsNumberAt n at (x ∷ xs)
+    on more true t = here (x.place == at) refl t
+    on more false t =
+        let i = more (rw t at a) in
+        record { record_of = i.record_of; found = rw t i.found; place = i.place }
+
+-- what was found by a key leads to the record with the key
+key-record : (k : FlowKey) (f : Found) (rs : List Placed) → IsRising (state_numbers (states_of rs))
+    → option_map number_of_state (find (λ (s : State). same_key s.key k) (states_of rs)) ≡ Some f.number → is_reached rs f ≡ true → IsKeyAt k f.place rs
+key-record k f rs r h a = go (find (has_key k) rs) refl
+  where
+    numbered : (o : Option Placed) → find (has_key k) rs ≡ o → option_map number_of_state (option_map (λ (p : Placed). p.state) o) ≡ Some f.number
+    numbered o e = sym (ap (option_map number_of_state) (find-part (λ (p : Placed). p.state) (λ (s : State). same_key s.key k) rs ∙ ap (option_map (λ (p : Placed). p.state)) e)) ∙ h
+
+    go : (o : Option Placed) → find (has_key k) rs ≡ o → IsKeyAt k f.place rs
+    go None e = let z : None ≡ Some f.number = numbered None e in absurd (cc z)
+    go (Some p) e =
+        let z : Some (number_of_state p.state) ≡ Some f.number = numbered (Some p) e in
+        let q : number_of_state p.state ≡ f.number = cc in
+        let n : p.state.number ≡ f.number.0 = ap (λ (x : StateNo). x.0) q in
+        let rising = rising-records rs r in
+        let i = at-place f.number.0 f.place rs rising a in
+        let same : find (has_number record_number f.number.0) rs ≡ Some p = subst (λ (m : ℕ). find (has_number record_number m) rs ≡ Some p) n (key-number k p rs rising e) in
+        let w : Some i.record_of ≡ Some p = sym i.found ∙ same in
+        let y : i.record_of ≡ p = cc in
+        record { record_of = p; found = e; place = ap (λ (x : Placed). x.place) (sym y) ∙ i.place }
+
+pub key-at : (k : FlowKey) (f : Found) (rs : List Placed) (x : Holding) → IsRising (state_numbers (states_of rs)) → states_of rs ≡ x.states → rs ≡ x.records
+    → option_map number_of_state (find (λ (s : State). same_key s.key k) x.states) ≡ Some f.number → is_reached x.records f ≡ true → IsKeyAt k f.place rs
+key-at k f rs x r states records h a =
+    key-record k f rs r (ap (λ (xs : List State). option_map number_of_state (find (λ (s : State). same_key s.key k) xs)) states ∙ h)
+    (ap (λ (ps : List Placed). is_reached ps f) records ∙ a)
+
+-- the state at its place is that of its number
+pub state-at : (f : Found) (s : State) (rs : List Placed) → IsRising (state_numbers (states_of rs)) → is_reached rs f ≡ true → IsRecordAt f.place s rs
+    → find (has_number state_number f.number.0) (states_of rs) ≡ Some s
+state-at f s rs r a at =
+    let i = at-place f.number.0 f.place rs (rising-records rs r) a in
+    let q : i.record_of.state ≡ s = found-all (λ (p : Placed). p.place ≡ f.place → p.state ≡ s) (has_number record_number f.number.0) i.record_of rs at i.found i.place in
+    find-part (λ (p : Placed). p.state) (has_number state_number f.number.0) rs ∙ ap (option_map (λ (p : Placed). p.state)) i.found ∙ ap Some q
+
+-- there is a record at its place
+placed-stands : (n at : ℕ) (rs : List Placed) → list_any (is_placed n at) rs ≡ true → list_any (stands_at at) rs ≡ true
+placed-stands n at [] a = absurd cc
+placed-stands n at (x ∷ xs) a = on (placed-stands n at xs) (x.place == at) refl
+  where
+    or_false : (b c : Bool) → ((b && false) || c) ≡ c
+    or_false true c = refl
+    or_false false c = refl
+
+    on : (list_any (is_placed n at) xs ≡ true → list_any (stands_at at) xs ≡ true) → (b : Bool) → (x.place == at) ≡ b → list_any (stands_at at) (x ∷ xs) ≡ true
+    on more true t = rw t refl
+    on more false t =
+        let a' = (rw t at a) in
+        rw t (more (sym (or_false (x.state.number == n) (list_any (is_placed n at) xs)) ∙ a'))
+
+pub reached-stands : (f : Found) (rs : List Placed) → is_reached rs f ≡ true → list_any (stands_at f.place) rs ≡ true
+reached-stands f rs a = placed-stands f.number.0 f.place rs a
+
+-- ---- a packet leaves it there
+
+pub reached-renewed : (n : ℕ) (p : PacketView) (now : ℕ) (f : Found) (rs : List Placed) → is_reached rs f ≡ true → is_reached (map (renewed_record n p now) rs) f ≡ true
+reached-renewed n p now f rs a = any-map (is_placed f.number.0 f.place) (renewed_record n p now) same rs ∙ a
+  where
+    same : (r : Placed) → is_placed f.number.0 f.place (renewed_record n p now r) ≡ is_placed f.number.0 f.place r
+    same r = go (r.state.number == n)
+      where
+        go : (b : Bool) → is_placed f.number.0 f.place (placed_at r.place (if b then state_after_packet p now r.state else r.state)) ≡ is_placed f.number.0 f.place r
+        go true = refl
+        go false = refl
