@@ -205,7 +205,7 @@ told-err (Err g) more f e = cc e
 moment-err : (last : ℕ) (moment : Moment) (f : TraceStop) → second_after last moment ≡ Err f → f ≡ stop.Moment
 moment-err last Untold f e = absurd (cc e)
 moment-err last Outside f e = cc e
-moment-err last (At second) f e = go (nat_lt 4294967295 second) e
+moment-err last (At second nanosecond) f e = go (nat_lt 4294967295 second) e
   where
     go : (b : Bool) → ◌≡◌ {A = Result ℕ TraceStop} (if b then Err stop.Moment else Ok (max second last)) (Err f) → f ≡ stop.Moment
     go true q = cc q

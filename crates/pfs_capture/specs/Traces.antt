@@ -30,13 +30,13 @@ use Rattle.pfs_capture.specs.declared.sorting.Found.{Found}
 
 -- the second of a frame after one of this second: its own, but none before that
 abbrev pub second_after : ℕ → Moment → Result ℕ TraceStop
-second_after last (At second) = if nat_lt 4294967295 second then Err stop.Moment else Ok (max second last)
+second_after last (At second nanosecond) = if nat_lt 4294967295 second then Err stop.Moment else Ok (max second last)
 second_after last Untold = Ok last
 second_after last Outside = Err stop.Moment
 
 -- whether a frame was seen before this second, by its own moment
 abbrev pub is_before : Moment → ℕ → Bool
-is_before (At own) second = nat_lt own second
+is_before (At own nanosecond) second = nat_lt own second
 is_before Untold second = false
 is_before Outside second = false
 

@@ -235,8 +235,8 @@ fn second_after(last: u64, moment: Moment) -> Result<u64, TraceStop>
     ensures fails { IfErr result (λ f. f ≡ TraceStop.Moment) }
 {
     match moment {
-        Moment::At(second) if second > 4_294_967_295 => Err(TraceStop::Moment),
-        Moment::At(second) => Ok(second.max(last)),
+        Moment::At { second, .. } if second > 4_294_967_295 => Err(TraceStop::Moment),
+        Moment::At { second, .. } => Ok(second.max(last)),
         Moment::Untold => Ok(last),
         Moment::Outside => Err(TraceStop::Moment),
     }
@@ -247,7 +247,7 @@ fn is_before(moment: Moment, second: u64) -> bool
     ensures { result ≡ is_before moment second }
 {
     match moment {
-        Moment::At(own) => own < second,
+        Moment::At { second: own, .. } => own < second,
         Moment::Untold | Moment::Outside => false,
     }
 }
