@@ -1,8 +1,10 @@
 -- The frames of packet blocks, and their moments (pcapng, sections 4.3 and 4.4).
-use Rattle.std.specs.Prelude.{ℕ, ◌+◌, ◌*◌, ◌-◌, ◌/◌, ◌==◌, List, length, max, min, nat_le, nat_lt, Result, Ok, Err, if◌then◌else◌}
+use Rattle.std.specs.Prelude.{ℕ, ⊤, ◌<◌, ◌≤◌, ◌+◌, ◌*◌, ◌-◌, ◌/◌, ◌%◌, ◌==◌, List, length, max, min, nat_le, nat_lt, Result, Ok, Err, if◌then◌else◌}
 use Rattle.pfs_capture_files.specs.declared.orders.Order.{Order}
 use Rattle.pfs_capture_files.specs.declared.interfaces.Interface.{Interface}
 use Rattle.pfs_capture_files.specs.declared.frames.Frame.{Frame}
+use Rattle.pfs_capture_files.specs.declared.frames.Item.{Item}
+use Rattle.pfs_capture_files.specs.declared.frames.Item.TheVariants as item
 use Rattle.pfs_capture_files.specs.declared.frames.Moment.{Moment}
 use Rattle.pfs_capture_files.specs.declared.frames.Moment.TheVariants.{At, Untold, Outside}
 use Rattle.pfs_capture_files.specs.declared.faults.FileFault.{FileFault}
@@ -13,17 +15,37 @@ use Rattle.pfs_capture_files.specs.Orders.{u32_in}
 abbrev pub most_of_frame : ℕ
 most_of_frame = 262144
 
--- a second that a trace can have, or none
-abbrev pub within_range : ℕ → Moment
-within_range second = if nat_le second 4294967295 then At second else Outside
+-- a moment in a second that a trace can have, or none
+abbrev pub within_range : ℕ → ℕ → Moment
+within_range nanosecond second = if nat_le second 4294967295 then At second nanosecond else Outside
 
--- The second of a moment: whole seconds of the interface's units, and the interface's offset, a signed number of 64 bits.
+-- so many units in nanoseconds, rounded down, where a second has this number of units
+abbrev pub nanoseconds_of : ℕ → ℕ → ℕ
+nanoseconds_of units in_second = units * 1000000000 / in_second
+
+-- the nanoseconds of a moment: what is past the whole seconds of the interface's units
+abbrev pub frame_nanosecond : Interface → ℕ → ℕ
+frame_nanosecond interface units = nanoseconds_of (units % max interface.units 1) (max interface.units 1)
+
+-- A moment: whole seconds of the interface's units, and the interface's offset, a signed number of 64 bits; then its nanoseconds.
 abbrev pub frame_moment : Interface → ℕ → Moment
 frame_moment interface units =
     if nat_lt interface.offset 9223372036854775808
-    then within_range (units / max interface.units 1 + interface.offset)
+    then within_range (frame_nanosecond interface units) (units / max interface.units 1 + interface.offset)
     else (if nat_lt (units / max interface.units 1) (18446744073709551616 - interface.offset) then Outside
-    else within_range (units / max interface.units 1 - (18446744073709551616 - interface.offset)))
+    else within_range (frame_nanosecond interface units) (units / max interface.units 1 - (18446744073709551616 - interface.offset)))
+
+-- a moment is in a second that a trace can have, and less than a second after it began
+abbrev pub IsMoment : Moment → Type 0
+IsMoment (At second nanosecond) = (second ≤ 4294967295) × (nanosecond < 1000000000)
+IsMoment Untold = ⊤
+IsMoment Outside = ⊤
+
+-- of an item that holds a frame, the frame's moment is one
+abbrev pub IsItem : Item → Type 0
+IsItem (item.Frame f) = IsMoment f.moment
+IsItem item.End = ⊤
+IsItem item.Other = ⊤
 
 -- an enhanced packet block has, after its interface, the upper and the lower half of its moment, how many bytes were
 -- kept, how many there were, and those that were kept

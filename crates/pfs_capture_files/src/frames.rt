@@ -1,8 +1,8 @@
 //! The frames that items of a file hold, and their moments.
 
-ghost use Rattle.std.specs.Prelude.{◌≡◌, ◌+◌, ◌≤◌, false, IfErr, length};
+ghost use Rattle.std.specs.Prelude.{◌≡◌, ◌+◌, ◌<◌, ◌≤◌, false, IfErr, IfOk, length};
 ghost use Rattle.pfs_capture_files.specs.Faults.{is_outside};
-ghost use Rattle.pfs_capture_files.specs.Frames.{enhanced_frame, frame_moment, simple_frame, within_range};
+ghost use Rattle.pfs_capture_files.specs.Frames.{IsItem, IsMoment, enhanced_frame, frame_moment, nanoseconds_of, simple_frame, within_range};
 
 use crate::faults::FileFault;
 use crate::interfaces::Interface;
@@ -17,8 +17,13 @@ const LAST_SECOND: u64 = 4_294_967_295;
 /// When a frame was seen.
 #[derive(Clone, Copy)]
 pub enum Moment {
-    /// In this second since 1970, at most 4294967295.
-    At(u64),
+    /// In this second since 1970, at most 4294967295, so many whole nanoseconds after it began, at most 999,999,999.
+    At {
+        /// The second.
+        second: u64,
+        /// The nanoseconds.
+        nanosecond: u32,
+    },
     /// Its block does not say.
     Untold,
     /// In none from 0 to 4294967295.
@@ -52,6 +57,7 @@ pub enum Item {
 /// The frame of an enhanced packet block, of which this is what follows its interface, without its last length.
 pub fn enhanced_frame(order: Order, interface: &Interface, body: &[u8]) -> Result<Frame, FileFault>
     ensures is { result ≡ enhanced_frame order interface.now body.now }
+    ensures moment { IfOk result (λ f. IsMoment f.moment) }
     ensures of_file { IfErr result (λ f. is_outside f ≡ false) }
 {
     if body.len() < 16 {
@@ -78,6 +84,7 @@ pub fn enhanced_frame(order: Order, interface: &Interface, body: &[u8]) -> Resul
 /// The frame of a simple packet block, of which this is what follows the frame's own length, without the block's last length.
 pub fn simple_frame(interface: &Interface, told: u32, body: &[u8]) -> Result<Frame, FileFault>
     ensures is { result ≡ simple_frame interface.now told body.now }
+    ensures moment { IfOk result (λ f. IsMoment f.moment) }
     ensures of_file { IfErr result (λ f. is_outside f ≡ false) }
 {
     let kept = if interface.kept == 0 {
@@ -100,20 +107,40 @@ pub fn simple_frame(interface: &Interface, told: u32, body: &[u8]) -> Result<Fra
     })
 }
 
-/// The second of a moment that is given in an interface's units.
+/// A moment that is given in an interface's units, and cut to whole nanoseconds.
 fn moment_of(interface: &Interface, units: u64) -> Moment
-    ensures { result ≡ frame_moment interface.now units }
+    ensures is { result ≡ frame_moment interface.now units }
+    ensures fraction { IsMoment result }
 {
-    let second = units / interface.units.max(1);
+    let in_second = interface.units.max(1);
+    let second = units / in_second;
+    let nanosecond = nanoseconds_of(units % in_second, in_second);
     if interface.offset < 9_223_372_036_854_775_808 {
         if second > LAST_SECOND || interface.offset > LAST_SECOND - second {
             return Moment::Outside;
         }
-        return Moment::At(second + interface.offset);
+        return Moment::At {
+            second: second + interface.offset,
+            nanosecond,
+        };
     }
     let back = u64::MAX - interface.offset + 1;
     if second < back || second - back > LAST_SECOND {
         return Moment::Outside;
     }
-    Moment::At(second - back)
+    Moment::At {
+        second: second - back,
+        nanosecond,
+    }
+}
+
+/// How many whole nanoseconds so many units are, of which a second has this number.
+#[tactic(auto, using(crate::proofs::Powers::fraction_below))]
+fn nanoseconds_of(units: u64, in_second: u64) -> u32
+    requires { units < in_second }
+    ensures is { result ≡ nanoseconds_of units in_second }
+    ensures fraction { result < 1000000000 }
+{
+    let nanoseconds = u128::from(units) * 1_000_000_000 / u128::from(in_second);
+    nanoseconds as u32
 }

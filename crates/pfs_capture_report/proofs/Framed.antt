@@ -48,7 +48,7 @@ record IsLater (last second : ℕ) : Type 0 where
   within : second ≤ 4294967295
 
 later : (last : ℕ) (m : Moment) (second : ℕ) → last ≤ 4294967295 → second_after last m ≡ Ok second → IsLater last second
-later last (At own) second h e = by (nat_lt 4294967295 own) refl e
+later last (At own nanosecond) second h e = by (nat_lt 4294967295 own) refl e
   where
     by : (b : Bool) → nat_lt 4294967295 own ≡ b → (if b then Err stop.Moment else Ok (max own last)) ≡ Ok second → IsLater last second
     by true t f = cc
