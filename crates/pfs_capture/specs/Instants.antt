@@ -20,12 +20,13 @@ later a b = if is_earlier a b then b else a
 
 -- the moment of a frame behind one of this moment: its own, but none before that
 abbrev pub instant_after : Instant → Moment → Result Instant TraceStop
-instant_after last (At second) = if nat_lt 4294967295 second then Err stop.Moment else Ok (later last (record { second = second; nanosecond = 0 }))
+instant_after last (At second nanosecond) =
+    if nat_lt 4294967295 second then Err stop.Moment else Ok (later last (record { second = second; nanosecond = nanosecond }))
 instant_after last Untold = Ok last
 instant_after last Outside = Err stop.Moment
 
 -- whether a frame was seen before this second, by its own moment
 abbrev pub is_before : Moment → ℕ → Bool
-is_before (At own) second = nat_lt own second
+is_before (At own nanosecond) second = nat_lt own second
 is_before Untold second = false
 is_before Outside second = false

@@ -17,6 +17,7 @@ pub use accounts::Account;
 pub use captures::Capture;
 pub use directions::Directions;
 pub use faults::{TraceStop, status};
+pub use pfs_capture_files::FileFault;
 pub use pfs_capture_packets::{Mac, parse_mac};
 pub use pfs_streams::{Feed, Sink};
 pub use points::{CapturePoint, Side};

@@ -40,11 +40,8 @@ impl Instant {
         ensures fails { IfErr result (λ f. f ≡ TraceStop.Moment) }
     {
         match moment {
-            Moment::At(second) if second > 4_294_967_295 => Err(TraceStop::Moment),
-            Moment::At(second) => Ok(self.later(Instant {
-                second,
-                nanosecond: 0,
-            })),
+            Moment::At { second, .. } if second > 4_294_967_295 => Err(TraceStop::Moment),
+            Moment::At { second, nanosecond } => Ok(self.later(Instant { second, nanosecond })),
             Moment::Untold => Ok(self),
             Moment::Outside => Err(TraceStop::Moment),
         }
@@ -56,7 +53,7 @@ pub fn is_before(moment: Moment, second: u64) -> bool
     ensures { result ≡ is_before moment second }
 {
     match moment {
-        Moment::At(own) => own < second,
+        Moment::At { second: own, .. } => own < second,
         Moment::Untold | Moment::Outside => false,
     }
 }
