@@ -1,5 +1,5 @@
-pub mod LastBytes
 mod Laying
+pub mod PaddedNames
 pub mod PrefixLaws
 pub mod SameLaws
 mod WideLaws

@@ -1,6 +1,7 @@
 -- Prefixes: which addresses they cover, that their bits past the length are zero, and their texts.
-use Rattle.std.specs.Prelude.{ℕ, List, Bool, ◌≡◌, ◌≤◌, ◌==◌, ◌&&◌, ◌/◌, ◌*◌, ◌^◌, ◌-◌, ◌∷◌, ◌++◌, ◌⊎◌}
+use Rattle.std.specs.Prelude.{ℕ, List, Bool, ◌≡◌, ◌≤◌, ◌==◌, ◌&&◌, ◌/◌, ◌*◌, ◌^◌, ◌-◌, [], ◌∷◌, ◌++◌, ◌⊎◌, slice_index}
 use Rattle.std.specs.Fmt.{decimal}
+use Rattle.std.specs.Hash.{HashWrites}
 use Rattle.std.specs.Int.{w32, w128, from_be_bytes, to_be_bytes}
 use Rattle.pfs_addr_values.specs.Addresses.{IsAddr, IsAddrText, same_family, width_of}
 use Rattle.pfs_addr_values.specs.declared.addresses.Addr.{Addr}
@@ -49,3 +50,11 @@ pub record PrefixText (text : List ℕ) (p : Network) : Type 0 where
   pub before : List ℕ
   pub address : IsAddrText before addr
   pub spelled : ((text ≡ before) × (p.bits ≡ width_of addr)) ⊎ (text ≡ before ++ 47 ∷ decimal p.bits)
+
+-- what a hasher is fed with of a prefix: of IPv4 one whole word, which takes fewer steps than its bytes (own)
+abbrev pub writes_of_bits : ℕ → Addr → HashWrites
+writes_of_bits bits (V4 a) = (slice_index a 0 ∷ slice_index a 1 ∷ slice_index a 2 ∷ slice_index a 3 ∷ bits ∷ 0 ∷ 0 ∷ 0 ∷ []) ∷ []
+writes_of_bits bits (V6 a) = a ∷ (bits ∷ []) ∷ []
+
+abbrev pub prefix_writes : Network → HashWrites
+prefix_writes p = writes_of_bits p.bits p.addr

@@ -1,7 +1,6 @@
 //! Names of interfaces, tables and anchors, held in place.
 
-ghost use Rattle.std.specs.Prelude.{◌≡◌, ◌≢◌, true};
-ghost use Rattle.std.specs.Bool.{OnTrue};
+ghost use Rattle.std.specs.Prelude.{◌≡◌, true};
 ghost use Rattle.std.specs.Str.{bytes_eq};
 ghost use Rattle.std.specs.List.{list_all};
 ghost use Rattle.std.specs.Hash as fed;
@@ -88,8 +87,9 @@ impl<const N: usize> PartialEq for Name<N> {
 
     ghost laws = { Prim.search (comparing, rules) };
 
+    /// What is kept is compared, zeros included: so many bytes take fewer steps than a number of them that is known only then.
     fn eq(&self, other: &Name<N>) -> bool {
-        same_bytes(self.as_bytes(), other.as_bytes())
+        self.len == other.len && self.bytes == other.bytes
     }
 }
 
@@ -113,26 +113,6 @@ impl<const N: usize> fmt::Debug for Name<N> {
             write!(f, "{}", char::from(*b))?;
         }
         Ok(())
-    }
-}
-
-/// Whether two texts are the same. It compares their last bytes first, since names of interfaces mostly differ there.
-#[tactic(auto, using(crate::proofs::LastBytes::unequal))]
-fn same_bytes(one: &[u8], other: &[u8]) -> bool
-    ensures { result ≡ bytes_eq one.now other.now }
-{
-    if differ_at_end(one, other) {
-        return false;
-    }
-    one == other
-}
-
-fn differ_at_end(one: &[u8], other: &[u8]) -> bool
-    ensures { OnTrue result (one.now ≢ other.now) }
-{
-    match (one, other) {
-        ([.., x], [.., y]) => *x != *y,
-        _ => false,
     }
 }
 

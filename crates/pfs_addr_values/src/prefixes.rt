@@ -1,18 +1,21 @@
 //! Prefixes: the first bits of an address, and the addresses that share them.
 
 ghost use Rattle.std.specs.Prelude.{◌≡◌, ◌≤◌, ◌<◌, ◌==◌};
+ghost use Rattle.std.proofs.Common.{rules};
+ghost use Rattle.std.specs.Cmp.Rules.{hashing};
 ghost use Rattle.pfs_addr_values.specs.Addresses.{IsAddr, width_of};
-ghost use Rattle.pfs_addr_values.specs.Prefixes.{IsNetwork, Network, cleared_addr, covers, first_bits, network_of};
+ghost use Rattle.pfs_addr_values.specs.Prefixes.{IsNetwork, Network, cleared_addr, covers, first_bits, network_of, prefix_writes};
 ghost use Rattle.pfs_addr_values.specs.declared.addresses.Addr.TheVariants.{V4, V6};
 
 use crate::addresses::Addr;
+use std::hash::{Hash, Hasher};
 use std::marker::Model;
 
 /// The addresses whose first bits are those of one address: an address and a number of bits, at most its width. The
 /// bits of the address past that number are zero, so two prefixes of the same addresses are equal.
 ///
 /// Clauses see it as a `Network`: the address, and the number of bits. (pf.conf(5), TABLES; RFC 4632, section 3.1)
-#[derive(Debug, Clone, Copy, PartialEq, Eq, Hash)]
+#[derive(Debug, Clone, Copy, PartialEq, Eq)]
 pub struct Prefix {
     addr: Addr,
     bits: u8,
@@ -28,6 +31,23 @@ impl Model for Prefix {
     ghost invariant = { λ p. IsNetwork (record { addr = p.addr; bits = p.bits }) };
 
     ghost inverse = { λ p. record { addr = p.addr; bits = p.bits } };
+}
+
+impl Hash for Prefix {
+    ghost hash_input = { λ p. prefix_writes p };
+
+    ghost respects_eq = { Prim.search (hashing, rules) };
+
+    /// Of IPv4 one whole word, which takes a hasher fewer steps than its bytes one by one.
+    fn hash<H: Hasher>(&self, state: &mut H) {
+        match self.addr {
+            Addr::V4(a) => state.write(&[a[0], a[1], a[2], a[3], self.bits, 0, 0, 0]),
+            Addr::V6(a) => {
+                state.write(&a);
+                state.write_u8(self.bits);
+            }
+        }
+    }
 }
 
 impl Prefix {

@@ -1,0 +1,11 @@
+-- Answers of eq: names of one length are compared as they are kept.
+use Rattle.std.proofs.Common.{◌∙◌, take, ap}
+use Rattle.pfs_addr_values.proofs.PaddedNames.{same_padded}
+use Rattle.std.specs.Str.{bytes_eq}
+use Rattle.pfs_addr_values.proofs.names.NamePartialEq.eq.Goals as goal
+
+pub returns-then-self-other : goal.returns-then-self-other
+returns-then-self-other g c =
+    c.eq.ensures
+    ∙ (same_padded g.row.N c.self.inside.bytes c.other.inside.bytes c.self.inside.len c.other.inside.len c.self.invariant c.other.invariant c.if-self-other.true
+    ∙ (ap (λ x. bytes_eq x (take c.other.inside.len c.other.inside.bytes)) c.self.view_is ∙ ap (λ y. bytes_eq c.args.self.now y) c.other.view_is))
