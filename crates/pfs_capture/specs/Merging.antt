@@ -12,9 +12,9 @@ use Rattle.pfs_capture.specs.declared.faults.TraceStop.TheVariants as stop
 
 -- what comes next of several captures: a frame, and what is then left of each; or a fault; or nothing
 pub data Coming : Type 0 where
-  pub Comes : Judged → List Run → Coming
-  pub Stops : TraceStop → Coming
-  pub Ends : Coming
+  Comes : Judged → List Run → Coming
+  Stops : TraceStop → Coming
+  Ends : Coming
 
 -- with a capture in front that has ended
 abbrev pub behind_ended : Coming → Coming

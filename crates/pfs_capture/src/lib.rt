@@ -8,7 +8,6 @@ mod directions;
 mod faults;
 mod instants;
 mod merging;
-mod moments;
 mod points;
 mod sorting;
 mod traces;

@@ -17,8 +17,8 @@ ghost use Rattle.pfs_capture.specs.Turns.{Sends, TakesFrame, frame_taken};
 use crate::accounts::Account;
 use crate::captures::{Capture, MOST_ITEMS, Next};
 use crate::faults::TraceStop;
+use crate::instants::is_before;
 use crate::merging::{ask_all, begin_all, earliest};
-use crate::moments::is_before;
 use crate::sorting::{Found, sort};
 use pfs_capture_answers::{ANSWER_HEADER, push_answer};
 use pfs_capture_files::Frame;
@@ -138,7 +138,7 @@ fn take_frame<R>(
 {
     lines.row.clear();
     lines.answer.clear();
-    let second = capture.last.second;
+    let second = u64::from(capture.last.second);
     let outcome = outcome_of(capture, frame);
     write_row(&outcome, second, &mut lines.row)?;
     write_answer(&outcome, account, &mut lines.answer)?;
