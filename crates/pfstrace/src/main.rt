@@ -153,7 +153,7 @@ fn program<'a>(alloc: Global) -> Result<Command<'a>, AllocError> {
     let command = Command::new(alloc, "pfstrace")
         .version(VERSION)
         .about(
-            "Writes a trace for pfsrc of a capture, pcap or pcapng, and tells on standard error what became of its frames.",
+            "Writes a trace for pfsrc of captures, pcap or pcapng, and tells on standard error what became of their frames.",
         )
         .after_help(
             "Example: pfstrace --inside 192.0.2.0/24,2001:db8::/32 web.pcap > trace\nWithout a file, and of the file -, it reads standard input. A log of pflog(4) and a Linux cooked capture tell the directions themselves.\nStatus: 0 done, 1 a fault in the capture, 2 words that are not understood, 4 reading, writing or memory failed.",
@@ -211,7 +211,7 @@ fn interface_name<'a>(alloc: Global) -> Arg<'a> {
         alloc,
         "interface",
         ArgAction::Set,
-        "The interface of every record, em0 if it is not given.",
+        "The interface of every record, em0 if it is not given. Given again, it begins the words of another interface, with a capture of its own; one capture alone is that of all, and each frame is of the interface that its block names.",
     )
 }
 
