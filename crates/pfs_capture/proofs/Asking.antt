@@ -143,6 +143,6 @@ stops-item remaining points last items held held2 known before form form2 a b ru
 
 -- what is known of a next frame was asked for
 pub asked : (known : Next) → (known ≡ next.Unasked → ⊥) → is_asked known ≡ true
-asked next.Unasked no = absurd (no refl)
-asked next.Ended no = refl
-asked (next.Waits frame) no = refl
+asked next.Unasked unlike = absurd (unlike refl)
+asked next.Ended unlike = refl
+asked (next.Waits frame) unlike = refl

@@ -1,6 +1,6 @@
 -- What lies ahead of captures stays as it is while each is asked for its next frame, and the earliest of these is what comes next.
 use Rattle.std.proofs.Common.{◌≡◌, ◌≤◌, ◌<◌, ◌+◌, ◌∙◌, ℕ, zero, suc, Bool, true, false, List, [], ◌∷◌, length, map, get_or, set, drop, Option, Some, None, Ok, Err, inl, inr, refl, sym, ap, arith, subst, add-one}
-use Rattle.std.specs.Prelude.{Result, ◌⊎◌, if◌then◌else◌}
+use Rattle.std.specs.Prelude.{IfSome, Result, ◌⊎◌, if◌then◌else◌}
 use Rattle.pfs_streams.specs.Feeds.{FeedView, read_failures}
 use Rattle.pfs_capture_files.specs.Faults.{HasFailed, is_outside}
 use Rattle.pfs_capture_files.specs.Forms.{IsWithinStart, start_of}
@@ -49,12 +49,18 @@ some-failed [] i d lt h = absurd (omega (arith, lt))
 some-failed (x ∷ xs) zero d lt h = inl h
 some-failed (x ∷ xs) (suc i) d lt h = inr (some-failed xs i d (omega (arith, lt)) h)
 
+-- a read failed, or none has failed still
+pub sound-step : {R P : Type 0} (cs : List (Capture R)) (i : ℕ) (c d : Capture R) (before : List ℕ) → c ≡ get_or cs i c → failures_of cs ≡ before
+    → P ⊎ (read_failures d.reader ≡ read_failures c.reader) → P ⊎ (failures_of (set cs i d) ≡ before)
+sound-step cs i c d before e kept (inl failed) = inl failed
+sound-step cs i c d before e kept (inr same) = inr (failures-step cs i c d e same ∙ kept)
+
 -- a fault behind a capture whose next frame is known is what comes next
 stops-behind : (points : List Point) (held : List ℕ) (last : Instant) (known : Next) (rest r : Run) (rs : List Run) (f : TraceStop) → is_asked known ≡ true
     → r ≡ with_next points held last known rest → behind_run r (Stops f) rs ≡ Stops f
-stops-behind points held last next.Unasked rest r rs f yes e = absurd (cc yes)
-stops-behind points held last next.Ended rest r rs f yes e = ap (λ (x : Run). behind_run x (Stops f) rs) e
-stops-behind points held last (next.Waits frame) rest r rs f yes e = ap (λ (x : Run). behind_run x (Stops f) rs) e
+stops-behind points held last next.Unasked rest r rs f was e = absurd (cc was)
+stops-behind points held last next.Ended rest r rs f was e = ap (λ (x : Run). behind_run x (Stops f) rs) e
+stops-behind points held last (next.Waits frame) rest r rs f was e = ap (λ (x : Run). behind_run x (Stops f) rs) e
 
 pub stops-at : {R : Type 0} (remaining : FeedView R → Option (List ℕ)) (cs : List (Capture R)) (rs : List Run) (i : ℕ) (c : Capture R) (f : TraceStop)
     → c ≡ get_or cs i c → i < length cs → AreAsked i cs → ((run : Run) → Ahead remaining c run → run ≡ ([], Some f))
@@ -73,10 +79,10 @@ stops-at remaining (x ∷ xs) (r ∷ rs) (suc i) c f e lt known stops h =
 -- nothing waits: nothing comes
 ended-behind : (points : List Point) (held : List ℕ) (last : Instant) (known : Next) (rest r : Run) (rs : List Run) (k : ℕ) (behind : Option Place) → is_asked known ≡ true
     → nearer (place_at k last known) behind ≡ None → r ≡ with_next points held last known rest → (behind ≡ None) × (behind_run r Ends rs ≡ Ends)
-ended-behind points held last next.Unasked rest r rs k behind yes none e = absurd (cc yes)
-ended-behind points held last next.Ended rest r rs k behind yes none e = (none, ap (λ (x : Run). behind_run x Ends rs) e)
-ended-behind points held last (next.Waits frame) rest r rs k None yes none e = absurd (cc none)
-ended-behind points held last (next.Waits frame) rest r rs k (Some q) yes none e = go (is_earlier q.instant last) none
+ended-behind points held last next.Unasked rest r rs k behind was none e = absurd (cc was)
+ended-behind points held last next.Ended rest r rs k behind was none e = (none, ap (λ (x : Run). behind_run x Ends rs) e)
+ended-behind points held last (next.Waits frame) rest r rs k None was none e = absurd (cc none)
+ended-behind points held last (next.Waits frame) rest r rs k (Some q) was none e = go (is_earlier q.instant last) none
   where
     go : (b : Bool) → (if b then Some q else Some (record { index = k; instant = last; frame = frame })) ≡ None → (Some q ≡ None) × (behind_run r Ends rs ≡ Ends)
     go true f = absurd (cc f)
@@ -189,12 +195,12 @@ chosen {R} remaining (x ∷ xs) (r ∷ rs) k p known e h =
         → ((q : Place) → earliest (k + 1) xs ≡ Some q → Aheads remaining xs rs → IsChosen remaining xs rs (k + 1) q)
         → (earliest (k + 1) xs ≡ None → Aheads remaining xs rs → next_of rs ≡ Ends)
         → IsChosen remaining (x ∷ xs) (r ∷ rs) k p
-    by next.Unasked left yes source is f more none = absurd (cc yes)
-    by next.Ended left yes source is f more none =
+    by next.Unasked left was source is f more none = absurd (cc was)
+    by next.Ended left was source is f more none =
         let behind = more p f h.1 in
         let j : Judged = judged_at behind.capture.points.items (seen_of p.frame behind.capture.held.items) behind.capture.last in
         chosen-behind remaining x xs r rs k p h.0 behind (ap (λ (z : Run). behind_run z (Comes j behind.rest) rs) is ∙ ap (λ (z : Run). Comes j (z ∷ behind.rest)) (sym is))
-    by (next.Waits frame) left yes source is f more none = waits frame left source is (earliest (k + 1) xs) refl f more none
+    by (next.Waits frame) left was source is f more none = waits frame left source is (earliest (k + 1) xs) refl f more none
 
 -- ---- the beginnings
 
@@ -259,3 +265,27 @@ broken-off remaining (x ∷ xs) (g ∷ gs) (suc i) c d f e lt breaks h =
       (y, is, λ inside. ap (λ (r : Result (Form × List ℕ) FileFault). fault_or r (first_fault gs)) starts ∙ first inside),
       (subst (λ (r : Result (Form × List ℕ) FileFault). IsWithinStart r (remaining x.reader)) (sym starts) begun, within),
     )
+
+-- ---- where the earliest is
+
+near-within : (n : ℕ) (first behind : Option Place) → IfSome first (λ p. p.index < n) → IfSome behind (λ p. p.index < n) → IfSome (nearer first behind) (λ p. p.index < n)
+near-within n None behind h k = k
+near-within n (Some p) None h k = h
+near-within n (Some p) (Some q) h k = by (is_earlier q.instant p.instant)
+  where
+    by : (b : Bool) → IfSome (if b then Some q else Some p) (λ p. p.index < n)
+    by true = k
+    by false = h
+
+place-within : (n index : ℕ) (instant : Instant) (known : Next) → index < n → IfSome (place_at index instant known) (λ p. p.index < n)
+place-within n index instant next.Unasked h = tt
+place-within n index instant next.Ended h = tt
+place-within n index instant (next.Waits frame) h = h
+
+earliest-below : {R : Type 0} (n k : ℕ) (cs : List (Capture R)) → k + length cs ≤ n → IfSome (earliest k cs) (λ p. p.index < n)
+earliest-below n k [] h = tt
+earliest-below n k (x ∷ xs) h =
+    near-within n (place_at k x.last x.next) (earliest (k + 1) xs) (place-within n k x.last x.next (omega (arith, h))) (earliest-below n (k + 1) xs (omega (arith, h)))
+
+pub earliest-within : {R : Type 0} (cs : List (Capture R)) (found : Option Place) → found ≡ earliest 0 cs → IfSome found (λ p. p.index < length cs)
+earliest-within cs found e = subst (λ (o : Option Place). IfSome o (λ p. p.index < length cs)) (sym e) (earliest-below (length cs) 0 cs (omega arith))

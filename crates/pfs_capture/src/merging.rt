@@ -1,6 +1,6 @@
 //! Captures as one: each frame in the order of moments.
 
-ghost use Rattle.std.specs.Prelude.{◌≡◌, ◌⊎◌, Err, IfErr, List, OnOk, length, true, ℕ};
+ghost use Rattle.std.specs.Prelude.{◌≡◌, ◌<◌, ◌⊎◌, Err, IfErr, IfSome, List, OnOk, length, true, ℕ};
 ghost use Rattle.pfs_capture_files.specs.declared.faults.FileFault.TheVariants as fault;
 ghost use Rattle.pfs_streams.specs.Feeds.{unread};
 ghost use Rattle.pfs_capture.specs.Aheads.{Aheads, AllBegin, AreAsked, StayAhead, earliest, is_of_reading, nearer, place_at};
@@ -52,6 +52,14 @@ pub fn ask_all<R: Read>(captures: &mut [Capture<R>], alloc: Global) -> Result<()
 
 /// The earliest of the next frames, the first of those of one moment.
 pub fn earliest<R>(captures: &[Capture<R>]) -> Option<Place>
+    ensures is { result ≡ earliest 0 captures.now }
+    ensures within { IfSome result (λ p. p.index < length captures.now) }
+{
+    earliest_from_last(captures)
+}
+
+/// The same, found from the last capture to the first.
+fn earliest_from_last<R>(captures: &[Capture<R>]) -> Option<Place>
     ensures { result ≡ earliest 0 captures.now }
 {
     let mut place = None;

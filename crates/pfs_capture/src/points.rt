@@ -92,10 +92,16 @@ pub fn point_of(points: &[CapturePoint], name: Option<IfName>) -> Option<&Captur
 }
 
 /// The first interface of this name.
+#[tactic(auto, using(crate::proofs::Naming::named_step))]
 fn point_named(points: &[CapturePoint], name: IfName) -> Option<&CapturePoint>
     ensures { option_map (λ p. p.now) result ≡ point_named name points.now }
 {
-    points.iter().find(|point| point.ifname() == name)
+    for point in points {
+        if point.ifname() == name {
+            return Some(point);
+        }
+    }
+    None
 }
 
 fn is_in_networks(networks: &[Prefix], addr: Addr) -> bool

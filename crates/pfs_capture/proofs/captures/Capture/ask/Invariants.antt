@@ -3,7 +3,7 @@ use Rattle.std.proofs.Common.{◌≡◌}
 use Rattle.pfs_streams.specs.Feeds.{read_failures, unread}
 use Rattle.pfs_capture.specs.Aheads.{Ahead, turns_left}
 use Rattle.pfs_capture.specs.Runs.{Run}
-use Rattle.pfs_capture.proofs.captures.ask.Given as goal
+use Rattle.pfs_capture.proofs.captures.Capture.ask.Given as goal
 
 abbrev pub decreases-loop-self : goal.decreases-loop-self
 decreases-loop-self g l = turns_left l.self.items l.self.form
