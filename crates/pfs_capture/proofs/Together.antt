@@ -1,6 +1,6 @@
 -- What lies ahead of captures stays as it is while each is asked for its next frame, and the earliest of these is what comes next.
 use Rattle.std.proofs.Common.{◌≡◌, ◌≤◌, ◌<◌, ◌+◌, ◌∙◌, ℕ, zero, suc, Bool, true, false, List, [], ◌∷◌, length, map, get_or, set, drop, Option, Some, None, Ok, Err, inl, inr, refl, sym, ap, arith, subst, add-one}
-use Rattle.std.specs.Prelude.{IfSome, Result, ◌⊎◌, if◌then◌else◌}
+use Rattle.std.specs.Prelude.{IfSome, Result, ◌⊎◌, if◌then◌else◌, slice_get}
 use Rattle.pfs_streams.specs.Feeds.{FeedView, read_failures}
 use Rattle.pfs_capture_files.specs.Faults.{HasFailed, is_outside}
 use Rattle.pfs_capture_files.specs.Forms.{IsWithinStart, start_of}
@@ -26,23 +26,23 @@ use Rattle.pfs_capture.specs.declared.merging.Place.{Place}
 
 -- ---- one capture is asked
 
-pub aheads-step : {R : Type 0} (remaining : FeedView R → Option (List ℕ)) (cs : List (Capture R)) (rs : List Run) (i : ℕ) (c d : Capture R)
-    → c ≡ get_or cs i c → i < length cs → ((run : Run) → Ahead remaining c run → Ahead remaining d run)
+pub aheads-step : {R : Type 0} (remaining : FeedView R → Option (List ℕ)) (cs : List (Capture R)) (rs : List Run) (i : ℕ) (c d o : Capture R)
+    → c ≡ get_or cs i o → i < length cs → ((run : Run) → Ahead remaining c run → Ahead remaining d run)
     → Aheads remaining cs rs → Aheads remaining (set cs i d) rs
-aheads-step remaining [] rs i c d e lt step h = absurd (omega (arith, lt))
-aheads-step remaining (x ∷ xs) [] i c d e lt step h = absurd h
-aheads-step remaining (x ∷ xs) (r ∷ rs) zero c d e lt step h = (step r (subst (λ (z : Capture _). Ahead remaining z r) (sym e) h.0), h.1)
-aheads-step remaining (x ∷ xs) (r ∷ rs) (suc i) c d e lt step h = (h.0, aheads-step remaining xs rs i c d e (omega (arith, lt)) step h.1)
+aheads-step remaining [] rs i c d o e lt step h = absurd (omega (arith, lt))
+aheads-step remaining (x ∷ xs) [] i c d o e lt step h = absurd h
+aheads-step remaining (x ∷ xs) (r ∷ rs) zero c d o e lt step h = (step r (subst (λ (z : Capture _). Ahead remaining z r) (sym e) h.0), h.1)
+aheads-step remaining (x ∷ xs) (r ∷ rs) (suc i) c d o e lt step h = (h.0, aheads-step remaining xs rs i c d o e (omega (arith, lt)) step h.1)
 
 pub asked-step : {R : Type 0} (cs : List (Capture R)) (i : ℕ) (d : Capture R) → is_asked d.next ≡ true → AreAsked i cs → AreAsked (suc i) (set cs i d)
 asked-step [] i d e h = tt
 asked-step (x ∷ xs) zero d e h = (e, tt)
 asked-step (x ∷ xs) (suc i) d e h = (h.0, asked-step xs i d e h.1)
 
-pub failures-step : {R : Type 0} (cs : List (Capture R)) (i : ℕ) (c d : Capture R) → c ≡ get_or cs i c → read_failures d.reader ≡ read_failures c.reader → failures_of (set cs i d) ≡ failures_of cs
-failures-step [] i c d e same = refl
-failures-step (x ∷ xs) zero c d e same = ap (λ (n : ℕ). n ∷ failures_of xs) (same ∙ ap (λ (z : Capture _). read_failures z.reader) e)
-failures-step (x ∷ xs) (suc i) c d e same = ap (λ (ns : List ℕ). read_failures x.reader ∷ ns) (failures-step xs i c d e same)
+pub failures-step : {R : Type 0} (cs : List (Capture R)) (i : ℕ) (c d o : Capture R) → c ≡ get_or cs i o → read_failures d.reader ≡ read_failures c.reader → failures_of (set cs i d) ≡ failures_of cs
+failures-step [] i c d o e same = refl
+failures-step (x ∷ xs) zero c d o e same = ap (λ (n : ℕ). n ∷ failures_of xs) (same ∙ ap (λ (z : Capture _). read_failures z.reader) e)
+failures-step (x ∷ xs) (suc i) c d o e same = ap (λ (ns : List ℕ). read_failures x.reader ∷ ns) (failures-step xs i c d o e same)
 
 pub some-failed : {R : Type 0} (cs : List (Capture R)) (i : ℕ) (d : Capture R) → i < length cs → HasFailed d.reader → SomeFailed (set cs i d)
 some-failed [] i d lt h = absurd (omega (arith, lt))
@@ -50,10 +50,18 @@ some-failed (x ∷ xs) zero d lt h = inl h
 some-failed (x ∷ xs) (suc i) d lt h = inr (some-failed xs i d (omega (arith, lt)) h)
 
 -- a read failed, or none has failed still
-pub sound-step : {R P : Type 0} (cs : List (Capture R)) (i : ℕ) (c d : Capture R) (before : List ℕ) → c ≡ get_or cs i c → failures_of cs ≡ before
+pub sound-step : {R P : Type 0} (cs : List (Capture R)) (i : ℕ) (c d o : Capture R) (before : List ℕ) → c ≡ get_or cs i o → failures_of cs ≡ before
     → P ⊎ (read_failures d.reader ≡ read_failures c.reader) → P ⊎ (failures_of (set cs i d) ≡ before)
-sound-step cs i c d before e kept (inl failed) = inl failed
-sound-step cs i c d before e kept (inr same) = inr (failures-step cs i c d e same ∙ kept)
+sound-step cs i c d o before e kept (inl failed) = inl failed
+sound-step cs i c d o before e kept (inr same) = inr (failures-step cs i c d o e same ∙ kept)
+
+pub then-kept : {P : Type 0} (a b c : List ℕ) → b ≡ c → P ⊎ (a ≡ b) → P ⊎ (a ≡ c)
+then-kept a b c e (inl failed) = inl failed
+then-kept a b c e (inr same) = inr (same ∙ e)
+
+pub then-few : {P : Type 0} (a b c : ℕ) → b ≡ c → P ⊎ (a ≡ b) → P ⊎ (a ≡ c)
+then-few a b c e (inl failed) = inl failed
+then-few a b c e (inr same) = inr (same ∙ e)
 
 -- a fault behind a capture whose next frame is known is what comes next
 stops-behind : (points : List Point) (held : List ℕ) (last : Instant) (known : Next) (rest r : Run) (rs : List Run) (f : TraceStop) → is_asked known ≡ true
@@ -62,16 +70,16 @@ stops-behind points held last next.Unasked rest r rs f was e = absurd (cc was)
 stops-behind points held last next.Ended rest r rs f was e = ap (λ (x : Run). behind_run x (Stops f) rs) e
 stops-behind points held last (next.Waits frame) rest r rs f was e = ap (λ (x : Run). behind_run x (Stops f) rs) e
 
-pub stops-at : {R : Type 0} (remaining : FeedView R → Option (List ℕ)) (cs : List (Capture R)) (rs : List Run) (i : ℕ) (c : Capture R) (f : TraceStop)
-    → c ≡ get_or cs i c → i < length cs → AreAsked i cs → ((run : Run) → Ahead remaining c run → run ≡ ([], Some f))
+pub stops-at : {R : Type 0} (remaining : FeedView R → Option (List ℕ)) (cs : List (Capture R)) (rs : List Run) (i : ℕ) (c o : Capture R) (f : TraceStop)
+    → c ≡ get_or cs i o → i < length cs → AreAsked i cs → ((run : Run) → Ahead remaining c run → run ≡ ([], Some f))
     → Aheads remaining cs rs → next_of rs ≡ Stops f
-stops-at remaining [] rs i c f e lt known stops h = absurd (omega (arith, lt))
-stops-at remaining (x ∷ xs) [] i c f e lt known stops h = absurd h
-stops-at remaining (x ∷ xs) (r ∷ rs) zero c f e lt known stops h =
+stops-at remaining [] rs i c o f e lt known stops h = absurd (omega (arith, lt))
+stops-at remaining (x ∷ xs) [] i c o f e lt known stops h = absurd h
+stops-at remaining (x ∷ xs) (r ∷ rs) zero c o f e lt known stops h =
     ap (λ (z : Run). behind_run z (next_of rs) rs) (stops r (subst (λ (z : Capture _). Ahead remaining z r) (sym e) h.0))
-stops-at remaining (x ∷ xs) (r ∷ rs) (suc i) c f e lt known stops h =
+stops-at remaining (x ∷ xs) (r ∷ rs) (suc i) c o f e lt known stops h =
     let (left, source, is) = h.0 in
-    ap (λ (z : Coming). behind_run r z rs) (stops-at remaining xs rs i c f e (omega (arith, lt)) known.1 stops h.1)
+    ap (λ (z : Coming). behind_run r z rs) (stops-at remaining xs rs i c o f e (omega (arith, lt)) known.1 stops h.1)
     ∙ stops-behind x.points.items x.held.items x.last x.next (rest_ahead x.points.items x.last x.items x.form left) r rs f known.0 is
 
 -- ---- the earliest comes next
@@ -105,7 +113,7 @@ pub record IsChosen {R : Type 0} (remaining : FeedView R → Option (List ℕ)) 
   pub rest : List Run
   pub place : p.index ≡ k + nth
   pub within : nth < length cs
-  pub which : (d : Capture R) → get_or cs nth d ≡ capture
+  pub which : slice_get cs nth ≡ Some capture
   pub instant : p.instant ≡ capture.last
   pub comes : next_of rs ≡ Comes (judged_at capture.points.items (seen_of p.frame capture.held.items) capture.last) rest
   pub left : Aheads remaining (set cs nth (record capture { next = next.Unasked })) rest
@@ -139,7 +147,7 @@ chosen-front remaining x xs rs r k frame left p e source behind comes = subst (�
   rest = rest_ahead x.points.items x.last x.items x.form left ∷ rs;
   place = omega arith;
   within = omega arith;
-  which = λ d. refl;
+  which = refl;
   instant = refl;
   comes = comes;
   left = ((left, source, refl), behind);
@@ -202,16 +210,23 @@ chosen {R} remaining (x ∷ xs) (r ∷ rs) k p known e h =
         chosen-behind remaining x xs r rs k p h.0 behind (ap (λ (z : Run). behind_run z (Comes j behind.rest) rs) is ∙ ap (λ (z : Run). Comes j (z ∷ behind.rest)) (sym is))
     by (next.Waits frame) left was source is f more none = waits frame left source is (earliest (k + 1) xs) refl f more none
 
+-- its index among all captures is that of its place
+pub chosen-here : {R : Type 0} (remaining : FeedView R → Option (List ℕ)) (cs : List (Capture R)) (rs : List Run) (p : Place) → (h : IsChosen remaining cs rs 0 p)
+    → (slice_get cs p.index ≡ Some h.capture) × Aheads remaining (set cs p.index (record (h.capture) { next = next.Unasked })) h.rest
+chosen-here remaining cs rs p h =
+    let same : h.nth ≡ p.index = omega (arith, h.place) in
+    (subst (λ (n : ℕ). slice_get cs n ≡ Some h.capture) same h.which, subst (λ (n : ℕ). Aheads remaining (set cs n (record (h.capture) { next = next.Unasked })) h.rest) same h.left)
+
 -- ---- the beginnings
 
-pub begun-step : {R : Type 0} (remaining : FeedView R → Option (List ℕ)) (cs : List (Capture R)) (gs : List Given) (i : ℕ) (c d : Capture R)
-    → c ≡ get_or cs i c → i < length cs → ((g : Given) → IsGiven remaining c g → IsBegun remaining d g)
+pub begun-step : {R : Type 0} (remaining : FeedView R → Option (List ℕ)) (cs : List (Capture R)) (gs : List Given) (i : ℕ) (c d o : Capture R)
+    → c ≡ get_or cs i o → i < length cs → ((g : Given) → IsGiven remaining c g → IsBegun remaining d g)
     → HaveBegun remaining i cs gs → HaveBegun remaining (suc i) (set cs i d) gs
-begun-step remaining [] gs i c d e lt begins h = absurd (omega (arith, lt))
-begun-step remaining (x ∷ xs) [] zero c d e lt begins h = absurd h
-begun-step remaining (x ∷ xs) [] (suc i) c d e lt begins h = absurd h
-begun-step remaining (x ∷ xs) (g ∷ gs) zero c d e lt begins h = (begins g (subst (λ (z : Capture _). IsGiven remaining z g) (sym e) h.0), h.1)
-begun-step remaining (x ∷ xs) (g ∷ gs) (suc i) c d e lt begins h = (h.0, begun-step remaining xs gs i c d e (omega (arith, lt)) begins h.1)
+begun-step remaining [] gs i c d o e lt begins h = absurd (omega (arith, lt))
+begun-step remaining (x ∷ xs) [] zero c d o e lt begins h = absurd h
+begun-step remaining (x ∷ xs) [] (suc i) c d o e lt begins h = absurd h
+begun-step remaining (x ∷ xs) (g ∷ gs) zero c d o e lt begins h = (begins g (subst (λ (z : Capture _). IsGiven remaining z g) (sym e) h.0), h.1)
+begun-step remaining (x ∷ xs) (g ∷ gs) (suc i) c d o e lt begins h = (h.0, begun-step remaining xs gs i c d o e (omega (arith, lt)) begins h.1)
 
 -- all frames lie ahead of a capture that has begun
 begun-run : (points points2 : List Point) (held : List ℕ) (last : Instant) (items : ℕ) (known : Next) (after : Option Form) (form : Form) (left octets : List ℕ)
@@ -246,20 +261,20 @@ unread-within remaining [] (g ∷ gs) h = absurd h
 unread-within remaining (x ∷ xs) [] h = tt
 unread-within remaining (x ∷ xs) (g ∷ gs) h = (start_within g.octets (remaining x.reader) 0 (omega arith) h.0.2, unread-within remaining xs gs h.1)
 
-pub broken-off : {R : Type 0} (remaining : FeedView R → Option (List ℕ)) (cs : List (Capture R)) (gs : List Given) (i : ℕ) (c d : Capture R) (f : TraceStop)
-    → c ≡ get_or cs i c → i < length cs → ((g : Given) → IsGiven remaining c g → BreaksOff remaining f d g)
+pub broken-off : {R : Type 0} (remaining : FeedView R → Option (List ℕ)) (cs : List (Capture R)) (gs : List Given) (i : ℕ) (c d o : Capture R) (f : TraceStop)
+    → c ≡ get_or cs i o → i < length cs → ((g : Given) → IsGiven remaining c g → BreaksOff remaining f d g)
     → HaveBegun remaining i cs gs → AllBegin remaining (Err f) (set cs i d) gs
-broken-off remaining [] gs i c d f e lt breaks h = absurd (omega (arith, lt))
-broken-off remaining (x ∷ xs) [] zero c d f e lt breaks h = absurd h
-broken-off remaining (x ∷ xs) [] (suc i) c d f e lt breaks h = absurd h
-broken-off remaining (x ∷ xs) (g ∷ gs) zero c d f e lt breaks h =
+broken-off remaining [] gs i c d o f e lt breaks h = absurd (omega (arith, lt))
+broken-off remaining (x ∷ xs) [] zero c d o f e lt breaks h = absurd h
+broken-off remaining (x ∷ xs) [] (suc i) c d o f e lt breaks h = absurd h
+broken-off remaining (x ∷ xs) (g ∷ gs) zero c d o f e lt breaks h =
     let (y, is, starts, within) = breaks g (subst (λ (z : Capture _). IsGiven remaining z g) (sym e) h.0) in (
       (y, ap (λ (s : TraceStop). let r : Result Unit TraceStop = Err s in r) is, λ inside. ap (λ (r : Result (Form × List ℕ) FileFault). fault_or r (first_fault gs)) (starts inside)),
       (within, unread-within remaining xs gs h.1),
     )
-broken-off remaining (x ∷ xs) (g ∷ gs) (suc i) c d f e lt breaks h =
+broken-off remaining (x ∷ xs) (g ∷ gs) (suc i) c d o f e lt breaks h =
     let (form, left, starts, source, is_form, same, unasked, first_moment, all) = h.0 in
-    let (ends, within) = broken-off remaining xs gs i c d f e (omega (arith, lt)) breaks h.1 in
+    let (ends, within) = broken-off remaining xs gs i c d o f e (omega (arith, lt)) breaks h.1 in
     let (y, is, first) = ends in
     let begun : IsWithinStart (Ok (form, left)) (remaining x.reader) = (left, source, omega arith) in (
       (y, is, λ inside. ap (λ (r : Result (Form × List ℕ) FileFault). fault_or r (first_fault gs)) starts ∙ first inside),

@@ -1,6 +1,6 @@
 //! The trace of captures, row by row, and in another file what pf answered.
 
-ghost use Rattle.std.specs.Prelude.{◌≡◌, ◌⊎◌, ◌<◌, ◌≤◌, ◌^◌, ◌+◌, ◌++◌, ℕ, List, Err, IfErr, IfOk, OnOk};
+ghost use Rattle.std.specs.Prelude.{◌≡◌, ◌⊎◌, ◌<◌, ◌≤◌, ◌^◌, ◌+◌, ◌++◌, ℕ, List, Err, IfErr, IfOk, OnOk, length, slice_get, slice_set};
 ghost use Rattle.std.specs.Io.KnownBytes.{Appends};
 ghost use Rattle.pfs_capture_files.specs.declared.faults.FileFault.TheVariants as fault;
 ghost use Rattle.pfs_streams.specs.Feeds.{unread};
@@ -12,13 +12,15 @@ ghost use Rattle.pfs_capture.specs.Readers.{AreGiven, SomeFailed, failures_of, l
 ghost use Rattle.pfs_capture.specs.Runs.{judged_at};
 ghost use Rattle.pfs_capture.specs.Sorting.{IsFound, found_in_frame};
 ghost use Rattle.pfs_capture.specs.Traces.{TellsCaptures, answer_text, frame_text};
+ghost use Rattle.pfs_capture.specs.declared.captures.Capture.{Capture};
 ghost use Rattle.pfs_capture.specs.Turns.{Sends, TakesFrame, frame_taken};
 
 use crate::accounts::Account;
 use crate::captures::{Capture, MOST_ITEMS, Next};
 use crate::faults::TraceStop;
 use crate::instants::is_before;
-use crate::merging::{ask_all, begin_all, earliest};
+use crate::merging::{Place, ask_all, begin_all, earliest};
+use crate::points::CapturePoint;
 use crate::sorting::{Found, sort};
 use pfs_capture_answers::{ANSWER_HEADER, push_answer};
 use pfs_capture_files::Frame;
@@ -77,11 +79,11 @@ pub fn write_trace<R: Read, W: Write, T: Write>(
     send(out, answers, HEADER, ANSWER_HEADER)?;
     for _turn in 0..MOST_ITEMS {
         ask_all(captures, alloc)?;
-        let Some(place) = earliest(captures) else {
-            return Ok(());
+        let place = match earliest(captures) {
+            Some(place) => place,
+            None => return Ok(()),
         };
-        *account = take_frame(&captures[place.index], place.frame, *account, &mut lines)?;
-        captures[place.index].next = Next::Unasked;
+        *account = take_next(captures, place, *account, &mut lines)?;
         send(out, answers, &lines.row, &lines.answer)?;
     }
     Err(TraceStop::TooMany)
@@ -121,7 +123,31 @@ fn send<W: Write, T: Write>(
     }
 }
 
-/// The account of one frame more, the next of its capture, whose texts are in the lines.
+/// The account of one frame more, whose texts are in the lines. It is the next one of its capture, which is then asked for another.
+fn take_next<R>(
+    captures: &mut [Capture<R>],
+    place: Place,
+    account: Account,
+    lines: &mut Lines,
+) -> Result<Account, TraceStop>
+    requires few { account.frames < 2 ^ 63 }
+    requires sum { AddsUp account }
+    requires within { place.index < length captures.old }
+    ensures takes { (c : Capture R) → slice_get captures.old place.index ≡ Some c →
+        TakesFrame (frame_taken account (judged_at c.points.items (seen_of place.frame c.held.items) c.last)) result lines.new.row.items lines.new.answer.items }
+    ensures asks { (c : Capture R) → slice_get captures.old place.index ≡ Some c →
+        captures.new ≡ slice_set captures.old place.index (record c { next = Next.Unasked }) }
+    ensures same { failures_of captures.new ≡ failures_of captures.old }
+    ensures sum { IfOk result AddsUp }
+    ensures one { IfOk result (λ a. a.frames ≡ account.frames + 1) }
+    ensures fails { IfErr result (λ f. f ≡ TraceStop.Memory) }
+{
+    let capture = &mut captures[place.index];
+    capture.next = Next::Unasked;
+    take_frame(capture, place.frame, account, lines)
+}
+
+/// The account of one frame more of a capture, whose texts are in the lines.
 fn take_frame<R>(
     capture: &Capture<R>,
     frame: Frame,
@@ -198,9 +224,16 @@ fn outcome_of<R>(capture: &Capture<R>, frame: Frame) -> Result<Found, Reason>
     ensures is { result ≡ found_in_frame capture.now.points.items None frame.link (frame_bytes frame capture.now.held.items) }
     ensures row { IfOk result IsFound }
 {
-    let rest = &capture.held[frame.from.min(capture.held.len())..];
+    outcome_in(&capture.points, frame, &capture.held)
+}
+
+fn outcome_in(points: &[CapturePoint], frame: Frame, held: &[u8]) -> Result<Found, Reason>
+    ensures is { result ≡ found_in_frame points.now None frame.link (frame_bytes frame held.now) }
+    ensures row { IfOk result IsFound }
+{
+    let rest = &held[frame.from.min(held.len())..];
     sort(
-        &capture.points,
+        points,
         None,
         frame.link,
         &rest[..frame.count.min(rest.len())],
