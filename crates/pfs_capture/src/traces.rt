@@ -168,7 +168,7 @@ fn take_frame(
     lines.row.clear();
     lines.answer.clear();
     let second = second_after(tally.last, frame.moment)?;
-    let outcome = outcome_of(point, frame, held);
+    let outcome = outcome_of(point, &frame, held);
     write_row(&outcome, second, &mut lines.row)?;
     write_answer(&outcome, tally.account, &mut lines.answer)?;
     Ok(Tally {
@@ -253,9 +253,9 @@ fn is_before(moment: Moment, second: u64) -> bool
 }
 
 /// The packet of a frame in what was read, with its way, or why it is no record.
-fn outcome_of(point: &CapturePoint, frame: Frame, held: &[u8]) -> Result<Found, Reason>
+fn outcome_of(point: &CapturePoint, frame: &Frame, held: &[u8]) -> Result<Found, Reason>
     requires { is_name 15 point.now.ifname ≡ true }
-    ensures is { result ≡ found_in_frame point.now frame.link (frame_bytes frame held.now) }
+    ensures is { result ≡ found_in_frame point.now frame.now.link (frame_bytes frame.now held.now) }
     ensures row { IfOk result IsFound }
 {
     let rest = &held[frame.from.min(held.len())..];

@@ -7,5 +7,5 @@ use Rattle.pfs_capture.proofs.traces.outcome_of.Goals as goal
 pub returns-clause-is : goal.returns-clause-is
 returns-clause-is c =
     c.sort.ensures.is
-    ∙ ap (λ (b : List ℕ). found_in_frame c.args.point.now c.args.frame.link b)
-    (clipped c.args.frame.from c.args.frame.count c.min.result c.min-2.result c.args.held.now c.min.ensures c.min-2.ensures)
+    ∙ ap (λ (b : List ℕ). found_in_frame c.args.point.now c.args.frame.now.link b)
+    (clipped c.args.frame.now.from c.args.frame.now.count c.min.result c.min-2.result c.args.held.now c.min.ensures c.min-2.ensures)
