@@ -10,6 +10,7 @@ use Rattle.pfs_capture_files.specs.declared.frames.Moment.TheVariants.{At, Untol
 use Rattle.pfs_capture_files.specs.declared.faults.FileFault.{FileFault}
 use Rattle.pfs_capture_files.specs.declared.faults.FileFault.TheVariants as fault
 use Rattle.pfs_capture_files.specs.Orders.{u32_in}
+use Rattle.pfs_capture_files.specs.Interfaces.{IsNamed}
 
 -- the most bytes of a frame (own)
 abbrev pub most_of_frame : ℕ
@@ -41,9 +42,13 @@ IsMoment (At second nanosecond) = (second ≤ 4294967295) × (nanosecond < 10000
 IsMoment Untold = ⊤
 IsMoment Outside = ⊤
 
--- of an item that holds a frame, the frame's moment is one
+-- a frame is on an interface whose name is one, if it has a name, and in a moment that is one
+abbrev pub IsFrame : Frame → Type 0
+IsFrame f = IsNamed f.name × IsMoment f.moment
+
+-- an item is such a frame, if it holds one
 abbrev pub IsItem : Item → Type 0
-IsItem (item.Frame f) = IsMoment f.moment
+IsItem (item.Frame f) = IsFrame f
 IsItem item.End = ⊤
 IsItem item.Other = ⊤
 
@@ -54,7 +59,7 @@ enhanced_frame order interface body =
     if nat_lt (length body) 16 then Err fault.Block
     else (if nat_lt most_of_frame (u32_in order body 8) then Err fault.TooLong
     else (if nat_lt (length body - 16) (u32_in order body 8) then Err fault.Block
-    else Ok (record { link = interface.link; moment = frame_moment interface (u32_in order body 0 * 4294967296 + u32_in order body 4); from = 16; count = u32_in order body 8 })))
+    else Ok (record { link = interface.link; name = interface.name; moment = frame_moment interface (u32_in order body 0 * 4294967296 + u32_in order body 4); from = 16; count = u32_in order body 8 })))
 
 -- how many bytes a simple packet block keeps of so many
 abbrev pub kept_of : Interface → ℕ → ℕ
@@ -65,4 +70,4 @@ abbrev pub simple_frame : Interface → ℕ → List ℕ → Result Frame FileFa
 simple_frame interface told body =
     if nat_lt most_of_frame (kept_of interface told) then Err fault.TooLong
     else (if nat_lt (length body) (kept_of interface told) then Err fault.Block
-    else Ok (record { link = interface.link; moment = Untold; from = 0; count = kept_of interface told }))
+    else Ok (record { link = interface.link; name = interface.name; moment = Untold; from = 0; count = kept_of interface told }))

@@ -3,7 +3,7 @@
 ghost use Rattle.std.specs.Prelude.{◌≡◌, ◌<◌, ◌≤◌, false, IfErr, IfOk, length};
 ghost use Rattle.pfs_capture_files.specs.Faults.{is_outside};
 ghost use Rattle.pfs_capture_files.specs.Classic.{kept_in, lengths_of, nanosecond_in, record_frame};
-ghost use Rattle.pfs_capture_files.specs.Frames.{IsMoment};
+ghost use Rattle.pfs_capture_files.specs.Frames.{IsFrame};
 
 use crate::faults::FileFault;
 use crate::frames::{Frame, MOST_OF_FRAME, Moment};
@@ -62,7 +62,7 @@ pub fn lengths_of(major: u16, minor: u16) -> Result<Lengths, FileFault>
 pub fn record_frame(header: FileHeader, head: &[u8]) -> Result<Frame, FileFault>
     ensures is { result ≡ record_frame header head.now }
     ensures few { IfOk result (λ f. f.count ≤ 262144) }
-    ensures moment { IfOk result (λ f. IsMoment f.moment) }
+    ensures frame { IfOk result IsFrame }
     ensures of_file { IfErr result (λ f. is_outside f ≡ false) }
 {
     if head.len() < 16 {
@@ -74,6 +74,7 @@ pub fn record_frame(header: FileHeader, head: &[u8]) -> Result<Frame, FileFault>
     }
     Ok(Frame {
         link: header.link,
+        name: None,
         moment: Moment::At {
             second: u64::from(read_u32(header.order, head, 0)),
             nanosecond: nanosecond_in(header, head),

@@ -5,7 +5,7 @@ ghost use Rattle.std.specs.Vec.{vec_capacity};
 ghost use Rattle.pfs_streams.specs.Feeds.{read_failures, unread};
 ghost use Rattle.pfs_capture_files.specs.declared.forms.Form.TheVariants as form;
 ghost use Rattle.pfs_capture_files.specs.Faults.{HasFailed, is_outside};
-ghost use Rattle.pfs_capture_files.specs.Frames.{IsItem, IsMoment};
+ghost use Rattle.pfs_capture_files.specs.Frames.{IsFrame, IsItem};
 ghost use Rattle.pfs_capture_files.specs.Forms.{Begins, IsWithinStart, ReadsItem, block_turn, blocks_start, classic_form, classic_start, frame_turn, record_turn, rest_turn, start_of, start_of_magic, start_of_version, turn_of, what_begins};
 
 use crate::blocks::{BlockHead, SECTION, Section, block_head};
@@ -204,7 +204,7 @@ fn read_frame<R: Read>(
     frame: Frame,
 ) -> Result<Item, FileFault>
     requires few { frame.count ≤ 524288 }
-    requires moment { IsMoment frame.moment }
+    requires frame { IsFrame frame }
     ensures is { (xs : List ℕ) → unread R.remaining reader.old ≡ Some xs → ReadsItem (frame_turn header frame xs) result (form.Classic header) buffer.new.items (unread R.remaining reader.new) }
     ensures frame { IfOk result IsItem }
     ensures read { result ≡ Err FileFault.Read → HasFailed reader.new }

@@ -2,11 +2,13 @@
 
 ghost use Rattle.std.specs.Prelude.{◌≡◌, ◌+◌, ◌<◌, ◌≤◌, false, IfErr, IfOk, length};
 ghost use Rattle.pfs_capture_files.specs.Faults.{is_outside};
-ghost use Rattle.pfs_capture_files.specs.Frames.{IsItem, IsMoment, enhanced_frame, frame_moment, nanoseconds_of, simple_frame, within_range};
+ghost use Rattle.pfs_capture_files.specs.Interfaces.{IsNamed};
+ghost use Rattle.pfs_capture_files.specs.Frames.{IsFrame, IsMoment, enhanced_frame, frame_moment, nanoseconds_of, simple_frame, within_range};
 
 use crate::faults::FileFault;
 use crate::interfaces::Interface;
 use crate::orders::{Order, read_u32};
+use pfs_addr_values::IfName;
 
 /// The most bytes of a frame.
 pub const MOST_OF_FRAME: u32 = 262_144;
@@ -35,6 +37,8 @@ pub enum Moment {
 pub struct Frame {
     /// The type of its link.
     pub link: u16,
+    /// The name of its interface, where a block says one that an interface of pf can have.
+    pub name: Option<IfName>,
     /// When it was seen.
     pub moment: Moment,
     /// Where it begins in what was read last.
@@ -56,8 +60,9 @@ pub enum Item {
 
 /// The frame of an enhanced packet block, of which this is what follows its interface, without its last length.
 pub fn enhanced_frame(order: Order, interface: &Interface, body: &[u8]) -> Result<Frame, FileFault>
+    requires { IsNamed interface.now.name }
     ensures is { result ≡ enhanced_frame order interface.now body.now }
-    ensures moment { IfOk result (λ f. IsMoment f.moment) }
+    ensures frame { IfOk result IsFrame }
     ensures of_file { IfErr result (λ f. is_outside f ≡ false) }
 {
     if body.len() < 16 {
@@ -75,6 +80,7 @@ pub fn enhanced_frame(order: Order, interface: &Interface, body: &[u8]) -> Resul
     let low = u64::from(read_u32(order, body, 4));
     Ok(Frame {
         link: interface.link,
+        name: interface.name,
         moment: moment_of(interface, high * 4_294_967_296 + low),
         from: 16,
         count,
@@ -83,8 +89,9 @@ pub fn enhanced_frame(order: Order, interface: &Interface, body: &[u8]) -> Resul
 
 /// The frame of a simple packet block, of which this is what follows the frame's own length, without the block's last length.
 pub fn simple_frame(interface: &Interface, told: u32, body: &[u8]) -> Result<Frame, FileFault>
+    requires { IsNamed interface.now.name }
     ensures is { result ≡ simple_frame interface.now told body.now }
-    ensures moment { IfOk result (λ f. IsMoment f.moment) }
+    ensures frame { IfOk result IsFrame }
     ensures of_file { IfErr result (λ f. is_outside f ≡ false) }
 {
     let kept = if interface.kept == 0 {
@@ -101,6 +108,7 @@ pub fn simple_frame(interface: &Interface, told: u32, body: &[u8]) -> Result<Fra
     }
     Ok(Frame {
         link: interface.link,
+        name: interface.name,
         moment: Moment::Untold,
         from: 0,
         count,
