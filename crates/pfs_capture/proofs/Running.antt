@@ -308,12 +308,12 @@ pub captured-run : (gs : List Given) (lefts : List (Option (List ℕ))) (before 
 captured-run gs lefts before now before2 now2 account result e (t, u, trace, answers, tells) = (t, u, trace, answers, inl (e, tells))
 
 -- one does not begin
-pub captured-none : {R : Type 0} (remaining : FeedView R → Option (List ℕ)) (gs : List Given) (cs : List (Capture R)) (before before2 : Option (List ℕ)) (f : TraceStop)
-    → AllBegin remaining (Err f) cs gs → Captured gs (lefts_of remaining cs) before before before2 before2 no_frames (Err f)
-captured-none remaining gs cs before before2 f (ends, within) = ([], [], Appends-nil before, Appends-nil before2, inr ((refl, refl, refl), ends, within))
+pub captured-none : {R : Type 0} (remaining : FeedView R → Option (List ℕ)) (gs : List Given) (cs : List (Capture R)) (before before2 : Option (List ℕ)) (account : Account) (f : TraceStop)
+    → account ≡ no_frames → AllBegin remaining (Err f) cs gs → Captured gs (lefts_of remaining cs) before before before2 before2 account (Err f)
+captured-none remaining gs cs before before2 account f none (ends, within) = ([], [], Appends-nil before, Appends-nil before2, inr ((refl, refl, none), ends, within))
 
 -- the headers are not written
-pub ends-headers : (run : Run) (before now before2 now2 : Option (List ℕ)) (t u : List ℕ) (f : TraceStop) → Appends before now t → Appends before2 now2 u
+ends-headers : (run : Run) (before now before2 now2 : Option (List ℕ)) (t u : List ℕ) (f : TraceStop) → Appends before now t → Appends before2 now2 u
     → Sends (trace_text []) (answers_text []) t u (Err f) → IsEnded run before now before2 now2 no_frames (Err f)
 ends-headers run before now before2 now2 t u stop.Write trace answers (front, none) =
     (t, u, trace, answers, tells-front run run [] no_frames t u refl refl (front-begins [] t (trace_text []) (trace_text []) front refl) (none-begins [] u (answers_text []) (answers_text []) none refl))
@@ -323,6 +323,13 @@ ends-headers run before now before2 now2 t u (stop.File g) trace answers sends =
 ends-headers run before now before2 now2 t u stop.Moment trace answers sends = absurd sends
 ends-headers run before now before2 now2 t u stop.TooMany trace answers sends = absurd sends
 ends-headers run before now before2 now2 t u stop.Memory trace answers sends = absurd sends
+
+pub captured-headers : (gs : List Given) (lefts : List (Option (List ℕ))) (before now before2 now2 : Option (List ℕ)) (t u : List ℕ) (account : Account) (f : TraceStop)
+    → first_fault gs ≡ None → account ≡ no_frames → Appends before now t → Appends before2 now2 u → Sends (trace_text []) (answers_text []) t u (Err f)
+    → Captured gs lefts before now before2 now2 account (Err f)
+captured-headers gs lefts before now before2 now2 t u account f e none trace answers sends =
+    captured-run gs lefts before now before2 now2 account (Err f) e
+    (subst (λ (a : Account). IsEnded (captures_run gs) before now before2 now2 a (Err f)) (sym none) (ends-headers (captures_run gs) before now before2 now2 t u f trace answers sends))
 
 -- the header of the answers is all that is written of none
 no-answers : answers_text [] ≡ codes "row,action,rule,anchor,subrule,reason,rewritten\n"

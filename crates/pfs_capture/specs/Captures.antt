@@ -22,7 +22,7 @@ pub record Seen : Type 0 where
   pub octets : List ℕ
 
 abbrev pub seen_of : Frame → List ℕ → Seen
-seen_of frame held = record { link = frame.link; moment = frame.moment; name = None; octets = frame_bytes frame held }
+seen_of frame held = record { link = frame.link; moment = frame.moment; name = frame.name; octets = frame_bytes frame held }
 
 -- the frames of a capture up to its end, or up to the fault that stops it
 abbrev pub Frames : Type 0

@@ -221,20 +221,20 @@ fn write_answer(
 
 /// The packet of a frame in what was read, with its way, or why it is no record.
 fn outcome_of<R>(capture: &Capture<R>, frame: Frame) -> Result<Found, Reason>
-    ensures is { result ≡ found_in_frame capture.now.points.items None frame.link (frame_bytes frame capture.now.held.items) }
+    ensures is { result ≡ found_in_frame capture.now.points.items frame.name frame.link (frame_bytes frame capture.now.held.items) }
     ensures row { IfOk result IsFound }
 {
     outcome_in(&capture.points, frame, &capture.held)
 }
 
 fn outcome_in(points: &[CapturePoint], frame: Frame, held: &[u8]) -> Result<Found, Reason>
-    ensures is { result ≡ found_in_frame points.now None frame.link (frame_bytes frame held.now) }
+    ensures is { result ≡ found_in_frame points.now frame.name frame.link (frame_bytes frame held.now) }
     ensures row { IfOk result IsFound }
 {
     let rest = &held[frame.from.min(held.len())..];
     sort(
         points,
-        None,
+        frame.name,
         frame.link,
         &rest[..frame.count.min(rest.len())],
     )

@@ -2,28 +2,26 @@
 use Rattle.std.proofs.Common.{◌≡◌, ◌+◌, ◌∙◌, ℕ, List, Ok, Err, inr, refl, sym, ap, arith, subst}
 use Rattle.std.proofs.lemmas.Result.{err_from_is_err_and}
 use Rattle.pfs_streams.specs.Feeds.{unread}
-use Rattle.pfs_capture.specs.Accounts.{no_frames}
 use Rattle.pfs_capture.specs.Aheads.{Aheads}
 use Rattle.pfs_capture.specs.Captures.{seen_of}
 use Rattle.pfs_capture.specs.Merging.{captures_run}
 use Rattle.pfs_capture.specs.Runs.{judged_at}
 use Rattle.pfs_capture.specs.declared.faults.TraceStop.TheVariants as stop
-use Rattle.pfs_capture.proofs.Running.{captured-none, captured-run, counted, ends-asked, ends-end, ends-first, ends-headers, ends-many, ends-send, headers, kept-ok, sends-these, so_far-asked, so_far-frame, so_far-start}
+use Rattle.pfs_capture.proofs.Running.{captured-headers, captured-none, captured-run, counted, ends-asked, ends-end, ends-first, ends-many, ends-send, headers, kept-ok, sends-these, so_far-asked, so_far-frame, so_far-start}
 use Rattle.pfs_capture.proofs.Together.{chosen, chosen-here, none-comes, then-few, then-kept}
 use Rattle.pfs_capture.proofs.traces.write_trace.Goals as goal
 
 pub returns-in_err-begin_all-clause-tells : goal.returns-in_err-begin_all-clause-tells
 returns-in_err-begin_all-clause-tells g c gs given =
     let p = err_from_is_err_and c.from_residual.result c.from_residual.ensures.1 in
-    rw (p.1, p.2, c.new.ensures.is) (captured-none (unread g.R.Read.remaining) gs c.begin_all.new.captures _ _ c.in_err-begin_all.field-0.0 (c.in_err-begin_all.ensures.begin gs given))
+    rw (p.1, p.2) (captured-none (unread g.R.Read.remaining) gs c.begin_all.new.captures _ _ c.new.result c.in_err-begin_all.field-0.0 c.new.ensures.is (c.in_err-begin_all.ensures.begin gs given))
 
 pub returns-in_err-send-clause-tells : goal.returns-in_err-send-clause-tells
 returns-in_err-send-clause-tells g c gs given =
     let begun = c.in_ok-begin_all.ensures.begin gs given in
     let (t, u, trace, answers, sends) = c.in_err-send.ensures.sends in
     let p = err_from_is_err_and c.from_residual-in_err-send.result c.from_residual-in_err-send.ensures.1 in
-    rw (p.1, p.2, c.new.ensures.is) (captured-run gs _ _ _ _ _ no_frames (Err c.in_err-send.field-0.0) begun.1
-    (ends-headers (captures_run gs) _ _ _ _ t u c.in_err-send.field-0.0 trace answers (headers t u (Err c.in_err-send.field-0.0) sends)))
+    rw (p.1, p.2) (captured-headers gs _ _ _ _ _ t u c.new.result c.in_err-send.field-0.0 begun.1 c.new.ensures.is trace answers (headers t u (Err c.in_err-send.field-0.0) sends))
 
 pub returns-in_err-send-clause-first_read : goal.returns-in_err-send-clause-first_read
 returns-in_err-send-clause-first_read g c = inr (kept-ok _ _ c.in_ok-begin_all.ensures.sound)
@@ -115,7 +113,7 @@ returns-in_err-send-2-clause-tells g c gs given =
     (counted rem run _ _ _ _ c.loop-turn._turn c.loop-turn.account c.in_ok-account.field-0 c.ask_all.new.captures c.take_next.new.captures
     (judged_at next.capture.points.items (seen_of place.frame next.capture.held.items) next.capture.last) next.rest row answer h c.loop-turn-test.true next.comes left
     (c.in_ok-account.ensures.takes next.capture which.0)) trace answers
-    (sends-these _ _ row answer t u (Err f) c.deref-in-loop-turn.ensures.value c.deref-in-loop-turn-2.ensures.value sends)))
+    (sends-these _ _ row answer t u (Err f) c.deref.ensures.value c.deref-in-loop-turn.ensures.value sends)))
 
 pub returns-in_err-send-2-clause-first_read : goal.returns-in_err-send-2-clause-first_read
 returns-in_err-send-2-clause-first_read g c =
@@ -157,7 +155,7 @@ loop-turn-preserved g c =
           (counted rem run _ _ _ _ c.loop-turn._turn c.loop-turn.account c.in_ok-account.field-0 c.ask_all.new.captures c.take_next.new.captures
           (judged_at next.capture.points.items (seen_of place.frame next.capture.held.items) next.capture.last) next.rest row answer h c.loop-turn-test.true next.comes left
           (c.in_ok-account.ensures.takes next.capture which.0)) trace answers
-          (sends-these _ _ row answer t u (Ok tt) c.deref-in-loop-turn.ensures.value c.deref-in-loop-turn-2.ensures.value sends);
+          (sends-these _ _ row answer t u (Ok tt) c.deref.ensures.value c.deref-in-loop-turn.ensures.value sends);
     }
 
 pub returns-clause-tells : goal.returns-clause-tells
