@@ -1,6 +1,6 @@
 //! Captures as one: each frame in the order of moments.
 
-ghost use Rattle.std.specs.Prelude.{◌≡◌, ◌<◌, ◌⊎◌, Err, IfErr, IfSome, List, OnOk, length, true, ℕ};
+ghost use Rattle.std.specs.Prelude.{◌≡◌, ◌<◌, ◌⊎◌, Err, IfErr, IfSome, List, OnOk, length, true, ℕ, if◌then◌else◌};
 ghost use Rattle.pfs_capture_files.specs.declared.faults.FileFault.TheVariants as fault;
 ghost use Rattle.pfs_streams.specs.Feeds.{unread};
 ghost use Rattle.pfs_capture.specs.Aheads.{Aheads, AllBegin, AreAsked, StayAhead, earliest, is_of_reading, nearer, place_at};
@@ -87,15 +87,20 @@ fn place_at<R>(capture: &Capture<R>, index: usize) -> Option<Place>
 fn nearer(first: Option<Place>, second: Option<Place>) -> Option<Place>
     ensures { result ≡ nearer first second }
 {
-    let Some(own) = first else {
-        return second;
-    };
-    let Some(behind) = second else {
-        return first;
-    };
-    if behind.instant.is_earlier(own.instant) {
+    if is_behind(&first, &second) {
         second
     } else {
         first
+    }
+}
+
+/// Whether the second comes first.
+fn is_behind(first: &Option<Place>, second: &Option<Place>) -> bool
+    ensures { nearer first.now second.now ≡ (if result then second.now else first.now) }
+{
+    match (first, second) {
+        (None, _) => true,
+        (Some(_), None) => false,
+        (Some(own), Some(behind)) => behind.instant.is_earlier(own.instant),
     }
 }

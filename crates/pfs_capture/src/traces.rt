@@ -165,10 +165,11 @@ fn take_frame<R>(
     lines.row.clear();
     lines.answer.clear();
     let second = u64::from(capture.last.second);
+    let moment = frame.moment;
     let outcome = outcome_of(capture, frame);
     write_row(&outcome, second, &mut lines.row)?;
     write_answer(&outcome, account, &mut lines.answer)?;
-    Ok(account.with(&outcome, is_before(frame.moment, second)))
+    Ok(account.with(&outcome, is_before(moment, second)))
 }
 
 /// Writes the row of a frame's packet into the line, if it has one.

@@ -184,11 +184,11 @@ AreNamed points = AllByRecursion (λ (p : Point). is_name 15 p.ifname ≡ true) 
 
 point-named : (points : List Point) (name : List ℕ) (p : Point) → AreNamed points → point_named name points ≡ Some p → is_name 15 p.ifname ≡ true
 point-named [] name p names e = cc
-point-named (q ∷ qs) name p names e = by (bytes_eq q.ifname name) e
+point-named (q ∷ qs) name p names e = by (bytes_eq q.ifname name) e (λ f. point-named qs name p names.1 f)
   where
-    by : (b : Bool) → (if b then Some q else point_named name qs) ≡ Some p → is_name 15 p.ifname ≡ true
-    by true f = let same : q ≡ p = cc f in subst (λ (x : Point). is_name 15 x.ifname ≡ true) same names.0
-    by false f = point-named qs name p names.1 f
+    by : (b : Bool) → (if b then Some q else point_named name qs) ≡ Some p → (point_named name qs ≡ Some p → is_name 15 p.ifname ≡ true) → is_name 15 p.ifname ≡ true
+    by true f more = let same : q ≡ p = cc f in subst (λ (x : Point). is_name 15 x.ifname ≡ true) same names.0
+    by false f more = more f
 
 named-of : (points : List Point) (name : Option (List ℕ)) (p : Point) → AreNamed points → option_and_then (λ n. point_named n points) name ≡ Some p → is_name 15 p.ifname ≡ true
 named-of points None p names e = cc

@@ -237,12 +237,13 @@ next-sorted last (r ∷ rs) h = behind-sorted last r rs (next_of rs) h.0 (next-s
 merged-sorted : (n : ℕ) (last : Instant) (runs : List Run) → AllSorted last runs → AreSorted last (merged n runs).0
 unfolding merged
 merged-sorted zero last runs h = tt
-merged-sorted (suc n) last runs h = by (next_of runs) (next-sorted last runs h)
+merged-sorted (suc n) last runs h = by (next_of runs) (next-sorted last runs h) (λ i rest k. merged-sorted n i rest k)
   where
-    by : (coming : Coming) → IsNextSorted last runs coming → AreSorted last (at_next coming (merged n)).0
-    by (Comes j rest) next = (next.0, next.1, merged-sorted n j.instant rest next.2)
-    by (Stops f) next = tt
-    by Ends next = tt
+    by : (coming : Coming) → IsNextSorted last runs coming → ((i : Instant) (rest : List Run) → AllSorted i rest → AreSorted i (merged n rest).0)
+        → AreSorted last (at_next coming (merged n)).0
+    by (Comes j rest) next more = (next.0, next.1, more j.instant rest next.2)
+    by (Stops f) next more = tt
+    by Ends next more = tt
 
 -- ---- the law and the theorem
 

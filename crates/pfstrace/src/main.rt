@@ -49,10 +49,15 @@ fn run(rt: &HostRuntime) -> u8 {
     let Ok(names) = names(rt, &words) else {
         return tell_stop(rt, &TraceStop::Memory, 0);
     };
-    let Ok(groups) = groups_of(rt, names.as_slice()) else {
-        return tell_stop(rt, &TraceStop::Memory, 0);
-    };
-    match asked_by(rt, &groups) {
+    match groups_of(rt, names.as_slice()) {
+        Ok(groups) => trace_groups(rt, groups.as_slice()),
+        Err(_) => tell_stop(rt, &TraceStop::Memory, 0),
+    }
+}
+
+/// Writes the trace that groups of words ask for; the status.
+fn trace_groups<'a>(rt: &HostRuntime, groups: &'a [Vec<&'a str>]) -> u8 {
+    match asked_by(rt, groups) {
         Ok(asked) => trace_asked(rt, asked),
         Err(refusal) => tell_refused(rt, &refusal),
     }
@@ -240,7 +245,7 @@ fn capture<'a>(alloc: Global) -> Arg<'a> {
     )
 }
 
-/// Writes the trace that the groups of words ask for; the status.
+/// Writes the trace that is asked for; the status.
 fn trace_asked(rt: &HostRuntime, asked: Vec<Asked<'_>>) -> u8 {
     let output = match output_of(&asked) {
         Ok(output) => output,
