@@ -55,9 +55,12 @@ pub ahead-begun : {S : Type 0} (remaining : S → Option (List ℕ)) (points : L
     → Lies remaining a run (λ left. with_next points held last known (rest_ahead points last items before left))
     → Lies remaining b run (λ left. with_next points held2 last known (rest_ahead points last items (Some form) left))
 ahead-begun remaining points last items held held2 known before form a b run e none starts (left, source, is) =
-    let (ys, behind, begins) = starts left source in
-    (ys, behind, is ∙ (unasked points held last items known before left e ∙ (ap (λ (o : Option Form). rest_ahead points last items o left) none
-    ∙ (ap (λ (r : Result (Form × List ℕ) FileFault). rest_from points last items r) begins ∙ sym (unasked points held2 last items known (Some form) ys e)))))
+    let (ys, behind, begins) = starts left source in (
+      ys,
+      behind,
+      is ∙ (unasked points held last items known before left e ∙ (ap (λ (o : Option Form). rest_ahead points last items o left) none
+          ∙ (ap (λ (r : Result (Form × List ℕ) FileFault). rest_from points last items r) begins ∙ sym (unasked points held2 last items known (Some form) ys e)))),
+    )
 
 -- or it is not
 pub stops-start : {S : Type 0} (remaining : S → Option (List ℕ)) (points : List Point) (last : Instant) (items : ℕ) (held : List ℕ) (known : Next) (before : Option Form) (f : FileFault) (a b : S) (run : Run)

@@ -186,8 +186,8 @@ ends-asked remaining run before now before2 now2 turn account cs (stop.File x) h
   h.trace,
   h.answers,
   tells-file run (trace_text h.seen) (answers_text h.seen) account x (is_outside x) refl
-  (tells-first run (merged (most_items - turn) h.runs) h.seen account h.split h.counts)
-  (λ e. ended-here remaining run before now before2 now2 turn account cs (Some (stop.File x)) h (left-turn most_items turn h.runs (Stops (stop.File x)) few (stops h.runs h.aheads e))),
+      (tells-first run (merged (most_items - turn) h.runs) h.seen account h.split h.counts)
+      (λ e. ended-here remaining run before now before2 now2 turn account cs (Some (stop.File x)) h (left-turn most_items turn h.runs (Stops (stop.File x)) few (stops h.runs h.aheads e))),
 )
 
 -- ---- a frame

@@ -56,7 +56,7 @@ fn run(rt: &HostRuntime) -> u8 {
 }
 
 /// Writes the trace that groups of words ask for; the status.
-fn trace_groups<'a>(rt: &HostRuntime, groups: &'a [Vec<&'a str>]) -> u8 {
+fn trace_groups(rt: &HostRuntime, groups: &[Vec<&str>]) -> u8 {
     match asked_by(rt, groups) {
         Ok(asked) => trace_asked(rt, asked),
         Err(refusal) => tell_refused(rt, &refusal),
@@ -125,10 +125,13 @@ struct Asked<'a> {
     by_lines: bool,
 }
 
-fn asked_by<'a>(rt: &HostRuntime, groups: &'a [Vec<&'a str>]) -> Result<Vec<Asked<'a>>, Refusal> {
+fn asked_by<'a>(
+    rt: &HostRuntime,
+    groups: &'a [Vec<&str>],
+) -> Result<Vec<Asked<'a>>, Refusal> {
     let mut all = Vec::new(rt.alloc());
     for words in groups {
-        let asked = asked_of(rt, words)?;
+        let asked = asked_of(rt, words.as_slice())?;
         if all.push(asked).is_err() {
             return Err(Refusal::Memory);
         }
@@ -341,9 +344,7 @@ fn is_shared(asked: &[Asked<'_>]) -> Result<bool, Refusal> {
         return Ok(true);
     }
     if named < asked.len() {
-        return Err(Refusal::Mistake(
-            "--interface: give one capture for all, or one for each",
-        ));
+        return Err(Refusal::Mistake("--interface: give one capture for all, or one for each"));
     }
     let standard = asked
         .iter()
@@ -395,10 +396,7 @@ impl Read for Input {
     }
 }
 
-fn open_all(
-    rt: &HostRuntime,
-    sources: Vec<Source<'_>>,
-) -> Result<Vec<Capture<Input>>, TraceStop> {
+fn open_all(rt: &HostRuntime, sources: Vec<Source<'_>>) -> Result<Vec<Capture<Input>>, TraceStop> {
     let mut captures = Vec::new(rt.alloc());
     for source in sources {
         let reader = Feed::new(Input::open(rt, source.name)?, READS);
@@ -533,13 +531,7 @@ fn trace_into<T: Write + Drop>(
     let mut out = sink_of(out, by_lines);
     let mut answers = sink_of(answers, by_lines);
     let mut account = Account::new();
-    let ended = write_trace(
-        rt.alloc(),
-        captures,
-        &mut out,
-        &mut answers,
-        &mut account,
-    );
+    let ended = write_trace(rt.alloc(), captures, &mut out, &mut answers, &mut account);
     // At a fault the rows before it are to be seen all the same.
     let flushed = out.into_inner().flush();
     let answers_flushed = answers.into_inner().flush();
