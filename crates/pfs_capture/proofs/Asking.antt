@@ -1,5 +1,5 @@
 -- What lies ahead of a capture stays as it is while its items are read.
-use Rattle.std.proofs.Common.{◌≡◌, ◌≤◌, ◌<◌, ◌+◌, ◌-◌, ◌∙◌, ℕ, suc, Bool, true, false, List, [], ◌∷◌, Option, Some, None, Ok, Err, refl, sym, ap, arith, subst}
+use Rattle.std.proofs.Common.{◌≡◌, ◌<◌, ◌-◌, ◌∙◌, ℕ, suc, true, false, List, [], ◌∷◌, Option, Some, None, Ok, Err, refl, sym, ap, arith}
 use Rattle.std.specs.Prelude.{Result}
 use Rattle.pfs_capture_files.specs.Faults.{is_outside}
 use Rattle.pfs_capture_files.specs.Forms.{Begins, ReadsItem, Turn, start_of, turn_of}
@@ -11,7 +11,7 @@ use Rattle.pfs_capture.specs.Aheads.{is_asked, rest_ahead, rest_from, with_next}
 use Rattle.pfs_capture.specs.Captures.{Frames, Seen, at_turn, frames_from, seen_of}
 use Rattle.pfs_capture.specs.Instants.{instant_after}
 use Rattle.pfs_capture.specs.Points.{Point}
-use Rattle.pfs_capture.specs.Runs.{Judged, Run, ahead, at_instant, judged_at, judged_frames, judged_from}
+use Rattle.pfs_capture.specs.Runs.{Run, ahead, at_instant, judged_at, judged_frames, judged_from}
 use Rattle.pfs_capture.specs.declared.captures.Next.{Next}
 use Rattle.pfs_capture.specs.declared.captures.Next.TheVariants as next
 use Rattle.pfs_capture.specs.declared.faults.TraceStop.{TraceStop}

@@ -1,14 +1,14 @@
 -- What lies ahead of captures stays as it is while each is asked for its next frame, and the earliest of these is what comes next.
-use Rattle.std.proofs.Common.{◌≡◌, ◌≤◌, ◌<◌, ◌+◌, ◌∙◌, ℕ, zero, suc, Bool, true, false, List, [], ◌∷◌, length, map, get_or, set, drop, Option, Some, None, Ok, Err, inl, inr, refl, sym, ap, arith, subst, add-one}
+use Rattle.std.proofs.Common.{◌≡◌, ◌≤◌, ◌<◌, ◌+◌, ◌∙◌, ℕ, zero, suc, Bool, true, false, List, [], ◌∷◌, length, map, get_or, set, Option, Some, None, Ok, Err, inl, inr, refl, sym, ap, arith, subst}
 use Rattle.std.specs.Prelude.{IfSome, Result, ◌⊎◌, if◌then◌else◌, slice_get}
 use Rattle.pfs_streams.specs.Feeds.{FeedView, read_failures}
-use Rattle.pfs_capture_files.specs.Faults.{HasFailed, is_outside}
+use Rattle.pfs_capture_files.specs.Faults.{HasFailed}
 use Rattle.pfs_capture_files.specs.Forms.{IsWithinStart, start_of}
 use Rattle.pfs_capture_files.specs.declared.faults.FileFault.{FileFault}
 use Rattle.pfs_capture_files.specs.declared.forms.Form.{Form}
 use Rattle.pfs_capture_files.specs.declared.frames.Frame.{Frame}
 use Rattle.pfs_capture_files.proofs.StartLaws.{start_within}
-use Rattle.pfs_capture.specs.Aheads.{Ahead, Aheads, AllBegin, AreAsked, BreaksOff, HaveBegun, IsBegun, earliest, is_asked, nearer, place_at, rest_ahead, run_ahead, with_next}
+use Rattle.pfs_capture.specs.Aheads.{Ahead, Aheads, AllBegin, AreAsked, BreaksOff, HaveBegun, IsBegun, earliest, is_asked, nearer, place_at, rest_ahead, with_next}
 use Rattle.pfs_capture.specs.Captures.{frames_from, most_items, seen_of}
 use Rattle.pfs_capture.specs.Instants.{is_earlier, start_instant}
 use Rattle.pfs_capture.specs.Merging.{Coming, Comes, Stops, Ends, Given, behind_frame, behind_run, begun_run, capture_run, fault_or, first_fault, next_of}
@@ -20,7 +20,6 @@ use Rattle.pfs_capture.specs.declared.captures.Capture.{Capture}
 use Rattle.pfs_capture.specs.declared.captures.Next.{Next}
 use Rattle.pfs_capture.specs.declared.captures.Next.TheVariants as next
 use Rattle.pfs_capture.specs.declared.faults.TraceStop.{TraceStop}
-use Rattle.pfs_capture.specs.declared.faults.TraceStop.TheVariants as stop
 use Rattle.pfs_capture.specs.declared.instants.Instant.{Instant}
 use Rattle.pfs_capture.specs.declared.merging.Place.{Place}
 

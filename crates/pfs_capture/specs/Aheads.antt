@@ -7,9 +7,9 @@ use Rattle.pfs_capture_files.specs.declared.faults.FileFault.{FileFault}
 use Rattle.pfs_capture_files.specs.declared.forms.Form.{Form}
 use Rattle.pfs_capture.specs.Captures.{frames_from, most_items, seen_of}
 use Rattle.pfs_capture.specs.Instants.{is_earlier, start_instant}
-use Rattle.pfs_capture.specs.Merging.{Coming, Given, Stops, capture_run, first_fault, next_of}
+use Rattle.pfs_capture.specs.Merging.{Given, Stops, capture_run, first_fault, next_of}
 use Rattle.pfs_capture.specs.Points.{Point}
-use Rattle.pfs_capture.specs.Readers.{AreGiven, IsGiven, lefts_of}
+use Rattle.pfs_capture.specs.Readers.{AreGiven, lefts_of}
 use Rattle.pfs_capture.specs.Runs.{Run, ahead, judged_at, judged_frames}
 use Rattle.pfs_capture.specs.Traces.{AreWithinStarts, EndsAtStart}
 use Rattle.pfs_capture.specs.declared.captures.Capture.{Capture}

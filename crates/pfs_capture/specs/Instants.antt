@@ -1,5 +1,5 @@
 -- The moments of frames, and their order. (own)
-use Rattle.std.specs.Prelude.{ℕ, ◌≡◌, ◌==◌, ◌&&◌, ◌||◌, Bool, false, nat_lt, Result, Ok, Err, if◌then◌else◌}
+use Rattle.std.specs.Prelude.{ℕ, ◌==◌, ◌&&◌, ◌||◌, Bool, false, nat_lt, Result, Ok, Err, if◌then◌else◌}
 use Rattle.pfs_capture_files.specs.declared.frames.Moment.{Moment}
 use Rattle.pfs_capture_files.specs.declared.frames.Moment.TheVariants.{At, Untold, Outside}
 use Rattle.pfs_capture.specs.declared.faults.TraceStop.{TraceStop}

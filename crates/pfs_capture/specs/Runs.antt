@@ -1,5 +1,5 @@
 -- The frames of a capture in their moments, each a record, or none for a reason. (own)
-use Rattle.std.specs.Prelude.{ℕ, Bool, List, [], ◌∷◌, Option, Some, None, Result, Ok, Err}
+use Rattle.std.specs.Prelude.{Bool, List, [], ◌∷◌, Option, Some, Result, Ok, Err}
 use Rattle.pfs_capture_packets.specs.declared.packets.Reason.{Reason}
 use Rattle.pfs_capture.specs.Captures.{Frames, Seen}
 use Rattle.pfs_capture.specs.Instants.{instant_after, is_before}

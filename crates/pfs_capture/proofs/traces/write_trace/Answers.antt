@@ -1,5 +1,5 @@
 -- Answers of write_trace: what is written at each end of the run (`tells`), and of one frame more.
-use Rattle.std.proofs.Common.{◌≡◌, ◌+◌, ◌∙◌, ℕ, List, Ok, Err, inr, refl, sym, ap, arith, subst}
+use Rattle.std.proofs.Common.{◌≡◌, ◌+◌, ◌∙◌, List, Ok, Err, inr, sym, ap, arith, subst}
 use Rattle.std.proofs.lemmas.Result.{err_from_is_err_and}
 use Rattle.pfs_streams.specs.Feeds.{unread}
 use Rattle.pfs_capture.specs.Aheads.{Aheads}
